@@ -1,0 +1,6 @@
+use Rattle.apdu_core.specs.Bodies.{Body}
+use Rattle.apdu_core.specs.declared.form.CommandBody.{CommandBody}
+
+-- a body without its place in memory
+abbrev pub body_view : CommandBody → Body
+body_view b = record { sent = b.sent.now; expected = b.expected }

@@ -1,0 +1,8 @@
+use Rattle.apdu_core.specs.Asked.{Row, select_row, read_binary_row}
+use Rattle.apdu_core.specs.declared.commands.Instruction.{Instruction}
+use Rattle.apdu_core.specs.declared.commands.Instruction.TheVariants.{Select, ReadBinary}
+
+-- the row of an instruction
+abbrev pub row_for : Instruction → Row
+row_for Select = select_row
+row_for ReadBinary = read_binary_row

@@ -1,0 +1,5 @@
+pub mod Bodies
+pub mod BodyView
+pub mod Requests
+pub mod Asked
+pub mod InstructionRow

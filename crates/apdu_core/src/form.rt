@@ -1,0 +1,53 @@
+// The bytes after the header of a short command.
+ghost use Rattle.std.specs.Prelude.{◌≡◌, ◌≢◌, ◌∷◌, [], option_map};
+ghost use Rattle.apdu_core.specs.Bodies.{body_of};
+ghost use Rattle.apdu_core.specs.BodyView.{body_view};
+
+/// What follows the header: the bytes that are sent, and Le.
+#[derive(Clone, Copy)]
+pub(crate) struct CommandBody<'a> {
+    pub sent: &'a [u8],
+    pub expected: Option<u8>,
+}
+
+impl<'a> CommandBody<'a> {
+    /// Reads the bytes after a header, where they have one of the four forms.
+    pub fn parse(bytes: &'a [u8]) -> Option<CommandBody<'a>>
+        ensures { option_map body_view result ≡ body_of bytes.now }
+    {
+        match bytes {
+            [] => Some(CommandBody {
+                sent: bytes,
+                expected: None,
+            }),
+            [le] => Some(CommandBody {
+                sent: &[],
+                expected: Some(*le),
+            }),
+            [lc, rest @ ..] => CommandBody::with_data(*lc, rest),
+        }
+    }
+
+    // The forms that begin with Lc.
+    fn with_data(lc: u8, rest: &'a [u8]) -> Option<CommandBody<'a>>
+        requires { rest.now ≢ [] }
+        ensures { option_map body_view result ≡ body_of (lc ∷ rest.now) }
+    {
+        let sent_length = lc as usize;
+        if sent_length == 0 {
+            None
+        } else if rest.len() == sent_length {
+            Some(CommandBody {
+                sent: rest,
+                expected: None,
+            })
+        } else if rest.len() == sent_length + 1 {
+            Some(CommandBody {
+                sent: &rest[..sent_length],
+                expected: Some(rest[sent_length]),
+            })
+        } else {
+            None
+        }
+    }
+}

@@ -1,0 +1,32 @@
+-- Hexadecimal digits of too few or too many bytes.
+use Rattle.std.proofs.Common.{◌≡◌, ◌<◌, ◌*◌, ◌/◌, ◌&&◌, ◌⊎◌, ℕ, Bool, true, false, cond, nat_le, List, length, Option, Some, None, Result, Ok, Err, refl, ◌∙◌, ap, arith, inl, inr, ⊎_elim}
+use Rattle.std.proofs.lemmas.Bool.{lt-leb}
+use Rattle.hex.specs.Hex.{decode_of}
+use Rattle.hex.specs.declared.error.FromHexError.{FromHexError}
+use Rattle.hex.proofs.HexLemmas.{decode_of-ok}
+use Rattle.arrayvec.specs.ArrayVec.{ArrayVec}
+use Rattle.card_bench.specs.Orders.{bytes_in, within_limit}
+
+abbrev nothing : Option (ArrayVec ℕ)
+nothing = None
+
+-- bytes outside the limit
+outside : (limit : ℕ) (bytes : List ℕ) → (length bytes < 1) ⊎ (limit < length bytes) → within_limit limit (Ok bytes) ≡ None
+outside limit bytes (inl none) = ap (λ (b : Bool). cond (b && nat_le (length bytes) limit) (Some (record { items = bytes })) None) (lt-leb 1 (length bytes) none)
+outside limit bytes (inr many) =
+    let over : nat_le (length bytes) limit ≡ false = lt-leb (length bytes) limit many in
+    ap (λ (b : Bool). cond (nat_le 1 (length bytes) && b) (Some (record { items = bytes })) None) over ∙ never (nat_le 1 (length bytes))
+  where
+    never : (b : Bool) → cond (b && false) (Some (record { items = bytes })) None ≡ nothing
+    never true = refl
+    never false = refl
+
+pub bytes_in-outside : (digits : List ℕ) (limit : ℕ) → (length digits / 2 < 1) ⊎ (limit < length digits / 2) → bytes_in digits limit ≡ None
+bytes_in-outside digits limit apart = cases (decode_of digits) refl
+  where
+    cases : (r : Result (List ℕ) FromHexError) → decode_of digits ≡ r → within_limit limit r ≡ None
+    cases (Ok bytes) is =
+        let twice : length digits ≡ 2 * length bytes = (decode_of-ok digits bytes is).2 in
+        let half : length digits / 2 ≡ length bytes = omega arith in
+        outside limit bytes (⊎_elim (λ few. inl (omega arith)) (λ many. inr (omega arith)) apart)
+    cases (Err error) is = refl

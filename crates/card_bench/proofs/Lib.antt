@@ -1,0 +1,2 @@
+pub mod HexLimits
+pub mod ScriptLines

@@ -1,0 +1,10 @@
+-- The exit status of each fault; 0 is the end of the script.
+use Rattle.std.specs.Prelude.{ℕ}
+use Rattle.card_bench.specs.declared.fault.RunFault.{RunFault}
+use Rattle.card_bench.specs.declared.fault.RunFault.TheVariants.{BadLine, Read, Write, Memory}
+
+abbrev pub status_of : RunFault → ℕ
+status_of (BadLine line) = 2
+status_of Read = 3
+status_of Write = 4
+status_of Memory = 5

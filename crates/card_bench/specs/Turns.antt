@@ -1,0 +1,66 @@
+-- A card behind its end of the link: what it makes of each block.
+use Rattle.std.specs.Prelude.{◌≡◌, ℕ, List, []}
+use Rattle.nvm_board.specs.Facts.{Steady, GoesDark, Fails}
+use Rattle.t1_link.specs.CardTable.{Link, LinkStep, Taken, Reaction, replies, runs, answers, bytes_of}
+use Rattle.card_core.specs.declared.condition.Condition.TheVariants.{Working, Failed, Dark}
+use Rattle.card_core.specs.Sessions.{Session}
+use Rattle.card_core.specs.Steps.{Outcome, answer_bytes, carried_out}
+use Rattle.card_core.specs.Running.{Running, card_found, memory_failure}
+
+-- the card, and its end of the link
+pub record Powered : Type 0 where
+  pub card : Running
+  pub link : Link
+
+-- the link after a reaction, the answer being put to a command that is to run, and the block that goes back
+abbrev pub answering : Link → Reaction → (List ℕ → List ℕ) → Taken
+answering link (replies block) answer_to = record { link = link; reaction = replies block }
+answering link (runs command) answer_to = answers link (answer_to command)
+
+-- the session after a reaction
+abbrev pub session_by : Session → Reaction → (List ℕ → Session) → Session
+session_by session (replies block) session_to = session
+session_by session (runs command) session_to = session_to command
+
+-- the reaction of the card's end to a block, with an answer for each command
+abbrev pub block_answered : Link → List ℕ → (List ℕ → List ℕ) → Taken
+block_answered link got answer_to = answering (LinkStep link got).link (LinkStep link got).reaction answer_to
+
+-- whether a reaction is to run a command
+abbrev pub IsRun : Reaction → Type 0
+IsRun (replies block) = ⊥
+IsRun (runs command) = Unit {0}
+
+-- what a card in this session makes of a command
+abbrev pub machine : Powered → List ℕ → Outcome
+machine old command = carried_out (card_found old.card) old.card.session command
+
+-- The reply is the link's, over one step of the tree machine where a command is to run: link and session go on as these
+-- do, and the board had neither cut nor fault.
+pub record Replies (old : Powered) (got : List ℕ) (new : Powered) (out : List ℕ) : Type 0 where
+  pub power : Steady old.card.facts new.card.facts
+  pub condition : new.card.condition ≡ Working
+  pub session : new.card.session ≡ session_by old.card.session (LinkStep old.link got).reaction (λ command. (machine old command).session)
+  pub link : new.link ≡ (block_answered old.link got (λ command. answer_bytes (machine old command).response)).link
+  pub block : out ≡ bytes_of (block_answered old.link got (λ command. answer_bytes (machine old command).response)).reaction
+
+-- The reply of a card whose memory failed: each command is answered 6581, and the session stays.
+pub record RepliesFailure (old : Powered) (got : List ℕ) (new : Powered) (out : List ℕ) : Type 0 where
+  pub condition : new.card.condition ≡ Failed
+  pub session : new.card.session ≡ old.card.session
+  pub link : new.link ≡ (block_answered old.link got (λ command. memory_failure)).link
+  pub block : out ≡ bytes_of (block_answered old.link got (λ command. memory_failure)).reaction
+
+-- a command was to run, the board had a fault, and from here on the memory has failed
+pub record FailsAt (old : Powered) (got : List ℕ) (new : Powered) (out : List ℕ) : Type 0 where
+  pub power : Fails old.card.facts new.card.facts
+  pub run : IsRun (LinkStep old.link got).reaction
+  pub reply : RepliesFailure old got new out
+
+-- a command was to run, and the board lost power: nothing goes back
+pub record IsCutAt (old : Powered) (got : List ℕ) (new : Powered) (out : List ℕ) : Type 0 where
+  pub power : GoesDark old.card.facts new.card.facts
+  pub run : IsRun (LinkStep old.link got).reaction
+  pub condition : new.card.condition ≡ Dark
+  pub session : new.card.session ≡ old.card.session
+  pub block : out ≡ []

@@ -1,0 +1,35 @@
+use thiserror::Error;
+
+/// Why a script was not run to its end. What was written before it stands.
+#[derive(Debug, Drop, Error)]
+pub enum RunFault {
+    /// This line, counted from 1, is no line of a script. Nothing after it is run.
+    #[error("error line {0}")]
+    BadLine(u32),
+    /// The script could not be read, or has more than 16,777,216 bytes.
+    #[error("the script can't be read")]
+    Read,
+    /// The output could not be written.
+    #[error("the output can't be written")]
+    Write,
+    /// There is too little memory. Nothing was read.
+    #[error("there is too little memory")]
+    Memory,
+}
+
+impl RunFault {
+    ghost use Rattle.std.specs.Prelude.{◌≡◌};
+    ghost use Rattle.card_bench.specs.Faults.{status_of};
+
+    /// The exit status that tells it: 2 to 5.
+    pub fn status(&self) -> u8
+        ensures { result ≡ status_of self.now }
+    {
+        match self {
+            RunFault::BadLine(_) => 2,
+            RunFault::Read => 3,
+            RunFault::Write => 4,
+            RunFault::Memory => 5,
+        }
+    }
+}

@@ -1,0 +1,17 @@
+//! The bench: a card behind its end of the link, and the scripts that drive it.
+#![tactic(auto)]
+
+mod desk;
+mod fault;
+mod order;
+mod powered;
+mod printing;
+mod reading;
+mod script;
+
+pub use fault::RunFault;
+pub use powered::Powered;
+pub use script::run;
+
+#[cfg(test)]
+mod tests;

@@ -1,0 +1,28 @@
+-- What calls say of power and device, one after another.
+use Rattle.std.proofs.Common.{◌≡◌, ◌+◌, ℕ, true, true≢false, Result, sym, ◌∙◌, ap, inl, inr, ⊎_elim}
+use Rattle.nvm_board.specs.declared.board.DeviceErr.{DeviceErr}
+use Rattle.nvm_board.specs.Facts.{Facts, Steady, GoesDark, Fails, Answered, IsWorn}
+
+module _ (a b c : Facts) (before : Steady a b) where
+  pub steady_then : Steady b c → Steady a c
+  steady_then s = record { was_lit = before.was_lit; lit = s.lit; faults = s.faults ∙ before.faults; cuts = s.cuts ∙ before.cuts; due = s.due ∙ before.due }
+
+  goes_dark_then : GoesDark b c → GoesDark a c
+  goes_dark_then g = record {
+    was_lit = before.was_lit;
+    dark = g.dark;
+    faults = g.faults ∙ before.faults;
+    cuts = g.cuts ∙ ap (λ (n : ℕ). n + 1) before.cuts;
+    due = ⊎_elim (λ (cut : b.due ≡ c.due + 1). inl (sym before.due ∙ cut)) (λ (worn : IsWorn c × (c.due ≡ b.due)). inr (worn.0, worn.1 ∙ before.due)) g.due;
+  }
+
+  fails_then : Fails b c → Fails a c
+  fails_then f = record { was_lit = before.was_lit; lit = f.lit; faults = f.faults ∙ ap (λ (n : ℕ). n + 1) before.faults; cuts = f.cuts ∙ before.cuts; due = f.due ∙ before.due }
+
+  -- an answer, after calls that succeeded
+  pub answered_after : {T : Type 0} (r : Result T DeviceErr) → Answered b c r → Answered a c r
+  answered_after r answer = record {
+    ok = λ h. steady_then (answer.ok h);
+    lost = λ h. ⊎_elim (λ (dark : GoesDark b c). inl (goes_dark_then dark)) (λ (off : (b.dark ≡ true) × (c ≡ b)). absurd (true≢false (sym off.0 ∙ before.lit))) (answer.lost h);
+    fault = λ h. fails_then (answer.fault h);
+  }

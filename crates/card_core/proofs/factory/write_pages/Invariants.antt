@@ -1,0 +1,16 @@
+use Rattle.std.proofs.Common.{◌≡◌, ◌<◌, ◌+◌, ℕ}
+use Rattle.nvm_board.specs.Facts.{Steady}
+use Rattle.card_core.specs.Factory.{factory_page}
+use Rattle.card_core.specs.Memory.{page_words}
+use Rattle.card_core.proofs.factory.write_pages.Given as goal
+
+abbrev pub invariant-loop-page : goal.invariant-loop-page
+invariant-loop-page g l =
+    let first = g.B.Board.facts l.initial.board in
+    let now = g.B.Board.facts l.board in record {
+      steady : Steady first now;
+      writes : now.writes + 1 ≡ first.writes + l.page;
+      compares : now.compares ≡ first.compares;
+      matches : now.matches ≡ first.matches;
+      so_far : (page : ℕ) → page < l.page → page_words now.words page ≡ factory_page page;
+    }

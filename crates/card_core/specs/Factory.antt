@@ -1,0 +1,67 @@
+-- The factory's memory: the master file, one elementary file, eight PINs, and all other blocks free.
+use Rattle.std.specs.Prelude.{◌≡◌, ◌<◌, ℕ, ◌+◌, ◌-◌, ◌==◌, ◌&&◌, nat_lt, nat_le, true, List, [], ◌∷◌, ◌++◌, length, replicate, if◌then◌else◌}
+use Rattle.nvm_board.specs.declared.board.TheConstants.{PAGES, PAGE_WORDS}
+use Rattle.card_core.specs.declared.layout.TheConstants.{MARK, HEADER_PAGE, FIRST_ENTRY_PAGE, FIRST_PIN_PAGE, PINS, FIRST_BLOCK_PAGE}
+use Rattle.card_core.specs.Cards.{Pin, Card}
+use Rattle.card_core.specs.Memory.{page_words}
+use Rattle.card_core.specs.Plain.{plain_tree}
+
+-- the words of a page that begins with these, and has one filler behind them
+abbrev pub filled : List ℕ → ℕ → List ℕ
+filled words filler = words ++ replicate (PAGE_WORDS - length words) filler
+
+-- the header: the mark, the first free block, a card in use
+abbrev pub factory_header : List ℕ
+factory_header = filled (MARK ∷ (FIRST_BLOCK_PAGE + 1) ∷ []) 0
+
+-- entry 0, the master file: activated, rule 27 18 00 00 00
+abbrev pub factory_master : List ℕ
+factory_master = filled (0x01053F00 ∷ 0x00000005 ∷ 0x27180000 ∷ []) 0
+
+-- entry 1: the transparent file 2FE2, activated, short identifier 2, rule 03 11 00, of 10 bytes in the first block
+abbrev pub factory_file : List ℕ
+factory_file = filled (0x02052FE2 ∷ 0x00020003 ∷ 0x03110000 ∷ 0 ∷ 0 ∷ 0 ∷ 0 ∷ 0 ∷ 0x000A0000 ∷ 0x00800080 ∷ []) 0
+
+-- each PIN: 3 tries, 10 unblocking tries, the value 31 32 33 34 FF FF FF FF, the unblocking value 31 32 33 34 35 36 37 38
+abbrev pub factory_pin_page : List ℕ
+factory_pin_page = filled (3 ∷ 10 ∷ 0x31323334 ∷ 0xFFFFFFFF ∷ 0x31323334 ∷ 0x35363738 ∷ []) 0
+
+-- the first block: the content of the file, 98 10 32 54 76 98 10 32 54 76
+abbrev pub factory_block : List ℕ
+factory_block = filled (0 ∷ 0x98103254 ∷ 0x76981032 ∷ 0x5476FFFF ∷ []) 0xFFFFFFFF
+
+-- a free block, linked to the next page; the last one is linked to none
+abbrev pub factory_free_block : ℕ → List ℕ
+factory_free_block page = filled ((if page + 1 == PAGES then 0 else page + 1) ∷ []) 0
+
+-- the words of each page
+abbrev pub factory_page : ℕ → List ℕ
+factory_page page =
+    if page == HEADER_PAGE then factory_header else
+    if page == FIRST_ENTRY_PAGE then factory_master else
+    if page == FIRST_ENTRY_PAGE + 1 then factory_file else
+    if nat_le FIRST_PIN_PAGE page && nat_lt page (FIRST_PIN_PAGE + PINS) then factory_pin_page else
+    if nat_lt page FIRST_BLOCK_PAGE then filled [] 0 else
+    if page == FIRST_BLOCK_PAGE then factory_block else
+    factory_free_block page
+
+-- each page is the factory's
+abbrev pub IsFactory : List ℕ → Type 0
+IsFactory m = (page : ℕ) → page < PAGES → page_words m page ≡ factory_page page
+
+-- a PIN of the factory
+abbrev pub factory_pin : Pin
+factory_pin = record {
+  value = 0x31 ∷ 0x32 ∷ 0x33 ∷ 0x34 ∷ 0xFF ∷ 0xFF ∷ 0xFF ∷ 0xFF ∷ [];
+  tries = 3;
+  unblocking = 0x31 ∷ 0x32 ∷ 0x33 ∷ 0x34 ∷ 0x35 ∷ 0x36 ∷ 0x37 ∷ 0x38 ∷ [];
+  unblocking_tries = 10;
+}
+
+-- the factory's card
+abbrev pub factory_card : Card
+factory_card = record {
+  tree = plain_tree (0x98 ∷ 0x10 ∷ 0x32 ∷ 0x54 ∷ 0x76 ∷ 0x98 ∷ 0x10 ∷ 0x32 ∷ 0x54 ∷ 0x76 ∷ []);
+  pins = replicate PINS factory_pin;
+  in_use = true;
+}

@@ -1,0 +1,10 @@
+pub mod Cards
+pub mod Sessions
+pub mod Reaching
+pub mod Steps
+pub mod Memory
+pub mod Plain
+pub mod Working
+pub mod Power
+pub mod Running
+pub mod Factory

@@ -1,0 +1,28 @@
+// Where the memory keeps what: pages of 16 words. Pages 74 to 127 are the journal's.
+
+/// The header: the mark, the first free block, the card state.
+pub(crate) const HEADER_PAGE: u16 = 0;
+
+/// The mark "TSC1" in the header's first word.
+pub(crate) const MARK: u32 = 0x5453_4331;
+
+/// The entry of the master file, which the other entries follow.
+pub(crate) const FIRST_ENTRY_PAGE: u16 = 1;
+
+/// The word of an entry that holds the size in its upper half, and the record length in its lower.
+pub(crate) const SIZE_WORD: u16 = 8;
+
+/// File entries.
+pub(crate) const ENTRIES: u16 = 64;
+
+/// The page of PIN 1, which those of the other PINs follow.
+pub(crate) const FIRST_PIN_PAGE: u16 = 65;
+
+/// PINs.
+pub(crate) const PINS: u16 = 8;
+
+/// The gate of the journal: how many of its pairs count.
+pub(crate) const GATE_PAGE: u16 = 73;
+
+/// The first block. Blocks reach to the last page; word 0 links to the next block of a chain.
+pub(crate) const FIRST_BLOCK_PAGE: u16 = 128;

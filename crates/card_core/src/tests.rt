@@ -1,0 +1,192 @@
+ghost use Rattle.std.specs.Prelude.{◌<◌};
+ghost use Rattle.nvm_board.specs.declared.board.TheConstants.{PAGES, PAGE_WORDS};
+
+use crate::{Answer, Card, Condition, StartFault, format, laws};
+use nvm_board::{Armed, Board, CutBoard, DeviceErr, RamBoard, Socket};
+use std::alloc::Global;
+use std::process::Abort;
+use std::test::Fail;
+
+// A board with the factory's memory.
+fn factory_board(alloc: Global) -> Result<RamBoard, Fail> {
+    Ok(format(RamBoard::new(alloc)?).map_err(|(_, error)| error)?)
+}
+
+fn start(board: RamBoard) -> Result<Card<RamBoard>, Fail> {
+    Ok(Card::start(board).map_err(|(_, fault)| fault)?)
+}
+
+// Commands, and their answers in turn.
+fn assert_answers(rt: &impl Abort, card: &mut Card<RamBoard>, rows: &[(&[u8], &[u8])]) {
+    let mut answer = Answer::new();
+    for (command, want) in rows {
+        assert_eq!(rt; card.command(command, &mut answer), Ok(()));
+        assert_eq!(rt; answer.as_slice(), *want, "at {command:?}");
+    }
+}
+
+// How a card starts when a word of the factory's memory is another.
+fn start_with(alloc: Global, page: u16, place: u8, word: u32) -> Result<Option<StartFault>, Fail>
+    requires page { page < PAGES }
+    requires place { place < PAGE_WORDS }
+{
+    let mut board = factory_board(alloc)?;
+    board.write(page, place, &[word])?;
+    match Card::start(board) {
+        Ok(_) => Ok(None),
+        Err((_, fault)) => Ok(Some(fault)),
+    }
+}
+
+#[test]
+fn reads_the_file(rt: HostRuntime) -> Result<(), Fail> {
+    laws::one_card();
+    let mut card = start(factory_board(rt.alloc())?)?;
+    let rows: &[(&[u8], &[u8])] = &[
+        (&[0x00, 0xA4, 0x00, 0x0C, 0x02, 0x2F, 0xE2], &[0x90, 0x00]),
+        (
+            &[0x00, 0xB0, 0x00, 0x00, 0x0A],
+            &[
+                0x98, 0x10, 0x32, 0x54, 0x76, 0x98, 0x10, 0x32, 0x54, 0x76, 0x90, 0x00,
+            ],
+        ),
+        (&[0x00, 0xB0, 0x00, 0x09, 0x01], &[0x76, 0x90, 0x00]),
+        (&[0x00, 0xB0, 0x00, 0x0A, 0x01], &[0x6B, 0x00]),
+        (&[0x00, 0xB0, 0x00, 0x08, 0x05], &[0x54, 0x76, 0x62, 0x82]),
+        (&[0x00, 0xB0, 0x00, 0x08, 0x00], &[0x54, 0x76, 0x90, 0x00]),
+    ];
+    assert_answers(&rt, &mut card, rows);
+    let mut card = start(card.into_board())?;
+    let rows: &[(&[u8], &[u8])] = &[
+        (&[0x00, 0xB0, 0x00, 0x00, 0x01], &[0x69, 0x86]),
+        (&[0x00, 0xB0, 0x82, 0x00, 0x01], &[0x98, 0x90, 0x00]),
+        (&[0x00, 0xB0, 0x00, 0x01, 0x01], &[0x10, 0x90, 0x00]),
+        (&[0x00, 0xB0, 0x83, 0x00, 0x01], &[0x6A, 0x82]),
+    ];
+    assert_answers(&rt, &mut card, rows);
+    assert_eq!(rt; card.condition(), Condition::Working);
+    Ok(())
+}
+
+#[test]
+fn refuses_commands(rt: HostRuntime) -> Result<(), Fail> {
+    let mut card = start(factory_board(rt.alloc())?)?;
+    let rows: &[(&[u8], &[u8])] = &[
+        (&[0x01, 0xA4, 0x00, 0x0C, 0x02, 0x3F, 0x00], &[0x6E, 0x00]),
+        (&[0x00, 0x01, 0x00, 0x00], &[0x6D, 0x00]),
+        (&[0x80, 0xA4, 0x00, 0x0C], &[0x6D, 0x00]),
+        (&[0x00, 0x26, 0x00, 0x01], &[0x6D, 0x00]),
+        (&[0x00, 0xA4, 0x00, 0x00, 0x02, 0x3F, 0x00], &[0x6A, 0x86]),
+        (
+            &[0x00, 0xA4, 0x00, 0x0C, 0x03, 0x3F, 0x00, 0x00],
+            &[0x67, 0x00],
+        ),
+        (&[0x00, 0xA4, 0x00, 0x0C, 0x02, 0x77, 0x77], &[0x6A, 0x82]),
+        (&[0x00, 0xB0, 0x00, 0x00, 0x01], &[0x69, 0x86]),
+        (&[0x00, 0xA4], &[0x67, 0x00]),
+    ];
+    assert_answers(&rt, &mut card, rows);
+    Ok(())
+}
+
+#[test]
+fn links_the_free_blocks(rt: HostRuntime) -> Result<(), Fail> {
+    let mut board = factory_board(rt.alloc())?;
+    for (at, want) in [
+        (1, 129),
+        (16 * 128, 0),
+        (16 * 129, 130),
+        (16 * 1022, 1023),
+        (16 * 1023, 0),
+    ] {
+        assert!(rt; at < 16_384u16);
+        assert_eq!(rt; board.read(at)?, want, "at {at}");
+    }
+    Ok(())
+}
+
+#[test]
+fn finds_damage(rt: HostRuntime) -> Result<(), Fail> {
+    for (page, place, word) in [
+        // The mark, and the card state.
+        (0, 0, 0x5453_4330),
+        (0, 2, 1),
+        // The end of the master file's rule.
+        (1, 3, 0x0100_0000),
+        // Of the other file: its parent, its short identifier, the sizes 0 and 61, its block's link.
+        (2, 1, 0x0102_0003),
+        (2, 1, 0x0003_0003),
+        (2, 8, 0x0000_0000),
+        (2, 8, 0x003D_0000),
+        (128, 0, 129),
+        // A third file, in the first free entry and in the last.
+        (3, 0, 0x0205_6F01),
+        (64, 0, 0x0205_6F01),
+        // The tries of PIN 1, the unblocking tries of PIN 8.
+        (65, 0, 4),
+        (72, 1, 11),
+        // The gate.
+        (73, 0, 1),
+        (73, 0, 433),
+    ] {
+        assert!(rt; page < 1024u16 && place < 16u8);
+        let fault = start_with(rt.alloc(), page, place, word)?;
+        assert_eq!(rt;
+            fault,
+            Some(StartFault::Damaged),
+            "at word {place} of page {page}"
+        );
+    }
+    Ok(())
+}
+
+#[test]
+fn starts_with_other_words(rt: HostRuntime) -> Result<(), Fail> {
+    for (page, place, word) in [
+        // The free blocks.
+        (0, 1, 0),
+        (129, 0, 0),
+        (1023, 0, 0xFFFF_FFFF),
+        // The rest of the header, of the gate and of a free entry.
+        (0, 3, 0xFFFF_FFFF),
+        (73, 1, 0xFFFF_FFFF),
+        (3, 1, 0xFFFF_FFFF),
+        // The bytes behind a rule, the size of the master file, a name of no length, the rest of an entry.
+        (1, 3, 0x00FF_FFFF),
+        (2, 2, 0x0311_00FF),
+        (1, 8, 0xFFFF_FFFF),
+        (2, 4, 0xFFFF_FFFF),
+        (2, 11, 0xFFFF_FFFF),
+        // A PIN with no tries, its value, the rest of its page.
+        (65, 0, 0),
+        (65, 2, 0x3030_3030),
+        (72, 6, 0xFFFF_FFFF),
+        // Pairs of the journal.
+        (74, 0, 0),
+        (127, 15, 0xFFFF_FFFF),
+        // The size and the content of the file.
+        (2, 8, 0x0001_0000),
+        (2, 8, 0x003C_0000),
+        (128, 15, 0),
+    ] {
+        assert!(rt; page < 1024u16 && place < 16u8);
+        let fault = start_with(rt.alloc(), page, place, word)?;
+        assert_eq!(rt; fault, None, "at word {place} of page {page}");
+    }
+    Ok(())
+}
+
+#[test]
+fn stops_without_power(rt: HostRuntime) -> Result<(), Fail> {
+    let mut board = factory_board(rt.alloc())?;
+    board.power_off();
+    let (mut board, fault) = Card::start(board).err().ok_or("no start without power")?;
+    assert_eq!(rt; fault, StartFault::PowerLost);
+    assert!(rt; board.light().is_ok());
+    assert!(rt; Card::start(board).is_ok());
+    let mut board = CutBoard::new(rt.alloc())?;
+    board.arm(5, 0x0001);
+    let (_board, error) = format(board).err().ok_or("no format without power")?;
+    assert_eq!(rt; error, DeviceErr::PowerLost);
+    Ok(())
+}

@@ -1,0 +1,5 @@
+pub mod LifeCycle
+pub mod Access
+pub mod Pins
+pub mod Rule
+pub mod RuleFacts

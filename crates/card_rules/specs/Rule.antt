@@ -1,0 +1,45 @@
+-- Rules in compact format, and what they allow (ISO/IEC 7816-4, 9.3.3).
+use Rattle.std.specs.Prelude.{ℕ, ◌%◌, Bool, true, false, ◌&&◌, ◌||◌, ◌==◌, nat_lt, nat_le, if◌then◌else◌, List, [], ◌∷◌, length, count_ones, Option, Some, None, is_some, slice_get, option_and_then}
+use Rattle.std.specs.List.{list_all}
+use Rattle.std.specs.Option.{option_map_or}
+use Rattle.card_rules.specs.declared.access_mode.AccessBit.{AccessBit}
+use Rattle.card_rules.specs.declared.life_cycle.LifeCycle.{LifeCycle}
+use Rattle.card_rules.specs.declared.life_cycle.LifeCycle.TheVariants.{Creation, Initialisation}
+use Rattle.card_rules.specs.declared.compact.Condition.{Condition}
+use Rattle.card_rules.specs.declared.compact.Condition.TheVariants.{Always, Never, Verified}
+use Rattle.card_rules.specs.Access.{is_set, set_down_to}
+use Rattle.card_rules.specs.Pins.{has_pin}
+
+-- what a condition byte asks for: 00 always, FF never; 11 to 18 and 91 to 98 name security environment 1 to 8,
+-- in which the PIN of that number must be verified; None: the byte isn't allowed in a rule
+abbrev pub condition_of : ℕ → Option Condition
+condition_of b =
+    if b == 0x00 then Some Always else
+    if b == 0xFF then Some Never else
+    if nat_le 0x11 b && nat_le b 0x18 || nat_le 0x91 b && nat_le b 0x98 then Some (Verified (b % 16)) else None
+
+-- whether a condition is met where these PINs are verified
+abbrev pub is_met : List Bool → Condition → Bool
+is_met verified Always = true
+is_met verified Never = false
+is_met verified (Verified pin) = has_pin verified pin
+
+-- a rule: an access mode byte with bit 8 clear, and an allowed condition byte for each of its set bits
+abbrev pub is_rule : List ℕ → Bool
+is_rule [] = false
+is_rule (mode ∷ conditions) =
+    nat_lt mode 0x80 && (length conditions == count_ones mode) && list_all (λ b. is_some (condition_of b)) conditions
+
+-- the condition of a bit that is set: the conditions stand in the order of the set bits, from the highest down,
+-- so it has as many bytes of the rule before it, the access mode byte among them, as bits are set down to this one
+abbrev pub condition_at : List ℕ → AccessBit → Option Condition
+condition_at [] bit = None
+condition_at (mode ∷ conditions) bit =
+    if is_set mode bit then option_and_then condition_of (slice_get (mode ∷ conditions) (set_down_to mode bit)) else None
+
+-- whether a file's rule allows an operation: everything in creation and initialisation states, else where the
+-- operation's bit is set and its condition is met
+abbrev pub allows : List ℕ → AccessBit → LifeCycle → List Bool → Bool
+allows rule bit Creation verified = true
+allows rule bit Initialisation verified = true
+allows rule bit _ verified = option_map_or (is_met verified) (condition_at rule bit) false

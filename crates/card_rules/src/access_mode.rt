@@ -1,0 +1,140 @@
+//! The access mode byte of a rule, and what its bits stand for.
+
+ghost use Rattle.std.specs.Prelude.{⊤, ℕ, ◌≡◌, ◌-◌, ◌==◌, [], ◌∷◌, codes, count_ones, nat_lt, option_map, Some, None, if◌then◌else◌};
+ghost use Rattle.card_rules.specs.Access.{bit_number, flag_of, is_set, set_down_to, mode_byte};
+
+use bitflags::{Flag, Flags, bitflag_items};
+
+/// What a bit of the access mode byte stands for. A bit of a DF's rule and one of an EF's rule may have one number.
+#[derive(Clone, Copy, Debug, PartialEq, Eq, Hash)]
+pub enum AccessBit {
+    /// Bit 7: DELETE FILE of the file itself.
+    DeleteSelf,
+    /// Bit 6: TERMINATE DF or EF, and for the MF TERMINATE CARD USAGE.
+    Terminate,
+    /// Bit 5: ACTIVATE FILE.
+    Activate,
+    /// Bit 4: DEACTIVATE FILE.
+    Deactivate,
+    /// Bit 3 of a DF: CREATE FILE of a DF in it.
+    CreateDf,
+    /// Bit 3 of an EF: APPEND RECORD.
+    Append,
+    /// Bit 2 of a DF: CREATE FILE of an EF in it.
+    CreateEf,
+    /// Bit 2 of an EF: UPDATE BINARY, UPDATE RECORD and INCREASE.
+    Update,
+    /// Bit 1 of a DF: DELETE FILE of a file in it.
+    DeleteChild,
+    /// Bit 1 of an EF: READ BINARY, READ RECORD and SEARCH RECORD.
+    Read,
+}
+
+/// The access mode byte of a rule in compact format: which operations the rule has a condition for.
+#[derive(Clone, Copy, Debug, PartialEq, Eq)]
+pub struct AccessMode(u8);
+
+bitflag_items! {
+    impl AccessMode: u8 {
+        const DELETE_SELF = 0x40;
+        const TERMINATE = 0x20;
+        const ACTIVATE = 0x10;
+        const DEACTIVATE = 0x08;
+        const CREATE_DF = 0x04;
+        const APPEND = 0x04;
+        const CREATE_EF = 0x02;
+        const UPDATE = 0x02;
+        const DELETE_CHILD = 0x01;
+        const READ = 0x01;
+    }
+}
+
+impl Flags for AccessMode {
+    type Bits = u8;
+
+    ghost exact = { ⊤ };
+
+    ghost table = { (codes "DELETE_SELF", 0x40) ∷ (codes "TERMINATE", 0x20) ∷ (codes "ACTIVATE", 0x10)
+        ∷ (codes "DEACTIVATE", 0x08) ∷ (codes "CREATE_DF", 0x04) ∷ (codes "APPEND", 0x04)
+        ∷ (codes "CREATE_EF", 0x02) ∷ (codes "UPDATE", 0x02) ∷ (codes "DELETE_CHILD", 0x01)
+        ∷ (codes "READ", 0x01) ∷ [] };
+
+    ghost set_of = { mode_byte };
+
+    fn flags<'a>() -> &'a [Flag<AccessMode>] {
+        AccessMode::FLAGS
+    }
+
+    fn bits(&self) -> u8 {
+        self.0
+    }
+
+    fn from_bits_retain(bits: u8) -> AccessMode {
+        AccessMode(bits)
+    }
+}
+
+impl AccessBit {
+    /// The bit's number in the access mode byte, 1 (the least) to 7.
+    pub const fn number(self) -> u8
+        ensures { result ≡ bit_number self }
+    {
+        match self {
+            AccessBit::DeleteSelf => 7,
+            AccessBit::Terminate => 6,
+            AccessBit::Activate => 5,
+            AccessBit::Deactivate => 4,
+            AccessBit::CreateDf | AccessBit::Append => 3,
+            AccessBit::CreateEf | AccessBit::Update => 2,
+            AccessBit::DeleteChild | AccessBit::Read => 1,
+        }
+    }
+
+    /// The access mode byte in which this bit alone is set.
+    pub fn flag(self) -> AccessMode
+        ensures { mode_byte result ≡ flag_of self }
+    {
+        match self {
+            AccessBit::DeleteSelf => AccessMode::DELETE_SELF,
+            AccessBit::Terminate => AccessMode::TERMINATE,
+            AccessBit::Activate => AccessMode::ACTIVATE,
+            AccessBit::Deactivate => AccessMode::DEACTIVATE,
+            AccessBit::CreateDf => AccessMode::CREATE_DF,
+            AccessBit::Append => AccessMode::APPEND,
+            AccessBit::CreateEf => AccessMode::CREATE_EF,
+            AccessBit::Update => AccessMode::UPDATE,
+            AccessBit::DeleteChild => AccessMode::DELETE_CHILD,
+            AccessBit::Read => AccessMode::READ,
+        }
+    }
+}
+
+impl AccessMode {
+    /// The access mode of a byte, where its bit 8 is clear.
+    pub fn from_byte(byte: u8) -> Option<AccessMode>
+        ensures { option_map mode_byte result ≡ (if nat_lt byte 0x80 then Some byte else None) }
+    {
+        AccessMode::from_bits(byte)
+    }
+
+    /// Whether the bit is set.
+    pub fn has(self, bit: AccessBit) -> bool
+        ensures { result ≡ is_set (mode_byte self) bit }
+    {
+        self.contains(bit.flag())
+    }
+
+    // How many bits are set.
+    pub(crate) fn count(self) -> usize
+        ensures { result ≡ count_ones (mode_byte self) }
+    {
+        self.0.count_ones() as usize
+    }
+
+    // How many bits are set from the highest down to this one, itself included.
+    pub(crate) fn set_down_to(self, bit: AccessBit) -> usize
+        ensures { result ≡ set_down_to (mode_byte self) bit }
+    {
+        (self.0 >> (bit.number() - 1)).count_ones() as usize
+    }
+}

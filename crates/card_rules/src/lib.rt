@@ -1,0 +1,18 @@
+//! The words, states and rules that all layers of the card speak of: status words, life cycles and access rules.
+#![tactic(auto)]
+
+mod access_mode;
+mod compact;
+pub mod laws;
+mod life_cycle;
+mod pins;
+mod status;
+
+pub use access_mode::{AccessBit, AccessMode};
+pub use compact::Compact;
+pub use life_cycle::{LifeCycle, LifeCycleCommand};
+pub use pins::{PinNumber, Verified};
+pub use status::Sw;
+
+#[cfg(test)]
+mod tests;

@@ -1,0 +1,108 @@
+//! PIN numbers, and the set of PINs that are verified.
+
+ghost use Rattle.std.specs.Prelude.{◌≡◌, ◌≤◌, ◌<◌, ◌-◌, ◌↔◌, IsSome, IfSome, List, Bool, length};
+ghost use Rattle.card_rules.specs.Pins.{IsPinNumber, no_pins, has_pin, with_pin, without_pin};
+
+use std::marker::Model;
+
+/// The number of a PIN, 1 to 8.
+#[derive(Clone, Copy, Debug, PartialEq, Eq, Hash)]
+pub struct PinNumber {
+    number: u8,
+}
+
+impl Model for PinNumber {
+    ghost use Rattle.std.specs.Prelude.{ℕ};
+    ghost use Rattle.card_rules.specs.Pins.{IsPinNumber};
+
+    ghost Value = { ℕ };
+
+    ghost view = { λ p. p.number };
+
+    ghost invariant = { λ p. IsPinNumber p.number };
+
+    ghost inverse = { λ n. record { number = n } };
+}
+
+impl PinNumber {
+    /// The PIN of this number, where it is 1 to 8.
+    pub fn new(number: u8) -> Option<PinNumber>
+        ensures valid { IsSome result ↔ IsPinNumber number }
+        ensures value { IfSome result (λ pin. pin ≡ number) }
+    {
+        if 1 <= number && number <= 8 {
+            Some(PinNumber { number })
+        } else {
+            None
+        }
+    }
+
+    /// The number, 1 to 8.
+    pub fn get(self) -> u8
+        ensures value { result ≡ self }
+        ensures in_range { IsPinNumber self }
+    {
+        self.number
+    }
+
+    // The place of the PIN in a list of all PINs.
+    fn index(self) -> usize
+        ensures value { result ≡ self - 1 }
+        ensures in_range { result < 8 }
+    {
+        usize::from(self.get() - 1)
+    }
+}
+
+/// The set of PINs that were verified in a session (ISO/IEC 7816-4, 11.5: the security status).
+#[derive(Clone, Copy, Debug, PartialEq, Eq)]
+pub struct Verified {
+    marks: [bool; 8],
+}
+
+impl Model for Verified {
+    ghost Value = { List Bool };
+
+    ghost view = { λ v. v.marks };
+
+    ghost inverse = { λ pins. record { marks = pins } };
+}
+
+impl Verified {
+    /// The empty set.
+    pub const fn new() -> Verified
+        ensures { result ≡ no_pins }
+    {
+        Verified { marks: [false; 8] }
+    }
+
+    /// Whether the PIN is in the set.
+    pub fn contains(&self, pin: PinNumber) -> bool
+        ensures { result ≡ has_pin self.now pin }
+    {
+        let index = pin.index();
+        self.marks[index]
+    }
+
+    /// Puts the PIN into the set.
+    pub fn insert(&mut self, pin: PinNumber)
+        ensures { self.new ≡ with_pin self.old pin }
+    {
+        self.marks[pin.index()] = true;
+    }
+
+    /// Takes the PIN out of the set.
+    pub fn remove(&mut self, pin: PinNumber)
+        ensures { self.new ≡ without_pin self.old pin }
+    {
+        self.marks[pin.index()] = false;
+    }
+}
+
+impl Default for Verified {
+    ghost is_default = { λ pins. pins ≡ no_pins };
+
+    fn default() -> Verified {
+        Verified::new()
+    }
+}

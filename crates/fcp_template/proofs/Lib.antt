@@ -1,0 +1,4 @@
+pub mod Splitting
+pub mod OneReading
+pub mod ReadAgain
+pub mod AnyOrder

@@ -1,0 +1,6 @@
+pub mod DataObjects
+pub mod Table
+pub mod Reads
+pub mod Function
+pub mod Ranges
+pub mod Spelling

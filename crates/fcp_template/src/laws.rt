@@ -1,0 +1,27 @@
+//! Laws on templates of file control parameters.
+
+ghost use Rattle.std.specs.Prelude.{◌≡◌, ◌≢◌, ◌↔◌, ℕ, List, Result, Ok, IsPermutation};
+ghost use Rattle.card_rules.specs.declared.life_cycle.LifeCycle.TheVariants.{Terminated};
+ghost use Rattle.fcp_template.specs.declared.fcp.Fcp.{Fcp};
+ghost use Rattle.fcp_template.specs.declared.fault.FcpFault.{FcpFault};
+ghost use Rattle.fcp_template.specs.Reads.{FcpReads};
+ghost use Rattle.fcp_template.specs.DataObjects.{DataObject, IsTemplate};
+ghost use Rattle.fcp_template.specs.Spelling.{IsInFull, fcp_text};
+ghost use Rattle.fcp_template.specs.Function.{fcp_read};
+
+/// What is written of file control parameters in full is read again as the same parameters, but for those of the MF and
+/// of a terminated file, which no CREATE FILE can make.
+pub fn template_read_again()
+    ensures { (fcp : Fcp) → IsInFull fcp → fcp.life_cycle ≢ Terminated → fcp.identifier ≢ 0x3F00 → FcpReads (fcp_text fcp) (Ok fcp) }
+{}
+
+/// Each text reads as one thing: the value or the fault that the function `fcp_read` of the definitions gives.
+pub fn reading_is_a_function()
+    ensures { (text : List ℕ) (read : Result Fcp FcpFault) → FcpReads text read ↔ (read ≡ fcp_read text) }
+{}
+
+/// A template reads as the same with its objects in any order.
+pub fn objects_in_any_order()
+    ensures { (text other : List ℕ) (os ps : List DataObject) (read : Result Fcp FcpFault)
+        → IsTemplate text os → IsTemplate other ps → IsPermutation os ps → FcpReads text read → FcpReads other read }
+{}

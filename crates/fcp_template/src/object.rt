@@ -1,0 +1,90 @@
+//! Data objects, and the templates that they make.
+
+ghost use Rattle.std.specs.Prelude.{◌≡◌, ℕ, List, [], ◌∷◌, ◌++◌, ◌≤◌, length, IfSome, IfNone};
+ghost use Rattle.fcp_template.specs.DataObjects.{DataObject, object_text, objects_text, IsTemplate};
+
+use arrayvec::ArrayVec;
+use std::marker::Model;
+
+/// A data object of a template: a tag and a value, in BER-TLV with one byte each for tag and length.
+#[derive(Drop)]
+pub(crate) struct Object<'a> {
+    tag: u8,
+    value: &'a [u8],
+}
+
+impl<'a> Model for Object<'a> {
+    ghost use Rattle.fcp_template.specs.DataObjects.{DataObject};
+
+    ghost Value = { DataObject };
+
+    ghost view = { λ o. record { tag = o.tag; value = o.value.now } };
+}
+
+impl<'a> Object<'a> {
+    pub(crate) fn tag(&self) -> u8
+        ensures { result ≡ self.now.tag }
+    {
+        self.tag
+    }
+
+    pub(crate) fn value(&self) -> &'a [u8]
+        ensures { result.now ≡ self.now.value }
+    {
+        self.value
+    }
+}
+
+impl Default for Object<'_> {
+    ghost is_default = { λ o. o ≡ record { tag = 0; value = [] } };
+
+    fn default() -> Self {
+        Object { tag: 0, value: &[] }
+    }
+}
+
+/// The objects of a template; as a template has at most 127 bytes of them, they are at most 63.
+pub(crate) type Objects<'a> = ArrayVec<Object<'a>, 63>;
+
+/// The objects of a text, where it is a template.
+pub(crate) fn objects_of(text: &[u8]) -> Option<Objects<'_>>
+    ensures template { IfSome result (λ os. IsTemplate text.now os.items) }
+    ensures none { IfNone result ((os : List DataObject) → IsTemplate text.now os → ⊥) }
+{
+    match text {
+        [0x62, length, body @ ..] if *length <= 0x7F && body.len() == *length as usize => {
+            split(body)
+        }
+        _ => None,
+    }
+}
+
+// The objects that fill the bytes exactly.
+fn split(bytes: &[u8]) -> Option<Objects<'_>>
+    requires { length bytes.now ≤ 0x7F }
+    ensures filled { IfSome result (λ os. bytes.now ≡ objects_text os.items) }
+    ensures none { IfNone result ((os : List DataObject) → bytes.now ≡ objects_text os → ⊥) }
+{
+    let mut objects = Objects::new();
+    let mut rest = bytes;
+    while !rest.is_empty() {
+        let (object, after) = split_first(rest)?;
+        objects.push(object);
+        rest = after;
+    }
+    Some(objects)
+}
+
+// The object at the front, and what follows it.
+fn split_first(bytes: &[u8]) -> Option<(Object<'_>, &[u8])>
+    ensures found { IfSome result (λ x. bytes.now ≡ object_text x.0 ++ x.1.now) }
+    ensures none { IfNone result ((o : DataObject) (rest : List ℕ) → bytes.now ≡ object_text o ++ rest → ⊥) }
+{
+    match bytes {
+        [tag, length, rest @ ..] if *length as usize <= rest.len() => {
+            let (value, rest) = rest.split_at(*length as usize);
+            Some((Object { tag: *tag, value }, rest))
+        }
+        _ => None,
+    }
+}

@@ -1,0 +1,326 @@
+//! Reading templates.
+
+ghost use Rattle.std.specs.Prelude.{◌≡◌, ◌≢◌, Result, IfOk, IfSome};
+ghost use Rattle.std.specs.Option.{option_copied};
+ghost use Rattle.fcp_template.specs.declared.fault.FcpFault.{FcpFault};
+ghost use Rattle.fcp_template.specs.declared.fcp.Fcp.{Fcp};
+ghost use Rattle.fcp_template.specs.Table.{tag_byte, is_tag, identifier_of, name_of, short_of, number_of, size_of, records_of, life_cycle_of};
+ghost use Rattle.fcp_template.specs.Reads.{has, value_at, data_bytes, is_df_descriptor, tells_of_df, count_of, is_again, is_missing, is_twice, has_unknown, df_of, transparent_of, record_file_of, kind_of, fcp_of, meaning, FcpReads};
+ghost use Rattle.fcp_template.specs.Function.{fcp_read};
+ghost use Rattle.fcp_template.specs.Ranges.{IsShort, IsSize, IsName, IsRecords, IsKind, IsCreatable};
+ghost use Rattle.card_rules.specs.declared.life_cycle.LifeCycle.TheVariants.{Terminated};
+
+use crate::descriptor::{Descriptor, Structure};
+use crate::fault::FcpFault;
+use crate::fcp::{DfName, Fcp, FileKind, Records, ShortIdentifier};
+use crate::object::{Object, objects_of};
+use crate::tag::Tag;
+use card_rules::{Compact, LifeCycle};
+
+/// The file control parameters that a text spells, its objects in any order, or the least fault that it has.
+pub fn parse(text: &[u8]) -> Result<Fcp<'_>, FcpFault>
+    ensures reads { FcpReads text.now result }
+
+    // What it tells is in its ranges.
+    ensures ranges { IfOk result IsCreatable }
+
+    // It reads as nothing else.
+    ensures only { (other : Result Fcp FcpFault) → FcpReads text.now other → other ≡ result }
+
+    // The same, for definitions that compute it.
+    ensures value { result ≡ fcp_read text.now }
+{
+    match objects_of(text) {
+        Some(objects) => meaning(&objects),
+        None => Err(FcpFault::Shape),
+    }
+}
+
+// What a template of these objects reads as.
+fn meaning<'a>(objects: &[Object<'a>]) -> Result<Fcp<'a>, FcpFault>
+    ensures value { result ≡ meaning objects.now }
+    ensures ranges { IfOk result IsCreatable }
+{
+    if is_missing(objects) {
+        return Err(FcpFault::Missing);
+    }
+    if is_twice(objects) {
+        return Err(FcpFault::Twice);
+    }
+    fcp_of(objects).ok_or(FcpFault::Value)
+}
+
+// Whether an object has this tag.
+fn has(objects: &[Object<'_>], tag: Tag) -> bool
+    ensures { result ≡ has objects.now (tag_byte tag) }
+{
+    objects.iter().any(|object| object.tag() == tag.byte())
+}
+
+// How many objects have this tag.
+fn count_of(objects: &[Object<'_>], tag: u8) -> usize
+    ensures { result ≡ count_of objects.now tag }
+{
+    objects.iter().filter(|object| object.tag() == tag).count()
+}
+
+// The value of the first object that has this tag.
+fn value_at<'a>(objects: &[Object<'a>], tag: Tag) -> Option<&'a [u8]>
+    ensures { option_copied result ≡ value_at objects.now (tag_byte tag) }
+{
+    objects
+        .iter()
+        .find(|object| object.tag() == tag.byte())
+        .map(|object| object.value())
+}
+
+fn is_df_descriptor(object: &Object<'_>) -> bool
+    ensures { result ≡ is_df_descriptor object.now }
+{
+    object.tag() == Tag::FileDescriptor.byte() && matches!(object.value(), [0x38 | 0x78, ..])
+}
+
+// Whether an object is the file descriptor of a DF.
+fn tells_of_df(objects: &[Object<'_>]) -> bool
+    ensures { result ≡ tells_of_df objects.now }
+{
+    objects.iter().any(|object| is_df_descriptor(object))
+}
+
+// Whether an object that must be there is missing.
+fn is_missing(objects: &[Object<'_>]) -> bool
+    ensures { result ≡ is_missing objects.now }
+{
+    !has(objects, Tag::FileDescriptor)
+        || !has(objects, Tag::FileIdentifier)
+        || !has(objects, Tag::CompactRule)
+        || !has(objects, Tag::DataBytes) && !tells_of_df(objects)
+}
+
+// Whether a tag of the table comes twice.
+fn is_twice(objects: &[Object<'_>]) -> bool
+    ensures { result ≡ is_twice objects.now }
+{
+    objects.iter().any(|object| comes_again(objects, object))
+}
+
+// Whether the object has a tag of the table, and another object has it too.
+fn comes_again(objects: &[Object<'_>], object: &Object<'_>) -> bool
+    ensures { result ≡ is_again objects.now object.now }
+{
+    is_known(object) && count_of(objects, object.tag()) > 1
+}
+
+// Whether the object has a tag of the table.
+fn is_known(object: &Object<'_>) -> bool
+    ensures { result ≡ is_tag object.now.tag }
+{
+    Tag::from_byte(object.tag()).is_some()
+}
+
+// Whether an object has another tag.
+fn has_unknown(objects: &[Object<'_>]) -> bool
+    ensures { result ≡ has_unknown objects.now }
+{
+    objects.iter().any(|object| !is_known(object))
+}
+
+// The parameters that the objects tell, where all have tags, lengths and values of the table.
+#[tactic(auto, unfolding(crate::specs::Reads::fcp_of))]
+fn fcp_of<'a>(objects: &[Object<'a>]) -> Option<Fcp<'a>>
+    ensures value { result ≡ fcp_of objects.now }
+    ensures ranges { IfSome result IsCreatable }
+{
+    let descriptor = Descriptor::from_value(value_at(objects, Tag::FileDescriptor)?)?;
+    let identifier = identifier_of(value_at(objects, Tag::FileIdentifier)?)?;
+    let kind = kind_of(descriptor, objects)?;
+    let life_cycle = life_cycle_of(value_at(objects, Tag::LifeCycleStatus))?;
+    let rule = Compact::parse(value_at(objects, Tag::CompactRule)?)?;
+    if has_unknown(objects) {
+        return None;
+    }
+    Some(Fcp {
+        identifier,
+        life_cycle,
+        rule,
+        kind,
+    })
+}
+
+fn kind_of<'a>(descriptor: Descriptor, objects: &[Object<'a>]) -> Option<FileKind<'a>>
+    ensures value { result ≡ kind_of descriptor objects.now }
+    ensures ranges { IfSome result IsKind }
+{
+    match descriptor {
+        Descriptor::Df => df_of(objects),
+        Descriptor::Transparent => transparent_of(objects),
+        Descriptor::Records {
+            structure,
+            record_length,
+            existing,
+        } => record_file_of(structure, record_length, existing, objects),
+    }
+}
+
+#[tactic(auto, unfolding(crate::specs::Reads::df_of))]
+fn df_of<'a>(objects: &[Object<'a>]) -> Option<FileKind<'a>>
+    ensures value { result ≡ df_of objects.now }
+    ensures ranges { IfSome result IsKind }
+{
+    let name = name_of(value_at(objects, Tag::Name))?;
+    let is_misplaced = has(objects, Tag::ShortFileIdentifier);
+    let is_odd = has(objects, Tag::DataBytes) && data_bytes(objects).is_none();
+    if is_misplaced || is_odd {
+        return None;
+    }
+    Some(FileKind::Df { name })
+}
+
+#[tactic(auto, unfolding(crate::specs::Reads::transparent_of))]
+fn transparent_of<'a>(objects: &[Object<'a>]) -> Option<FileKind<'a>>
+    ensures value { result ≡ transparent_of objects.now }
+    ensures ranges { IfSome result IsKind }
+{
+    let short = short_of(value_at(objects, Tag::ShortFileIdentifier))?;
+    let size = size_of(data_bytes(objects))?;
+    if has(objects, Tag::Name) {
+        return None;
+    }
+    Some(FileKind::Transparent { short, size })
+}
+
+#[tactic(auto, unfolding(crate::specs::Reads::record_file_of))]
+fn record_file_of<'a>(
+    structure: Structure,
+    record_length: u16,
+    existing: Option<u8>,
+    objects: &[Object<'a>],
+) -> Option<FileKind<'a>>
+    ensures value { result ≡ record_file_of structure record_length existing objects.now }
+    ensures ranges { IfSome result IsKind }
+{
+    let short = short_of(value_at(objects, Tag::ShortFileIdentifier))?;
+    let size = size_of(data_bytes(objects))?;
+    let records = records_of(record_length, existing, size)?;
+    if has(objects, Tag::Name) {
+        return None;
+    }
+    match structure {
+        Structure::Linear => Some(FileKind::Linear { short, records }),
+        Structure::Cyclic => Some(FileKind::Cyclic { short, records }),
+    }
+}
+
+fn identifier_of(value: &[u8]) -> Option<u16>
+    ensures value { result ≡ identifier_of value.now }
+    ensures below_mf { IfSome result (λ n. n ≢ 0x3F00) }
+    ensures current_df { IfSome result (λ n. n ≢ 0x3FFF) }
+    ensures reserved { IfSome result (λ n. n ≢ 0xFFFF) }
+{
+    match *value {
+        [high, low] => match u16::from_be_bytes([high, low]) {
+            0x3F00 | 0x3FFF | 0xFFFF => None,
+            identifier => Some(identifier),
+        },
+        _ => None,
+    }
+}
+
+fn name_of<'a>(value: Option<&'a [u8]>) -> Option<Option<DfName<'a>>>
+    ensures value { result ≡ name_of (option_copied value.entry) }
+    ensures ranges { IfSome result IsName }
+{
+    match value {
+        None => Some(None),
+        Some(bytes) => Some(Some(DfName::new(bytes)?)),
+    }
+}
+
+fn short_of(value: Option<&[u8]>) -> Option<ShortIdentifier>
+    ensures value { result ≡ short_of (option_copied value.entry) }
+    ensures ranges { IfSome result IsShort }
+{
+    match value {
+        None => Some(ShortIdentifier::Absent),
+        Some([]) => Some(ShortIdentifier::Empty),
+        Some([byte]) => {
+            let number = *byte / 8;
+            if *byte % 8 == 0 && 1 <= number && number <= 30 {
+                Some(ShortIdentifier::Given(number))
+            } else {
+                None
+            }
+        }
+        Some([_, _, ..]) => None,
+    }
+}
+
+// The number in object 80.
+fn data_bytes(objects: &[Object<'_>]) -> Option<u32>
+    ensures { result ≡ data_bytes objects.now }
+{
+    number_of(value_at(objects, Tag::DataBytes)?)
+}
+
+fn number_of(value: &[u8]) -> Option<u32>
+    ensures { result ≡ number_of value.now }
+{
+    match *value {
+        [a, b] => Some(u32::from_be_bytes([0, 0, a, b])),
+        [a, b, c] => Some(u32::from_be_bytes([0, a, b, c])),
+        [a, b, c, d] => Some(u32::from_be_bytes([a, b, c, d])),
+        _ => None,
+    }
+}
+
+fn size_of(number: Option<u32>) -> Option<u16>
+    ensures value { result ≡ size_of number }
+    ensures ranges { IfSome result IsSize }
+{
+    let number = number?;
+    if 1 <= number && number <= 32767 {
+        Some(number as u16)
+    } else {
+        None
+    }
+}
+
+fn records_of(record_length: u16, existing: Option<u8>, size: u16) -> Option<Records>
+    requires { IsSize size }
+    ensures value { result ≡ records_of record_length existing size }
+    ensures ranges { IfSome result IsRecords }
+{
+    if record_length < 1 || record_length > 255 || size % record_length != 0 {
+        return None;
+    }
+    let capacity = size / record_length;
+    let number = match existing {
+        Some(number) => u16::from(number),
+        None => capacity,
+    };
+    if capacity < 1 || capacity > 254 || number > capacity {
+        return None;
+    }
+    Some(Records {
+        size,
+        record_length: record_length as u8,
+        existing: number as u8,
+    })
+}
+
+fn life_cycle_of(value: Option<&[u8]>) -> Option<LifeCycle>
+    ensures value { result ≡ life_cycle_of (option_copied value.entry) }
+    ensures live { IfSome result (λ state. state ≢ Terminated) }
+{
+    match value {
+        None => Some(LifeCycle::Activated),
+        Some([byte]) => match *byte {
+            0x01 => Some(LifeCycle::Creation),
+            0x03 => Some(LifeCycle::Initialisation),
+            0x05 | 0x07 => Some(LifeCycle::Activated),
+            0x04 | 0x06 => Some(LifeCycle::Deactivated),
+            _ => None,
+        },
+        Some(_) => None,
+    }
+}

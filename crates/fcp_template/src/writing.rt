@@ -1,0 +1,118 @@
+//! Writing templates.
+
+ghost use Rattle.std.specs.Prelude.{◌≡◌, ◌+◌, ◌≤◌, [], ◌∷◌, ◌++◌, length};
+ghost use Rattle.fcp_template.specs.Table.{tag_byte};
+ghost use Rattle.fcp_template.specs.DataObjects.{object_text, objects_text};
+ghost use Rattle.fcp_template.specs.Ranges.{IsKind, IsShort};
+ghost use Rattle.fcp_template.specs.Spelling.{IsInFull, data_object, two_bytes, short_value, descriptor_value, kind_objects, fcp_objects, fcp_text};
+
+use crate::fcp::{Fcp, FileKind, Records, ShortIdentifier};
+use crate::tag::Tag;
+use arrayvec::ArrayVec;
+
+/// The objects of a template, which has at most 127 bytes of them.
+type Body = ArrayVec<u8, 127>;
+
+/// Writes the one spelling of file control parameters in an answer into an empty buffer.
+pub fn write(fcp: &Fcp<'_>, out: &mut ArrayVec<u8, 256>)
+    requires empty { out.old.items ≡ [] }
+    requires full { IsInFull fcp.now }
+    ensures { out.new.items ≡ fcp_text fcp.now }
+{
+    let mut body = Body::new();
+    put_objects(fcp, &mut body);
+    out.push(0x62);
+    out.push(body.len() as u8);
+    out.try_extend_from_slice(&body).unwrap();
+}
+
+// Writes the objects into an empty buffer.
+fn put_objects(fcp: &Fcp<'_>, body: &mut Body)
+    requires empty { body.old.items ≡ [] }
+    requires full { IsInFull fcp.now }
+    ensures { body.new.items ≡ objects_text (fcp_objects fcp.now) }
+{
+    put_descriptor(&fcp.kind, body);
+    put(body, Tag::FileIdentifier, &two_bytes(fcp.identifier));
+    put_kind(&fcp.kind, body);
+    put(body, Tag::LifeCycleStatus, &[fcp.life_cycle.to_byte()]);
+    put(body, Tag::CompactRule, fcp.rule.as_bytes());
+}
+
+// Writes object 82 behind what is there.
+fn put_descriptor(kind: &FileKind<'_>, body: &mut Body)
+    requires room { length body.old.items + 7 ≤ 127 }
+    ensures written { body.new.items ≡ body.old.items ++ object_text (data_object 0x82 (descriptor_value kind.now)) }
+    ensures room { length body.new.items ≤ length body.old.items + 7 }
+{
+    match kind {
+        FileKind::Df { .. } => put(body, Tag::FileDescriptor, &[0x78, 0x21]),
+        FileKind::Transparent { .. } => put(body, Tag::FileDescriptor, &[0x41, 0x21]),
+        FileKind::Linear { records, .. } => put_record_descriptor(0x42, records, body),
+        FileKind::Cyclic { records, .. } => put_record_descriptor(0x46, records, body),
+    }
+}
+
+fn put_record_descriptor(byte: u8, records: &Records, body: &mut Body)
+    requires room { length body.old.items + 7 ≤ 127 }
+    ensures { body.new.items ≡ body.old.items ++ object_text (data_object 0x82 (byte ∷ 0x21 ∷ two_bytes records.now.record_length ++ records.now.existing ∷ [])) }
+{
+    let [high, low] = two_bytes(u16::from(records.record_length));
+    put(
+        body,
+        Tag::FileDescriptor,
+        &[byte, 0x21, high, low, records.existing],
+    );
+}
+
+// Writes objects 84, 88 and 80 behind what is there.
+fn put_kind(kind: &FileKind<'_>, body: &mut Body)
+    requires room { length body.old.items + 18 ≤ 127 }
+    requires ranges { IsKind kind.now }
+    ensures written { body.new.items ≡ body.old.items ++ objects_text (kind_objects kind.now) }
+    ensures room { length body.new.items ≤ length body.old.items + 18 }
+{
+    match kind {
+        FileKind::Df { name: None } => {}
+        FileKind::Df { name: Some(name) } => put(body, Tag::Name, name.as_bytes()),
+        FileKind::Transparent { short, size } => put_short_and_size(*short, *size, body),
+        FileKind::Linear { short, records } | FileKind::Cyclic { short, records } => {
+            put_short_and_size(*short, records.size, body);
+        }
+    }
+}
+
+// Writes objects 88 and 80 of an elementary file behind what is there.
+fn put_short_and_size(short: ShortIdentifier, size: u16, body: &mut Body)
+    requires room { length body.old.items + 7 ≤ 127 }
+    requires ranges { IsShort short }
+    ensures { body.new.items ≡ body.old.items ++ objects_text (data_object 0x88 (short_value short) ∷ data_object 0x80 (two_bytes size) ∷ []) }
+{
+    match short {
+        ShortIdentifier::Given(number) => put(body, Tag::ShortFileIdentifier, &[number * 8]),
+        ShortIdentifier::Absent | ShortIdentifier::Empty => put(
+            body,
+            Tag::ShortFileIdentifier,
+            &[],
+        ),
+    }
+    put(body, Tag::DataBytes, &two_bytes(size));
+}
+
+// Writes an object behind what is there.
+fn put(body: &mut Body, tag: Tag, value: &[u8])
+    requires { length body.old.items + 2 + length value.now ≤ 127 }
+    ensures written { body.new.items ≡ body.old.items ++ object_text (data_object (tag_byte tag) value.now) }
+    ensures room { length body.new.items ≡ length body.old.items + 2 + length value.now }
+{
+    body.push(tag.byte());
+    body.push(value.len() as u8);
+    body.try_extend_from_slice(value).unwrap();
+}
+
+// A number in two bytes, the most significant first.
+fn two_bytes(number: u16) -> [u8; 2]
+    ensures { result ≡ two_bytes number }
+{
+    number.to_be_bytes()
+}

@@ -1,0 +1,75 @@
+-- What contracts know of a board, and what its calls do to it.
+use Rattle.std.specs.Prelude.{◌≡◌, ◌⊎◌, ℕ, ◌+◌, ◌*◌, Bool, true, false, List, replicate, slice_index, slice_set, Contains, Result, IsOk, IsErrOf}
+use Rattle.nvm_board.specs.declared.board.DeviceErr.{DeviceErr}
+use Rattle.nvm_board.specs.declared.board.DeviceErr.TheVariants.{PowerLost, Fault}
+use Rattle.nvm_board.specs.declared.board.TheConstants.{COUNT_END, PAGE_WORDS, WORDS, SECRETS}
+
+-- All that contracts know of a board: its words, whether its power is off, how many cuts may still come, and what it
+-- has counted; the comparisons and matches for each secret.
+pub record Facts : Type 0 where
+  pub words : List ℕ
+  pub dark : Bool
+  pub due : ℕ
+  pub faults : ℕ
+  pub cuts : ℕ
+  pub writes : ℕ
+  pub compares : List ℕ
+  pub matches : List ℕ
+
+-- the address of a word by its page and its place in the page
+abbrev pub address : ℕ → ℕ → ℕ
+address page first = PAGE_WORDS * page + first
+
+-- a new board: lit, all words and counts 0, and no cut to come
+abbrev pub new_board : Facts
+new_board = record { words = replicate WORDS 0; dark = false; due = 0; faults = 0; cuts = 0; writes = 0; compares = replicate SECRETS 0; matches = replicate SECRETS 0 }
+
+-- a count that a call may raise, other than the cuts, stands at its end
+abbrev pub IsWorn : Facts → Type 0
+IsWorn f = (f.faults ≡ COUNT_END) ⊎ (f.writes ≡ COUNT_END) ⊎ Contains f.compares COUNT_END ⊎ Contains f.matches COUNT_END
+
+-- some count stands at its end
+abbrev pub IsWornOut : Facts → Type 0
+IsWornOut f = (f.cuts ≡ COUNT_END) ⊎ IsWorn f
+
+-- a lit board stays lit, and has neither a cut nor a fault
+pub record Steady (old new : Facts) : Type 0 where
+  pub was_lit : old.dark ≡ false
+  pub lit : new.dark ≡ false
+  pub faults : new.faults ≡ old.faults
+  pub cuts : new.cuts ≡ old.cuts
+  pub due : new.due ≡ old.due
+
+-- a lit board goes dark: a cut was due, or a count stands at its end
+pub record GoesDark (old new : Facts) : Type 0 where
+  pub was_lit : old.dark ≡ false
+  pub dark : new.dark ≡ true
+  pub faults : new.faults ≡ old.faults
+  pub cuts : new.cuts ≡ old.cuts + 1
+  pub due : (old.due ≡ new.due + 1) ⊎ (IsWorn new × (new.due ≡ old.due))
+
+-- a lit board has a fault, and stays lit
+pub record Fails (old new : Facts) : Type 0 where
+  pub was_lit : old.dark ≡ false
+  pub lit : new.dark ≡ false
+  pub faults : new.faults ≡ old.faults + 1
+  pub cuts : new.cuts ≡ old.cuts
+  pub due : new.due ≡ old.due
+
+-- What an answer tells of power and device. A dark board answers PowerLost, and nothing of it changes.
+pub record Answered {T : Type 0} (old new : Facts) (result : Result T DeviceErr) : Type 0 where
+  pub ok : IsOk result → Steady old new
+  pub lost : IsErrOf result PowerLost → GoesDark old new ⊎ ((old.dark ≡ true) × (new ≡ old))
+  pub fault : IsErrOf result Fault → Fails old new
+
+-- neither a cut nor a fault came
+abbrev pub IsUncut : Facts → Facts → Type 0
+IsUncut old new = (new.due ≡ old.due) × (new.faults ≡ old.faults)
+
+-- one more of a secret's comparisons or matches
+abbrev pub raised : List ℕ → ℕ → List ℕ
+raised counts secret = slice_set counts secret (slice_index counts secret + 1)
+
+-- at most one more of a secret's comparisons or matches
+abbrev pub RisesAt : List ℕ → ℕ → List ℕ → Type 0
+RisesAt old secret new = (new ≡ old) ⊎ (new ≡ raised old secret)

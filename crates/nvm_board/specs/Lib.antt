@@ -1,0 +1,4 @@
+pub mod Facts
+pub mod Torn
+pub mod Ram
+pub mod Cut

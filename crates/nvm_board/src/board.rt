@@ -1,0 +1,119 @@
+//! What a board is: its calls, and what each does to its words, its light and its counts.
+ghost use Rattle.std.specs.Prelude.{◌≡◌, ◌⊎◌, ◌+◌, ◌<◌, ◌≤◌, ◌↔◌, if◌then◌else◌, true, false, length, IsTrue, IsErr, IsErrOf, IfOk, OnOk, OnErr, slice_index};
+ghost use Rattle.nvm_board.specs.declared.board.TheConstants.{PAGES, PAGE_WORDS, WORDS, SECRETS, COUNT_END};
+ghost use Rattle.nvm_board.specs.Facts.{Facts, Answered, RisesAt, IsUncut, IsWornOut, address, raised};
+ghost use Rattle.nvm_board.specs.Torn.{Torn, written};
+
+/// Pages of a board.
+pub const PAGES: u16 = 1024;
+
+/// Words of a page, each of 32 bits.
+pub const PAGE_WORDS: u16 = 16;
+
+/// Words of a board. A word's address is its page times `PAGE_WORDS`, plus its place in the page.
+pub const WORDS: u16 = PAGES * PAGE_WORDS;
+
+/// Secrets that a board compares: 0 to 7 are PIN 1 to 8, 8 to 15 their unblocking values.
+pub const SECRETS: u8 = 16;
+
+/// Where each count of a board ends.
+pub const COUNT_END: u64 = u64::MAX;
+
+/// Why a board didn't carry out a call.
+#[derive(Clone, Copy, Debug, PartialEq, Eq)]
+pub enum DeviceErr {
+    /// Power failed in the call, or was off. The board is dark.
+    PowerLost,
+    /// The device failed. The board is still lit.
+    Fault,
+}
+
+/// A count of the board stands at its end, so power doesn't come on any more.
+#[derive(Clone, Copy, Debug, PartialEq, Eq)]
+pub struct WornOut;
+
+/// A memory of words that power may leave, with a comparer of secrets. The atomic step is one word of one
+/// write that turns from old to new: power may fail between any two such steps.
+pub trait Board {
+    /// What contracts know of the board.
+    ghost facts: { Self → Facts };
+
+    /// The word at an address.
+    fn read(&mut self, at: u16) -> Result<u32, DeviceErr>
+        requires { at < WORDS }
+        ensures word { IfOk result (λ w. w ≡ slice_index (facts self.old).words at) }
+        ensures light { Answered (facts self.old) (facts self.new) result }
+        ensures words { (facts self.new).words ≡ (facts self.old).words }
+        ensures writes { (facts self.new).writes ≡ (facts self.old).writes }
+        ensures compares { (facts self.new).compares ≡ (facts self.old).compares }
+        ensures matches { (facts self.new).matches ≡ (facts self.old).matches };
+
+    /// Writes 1 to 16 words of one page, from its word `first` on. After an error each of them is old or
+    /// new by itself.
+    fn write(&mut self, page: u16, first: u8, words: &[u32]) -> Result<(), DeviceErr>
+        requires page { page < PAGES }
+        requires some { 0 < length words.now }
+        requires run { first + length words.now ≤ PAGE_WORDS }
+        ensures done { OnOk result ((facts self.new).words ≡ written (facts self.old).words (address page first) words.now) }
+        ensures torn { Torn (facts self.old).words (address page first) words.now (facts self.new).words }
+        ensures light { Answered (facts self.old) (facts self.new) result }
+
+        // Nothing else raises the writes. Where power is lost without a cut, a count stood at its end before the call.
+        ensures counted { OnOk result ((facts self.new).writes ≡ (facts self.old).writes + 1) }
+        ensures counted_err { OnErr result (((facts self.new).writes ≡ (facts self.old).writes)
+            ⊎ ((facts self.new).writes ≡ (facts self.old).writes + 1)) }
+        ensures counted_uncut { OnErr result (IsUncut (facts self.old) (facts self.new)
+            → (facts self.new).writes ≡ (facts self.old).writes) }
+        ensures compares { (facts self.new).compares ≡ (facts self.old).compares }
+        ensures matches { (facts self.new).matches ≡ (facts self.old).matches };
+
+    /// Whether the shown bytes are the kept ones of a secret. Each comparison and each match is counted.
+    fn compare(&mut self, secret: u8, kept: &[u8; 8], shown: &[u8; 8]) -> Result<bool, DeviceErr>
+        requires { secret < SECRETS }
+        ensures equal { IfOk result (λ e. IsTrue e ↔ (kept.now ≡ shown.now)) }
+        ensures light { Answered (facts self.old) (facts self.new) result }
+        ensures words { (facts self.new).words ≡ (facts self.old).words }
+        ensures writes { (facts self.new).writes ≡ (facts self.old).writes }
+
+        // Nothing else raises these counts.
+        ensures compared { OnOk result ((facts self.new).compares ≡ raised (facts self.old).compares secret) }
+        ensures compared_err { OnErr result (RisesAt (facts self.old).compares secret (facts self.new).compares) }
+        ensures matched { IfOk result (λ e. (facts self.new).matches
+            ≡ (if e then raised (facts self.old).matches secret else (facts self.old).matches)) }
+        ensures matched_err { OnErr result (RisesAt (facts self.old).matches secret (facts self.new).matches) }
+        ensures compared_uncut { OnErr result (IsUncut (facts self.old) (facts self.new)
+            → ((facts self.new).compares ≡ (facts self.old).compares)
+            × ((facts self.new).matches ≡ (facts self.old).matches)) };
+
+    /// Each board has all its words.
+    ghost sized: { (board : Self) → length (facts board).words ≡ WORDS };
+
+    /// Each board counts the comparisons of each secret, and its matches.
+    ghost counted: { (board : Self) → (length (facts board).compares ≡ SECRETS) × (length (facts board).matches ≡ SECRETS) };
+
+    /// A lit board can count one more cut.
+    ghost may_go: { (board : Self) → (facts board).dark ≡ false → (facts board).cuts < COUNT_END };
+}
+
+/// A board whose power comes and goes by call. Its words stay.
+pub trait Socket: Board {
+    /// Power comes on, unless a count stands at its end: then nothing changes.
+    fn light(&mut self) -> Result<(), WornOut>
+        ensures worn { IsErr result ↔ IsWornOut (Self.facts self.old) }
+        ensures lit { OnOk result (Self.facts self.new ≡ record (Self.facts self.old) { dark = false }) }
+        ensures same { OnErr result (Self.facts self.new ≡ Self.facts self.old) };
+
+    /// Power goes off.
+    fn power_off(&mut self)
+        ensures { Self.facts self.new ≡ record (Self.facts self.old) { dark = true } };
+}
+
+/// A board on which a cut, or a fault, can be set to come at a later write.
+pub trait Armed: Socket {
+    /// Write `k` from now on, counted from 1, will be torn: bit i of the mask tells whether the ith written
+    /// word is new, from bit 0. It takes the place of what was set before.
+    fn arm(&mut self, k: u32, mask: u16)
+        requires { 1 ≤ k }
+        ensures due { (Self.facts self.new).due ≤ 1 }
+        ensures same { Self.facts self.new ≡ record (Self.facts self.old) { due = (Self.facts self.new).due } };
+}

@@ -1,0 +1,18 @@
+//! A card's memory as a device: words in pages, whose writes may be torn where power fails, and a
+//! comparer of secrets that counts. Boards in working memory stand for it.
+#![tactic(auto)]
+
+mod board;
+mod cut_board;
+pub mod laws;
+mod ram_board;
+mod runs;
+
+pub use board::{
+    Armed, Board, COUNT_END, DeviceErr, PAGE_WORDS, PAGES, SECRETS, Socket, WORDS, WornOut,
+};
+pub use cut_board::CutBoard;
+pub use ram_board::RamBoard;
+
+#[cfg(test)]
+mod tests;

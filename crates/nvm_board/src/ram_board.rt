@@ -1,0 +1,187 @@
+//! A board in working memory, which never fails and loses power only by call or at the end of a count.
+ghost use Rattle.std.specs.Prelude.{◌≡◌, ◌⊎◌, ◌+◌, ◌<◌, ◌≤◌, ◌↔◌, true, false, length, IsTrue, Contains, IfOk};
+ghost use Rattle.nvm_board.specs.declared.board.TheConstants.{WORDS, SECRETS, COUNT_END, PAGES, PAGE_WORDS};
+ghost use Rattle.nvm_board.specs.Facts.{address};
+
+use crate::board::{
+    Board, COUNT_END, DeviceErr, PAGE_WORDS, PAGES, SECRETS, Socket, WORDS, WornOut,
+};
+use crate::runs::{put_masked, put_run};
+use std::alloc::{AllocError, Global};
+
+/// A board in working memory. Its words are gone with it.
+#[derive(Drop)]
+pub struct RamBoard {
+    words: Vec<u32>,
+    dark: bool,
+    cuts: u64,
+    writes: u64,
+    compares: [u64; SECRETS as usize],
+    matches: [u64; SECRETS as usize],
+    ghost sized: { length words.items ≡ WORDS },
+    ghost compares_counted: { length compares ≡ SECRETS },
+    ghost matches_counted: { length matches ≡ SECRETS },
+    ghost may_go: { dark ≡ false → cuts < COUNT_END },
+}
+
+impl RamBoard {
+    ghost use Rattle.nvm_board.specs.Facts.{IsWornOut, new_board};
+    ghost use Rattle.nvm_board.specs.Ram.{ram_facts};
+    ghost use Rattle.nvm_board.specs.Torn.{IsTornBy};
+
+    /// A lit board whose words and counts are 0.
+    pub fn new(alloc: Global) -> Result<RamBoard, AllocError>
+        ensures { IfOk result (λ b. ram_facts b ≡ new_board) }
+    {
+        Ok(RamBoard {
+            words: vec![in alloc; 0u32; WORDS as usize]?,
+            dark: false,
+            cuts: 0,
+            writes: 0,
+            compares: [0; SECRETS as usize],
+            matches: [0; SECRETS as usize],
+        })
+    }
+
+    // Whether power is off.
+    pub(crate) fn is_dark(&self) -> bool
+        ensures { result ≡ (ram_facts self.now).dark }
+    {
+        self.dark
+    }
+
+    // Whether a count stands at its end.
+    fn is_worn_out(&self) -> bool
+        ensures worn { IsTrue result ↔ IsWornOut (ram_facts self.now) }
+        ensures spare { result ≡ false → self.now.cuts < COUNT_END }
+    {
+        self.cuts == COUNT_END
+            || self.writes == COUNT_END
+            || has_ended(&self.compares)
+            || has_ended(&self.matches)
+    }
+
+    // Loses power in a call.
+    fn go_dark(&mut self)
+        requires { self.old.dark ≡ false }
+        ensures { ram_facts self.new ≡ record (ram_facts self.old) { dark = true; cuts = self.old.cuts + 1 } }
+    {
+        self.cuts += 1;
+        self.dark = true;
+    }
+
+    // Tears a write by the mask, and loses power in it.
+    pub(crate) fn tear(&mut self, page: u16, first: u8, words: &[u32], mask: u16)
+        requires lit { self.old.dark ≡ false }
+        requires page { page < PAGES }
+        requires run { first + length words.now ≤ PAGE_WORDS }
+        ensures torn { IsTornBy mask (ram_facts self.old).words (address page first) words.now (ram_facts self.new).words }
+        ensures same { ram_facts self.new ≡ record (ram_facts self.old) { words = (ram_facts self.new).words; dark = true; cuts = self.old.cuts + 1 } }
+    {
+        put_masked(&mut self.words, place(page, first), words, mask);
+        self.go_dark();
+    }
+}
+
+impl Board for RamBoard {
+    ghost use Rattle.nvm_board.specs.Ram.{ram_facts};
+
+    ghost facts = { ram_facts };
+
+    fn read(&mut self, at: u16) -> Result<u32, DeviceErr> {
+        if self.dark {
+            return Err(DeviceErr::PowerLost);
+        }
+        Ok(self.words[usize::from(at)])
+    }
+
+    fn write(&mut self, page: u16, first: u8, words: &[u32]) -> Result<(), DeviceErr> {
+        if self.dark {
+            return Err(DeviceErr::PowerLost);
+        }
+        if self.writes == COUNT_END {
+            self.go_dark();
+            return Err(DeviceErr::PowerLost);
+        }
+        put_run(&mut self.words, place(page, first), words);
+        self.writes += 1;
+        Ok(())
+    }
+
+    fn compare(&mut self, secret: u8, kept: &[u8; 8], shown: &[u8; 8]) -> Result<bool, DeviceErr> {
+        if self.dark {
+            return Err(DeviceErr::PowerLost);
+        }
+        let place = usize::from(secret);
+        let equal = kept == shown;
+        let counts_end = self.compares[place] == COUNT_END
+            || equal && self.matches[place] == COUNT_END;
+        if counts_end {
+            self.go_dark();
+            return Err(DeviceErr::PowerLost);
+        }
+        self.compares[place] += 1;
+        if equal {
+            self.matches[place] += 1;
+        }
+        Ok(equal)
+    }
+
+    ghost sized = { λ b. b.sized };
+
+    ghost counted = { λ b. (b.compares_counted, b.matches_counted) };
+
+    ghost may_go = { λ b. b.may_go };
+}
+
+impl Socket for RamBoard {
+    fn light(&mut self) -> Result<(), WornOut> {
+        if self.is_worn_out() {
+            return Err(WornOut);
+        }
+        self.dark = false;
+        Ok(())
+    }
+
+    fn power_off(&mut self) {
+        self.dark = true;
+    }
+}
+
+// A word's place among all words.
+fn place(page: u16, first: u8) -> usize
+    requires page { page < PAGES }
+    requires first { first ≤ PAGE_WORDS }
+    ensures { result ≡ address page first }
+{
+    usize::from(PAGE_WORDS) * usize::from(page) + usize::from(first)
+}
+
+// Whether one of the counts stands at its end.
+fn has_ended(counts: &[u64]) -> bool
+    ensures { IsTrue result ↔ Contains counts.now COUNT_END }
+{
+    counts.contains(&COUNT_END)
+}
+
+#[cfg(test)]
+mod tests {
+    use super::*;
+    use std::test::Fail;
+
+    #[test]
+    fn ends_at_the_end_of_a_count(rt: HostRuntime) -> Result<(), Fail> {
+        let mut board = RamBoard::new(rt.alloc())?;
+        assert!(rt; board.compare(3, &[1; 8], &[1; 8])?);
+        assert!(rt; !board.compare(3, &[1; 8], &[2; 8])?);
+        let (compares, matches) = (board.compares[3], board.matches[3]);
+        assert_eq!(rt; compares, 2);
+        assert_eq!(rt; matches, 1);
+        board.writes = COUNT_END - 1;
+        board.write(0, 0, &[1])?;
+        assert_eq!(rt; board.write(0, 0, &[2]), Err(DeviceErr::PowerLost));
+        assert_eq!(rt; board.cuts, 1);
+        assert_eq!(rt; board.light(), Err(WornOut));
+        Ok(())
+    }
+}

@@ -1,0 +1,133 @@
+-- The card's end of T=1: what it holds between blocks, and its reaction to each (ISO/IEC 7816-3, clause 11.6).
+use Rattle.std.specs.Prelude.{ℕ, Bool, false, not, List, [], ◌∷◌, ◌++◌, length, take, drop, ◌==◌, ◌&&◌, Option, None, Some, Result, Ok, Err, unwrap_or, is_some}
+use Rattle.t1_link.specs.declared.block.ErrorKind.{ErrorKind}
+use Rattle.t1_link.specs.declared.block.ErrorKind.TheVariants.{ErrorFree, OtherError}
+use Rattle.t1_link.specs.declared.block.Fault.{Fault}
+use Rattle.t1_link.specs.declared.card_end.Action.{Action}
+use Rattle.t1_link.specs.declared.card_end.Action.TheVariants.{Reply, Run}
+use Rattle.t1_link.specs.Blocks.{Block, information, receive_ready, resynch_request, resynch_response, ifs_request, ifs_response, frame, heard, first_of, same, told_as}
+
+-- What the card's end holds: the number of the next I-block that it sends and of the one that it expects, the size of
+-- information field that the reader takes, the information field of the last I-block sent, the bytes of the answer that
+-- are not sent yet, and the bytes of the command that have come.
+pub record Link : Type 0 where
+  pub ns : Bool
+  pub nr : Bool
+  pub ifsd : ℕ
+  pub sent : Option (List ℕ)
+  pub rest : List ℕ
+  pub held : List ℕ
+
+-- after power-on and after RESYNCH
+abbrev pub fresh : Link
+fresh = record { ns = false; nr = false; ifsd = 32; sent = None; rest = []; held = [] }
+
+-- M of the last I-block sent: more of its answer follows
+abbrev pub sent_more : Link → Bool
+sent_more l = not (length l.rest == 0)
+
+-- the last I-block sent has this number
+abbrev pub sent_number : Link → Bool → Bool
+sent_number l number = is_some l.sent && same number (not l.ns)
+
+-- the last I-block sent, once more
+abbrev pub sent_block : Link → Block
+sent_block l = information (not l.ns) (sent_more l) (unwrap_or l.sent [])
+
+-- the command bytes with those of a block: the first 262 are kept
+abbrev pub joined : Link → List ℕ → List ℕ
+joined l field = take 262 (l.held ++ field)
+
+-- What the card's end does with a block: it replies, or has a whole command to run.
+pub data Reaction : Type 0 where
+  replies : Block → Reaction
+  runs : List ℕ → Reaction
+
+pub record Taken : Type 0 where
+  pub link : Link
+  pub reaction : Reaction
+
+abbrev pub replying : Link → Block → Taken
+replying l b = record { link = l; reaction = replies b }
+
+-- an R-block with the expected number
+abbrev pub refusing : Link → ErrorKind → Taken
+refusing l error = replying l (receive_ready l.nr error)
+
+-- the next I-block of these bytes: as many as the reader takes, with M where more follow; its number turns
+abbrev pub sending : Link → List ℕ → Taken
+sending l bytes = replying
+    (record l { ns = not l.ns; sent = Some (take l.ifsd bytes); rest = drop l.ifsd bytes })
+    (information l.ns (not (length (drop l.ifsd bytes) == 0)) (take l.ifsd bytes))
+
+-- An R-block came, by which the reader asks for the block with this number. The first row that fits counts.
+abbrev pub takes_receive_ready : Link → Bool → Taken
+takes_receive_ready l number = first_of (
+    -- 7. the last I-block sent has this number: that block again
+    (sent_number l number, replying l (sent_block l))
+    -- 8. it has the other number, and M: the next I-block of the answer
+    ∷ (sent_more l, sending l l.rest)
+    ∷ [])
+    -- 9. else: R-block, no error
+    (refusing l ErrorFree)
+
+-- An I-block came. The first row that fits counts.
+abbrev pub takes_information : Link → Bool → Bool → List ℕ → Taken
+takes_information l number more field = first_of (
+    -- 10. more of an answer is to be sent: R-block, other error
+    (sent_more l, refusing l OtherError)
+    -- 11. not the number that is expected: R-block, other error
+    ∷ (not (same number l.nr), refusing l OtherError)
+    -- 12. more blocks follow: its bytes join the command, and an R-block without error expects the next number
+    ∷ (more, refusing (record l { nr = not l.nr; held = joined l field }) ErrorFree)
+    ∷ [])
+    -- 13. else its bytes join, and the command is to run; no bytes are held any more
+    (record { link = record l { nr = not l.nr; held = [] }; reaction = runs (joined l field) })
+
+-- The reaction to what was heard, row by row.
+unfoldable pub card_takes : Link → Result Block Fault → Taken
+-- 1 to 3. no block, of a wrong length, of a wrong check byte or of an unknown kind: R-block, other, redundancy or other error
+card_takes l (Err fault) = refusing l (told_as fault)
+-- 4. RESYNCH is requested: all is as after power-on
+card_takes l (Ok resynch_request) = replying fresh resynch_response
+-- 5. the reader tells the size that it takes from now on
+card_takes l (Ok (ifs_request size)) = replying (record l { ifsd = size }) (ifs_response size)
+-- 6. a response that was not asked for: R-block, other error
+card_takes l (Ok resynch_response) = refusing l OtherError
+card_takes l (Ok (ifs_response size)) = refusing l OtherError
+-- 7 to 9, whatever kind of error the R-block tells
+card_takes l (Ok (receive_ready number error)) = takes_receive_ready l number
+-- 10 to 13
+card_takes l (Ok (information number more field)) = takes_information l number more field
+
+-- the reaction to bytes that came
+abbrev pub LinkStep : Link → List ℕ → Taken
+LinkStep l bytes = card_takes l (heard bytes)
+
+-- the first I-block of an answer
+abbrev pub answers : Link → List ℕ → Taken
+answers l answer = sending l answer
+
+-- the bytes of a reaction's block; none where a command is to run
+abbrev pub bytes_of : Reaction → List ℕ
+bytes_of (replies b) = frame b
+bytes_of (runs command) = []
+
+-- what the caller is to do
+abbrev pub action_of : Reaction → Action
+action_of (replies b) = Reply
+action_of (runs command) = Run
+
+-- the command that a reaction leaves waiting
+abbrev pub command_of : Reaction → Option (List ℕ)
+command_of (replies b) = None
+command_of (runs command) = Some command
+
+-- The value of the card's end: its link, and the command that waits for an answer.
+pub record CardLink : Type 0 where
+  pub link : Link
+  pub waiting : Option (List ℕ)
+
+-- what the card's end is after a reaction
+abbrev pub after : Taken → CardLink
+after taken = record { link = taken.link; waiting = command_of taken.reaction }

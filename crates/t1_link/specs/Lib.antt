@@ -1,0 +1,10 @@
+pub mod BlockLaws
+pub mod Blocks
+pub mod CardFields
+pub mod CardRows
+pub mod CardTable
+pub mod Cut
+pub mod ReaderFields
+pub mod ReaderRows
+pub mod ReaderTable
+pub mod Spoken

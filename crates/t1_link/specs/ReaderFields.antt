@@ -1,0 +1,30 @@
+-- What the fields of a `ReaderEnd` stand for, and what it says.
+use Rattle.std.specs.Prelude.{◌≤◌, length}
+use Rattle.t1_link.specs.ReaderTable.{Reader, Outcome, sends, gives, unknown, fails}
+use Rattle.t1_link.specs.Blocks.{frame}
+use Rattle.t1_link.specs.declared.reader_end.ReaderEnd.TheInside.{Inside}
+use Rattle.t1_link.specs.declared.reader_end.Next.{Next}
+use Rattle.t1_link.specs.declared.reader_end.Next.TheVariants.{Send, Done, Unknown, Failed}
+
+abbrev pub reader_of : Inside → Reader
+reader_of r = record {
+  ns = r.number;
+  nr = r.expected;
+  tries = r.tries;
+  field = r.command.field;
+  rest = r.command.rest;
+  answer = r.answer.items;
+  resynchs = r.resynchs;
+  phase = r.phase;
+}
+
+-- every I-block fits
+abbrev pub IsSendable : Inside → Type 0
+IsSendable r = length r.command.field ≤ 254
+
+-- what the call returns
+abbrev pub next_of : Outcome → Next
+next_of (sends b) = Send (record { items = frame b })
+next_of (gives answer) = Done (record { items = answer })
+next_of unknown = Unknown
+next_of (fails failure) = Failed failure

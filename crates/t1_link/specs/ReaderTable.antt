@@ -1,0 +1,149 @@
+-- The reader's end of T=1: what it holds between blocks, and its reaction to each (ISO/IEC 7816-3, clause 11.6).
+use Rattle.std.specs.Prelude.{◌+◌, ◌==◌, ◌||◌, ℕ, Bool, true, false, not, nat_lt, if◌then◌else◌, List, [], ◌∷◌, ◌++◌, length, take, drop, Result, Ok, Err}
+use Rattle.t1_link.specs.declared.block.ErrorKind.{ErrorKind}
+use Rattle.t1_link.specs.declared.block.ErrorKind.TheVariants.{ErrorFree, OtherError}
+use Rattle.t1_link.specs.declared.block.Fault.{Fault}
+use Rattle.t1_link.specs.declared.reader_end.Phase.{Phase}
+use Rattle.t1_link.specs.declared.reader_end.Phase.TheVariants.{Idle, Busy, Dead}
+use Rattle.t1_link.specs.declared.reader_end.Failure.{Failure}
+use Rattle.t1_link.specs.declared.reader_end.Failure.TheVariants.{LinkLost, BadAnswer}
+use Rattle.t1_link.specs.Blocks.{Block, information, receive_ready, resynch_request, resynch_response, ifs_request, ifs_response, heard, first_of, same, told_as}
+
+-- What the reader's end holds: the number of the next I-block that it sends and of the one that it expects, how often it
+-- tried in vain, the information field of its last I-block, the bytes of the command that are not sent yet, the bytes of
+-- the answer that have come, how often it requested RESYNCH, and whether a command is in hand or the link is given up.
+pub record Reader : Type 0 where
+  pub ns : Bool
+  pub nr : Bool
+  pub tries : ℕ
+  pub field : List ℕ
+  pub rest : List ℕ
+  pub answer : List ℕ
+  pub resynchs : ℕ
+  pub phase : Phase
+
+-- after power-on and after a RESYNCH that was answered
+abbrev pub fresh_reader : Reader
+fresh_reader = record { ns = false; nr = false; tries = 0; field = []; rest = []; answer = []; resynchs = 0; phase = Idle }
+
+-- What the reader's end says: a block to be sent, the answer, that it isn't known whether the command was run, or a failure.
+pub data Outcome : Type 0 where
+  sends : Block → Outcome
+  gives : List ℕ → Outcome
+  unknown : Outcome
+  fails : Failure → Outcome
+
+pub record Turned : Type 0 where
+  pub reader : Reader
+  pub outcome : Outcome
+
+-- M of its last I-block: more of the command follows
+abbrev pub has_more : Reader → Bool
+has_more r = not (length r.rest == 0)
+
+-- its last I-block
+abbrev pub last_block : Reader → Block
+last_block r = information (not r.ns) (has_more r) r.field
+
+-- RESYNCH is requested
+abbrev pub requesting : Reader → Turned
+requesting r = record { reader = record r { resynchs = r.resynchs + 1 }; outcome = sends resynch_request }
+
+-- a try: this block, or after three tries the request for RESYNCH in its place
+abbrev pub trying : Reader → Block → Turned
+trying r b = if nat_lt r.tries 3 then record { reader = record r { tries = r.tries + 1 }; outcome = sends b } else requesting r
+
+-- a try: an R-block with the expected number
+abbrev pub asking : Reader → ErrorKind → Turned
+asking r error = trying r (receive_ready r.nr error)
+
+-- the link is given up
+abbrev pub failing : Reader → Failure → Turned
+failing r failure = record { reader = record r { phase = Dead }; outcome = fails failure }
+
+-- the next I-block of these bytes: at most 254, with M where more follow; its number turns, and no try is counted yet
+abbrev pub advancing : Reader → List ℕ → Turned
+advancing r bytes = record {
+  reader = record r { ns = not r.ns; tries = 0; field = take 254 bytes; rest = drop 254 bytes };
+  outcome = sends (information r.ns (not (length (drop 254 bytes) == 0)) (take 254 bytes));
+}
+
+-- An R-block came, by which the card asks for the block with this number. The first row that fits counts.
+abbrev pub turns_receive_ready : Reader → Bool → Turned
+turns_receive_ready r number = first_of (
+    -- 4. the number of its last I-block: that block again, a try
+    (same number (not r.ns), trying r (last_block r))
+    -- 5. the other number, and its last I-block has M: the next I-block
+    ∷ (has_more r, advancing r r.rest)
+    ∷ [])
+    -- 6. else: R-block, other error, a try
+    (asking r OtherError)
+
+-- The bytes of an I-block join the answer. The first row that fits counts.
+abbrev pub turns_answer : Reader → Bool → List ℕ → Turned
+turns_answer r more bytes = first_of (
+    -- 8 and 9. an answer has at most 258 bytes
+    (nat_lt 258 (length bytes), failing r BadAnswer)
+    -- 8. more blocks follow: R-block, no error, with the next number
+    ∷ (more, record { reader = record r { nr = not r.nr; tries = 0; answer = bytes }; outcome = sends (receive_ready (not r.nr) ErrorFree) })
+    -- 9. an answer has at least 2 bytes
+    ∷ (nat_lt (length bytes) 2, failing r BadAnswer)
+    ∷ [])
+    -- 9. else this is the answer
+    (record { reader = record r { nr = not r.nr; answer = []; phase = Idle }; outcome = gives bytes })
+
+-- An I-block came.
+abbrev pub turns_information : Reader → Bool → Bool → List ℕ → Turned
+turns_information r number more field = first_of (
+    -- 7. its last I-block has M, or it isn't the number that is expected: R-block, other error, a try
+    (has_more r || not (same number r.nr), asking r OtherError)
+    ∷ [])
+    -- 8 and 9
+    (turns_answer r more (r.answer ++ field))
+
+-- The reaction to what was heard while the answer is awaited, row by row.
+unfoldable pub turns_block : Reader → Result Block Fault → Turned
+-- 2. no block: R-block, with the kind of error, a try
+turns_block r (Err fault) = asking r (told_as fault)
+-- 3. an S-block: R-block, other error, a try
+turns_block r (Ok resynch_request) = asking r OtherError
+turns_block r (Ok resynch_response) = asking r OtherError
+turns_block r (Ok (ifs_request size)) = asking r OtherError
+turns_block r (Ok (ifs_response size)) = asking r OtherError
+-- 4 to 6, whatever kind of error the R-block tells
+turns_block r (Ok (receive_ready number error)) = turns_receive_ready r number
+-- 7 to 9
+turns_block r (Ok (information number more field)) = turns_information r number more field
+
+-- The response that was requested didn't come: RESYNCH is requested at most three times.
+abbrev pub requesting_again : Reader → Turned
+requesting_again r = if nat_lt r.resynchs 3 then requesting r else failing r LinkLost
+
+-- The reaction to what was heard after a request for RESYNCH: the response, or anything else.
+unfoldable pub turns_resynch : Reader → Result Block Fault → Turned
+turns_resynch r (Ok resynch_response) = record { reader = fresh_reader; outcome = unknown }
+turns_resynch r _ = requesting_again r
+
+-- the reaction to what was heard
+abbrev pub reader_takes : Reader → Result Block Fault → Turned
+reader_takes r h = if r.resynchs == 0 then turns_block r h else turns_resynch r h
+
+-- the reaction to bytes that came
+abbrev pub ReaderStep : Reader → List ℕ → Turned
+ReaderStep r bytes = reader_takes r (heard bytes)
+
+-- 1. nothing came in time: R-block, other error, a try; or the request for RESYNCH was not answered
+abbrev pub reader_times_out : Reader → Turned
+reader_times_out r = if r.resynchs == 0 then asking r OtherError else requesting_again r
+
+-- the link was given up
+abbrev pub is_dead : Phase → Bool
+is_dead Idle = false
+is_dead Busy = false
+is_dead Dead = true
+
+-- A command is to be sent: its first I-block; but over a link that was given up nothing is sent any more.
+abbrev pub reader_sends : Reader → List ℕ → Turned
+reader_sends r command = if is_dead r.phase
+    then record { reader = r; outcome = fails LinkLost }
+    else advancing (record r { answer = []; phase = Busy }) command

@@ -1,0 +1,20 @@
+-- What the code's blocks say.
+use Rattle.std.specs.Prelude.{Result, Ok, Err}
+use Rattle.t1_link.specs.Blocks.{Block, information, receive_ready, resynch_request, resynch_response, ifs_request, ifs_response}
+use Rattle.t1_link.specs.declared.block.Fault.{Fault}
+use Rattle.t1_link.specs.declared.block.Block as spelled
+use Rattle.t1_link.specs.declared.block.Block.TheVariants.{Information, ReceiveReady, ResynchRequest, ResynchResponse, IfsRequest, IfsResponse}
+
+-- a block, with its information field in place of a loan of it
+abbrev pub block_of : spelled.Block → Block
+block_of (Information number more field) = information number more field.now
+block_of (ReceiveReady number error) = receive_ready number error
+block_of ResynchRequest = resynch_request
+block_of ResynchResponse = resynch_response
+block_of (IfsRequest size) = ifs_request size
+block_of (IfsResponse size) = ifs_response size
+
+-- what was heard
+abbrev pub spoken : Result spelled.Block Fault → Result Block Fault
+spoken (Ok b) = Ok (block_of b)
+spoken (Err fault) = Err fault

@@ -1,0 +1,256 @@
+ghost use Rattle.std.specs.Prelude.{◌≡◌, ◌≤◌, ◌++◌, length, IfOk};
+ghost use Rattle.std.specs.Option.{ok_or};
+ghost use Rattle.arrayvec.specs.ArrayVec.{array_vec_len};
+ghost use Rattle.t1_link.specs.Blocks.{IsSpellable, at_byte, bare, control_byte, exclusive_or, field_of, frame, heard, kinds, size_told, told_as};
+ghost use Rattle.t1_link.specs.Spoken.{block_of, spoken};
+
+use arrayvec::ArrayVec;
+
+/// The bytes of a block: at most prologue, 254 bytes of information and the check byte.
+pub type BlockBytes = ArrayVec<u8, 258>;
+
+/// The most bytes of an information field (11.4.2).
+pub(crate) const FIELD_LIMIT: usize = 254;
+
+/// Bytes of a block beside its information field: node address, control byte, length byte and check byte.
+const OVERHEAD: usize = 4;
+
+/// The node address of every block.
+const NODE_ADDRESS: u8 = 0x00;
+
+// Bits of a control byte: N(S), M and N(R).
+const NUMBER_SENT: u8 = 0x40;
+
+const MORE: u8 = 0x20;
+
+const NUMBER_EXPECTED: u8 = 0x10;
+
+// The control bytes of I-blocks, by number and by whether more blocks follow.
+const INFORMATION_0: u8 = 0x00;
+
+const INFORMATION_0_MORE: u8 = INFORMATION_0 | MORE;
+
+const INFORMATION_1: u8 = INFORMATION_0 | NUMBER_SENT;
+
+const INFORMATION_1_MORE: u8 = INFORMATION_1 | MORE;
+
+// The control bytes of R-blocks, by number and kind of error.
+const READY_0: u8 = 0x80;
+
+const READY_0_REDUNDANCY: u8 = 0x81;
+
+const READY_0_OTHER: u8 = 0x82;
+
+const READY_1: u8 = READY_0 | NUMBER_EXPECTED;
+
+const READY_1_REDUNDANCY: u8 = READY_0_REDUNDANCY | NUMBER_EXPECTED;
+
+const READY_1_OTHER: u8 = READY_0_OTHER | NUMBER_EXPECTED;
+
+// The control bytes of S-blocks.
+const RESYNCH_REQUEST: u8 = 0xC0;
+
+const RESYNCH_RESPONSE: u8 = 0xE0;
+
+const IFS_REQUEST: u8 = 0xC1;
+
+const IFS_RESPONSE: u8 = 0xE1;
+
+/// What an R-block tells of the block that it answers.
+#[derive(Clone, Copy)]
+pub enum ErrorKind {
+    ErrorFree,
+    /// The check byte was wrong.
+    RedundancyError,
+    OtherError,
+}
+
+/// Why bytes are no block.
+#[derive(Clone, Copy)]
+pub enum Fault {
+    /// Fewer than 4 bytes, a length byte FF, or not as many bytes as it says.
+    WrongLength,
+    /// The exclusive-or of all bytes isn't 00.
+    WrongCheck,
+    /// The node address isn't 00, or no kind of block has this control byte and information field.
+    UnknownBlock,
+}
+
+impl Fault {
+    /// The kind of error by which the other end is told.
+    pub(crate) fn error_kind(self) -> ErrorKind
+        ensures { result ≡ told_as self }
+    {
+        match self {
+            Fault::WrongLength | Fault::UnknownBlock => ErrorKind::OtherError,
+            Fault::WrongCheck => ErrorKind::RedundancyError,
+        }
+    }
+}
+
+/// A block, whose information field is lent (ISO/IEC 7816-3, 11.3).
+#[derive(Clone, Copy)]
+pub(crate) enum Block<'a> {
+    Information {
+        number: bool,
+        more: bool,
+        field: &'a [u8],
+    },
+    ReceiveReady {
+        number: bool,
+        error: ErrorKind,
+    },
+    ResynchRequest,
+    ResynchResponse,
+    IfsRequest(u8),
+    IfsResponse(u8),
+}
+
+impl<'a> Block<'a> {
+    /// The block that these bytes are, or what is wrong with them.
+    #[tactic(auto, unfolding(crate::specs::Blocks::heard))]
+    pub(crate) fn parse(bytes: &'a [u8]) -> Result<Block<'a>, Fault>
+        ensures heard { spoken result ≡ heard bytes.now }
+        ensures spellable { IfOk result (λ b. IsSpellable (block_of b)) }
+    {
+        if bytes.len() < OVERHEAD {
+            return Err(Fault::WrongLength);
+        }
+        let len = bytes[2] as usize;
+        if len > FIELD_LIMIT || bytes.len() != len + OVERHEAD {
+            return Err(Fault::WrongLength);
+        }
+        if exclusive_or(bytes) != 0 {
+            return Err(Fault::WrongCheck);
+        }
+        if bytes[0] != NODE_ADDRESS {
+            return Err(Fault::UnknownBlock);
+        }
+        Block::of_kind(bytes[1], &bytes[3..3 + len])
+    }
+
+    /// The block that a control byte makes of an information field.
+    fn of_kind(control: u8, field: &'a [u8]) -> Result<Block<'a>, Fault>
+        requires { length field.now ≤ 254 }
+        ensures kind { spoken result ≡ ok_or (at_byte control (kinds field.now)) Fault.UnknownBlock }
+        ensures spellable { IfOk result (λ b. IsSpellable (block_of b)) }
+    {
+        let information = |number, more| Ok(Block::Information {
+            number,
+            more,
+            field,
+        });
+        let ready = |number, error| bare(field, Block::ReceiveReady { number, error });
+        match control {
+            INFORMATION_0 => information(false, false),
+            INFORMATION_0_MORE => information(false, true),
+            INFORMATION_1 => information(true, false),
+            INFORMATION_1_MORE => information(true, true),
+            READY_0 => ready(false, ErrorKind::ErrorFree),
+            READY_0_REDUNDANCY => ready(false, ErrorKind::RedundancyError),
+            READY_0_OTHER => ready(false, ErrorKind::OtherError),
+            READY_1 => ready(true, ErrorKind::ErrorFree),
+            READY_1_REDUNDANCY => ready(true, ErrorKind::RedundancyError),
+            READY_1_OTHER => ready(true, ErrorKind::OtherError),
+            RESYNCH_REQUEST => bare(field, Block::ResynchRequest),
+            RESYNCH_RESPONSE => bare(field, Block::ResynchResponse),
+            IFS_REQUEST => Ok(Block::IfsRequest(size_told(field)?)),
+            IFS_RESPONSE => Ok(Block::IfsResponse(size_told(field)?)),
+            _ => Err(Fault::UnknownBlock),
+        }
+    }
+
+    /// Makes the buffer the bytes of the block, whatever it held.
+    pub(crate) fn write(self, out: &mut BlockBytes)
+        requires { length (field_of (block_of self)) ≤ 254 }
+        ensures { out.new.items ≡ frame (block_of self.entry) }
+    {
+        out.clear();
+        out.push(NODE_ADDRESS);
+        out.push(self.control_byte());
+        out.push(self.field_length());
+        self.push_field(out);
+        out.push(exclusive_or(out.as_slice()));
+    }
+
+    fn control_byte(self) -> u8
+        ensures { result ≡ control_byte (block_of self.entry) }
+    {
+        match self {
+            Block::Information { number, more, .. } => {
+                INFORMATION_0
+                    + (if number { NUMBER_SENT } else { 0 })
+                    + (if more { MORE } else { 0 })
+            }
+            Block::ReceiveReady { number, error } => {
+                let ready = match error {
+                    ErrorKind::ErrorFree => READY_0,
+                    ErrorKind::RedundancyError => READY_0_REDUNDANCY,
+                    ErrorKind::OtherError => READY_0_OTHER,
+                };
+                ready + (if number { NUMBER_EXPECTED } else { 0 })
+            }
+            Block::ResynchRequest => RESYNCH_REQUEST,
+            Block::ResynchResponse => RESYNCH_RESPONSE,
+            Block::IfsRequest(_) => IFS_REQUEST,
+            Block::IfsResponse(_) => IFS_RESPONSE,
+        }
+    }
+
+    /// The length byte.
+    fn field_length(self) -> u8
+        requires { length (field_of (block_of self)) ≤ 254 }
+        ensures { result ≡ length (field_of (block_of self.entry)) }
+    {
+        match self {
+            Block::Information { field, .. } => field.len() as u8,
+            Block::IfsRequest(_) | Block::IfsResponse(_) => 1,
+            Block::ReceiveReady { .. } | Block::ResynchRequest | Block::ResynchResponse => 0,
+        }
+    }
+
+    /// Appends the information field.
+    fn push_field(self, out: &mut BlockBytes)
+        requires field { length (field_of (block_of self)) ≤ 254 }
+        requires room { array_vec_len out.old ≤ 3 }
+        ensures { out.new.items ≡ out.old.items ++ field_of (block_of self.entry) }
+    {
+        match self {
+            Block::Information { field, .. } => {
+                let _ = out.try_extend_from_slice(field);
+            }
+            Block::IfsRequest(size) | Block::IfsResponse(size) => out.push(size),
+            Block::ReceiveReady { .. } | Block::ResynchRequest | Block::ResynchResponse => {}
+        }
+    }
+}
+
+/// A block of a kind that has no information field.
+fn bare<'a>(field: &[u8], block: Block<'a>) -> Result<Block<'a>, Fault>
+    ensures kind { spoken result ≡ ok_or (bare field.now (block_of block.entry)) Fault.UnknownBlock }
+    ensures same { IfOk result (λ b. block_of b ≡ block_of block.entry) }
+{
+    if field.is_empty() {
+        Ok(block)
+    } else {
+        Err(Fault::UnknownBlock)
+    }
+}
+
+/// The information field size that the field of an S-block tells.
+fn size_told(field: &[u8]) -> Result<u8, Fault>
+    ensures size { result ≡ ok_or (size_told field.now) Fault.UnknownBlock }
+    ensures range { IfOk result (λ size. (1 ≤ size) × (size ≤ 254)) }
+{
+    match field {
+        [size] if 1 <= *size && *size <= 254 => Ok(*size),
+        _ => Err(Fault::UnknownBlock),
+    }
+}
+
+/// The exclusive-or of all bytes.
+fn exclusive_or(bytes: &[u8]) -> u8
+    ensures { result ≡ exclusive_or bytes.now }
+{
+    bytes.iter().fold(0, |check, byte| check ^ *byte)
+}

@@ -1,0 +1,238 @@
+ghost use Rattle.std.specs.Prelude.{◌≡◌, ◌≤◌, ◌++◌, None, IsSome, IsTrue, ◌↔◌, Some, length, take, Ok};
+ghost use Rattle.t1_link.specs.Blocks.{IsSpellable, frame, receive_ready};
+ghost use Rattle.t1_link.specs.CardTable.{CardLink, LinkStep, action_of, after, answers, bytes_of, card_takes, fresh, sending, sent_block, takes_information, takes_receive_ready};
+ghost use Rattle.t1_link.specs.Spoken.{block_of};
+
+use crate::block::{Block, BlockBytes, ErrorKind};
+use crate::outgoing::Outgoing;
+use arrayvec::ArrayVec;
+use std::marker::Model;
+
+/// The bytes of an answer.
+pub type AnswerBytes = ArrayVec<u8, 258>;
+
+/// The most command bytes that are kept: one more than a command has.
+const COMMAND_LIMIT: usize = 262;
+
+/// The size of information field that a reader takes after power-on.
+const FIRST_IFSD: u8 = 32;
+
+/// What follows from a block that came.
+#[derive(Clone, Copy)]
+pub enum Action {
+    /// The block in the buffer is to be sent.
+    Reply,
+    /// A whole command is to be run.
+    Run,
+}
+
+/// The card's end of T=1: what was sent, what is expected, and the bytes on their way.
+#[derive(Drop)]
+pub struct CardEnd {
+    number: bool,
+    expected: bool,
+    ifsd: u8,
+    has_sent: bool,
+    answer: Outgoing,
+    command: ArrayVec<u8, COMMAND_LIMIT>,
+    is_idle: bool,
+}
+
+impl Model for CardEnd {
+    ghost use Rattle.t1_link.specs.CardTable.{CardLink};
+
+    ghost Value = { CardLink };
+
+    ghost use Rattle.t1_link.specs.CardFields.{card_link, IsFitting};
+
+    ghost view = { card_link };
+
+    ghost invariant = { IsFitting };
+}
+
+impl CardEnd {
+    /// The card's end after power-on.
+    pub fn new() -> CardEnd
+        ensures { result ≡ record { link = fresh; waiting = None } }
+    {
+        CardEnd {
+            number: false,
+            expected: false,
+            ifsd: FIRST_IFSD,
+            has_sent: false,
+            answer: Outgoing::new(),
+            command: ArrayVec::new(),
+            is_idle: true,
+        }
+    }
+
+    /// Whether a command waits for its answer.
+    pub fn waiting(&self) -> bool
+        ensures { IsTrue result ↔ IsSome self.now.waiting }
+    {
+        !self.is_idle
+    }
+
+    /// The bytes of the command that waits.
+    pub fn command(&self) -> &[u8]
+        requires { IsSome self.now.waiting }
+        ensures { self.now.waiting ≡ Some result.now }
+    {
+        self.command.as_slice()
+    }
+
+    /// Takes a block, of whatever bytes, and puts the reply to it into the buffer, whatever that held.
+    #[tactic(auto, unfolding(crate::specs::CardTable::card_takes))]
+    pub fn take(&mut self, got: &[u8], out: &mut BlockBytes) -> Action
+        requires { self.old.waiting ≡ None }
+        ensures state { self.new ≡ after (LinkStep self.old.link got.now) }
+        ensures action { result ≡ action_of (LinkStep self.old.link got.now).reaction }
+        ensures block { out.new.items ≡ bytes_of (LinkStep self.old.link got.now).reaction }
+
+        // What these say of the command that waits.
+        ensures replied { result ≡ Action.Reply → self.new.waiting ≡ None }
+        ensures waits { result ≡ Action.Run → IsSome self.new.waiting }
+    {
+        match Block::parse(got) {
+            Err(fault) => self.receive_ready(fault.error_kind(), out),
+            Ok(block) => self.take_block(block, out),
+        }
+    }
+
+    /// Answers the command that waits, and puts the first I-block into the buffer, whatever that held.
+    pub fn answer(&mut self, answer: &AnswerBytes, out: &mut BlockBytes)
+        requires { IsSome self.old.waiting }
+        ensures state { self.new ≡ after (answers self.old.link answer.now.items) }
+        ensures block { out.new.items ≡ bytes_of (answers self.old.link answer.now.items).reaction }
+    {
+        self.is_idle = true;
+        self.command.clear();
+        self.answer.load(answer.as_slice());
+        let _ = self.send_next(out);
+    }
+
+    /// What follows from a block.
+    #[tactic(auto, unfolding(crate::specs::CardTable::card_takes))]
+    fn take_block(&mut self, block: Block<'_>, out: &mut BlockBytes) -> Action
+        requires idle { self.old.waiting ≡ None }
+        requires spellable { IsSpellable (block_of block) }
+        ensures state { self.new ≡ after (card_takes self.old.link (Ok (block_of block.entry))) }
+        ensures action { result ≡ action_of (card_takes self.old.link (Ok (block_of block.entry))).reaction }
+        ensures block { out.new.items ≡ bytes_of (card_takes self.old.link (Ok (block_of block.entry))).reaction }
+    {
+        match block {
+            Block::ResynchRequest => {
+                *self = CardEnd::new();
+                Block::ResynchResponse.write(out);
+                Action::Reply
+            }
+            Block::IfsRequest(size) => {
+                self.ifsd = size;
+                Block::IfsResponse(size).write(out);
+                Action::Reply
+            }
+            Block::ResynchResponse | Block::IfsResponse(_) => {
+                self.receive_ready(ErrorKind::OtherError, out)
+            }
+            Block::ReceiveReady { number, .. } => self.take_receive_ready(number, out),
+            Block::Information {
+                number,
+                more,
+                field,
+            } => self.take_information(number, more, field, out),
+        }
+    }
+
+    /// An I-block came.
+    fn take_information(
+        &mut self,
+        number: bool,
+        more: bool,
+        field: &[u8],
+        out: &mut BlockBytes,
+    ) -> Action
+        requires { self.old.waiting ≡ None }
+        ensures state { self.new ≡ after (takes_information self.old.link number more field.now) }
+        ensures action { result ≡ action_of (takes_information self.old.link number more field.now).reaction }
+        ensures block { out.new.items ≡ bytes_of (takes_information self.old.link number more field.now).reaction }
+    {
+        if self.answer.has_more() || number != self.expected {
+            return self.receive_ready(ErrorKind::OtherError, out);
+        }
+        keep(&mut self.command, field);
+        self.expected = !self.expected;
+        if more {
+            return self.receive_ready(ErrorKind::ErrorFree, out);
+        }
+        self.is_idle = false;
+        out.clear();
+        Action::Run
+    }
+
+    /// An R-block came.
+    fn take_receive_ready(&mut self, number: bool, out: &mut BlockBytes) -> Action
+        requires { self.old.waiting ≡ None }
+        ensures state { self.new ≡ after (takes_receive_ready self.old.link number) }
+        ensures action { result ≡ action_of (takes_receive_ready self.old.link number).reaction }
+        ensures block { out.new.items ≡ bytes_of (takes_receive_ready self.old.link number).reaction }
+    {
+        if self.has_sent && number != self.number {
+            self.send_again(out)
+        } else if self.answer.has_more() {
+            self.send_next(out)
+        } else {
+            self.receive_ready(ErrorKind::ErrorFree, out)
+        }
+    }
+
+    /// An R-block with the number that is expected.
+    fn receive_ready(&self, error: ErrorKind, out: &mut BlockBytes) -> Action
+        ensures action { result ≡ Action.Reply }
+        ensures block { out.new.items ≡ frame (receive_ready self.now.link.nr error) }
+    {
+        Block::ReceiveReady {
+            number: self.expected,
+            error,
+        }
+        .write(out);
+        Action::Reply
+    }
+
+    /// The last I-block sent, once more.
+    fn send_again(&self, out: &mut BlockBytes) -> Action
+        requires { IsSome self.now.link.sent }
+        ensures action { result ≡ Action.Reply }
+        ensures block { out.new.items ≡ frame (sent_block self.now.link) }
+    {
+        let number = !self.number;
+        let more = self.answer.has_more();
+        Block::Information {
+            number,
+            more,
+            field: self.answer.field(),
+        }
+        .write(out);
+        Action::Reply
+    }
+
+    /// The next I-block of the answer.
+    fn send_next(&mut self, out: &mut BlockBytes) -> Action
+        requires { self.old.waiting ≡ None }
+        ensures state { self.new ≡ after (sending self.old.link self.old.link.rest) }
+        ensures action { result ≡ Action.Reply }
+        ensures block { out.new.items ≡ bytes_of (sending self.old.link self.old.link.rest).reaction }
+    {
+        self.answer.cut(self.ifsd as usize);
+        self.number = !self.number;
+        self.has_sent = true;
+        self.send_again(out)
+    }
+}
+
+/// Joins the bytes of a block to those of a command; what is past the limit is dropped.
+fn keep(command: &mut ArrayVec<u8, COMMAND_LIMIT>, field: &[u8])
+    ensures { command.new.items ≡ take 262 (command.old.items ++ field.now) }
+{
+    let kept = command.remaining_capacity().min(field.len());
+    let _ = command.try_extend_from_slice(&field[..kept]);
+}

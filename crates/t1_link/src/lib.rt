@@ -1,0 +1,14 @@
+//! Both ends of the block protocol T=1 (ISO/IEC 7816-3, third edition, clause 11).
+#![tactic(auto)]
+
+mod block;
+mod card_end;
+pub mod laws;
+mod outgoing;
+mod reader_end;
+#[cfg(test)]
+mod tests;
+
+pub use block::{BlockBytes, ErrorKind, Fault};
+pub use card_end::{Action, AnswerBytes, CardEnd};
+pub use reader_end::{Failure, Next, Phase, ReaderEnd};

@@ -1,0 +1,328 @@
+ghost use Rattle.std.specs.Prelude.{◌≡◌, ◌≢◌, ◌≤◌, ◌++◌, ◌<◌, ◌↔◌, IsTrue, length, Ok};
+ghost use Rattle.t1_link.specs.Blocks.{field_of};
+ghost use Rattle.t1_link.specs.ReaderTable.{ReaderStep, advancing, asking, failing, fresh_reader, last_block, reader_sends, reader_times_out, requesting, requesting_again, sends, trying, turns_answer, turns_block, turns_information, turns_receive_ready, turns_resynch};
+ghost use Rattle.t1_link.specs.ReaderFields.{next_of};
+ghost use Rattle.t1_link.specs.Spoken.{block_of, spoken};
+
+use crate::block::{Block, BlockBytes, ErrorKind, FIELD_LIMIT, Fault};
+use crate::card_end::AnswerBytes;
+use crate::outgoing::Outgoing;
+use arrayvec::ArrayVec;
+use std::marker::Model;
+use std::mem;
+
+/// How often a block is asked for or sent again before RESYNCH is requested.
+const TRIES: u8 = 3;
+
+/// How often RESYNCH is requested before the link is given up.
+const RESYNCHS: u8 = 3;
+
+/// The fewest bytes of an answer: a status word.
+const SHORTEST_ANSWER: usize = 2;
+
+/// Whether the reader's end has a command in hand.
+#[derive(Clone, Copy)]
+pub enum Phase {
+    /// No command is in hand.
+    Idle,
+    /// A command is in hand, and a block is on its way.
+    Busy,
+    /// The link is given up until the next power-on.
+    Dead,
+}
+
+/// Why a command failed.
+#[derive(Clone, Copy)]
+pub enum Failure {
+    /// The card doesn't answer any more.
+    LinkLost,
+    /// The card's answer is longer than 258 or shorter than 2 bytes.
+    BadAnswer,
+}
+
+/// What is to be done next.
+#[derive(Drop)]
+pub enum Next {
+    /// This block is to be sent.
+    Send(BlockBytes),
+    /// The command was run, and this is its answer.
+    Done(AnswerBytes),
+    /// The link was set back, and it isn't known whether the command was run.
+    Unknown,
+    /// There will be no answer.
+    Failed(Failure),
+}
+
+/// The reader's end of T=1: what was sent, what is expected, and the bytes on their way.
+#[derive(Drop)]
+pub struct ReaderEnd {
+    number: bool,
+    expected: bool,
+    tries: u8,
+    resynchs: u8,
+    command: Outgoing,
+    answer: AnswerBytes,
+    phase: Phase,
+}
+
+impl Model for ReaderEnd {
+    ghost use Rattle.t1_link.specs.ReaderTable.{Reader};
+
+    ghost Value = { Reader };
+
+    ghost use Rattle.t1_link.specs.ReaderFields.{reader_of, IsSendable};
+
+    ghost view = { reader_of };
+
+    ghost invariant = { IsSendable };
+}
+
+impl ReaderEnd {
+    /// The reader's end after power-on.
+    pub fn new() -> ReaderEnd
+        ensures { result ≡ fresh_reader }
+    {
+        ReaderEnd {
+            number: false,
+            expected: false,
+            tries: 0,
+            resynchs: 0,
+            command: Outgoing::new(),
+            answer: ArrayVec::new(),
+            phase: Phase::Idle,
+        }
+    }
+
+    /// Whether a command is in hand: after a `Send`, until `Done`, `Unknown` or `Failed`.
+    pub fn busy(&self) -> bool
+        ensures { IsTrue result ↔ (self.now.phase ≡ Phase.Busy) }
+    {
+        match self.phase {
+            Phase::Busy => true,
+            Phase::Idle | Phase::Dead => false,
+        }
+    }
+
+    /// Sends a command of 1 to 261 bytes.
+    pub fn send(&mut self, command: &[u8]) -> Next
+        requires idle { self.old.phase ≢ Phase.Busy }
+        requires some { 1 ≤ length command.now }
+        requires size { length command.now ≤ 261 }
+        ensures state { self.new ≡ (reader_sends self.old command.now).reader }
+        ensures next { result ≡ next_of (reader_sends self.old command.now).outcome }
+    {
+        if let Phase::Dead = self.phase {
+            return Next::Failed(Failure::LinkLost);
+        }
+        self.phase = Phase::Busy;
+        self.answer.clear();
+        self.command.load(command);
+        self.advance()
+    }
+
+    /// Takes a block, of whatever bytes.
+    #[tactic(auto, unfolding(crate::specs::ReaderTable::turns_block))]
+    pub fn got(&mut self, got: &[u8]) -> Next
+        requires { self.old.phase ≡ Phase.Busy }
+        ensures state { self.new ≡ (ReaderStep self.old got.now).reader }
+        ensures next { result ≡ next_of (ReaderStep self.old got.now).outcome }
+    {
+        let heard = Block::parse(got);
+        if self.resynchs > 0 {
+            return self.take_resynch(heard);
+        }
+        match heard {
+            Err(fault) => self.ask(fault.error_kind()),
+            Ok(block) => self.take_block(block),
+        }
+    }
+
+    /// No block came in time.
+    pub fn timed_out(&mut self) -> Next
+        requires { self.old.phase ≡ Phase.Busy }
+        ensures state { self.new ≡ (reader_times_out self.old).reader }
+        ensures next { result ≡ next_of (reader_times_out self.old).outcome }
+    {
+        if self.resynchs == 0 {
+            self.ask(ErrorKind::OtherError)
+        } else {
+            self.request_again()
+        }
+    }
+
+    /// What follows from a block while the answer is awaited.
+    #[tactic(auto, unfolding(crate::specs::ReaderTable::turns_block))]
+    fn take_block(&mut self, block: Block<'_>) -> Next
+        requires { self.old.resynchs ≡ 0 }
+        ensures state { self.new ≡ (turns_block self.old (Ok (block_of block.entry))).reader }
+        ensures next { result ≡ next_of (turns_block self.old (Ok (block_of block.entry))).outcome }
+    {
+        match block {
+            Block::ReceiveReady { number, .. } => self.take_receive_ready(number),
+            Block::Information {
+                number,
+                more,
+                field,
+            } => self.take_information(number, more, field),
+            _ => self.ask(ErrorKind::OtherError),
+        }
+    }
+
+    /// What follows from what was heard after a request for RESYNCH.
+    #[tactic(auto, unfolding(crate::specs::ReaderTable::turns_resynch))]
+    fn take_resynch(&mut self, heard: Result<Block<'_>, Fault>) -> Next
+        ensures state { self.new ≡ (turns_resynch self.old (spoken heard.entry)).reader }
+        ensures next { result ≡ next_of (turns_resynch self.old (spoken heard.entry)).outcome }
+    {
+        if let Ok(Block::ResynchResponse) = heard {
+            *self = ReaderEnd::new();
+            return Next::Unknown;
+        }
+        self.request_again()
+    }
+
+    /// An R-block came.
+    fn take_receive_ready(&mut self, number: bool) -> Next
+        requires { self.old.resynchs ≡ 0 }
+        ensures state { self.new ≡ (turns_receive_ready self.old number).reader }
+        ensures next { result ≡ next_of (turns_receive_ready self.old number).outcome }
+    {
+        if number != self.number {
+            self.send_again()
+        } else if self.command.has_more() {
+            self.advance()
+        } else {
+            self.ask(ErrorKind::OtherError)
+        }
+    }
+
+    /// An I-block came.
+    fn take_information(&mut self, number: bool, more: bool, field: &[u8]) -> Next
+        requires { self.old.resynchs ≡ 0 }
+        ensures state { self.new ≡ (turns_information self.old number more field.now).reader }
+        ensures next { result ≡ next_of (turns_information self.old number more field.now).outcome }
+    {
+        if self.command.has_more() || number != self.expected {
+            return self.ask(ErrorKind::OtherError);
+        }
+        self.take_answer(more, field)
+    }
+
+    /// The bytes of an I-block join the answer.
+    fn take_answer(&mut self, more: bool, field: &[u8]) -> Next
+        ensures state { self.new ≡ (turns_answer self.old more (self.old.answer ++ field.now)).reader }
+        ensures next { result ≡ next_of (turns_answer self.old more (self.old.answer ++ field.now)).outcome }
+    {
+        let is_short = !more && self.answer.len() + field.len() < SHORTEST_ANSWER;
+        if is_short || self.answer.remaining_capacity() < field.len() {
+            return self.fail(Failure::BadAnswer);
+        }
+        let _ = self.answer.try_extend_from_slice(field);
+        self.expected = !self.expected;
+        if more {
+            self.tries = 0;
+            return sent(Block::ReceiveReady {
+                number: self.expected,
+                error: ErrorKind::ErrorFree,
+            });
+        }
+        self.phase = Phase::Idle;
+        Next::Done(mem::replace(&mut self.answer, ArrayVec::new()))
+    }
+
+    /// The next I-block of the command.
+    fn advance(&mut self) -> Next
+        ensures state { self.new ≡ (advancing self.old self.old.rest).reader }
+        ensures next { result ≡ next_of (advancing self.old self.old.rest).outcome }
+    {
+        self.command.cut(FIELD_LIMIT);
+        self.number = !self.number;
+        self.tries = 0;
+        self.last_block()
+    }
+
+    /// The last I-block.
+    fn last_block(&self) -> Next
+        ensures { result ≡ next_of (sends (last_block self.now)) }
+    {
+        let number = !self.number;
+        let more = self.command.has_more();
+        sent(Block::Information {
+            number,
+            more,
+            field: self.command.field(),
+        })
+    }
+
+    /// A try: the last I-block again.
+    fn send_again(&mut self) -> Next
+        requires { self.old.resynchs ≡ 0 }
+        ensures state { self.new ≡ (trying self.old (last_block self.old)).reader }
+        ensures next { result ≡ next_of (trying self.old (last_block self.old)).outcome }
+    {
+        if self.tries < TRIES {
+            self.tries += 1;
+            self.last_block()
+        } else {
+            self.request()
+        }
+    }
+
+    /// A try: an R-block with the number that is expected.
+    fn ask(&mut self, error: ErrorKind) -> Next
+        requires { self.old.resynchs ≡ 0 }
+        ensures state { self.new ≡ (asking self.old error).reader }
+        ensures next { result ≡ next_of (asking self.old error).outcome }
+    {
+        if self.tries < TRIES {
+            self.tries += 1;
+            sent(Block::ReceiveReady {
+                number: self.expected,
+                error,
+            })
+        } else {
+            self.request()
+        }
+    }
+
+    /// A request for RESYNCH.
+    fn request(&mut self) -> Next
+        requires { self.old.resynchs < 3 }
+        ensures state { self.new ≡ (requesting self.old).reader }
+        ensures next { result ≡ next_of (requesting self.old).outcome }
+    {
+        self.resynchs += 1;
+        sent(Block::ResynchRequest)
+    }
+
+    /// A request for RESYNCH was not answered.
+    fn request_again(&mut self) -> Next
+        ensures state { self.new ≡ (requesting_again self.old).reader }
+        ensures next { result ≡ next_of (requesting_again self.old).outcome }
+    {
+        if self.resynchs < RESYNCHS {
+            self.request()
+        } else {
+            self.fail(Failure::LinkLost)
+        }
+    }
+
+    /// The link is given up.
+    fn fail(&mut self, failure: Failure) -> Next
+        ensures state { self.new ≡ (failing self.old failure).reader }
+        ensures next { result ≡ next_of (failing self.old failure).outcome }
+    {
+        self.phase = Phase::Dead;
+        Next::Failed(failure)
+    }
+}
+
+/// A block that is to be sent.
+fn sent(block: Block<'_>) -> Next
+    requires { length (field_of (block_of block)) ≤ 254 }
+    ensures { result ≡ next_of (sends (block_of block.entry)) }
+{
+    let mut out = BlockBytes::new();
+    block.write(&mut out);
+    Next::Send(out)
+}

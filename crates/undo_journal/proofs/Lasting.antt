@@ -1,0 +1,101 @@
+-- Writes that last: with no pair that counts, and of the gate itself.
+use Rattle.std.proofs.Common.{◌≡◌, ◌⊎◌, ◌<◌, ◌≤◌, ◌+◌, ℕ, suc, List, [], ◌∷◌, length, slice_set, refl, sym, ◌∙◌, ap, subst, inl, inr, arith}
+use Rattle.std.proofs.Math.ListN.{length-set}
+use Rattle.nvm_board.specs.Torn.{Torn, written, Torn-all, IsMixture, IsMixture-Torn}
+use Rattle.undo_journal.specs.declared.layout.TheConstants.{GATE, JOURNAL_END}
+use Rattle.undo_journal.specs.Undo.{gate, undo, data_words, IsOutside, IsDataAddress, IsDataRun}
+use Rattle.undo_journal.specs.UndoLaws.{data_words-set}
+use Rattle.undo_journal.proofs.Saving.{committed-shut, sound-shut, gate-set, gate-shut, current-gate}
+
+-- the gate set to 0: what was current is committed
+pub gate-commits : (m n : List ℕ) → GATE < length m → n ≡ slice_set m GATE 0 → data_words (undo n) ≡ data_words m
+gate-commits m n within done =
+    committed-shut n (ap gate done ∙ gate-shut m within) ∙ ap data_words done ∙ current-gate m 0
+
+-- the data words of a torn run
+pub data_words-Torn : (m run n : List ℕ) (a : ℕ) → ((k : ℕ) → k < length run → IsDataAddress m (a + k)) → Torn m a run n → Torn (data_words m) a run (data_words n)
+data_words-Torn m [] n a places e = ap data_words e
+data_words-Torn m (w ∷ run) n a places (inl old) =
+    inl (data_words-Torn m run n (a + 1) (λ k lt.
+    let place : a + suc k ≡ a + 1 + k = omega arith in
+    let next : suc k < suc (length run) = omega arith in
+    let family : ℕ → Type 0 = λ j. IsDataAddress m j in
+    subst family place (places (suc k) next)) old)
+data_words-Torn m (w ∷ run) n a places (inr new) =
+    let some : 0 < suc (length run) = omega arith in
+    let z : a + 0 ≡ a = omega arith in
+    let here : IsDataAddress m a = let family : ℕ → Type 0 = λ j. IsDataAddress m j in subst family z (places 0 some) in
+    let rest : Torn (data_words (slice_set m a w)) (a + 1) run (data_words n) =
+    data_words-Torn (slice_set m a w) run n (a + 1) (λ k lt.
+    let place : a + suc k ≡ a + 1 + k = omega arith in
+    let next : suc k < suc (length run) = omega arith in
+    let family : ℕ → Type 0 = λ j. IsDataAddress m j in
+    let moved : IsDataAddress m (a + 1 + k) = subst family place (places (suc k) next) in
+    let within : a + 1 + k < length (slice_set m a w) = omega (arith, length-set m a w, moved.1) in
+    (moved.0, within)) new in
+    let family : List ℕ → Type 0 = λ l. Torn l (a + 1) run (data_words n) in
+    inr (subst family (data_words-set m a w here) rest)
+
+-- the data words of a written run
+pub data_words-written : (m run : List ℕ) (a : ℕ) → ((k : ℕ) → k < length run → IsDataAddress m (a + k)) → data_words (written m a run) ≡ written (data_words m) a run
+data_words-written m [] a places = refl
+data_words-written m (w ∷ run) a places =
+    let some : 0 < suc (length run) = omega arith in
+    let z : a + 0 ≡ a = omega arith in
+    let here : IsDataAddress m a = let family : ℕ → Type 0 = λ j. IsDataAddress m j in subst family z (places 0 some) in
+    data_words-written (slice_set m a w) run (a + 1) (λ k lt.
+    let place : a + suc k ≡ a + 1 + k = omega arith in
+    let next : suc k < suc (length run) = omega arith in
+    let family : ℕ → Type 0 = λ j. IsDataAddress m j in
+    let moved : IsDataAddress m (a + 1 + k) = subst family place (places (suc k) next) in
+    let within : a + 1 + k < length (slice_set m a w) = omega (arith, length-set m a w, moved.1) in
+    (moved.0, within))
+    ∙ ap (λ (l : List ℕ). written l (a + 1) run) (data_words-set m a w here)
+
+-- each address of a run of data words
+pub run-places : (m : List ℕ) (a n : ℕ) → IsDataRun m a n → (k : ℕ) → k < n → IsDataAddress m (a + k)
+run-places m a n run k lt =
+    let within : a + k < length m = omega (arith, run.1) in
+    let out : IsOutside (a + k) = elim run.0 [
+      | inl before ↦ inl (let l : a + k < GATE = omega arith in l)
+      | inr past ↦ inr (let l : JOURNAL_END ≤ a + k = omega arith in l)
+    ] in
+    (out, within)
+
+-- a run of data words leaves the gate alone
+pub run-apart : (m : List ℕ) (a n : ℕ) → IsDataRun m a n → (GATE < a) ⊎ (a + n ≤ GATE)
+run-apart m a n run = elim run.0 [
+  | inl before ↦ inr before
+  | inr past ↦ inl (let lt : GATE < a = omega arith in lt)
+]
+
+-- with no pair that counts: a run of data words
+module _ (m run : List ℕ) (a : ℕ) (shut : gate m ≡ 0) (places : (k : ℕ) → k < length run → IsDataAddress m (a + k)) where
+  pub torn-gate : (n : List ℕ) → a + length run ≤ length m → (GATE < a) ⊎ (a + length run ≤ GATE) → Torn m a run n → gate n ≡ 0
+  torn-gate n fits apart torn =
+      let mixture : IsMixture m a run n = IsMixture-Torn m run n a fits torn in
+      mixture.elsewhere GATE apart ∙ shut
+
+  pub torn-shut : (n : List ℕ) → 0 < length run → a + length run ≤ length m → (GATE < a) ⊎ (a + length run ≤ GATE) → Torn m a run n → Torn (data_words (undo m)) a run (data_words (undo n))
+  torn-shut n some fits apart torn =
+      let before : List ℕ → Type 0 = λ l. Torn l a run (data_words n) in
+      let after : List ℕ → Type 0 = λ l. Torn (data_words (undo m)) a run l in
+      subst after (sym (committed-shut n (torn-gate n fits apart torn)))
+      (subst before (sym (committed-shut m shut)) (data_words-Torn m run n a places torn))
+
+  pub written-shut : (n : List ℕ) → a + length run ≤ length m → (GATE < a) ⊎ (a + length run ≤ GATE) → n ≡ written m a run → data_words (undo n) ≡ written (data_words (undo m)) a run
+  written-shut n fits apart done =
+      let family : List ℕ → Type 0 = λ l. Torn m a run l in
+      let torn : Torn m a run n = subst family (sym done) (Torn-all m run a) in
+      committed-shut n (torn-gate n fits apart torn) ∙ ap data_words done ∙ data_words-written m run a places
+      ∙ ap (λ (l : List ℕ). written l a run) (sym (committed-shut m shut))
+
+-- with no pair that counts: a data word
+module _ (m : List ℕ) (a w : ℕ) (shut : gate m ≡ 0) (place : IsDataAddress m a) where
+  pub gate-alone : (n : List ℕ) → n ≡ slice_set m a w → gate n ≡ 0
+  gate-alone n done = ap gate done ∙ gate-set m a w (sound-shut m shut) place ∙ shut
+
+  pub word-alone : (n : List ℕ) → n ≡ slice_set m a w → data_words (undo n) ≡ slice_set (data_words (undo m)) a w
+  word-alone n done =
+      committed-shut n (gate-alone n done) ∙ ap data_words done ∙ data_words-set m a w place
+      ∙ ap (λ (l : List ℕ). slice_set l a w) (sym (committed-shut m shut))

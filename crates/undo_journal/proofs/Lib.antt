@@ -1,0 +1,5 @@
+pub mod Pairs
+pub mod Saving
+pub mod Restore
+pub mod Standing
+pub mod Lasting

@@ -1,0 +1,74 @@
+use Rattle.std.proofs.Common.{◌≡◌, ◌-◌, ◌<◌, suc, true, arith, sym, ap, ◌∙◌, refl, length, ℕ}
+use Rattle.undo_journal.specs.declared.layout.TheConstants.{GATE}
+use Rattle.undo_journal.specs.Undo.{gate}
+use Rattle.undo_journal.proofs.Restore.{put_back_from, put_back-none, undo-shut, turn-place, turn-done, turn-kept, end-done, end-kept}
+use Rattle.undo_journal.proofs.journal.roll_back.Goals as goal
+
+pub returns-then-count-eq0-clause-done : goal.returns-then-count-eq0-clause-done
+returns-then-count-eq0-clause-done g c =
+    let m = (g.B.Board.facts c.args.board.now).words in
+    let within : GATE < length m = omega (arith, g.met.B.Board.sized c.args.board.now) in
+    sym (undo-shut m within (c.requires.counts ∙ c.if-count-eq0.true))
+
+pub loop-left-init : goal.loop-left-init
+loop-left-init g c =
+    let m = (g.B.Board.facts c.args.board.now).words in
+    record {
+      within = omega arith;
+      steady = record { was_lit = c.requires.lit; lit = c.requires.lit; faults = refl; cuts = refl; due = refl };
+      so_far = sym (ap (λ (i : ℕ). put_back_from m i) (sym c.requires.counts) ∙ put_back-none m c.requires.sound);
+      writes = omega arith;
+      compares = refl;
+      matches = refl;
+    }
+
+pub put_back-requires-clause-place : goal.put_back-requires-clause-place
+put_back-requires-clause-place g c =
+    let m = (g.B.Board.facts c.args.board.now).words in
+    let lt : c.loop-left.left - 1 < gate m = omega (arith, c.requires.counts, c.loop-left.invariant.within) in
+    turn-place m _ c.requires.sound c.loop-left.left c.loop-left.invariant.so_far (c.loop-left.left - 1) lt
+
+pub loop-left-preserved : goal.loop-left-preserved
+loop-left-preserved g c =
+    let m = (g.B.Board.facts c.args.board.now).words in
+    let kept = c.loop-left.invariant in
+    let light = c.in_ok-put_back.ensures.light.ok (refl {a = true}) in
+    let cost = c.in_ok-put_back.ensures.writes in
+    let lt : c.loop-left.left - 1 < gate m = omega (arith, c.requires.counts, kept.within) in
+    let next : c.loop-left.left ≡ suc (c.loop-left.left - 1) = omega arith in
+    record {
+      within = omega arith;
+      steady = record { was_lit = kept.steady.was_lit; lit = light.lit; faults = light.faults ∙ kept.steady.faults; cuts = light.cuts ∙ kept.steady.cuts; due = light.due ∙ kept.steady.due };
+      so_far = turn-done m _ c.requires.sound c.loop-left.left kept.so_far (c.loop-left.left - 1) _ next lt c.in_ok-put_back.ensures.done;
+      writes = omega (arith, cost.writes, kept.writes);
+      compares = cost.compares ∙ kept.compares;
+      matches = cost.matches ∙ kept.matches;
+    }
+
+pub returns-in_err-put_back-clause-kept : goal.returns-in_err-put_back-clause-kept
+returns-in_err-put_back-clause-kept g c =
+    let m = (g.B.Board.facts c.args.board.now).words in
+    let lt : c.loop-left.left - 1 < gate m = omega (arith, c.requires.counts, c.loop-left.invariant.within) in
+    let next : c.loop-left.left ≡ suc (c.loop-left.left - 1) = omega arith in
+    turn-kept m _ c.requires.sound c.loop-left.left c.loop-left.invariant.so_far (c.loop-left.left - 1) _ next lt c.in_err-put_back.ensures.torn
+
+pub returns-in_err-write_word-clause-kept : goal.returns-in_err-write_word-clause-kept
+returns-in_err-write_word-clause-kept g c =
+    let m = (g.B.Board.facts c.args.board.now).words in
+    let within : GATE < length m = omega (arith, g.met.B.Board.sized c.args.board.now) in
+    let none : c.loop-left.left ≡ 0 = omega arith in
+    end-kept m _ c.requires.sound c.loop-left.left c.loop-left.invariant.so_far _ within none c.in_err-write_word.ensures.torn
+
+pub returns-clause-kept : goal.returns-clause-kept
+returns-clause-kept g c =
+    let m = (g.B.Board.facts c.args.board.now).words in
+    let within : GATE < length m = omega (arith, g.met.B.Board.sized c.args.board.now) in
+    let none : c.loop-left.left ≡ 0 = omega arith in
+    end-kept m _ c.requires.sound c.loop-left.left c.loop-left.invariant.so_far _ within none c.in_ok-write_word.ensures.torn
+
+pub returns-clause-done : goal.returns-clause-done
+returns-clause-done g c =
+    let m = (g.B.Board.facts c.args.board.now).words in
+    let within : GATE < length m = omega (arith, g.met.B.Board.sized c.args.board.now) in
+    let none : c.loop-left.left ≡ 0 = omega arith in
+    end-done m _ c.requires.sound c.loop-left.left c.loop-left.invariant.so_far _ within none c.in_ok-write_word.ensures.done

@@ -1,0 +1,43 @@
+use Rattle.std.proofs.Common.{◌<◌, List, ℕ, length, refl, ap, ◌∙◌, inr, arith}
+use Rattle.std.proofs.Math.Logic.{⊎_map}
+use Rattle.undo_journal.specs.declared.layout.TheConstants.{GATE}
+use Rattle.undo_journal.specs.Undo.{gate, undo, data_words}
+use Rattle.undo_journal.specs.Memory.{committed, current}
+use Rattle.undo_journal.proofs.Saving.{gate-shut}
+use Rattle.undo_journal.proofs.Standing.{ready-from, held-shut}
+use Rattle.undo_journal.proofs.Lasting.{gate-commits}
+use Rattle.undo_journal.proofs.store.Store.commit.Goals as goal
+
+pub invariant_of-self-in-Ok : goal.invariant_of-self-in-Ok
+invariant_of-self-in-Ok g c = λ works.
+    let words = (g.B.Board.facts c.self.inside.board).words in
+    let within : GATE < length words = omega (arith, g.met.B.Board.sized c.self.inside.board) in
+    held-shut _ 0 (ap gate c.in-Ok.ensures.done ∙ gate-shut words within) refl (c.in-Ok.ensures.light.ok refl).lit
+
+pub returns-in-Ok-clause-any_exit : goal.returns-in-Ok-clause-any_exit
+returns-in-Ok-clause-any_exit g c =
+    let words = (g.B.Board.facts c.self.inside.board).words in
+    let within : GATE < length words = omega (arith, g.met.B.Board.sized c.self.inside.board) in
+    let done = c.in-Ok.ensures.done in
+    inr (gate-commits words _ within done ∙ ap current c.self.view_is, ap gate done ∙ gate-shut words within)
+
+pub returns-in-Ok-clause-done : goal.returns-in-Ok-clause-done
+returns-in-Ok-clause-done g c =
+    let words = (g.B.Board.facts c.self.inside.board).words in
+    let within : GATE < length words = omega (arith, g.met.B.Board.sized c.self.inside.board) in
+    gate-commits words _ within c.in-Ok.ensures.done ∙ ap current c.self.view_is
+
+pub returns-in-Ok-clause-ready : goal.returns-in-Ok-clause-ready
+returns-in-Ok-clause-ready g c =
+    let words = (g.B.Board.facts c.self.inside.board).words in
+    let within : GATE < length words = omega (arith, g.met.B.Board.sized c.self.inside.board) in
+    ready-from _ c.in_default.is (c.in-Ok.ensures.light.ok refl).lit (g.met.B.Board.sized _) (ap gate c.in-Ok.ensures.done ∙ gate-shut words within) refl
+
+pub returns-in-Err-clause-any_exit : goal.returns-in-Err-clause-any_exit
+returns-in-Err-clause-any_exit g c =
+    let words = (g.B.Board.facts c.self.inside.board).words in
+    let within : GATE < length words = omega (arith, g.met.B.Board.sized c.self.inside.board) in
+    ⊎_map
+    (λ old. ap (λ (l : List ℕ). data_words (undo l)) old ∙ ap committed c.self.view_is)
+    (λ new. (gate-commits words _ within new ∙ ap current c.self.view_is, ap gate new ∙ gate-shut words within))
+    c.in-Err.ensures.torn

@@ -1,0 +1,9 @@
+pub use Rattle.nvm_board.specs.Facts
+pub use Rattle.nvm_board.specs.Torn
+pub mod Undo
+pub mod UndoLaws
+pub mod Spending
+pub mod Memory
+pub mod MemoryLaws
+pub mod Lent
+pub use Rattle.nvm_board.specs.declared.board.TheConstants

@@ -1,0 +1,48 @@
+//! Why a store fails.
+ghost use Rattle.undo_journal.specs.Memory.{store_err_of, open_fault_of};
+ghost use Rattle.std.specs.Prelude.{◌≡◌};
+
+use nvm_board::DeviceErr;
+
+/// Why a store has failed.
+#[derive(Clone, Copy, Debug, PartialEq, Eq)]
+pub enum StoreErr {
+    /// Power failed. The board is dark.
+    PowerLost,
+    /// The device failed.
+    Fault,
+}
+
+/// Why a store was not opened.
+#[derive(Clone, Copy, Debug, PartialEq, Eq)]
+pub enum OpenFault {
+    /// Power failed, or was off. The board is dark.
+    PowerLost,
+    /// The device failed.
+    Fault,
+    /// More pairs count than the journal has, or one of them names a word that is no data word. Nothing was
+    /// written.
+    BadJournal,
+}
+
+impl From<DeviceErr> for StoreErr {
+    ghost from_gives = { λ e r. r ≡ store_err_of e };
+
+    fn from(e: DeviceErr) -> Self {
+        match e {
+            DeviceErr::PowerLost => StoreErr::PowerLost,
+            DeviceErr::Fault => StoreErr::Fault,
+        }
+    }
+}
+
+impl From<DeviceErr> for OpenFault {
+    ghost from_gives = { λ e r. r ≡ open_fault_of e };
+
+    fn from(e: DeviceErr) -> Self {
+        match e {
+            DeviceErr::PowerLost => OpenFault::PowerLost,
+            DeviceErr::Fault => OpenFault::Fault,
+        }
+    }
+}

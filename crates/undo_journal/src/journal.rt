@@ -1,0 +1,144 @@
+//! The work of the journal on a board: a set behind its pair, the test of a journal, and the rollback.
+ghost use Rattle.std.specs.Prelude.{◌≡◌, ◌⊎◌, ◌↔◌, ◌+◌, ◌*◌, ◌<◌, ◌≤◌, ℕ, false, IsTrue, IfOk, OnOk, MatchOption, List, [], ◌∷◌, slice_set};
+ghost use Rattle.nvm_board.specs.declared.board.TheConstants.{WORDS};
+ghost use Rattle.nvm_board.specs.Facts.{Answered};
+ghost use Rattle.nvm_board.specs.Torn.{Torn, written};
+ghost use Rattle.undo_journal.specs.declared.layout.TheConstants.{JOURNAL, PAIRS};
+ghost use Rattle.undo_journal.specs.Undo.{gate, pair_at, undo, data_words, IsOutside, IsDataAddress, IsSound, IsBadJournal};
+ghost use Rattle.undo_journal.specs.Spending.{WritesAtMost, OnlyReads, rollback_writes};
+
+use crate::layout::{GATE, JOURNAL, JOURNAL_END, PAIRS};
+use nvm_board::{Board, DeviceErr, PAGE_WORDS, WORDS};
+
+// Writes one word.
+pub(crate) fn write_word<B: Board>(board: &mut B, at: u16, word: u32) -> Result<(), DeviceErr>
+    requires { at < WORDS }
+    ensures done { OnOk result ((B.facts board.new).words ≡ slice_set (B.facts board.old).words at word) }
+    ensures torn { ((B.facts board.new).words ≡ (B.facts board.old).words)
+        ⊎ ((B.facts board.new).words ≡ slice_set (B.facts board.old).words at word) }
+    ensures light { Answered (B.facts board.old) (B.facts board.new) result }
+    ensures writes { WritesAtMost 1 (B.facts board.old) (B.facts board.new) }
+{
+    board.write(at / PAGE_WORDS, (at % PAGE_WORDS) as u8, &[word])?;
+    Ok(())
+}
+
+// Writes a pair into the journal.
+fn write_pair<B: Board>(board: &mut B, i: u16, at: u16, earlier: u32) -> Result<(), DeviceErr>
+    requires { i < PAIRS }
+    ensures done { OnOk result ((B.facts board.new).words ≡ written (B.facts board.old).words (JOURNAL + 2 * i) (at ∷ earlier ∷ [])) }
+    ensures torn { Torn (B.facts board.old).words (JOURNAL + 2 * i) (at ∷ earlier ∷ []) (B.facts board.new).words }
+    ensures light { Answered (B.facts board.old) (B.facts board.new) result }
+    ensures writes { WritesAtMost 1 (B.facts board.old) (B.facts board.new) }
+{
+    let place = JOURNAL + 2 * i;
+    board.write(
+        place / PAGE_WORDS,
+        (place % PAGE_WORDS) as u8,
+        &[u32::from(at), earlier],
+    )?;
+    Ok(())
+}
+
+// Sets a data word behind its earlier word: first the pair, then the gate that counts it, then the word.
+pub(crate) fn save_and_write<B: Board>(
+    board: &mut B,
+    used: u16,
+    at: u16,
+    word: u32,
+) -> Result<(), DeviceErr>
+    requires sound { IsSound (B.facts board.old).words }
+    requires counts { gate (B.facts board.old).words ≡ used }
+    requires room { used < PAIRS }
+    requires place { IsDataAddress (B.facts board.old).words at }
+    ensures kept { data_words (undo (B.facts board.new).words) ≡ data_words (undo (B.facts board.old).words) }
+    ensures done { OnOk result (data_words (B.facts board.new).words ≡ slice_set (data_words (B.facts board.old).words) at word) }
+    ensures sound { OnOk result (IsSound (B.facts board.new).words) }
+    ensures counts { OnOk result (gate (B.facts board.new).words ≡ used + 1) }
+    ensures light { Answered (B.facts board.old) (B.facts board.new) result }
+    ensures writes { WritesAtMost 3 (B.facts board.old) (B.facts board.new) }
+{
+    let earlier = board.read(at)?;
+    write_pair(board, used, at, earlier)?;
+    write_word(board, GATE, u32::from(used) + 1)?;
+    write_word(board, at, word)?;
+    Ok(())
+}
+
+// Whether an address is that of a data word.
+fn is_data_address(at: u32) -> bool
+    ensures { IsTrue result ↔ (IsOutside at × (at < WORDS)) }
+{
+    at < u32::from(GATE) || at >= u32::from(JOURNAL_END) && at < u32::from(WORDS)
+}
+
+// Whether each of the first pairs names a data word.
+fn names_data_words<B: Board>(board: &mut B, count: u16) -> Result<bool, DeviceErr>
+    requires lit { (B.facts board.old).dark ≡ false }
+    requires room { count ≤ PAIRS }
+    ensures named { IfOk result (λ b. IsTrue b ↔ ((i : ℕ) → i < count → IsDataAddress (B.facts board.old).words (pair_at (B.facts board.old).words i).address)) }
+    ensures light { Answered (B.facts board.old) (B.facts board.new) result }
+    ensures reads { OnlyReads (B.facts board.old) (B.facts board.new) }
+{
+    for i in 0..count {
+        let at = board.read(JOURNAL + 2 * i)?;
+        if !is_data_address(at) {
+            return Ok(false);
+        }
+    }
+    Ok(true)
+}
+
+// How many pairs count, if undo is defined.
+pub(crate) fn sound_pairs<B: Board>(board: &mut B) -> Result<Option<u16>, DeviceErr>
+    ensures sound { IfOk result (λ c. MatchOption c (IsBadJournal (B.facts board.old).words) (λ n. IsSound (B.facts board.old).words × (gate (B.facts board.old).words ≡ n))) }
+    ensures light { Answered (B.facts board.old) (B.facts board.new) result }
+    ensures reads { OnlyReads (B.facts board.old) (B.facts board.new) }
+{
+    let count = board.read(GATE)?;
+    if count > u32::from(PAIRS) {
+        return Ok(None);
+    }
+    let count = count as u16;
+    let sound = names_data_words(board, count)?;
+    Ok(if sound { Some(count) } else { None })
+}
+
+// Puts back the earlier word of a pair.
+fn put_back<B: Board>(board: &mut B, i: u16) -> Result<(), DeviceErr>
+    requires inside { i < PAIRS }
+    requires place { IsDataAddress (B.facts board.old).words (pair_at (B.facts board.old).words i).address }
+    ensures done { OnOk result (let p = pair_at (B.facts board.old).words i in (B.facts board.new).words ≡ slice_set (B.facts board.old).words p.address p.earlier) }
+    ensures torn { let p = pair_at (B.facts board.old).words i in ((B.facts board.new).words ≡ (B.facts board.old).words)
+        ⊎ ((B.facts board.new).words ≡ slice_set (B.facts board.old).words p.address p.earlier) }
+    ensures light { Answered (B.facts board.old) (B.facts board.new) result }
+    ensures writes { WritesAtMost 1 (B.facts board.old) (B.facts board.new) }
+{
+    let at = board.read(JOURNAL + 2 * i)?;
+    let earlier = board.read(JOURNAL + 2 * i + 1)?;
+    write_word(board, at as u16, earlier)?;
+    Ok(())
+}
+
+// Puts back the earlier words, from the last pair to the first, and then sets the gate to 0. With no pair it
+// writes nothing.
+pub(crate) fn roll_back<B: Board>(board: &mut B, count: u16) -> Result<(), DeviceErr>
+    requires sound { IsSound (B.facts board.old).words }
+    requires counts { gate (B.facts board.old).words ≡ count }
+    requires lit { (B.facts board.old).dark ≡ false }
+    ensures kept { undo (B.facts board.new).words ≡ undo (B.facts board.old).words }
+    ensures done { OnOk result ((B.facts board.new).words ≡ undo (B.facts board.old).words) }
+    ensures light { Answered (B.facts board.old) (B.facts board.new) result }
+    ensures writes { WritesAtMost (rollback_writes count) (B.facts board.old) (B.facts board.new) }
+{
+    if count == 0 {
+        return Ok(());
+    }
+    let mut left = count;
+    while left > 0 {
+        left -= 1;
+        put_back(board, left)?;
+    }
+    write_word(board, GATE, 0)?;
+    Ok(())
+}

@@ -1,0 +1,18 @@
+//! A store over a board: two lists of words, committed and current, of which a cut or a fault leaves the
+//! committed one. A journal of earlier words takes back what was not committed.
+#![tactic(auto)]
+
+mod error;
+mod journal;
+mod layout;
+mod store;
+mod txn;
+
+pub use error::{OpenFault, StoreErr};
+pub use layout::{GATE, GATE_PAGE, JOURNAL, JOURNAL_END, JOURNAL_END_PAGE, JOURNAL_PAGE, PAIRS};
+pub use nvm_board::{Armed, Board, DeviceErr, PAGE_WORDS, PAGES, SECRETS, Socket, WORDS};
+pub use store::Store;
+pub use txn::Txn;
+
+#[cfg(test)]
+mod tests;

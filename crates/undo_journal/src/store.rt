@@ -1,0 +1,292 @@
+//! The store: two lists of words over a board.
+ghost use Rattle.std.specs.Prelude.{◌≡◌, ◌⊎◌, ◌↔◌, ◌+◌, ◌<◌, ◌≤◌, if◌then◌else◌, length, IsTrue, IfOk, IfErr, OnOk, OnErr, Some, slice_index, slice_set};
+ghost use Rattle.std.specs.Result.{result_err};
+ghost use Rattle.nvm_board.specs.declared.board.TheConstants.{PAGE_WORDS, SECRETS};
+ghost use Rattle.nvm_board.specs.Facts.{Steady, RisesAt, address, raised};
+ghost use Rattle.nvm_board.specs.Torn.{Torn, written};
+ghost use Rattle.undo_journal.specs.declared.layout.TheConstants.{PAIRS};
+ghost use Rattle.undo_journal.specs.Undo.{gate, undo, data_words, IsDataAddress, IsDataRun, IsSound};
+ghost use Rattle.undo_journal.specs.Spending.{WritesAtMost, rollback_writes};
+ghost use Rattle.undo_journal.specs.Memory.{committed, current, room, store_err_of, IsOpen, IsIdle, IsReady, KeepsWords, OpensNot, Reports};
+
+use crate::error::{OpenFault, StoreErr};
+use crate::journal::{roll_back, save_and_write, sound_pairs, write_word};
+use crate::layout::{GATE, PAIRS};
+use crate::txn::Txn;
+use nvm_board::{Armed, Board, DeviceErr};
+use std::marker::Model;
+
+/// Two lists of words over a board: the committed one, which a cut or a fault leaves, and the current one.
+/// After an error the store has failed: it answers the same error, and writes nothing, until its board is
+/// opened again.
+#[derive(Drop)]
+pub struct Store<B: Board> {
+    board: B,
+    failed: Option<StoreErr>,
+    used: u16,
+}
+
+impl<B: Board> Model for Store<B> {
+    ghost use Rattle.std.specs.Prelude.{◌≡◌, None};
+    ghost use Rattle.undo_journal.specs.Memory.{Memory, IsHeld};
+
+    ghost Value = { Memory };
+
+    ghost view = { λ s. record { facts = B.facts s.board; failed = s.failed; used = s.used } };
+
+    ghost invariant = { λ s. s.failed ≡ None → IsHeld (B.facts s.board) s.used };
+}
+
+impl<B: Board> Store<B> {
+    ghost use Rattle.undo_journal.specs.Lent.{memory_of, store_of};
+
+    /// Opens the store of a board, and takes back what was not committed. Where that fails it gives the board
+    /// back.
+    pub fn open(mut board: B) -> Result<Store<B>, (B, OpenFault)>
+        ensures ready { IfOk result IsReady }
+        ensures undone { IfOk result (λ s. s.facts.words ≡ undo (B.facts board).words) }
+        ensures found { IfOk result (λ s. committed s ≡ data_words (undo (B.facts board).words)) }
+        ensures sound { OnOk result (IsSound (B.facts board).words) }
+        ensures light { IfOk result (λ s. Steady (B.facts board) s.facts) }
+        ensures writes { IfOk result (λ s. WritesAtMost (rollback_writes (gate (B.facts board).words)) (B.facts board) s.facts) }
+
+        // The undone words stay where the store is not opened, too.
+        ensures kept_err { IfErr result (λ e. undo (B.facts e.0).words ≡ undo (B.facts board).words) }
+        ensures not_opened { IfErr result (λ e. OpensNot e.1 (B.facts board) (B.facts e.0)) }
+        ensures writes_err { IfErr result (λ e. WritesAtMost (rollback_writes (gate (B.facts board).words)) (B.facts board) (B.facts e.0)) }
+    {
+        let count = match sound_pairs(&mut board) {
+            Ok(Some(count)) => count,
+            Ok(None) => return Err((board, OpenFault::BadJournal)),
+            Err(e) => return Err((board, OpenFault::from(e))),
+        };
+        match roll_back(&mut board, count) {
+            Ok(()) => Ok(Store {
+                board,
+                failed: None,
+                used: 0,
+            }),
+            Err(e) => Err((board, OpenFault::from(e))),
+        }
+    }
+
+    /// The current word at an address.
+    pub fn read(&mut self, at: u16) -> Result<u32, StoreErr>
+        requires { IsDataAddress (current self.old) at }
+        ensures word { IfOk result (λ w. w ≡ slice_index (current self.old) at) }
+        ensures keeps { KeepsWords self.old self.new }
+        ensures usable { OnOk result (IsOpen self.new) }
+        ensures ready { OnOk result (IsIdle self.old → IsReady self.new) }
+        ensures reports { Reports self.old self.new }
+        ensures tells { self.new.failed ≡ result_err result }
+        ensures writes { WritesAtMost 0 self.old.facts self.new.facts }
+    {
+        if let Some(e) = self.failed {
+            return Err(e);
+        }
+        match self.board.read(at) {
+            Ok(word) => Ok(word),
+            Err(e) => Err(fail(&mut self.failed, e)),
+        }
+    }
+
+    /// Begins a transaction.
+    pub fn begin(&mut self) -> Txn<'_, B>
+        requires { IsIdle self.old }
+        ensures same_store { (store_of result).ghost_name ≡ self.entry.ghost_name }
+        ensures same { memory_of result ≡ self.old }
+        ensures room { room (memory_of result) ≡ PAIRS }
+    {
+        Txn { store: self }
+    }
+
+    /// Writes one word lastingly, in one device write.
+    pub fn put_alone(&mut self, at: u16, word: u32) -> Result<(), StoreErr>
+        requires idle { IsIdle self.old }
+        requires place { IsDataAddress (current self.old) at }
+        ensures any_exit { (committed self.new ≡ committed self.old) ⊎ (committed self.new ≡ slice_set (committed self.old) at word) }
+        ensures done { OnOk result (committed self.new ≡ slice_set (committed self.old) at word) }
+        ensures idle { IsIdle self.new }
+        ensures ready { OnOk result (IsReady self.new) }
+        ensures reports { Reports self.old self.new }
+        ensures tells { self.new.failed ≡ result_err result }
+        ensures writes { WritesAtMost 1 self.old.facts self.new.facts }
+    {
+        if let Some(e) = self.failed {
+            return Err(e);
+        }
+        match write_word(&mut self.board, at, word) {
+            Ok(()) => Ok(()),
+            Err(e) => Err(fail(&mut self.failed, e)),
+        }
+    }
+
+    /// Writes 1 to 16 words of one page in one device write, without undo: after an error each of them is old
+    /// or new by itself.
+    pub fn write_plain(&mut self, page: u16, first: u8, words: &[u32]) -> Result<(), StoreErr>
+        requires idle { IsIdle self.old }
+        requires some { 0 < length words.now }
+        requires run { first + length words.now ≤ PAGE_WORDS }
+        requires place { IsDataRun (current self.old) (address page first) (length words.now) }
+        ensures any_exit { Torn (committed self.old) (address page first) words.now (committed self.new) }
+        ensures done { OnOk result (committed self.new ≡ written (committed self.old) (address page first) words.now) }
+        ensures idle { IsIdle self.new }
+        ensures ready { OnOk result (IsReady self.new) }
+        ensures reports { Reports self.old self.new }
+        ensures tells { self.new.failed ≡ result_err result }
+        ensures writes { WritesAtMost 1 self.old.facts self.new.facts }
+    {
+        if let Some(e) = self.failed {
+            return Err(e);
+        }
+        match self.board.write(page, first, words) {
+            Ok(()) => Ok(()),
+            Err(e) => Err(fail(&mut self.failed, e)),
+        }
+    }
+
+    /// Hands a comparison on to the board, and writes nothing.
+    pub fn compare(&mut self, secret: u8, kept: &[u8; 8], shown: &[u8; 8]) -> Result<bool, StoreErr>
+        requires { secret < SECRETS }
+        ensures equal { IfOk result (λ e. IsTrue e ↔ (kept.now ≡ shown.now)) }
+        ensures keeps { KeepsWords self.old self.new }
+        ensures usable { OnOk result (IsOpen self.new) }
+        ensures ready { OnOk result (IsIdle self.old → IsReady self.new) }
+        ensures reports { Reports self.old self.new }
+        ensures tells { self.new.failed ≡ result_err result }
+        ensures writes { self.new.facts.writes ≡ self.old.facts.writes }
+
+        // The comparison and the match are counted, and nothing else.
+        ensures compared { OnOk result (self.new.facts.compares ≡ raised self.old.facts.compares secret) }
+        ensures compared_err { OnErr result (RisesAt self.old.facts.compares secret self.new.facts.compares) }
+        ensures matched { IfOk result (λ e. self.new.facts.matches ≡ (if e then raised self.old.facts.matches secret else self.old.facts.matches)) }
+        ensures matched_err { OnErr result (RisesAt self.old.facts.matches secret self.new.facts.matches) }
+    {
+        if let Some(e) = self.failed {
+            return Err(e);
+        }
+        match self.board.compare(secret, kept, shown) {
+            Ok(equal) => Ok(equal),
+            Err(e) => Err(fail(&mut self.failed, e)),
+        }
+    }
+
+    /// The board, as it is.
+    pub fn into_board(self) -> B
+        ensures { B.facts result ≡ self.facts }
+    {
+        let Store {
+            board,
+            failed: _,
+            used: _,
+        } = self;
+        board
+    }
+
+    // Ok unless the store has failed.
+    pub(crate) fn check(&self) -> Result<(), StoreErr>
+        ensures ready { OnOk result (IsOpen self.now) }
+        ensures tells { self.now.failed ≡ result_err result }
+    {
+        match self.failed {
+            Some(e) => Err(e),
+            None => Ok(()),
+        }
+    }
+
+    // How many more sets there is room for.
+    pub(crate) fn room(&self) -> usize
+        ensures { result ≡ room self.now }
+    {
+        usize::from(PAIRS.saturating_sub(self.used))
+    }
+
+    // A set of a transaction.
+    pub(crate) fn set(&mut self, at: u16, word: u32) -> Result<(), StoreErr>
+        requires room { 0 < room self.old }
+        requires place { IsDataAddress (current self.old) at }
+        ensures kept { committed self.new ≡ committed self.old }
+        ensures done { OnOk result (current self.new ≡ slice_set (current self.old) at word) }
+        ensures room { room self.old ≤ room self.new + 1 }
+        ensures ready { OnOk result (IsOpen self.new) }
+        ensures reports { Reports self.old self.new }
+        ensures tells { self.new.failed ≡ result_err result }
+        ensures writes { WritesAtMost 3 self.old.facts self.new.facts }
+    {
+        if let Some(e) = self.failed {
+            return Err(e);
+        }
+        match save_and_write(&mut self.board, self.used, at, word) {
+            Ok(()) => {
+                self.used += 1;
+                Ok(())
+            }
+            Err(e) => Err(fail(&mut self.failed, e)),
+        }
+    }
+
+    // Makes the current words the committed ones: the gate turns to 0.
+    pub(crate) fn commit(&mut self) -> Result<(), StoreErr>
+        ensures any_exit { (committed self.new ≡ committed self.old)
+            ⊎ ((committed self.new ≡ current self.old) × (gate self.new.facts.words ≡ 0)) }
+        ensures done { OnOk result (committed self.new ≡ current self.old) }
+        ensures idle { IsIdle self.new }
+        ensures ready { OnOk result (IsReady self.new) }
+        ensures reports { Reports self.old self.new }
+        ensures tells { self.new.failed ≡ result_err result }
+        ensures writes { WritesAtMost 1 self.old.facts self.new.facts }
+    {
+        self.used = 0;
+        if let Some(e) = self.failed {
+            return Err(e);
+        }
+        match write_word(&mut self.board, GATE, 0) {
+            Ok(()) => Ok(()),
+            Err(e) => Err(fail(&mut self.failed, e)),
+        }
+    }
+
+    // Makes the committed words the current ones again.
+    pub(crate) fn abandon(&mut self) -> Result<(), StoreErr>
+        ensures kept { committed self.new ≡ committed self.old }
+        ensures done { OnOk result (current self.new ≡ committed self.old) }
+        ensures idle { IsIdle self.new }
+        ensures ready { OnOk result (IsReady self.new) }
+        ensures reports { Reports self.old self.new }
+        ensures tells { self.new.failed ≡ result_err result }
+        ensures writes { WritesAtMost (rollback_writes self.old.used) self.old.facts self.new.facts }
+    {
+        let count = self.used;
+        self.used = 0;
+        if let Some(e) = self.failed {
+            return Err(e);
+        }
+        match roll_back(&mut self.board, count) {
+            Ok(()) => Ok(()),
+            Err(e) => Err(fail(&mut self.failed, e)),
+        }
+    }
+}
+
+impl<B: Armed> Store<B> {
+    /// Sets a cut, or a fault, to come at a later write (`Armed::arm`).
+    pub fn arm(&mut self, k: u32, mask: u16)
+        requires { 1 ≤ k }
+        ensures due { self.new.facts.due ≤ 1 }
+        ensures same { self.new ≡ record self.old { facts = record self.old.facts { due = self.new.facts.due } } }
+        ensures keeps { KeepsWords self.old self.new }
+        ensures ready { IsReady self.old → IsReady self.new }
+    {
+        self.board.arm(k, mask);
+    }
+}
+
+// Remembers why the store has failed.
+fn fail(failed: &mut Option<StoreErr>, e: DeviceErr) -> StoreErr
+    ensures failed { failed.new ≡ Some result }
+    ensures error { result ≡ store_err_of e }
+{
+    let error = StoreErr::from(e);
+    *failed = Some(error);
+    error
+}

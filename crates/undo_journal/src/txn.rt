@@ -1,0 +1,108 @@
+//! A transaction.
+ghost use Rattle.std.specs.Prelude.{◌≡◌, ◌⊎◌, ◌+◌, ◌*◌, ◌<◌, ◌≤◌, length, IfOk, OnOk, slice_index, slice_set};
+ghost use Rattle.std.specs.Result.{result_err};
+ghost use Rattle.nvm_board.specs.Torn.{written};
+ghost use Rattle.undo_journal.specs.Undo.{gate, IsDataAddress, IsDataRun};
+ghost use Rattle.undo_journal.specs.Spending.{WritesAtMost, rollback_writes};
+ghost use Rattle.undo_journal.specs.Memory.{committed, current, room, IsOpen, IsIdle, IsReady, KeepsWords, Reports};
+
+use crate::error::StoreErr;
+use crate::store::Store;
+use nvm_board::Board;
+
+/// A transaction on a store: its sets become lasting together by `commit`, or none of them by `abandon`.
+/// It must be spent by one of the two.
+pub struct Txn<'a, B: Board> {
+    pub(crate) store: &'a mut Store<B>,
+}
+
+impl<B: Board> Txn<'_, B> {
+    ghost use Rattle.undo_journal.specs.Lent.{memory_of, store_of};
+
+    /// How many more sets there is room for.
+    pub fn room(&self) -> usize
+        ensures { result ≡ room (memory_of self.now) }
+    {
+        self.store.room()
+    }
+
+    /// The current word at an address.
+    pub fn read(&mut self, at: u16) -> Result<u32, StoreErr>
+        requires { IsDataAddress (current (memory_of self.old)) at }
+        ensures same_store { (store_of self.new).ghost_name ≡ (store_of self.old).ghost_name }
+        ensures word { IfOk result (λ w. w ≡ slice_index (current (memory_of self.old)) at) }
+        ensures keeps { KeepsWords (memory_of self.old) (memory_of self.new) }
+        ensures ready { OnOk result (IsOpen (memory_of self.new)) }
+        ensures reports { Reports (memory_of self.old) (memory_of self.new) }
+        ensures tells { (memory_of self.new).failed ≡ result_err result }
+        ensures writes { WritesAtMost 0 (memory_of self.old).facts (memory_of self.new).facts }
+    {
+        self.store.read(at)
+    }
+
+    /// Sets the current word at an address. It makes three device writes: the pair that takes the earlier word,
+    /// the gate that counts the pair, and the word.
+    pub fn set(&mut self, at: u16, word: u32) -> Result<(), StoreErr>
+        requires room { 0 < room (memory_of self.old) }
+        requires place { IsDataAddress (current (memory_of self.old)) at }
+        ensures same_store { (store_of self.new).ghost_name ≡ (store_of self.old).ghost_name }
+        ensures kept { committed (memory_of self.new) ≡ committed (memory_of self.old) }
+        ensures done { OnOk result (current (memory_of self.new) ≡ slice_set (current (memory_of self.old)) at word) }
+        ensures room { room (memory_of self.old) ≤ room (memory_of self.new) + 1 }
+        ensures ready { OnOk result (IsOpen (memory_of self.new)) }
+        ensures reports { Reports (memory_of self.old) (memory_of self.new) }
+        ensures tells { (memory_of self.new).failed ≡ result_err result }
+        ensures writes { WritesAtMost 3 (memory_of self.old).facts (memory_of self.new).facts }
+    {
+        self.store.set(at, word)
+    }
+
+    /// Sets the words from an address on, one by one.
+    pub fn set_run(&mut self, at: u16, words: &[u32]) -> Result<(), StoreErr>
+        requires room { length words.now ≤ room (memory_of self.old) }
+        requires place { IsDataRun (current (memory_of self.old)) at (length words.now) }
+        ensures same_store { (store_of self.new).ghost_name ≡ (store_of self.old).ghost_name }
+        ensures kept { committed (memory_of self.new) ≡ committed (memory_of self.old) }
+        ensures done { OnOk result (current (memory_of self.new) ≡ written (current (memory_of self.old)) at words.now) }
+        ensures room { room (memory_of self.old) ≤ room (memory_of self.new) + length words.now }
+        ensures ready { OnOk result (IsOpen (memory_of self.new)) }
+        ensures reports { Reports (memory_of self.old) (memory_of self.new) }
+        ensures tells { (memory_of self.new).failed ≡ result_err result }
+        ensures writes { WritesAtMost (3 * length words.now) (memory_of self.old).facts (memory_of self.new).facts }
+    {
+        self.store.check()?;
+        for (i, word) in words.iter().enumerate() {
+            self.set(at + i as u16, *word)?;
+        }
+        Ok(())
+    }
+
+    /// Makes the current words lasting, in one device write: the gate turns to 0.
+    pub fn commit(self) -> Result<(), StoreErr>
+        ensures any_exit { (committed self.exit.0.now ≡ committed (memory_of self.entry))
+            ⊎ ((committed self.exit.0.now ≡ current (memory_of self.entry)) × (gate self.exit.0.now.facts.words ≡ 0)) }
+        ensures done { OnOk result (committed self.exit.0.now ≡ current (memory_of self.entry)) }
+        ensures idle { IsIdle self.exit.0.now }
+        ensures ready { OnOk result (IsReady self.exit.0.now) }
+        ensures reports { Reports (memory_of self.entry) self.exit.0.now }
+        ensures tells { self.exit.0.now.failed ≡ result_err result }
+        ensures writes { WritesAtMost 1 (memory_of self.entry).facts self.exit.0.now.facts }
+    {
+        let Txn { store } = self;
+        store.commit()
+    }
+
+    /// Takes the sets back: earlier words from the last pair to the first, and then the gate.
+    pub fn abandon(self) -> Result<(), StoreErr>
+        ensures kept { committed self.exit.0.now ≡ committed (memory_of self.entry) }
+        ensures done { OnOk result (current self.exit.0.now ≡ committed (memory_of self.entry)) }
+        ensures idle { IsIdle self.exit.0.now }
+        ensures ready { OnOk result (IsReady self.exit.0.now) }
+        ensures reports { Reports (memory_of self.entry) self.exit.0.now }
+        ensures tells { self.exit.0.now.failed ≡ result_err result }
+        ensures writes { WritesAtMost (rollback_writes (memory_of self.entry).used) (memory_of self.entry).facts self.exit.0.now.facts }
+    {
+        let Txn { store } = self;
+        store.abandon()
+    }
+}
