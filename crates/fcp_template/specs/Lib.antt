@@ -3,4 +3,5 @@ pub mod Table
 pub mod Reads
 pub mod Function
 pub mod Ranges
+pub mod Views
 pub mod Spelling

@@ -38,6 +38,63 @@ pub enum FileKind<'a> {
     },
 }
 
+impl<'a> FileKind<'a> {
+    ghost use Rattle.fcp_template.specs.Views.{name_bytes, short_of_kind, size_of_kind, record_length_of_kind, existing_of_kind};
+
+    /// The bytes of the name, 1 to 16; none where the file has no name.
+    pub fn name(&self) -> &'a [u8]
+        ensures { result.now ≡ name_bytes self.now }
+    {
+        match self {
+            FileKind::Df { name: Some(name) } => name.as_bytes(),
+            _ => &[],
+        }
+    }
+
+    /// The short identifier; absent for a DF.
+    pub fn short(&self) -> ShortIdentifier
+        ensures { result ≡ short_of_kind self.now }
+    {
+        match self {
+            FileKind::Df { .. } => ShortIdentifier::Absent,
+            FileKind::Transparent { short, .. } => *short,
+            FileKind::Linear { short, .. } | FileKind::Cyclic { short, .. } => *short,
+        }
+    }
+
+    /// How many bytes the file has, 1 to 32,767; 0 for a DF.
+    pub fn size(&self) -> u16
+        ensures { result ≡ size_of_kind self.now }
+    {
+        match self {
+            FileKind::Df { .. } => 0,
+            FileKind::Transparent { size, .. } => *size,
+            FileKind::Linear { records, .. } | FileKind::Cyclic { records, .. } => records.size,
+        }
+    }
+
+    /// How many bytes a record has, 1 to 255; 0 where there are no records.
+    pub fn record_length(&self) -> u8
+        ensures { result ≡ record_length_of_kind self.now }
+    {
+        match self {
+            FileKind::Linear { records, .. } | FileKind::Cyclic { records, .. } =>
+                records.record_length,
+            FileKind::Df { .. } | FileKind::Transparent { .. } => 0,
+        }
+    }
+
+    /// How many records exist, at most 254.
+    pub fn existing(&self) -> u8
+        ensures { result ≡ existing_of_kind self.now }
+    {
+        match self {
+            FileKind::Linear { records, .. } | FileKind::Cyclic { records, .. } => records.existing,
+            FileKind::Df { .. } | FileKind::Transparent { .. } => 0,
+        }
+    }
+}
+
 /// The short identifier of an elementary file.
 #[derive(Clone, Copy, Debug, PartialEq, Eq)]
 pub enum ShortIdentifier {

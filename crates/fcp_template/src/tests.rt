@@ -122,6 +122,23 @@ fn names(rt: HostRuntime) -> Result<(), Fail> {
     assert_eq!(rt; name.as_bytes(), b"\xA0\x00".as_slice());
     assert!(rt; DfName::new(b"").is_none());
     assert!(rt; DfName::new(&[0; 17]).is_none());
+    let df = FileKind::Df { name: Some(name) };
+    assert_eq!(rt; df.name(), b"\xA0\x00".as_slice());
+    assert_eq!(rt; df.short(), ShortIdentifier::Absent);
+    assert_eq!(rt; df.size(), 0);
+    let cyclic = FileKind::Cyclic {
+        short: ShortIdentifier::Given(30),
+        records: Records {
+            size: 9,
+            record_length: 3,
+            existing: 2,
+        },
+    };
+    assert!(rt; cyclic.name().is_empty());
+    assert_eq!(rt; cyclic.short(), ShortIdentifier::Given(30));
+    assert_eq!(rt; cyclic.size(), 9);
+    assert_eq!(rt; cyclic.record_length(), 3);
+    assert_eq!(rt; cyclic.existing(), 2);
     laws::template_read_again();
     laws::reading_is_a_function();
     laws::objects_in_any_order();
