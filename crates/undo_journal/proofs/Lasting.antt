@@ -1,16 +1,24 @@
 -- Writes that last: with no pair that counts, and of the gate itself.
 use Rattle.std.proofs.Common.{◌≡◌, ◌⊎◌, ◌<◌, ◌≤◌, ◌+◌, ℕ, suc, List, [], ◌∷◌, length, slice_set, refl, sym, ◌∙◌, ap, subst, inl, inr, arith}
 use Rattle.std.proofs.Math.ListN.{length-set}
+use Rattle.std.proofs.Math.Logic.{⊎_elim}
 use Rattle.nvm_board.specs.Torn.{Torn, written, Torn-all, IsMixture, IsMixture-Torn}
 use Rattle.undo_journal.specs.declared.layout.TheConstants.{GATE, JOURNAL_END}
-use Rattle.undo_journal.specs.Undo.{gate, undo, data_words, IsOutside, IsDataAddress, IsDataRun}
-use Rattle.undo_journal.specs.UndoLaws.{data_words-set}
-use Rattle.undo_journal.proofs.Saving.{committed-shut, sound-shut, gate-set, gate-shut, current-gate}
+use Rattle.undo_journal.specs.Undo.{gate, undo, data_words, IsOutside, IsDataAddress, IsDataRun, IsSound}
+use Rattle.undo_journal.specs.UndoLaws.{data_words-set, sound_shut}
+use Rattle.undo_journal.proofs.Saving.{committed-shut, gate-set, gate-shut, current-gate}
 
 -- the gate set to 0: what was current is committed
 pub gate-commits : (m n : List ℕ) → GATE < length m → n ≡ slice_set m GATE 0 → data_words (undo n) ≡ data_words m
 gate-commits m n within done =
     committed-shut n (ap gate done ∙ gate-shut m within) ∙ ap data_words done ∙ current-gate m 0
+
+-- the gate set to 0 or not: undo stays defined
+pub commit-sound : (m n : List ℕ) → GATE < length m → IsSound m → (n ≡ m) ⊎ (n ≡ slice_set m GATE 0) → IsSound n
+commit-sound m n within sound torn = ⊎_elim
+    (λ old. subst (λ (l : List ℕ). IsSound l) (sym old) sound)
+    (λ new. sound_shut n (ap gate new ∙ gate-shut m within))
+    torn
 
 -- the data words of a torn run
 pub data_words-Torn : (m run n : List ℕ) (a : ℕ) → ((k : ℕ) → k < length run → IsDataAddress m (a + k)) → Torn m a run n → Torn (data_words m) a run (data_words n)
@@ -76,14 +84,19 @@ module _ (m run : List ℕ) (a : ℕ) (shut : gate m ≡ 0) (places : (k : ℕ) 
       let mixture : IsMixture m a run n = IsMixture-Torn m run n a fits torn in
       mixture.elsewhere GATE apart ∙ shut
 
-  pub torn-shut : (n : List ℕ) → 0 < length run → a + length run ≤ length m → (GATE < a) ⊎ (a + length run ≤ GATE) → Torn m a run n → Torn (data_words (undo m)) a run (data_words (undo n))
+  pub torn-sound : (n : List ℕ) → a + length run ≤ length m → (GATE < a) ⊎ (a + length run ≤ GATE) → Torn m a run n → IsSound n
+  torn-sound n fits apart torn = sound_shut n (torn-gate n fits apart torn)
+
+  pub torn-shut : (n : List ℕ) → 0 < length run → a + length run ≤ length m → (GATE < a) ⊎ (a + length run ≤ GATE) → Torn m a run n
+      → Torn (data_words (undo m)) a run (data_words (undo n))
   torn-shut n some fits apart torn =
       let before : List ℕ → Type 0 = λ l. Torn l a run (data_words n) in
       let after : List ℕ → Type 0 = λ l. Torn (data_words (undo m)) a run l in
       subst after (sym (committed-shut n (torn-gate n fits apart torn)))
       (subst before (sym (committed-shut m shut)) (data_words-Torn m run n a places torn))
 
-  pub written-shut : (n : List ℕ) → a + length run ≤ length m → (GATE < a) ⊎ (a + length run ≤ GATE) → n ≡ written m a run → data_words (undo n) ≡ written (data_words (undo m)) a run
+  pub written-shut : (n : List ℕ) → a + length run ≤ length m → (GATE < a) ⊎ (a + length run ≤ GATE) → n ≡ written m a run
+      → data_words (undo n) ≡ written (data_words (undo m)) a run
   written-shut n fits apart done =
       let family : List ℕ → Type 0 = λ l. Torn m a run l in
       let torn : Torn m a run n = subst family (sym done) (Torn-all m run a) in
@@ -93,7 +106,10 @@ module _ (m run : List ℕ) (a : ℕ) (shut : gate m ≡ 0) (places : (k : ℕ) 
 -- with no pair that counts: a data word
 module _ (m : List ℕ) (a w : ℕ) (shut : gate m ≡ 0) (place : IsDataAddress m a) where
   pub gate-alone : (n : List ℕ) → n ≡ slice_set m a w → gate n ≡ 0
-  gate-alone n done = ap gate done ∙ gate-set m a w (sound-shut m shut) place ∙ shut
+  gate-alone n done = ap gate done ∙ gate-set m a w (sound_shut m shut) place ∙ shut
+
+  pub sound-alone : (n : List ℕ) → (n ≡ m) ⊎ (n ≡ slice_set m a w) → IsSound n
+  sound-alone n torn = ⊎_elim (λ old. sound_shut n (ap gate old ∙ shut)) (λ new. sound_shut n (gate-alone n new)) torn
 
   pub word-alone : (n : List ℕ) → n ≡ slice_set m a w → data_words (undo n) ≡ slice_set (data_words (undo m)) a w
   word-alone n done =

@@ -21,14 +21,19 @@ pairs_from-at m i (suc n) (suc k) d lt =
     pairs_from-at m (i + 1) n k d below ∙ ap (λ (j : ℕ). pair_at m j) place
 
 -- the same pairs, from words that are the same
-pub pairs_from-same : (m l : List ℕ) (i n : ℕ) → ((k : ℕ) → JOURNAL + 2 * i ≤ k → k < JOURNAL + 2 * (i + n) → slice_index m k ≡ slice_index l k) → pairs_from m i n ≡ pairs_from l i n
+pub pairs_from-same : (m l : List ℕ) (i n : ℕ)
+    → ((k : ℕ) → JOURNAL + 2 * i ≤ k → k < JOURNAL + 2 * (i + n) → slice_index m k ≡ slice_index l k) → pairs_from m i n ≡ pairs_from l i n
 unfolding pairs_from
 pairs_from-same m l i zero words = refl
 pairs_from-same m l i (suc n) words =
     let pair : ℕ → ℕ → Pair = λ a w. record { address = a; earlier = w } in
+    let at_first : JOURNAL + 2 * i ≤ JOURNAL + 2 * i = omega arith in
+    let before_first : JOURNAL + 2 * i < JOURNAL + 2 * (i + suc n) = omega arith in
+    let at_second : JOURNAL + 2 * i ≤ JOURNAL + 2 * i + 1 = omega arith in
+    let before_second : JOURNAL + 2 * i + 1 < JOURNAL + 2 * (i + suc n) = omega arith in
     let first : pair_at m i ≡ pair_at l i =
-    ap (λ (a : ℕ). pair a (slice_index m (JOURNAL + 2 * i + 1))) (words (JOURNAL + 2 * i) (let le : JOURNAL + 2 * i ≤ JOURNAL + 2 * i = omega arith in le) (let lt : JOURNAL + 2 * i < JOURNAL + 2 * (i + suc n) = omega arith in lt))
-    ∙ ap (λ (w : ℕ). pair (slice_index l (JOURNAL + 2 * i)) w) (words (JOURNAL + 2 * i + 1) (let le : JOURNAL + 2 * i ≤ JOURNAL + 2 * i + 1 = omega arith in le) (let lt : JOURNAL + 2 * i + 1 < JOURNAL + 2 * (i + suc n) = omega arith in lt)) in
+    ap (λ (a : ℕ). pair a (slice_index m (JOURNAL + 2 * i + 1))) (words (JOURNAL + 2 * i) at_first before_first)
+    ∙ ap (λ (w : ℕ). pair (slice_index l (JOURNAL + 2 * i)) w) (words (JOURNAL + 2 * i + 1) at_second before_second) in
     let rest : pairs_from m (i + 1) n ≡ pairs_from l (i + 1) n = pairs_from-same m l (i + 1) n (λ k above below.
     let le : JOURNAL + 2 * i ≤ k = omega arith in
     let lt : k < JOURNAL + 2 * (i + suc n) = omega arith in words k le lt) in

@@ -10,9 +10,9 @@ use Rattle.std.proofs.lemmas.Bool.Decides.{eqb_tells}
 use Rattle.std.proofs.Math.Logic.{⊎_elim}
 use Rattle.undo_journal.specs.declared.layout.TheConstants.{GATE, JOURNAL, JOURNAL_END}
 use Rattle.undo_journal.specs.Undo.{Pair, gate, pair_at, pairs_from, pairs, earlier, undo, IsOutside, IsDataAddress, IsSound}
-use Rattle.undo_journal.specs.UndoLaws.{length-undo, undo-at, undo-same}
+use Rattle.undo_journal.specs.UndoLaws.{length-undo, undo-at, undo-same, undo_undo, found_again}
 use Rattle.undo_journal.proofs.Pairs.{length-pairs_from, pairs_from-at, pairs_from-same, earlier-drop}
-use Rattle.undo_journal.proofs.Saving.{place-at, pairs-shut}
+use Rattle.undo_journal.proofs.Saving.{place-at, sound-same}
 
 -- a memory with the earlier words of these pairs put back, the first pair last
 unfoldable pub restored : List Pair → List ℕ → List ℕ
@@ -41,7 +41,8 @@ restored-at (p ∷ ps) m k lt = elim (eqb_tells p.address k) [
 ]
 
 -- words of gate and journal stay
-pub restored-journal : (ps : List Pair) (m l : List ℕ) → All (λ p. IsDataAddress l p.address) ps → (k : ℕ) → GATE ≤ k → k < JOURNAL_END → slice_index (restored ps m) k ≡ slice_index m k
+pub restored-journal : (ps : List Pair) (m l : List ℕ) → All (λ p. IsDataAddress l p.address) ps
+    → (k : ℕ) → GATE ≤ k → k < JOURNAL_END → slice_index (restored ps m) k ≡ slice_index m k
 unfolding restored
 restored-journal [] m l places k le lt = refl
 restored-journal (p ∷ ps) m l places k le lt =
@@ -99,6 +100,10 @@ module _ (m : List ℕ) (sound : IsSound m) where
       ∙ earlier-drop (pairs m) i k (slice_index m k) in
       ap (λ (w : ℕ). if k == GATE then 0 else w) words)
 
+  -- its journal stays sound
+  pub sound-put_back : (i : ℕ) → IsSound (put_back_from m i)
+  sound-put_back i = sound-same m (put_back_from m i) (sym (length-put_back i)) (sym (gate-put_back i)) (sym (pairs-put_back i)) sound
+
   -- all pairs put back, and the gate 0
   pub put_back-done : GATE < length m → slice_set (put_back_from m 0) GATE 0 ≡ undo m
   put_back-done within =
@@ -114,34 +119,6 @@ module _ (m : List ℕ) (sound : IsSound m) where
             get_or-set_other n GATE k 0 0 other.1 ∙ restored-at (drop 0 (pairs m)) m k below
             ∙ sym (undo-at m k below ∙ ap (λ (b : Bool). if b then 0 else earlier (pairs m) k (slice_index m k)) other.0)
       ])
-
--- an undone memory has its gate 0
-pub gate-undo : (m : List ℕ) → GATE < length m → gate (undo m) ≡ 0
-gate-undo m within = undo-at m GATE within
-
--- undo twice
-pub undo-undo : (m : List ℕ) → GATE < length m → undo (undo m) ≡ undo m
-unfolding earlier
-undo-undo m within = undo-same (undo m) m (length-undo m) (λ k lt.
-    let below : k < length m = omega (arith, length-undo m) in
-    elim (eqb_tells k GATE) [
-      | inl same ↦
-          let zero_there : (w : ℕ) → (if k == GATE then 0 else w) ≡ 0 = λ w. ap (λ (b : Bool). if b then 0 else w) same.0 in
-          zero_there _ ∙ sym (zero_there _)
-      | inr other ↦
-          let chosen : (w : ℕ) → (if k == GATE then 0 else w) ≡ w = λ w. ap (λ (b : Bool). if b then 0 else w) other.0 in
-          chosen _ ∙ ap (λ (ps : List Pair). earlier ps k (slice_index (undo m) k)) (pairs-shut (undo m) (gate-undo m within)) ∙ undo-at m k below
-    ])
-
--- undo where no pair counts
-pub undo-shut : (m : List ℕ) → GATE < length m → gate m ≡ 0 → undo m ≡ m
-unfolding earlier
-undo-shut m within shut = same_number_lists (undo m) m (length-undo m) (λ k lt.
-    let below : k < length m = omega (arith, length-undo m) in
-    undo-at m k below ∙ elim (eqb_tells k GATE) [
-      | inl same ↦ ap (λ (b : Bool). if b then 0 else earlier (pairs m) k (slice_index m k)) same.0 ∙ sym (ap (λ (j : ℕ). slice_index m j) same.1 ∙ shut)
-      | inr other ↦ ap (λ (b : Bool). if b then 0 else earlier (pairs m) k (slice_index m k)) other.0 ∙ ap (λ (ps : List Pair). earlier ps k (slice_index m k)) (pairs-shut m shut)
-    ])
 
 -- A rollback of the words m: of the pairs from the one numbered `left` on the earlier words are put back, which gives now.
 module _ (m now : List ℕ) (sound : IsSound m) (left : ℕ) (so_far : now ≡ put_back_from m left) where
@@ -181,6 +158,12 @@ module _ (m now : List ℕ) (sound : IsSound m) (left : ℕ) (so_far : now ≡ p
       (λ new. ap undo (turn-done i n next lt new) ∙ undo-put_back m sound i)
       torn
 
+  pub turn-sound : (i : ℕ) (n : List ℕ) → left ≡ suc i → i < gate m → (n ≡ now) ⊎ (n ≡ slice_set now (pair_at now i).address (pair_at now i).earlier) → IsSound n
+  turn-sound i n next lt torn = ⊎_elim
+      (λ old. subst (λ (l : List ℕ). IsSound l) (sym (old ∙ so_far)) (sound-put_back m sound left))
+      (λ new. subst (λ (l : List ℕ). IsSound l) (sym (turn-done i n next lt new)) (sound-put_back m sound i))
+      torn
+
   -- at the end the gate is set to 0
   pub end-done : (n : List ℕ) → GATE < length m → left ≡ 0 → n ≡ slice_set now GATE 0 → n ≡ undo m
   end-done n within none done =
@@ -189,5 +172,11 @@ module _ (m now : List ℕ) (sound : IsSound m) (left : ℕ) (so_far : now ≡ p
   pub end-kept : (n : List ℕ) → GATE < length m → left ≡ 0 → (n ≡ now) ⊎ (n ≡ slice_set now GATE 0) → undo n ≡ undo m
   end-kept n within none torn = ⊎_elim
       (λ old. ap undo (old ∙ so_far) ∙ undo-put_back m sound left)
-      (λ new. ap undo (end-done n within none new) ∙ undo-undo m within)
+      (λ new. ap undo (end-done n within none new) ∙ undo_undo m)
+      torn
+
+  pub end-sound : (n : List ℕ) → GATE < length m → left ≡ 0 → (n ≡ now) ⊎ (n ≡ slice_set now GATE 0) → IsSound n
+  end-sound n within none torn = ⊎_elim
+      (λ old. subst (λ (l : List ℕ). IsSound l) (sym (old ∙ so_far)) (sound-put_back m sound left))
+      (λ new. subst (λ (l : List ℕ). IsSound l) (sym (end-done n within none new)) (found_again m))
       torn

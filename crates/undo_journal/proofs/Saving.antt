@@ -1,15 +1,15 @@
 -- What the three writes of a set do to the words that undo gives, and to the words as they stand.
-use Rattle.std.proofs.Common.{◌≡◌, ◌≢◌, ◌⊎◌, ◌<◌, ◌≤◌, ◌+◌, ◌*◌, ℕ, suc, Bool, List, [], ◌∷◌, ◌++◌, length, get_or, slice_index, slice_set, sym, ◌∙◌, ap, subst, inl, inr, arith, get_or-set_same, get_or-set_other}
+use Rattle.std.proofs.Common.{◌≡◌, ◌≢◌, ◌⊎◌, ◌<◌, ◌≤◌, ◌+◌, ◌*◌, ℕ, suc, List, [], ◌∷◌, ◌++◌, length, get_or, slice_index, slice_set, sym, ◌∙◌, ap, subst, inl, inr, arith, get_or-set_same, get_or-set_other}
 use Rattle.std.proofs.Math.ListN.{length-set}
 use Rattle.std.proofs.lemmas.Bool.{cases_lt}
 use Rattle.std.proofs.lemmas.Bool.Decides.{eqb_tells}
-use Rattle.std.specs.Prelude.{if◌then◌else◌}
+use Rattle.std.specs.Prelude.{All}
 use Rattle.std.proofs.Math.Logic.{⊎_elim}
 use Rattle.nvm_board.specs.declared.board.TheConstants.{WORDS}
 use Rattle.nvm_board.specs.Torn.{Torn, written, written-inside, written-elsewhere, Torn-all, IsMixture, IsMixture-Torn}
 use Rattle.undo_journal.specs.declared.layout.TheConstants.{GATE, JOURNAL, JOURNAL_END, PAIRS}
 use Rattle.undo_journal.specs.Undo.{Pair, gate, pair_at, pairs_from, pairs, earlier, undo, data_words, IsOutside, IsDataAddress, IsSound}
-use Rattle.undo_journal.specs.UndoLaws.{length-undo, undo-at, committed-same, data_words-same, data_words-set}
+use Rattle.undo_journal.specs.UndoLaws.{committed-same, data_words-same, data_words-set, undo_shut}
 use Rattle.undo_journal.proofs.Pairs.{length-pairs_from, pairs_from-at, pairs_from-same, pairs_from-suc, earlier-append, earlier-named}
 
 -- two memories of which a store makes the same
@@ -40,6 +40,15 @@ sound-from m room places = record {
       let there : pair_at m i ≡ get_or (pairs m) i d = ap (λ (j : ℕ). pair_at m j) z ∙ sym (pairs_from-at m 0 (gate m) i d below) in
       let family : Pair → Type 0 = λ p. IsDataAddress m p.address in
       subst family there (places i below);
+}
+
+-- a journal stays sound where the gate, the pairs and the number of words stay
+pub sound-same : (m n : List ℕ) → length m ≡ length n → gate m ≡ gate n → pairs m ≡ pairs n → IsSound m → IsSound n
+sound-same m n size gates journals sound = record {
+  room = (let room : gate n ≤ PAIRS = omega (arith, gates, sound.room) in room);
+  places = subst (λ (ps : List Pair). All (λ p. IsDataAddress n p.address) ps) journals (λ i d lt.
+      let place = sound.places i d lt in
+      (place.0, (let below : (get_or (pairs m) i d).address < length n = omega (arith, size, place.1) in below)));
 }
 
 -- the pairs of the words m, read as r: each names a data word
@@ -169,18 +178,7 @@ module _ (m : List ℕ) (a w : ℕ) (sound : IsSound m) (place : IsDataAddress m
       journal-set k le lt)
 
   pub sound-set : IsSound (slice_set m a w)
-  sound-set =
-      let n = slice_set m a w in
-      let room : gate n ≤ PAIRS = omega (arith, gate-set, sound.room) in
-      sound-from n room (λ i lt.
-      let below : i < gate m = omega (arith, gate-set) in
-      let le : GATE ≤ JOURNAL + 2 * i = omega arith in
-      let before : JOURNAL + 2 * i < JOURNAL_END = omega (arith, sound.room) in
-      let here : slice_index n (JOURNAL + 2 * i) ≡ slice_index m (JOURNAL + 2 * i) = journal-set (JOURNAL + 2 * i) le before in
-      let f : ℕ → Type 0 = λ x. IsDataAddress m x in
-      let moved : IsDataAddress m (slice_index n (JOURNAL + 2 * i)) = subst f (sym here) (place-at m sound i below) in
-      let within : slice_index n (JOURNAL + 2 * i) < length n = omega (arith, length-set m a w, moved.1) in
-      (moved.0, within))
+  sound-set = sound-same m (slice_set m a w) (sym (length-set m a w)) (sym gate-set) (sym pairs-set) sound
 
   -- a word that a pair names is the same after undo, whatever it is now
   pub committed-named : (i : ℕ) → i < gate m → (pair_at m i).address ≡ a → data_words (undo (slice_set m a w)) ≡ data_words (undo m)
@@ -199,31 +197,16 @@ module _ (m : List ℕ) (a w : ℕ) (sound : IsSound m) (place : IsDataAddress m
 
 -- no pair counts
 module _ (m : List ℕ) (shut : gate m ≡ 0) where
-  pub pairs-shut : pairs m ≡ []
-  unfolding pairs_from
-  pairs-shut = ap (λ (c : ℕ). pairs_from m 0 c) shut
-
-  pub sound-shut : IsSound m
-  sound-shut = let room : gate m ≤ PAIRS = omega arith in sound-from m room (λ i lt. absurd (omega arith))
-
   pub committed-shut : data_words (undo m) ≡ data_words m
-  unfolding earlier
-  committed-shut = data_words-same (undo m) m (length-undo m) (λ k lt out.
-      let below : k < length m = omega (arith, length-undo m) in
-      let other : k ≢ GATE = grind arith in
-      undo-at m k below
-      ∙ elim (eqb_tells k GATE) [
-        | inl same ↦ absurd (other same.1)
-        | inr differs ↦ ap (λ (b : Bool). if b then 0 else earlier (pairs m) k (slice_index m k)) differs.0
-      ]
-      ∙ ap (λ (ps : List Pair). earlier ps k (slice_index m k)) pairs-shut)
+  committed-shut = ap data_words (undo_shut m shut)
 
 -- a memory whose gate is set to 0
 pub gate-shut : (m : List ℕ) → GATE < length m → gate (slice_set m GATE 0) ≡ 0
 gate-shut m within = get_or-set_same m GATE 0 0 within
 
 -- A set in three writes: from the words m, read as r, behind the pair of the address a and its word e.
-module _ (m r : List ℕ) (g a e : ℕ) (read : r ≡ m) (saved : e ≡ slice_index m a) (sound : IsSound m) (counts : gate m ≡ g) (room : g < PAIRS) (place : IsDataAddress m a) (size : length m ≡ WORDS) where
+module _ (m r : List ℕ) (g a e : ℕ) (read : r ≡ m) (saved : e ≡ slice_index m a)
+    (sound : IsSound m) (counts : gate m ≡ g) (room : g < PAIRS) (place : IsDataAddress m a) (size : length m ≡ WORDS) where
   -- a pair past those that count, whatever part of it is written
   pub pair-torn : (n : List ℕ) → Torn r (JOURNAL + 2 * g) (a ∷ e ∷ []) n → SameStore m n
   pair-torn n torn =
@@ -235,6 +218,9 @@ module _ (m r : List ℕ) (g a e : ℕ) (read : r ≡ m) (saved : e ≡ slice_in
         | inl before ↦ let lt : k < JOURNAL + 2 * g = omega arith in sym (mixture.elsewhere k (inl lt))
         | inr past ↦ let le : JOURNAL + 2 * g + 2 ≤ k = omega arith in sym (mixture.elsewhere k (inr le))
       ])
+
+  pub pair-sound : (n : List ℕ) → Torn r (JOURNAL + 2 * g) (a ∷ e ∷ []) n → IsSound n
+  pair-sound n torn = let same : SameStore m n = pair-torn n torn in sound-same m n same.size same.gates same.journals sound
 
   -- the pair when it is written
   pub pair-written : (p : List ℕ) → p ≡ written r (JOURNAL + 2 * g) (a ∷ e ∷ []) → HasSaved p g a
@@ -253,16 +239,7 @@ module _ (m r : List ℕ) (g a e : ℕ) (read : r ≡ m) (saved : e ≡ slice_in
       ]) in
       let z : JOURNAL + 2 * g ≡ JOURNAL + 2 * g + 0 = omega arith in
       record {
-        sound = sound-from p (let le : gate p ≤ PAIRS = omega (arith, same.gates, sound.room) in le) (λ i lt.
-            let below : i < gate m = omega (arith, same.gates) in
-            let at_m : IsDataAddress m (pair_at m i).address = place-at m sound i below in
-            let before : JOURNAL + 2 * i < JOURNAL + 2 * g = omega arith in
-            let here : slice_index p (JOURNAL + 2 * i) ≡ slice_index m (JOURNAL + 2 * i) =
-            ap (λ (l : List ℕ). slice_index l (JOURNAL + 2 * i)) in_m ∙ written-elsewhere m run (JOURNAL + 2 * g) (JOURNAL + 2 * i) (inl before) in
-            let f : ℕ → Type 0 = λ x. IsDataAddress m x in
-            let moved : IsDataAddress m (slice_index p (JOURNAL + 2 * i)) = subst f (sym here) at_m in
-            let within : slice_index p (JOURNAL + 2 * i) < length p = omega (arith, same.size, moved.1) in
-            (moved.0, within));
+        sound = sound-same m p same.size same.gates same.journals sound;
         counts = sym same.gates ∙ counts;
         room = room;
         place = (place.0, (let lt : a < length p = omega (arith, same.size, place.1) in lt));
@@ -284,10 +261,16 @@ module _ (m r : List ℕ) (g a e : ℕ) (read : r ≡ m) (saved : e ≡ slice_in
         (λ new. ap (λ (l : List ℕ). data_words (undo l)) new ∙ committed-raised p g a (pair-written p paired) ∙ sym same_pair.committed)
         torn
 
+    pub gate-sound : (n : List ℕ) → (n ≡ p) ⊎ (n ≡ slice_set p GATE (g + 1)) → IsSound n
+    gate-sound n torn = ⊎_elim
+        (λ old. subst (λ (l : List ℕ). IsSound l) (sym old) (pair-written p paired).sound)
+        (λ new. subst (λ (l : List ℕ). IsSound l) (sym new) (sound-raised p g a (pair-written p paired)))
+        torn
+
     -- the word, set or not
     module _ (q : List ℕ) (raised : q ≡ slice_set p GATE (g + 1)) (w : ℕ) where
       sound_q : IsSound q
-      sound_q = let family : List ℕ → Type 0 = λ l. IsSound l in subst family (sym raised) (sound-raised p g a (pair-written p paired))
+      sound_q = gate-sound q (inr raised)
 
       size_q : length q ≡ length m
       size_q = ap (λ (l : List ℕ). length l) raised ∙ length-set p GATE (g + 1) ∙ sym same_pair.size
@@ -318,5 +301,8 @@ module _ (m r : List ℕ) (g a e : ℕ) (read : r ≡ m) (saved : e ≡ slice_in
           let at_q : data_words q ≡ data_words m = ap data_words raised ∙ current-gate p (g + 1) ∙ sym same_pair.current in
           ap data_words done ∙ data_words-set q a w place_q ∙ ap (λ (l : List ℕ). slice_set l a w) at_q
 
-      pub word-sound : (n : List ℕ) → n ≡ slice_set q a w → IsSound n
-      word-sound n done = let family : List ℕ → Type 0 = λ l. IsSound l in subst family (sym done) (sound-set q a w sound_q place_q)
+      pub word-sound : (n : List ℕ) → (n ≡ q) ⊎ (n ≡ slice_set q a w) → IsSound n
+      word-sound n torn = ⊎_elim
+          (λ old. subst (λ (l : List ℕ). IsSound l) (sym old) sound_q)
+          (λ new. subst (λ (l : List ℕ). IsSound l) (sym new) (sound-set q a w sound_q place_q))
+          torn

@@ -4,9 +4,10 @@ use Rattle.std.proofs.Common.{◌≡◌, ◌+◌, ◌<◌, ◌≤◌, ℕ, false
 use Rattle.nvm_board.specs.declared.board.TheConstants.{WORDS}
 use Rattle.nvm_board.specs.Facts.{Facts}
 use Rattle.undo_journal.specs.Undo.{gate, IsDataAddress, IsDataRun}
+use Rattle.undo_journal.specs.UndoLaws.{sound_shut}
 use Rattle.undo_journal.specs.Memory.{Memory, current, IsOpen, IsIdle, IsReady, IsHeld}
 use Rattle.undo_journal.specs.MemoryLaws.{length-committed, length-current}
-use Rattle.undo_journal.proofs.Saving.{committed-shut, sound-shut}
+use Rattle.undo_journal.proofs.Saving.{committed-shut}
 
 pub open-from : (m : Memory) → m.failed ≡ None → m.facts.dark ≡ false → length m.facts.words ≡ WORDS → IsOpen m
 open-from m works lit size = record {
@@ -30,7 +31,7 @@ board-place m words a same place =
 
 -- a board whose gate is 0 is held with nothing in use
 pub held-shut : (f : Facts) (used : ℕ) → gate f.words ≡ 0 → used ≡ 0 → f.dark ≡ false → IsHeld f used
-held-shut f used shut unused lit = record { sound = sound-shut f.words shut; counts = shut ∙ sym unused; lit = lit }
+held-shut f used shut unused lit = record { sound = sound_shut f.words shut; counts = shut ∙ sym unused; lit = lit }
 
 -- a run of data words, in the words of the board
 pub board-run : (m : Memory) (words : List ℕ) (a n : ℕ) → words ≡ m.facts.words → IsDataRun (current m) a n → IsDataRun words a n

@@ -80,12 +80,14 @@ abbrev pub FailsBy : StoreErr → Facts → Facts → Type 0
 FailsBy PowerLost old new = GoesDark old new
 FailsBy Fault old new = Fails old new
 
--- What one call, or several in a row, do to a store's failure and to its board's light: a store that has failed stays so
--- and leaves its board alone, one that works has had neither cut nor fault, and one that fails in them had just one.
+-- What one call, or several in a row, do to a store's failure, to its board's light and to its journal: a store that has
+-- failed stays so and leaves its board alone, one that works has had neither cut nor fault, and one that fails in them had
+-- just one. Whatever they do, undo stays defined, so that the next opening finds no bad journal.
 pub record Reports (old new : Memory) : Type 0 where
   pub stuck : (e : StoreErr) → old.failed ≡ Some e → (new.failed ≡ Some e) × (new.facts ≡ old.facts)
   pub works : new.failed ≡ None → (old.failed ≡ None) × SameLight old.facts new.facts
   pub fails : (e : StoreErr) → old.failed ≡ None → new.failed ≡ Some e → FailsBy e old.facts new.facts
+  pub sound : IsSound old.facts.words → IsSound new.facts.words
 
 -- why an open failed, and what it left of the board
 abbrev pub OpensNot : OpenFault → Facts → Facts → Type 0

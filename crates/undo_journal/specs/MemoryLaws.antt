@@ -34,6 +34,7 @@ reports_same m = record {
   stuck = λ e h. (h, refl);
   works = λ h. (h, record { dark = refl; faults = refl; cuts = refl; due = refl });
   fails = λ e works fails. let none : m.failed ≡ None = works in let some : m.failed ≡ Some e = fails in cc;
+  sound = λ h. h;
 }
 
 -- a failure after calls that changed nothing of the light
@@ -72,6 +73,7 @@ reports_then a b c first rest = record {
         },
       );
   fails = λ e works fails. at_failure e works fails b.failed refl;
+  sound = λ h. rest.sound (first.sound h);
 }
   where
     at_failure : (e : StoreErr) → a.failed ≡ None → c.failed ≡ Some e → (f : Option StoreErr) → b.failed ≡ f → FailsBy e a.facts c.facts

@@ -1,11 +1,13 @@
 -- Laws of undo and of the data words, word by word.
-use Rattle.std.proofs.Common.{◌≡◌, ◌≢◌, ◌==◌, ◌⊎◌, ◌<◌, ◌+◌, ℕ, zero, suc, Bool, true, false, List, [], ◌∷◌, length, slice_index, slice_set, refl, sym, ◌∙◌, ap, subst, inl, inr, arith, get_or-set_same, get_or-set_other}
+use Rattle.std.proofs.Common.{◌≡◌, ◌≢◌, ◌==◌, ◌⊎◌, ◌<◌, ◌≤◌, ◌+◌, ℕ, zero, suc, Bool, true, false, List, [], ◌∷◌, length, slice_index, slice_set, refl, sym, ◌∙◌, ap, subst, inl, inr, arith, get_or-set_same, get_or-set_other}
 use Rattle.std.specs.Prelude.{if◌then◌else◌}
 use Rattle.std.proofs.Math.ListN.{length-set}
 use Rattle.std.proofs.lemmas.Grind.{same_number_lists}
+use Rattle.std.proofs.lemmas.Bool.{cases_lt}
 use Rattle.std.proofs.lemmas.Bool.Decides.{eqb_tells, nat_tests}
-use Rattle.undo_journal.specs.declared.layout.TheConstants.{GATE}
-use Rattle.undo_journal.specs.Undo.{pairs, earlier, by_address, undo, in_journal, data_words, IsOutside, IsDataAddress}
+use Rattle.std.proofs.lemmas.List.{get_or_past}
+use Rattle.undo_journal.specs.declared.layout.TheConstants.{GATE, PAIRS}
+use Rattle.undo_journal.specs.Undo.{Pair, gate, pairs_from, pairs, earlier, by_address, undo, in_journal, data_words, IsOutside, IsDataAddress, IsSound}
 
 -- by address: as many words
 pub length-by_address : (f : ℕ → ℕ → ℕ) (a : ℕ) (m : List ℕ) → length (by_address f a m) ≡ length m
@@ -106,7 +108,9 @@ data_words-set m a w place =
     ])
 
 -- two memories whose data words agree after undo
-pub committed-same : (m n : List ℕ) → length m ≡ length n → ((k : ℕ) → k < length m → IsOutside k → earlier (pairs m) k (slice_index m k) ≡ earlier (pairs n) k (slice_index n k)) → data_words (undo m) ≡ data_words (undo n)
+pub committed-same : (m n : List ℕ) → length m ≡ length n
+    → ((k : ℕ) → k < length m → IsOutside k → earlier (pairs m) k (slice_index m k) ≡ earlier (pairs n) k (slice_index n k))
+    → data_words (undo m) ≡ data_words (undo n)
 committed-same m n size words =
     data_words-same (undo m) (undo n) (length-undo m ∙ size ∙ sym (length-undo n)) (λ k lt out.
     let below : k < length m = omega (arith, length-undo m) in
@@ -117,3 +121,41 @@ committed-same m n size words =
       | inr differs ↦ ap (λ (b : Bool). if b then 0 else w) differs.0
     ] in
     undo-at m k below ∙ chosen _ ∙ words k below out ∙ sym (chosen _) ∙ sym (undo-at n k below_n))
+
+-- where no pair counts
+module _ (m : List ℕ) (shut : gate m ≡ 0) where
+  pub pairs_shut : pairs m ≡ []
+  unfolding pairs_from
+  pairs_shut = ap (λ (c : ℕ). pairs_from m 0 c) shut
+
+  -- undo is defined
+  pub sound_shut : IsSound m
+  sound_shut = record {
+    room = (let room : gate m ≤ PAIRS = omega arith in room);
+    places = λ i d lt. absurd (let none : length (pairs m) ≡ 0 = ap length pairs_shut in omega (arith, none, lt));
+  }
+
+  -- and it is the memory itself
+  pub undo_shut : undo m ≡ m
+  unfolding earlier
+  undo_shut = same_number_lists (undo m) m (length-undo m) (λ k lt.
+      let below : k < length m = omega (arith, length-undo m) in
+      undo-at m k below ∙ elim (eqb_tells k GATE) [
+        | inl same ↦ ap (λ (b : Bool). if b then 0 else earlier (pairs m) k (slice_index m k)) same.0 ∙ sym (ap (λ (j : ℕ). slice_index m j) same.1 ∙ shut)
+        | inr other ↦ ap (λ (b : Bool). if b then 0 else earlier (pairs m) k (slice_index m k)) other.0 ∙ ap (λ (ps : List Pair). earlier ps k (slice_index m k)) pairs_shut
+      ])
+
+-- after undo no pair counts
+pub gate_undone : (m : List ℕ) → gate (undo m) ≡ 0
+gate_undone m = elim (cases_lt GATE (length m)) [
+  | inl within ↦ undo-at m GATE within
+  | inr past ↦ let none : length (undo m) ≤ GATE = omega (arith, length-undo m) in get_or_past (undo m) GATE 0 none
+]
+
+-- undo twice is undo
+pub undo_undo : (m : List ℕ) → undo (undo m) ≡ undo m
+undo_undo m = undo_shut (undo m) (gate_undone m)
+
+-- of a memory after undo, undo is defined
+pub found_again : (m : List ℕ) → IsSound (undo m)
+found_again m = sound_shut (undo m) (gate_undone m)

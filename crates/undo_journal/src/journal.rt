@@ -53,7 +53,7 @@ pub(crate) fn save_and_write<B: Board>(
     requires place { IsDataAddress (B.facts board.old).words at }
     ensures kept { data_words (undo (B.facts board.new).words) ≡ data_words (undo (B.facts board.old).words) }
     ensures done { OnOk result (data_words (B.facts board.new).words ≡ slice_set (data_words (B.facts board.old).words) at word) }
-    ensures sound { OnOk result (IsSound (B.facts board.new).words) }
+    ensures sound { IsSound (B.facts board.new).words }
     ensures counts { OnOk result (gate (B.facts board.new).words ≡ used + 1) }
     ensures light { Answered (B.facts board.old) (B.facts board.new) result }
     ensures writes { WritesAtMost 3 (B.facts board.old) (B.facts board.new) }
@@ -127,6 +127,7 @@ pub(crate) fn roll_back<B: Board>(board: &mut B, count: u16) -> Result<(), Devic
     requires counts { gate (B.facts board.old).words ≡ count }
     requires lit { (B.facts board.old).dark ≡ false }
     ensures kept { undo (B.facts board.new).words ≡ undo (B.facts board.old).words }
+    ensures sound { IsSound (B.facts board.new).words }
     ensures done { OnOk result ((B.facts board.new).words ≡ undo (B.facts board.old).words) }
     ensures light { Answered (B.facts board.old) (B.facts board.new) result }
     ensures writes { WritesAtMost (rollback_writes count) (B.facts board.old) (B.facts board.new) }

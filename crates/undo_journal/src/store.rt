@@ -47,11 +47,13 @@ impl<B: Board> Store<B> {
         ensures undone { IfOk result (λ s. s.facts.words ≡ undo (B.facts board).words) }
         ensures found { IfOk result (λ s. committed s ≡ data_words (undo (B.facts board).words)) }
         ensures sound { OnOk result (IsSound (B.facts board).words) }
+        ensures defined { IfOk result (λ s. IsSound s.facts.words) }
         ensures light { IfOk result (λ s. Steady (B.facts board) s.facts) }
         ensures writes { IfOk result (λ s. WritesAtMost (rollback_writes (gate (B.facts board).words)) (B.facts board) s.facts) }
 
-        // The undone words stay where the store is not opened, too.
+        // The undone words stay where the store is not opened, too, and undo is defined just where it was.
         ensures kept_err { IfErr result (λ e. undo (B.facts e.0).words ≡ undo (B.facts board).words) }
+        ensures sound_err { IfErr result (λ e. IsSound (B.facts e.0).words ↔ IsSound (B.facts board).words) }
         ensures not_opened { IfErr result (λ e. OpensNot e.1 (B.facts board) (B.facts e.0)) }
         ensures writes_err { IfErr result (λ e. WritesAtMost (rollback_writes (gate (B.facts board).words)) (B.facts board) (B.facts e.0)) }
     {

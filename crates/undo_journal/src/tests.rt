@@ -201,6 +201,45 @@ fn finds_before_where_the_sets_are_abandoned(rt: HostRuntime) -> Result<(), Fail
     Ok(())
 }
 
+// Word 5 after a change of it that is cut. The first pair of the journal, which does not count, is an old one: it
+// names no data word, and holds word 5 as it is.
+fn word_after(alloc: Global, cut: Cut) -> Result<u32, Fail>
+    requires { 1 ≤ cut.write }
+{
+    let mut board = CutBoard::new(alloc)?;
+    board.write(0, 5, &[50])?;
+    board.write(74, 0, &[0xFFFF_FFFF, 50])?;
+    let mut store = opened(board)?;
+    store.arm(cut.write, cut.mask);
+    let result = replace(&mut store, 5, &[7]);
+    let mut board = store.into_board();
+    if result == Err(StoreErr::PowerLost) {
+        light(&mut board)?;
+    }
+    let mut store = opened(board)?;
+    Ok(store.read(5)?)
+}
+
+#[test]
+fn finds_no_bad_journal_after_a_cut_over_an_old_pair(rt: HostRuntime) -> Result<(), Fail> {
+    for write in 1..=5 {
+        for mask in [0x0000, 0xFFFF, 0x0001, 0x0002] {
+            let cut = Cut { write, mask };
+            let want = if write < 4 || write == 4 && mask & 1 == 0 {
+                50
+            } else {
+                7
+            };
+            assert_eq!(rt;
+                word_after(rt.alloc(), cut)?,
+                want,
+                "cut at {write} by {mask}"
+            );
+        }
+    }
+    Ok(())
+}
+
 // A board in working memory, with words at these addresses.
 fn board_with(alloc: Global, words: &[(u16, u32)]) -> Result<RamBoard, Fail> {
     let mut board = RamBoard::new(alloc)?;

@@ -1,14 +1,14 @@
 use Rattle.std.proofs.Common.{◌≡◌, ◌-◌, ◌<◌, suc, true, arith, sym, ap, ◌∙◌, refl, length, ℕ}
 use Rattle.undo_journal.specs.declared.layout.TheConstants.{GATE}
 use Rattle.undo_journal.specs.Undo.{gate}
-use Rattle.undo_journal.proofs.Restore.{put_back_from, put_back-none, undo-shut, turn-place, turn-done, turn-kept, end-done, end-kept}
+use Rattle.undo_journal.specs.UndoLaws.{undo_shut}
+use Rattle.undo_journal.proofs.Restore.{put_back_from, put_back-none, turn-place, turn-done, turn-kept, turn-sound, end-done, end-kept, end-sound}
 use Rattle.undo_journal.proofs.journal.roll_back.Goals as goal
 
 pub returns-then-count-eq0-clause-done : goal.returns-then-count-eq0-clause-done
 returns-then-count-eq0-clause-done g c =
     let m = (g.B.Board.facts c.args.board.now).words in
-    let within : GATE < length m = omega (arith, g.met.B.Board.sized c.args.board.now) in
-    sym (undo-shut m within (c.requires.counts ∙ c.if-count-eq0.true))
+    sym (undo_shut m (c.requires.counts ∙ c.if-count-eq0.true))
 
 pub loop-left-init : goal.loop-left-init
 loop-left-init g c =
@@ -38,7 +38,13 @@ loop-left-preserved g c =
     let next : c.loop-left.left ≡ suc (c.loop-left.left - 1) = omega arith in
     record {
       within = omega arith;
-      steady = record { was_lit = kept.steady.was_lit; lit = light.lit; faults = light.faults ∙ kept.steady.faults; cuts = light.cuts ∙ kept.steady.cuts; due = light.due ∙ kept.steady.due };
+      steady = record {
+        was_lit = kept.steady.was_lit;
+        lit = light.lit;
+        faults = light.faults ∙ kept.steady.faults;
+        cuts = light.cuts ∙ kept.steady.cuts;
+        due = light.due ∙ kept.steady.due;
+      };
       so_far = turn-done m _ c.requires.sound c.loop-left.left kept.so_far (c.loop-left.left - 1) _ next lt c.in_ok-put_back.ensures.done;
       writes = omega (arith, cost.writes, kept.writes);
       compares = cost.compares ∙ kept.compares;
@@ -72,3 +78,24 @@ returns-clause-done g c =
     let within : GATE < length m = omega (arith, g.met.B.Board.sized c.args.board.now) in
     let none : c.loop-left.left ≡ 0 = omega arith in
     end-done m _ c.requires.sound c.loop-left.left c.loop-left.invariant.so_far _ within none c.in_ok-write_word.ensures.done
+
+pub returns-in_err-put_back-clause-sound : goal.returns-in_err-put_back-clause-sound
+returns-in_err-put_back-clause-sound g c =
+    let m = (g.B.Board.facts c.args.board.now).words in
+    let lt : c.loop-left.left - 1 < gate m = omega (arith, c.requires.counts, c.loop-left.invariant.within) in
+    let next : c.loop-left.left ≡ suc (c.loop-left.left - 1) = omega arith in
+    turn-sound m _ c.requires.sound c.loop-left.left c.loop-left.invariant.so_far (c.loop-left.left - 1) _ next lt c.in_err-put_back.ensures.torn
+
+pub returns-in_err-write_word-clause-sound : goal.returns-in_err-write_word-clause-sound
+returns-in_err-write_word-clause-sound g c =
+    let m = (g.B.Board.facts c.args.board.now).words in
+    let within : GATE < length m = omega (arith, g.met.B.Board.sized c.args.board.now) in
+    let none : c.loop-left.left ≡ 0 = omega arith in
+    end-sound m _ c.requires.sound c.loop-left.left c.loop-left.invariant.so_far _ within none c.in_err-write_word.ensures.torn
+
+pub returns-clause-sound : goal.returns-clause-sound
+returns-clause-sound g c =
+    let m = (g.B.Board.facts c.args.board.now).words in
+    let within : GATE < length m = omega (arith, g.met.B.Board.sized c.args.board.now) in
+    let none : c.loop-left.left ≡ 0 = omega arith in
+    end-sound m _ c.requires.sound c.loop-left.left c.loop-left.invariant.so_far _ within none c.in_ok-write_word.ensures.torn

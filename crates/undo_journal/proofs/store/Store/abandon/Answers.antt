@@ -1,18 +1,15 @@
-use Rattle.std.proofs.Common.{◌<◌, length, refl, ap, ◌∙◌, arith}
-use Rattle.undo_journal.specs.declared.layout.TheConstants.{GATE}
+use Rattle.std.proofs.Common.{refl, ap, ◌∙◌}
 use Rattle.undo_journal.specs.Undo.{gate}
-use Rattle.undo_journal.proofs.Restore.{gate-undo}
+use Rattle.undo_journal.specs.UndoLaws.{gate_undone}
 use Rattle.undo_journal.proofs.Standing.{ready-from, held-shut}
 use Rattle.undo_journal.proofs.store.Store.abandon.Goals as goal
 
 pub invariant_of-self-in-Ok : goal.invariant_of-self-in-Ok
 invariant_of-self-in-Ok g c = λ works.
     let words = (g.B.Board.facts c.self.inside.board).words in
-    let within : GATE < length words = omega (arith, g.met.B.Board.sized c.self.inside.board) in
-    held-shut _ 0 (ap gate c.in-Ok.ensures.done ∙ gate-undo words within) refl (c.in-Ok.ensures.light.ok refl).lit
+    held-shut _ 0 (ap gate c.in-Ok.ensures.done ∙ gate_undone words) refl (c.in-Ok.ensures.light.ok refl).lit
 
 pub returns-in-Ok-clause-ready : goal.returns-in-Ok-clause-ready
 returns-in-Ok-clause-ready g c =
     let words = (g.B.Board.facts c.self.inside.board).words in
-    let within : GATE < length words = omega (arith, g.met.B.Board.sized c.self.inside.board) in
-    ready-from _ c.in_default.is (c.in-Ok.ensures.light.ok refl).lit (g.met.B.Board.sized _) (ap gate c.in-Ok.ensures.done ∙ gate-undo words within) refl
+    ready-from _ c.in_default.is (c.in-Ok.ensures.light.ok refl).lit (g.met.B.Board.sized _) (ap gate c.in-Ok.ensures.done ∙ gate_undone words) refl

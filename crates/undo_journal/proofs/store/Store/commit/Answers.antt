@@ -1,11 +1,11 @@
-use Rattle.std.proofs.Common.{◌<◌, List, ℕ, length, refl, ap, ◌∙◌, inr, arith}
+use Rattle.std.proofs.Common.{◌<◌, List, ℕ, length, refl, ap, ◌∙◌, inr, arith, rules}
 use Rattle.std.proofs.Math.Logic.{⊎_map}
 use Rattle.undo_journal.specs.declared.layout.TheConstants.{GATE}
-use Rattle.undo_journal.specs.Undo.{gate, undo, data_words}
+use Rattle.undo_journal.specs.Undo.{gate, undo, data_words, IsSound}
 use Rattle.undo_journal.specs.Memory.{committed, current}
 use Rattle.undo_journal.proofs.Saving.{gate-shut}
 use Rattle.undo_journal.proofs.Standing.{ready-from, held-shut}
-use Rattle.undo_journal.proofs.Lasting.{gate-commits}
+use Rattle.undo_journal.proofs.Lasting.{gate-commits, commit-sound}
 use Rattle.undo_journal.proofs.store.Store.commit.Goals as goal
 
 pub invariant_of-self-in-Ok : goal.invariant_of-self-in-Ok
@@ -41,3 +41,19 @@ returns-in-Err-clause-any_exit g c =
     (λ old. ap (λ (l : List ℕ). data_words (undo l)) old ∙ ap committed c.self.view_is)
     (λ new. (gate-commits words _ within new ∙ ap current c.self.view_is, ap gate new ∙ gate-shut words within))
     c.in-Err.ensures.torn
+
+pub returns-in-Ok-clause-reports : goal.returns-in-Ok-clause-reports
+returns-in-Ok-clause-reports g c =
+    let words = (g.B.Board.facts c.self.inside.board).words in
+    let within : GATE < length words = omega (arith, g.met.B.Board.sized c.self.inside.board) in
+    let sound : IsSound (g.B.Board.facts c.write_word.new.board).words =
+    commit-sound words _ within (c.self.invariant c.in_default.is).sound c.in-Ok.ensures.torn in
+    search rules
+
+pub returns-in-Err-clause-reports : goal.returns-in-Err-clause-reports
+returns-in-Err-clause-reports g c =
+    let words = (g.B.Board.facts c.self.inside.board).words in
+    let within : GATE < length words = omega (arith, g.met.B.Board.sized c.self.inside.board) in
+    let sound : IsSound (g.B.Board.facts c.write_word.new.board).words =
+    commit-sound words _ within (c.self.invariant c.in_default.is).sound c.in-Err.ensures.torn in
+    search rules
