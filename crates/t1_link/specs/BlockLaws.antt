@@ -1,5 +1,6 @@
 -- A block is read again as itself, and what is read as a block is spelled so.
-use Rattle.std.specs.Prelude.{◌≡◌, ◌≢◌, ◌+◌, ◌-◌, ◌≤◌, ◌==◌, ℕ, Bool, true, false, not, ◌||◌, ◌&&◌, nat_lt, nat_le, List, [], ◌∷◌, ◌++◌, length, take, bit_xor, slice_index, slice_range, Option, None, Some, Result, Ok, Err, refl}
+use Rattle.std.specs.Prelude.{◌≡◌, ◌≢◌, ◌+◌, ◌-◌, ◌≤◌, ◌==◌, ℕ, Bool, true, false, not, ◌||◌, ◌&&◌, nat_lt, nat_le, List, [], ◌∷◌, ◌++◌, length, take, bit_xor}
+use Rattle.std.specs.Prelude.{slice_index, slice_range, Option, None, Some, Result, Ok, Err, refl}
 use Rattle.std.specs.Option.{ok_or, option_map}
 use Rattle.std.specs.Int.Bits.{xor_self, xor_assoc, xor_zero_l, xor_zero_r}
 use Rattle.std.proofs.Common.{cond, ⊎_elim, sym, ◌∙◌, ap, subst, arith}
@@ -12,7 +13,8 @@ use Rattle.std.proofs.Math.Seq.{take-append_seam}
 use Rattle.t1_link.specs.declared.block.ErrorKind.TheVariants.{ErrorFree, RedundancyError, OtherError}
 use Rattle.t1_link.specs.declared.block.Fault.{Fault}
 use Rattle.t1_link.specs.declared.block.Fault.TheVariants.{WrongLength, WrongCheck, UnknownBlock}
-use Rattle.t1_link.specs.Blocks.{Block, same, information, receive_ready, resynch_request, resynch_response, ifs_request, ifs_response, field_of, control_byte, exclusive_or, front, frame, bare, size_told, kinds, at_byte, has_wrong_length, heard, IsSpellable}
+use Rattle.t1_link.specs.Blocks.{Block, same, information, receive_ready, resynch_request, resynch_response, ifs_request, ifs_response, field_of, control_byte}
+use Rattle.t1_link.specs.Blocks.{exclusive_or, front, frame, bare, size_told, kinds, at_byte, has_wrong_length, heard, IsSpellable}
 
 -- a number is the same as itself
 pub same-refl : (a : Bool) → same a a ≡ true
@@ -68,6 +70,17 @@ right_length control check field fits =
     let small : nat_lt 254 (length field) ≡ false = le-ltb 254 (length field) fits in
     let equal : (length (0 ∷ control ∷ length field ∷ (field ++ check ∷ [])) == length field + 4) ≡ true = eq-eqb _ _ (omega arith) in
     λ i. (long i || small i) || not (equal i)
+
+-- two numbers whose exclusive-or is 0 are the same
+xor-none : (a b : ℕ) → bit_xor a b ≡ 0 → b ≡ a
+xor-none a b e = sym (xor_zero_l b) ∙ ap (λ (n : ℕ). bit_xor n b) (sym (xor_self a)) ∙ xor_assoc a a b ∙ ap (bit_xor a) e ∙ xor_zero_r a
+
+-- with another check byte it is no block
+pub heard-other_check : (b : Block) (check : ℕ) → IsSpellable b → check ≢ exclusive_or (front b) → heard (front b ++ check ∷ []) ≡ Err WrongCheck
+heard-other_check b check h other =
+    let all : exclusive_or (front b ++ check ∷ []) ≡ bit_xor (exclusive_or (front b)) check = fold-append bit_xor 0 (front b) (check ∷ []) in
+    heard-wrong_check (front b ++ check ∷ []) (right_length (control_byte b) check (field_of b) (length-field b h))
+    (λ none. other (xor-none (exclusive_or (front b)) check (sym all ∙ none)))
 
 right_field : (control check : ℕ) (field : List ℕ)
     → slice_range (0 ∷ control ∷ length field ∷ (field ++ check ∷ [])) 3 (3 + length field) ≡ field

@@ -1,5 +1,6 @@
 -- The blocks of the protocol T=1, what their bytes are and what bytes are (ISO/IEC 7816-3, third edition, clause 11).
-use Rattle.std.specs.Prelude.{◌+◌, ◌≤◌, ◌==◌, ℕ, Bool, true, false, not, ◌||◌, ◌&&◌, nat_lt, nat_le, if◌then◌else◌, List, [], ◌∷◌, ◌++◌, length, fold, bit_xor, slice_index, slice_range, Option, None, Some, Result, Err}
+use Rattle.std.specs.Prelude.{◌+◌, ◌≤◌, ◌==◌, ℕ, Bool, true, false, not, ◌||◌, ◌&&◌, nat_lt, nat_le, if◌then◌else◌, List, [], ◌∷◌, ◌++◌, length, fold, bit_xor}
+use Rattle.std.specs.Prelude.{slice_index, slice_range, Option, None, Some, Result, Err}
 use Rattle.std.specs.Option.{ok_or, option_map}
 use Rattle.t1_link.specs.declared.block.ErrorKind.{ErrorKind}
 use Rattle.t1_link.specs.declared.block.ErrorKind.TheVariants.{ErrorFree, RedundancyError, OtherError}

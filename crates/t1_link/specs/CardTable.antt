@@ -1,4 +1,5 @@
 -- The card's end of T=1: what it holds between blocks, and its reaction to each (ISO/IEC 7816-3, clause 11.6).
+-- Its rows are numbered as in the table of docs/LINK.md.
 use Rattle.std.specs.Prelude.{ℕ, Bool, false, not, List, [], ◌∷◌, ◌++◌, length, take, drop, ◌==◌, ◌&&◌, Option, None, Some, Result, Ok, Err, unwrap_or, is_some}
 use Rattle.t1_link.specs.declared.block.ErrorKind.{ErrorKind}
 use Rattle.t1_link.specs.declared.block.ErrorKind.TheVariants.{ErrorFree, OtherError}

@@ -4,6 +4,7 @@ pub mod CardFields
 pub mod CardRows
 pub mod CardTable
 pub mod Cut
+pub mod ReaderBusy
 pub mod ReaderFields
 pub mod ReaderRows
 pub mod ReaderTable

@@ -22,6 +22,13 @@ reader_of r = record {
 abbrev pub IsSendable : Inside → Type 0
 IsSendable r = length r.command.field ≤ 254
 
+-- a block is to be sent
+abbrev pub IsSend : Next → Type 0
+IsSend (Send block) = Unit {0}
+IsSend (Done answer) = ⊥
+IsSend Unknown = ⊥
+IsSend (Failed failure) = ⊥
+
 -- what the call returns
 abbrev pub next_of : Outcome → Next
 next_of (sends b) = Send (record { items = frame b })

@@ -9,7 +9,8 @@ use Rattle.t1_link.specs.declared.reader_end.Phase.TheVariants.{Idle, Busy, Dead
 use Rattle.t1_link.specs.declared.reader_end.Failure.TheVariants.{LinkLost, BadAnswer}
 use Rattle.t1_link.specs.Blocks.{Block, information, receive_ready, resynch_request, resynch_response, ifs_request, ifs_response, same, told_as}
 use Rattle.t1_link.specs.BlockLaws.{not-not}
-use Rattle.t1_link.specs.ReaderTable.{Reader, advancing, asking, failing, fails, fresh_reader, gives, has_more, last_block, reader_sends, reader_takes, reader_times_out, requesting, requesting_again, sends, trying, turns_answer, turns_block, turns_resynch, unknown}
+use Rattle.t1_link.specs.ReaderTable.{Reader, advancing, asking, failing, fails, fresh_reader, gives, has_more, last_block, reader_sends, reader_takes}
+use Rattle.t1_link.specs.ReaderTable.{reader_times_out, requesting, requesting_again, sends, trying, turns_answer, turns_block, turns_resynch, unknown}
 
 -- a command is sent
 pub reader_sends-idle : (r : Reader) (command : List ℕ) → r.phase ≡ Idle → reader_sends r command ≡ advancing (record r { answer = []; phase = Busy }) command

@@ -1,4 +1,5 @@
 -- The reader's end of T=1: what it holds between blocks, and its reaction to each (ISO/IEC 7816-3, clause 11.6).
+-- Its rows are numbered as in the table of docs/LINK.md.
 use Rattle.std.specs.Prelude.{◌+◌, ◌==◌, ◌||◌, ℕ, Bool, true, false, not, nat_lt, if◌then◌else◌, List, [], ◌∷◌, ◌++◌, length, take, drop, Result, Ok, Err}
 use Rattle.t1_link.specs.declared.block.ErrorKind.{ErrorKind}
 use Rattle.t1_link.specs.declared.block.ErrorKind.TheVariants.{ErrorFree, OtherError}
@@ -135,6 +136,12 @@ ReaderStep r bytes = reader_takes r (heard bytes)
 -- 1. nothing came in time: R-block, other error, a try; or the request for RESYNCH was not answered
 abbrev pub reader_times_out : Reader → Turned
 reader_times_out r = if r.resynchs == 0 then asking r OtherError else requesting_again r
+
+-- a command is in hand
+abbrev pub is_busy : Phase → Bool
+is_busy Idle = false
+is_busy Busy = true
+is_busy Dead = false
 
 -- the link was given up
 abbrev pub is_dead : Phase → Bool

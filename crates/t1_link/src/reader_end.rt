@@ -1,7 +1,8 @@
 ghost use Rattle.std.specs.Prelude.{◌≡◌, ◌≢◌, ◌≤◌, ◌++◌, ◌<◌, ◌↔◌, IsTrue, length, Ok};
 ghost use Rattle.t1_link.specs.Blocks.{field_of};
-ghost use Rattle.t1_link.specs.ReaderTable.{ReaderStep, advancing, asking, failing, fresh_reader, last_block, reader_sends, reader_times_out, requesting, requesting_again, sends, trying, turns_answer, turns_block, turns_information, turns_receive_ready, turns_resynch};
-ghost use Rattle.t1_link.specs.ReaderFields.{next_of};
+ghost use Rattle.t1_link.specs.ReaderTable.{ReaderStep, advancing, asking, failing, fresh_reader, last_block, reader_sends, reader_times_out};
+ghost use Rattle.t1_link.specs.ReaderTable.{requesting, requesting_again, sends, trying, turns_answer, turns_block, turns_information, turns_receive_ready, turns_resynch};
+ghost use Rattle.t1_link.specs.ReaderFields.{IsSend, next_of};
 ghost use Rattle.t1_link.specs.Spoken.{block_of, spoken};
 
 use crate::block::{Block, BlockBytes, ErrorKind, FIELD_LIMIT, Fault};
@@ -110,6 +111,9 @@ impl ReaderEnd {
         requires size { length command.now ≤ 261 }
         ensures state { self.new ≡ (reader_sends self.old command.now).reader }
         ensures next { result ≡ next_of (reader_sends self.old command.now).outcome }
+
+        // The command is in hand exactly where a block is to be sent.
+        ensures busy { IsSend result ↔ (self.new.phase ≡ Phase.Busy) }
     {
         if let Phase::Dead = self.phase {
             return Next::Failed(Failure::LinkLost);
@@ -126,6 +130,9 @@ impl ReaderEnd {
         requires { self.old.phase ≡ Phase.Busy }
         ensures state { self.new ≡ (ReaderStep self.old got.now).reader }
         ensures next { result ≡ next_of (ReaderStep self.old got.now).outcome }
+
+        // The command stays in hand exactly where a block is to be sent.
+        ensures busy { IsSend result ↔ (self.new.phase ≡ Phase.Busy) }
     {
         let heard = Block::parse(got);
         if self.resynchs > 0 {
@@ -142,6 +149,9 @@ impl ReaderEnd {
         requires { self.old.phase ≡ Phase.Busy }
         ensures state { self.new ≡ (reader_times_out self.old).reader }
         ensures next { result ≡ next_of (reader_times_out self.old).outcome }
+
+        // The command stays in hand exactly where a block is to be sent.
+        ensures busy { IsSend result ↔ (self.new.phase ≡ Phase.Busy) }
     {
         if self.resynchs == 0 {
             self.ask(ErrorKind::OtherError)

@@ -1,0 +1,98 @@
+-- The reader's end has a command in hand exactly where it says that a block is to be sent.
+use Rattle.std.specs.Prelude.{◌≡◌, ◌↔◌, ◌||◌, ◌+◌, Bool, true, false, not, nat_lt, if◌then◌else◌, List, [], ◌++◌, length, ℕ, Result, Ok, Err, refl}
+use Rattle.std.proofs.Common.{ap, subst, sym}
+use Rattle.t1_link.specs.declared.block.ErrorKind.{ErrorKind}
+use Rattle.t1_link.specs.declared.block.ErrorKind.TheVariants.{ErrorFree, OtherError}
+use Rattle.t1_link.specs.declared.block.Fault.{Fault}
+use Rattle.t1_link.specs.declared.reader_end.Phase.{Phase}
+use Rattle.t1_link.specs.declared.reader_end.Phase.TheVariants.{Idle, Busy, Dead}
+use Rattle.t1_link.specs.declared.reader_end.Failure.TheVariants.{BadAnswer, LinkLost}
+use Rattle.t1_link.specs.Blocks.{Block, information, receive_ready, resynch_request, resynch_response, ifs_request, ifs_response, same, told_as}
+use Rattle.t1_link.specs.declared.reader_end.Next.{Next}
+use Rattle.t1_link.specs.ReaderFields.{IsSend, next_of}
+use Rattle.t1_link.specs.ReaderTable.{Outcome, Reader, Turned, advancing, asking, failing, fails, gives, has_more, is_busy, last_block, requesting, requesting_again}
+use Rattle.t1_link.specs.ReaderTable.{sends, trying, turns_answer, turns_block, turns_information, turns_receive_ready, turns_resynch, unknown}
+
+-- a block is to be sent
+abbrev pub is_block : Outcome → Bool
+is_block (sends b) = true
+is_block (gives answer) = false
+is_block unknown = false
+is_block (fails failure) = false
+
+abbrev pub Agrees : Turned → Type 0
+Agrees t = is_block t.outcome ≡ is_busy t.reader.phase
+
+agrees-if : (test : Bool) (one other : Turned) → Agrees one → Agrees other → Agrees (if test then one else other)
+agrees-if true one other a b = a
+agrees-if false one other a b = b
+
+module _ (r : Reader) (busy : r.phase ≡ Busy) where
+  in_hand : true ≡ is_busy r.phase
+  in_hand = sym (ap is_busy busy)
+
+  agrees-trying : (b : Block) → Agrees (trying r b)
+  agrees-trying b = agrees-if (nat_lt r.tries 3) (record { reader = record r { tries = r.tries + 1 }; outcome = sends b }) (requesting r) in_hand in_hand
+
+  agrees-asking : (error : ErrorKind) → Agrees (asking r error)
+  agrees-asking error = agrees-trying (receive_ready r.nr error)
+
+  agrees-receive_ready : (number : Bool) → Agrees (turns_receive_ready r number)
+  agrees-receive_ready number = agrees-if (same number (not r.ns)) (trying r (last_block r)) (if has_more r then advancing r r.rest else asking r OtherError)
+      (agrees-trying (last_block r))
+      (agrees-if (has_more r) (advancing r r.rest) (asking r OtherError) in_hand (agrees-asking OtherError))
+
+  agrees-answer : (more : Bool) (bytes : List ℕ) → Agrees (turns_answer r more bytes)
+  agrees-answer more bytes =
+      let joined : Turned = record { reader = record r { nr = not r.nr; tries = 0; answer = bytes }; outcome = sends (receive_ready (not r.nr) ErrorFree) } in
+      let done : Turned = record { reader = record r { nr = not r.nr; answer = []; phase = Idle }; outcome = gives bytes } in
+      let whole : Turned = if nat_lt (length bytes) 2 then failing r BadAnswer else done in
+      agrees-if (nat_lt 258 (length bytes)) (failing r BadAnswer) (if more then joined else whole) refl
+      (agrees-if more joined whole in_hand (agrees-if (nat_lt (length bytes) 2) (failing r BadAnswer) done refl refl))
+
+  agrees-information : (number more : Bool) (field : List ℕ) → Agrees (turns_information r number more field)
+  agrees-information number more field = agrees-if (has_more r || not (same number r.nr)) (asking r OtherError) (turns_answer r more (r.answer ++ field))
+      (agrees-asking OtherError) (agrees-answer more (r.answer ++ field))
+
+  pub agrees-block : (h : Result Block Fault) → Agrees (turns_block r h)
+  unfolding turns_block
+  agrees-block (Err fault) = agrees-asking (told_as fault)
+  agrees-block (Ok resynch_request) = agrees-asking OtherError
+  agrees-block (Ok resynch_response) = agrees-asking OtherError
+  agrees-block (Ok (ifs_request size)) = agrees-asking OtherError
+  agrees-block (Ok (ifs_response size)) = agrees-asking OtherError
+  agrees-block (Ok (receive_ready number error)) = agrees-receive_ready number
+  agrees-block (Ok (information number more field)) = agrees-information number more field
+
+  agrees-again : Agrees (requesting_again r)
+  agrees-again = agrees-if (nat_lt r.resynchs 3) (requesting r) (failing r LinkLost) in_hand refl
+
+  pub agrees-resynch : (h : Result Block Fault) → Agrees (turns_resynch r h)
+  unfolding turns_resynch
+  agrees-resynch (Err fault) = agrees-again
+  agrees-resynch (Ok resynch_request) = agrees-again
+  agrees-resynch (Ok resynch_response) = refl
+  agrees-resynch (Ok (ifs_request size)) = agrees-again
+  agrees-resynch (Ok (ifs_response size)) = agrees-again
+  agrees-resynch (Ok (receive_ready number error)) = agrees-again
+  agrees-resynch (Ok (information number more field)) = agrees-again
+
+-- in the words of the clauses
+pub send-in_hand : (t : Turned) (next : Next) (r : Reader) → next ≡ next_of t.outcome → r ≡ t.reader → Agrees t → IsSend next ↔ (r.phase ≡ Busy)
+send-in_hand t next r says is agrees =
+    subst (λ (n : Next). IsSend n ↔ (r.phase ≡ Busy)) (sym says) (subst (λ (x : Reader). IsSend (next_of t.outcome) ↔ (x.phase ≡ Busy)) (sym is)
+    (by t.outcome t.reader.phase agrees))
+  where
+    by : (o : Outcome) (p : Phase) → is_block o ≡ is_busy p → IsSend (next_of o) ↔ (p ≡ Busy)
+    by (sends b) Idle e = absurd cc
+    by (sends b) Busy e = (λ _. refl, λ _. tt)
+    by (sends b) Dead e = absurd cc
+    by (gives answer) Idle e = (λ x. absurd x, λ busy. absurd cc)
+    by (gives answer) Busy e = absurd cc
+    by (gives answer) Dead e = (λ x. absurd x, λ busy. absurd cc)
+    by unknown Idle e = (λ x. absurd x, λ busy. absurd cc)
+    by unknown Busy e = absurd cc
+    by unknown Dead e = (λ x. absurd x, λ busy. absurd cc)
+    by (fails failure) Idle e = (λ x. absurd x, λ busy. absurd cc)
+    by (fails failure) Busy e = absurd cc
+    by (fails failure) Dead e = (λ x. absurd x, λ busy. absurd cc)
