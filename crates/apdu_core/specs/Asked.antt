@@ -1,12 +1,14 @@
 -- What the bytes of a command ask for, or the first refusal: class, instruction, P1 and P2, and then lengths.
-use Rattle.std.specs.Prelude.{ℕ, ◌+◌, ◌-◌, ◌*◌, ◌==◌, Bool, not, ◌&&◌, ◌||◌, nat_le, is_some, List, [], ◌∷◌, length, find, slice_index, Option, Some, None, unwrap_or, Result, Ok, Err, if◌then◌else◌}
+use Rattle.std.specs.Prelude.{ℕ, ◌+◌, ◌-◌, ◌*◌, ◌==◌, nat_le, Bool, not, ◌&&◌, ◌||◌, if◌then◌else◌}
+use Rattle.std.specs.Prelude.{List, [], ◌∷◌, length, find, slice_index, Option, Some, None, is_some, unwrap_or, Result, Ok, Err}
 use Rattle.card_rules.specs.declared.status.Sw.{Sw}
 use Rattle.card_rules.specs.declared.status.TheConstants.Sw.{WRONG_LENGTH, WRONG_PARAMETERS, UNKNOWN_INSTRUCTION, UNKNOWN_CLASS}
 use Rattle.apdu_core.specs.declared.commands.Selector.{Selector}
 use Rattle.apdu_core.specs.declared.commands.Selector.TheVariants.{MasterFile, Identifier}
+use Rattle.apdu_core.specs.declared.commands.Target.{Target}
 use Rattle.apdu_core.specs.declared.commands.Target.TheVariants.{Current, Short}
 use Rattle.apdu_core.specs.Bodies.{Body, body_of}
-use Rattle.apdu_core.specs.Requests.{Request, select, read_binary}
+use Rattle.apdu_core.specs.Requests.{Request, select, read_binary, update_binary}
 
 -- a row of the table of commands
 pub record Row : Type 0 where
@@ -38,25 +40,45 @@ select_row = record {
   meaning = λ p1 p2 body. select (selector_of body.sent) body.expected;
 }
 
--- P1 with bit 8 set holds a short identifier in its bits 5 to 1, and then P2 is the offset; else P1 P2 is the offset
+-- P1 of a binary command with bit 8 set holds a short identifier in its bits 5 to 1, and then P2 is the offset; else P1 P2 is the offset
 abbrev pub has_short : ℕ → Bool
 has_short p1 = nat_le 0x80 p1
 
--- READ BINARY: a short identifier is 1 to 30; nothing is sent; Le must stand
+-- whether P1 and P2 are a place in an elementary file: a short identifier is 1 to 30
+abbrev pub is_place : ℕ → ℕ → Bool
+is_place p1 p2 = not (has_short p1) || (nat_le 1 (p1 - 0x80) && nat_le (p1 - 0x80) 30)
+
+-- the elementary file that P1 names
+abbrev pub named_target : ℕ → Target
+named_target p1 = if has_short p1 then Short (p1 - 0x80) else Current
+
+-- the offset that P1 and P2 name
+abbrev pub named_offset : ℕ → ℕ → ℕ
+named_offset p1 p2 = if has_short p1 then p2 else two_bytes p1 p2
+
+-- READ BINARY: nothing is sent; Le must stand
 abbrev pub read_binary_row : Row
 read_binary_row = record {
   class = 0x00;
   instruction = 0xB0;
-  parameters = λ p1 p2. not (has_short p1) || (nat_le 1 (p1 - 0x80) && nat_le (p1 - 0x80) 30);
+  parameters = is_place;
   lengths = λ p1 p2 sent le. (sent == 0) && le;
-  meaning = λ p1 p2 body.
-      if has_short p1 then read_binary (Short (p1 - 0x80)) p2 (unwrap_or body.expected 0)
-      else read_binary Current (two_bytes p1 p2) (unwrap_or body.expected 0);
+  meaning = λ p1 p2 body. read_binary (named_target p1) (named_offset p1 p2) (unwrap_or body.expected 0);
+}
+
+-- UPDATE BINARY: 1 to 255 bytes are sent; Le must not stand
+abbrev pub update_binary_row : Row
+update_binary_row = record {
+  class = 0x00;
+  instruction = 0xD6;
+  parameters = is_place;
+  lengths = λ p1 p2 sent le. nat_le 1 sent && nat_le sent 255 && not le;
+  meaning = λ p1 p2 body. update_binary (named_target p1) (named_offset p1 p2) body.sent;
 }
 
 -- the commands that are built
 abbrev pub command_table : List Row
-command_table = select_row ∷ read_binary_row ∷ []
+command_table = select_row ∷ read_binary_row ∷ update_binary_row ∷ []
 
 -- the row of an instruction under its class
 abbrev pub row_of : ℕ → ℕ → Option Row

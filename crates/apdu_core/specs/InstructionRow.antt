@@ -1,8 +1,9 @@
-use Rattle.apdu_core.specs.Asked.{Row, select_row, read_binary_row}
+use Rattle.apdu_core.specs.Asked.{Row, select_row, read_binary_row, update_binary_row}
 use Rattle.apdu_core.specs.declared.commands.Instruction.{Instruction}
-use Rattle.apdu_core.specs.declared.commands.Instruction.TheVariants.{Select, ReadBinary}
+use Rattle.apdu_core.specs.declared.commands.Instruction.TheVariants.{Select, ReadBinary, UpdateBinary}
 
 -- the row of an instruction
 abbrev pub row_for : Instruction → Row
 row_for Select = select_row
 row_for ReadBinary = read_binary_row
+row_for UpdateBinary = update_binary_row

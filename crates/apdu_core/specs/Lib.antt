@@ -1,5 +1,6 @@
 pub mod Bodies
 pub mod BodyView
 pub mod Requests
+pub mod Ranges
 pub mod Asked
 pub mod InstructionRow

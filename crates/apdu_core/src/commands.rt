@@ -1,5 +1,6 @@
-ghost use Rattle.std.specs.Prelude.{◌≡◌, ◌+◌, ◌*◌, Some, option_map};
-ghost use Rattle.apdu_core.specs.Asked.{asked, asked_by_row, select_row, read_binary_row, row_of, is_class};
+ghost use Rattle.std.specs.Prelude.{◌≡◌, ◌≤◌, Some, None, option_map, if◌then◌else◌, IfOk, IfSome};
+ghost use Rattle.apdu_core.specs.Asked.{asked, asked_by_row, select_row, read_binary_row, update_binary_row, row_of, is_class, is_place, named_target, named_offset};
+ghost use Rattle.apdu_core.specs.Ranges.{IsTarget, IsInRange};
 ghost use Rattle.apdu_core.specs.Requests.{Gives};
 
 use crate::form::CommandBody;
@@ -26,7 +27,7 @@ pub enum Target {
 
 /// A command as a value. `expected` is its Le byte: how many bytes of data are wanted, 0 for all that there are.
 #[derive(Clone, Copy, Debug, PartialEq, Eq)]
-pub enum Command {
+pub enum Command<'a> {
     /// SELECT, with no data in return.
     Select {
         selector: Selector,
@@ -38,6 +39,19 @@ pub enum Command {
         offset: u16,
         expected: u8,
     },
+    /// UPDATE BINARY (ISO/IEC 7816-4, 11.3.5): 1 to 255 bytes, written from an offset in bytes on, 0 to 32,767.
+    UpdateBinary {
+        target: Target,
+        offset: u16,
+        bytes: &'a [u8],
+    },
+}
+
+// Where a binary command begins to read or write.
+#[derive(Clone, Copy)]
+struct Place {
+    target: Target,
+    offset: u16,
 }
 
 // An instruction that is built.
@@ -45,13 +59,15 @@ pub enum Command {
 enum Instruction {
     Select,
     ReadBinary,
+    UpdateBinary,
 }
 
-impl Command {
+impl<'a> Command<'a> {
     /// Reads the bytes of a command. The status word of a refusal is the first in this order: too few bytes for a
     /// header, class, instruction, P1 and P2, and then lengths.
-    pub fn parse(bytes: &[u8]) -> Result<Command, Sw>
-        ensures { Gives result (asked bytes.now) }
+    pub fn parse(bytes: &'a [u8]) -> Result<Command<'a>, Sw>
+        ensures asked { Gives result (asked bytes.now) }
+        ensures ranges { IfOk result IsInRange }
     {
         let [class, instruction, p1, p2, rest @ ..] = bytes else {
             return Err(Sw::WRONG_LENGTH);
@@ -62,11 +78,13 @@ impl Command {
         match Instruction::of(*class, *instruction).ok_or(Sw::UNKNOWN_INSTRUCTION)? {
             Instruction::Select => Command::select(*p1, *p2, rest),
             Instruction::ReadBinary => Command::read_binary(*p1, *p2, rest),
+            Instruction::UpdateBinary => Command::update_binary(*p1, *p2, rest),
         }
     }
 
-    fn select(p1: u8, p2: u8, rest: &[u8]) -> Result<Command, Sw>
-        ensures { Gives result (asked_by_row (Some select_row) p1 p2 rest.now) }
+    fn select(p1: u8, p2: u8, rest: &'a [u8]) -> Result<Command<'a>, Sw>
+        ensures asked { Gives result (asked_by_row (Some select_row) p1 p2 rest.now) }
+        ensures ranges { IfOk result IsInRange }
     {
         if p1 != 0x00 || p2 != 0x0C {
             return Err(Sw::WRONG_PARAMETERS);
@@ -83,22 +101,55 @@ impl Command {
         })
     }
 
-    fn read_binary(p1: u8, p2: u8, rest: &[u8]) -> Result<Command, Sw>
-        ensures { Gives result (asked_by_row (Some read_binary_row) p1 p2 rest.now) }
+    fn read_binary(p1: u8, p2: u8, rest: &'a [u8]) -> Result<Command<'a>, Sw>
+        ensures asked { Gives result (asked_by_row (Some read_binary_row) p1 p2 rest.now) }
+        ensures ranges { IfOk result IsInRange }
     {
-        let (target, offset) = match p1 {
-            0x00..=0x7F => (Target::Current, BigEndian::read_u16(&[p1, p2])),
-            0x81..=0x9E => (Target::Short(p1 - 0x80), p2 as u16),
-            _ => return Err(Sw::WRONG_PARAMETERS),
-        };
+        let place = Place::of(p1, p2).ok_or(Sw::WRONG_PARAMETERS)?;
         let body = CommandBody::parse(rest).ok_or(Sw::WRONG_LENGTH)?;
         match body.expected {
             Some(expected) if body.sent.is_empty() => Ok(Command::ReadBinary {
-                target,
-                offset,
+                target: place.target,
+                offset: place.offset,
                 expected,
             }),
             _ => Err(Sw::WRONG_LENGTH),
+        }
+    }
+
+    fn update_binary(p1: u8, p2: u8, rest: &'a [u8]) -> Result<Command<'a>, Sw>
+        ensures asked { Gives result (asked_by_row (Some update_binary_row) p1 p2 rest.now) }
+        ensures ranges { IfOk result IsInRange }
+    {
+        let place = Place::of(p1, p2).ok_or(Sw::WRONG_PARAMETERS)?;
+        let body = CommandBody::parse(rest).ok_or(Sw::WRONG_LENGTH)?;
+        match body.expected {
+            None if !body.sent.is_empty() => Ok(Command::UpdateBinary {
+                target: place.target,
+                offset: place.offset,
+                bytes: body.sent,
+            }),
+            _ => Err(Sw::WRONG_LENGTH),
+        }
+    }
+}
+
+impl Place {
+    // Reads P1 and P2 of a binary command.
+    fn of(p1: u8, p2: u8) -> Option<Place>
+        ensures named { result ≡ (if is_place p1 p2 then Some (record { target = named_target p1; offset = named_offset p1 p2 }) else None) }
+        ensures ranges { IfSome result (λ place. IsTarget place.target × (place.offset ≤ 32767)) }
+    {
+        match p1 {
+            0x00..=0x7F => Some(Place {
+                target: Target::Current,
+                offset: BigEndian::read_u16(&[p1, p2]),
+            }),
+            0x81..=0x9E => Some(Place {
+                target: Target::Short(p1 - 0x80),
+                offset: p2 as u16,
+            }),
+            _ => None,
         }
     }
 }
@@ -116,6 +167,8 @@ impl Instruction {
             Some(Instruction::Select)
         } else if instruction == 0xB0 {
             Some(Instruction::ReadBinary)
+        } else if instruction == 0xD6 {
+            Some(Instruction::UpdateBinary)
         } else {
             None
         }

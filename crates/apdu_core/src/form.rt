@@ -1,5 +1,5 @@
 // The bytes after the header of a short command.
-ghost use Rattle.std.specs.Prelude.{◌≡◌, ◌≢◌, ◌∷◌, [], option_map};
+ghost use Rattle.std.specs.Prelude.{◌≡◌, ◌≢◌, ◌≤◌, ◌∷◌, [], length, option_map, IfSome};
 ghost use Rattle.apdu_core.specs.Bodies.{body_of};
 ghost use Rattle.apdu_core.specs.BodyView.{body_view};
 
@@ -13,7 +13,8 @@ pub(crate) struct CommandBody<'a> {
 impl<'a> CommandBody<'a> {
     /// Reads the bytes after a header, where they have one of the four forms.
     pub fn parse(bytes: &'a [u8]) -> Option<CommandBody<'a>>
-        ensures { option_map body_view result ≡ body_of bytes.now }
+        ensures form { option_map body_view result ≡ body_of bytes.now }
+        ensures short { IfSome result (λ body. length body.sent.now ≤ 255) }
     {
         match bytes {
             [] => Some(CommandBody {
@@ -31,7 +32,8 @@ impl<'a> CommandBody<'a> {
     // The forms that begin with Lc.
     fn with_data(lc: u8, rest: &'a [u8]) -> Option<CommandBody<'a>>
         requires { rest.now ≢ [] }
-        ensures { option_map body_view result ≡ body_of (lc ∷ rest.now) }
+        ensures form { option_map body_view result ≡ body_of (lc ∷ rest.now) }
+        ensures short { IfSome result (λ body. length body.sent.now ≤ 255) }
     {
         let sent_length = lc as usize;
         if sent_length == 0 {

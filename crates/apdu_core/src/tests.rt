@@ -1,6 +1,6 @@
 use crate::{Command, Selector, Sw, Target};
 
-const fn read(target: Target, offset: u16, expected: u8) -> Command {
+const fn read(target: Target, offset: u16, expected: u8) -> Command<'static> {
     Command::ReadBinary {
         target,
         offset,
@@ -8,7 +8,15 @@ const fn read(target: Target, offset: u16, expected: u8) -> Command {
     }
 }
 
-const fn select(selector: Selector, expected: Option<u8>) -> Command {
+const fn update(target: Target, offset: u16, bytes: &[u8]) -> Command<'_> {
+    Command::UpdateBinary {
+        target,
+        offset,
+        bytes,
+    }
+}
+
+const fn select(selector: Selector, expected: Option<u8>) -> Command<'static> {
     Command::Select { selector, expected }
 }
 
@@ -71,4 +79,62 @@ fn reads_commands(rt: HostRuntime) {
     ] {
         assert_eq!(rt; Command::parse(bytes), want, "at {bytes:?}");
     }
+}
+
+// UPDATE BINARY: P1 and P2 as of READ BINARY, 1 to 255 bytes, and no Le; each refusal in its order.
+#[test]
+fn reads_updates(rt: HostRuntime) {
+    for (bytes, want) in [
+        ([0x00, 0xD6, 0x00].as_slice(), Err(Sw(0x6700))),
+        (&[0x01, 0xD6, 0x80, 0x00], Err(Sw(0x6E00))),
+        (&[0x80, 0xD6, 0x00, 0x00, 0x01, 0xAA], Err(Sw(0x6D00))),
+        (&[0x00, 0xD7, 0x00, 0x00, 0x01, 0xAA], Err(Sw(0x6D00))),
+        (&[0x00, 0xD6, 0x80, 0x00, 0x01, 0xAA], Err(Sw(0x6A86))),
+        (&[0x00, 0xD6, 0x9F, 0x00, 0x01, 0xAA], Err(Sw(0x6A86))),
+        (&[0x00, 0xD6, 0xA1, 0x00, 0x01, 0xAA], Err(Sw(0x6A86))),
+        (&[0x00, 0xD6, 0xC1, 0x00, 0x01, 0xAA], Err(Sw(0x6A86))),
+        (&[0x00, 0xD6, 0x9F, 0x00], Err(Sw(0x6A86))),
+        (&[0x00, 0xD6, 0x00, 0x00], Err(Sw(0x6700))),
+        (&[0x00, 0xD6, 0x00, 0x00, 0x01], Err(Sw(0x6700))),
+        (&[0x00, 0xD6, 0x00, 0x00, 0x00], Err(Sw(0x6700))),
+        (&[0x00, 0xD6, 0x00, 0x00, 0x01, 0xAA, 0x01], Err(Sw(0x6700))),
+        (&[0x00, 0xD6, 0x00, 0x00, 0x01, 0xAA, 0x00], Err(Sw(0x6700))),
+        (&[0x00, 0xD6, 0x00, 0x00, 0x00, 0xAA], Err(Sw(0x6700))),
+        (&[0x00, 0xD6, 0x00, 0x00, 0x02, 0xAA], Err(Sw(0x6700))),
+        (
+            &[0x00, 0xD6, 0x00, 0x00, 0x01, 0xAA, 0xBB, 0xCC],
+            Err(Sw(0x6700)),
+        ),
+        (
+            &[0x00, 0xD6, 0x00, 0x01, 0x01, 0xAA],
+            Ok(update(Target::Current, 1, &[0xAA])),
+        ),
+        (
+            &[0x00, 0xD6, 0x7F, 0xFE, 0x03, 0x00, 0xFF, 0x01],
+            Ok(update(Target::Current, 32_766, &[0x00, 0xFF, 0x01])),
+        ),
+        (
+            &[0x00, 0xD6, 0x81, 0x00, 0x02, 0x12, 0x34],
+            Ok(update(Target::Short(1), 0, &[0x12, 0x34])),
+        ),
+        (
+            &[0x00, 0xD6, 0x9E, 0xFF, 0x01, 0x00],
+            Ok(update(Target::Short(30), 255, &[0x00])),
+        ),
+    ] {
+        assert_eq!(rt; Command::parse(bytes), want, "at {bytes:?}");
+    }
+}
+
+// The most bytes that an UPDATE BINARY sends, then with Le, and with two bytes more than Lc says.
+#[test]
+fn reads_the_longest_update(rt: HostRuntime) {
+    let mut longest = [0xA5; 262];
+    longest[..5].copy_from_slice(&[0x00, 0xD6, 0x7F, 0xFF, 0xFF]);
+    assert_eq!(rt;
+        Command::parse(&longest[..260]),
+        Ok(update(Target::Current, 32_767, &[0xA5; 255]))
+    );
+    assert_eq!(rt; Command::parse(&longest[..261]), Err(Sw(0x6700)));
+    assert_eq!(rt; Command::parse(&longest), Err(Sw(0x6700)));
 }

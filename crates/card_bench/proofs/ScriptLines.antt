@@ -1,5 +1,7 @@
 -- The lines of a script, as they are read one by one.
-use Rattle.std.proofs.Common.{◌≡◌, ◌<◌, ◌≤◌, ◌+◌, ◌-◌, ◌==◌, ◌&&◌, IfSome, ℕ, Bool, true, false, true≢false, cond, nat_lt, List, [], ◌∷◌, ◌++◌, length, take, Option, Some, None, is_some, slice_index, refl, sym, ◌∙◌, ap, ap₂, subst, arith, append_assoc, append-nil, length-append, length-take, if◌then◌else◌}
+use Rattle.std.proofs.Common.{◌≡◌, ◌<◌, ◌≤◌, ◌+◌, ◌-◌, ◌==◌, ◌&&◌, IfSome, ℕ, Bool, true, false, true≢false, cond, nat_lt, List, [], ◌∷◌, ◌++◌, length, take, Option}
+use Rattle.std.proofs.Common.{Some, None, is_some, slice_index, refl, sym, ◌∙◌, ap, ap₂, subst, arith, append_assoc, append-nil, length-append, length-take}
+use Rattle.std.proofs.Common.{if◌then◌else◌}
 use Rattle.std.specs.List.{slice_split, onto_first}
 use Rattle.std.specs.Str.Lines.{lines, lines_of_parts, strip_carriage_return}
 use Rattle.std.proofs.lemmas.List.Splits.{slice_split_none, slice_split_at, slice_split-cons_no}
@@ -148,7 +150,8 @@ module _ (script rest rest' line : List ℕ) (n taken : ℕ) (run : Runs script 
     where
       all_orders : (l : List ℕ) → is_some (order_of l) ≡ true → lines script ≡ run.done ++ (if length l == 0 then [] else l ∷ []) → are_orders (lines script)
       all_orders [] some all = subst are_orders (sym (all ∙ append-nil run.done)) run.orders
-      all_orders (b ∷ l) some all = subst are_orders (sym (all ∙ ap (λ (e : Bool). run.done ++ cond e [] ((b ∷ l) ∷ [])) (some_bytes b l))) (are_orders-more run.done (b ∷ l) run.orders some)
+      all_orders (b ∷ l) some all = subst are_orders (sym (all ∙ ap (λ (e : Bool). run.done ++ cond e [] ((b ∷ l) ∷ [])) (some_bytes b l)))
+          (are_orders-more run.done (b ∷ l) run.orders some)
 
 -- a line that ends with a line feed
 pub goes_on : (first old new : Option (List ℕ)) (n taken taken' : ℕ) (line : List ℕ) → HasRun first old n taken → TakesLine old new line LineFeed

@@ -3,3 +3,10 @@ pub mod Orders
 pub mod Faults
 pub mod Scripts
 pub mod Runs
+pub mod Worlds
+pub mod WorldLaw
+pub mod WorldRepairs
+pub mod TreeMachine
+pub mod Exchanges
+pub mod Lines
+pub mod Benches

@@ -3,7 +3,9 @@ use Rattle.std.specs.Prelude.{◌≡◌, ℕ, List, []}
 use Rattle.nvm_board.specs.Facts.{Steady, GoesDark, Fails}
 use Rattle.t1_link.specs.CardTable.{Link, LinkStep, Taken, Reaction, replies, runs, answers, bytes_of}
 use Rattle.card_core.specs.declared.condition.Condition.TheVariants.{Working, Failed, Dark}
+use Rattle.card_core.specs.Cards.{Card}
 use Rattle.card_core.specs.Sessions.{Session}
+use Rattle.card_core.specs.Stages.{IsStage}
 use Rattle.card_core.specs.Steps.{Outcome, answer_bytes, carried_out}
 use Rattle.card_core.specs.Running.{Running, card_found, memory_failure}
 
@@ -35,11 +37,22 @@ IsRun (runs command) = Unit {0}
 abbrev pub machine : Powered → List ℕ → Outcome
 machine old command = carried_out (card_found old.card) old.card.session command
 
--- The reply is the link's, over one step of the tree machine where a command is to run: link and session go on as these
--- do, and the board had neither cut nor fault.
+-- the card after a reaction
+abbrev pub card_by : Card → Reaction → (List ℕ → Card) → Card
+card_by card (replies block) card_to = card
+card_by card (runs command) card_to = card_to command
+
+-- a card that is a stage of the command that a reaction runs, or the same card where none runs
+abbrev pub IsBlockStage : Powered → Reaction → Card → Type 0
+IsBlockStage old (replies block) card = card ≡ card_found old.card
+IsBlockStage old (runs command) card = IsStage (card_found old.card) old.card.session command card
+
+-- The reply is the link's, over one step of the tree machine where a command is to run: card, session and link go on as
+-- these do, and the board had neither cut nor fault.
 pub record Replies (old : Powered) (got : List ℕ) (new : Powered) (out : List ℕ) : Type 0 where
   pub power : Steady old.card.facts new.card.facts
   pub condition : new.card.condition ≡ Working
+  pub card : card_found new.card ≡ card_by (card_found old.card) (LinkStep old.link got).reaction (λ command. (machine old command).card)
   pub session : new.card.session ≡ session_by old.card.session (LinkStep old.link got).reaction (λ command. (machine old command).session)
   pub link : new.link ≡ (block_answered old.link got (λ command. answer_bytes (machine old command).response)).link
   pub block : out ≡ bytes_of (block_answered old.link got (λ command. answer_bytes (machine old command).response)).reaction

@@ -1,17 +1,21 @@
-// The bench with its board, and with the reader's end and the card while power is on.
-ghost use Rattle.std.specs.Prelude.{◌≤◌, length};
+// The bench: a board, the line, and with power on the card and the reader's end.
+ghost use Rattle.std.specs.Prelude.{◌≡◌, ◌≢◌, ◌≤◌, ℕ, None, length};
+ghost use Rattle.std.specs.Option.{ForSome};
+ghost use Rattle.t1_link.specs.declared.reader_end.Phase.TheVariants.{Busy};
 ghost use Rattle.card_bench.specs.Orders.{IsSized};
+ghost use Rattle.card_bench.specs.Benches.{ComesTo};
+ghost use Rattle.card_bench.specs.Exchanges.{BlockPrints, Commands};
+ghost use Rattle.card_bench.specs.Lines.{line_after};
 
+use crate::exchange::{Ending, LINE_BLOCKS, exchange};
+use crate::line::Line;
 use crate::order::{GivenBytes, Order};
 use crate::powered::Powered;
 use card_core::StartFault;
-use nvm_board::{Board, Socket};
-use t1_link::{BlockBytes, Next, ReaderEnd};
+use nvm_board::{Armed, Board};
+use t1_link::{BlockBytes, ReaderEnd};
 
-/// The most blocks that a command puts on the line, in both directions together.
-const LINE_BLOCKS: u16 = 1000;
-
-/// What a line prints.
+/// What a line of a script prints.
 #[derive(Drop)]
 pub(crate) enum Printed {
     Nothing,
@@ -31,55 +35,85 @@ pub(crate) enum Printed {
 #[derive(Drop)]
 pub(crate) struct Desk<B: Board> {
     powered: Powered<B>,
-    reader: ReaderEnd,
-    /// Whether the two ends may have parted: no command is sent any more.
-    shut: bool,
+    /// The reader's end, until the two ends may have parted: no command is sent any more then.
+    reader: Option<ReaderEnd>,
+    ghost idle: { ForSome reader (λ r. r.phase ≢ Busy) },
 }
 
-/// The bench: a board, and the desk while power is on.
+/// A board with power off, or the desk.
 #[derive(Drop)]
-pub(crate) enum Bench<B: Socket> {
+pub(crate) enum Power<B: Armed> {
     Off(B),
     On(Desk<B>),
 }
 
+/// The bench. What is pending on the line outlives power.
+#[derive(Drop)]
+pub(crate) struct Bench<B: Armed> {
+    power: Power<B>,
+    pub line: Line,
+}
+
 /// The bench after a line, and what the line prints.
 #[derive(Drop)]
-pub(crate) struct Performed<B: Socket> {
+pub(crate) struct Performed<B: Armed> {
     pub bench: Bench<B>,
     pub printed: Printed,
 }
 
-impl<B: Socket> Bench<B> {
-    /// Does what a line asks for.
-    pub(crate) fn perform(self, order: Order) -> Performed<B>
-        requires { IsSized order }
+impl<B: Armed> Bench<B> {
+    /// The bench with power off, and with a line on which every block arrives as it is.
+    pub(crate) fn new(board: B) -> Bench<B>
+        ensures { result.line ≡ record { lose = None; garble = None } }
     {
-        match order {
-            Order::Nothing => Performed {
-                bench: self,
-                printed: Printed::Nothing,
-            },
-            Order::On => self.power_on(),
-            Order::Off => Performed {
-                bench: Bench::Off(self.into_dark_board()),
-                printed: Printed::Nothing,
-            },
-            Order::Apdu(command) => self.command(&command),
-            Order::Block(block) => self.block(&block),
+        Bench {
+            power: Power::Off(board),
+            line: Line::new(),
         }
     }
 
+    /// Does what a line asks for.
+    pub(crate) fn perform(self, order: Order) -> Performed<B>
+        requires { IsSized order }
+        ensures { ComesTo order self.line result.bench.line }
+    {
+        let Bench {
+            mut power,
+            mut line,
+        } = self;
+        let (power, printed) = match order {
+            Order::Nothing => (power, Printed::Nothing),
+            Order::On => power.turn_on(),
+            Order::Off => (Power::Off(power.into_dark_board()), Printed::Nothing),
+            Order::Apdu(command) => power.command(&mut line, &command),
+            Order::Block(block) => power.block(&block),
+            Order::Cut { number, mask } => {
+                power.arm(number, mask);
+                (power, Printed::Nothing)
+            }
+            Order::Lose(number) => {
+                line.lose(number);
+                (power, Printed::Nothing)
+            }
+            Order::Garble(number) => {
+                line.garble(number);
+                (power, Printed::Nothing)
+            }
+        };
+        Performed {
+            bench: Bench { power, line },
+            printed,
+        }
+    }
+}
+
+impl<B: Armed> Power<B> {
     /// The board, with power off.
     fn into_dark_board(self) -> B {
         let mut board = match self {
-            Bench::Off(board) => board,
-            Bench::On(desk) => {
-                let Desk {
-                    powered,
-                    reader: _,
-                    shut: _,
-                } = desk;
+            Power::Off(board) => board,
+            Power::On(desk) => {
+                let Desk { powered, reader: _ } = desk;
                 powered.into_board()
             }
         };
@@ -88,81 +122,84 @@ impl<B: Socket> Bench<B> {
     }
 
     /// Power off if it is on, and then a start.
-    fn power_on(self) -> Performed<B> {
+    fn turn_on(self) -> (Power<B>, Printed) {
         let mut board = self.into_dark_board();
         if board.light().is_err() {
-            return Performed {
-                bench: Bench::Off(board),
-                printed: Printed::Mute,
-            };
+            return (Power::Off(board), Printed::Mute);
         }
         match Powered::start(board) {
-            Ok(powered) => Performed {
-                bench: Bench::On(Desk {
+            Ok(powered) => {
+                let desk = Desk {
                     powered,
-                    reader: ReaderEnd::new(),
-                    shut: false,
-                }),
-                printed: Printed::Atr,
-            },
+                    reader: Some(ReaderEnd::new()),
+                };
+                (Power::On(desk), Printed::Atr)
+            }
             Err((mut board, fault)) => {
                 board.power_off();
                 let printed = match fault {
                     StartFault::PowerLost => Printed::Dark,
-                    StartFault::Fault | StartFault::Damaged => Printed::Mute,
+                    StartFault::Fault | StartFault::BadJournal | StartFault::Damaged => {
+                        Printed::Mute
+                    },
                 };
-                Performed {
-                    bench: Bench::Off(board),
-                    printed,
-                }
+                (Power::Off(board), printed)
             }
         }
     }
 
-    /// A command through both ends of the link. After `dark` power is off.
-    fn command(self, command: &GivenBytes) -> Performed<B>
-        requires some { 1 ≤ length command.now.items }
-        requires size { length command.now.items ≤ 261 }
+    /// Sets a cut to come at a later device write, with power on or off.
+    fn arm(&mut self, number: u32, mask: u16)
+        requires { 1 ≤ number }
     {
         match self {
-            Bench::Off(board) => Performed {
-                bench: Bench::Off(board),
-                printed: Printed::Mute,
-            },
-            Bench::On(mut desk) => {
-                let printed = desk.exchange(command);
-                Bench::On(desk).after(printed)
+            Power::Off(board) => board.arm(number, mask),
+            Power::On(desk) => desk.powered.arm(number, mask),
+        }
+    }
+
+    /// A command through both ends of the link. After `dark` power is off.
+    fn command(self, line: &mut Line, command: &[u8]) -> (Power<B>, Printed)
+        requires some { 1 ≤ length command.now }
+        requires size { length command.now ≤ 261 }
+        ensures blocks { (blocks : ℕ) × (blocks ≤ LINE_BLOCKS) × (line.new ≡ line_after blocks line.old) }
+    {
+        match self {
+            Power::Off(board) => (Power::Off(board), Printed::Mute),
+            Power::On(mut desk) => {
+                let printed = desk.command(line, command);
+                Power::On(desk).after(printed)
             }
         }
     }
 
     /// A block straight to the card's end. After `dark` power is off.
-    fn block(self, block: &GivenBytes) -> Performed<B> {
+    fn block(self, block: &[u8]) -> (Power<B>, Printed) {
         match self {
-            Bench::Off(board) => Performed {
-                bench: Bench::Off(board),
-                printed: Printed::Mute,
-            },
-            Bench::On(mut desk) => {
-                let printed = desk.put_block(block);
-                Bench::On(desk).after(printed)
+            Power::Off(board) => (Power::Off(board), Printed::Mute),
+            Power::On(mut desk) => {
+                let printed = desk.block(block);
+                Power::On(desk).after(printed)
             }
         }
     }
 
-    fn after(self, printed: Printed) -> Performed<B> {
-        let bench = match &printed {
-            Printed::Dark => Bench::Off(self.into_dark_board()),
+    fn after(self, printed: Printed) -> (Power<B>, Printed) {
+        let power = match &printed {
+            Printed::Dark => Power::Off(self.into_dark_board()),
             _ => self,
         };
-        Performed { bench, printed }
+        (power, printed)
     }
 }
 
 impl<B: Board> Desk<B> {
-    /// A block straight to the card's end: the reader doesn't know of it, so no command is sent after it.
-    fn put_block(&mut self, block: &[u8]) -> Printed {
-        self.shut = true;
+    /// A block straight to the card's end: the reader's end doesn't know of it, so no command is sent after it.
+    fn block(&mut self, block: &[u8]) -> Printed
+        ensures shut { self.new.reader ≡ None }
+        ensures block { BlockPrints self.old.powered block.now self.new.powered result }
+    {
+        self.reader = None;
         let mut reply = BlockBytes::new();
         match self.powered.block(block, &mut reply) {
             Ok(()) => Printed::Bytes(reply),
@@ -170,45 +207,29 @@ impl<B: Board> Desk<B> {
         }
     }
 
-    /// Sends a command, and passes blocks between the two ends until the reader has its answer.
-    fn exchange(&mut self, command: &[u8]) -> Printed
+    /// A command through both ends of the link, where the reader's end is there.
+    fn command(&mut self, line: &mut Line, command: &[u8]) -> Printed
         requires some { 1 ≤ length command.now }
         requires size { length command.now ≤ 261 }
+        ensures commands { Commands
+            (record { powered = self.old.powered; reader = self.old.reader; line = line.old }) self.old.reader command.now
+            (record { powered = self.new.powered; reader = self.new.reader; line = line.new }) result }
+        ensures blocks { (blocks : ℕ) × (blocks ≤ LINE_BLOCKS) × (line.new ≡ line_after blocks line.old) }
     {
-        if self.shut || self.reader.busy() {
+        let Some(mut reader) = self.reader.take() else {
             return Printed::Lost;
-        }
-        let mut next = self.reader.send(command);
-        for _ in 0..LINE_BLOCKS / 2 {
-            match self.pass(next) {
-                Ok(following) => next = following,
-                Err(printed) => return printed,
+        };
+        match exchange(&mut self.powered, &mut reader, line, command) {
+            Ending::Answered(answer) => {
+                self.reader = Some(reader);
+                Printed::Bytes(answer)
             }
-        }
-        self.shut = true;
-        Printed::Lost
-    }
-
-    /// Passes the reader's block to the card and the card's to the reader, or ends the exchange.
-    fn pass(&mut self, next: Next) -> Result<Next, Printed> {
-        match next {
-            Next::Send(block) => {
-                let mut reply = BlockBytes::new();
-                if self.powered.block(&block, &mut reply).is_err() {
-                    return Err(Printed::Dark);
-                }
-                if self.reader.busy() {
-                    Ok(self.reader.got(&reply))
-                } else {
-                    Err(Printed::Lost)
-                }
+            Ending::SetBack => {
+                self.reader = Some(reader);
+                Printed::Lost
             }
-            Next::Done(answer) => Err(Printed::Bytes(answer)),
-            Next::Unknown => Err(Printed::Lost),
-            Next::Failed(_) => {
-                self.shut = true;
-                Err(Printed::Lost)
-            }
+            Ending::Lost => Printed::Lost,
+            Ending::Dark => Printed::Dark,
         }
     }
 }

@@ -2,7 +2,10 @@
 #![tactic(auto)]
 
 mod desk;
+mod exchange;
 mod fault;
+pub mod laws;
+mod line;
 mod order;
 mod powered;
 mod printing;

@@ -1,6 +1,10 @@
 // What a line of a script asks for.
-ghost use Rattle.std.specs.Prelude.{◌≡◌, ◌≤◌, length, IfSome};
-ghost use Rattle.card_bench.specs.Orders.{bytes_in};
+ghost use Rattle.std.specs.Prelude.{◌≡◌, ◌≤◌, length, true, IfSome};
+ghost use Rattle.std.specs.List.{list_all};
+ghost use Rattle.std.specs.Str.Parse.{digits_value};
+ghost use Rattle.std.specs.Char.{is_ascii_digit};
+ghost use Rattle.hex.specs.Hex.{decode_of};
+ghost use Rattle.card_bench.specs.Orders.{IsSized, bytes_in, cut_in, mask_by, number_in};
 
 use arrayvec::ArrayVec;
 
@@ -12,6 +16,9 @@ const COMMAND_LIMIT: usize = 261;
 
 /// The most bytes of a block line.
 const BLOCK_LIMIT: usize = 300;
+
+/// The most digits of a number.
+const NUMBER_DIGITS: usize = 6;
 
 /// The bytes that a line gives.
 pub(crate) type GivenBytes = ArrayVec<u8, BLOCK_LIMIT>;
@@ -29,6 +36,12 @@ pub(crate) enum Order {
     Apdu(GivenBytes),
     /// A block, 1 to 300 bytes, straight to the card's end.
     Block(GivenBytes),
+    /// The device write with this number from now, 1 to 999,999, is cut, with these words of it new.
+    Cut { number: u32, mask: u16 },
+    /// The block with this number from now, 1 to 999,999, is lost.
+    Lose(u32),
+    /// The block with this number from now, 1 to 999,999, is garbled.
+    Garble(u32),
 }
 
 impl Order {
@@ -52,6 +65,12 @@ impl Order {
             Some(Order::Apdu(bytes_of(digits, COMMAND_LIMIT)?))
         } else if let Some(digits) = line.strip_prefix(b"block ") {
             Some(Order::Block(bytes_of(digits, BLOCK_LIMIT)?))
+        } else if let Some(words) = line.strip_prefix(b"cut ") {
+            cut_of(words)
+        } else if let Some(digits) = line.strip_prefix(b"lose ") {
+            Some(Order::Lose(number_of(digits)?))
+        } else if let Some(digits) = line.strip_prefix(b"garble ") {
+            Some(Order::Garble(number_of(digits)?))
         } else {
             None
         }
@@ -73,4 +92,59 @@ fn bytes_of(digits: &[u8], limit: usize) -> Option<GivenBytes>
     let mut bytes = ArrayVec::new();
     bytes.try_extend_from_slice(&buffer[..size]).unwrap();
     Some(bytes)
+}
+
+/// The number that decimal digits spell, where they are 1 to 6 and it is at least 1.
+fn number_of(digits: &[u8]) -> Option<u32>
+    ensures number { result ≡ number_in digits.now }
+    ensures sized { IfSome result (λ number. (1 ≤ number) × (number ≤ 999999)) }
+{
+    if digits.is_empty() || digits.len() > NUMBER_DIGITS || !are_decimal(digits) {
+        return None;
+    }
+    let number = value_of(digits);
+    if number == 0 { None } else { Some(number) }
+}
+
+/// A cut: a number, a space, and four hexadecimal digits.
+fn cut_of(words: &[u8]) -> Option<Order>
+    ensures cut { result ≡ cut_in words.now }
+    ensures sized { IfSome result IsSized }
+{
+    let [number @ .., b' ', first, second, third, fourth] = words else {
+        return None;
+    };
+    let number = number_of(number)?;
+    let mask = mask_of(&[*first, *second, *third, *fourth])?;
+    Some(Order::Cut { number, mask })
+}
+
+/// The number that four hexadecimal digits spell.
+fn mask_of(digits: &[u8; 4]) -> Option<u16>
+    ensures { result ≡ mask_by (decode_of digits.now) }
+{
+    let mut bytes = [0; 2];
+    hex::decode_to_slice(digits, &mut bytes).ok()?;
+    Some(u16::from_be_bytes(bytes))
+}
+
+/// Whether each of these is a decimal digit.
+fn are_decimal(digits: &[u8]) -> bool
+    ensures { result ≡ list_all is_ascii_digit digits.now }
+{
+    digits.iter().all(|digit| digit.is_ascii_digit())
+}
+
+/// The number that at most 6 decimal digits spell.
+fn value_of(digits: &[u8]) -> u32
+    requires decimal { list_all is_ascii_digit digits.now ≡ true }
+    requires size { length digits.now ≤ NUMBER_DIGITS }
+    ensures value { result ≡ digits_value 10 digits.now }
+    ensures bound { result ≤ 999999 }
+{
+    let mut value = 0;
+    for digit in digits {
+        value = value * 10 + (*digit - b'0') as u32;
+    }
+    value
 }

@@ -9,7 +9,7 @@ use crate::order::Order;
 use crate::printing::print;
 use crate::reading::{LineBytes, LineEnd, LineFault, SCRIPT_LIMIT, read_line};
 use card_core::format;
-use nvm_board::{RamBoard, Socket};
+use nvm_board::{CutBoard, Socket};
 use std::alloc::Global;
 use std::io::{Read, Write};
 
@@ -23,10 +23,10 @@ pub fn run<R: Read, W: Write>(alloc: Global, reader: &mut R, writer: &mut W) -> 
     ensures unread { result ≡ Err RunFault.Memory → R.remaining reader.new ≡ R.remaining reader.old }
     ensures unwritten { result ≡ Err RunFault.Memory → W.contents writer.new ≡ W.contents writer.old }
 {
-    let Ok(board) = RamBoard::new(alloc) else {
+    let Ok(board) = CutBoard::new(alloc) else {
         return Err(RunFault::Memory);
     };
-    let mut bench = Bench::Off(factory_board(board));
+    let mut bench = Bench::new(factory_board(board));
     let mut line = LineBytes::new();
     let mut taken = 0;
     for number in 1..=SCRIPT_LIMIT + 1 {
@@ -53,7 +53,7 @@ pub fn run<R: Read, W: Write>(alloc: Global, reader: &mut R, writer: &mut W) -> 
 }
 
 /// The board of a factory's card, power off.
-fn factory_board(board: RamBoard) -> RamBoard {
+fn factory_board(board: CutBoard) -> CutBoard {
     let mut board = match format(board) {
         Ok(board) | Err((board, _)) => board,
     };

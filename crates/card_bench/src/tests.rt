@@ -43,6 +43,81 @@ fn first_path(rt: HostRuntime) {
 }
 
 #[test]
+fn updates_at_the_end_of_the_file(rt: HostRuntime) {
+    check(
+        &rt,
+        b"on\napdu 00A4000C022FE2\napdu 00D600090101\napdu 00D60009020102\napdu 00D6000A0101\napdu 00B0000801\n",
+        b"atr 3B808131FE458B\n< 9000\n< 9000\n< 6A84\n< 6B00\n< 549000\n",
+        0,
+    );
+}
+
+// An update of one word makes four device writes: the pair, the gate, the word, and the gate again, which is the commit.
+#[test]
+fn update_is_cut_at_its_word(rt: HostRuntime) {
+    check(
+        &rt,
+        b"on\napdu 00A4000C022FE2\ncut 3 0001\napdu 00D600000401020304\napdu 00B0000004\non\napdu 00A4000C022FE2\napdu 00B0000004\n",
+        b"atr 3B808131FE458B\n< 9000\ndark\nmute\natr 3B808131FE458B\n< 9000\n< 981032549000\n",
+        0,
+    );
+}
+
+#[test]
+fn update_is_cut_before_its_commit(rt: HostRuntime) {
+    check(
+        &rt,
+        b"on\napdu 00A4000C022FE2\ncut 4 0000\napdu 00D600000401020304\napdu 00B0000004\non\napdu 00A4000C022FE2\napdu 00B0000004\n",
+        b"atr 3B808131FE458B\n< 9000\ndark\nmute\natr 3B808131FE458B\n< 9000\n< 981032549000\n",
+        0,
+    );
+}
+
+#[test]
+fn update_is_cut_after_its_commit(rt: HostRuntime) {
+    check(
+        &rt,
+        b"on\napdu 00A4000C022FE2\ncut 4 0001\napdu 00D600000401020304\napdu 00B0000004\non\napdu 00A4000C022FE2\napdu 00B0000004\n",
+        b"atr 3B808131FE458B\n< 9000\ndark\nmute\natr 3B808131FE458B\n< 9000\n< 010203049000\n",
+        0,
+    );
+}
+
+// An update of two words is cut at its second word; the next two starts are cut while they take it back.
+#[test]
+fn starts_are_cut_too(rt: HostRuntime) {
+    check(
+        &rt,
+        b"on\napdu 00A4000C022FE2\ncut 6 0001\napdu 00D60000080102030405060708\ncut 2 0000\non\ncut 3 0000\non\non\napdu 00A4000C022FE2\napdu 00B0000008\n",
+        b"atr 3B808131FE458B\n< 9000\ndark\ndark\ndark\natr 3B808131FE458B\n< 9000\n< 98103254769810329000\n",
+        0,
+    );
+}
+
+#[test]
+fn cut_that_is_not_a_line(rt: HostRuntime) {
+    for line in [
+        b"cut".as_slice(),
+        b"cut ",
+        b"cut 1",
+        b"cut 1 ",
+        b"cut 0 0001",
+        b"cut 1000000 0001",
+        b"cut +1 0001",
+        b"cut  1 0001",
+        b"cut 1  0001",
+        b"cut 1 001",
+        b"cut 1 00001",
+        b"cut 1 000G",
+        b"cut 10001",
+        b"Cut 1 0001",
+    ] {
+        check(&rt, line, b"", 2);
+    }
+    check(&rt, b"cut 000001 ABcd\ncut 999999 0000\n", b"", 0);
+}
+
+#[test]
 fn bad_blocks(rt: HostRuntime) {
     check(
         &rt,
@@ -112,12 +187,96 @@ fn lines_that_do_nothing(rt: HostRuntime) {
     );
 }
 
+/// The digits of a command that sends 255 bytes 00 after these of its header.
+fn long_command(alloc: Global, header: &str) -> Result<String, Fail> {
+    let mut command = String::new(alloc);
+    command.push_str(header)?;
+    command.push_str("FF")?;
+    for _ in 0..255 {
+        command.push_str("00")?;
+    }
+    Ok(command)
+}
+
 #[test]
-fn command_in_two_blocks(rt: HostRuntime) {
+fn command_in_two_blocks(rt: HostRuntime) -> Result<(), Fail> {
+    let alloc = rt.alloc();
+    let command = long_command(alloc, "00D60000")?;
+    let script = format!(in alloc; "on\napdu {command}\napdu 00A4000C022FE2\n")?;
     check(
         &rt,
-        b"on\napdu 00D60000FF000000000000000000000000000000000000000000000000000000000000000000000000000000000000000000000000000000000000000000000000000000000000000000000000000000000000000000000000000000000000000000000000000000000000000000000000000000000000000000000000000000000000000000000000000000000000000000000000000000000000000000000000000000000000000000000000000000000000000000000000000000000000000000000000000000000000000000000000000000000000000000000000000000000000000000000000000000000000000000000000000000000000000000000000000000\napdu 00A4000C022FE2\n",
-        b"atr 3B808131FE458B\n< 6D00\n< 9000\n",
+        script.as_bytes(),
+        b"atr 3B808131FE458B\n< 6986\n< 9000\n",
+        0,
+    );
+    Ok(())
+}
+
+/// One fault on the line before a command changes nothing of what is printed.
+fn repairs<R: Abort + AllocGlobal>(
+    rt: &R,
+    fault: &str,
+    command: &str,
+    answer: &str,
+) -> Result<(), Fail> {
+    let alloc = rt.alloc();
+    let script = format!(in alloc; "on\n{fault}\napdu {command}\napdu 00A4000C023F00\n")?;
+    let printed = format!(in alloc; "atr 3B808131FE458B\n< {answer}\n< 9000\n")?;
+    check(rt, script.as_bytes(), printed.as_bytes(), 0);
+    Ok(())
+}
+
+// A block that is lost or garbled is asked for, or sent, again.
+#[test]
+fn one_fault_is_repaired(rt: HostRuntime) -> Result<(), Fail> {
+    let alloc = rt.alloc();
+    for place in 1..=4u32 {
+        let lose = format!(in alloc; "lose {place}")?;
+        repairs(&rt, &lose, "00B0820005", "98103254769000")?;
+        repairs(&rt, &lose, "00A4000C022FE2", "9000")?;
+        let garble = format!(in alloc; "garble {place}")?;
+        repairs(&rt, &garble, "00B0820005", "98103254769000")?;
+        repairs(&rt, &garble, "00A4000C022FE2", "9000")?;
+    }
+    Ok(())
+}
+
+// Of either kind one fault can be pending. They fall due with one block, or with two.
+#[test]
+fn two_faults_are_repaired(rt: HostRuntime) -> Result<(), Fail> {
+    let alloc = rt.alloc();
+    for place in 1..=4u32 {
+        for other in 1..=4u32 {
+            let both = format!(in alloc; "garble {place}\nlose {other}")?;
+            repairs(&rt, &both, "00B0820005", "98103254769000")?;
+        }
+    }
+    repairs(&rt, "lose 2\ngarble 3", "00A4000C022FE2", "9000")?;
+    repairs(&rt, "lose 1\ngarble 1\nlose 2", "00A4000C022FE2", "9000")?;
+    Ok(())
+}
+
+// A command in two blocks, of an unknown class.
+#[test]
+fn faults_in_a_chain_are_repaired(rt: HostRuntime) -> Result<(), Fail> {
+    let alloc = rt.alloc();
+    let command = long_command(alloc, "01D60000")?;
+    for place in 1..=6u32 {
+        let lose = format!(in alloc; "lose {place}")?;
+        repairs(&rt, &lose, &command, "6E00")?;
+        let garble = format!(in alloc; "garble {place}")?;
+        repairs(&rt, &garble, &command, "6E00")?;
+    }
+    Ok(())
+}
+
+// A wrong check byte, and the last block again; the reader's end doesn't know of either.
+#[test]
+fn wrong_check_byte_and_resent_block(rt: HostRuntime) {
+    check(
+        &rt,
+        b"on\napdu 00A4000C022FE2\nblock 00C00001\nblock 00800080\napdu 00B0820001\non\napdu 00B0820001\n",
+        b"atr 3B808131FE458B\n< 9000\n< 00910091\n< 000002900092\nlost\natr 3B808131FE458B\n< 989000\n",
         0,
     );
 }
@@ -137,10 +296,22 @@ fn ends_of_scripts(rt: HostRuntime) {
     check(&rt, b"on\napdu\n", atr, 2);
     check(&rt, b"on\napdu \n", atr, 2);
     check(&rt, b"on\napdu  00A4\n", atr, 2);
-    // So far these are no lines of a script.
-    check(&rt, b"on\ncut 1 0000\n", atr, 2);
+    // So far this is no line of a script.
     check(&rt, b"on\nfree\n", atr, 2);
-    check(&rt, b"on\nlose 1\n", atr, 2);
+    // A number is 1 to 6 decimal digits, without a sign, and at least 1.
+    check(&rt, b"on\nlose 000001\ngarble 999999\noff\n", atr, 0);
+    check(&rt, b"on\nlose 0\n", atr, 2);
+    check(&rt, b"on\nlose 000000\n", atr, 2);
+    check(&rt, b"on\nlose 1000000\n", atr, 2);
+    check(&rt, b"on\nlose 0000001\n", atr, 2);
+    check(&rt, b"on\ngarble\n", atr, 2);
+    check(&rt, b"on\ngarble \n", atr, 2);
+    check(&rt, b"on\nlose +1\n", atr, 2);
+    check(&rt, b"on\ngarble -1\n", atr, 2);
+    check(&rt, b"on\nlose  1\n", atr, 2);
+    check(&rt, b"on\nlose 1 \n", atr, 2);
+    check(&rt, b"on\nlose 1A\n", atr, 2);
+    check(&rt, b"on\ngarble 1:\n", atr, 2);
     // One carriage return before a line feed is dropped, and none elsewhere.
     check(&rt, b"on\r", b"", 2);
     check(&rt, b"on\r\r\n", b"", 2);
@@ -284,4 +455,13 @@ fn narrow_writers(rt: HostRuntime) {
         let end = text.len().min(room);
         assert_eq!(rt; printed.as_slice(), &text[..end]);
     }
+}
+
+// The laws hold for the tree machine, and for machines of any type.
+#[test]
+fn laws_are_there() {
+    laws::world();
+    laws::world_of_any_machine::<u8>();
+    laws::faults_fall_due_in_turn();
+    laws::garbled_block_is_no_block();
 }

@@ -1,5 +1,6 @@
 -- The bytes of a block, by the words of the memory.
-use Rattle.std.proofs.Common.{◌≡◌, ◌<◌, ◌≤◌, ◌^◌, ◌+◌, ◌*◌, ◌/◌, ◌%◌, ℕ, zero, suc, List, [], ◌∷◌, length, drop, slice_index, refl, sym, ◌∙◌, ap, ap₂, arith, get_or-take, get_or-drop, length-take, length-drop}
+use Rattle.std.proofs.Common.{◌≡◌, ◌<◌, ◌≤◌, ◌^◌, ◌+◌, ◌*◌, ◌/◌, ◌%◌, ℕ, zero, suc, List, [], ◌∷◌, length, drop, slice_index, refl, sym, ◌∙◌, ap, ap₂, arith, get_or-take}
+use Rattle.std.proofs.Common.{get_or-drop, length-take, length-drop}
 use Rattle.std.specs.List.{flat_map}
 use Rattle.nvm_board.specs.Facts.{address}
 use Rattle.card_core.specs.Memory.{word, word_bytes, page_words, block_bytes}

@@ -1,5 +1,6 @@
 -- The factory's memory stands for the factory's card.
-use Rattle.std.proofs.Common.{◌≡◌, ◌<◌, ◌≤◌, ◌+◌, ◌/◌, ◌==◌, ◌&&◌, ℕ, Bool, true, false, nat_lt, nat_le, List, [], ◌∷◌, zero, suc, length, take, drop, map, slice_index, slice_range, refl, sym, ◌∙◌, ap, ap₂, arith, lit≤, lit<, replicate, if◌then◌else◌}
+use Rattle.std.proofs.Common.{◌≡◌, ◌<◌, ◌≤◌, ◌+◌, ◌/◌, ◌==◌, ◌&&◌, ℕ, Bool, true, false, nat_lt, nat_le, List, [], ◌∷◌, zero, suc, length, take, drop, map, slice_index}
+use Rattle.std.proofs.Common.{slice_range, refl, sym, ◌∙◌, ap, ap₂, arith, lit≤, lit<, replicate, if◌then◌else◌}
 use Rattle.std.proofs.lemmas.Bool.{lt-ltb, lt-leb, le-leb, ne_eqb}
 use Rattle.std.specs.List.{flat_map, range_with_len}
 use Rattle.nvm_board.specs.declared.board.TheConstants.{PAGES}
@@ -7,7 +8,9 @@ use Rattle.card_core.specs.declared.layout.TheConstants.{ENTRIES, PINS}
 use Rattle.card_core.specs.Cards.{Pin}
 use Rattle.card_core.specs.Memory.{word, word_bytes, page_words, entry_page, pin_page, pin_at}
 use Rattle.card_core.specs.Plain.{IsPlain, IsPinPage, card_of, plain_tree, plain_content}
-use Rattle.card_core.specs.Factory.{factory_page, factory_header, factory_master, factory_file, factory_block, factory_free_block, factory_pin_page, factory_pin, factory_card, filled, IsFactory}
+use Rattle.undo_journal.specs.Undo.{gate}
+use Rattle.card_core.specs.Factory.{factory_page, factory_header, factory_master, factory_file, factory_block, factory_free_block, factory_pin_page, factory_pin, factory_card}
+use Rattle.card_core.specs.Factory.{filled, IsFactory}
 use Rattle.card_core.proofs.Blocks.{index-page_words}
 
 -- a page by the tests of its number
@@ -75,9 +78,12 @@ module _ (m : List ℕ) (factory : IsFactory m) where
     unblocking_tries = let is = pin_word pin 1 lt (lit< tt) in omega (arith, is);
   }
 
+  pub gate-factory : gate m ≡ 0
+  gate-factory = place 73 0 (lit< tt) (lit< tt)
+
   pub plain-factory : IsPlain m
   plain-factory = record {
-    header = record { mark = place 0 0 (lit< tt) (lit< tt); in_use = place 0 2 (lit< tt) (lit< tt); gate = place 73 0 (lit< tt) (lit< tt) };
+    header = record { mark = place 0 0 (lit< tt) (lit< tt); in_use = place 0 2 (lit< tt) (lit< tt) };
     master = record {
       kind = place 1 0 (lit< tt) (lit< tt);
       lengths = place 1 1 (lit< tt) (lit< tt);
@@ -88,10 +94,9 @@ module _ (m : List ℕ) (factory : IsFactory m) where
       kind = place 2 0 (lit< tt) (lit< tt);
       lengths = place 2 1 (lit< tt) (lit< tt);
       rule = ap (λ (w : ℕ). w / 0x100) (place 2 2 (lit< tt) (lit< tt));
-      blocks = place 2 9 (lit< tt) (lit< tt);
       records = place 2 10 (lit< tt) (lit< tt);
-      chain = place 128 0 (lit< tt) (lit< tt);
     };
+    chain = record { blocks = place 2 9 (lit< tt) (lit< tt); link = place 128 0 (lit< tt) (lit< tt) };
     size = let is = place 2 8 (lit< tt) (lit< tt) in record { some = omega (arith, is); fits = omega (arith, is); record_length = omega (arith, is) };
     others = others;
     pins = pins;

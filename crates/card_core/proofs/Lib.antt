@@ -5,3 +5,6 @@ pub mod PlainReads
 pub mod Pages
 pub mod Powers
 pub mod FactoryLemmas
+pub mod Overwrites
+pub mod PlainSame
+pub mod PlainUpdates

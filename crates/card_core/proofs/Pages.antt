@@ -4,7 +4,7 @@ use Rattle.std.proofs.lemmas.Bool.{cases_lt}
 use Rattle.std.proofs.lemmas.Grind.{same_number_lists}
 use Rattle.nvm_board.specs.Facts.{address}
 use Rattle.nvm_board.specs.Torn.{written, length-written, written-elsewhere, written-inside}
-use Rattle.card_core.specs.Memory.{page_words}
+use Rattle.card_core.specs.Memory.{word, page_words}
 use Rattle.card_core.proofs.Blocks.{index-page_words, length-page_words}
 
 -- two memories of one length have pages of one length, of at most 16 words
@@ -42,3 +42,11 @@ page_words-written m run page whole within =
     let at : address page k ≡ address page 0 + k = omega arith in
     index-page_words (written m (address page 0) run) page k place
     ∙ ap (slice_index (written m (address page 0) run)) at ∙ written-inside m run (address page 0) k fits inside)
+
+-- a page whose words are the same
+pub page_words-same : (m n : List ℕ) (page : ℕ) → length n ≡ length m → ((k : ℕ) → k < 16 → word n page k ≡ word m page k) → page_words n page ≡ page_words m page
+page_words-same m n page size words = same_number_lists _ _ (same_size m n page size) (λ k lt.
+    let l = same_size m n page size in
+    let most = at_most m page in
+    let place : k < 16 = omega (arith, lt, l, most) in
+    index-page_words n page k place ∙ words k place ∙ sym (index-page_words m page k place))

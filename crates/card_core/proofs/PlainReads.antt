@@ -1,5 +1,6 @@
 -- What READ BINARY gives of a plain card's file.
-use Rattle.std.proofs.Common.{◌≡◌, ◌≢◌, ⊎_elim, ◌<◌, ◌≤◌, ◌+◌, ◌-◌, ◌/◌, ◌==◌, ◌||◌, ℕ, zero, suc, Bool, true, false, nat_lt, List, [], ◌∷◌, Some, length, take, drop, refl, sym, ◌∙◌, ap, ap₂, arith, length-take, length-drop, if◌then◌else◌}
+use Rattle.std.proofs.Common.{◌≡◌, ◌≢◌, ⊎_elim, ◌<◌, ◌≤◌, ◌+◌, ◌-◌, ◌/◌, ◌==◌, ◌||◌, ℕ, zero, suc, Bool, true, false, nat_lt, List, [], ◌∷◌, Some, length, take, drop, refl, sym}
+use Rattle.std.proofs.Common.{◌∙◌, ap, ap₂, arith, length-take, length-drop, if◌then◌else◌}
 use Rattle.std.proofs.lemmas.List.{drop-take}
 use Rattle.std.proofs.lemmas.Bool.{lt-ltb, le-ltb, lt-leb, le-leb, ne_eqb, cases_eq}
 use Rattle.card_rules.specs.declared.status.TheConstants.Sw.{DONE, END_REACHED, WRONG_OFFSET}
@@ -59,7 +60,8 @@ module _ (bytes : List ℕ) (size offset : ℕ) (whole : length bytes ≡ 60) (f
   read-some expected more enough =
       let some : (expected == 0) ≡ false = ne_eqb expected 0 (λ none. let z : ⊥ = omega arith in z) in
       let not_less : nat_lt (length (drop offset (take size bytes))) expected ≡ false = le-ltb _ expected (omega (arith, length-rest)) in
-      simp (some, not_less) (ap (λ (text : List ℕ). record { text = text; status = DONE }) (ap (take expected) rest-is ∙ take-take expected (size - offset) (drop offset bytes) enough))
+      simp (some, not_less) (ap (λ (text : List ℕ). record { text = text; status = DONE }) (ap (take expected) rest-is
+      ∙ take-take expected (size - offset) (drop offset bytes) enough))
 
 module _ (m : List ℕ) (sized : 16384 ≤ length m) (plain : IsPlain m) (x : CurrentFile) (target : Target)
     (place : target_of (card_of m).tree (session_of x) target ≡ Some (plain_identifier ∷ []))

@@ -1,15 +1,16 @@
 -- What the step of the tree machine is on a plain card.
-use Rattle.std.proofs.Common.{◌≡◌, ◌≢◌, ℕ, ◌==◌, Bool, true, false, cond, List, [], ◌∷◌, length, drop, Option, Some, None, is_some, nat_le, refl, ◌∙◌, ap, ap₂, rules, find, option_map, ◌&&◌, if◌then◌else◌}
-use Rattle.card_rules.specs.declared.status.TheConstants.Sw.{DONE, FILE_NOT_FOUND, WRONG_OFFSET}
+use Rattle.std.proofs.Common.{◌≡◌, ◌≢◌, ℕ, ◌==◌, Bool, true, false, cond, List, [], ◌∷◌, length, drop, Option, Some, None, is_some, ◌+◌, nat_le, nat_lt, refl, ◌∙◌, ap, ap₂}
+use Rattle.std.proofs.Common.{rules, find, option_map, ◌&&◌, if◌then◌else◌}
+use Rattle.card_rules.specs.declared.status.TheConstants.Sw.{DONE, FILE_NOT_FOUND, NO_ROOM, WRONG_OFFSET}
 use Rattle.apdu_core.specs.declared.commands.Selector.{Selector}
 use Rattle.apdu_core.specs.declared.commands.Selector.TheVariants.{MasterFile, Identifier}
 use Rattle.apdu_core.specs.declared.commands.Target.{Target}
 use Rattle.apdu_core.specs.declared.commands.Target.TheVariants.{Current, Short}
-use Rattle.apdu_core.specs.Requests.{select, read_binary}
+use Rattle.apdu_core.specs.Requests.{select, read_binary, update_binary}
 use Rattle.std.specs.FinMap.{get}
 use Rattle.card_core.specs.declared.files.CurrentFile.{CurrentFile}
 use Rattle.card_core.specs.declared.files.CurrentFile.TheVariants as current
-use Rattle.card_core.specs.Cards.{Card, File, Path, Tree, master_file}
+use Rattle.card_core.specs.Cards.{Card, File, Path, Tree, master_file, overwrite, with_content}
 use Rattle.card_core.specs.Reaching.{reached, first_reached, target_of, child_by_short, is_child, has_short}
 use Rattle.card_core.specs.Sessions.{Session}
 use Rattle.card_core.specs.Steps.{step, refused, selecting, selection_status, missing, naming, read_response}
@@ -115,7 +116,8 @@ step-no_file m x id expected file master =
 -- the elementary file that a short identifier names
 child-plain : (content : List ℕ) (n : ℕ) → child_by_short (plain_tree content) [] n ≡ (if 2 == n then Some (plain_identifier ∷ []) else None)
 child-plain content n =
-    ap (λ (nodes : List (Path × File)). option_map (λ (node : Path × File). node.0) (find (λ (node : Path × File). is_child [] node.0 && has_short node.1 n) nodes)) (entries-plain content)
+    ap (λ (nodes : List (Path × File)). option_map (λ (node : Path × File). node.0) (find (λ (node : Path × File). is_child [] node.0 && has_short node.1 n) nodes))
+    (entries-plain content)
     ∙ path_of (2 == n)
   where
     path_of : (b : Bool) → option_map (λ (node : Path × File). node.0) (cond b (Some (plain_identifier ∷ [], plain_file content)) None) ≡ cond b (Some (plain_identifier ∷ [])) None
@@ -138,6 +140,12 @@ pub step-no_target : (c : Card) (s : Session) (target : Target) (offset expected
 unfolding step
 step-no_target c s target offset expected place = simp place refl
 
+-- UPDATE BINARY of a file that isn't named
+pub step-no_update_target : (c : Card) (s : Session) (target : Target) (offset : ℕ) (bytes : List ℕ) → target_of c.tree s target ≡ None
+    → step c s (update_binary target offset bytes) ≡ refused c s (missing target)
+unfolding step
+step-no_update_target c s target offset bytes place = simp place refl
+
 -- the file that a binary command on a plain card names
 module _ (m : List ℕ) (x : CurrentFile) (target : Target) (place : target_of (card_of m).tree (session_of x) target ≡ Some (plain_identifier ∷ [])) where
   file_there : get (card_of m).tree (plain_identifier ∷ []) ≡ Some (plain_file (plain_content m))
@@ -155,6 +163,28 @@ module _ (m : List ℕ) (x : CurrentFile) (target : Target) (place : target_of (
       ≡ record { card = card_of m; session = naming (session_of x) target (plain_identifier ∷ []); response = read_response (drop offset (plain_content m)) expected }
   unfolding step
   step-read offset expected within = simp (place, file_there, within) refl
+
+  -- UPDATE BINARY past its end
+  pub step-update_past : (offset : ℕ) (bytes : List ℕ) → nat_le (length (plain_content m)) offset ≡ true
+      → step (card_of m) (session_of x) (update_binary target offset bytes) ≡ refused (card_of m) (session_of x) WRONG_OFFSET
+  unfolding step
+  step-update_past offset bytes past = simp (place, file_there, past) refl
+
+  -- UPDATE BINARY that begins within it, and ends past its end
+  pub step-update_full : (offset : ℕ) (bytes : List ℕ) → nat_le (length (plain_content m)) offset ≡ false → nat_lt (length (plain_content m)) (offset + length bytes) ≡ true
+      → step (card_of m) (session_of x) (update_binary target offset bytes) ≡ refused (card_of m) (session_of x) NO_ROOM
+  unfolding step
+  step-update_full offset bytes within past = simp (place, file_there, within, past) refl
+
+  -- UPDATE BINARY within it
+  pub step-update : (offset : ℕ) (bytes : List ℕ) → nat_le (length (plain_content m)) offset ≡ false → nat_lt (length (plain_content m)) (offset + length bytes) ≡ false
+      → step (card_of m) (session_of x) (update_binary target offset bytes) ≡ record {
+        card = with_content (card_of m) (plain_identifier ∷ []) (overwrite (plain_content m) offset bytes);
+        session = naming (session_of x) target (plain_identifier ∷ []);
+        response = record { text = []; status = DONE };
+      }
+  unfolding step
+  step-update offset bytes within fits = simp (place, file_there, within, fits) refl
 
 -- the file that is named is the current one afterwards
 pub naming-file : (m : List ℕ) (x : CurrentFile) (target : Target) → target_of (card_of m).tree (session_of x) target ≡ Some (plain_identifier ∷ [])

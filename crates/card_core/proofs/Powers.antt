@@ -1,7 +1,13 @@
 -- What calls say of power and device, one after another.
-use Rattle.std.proofs.Common.{◌≡◌, ◌+◌, ℕ, true, true≢false, Result, sym, ◌∙◌, ap, inl, inr, ⊎_elim}
+use Rattle.std.proofs.Common.{◌≡◌, ◌+◌, ℕ, true, true≢false, Result, sym, ◌∙◌, ap, subst, inl, inr, ⊎_elim}
 use Rattle.nvm_board.specs.declared.board.DeviceErr.{DeviceErr}
 use Rattle.nvm_board.specs.Facts.{Facts, Steady, GoesDark, Fails, Answered, IsWorn}
+use Rattle.undo_journal.specs.declared.error.StoreErr.{StoreErr}
+use Rattle.undo_journal.specs.declared.error.StoreErr.TheVariants.{PowerLost, Fault}
+use Rattle.undo_journal.specs.Memory.{FailsBy as StoreFailsBy}
+use Rattle.card_core.specs.declared.faults.StartFault.{StartFault}
+use Rattle.card_core.specs.StartFaults.{fault_of_store}
+use Rattle.card_core.specs.Running.{StopsBy}
 
 module _ (a b c : Facts) (before : Steady a b) where
   pub steady_then : Steady b c → Steady a c
@@ -26,3 +32,8 @@ module _ (a b c : Facts) (before : Steady a b) where
     lost = λ h. ⊎_elim (λ (dark : GoesDark b c). inl (goes_dark_then dark)) (λ (off : (b.dark ≡ true) × (c ≡ b)). absurd (true≢false (sym off.0 ∙ before.lit))) (answer.lost h);
     fault = λ h. fails_then (answer.fault h);
   }
+
+-- a store that fails, over a board that held when it was opened
+pub stops-by : (e : StoreErr) (stop : StartFault) (a b c : Facts) → stop ≡ fault_of_store e → Steady a b → StoreFailsBy e b c → StopsBy stop a c
+stops-by PowerLost stop a b c is before fails = subst (λ (f : StartFault). StopsBy f a c) (sym is) (inl (goes_dark_then a b c before fails))
+stops-by Fault stop a b c is before fails = subst (λ (f : StartFault). StopsBy f a c) (sym is) (fails_then a b c before fails)

@@ -4,7 +4,11 @@ pub mod Reaching
 pub mod Steps
 pub mod Memory
 pub mod Plain
+pub mod Finding
+pub mod Overwriting
 pub mod Working
 pub mod Power
+pub mod Stages
+pub mod StartFaults
 pub mod Running
 pub mod Factory

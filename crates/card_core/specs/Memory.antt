@@ -1,15 +1,20 @@
 -- What the words of a memory say, by page: the header, file entries, PIN pages, the gate and blocks.
 -- Within a word the most significant byte is first.
-use Rattle.std.specs.Prelude.{ℕ, ◌+◌, ◌/◌, ◌%◌, List, [], ◌∷◌, drop, take, slice_index, slice_range}
+use Rattle.std.specs.Prelude.{ℕ, ◌⊎◌, ◌<◌, ◌≤◌, ◌+◌, ◌/◌, ◌%◌, List, [], ◌∷◌, drop, take, slice_index, slice_range}
 use Rattle.std.specs.List.{flat_map}
 use Rattle.nvm_board.specs.Facts.{address}
-use Rattle.nvm_board.specs.declared.board.TheConstants.{PAGE_WORDS}
+use Rattle.nvm_board.specs.declared.board.TheConstants.{PAGES, PAGE_WORDS}
+use Rattle.undo_journal.specs.declared.layout.TheConstants.{GATE_PAGE, JOURNAL_END_PAGE}
 use Rattle.card_core.specs.declared.layout.TheConstants.{FIRST_ENTRY_PAGE, FIRST_PIN_PAGE}
 use Rattle.card_core.specs.Cards.{Pin}
 
 -- a word, by its page and its place in the page
 abbrev pub word : List ℕ → ℕ → ℕ → ℕ
 word m page place = slice_index m (address page place)
+
+-- a page of the memory outside gate and journal
+abbrev pub IsDataPage : ℕ → Type 0
+IsDataPage page = ((page < GATE_PAGE) ⊎ (JOURNAL_END_PAGE ≤ page)) × (page < PAGES)
 
 -- the words of a page
 unfoldable pub page_words : List ℕ → ℕ → List ℕ

@@ -1,14 +1,15 @@
 -- One step of the tree machine: a command on a card in a session (ISO/IEC 7816-4, clause 11).
-use Rattle.std.specs.Prelude.{ℕ, ◌/◌, ◌%◌, ◌==◌, Bool, not, nat_lt, nat_le, List, [], ◌∷◌, ◌++◌, length, take, drop, is_none, unwrap_or, Result, Ok, Err, if◌then◌else◌}
+use Rattle.std.specs.Prelude.{ℕ, ◌+◌, ◌/◌, ◌%◌, ◌==◌, Bool, not, nat_lt, nat_le, List, [], ◌∷◌, ◌++◌, length, take, drop, is_none, unwrap_or, Result, Ok, Err, if◌then◌else◌}
 use Rattle.card_rules.specs.declared.status.Sw.{Sw}
-use Rattle.card_rules.specs.declared.status.TheConstants.Sw.{DONE, END_REACHED, SELECTED_DEACTIVATED, SELECTED_TERMINATED, WRONG_STRUCTURE, NO_CURRENT_EF, FILE_NOT_FOUND, WRONG_OFFSET}
+use Rattle.card_rules.specs.declared.status.TheConstants.Sw.{DONE, END_REACHED, SELECTED_DEACTIVATED, SELECTED_TERMINATED, WRONG_STRUCTURE, NO_CURRENT_EF, FILE_NOT_FOUND}
+use Rattle.card_rules.specs.declared.status.TheConstants.Sw.{NO_ROOM, WRONG_OFFSET}
 use Rattle.card_rules.specs.declared.life_cycle.LifeCycle.{LifeCycle}
 use Rattle.card_rules.specs.declared.life_cycle.LifeCycle.TheVariants.{Creation, Initialisation, Deactivated, Activated, Terminated}
 use Rattle.apdu_core.specs.declared.commands.Target.{Target}
 use Rattle.apdu_core.specs.declared.commands.Target.TheVariants.{Current, Short}
-use Rattle.apdu_core.specs.Requests.{Request, select, read_binary}
+use Rattle.apdu_core.specs.Requests.{Request, select, read_binary, update_binary}
 use Rattle.apdu_core.specs.Asked.{asked}
-use Rattle.card_core.specs.Cards.{Card, Path, Kind, dedicated, elementary, file_at, identifier, parent, is_transparent, bytes_of}
+use Rattle.card_core.specs.Cards.{Card, Path, Kind, dedicated, elementary, file_at, identifier, parent, is_transparent, bytes_of, overwrite, with_content}
 use Rattle.card_core.specs.Sessions.{Session, at_dedicated_file, at_elementary_file}
 use Rattle.card_core.specs.Reaching.{reached, target_of}
 
@@ -92,6 +93,18 @@ step c s (read_binary target offset expected) =
     ∷ record { applies = nat_le (length content) offset; status = WRONG_OFFSET }
     ∷ [])
     (record { card = c; session = naming s target path; response = read_response (drop offset content) expected })
+step c s (update_binary target offset bytes) =
+    let place = target_of c.tree s target in
+    let path = unwrap_or place [] in
+    let kind = (file_at c.tree path).kind in
+    let content = bytes_of kind in
+    unless_refused c s (
+    record { applies = is_none place; status = missing target }
+    ∷ record { applies = not (is_transparent kind); status = WRONG_STRUCTURE }
+    ∷ record { applies = nat_le (length content) offset; status = WRONG_OFFSET }
+    ∷ record { applies = nat_lt (length content) (offset + length bytes); status = NO_ROOM }
+    ∷ [])
+    (record { card = with_content c path (overwrite content offset bytes); session = naming s target path; response = record { text = []; status = DONE } })
 
 -- what the machine makes of the bytes of a command: the refusals that their form calls for come first
 abbrev pub outcome_of : Card → Session → Result Request Sw → Outcome

@@ -4,12 +4,14 @@ ghost use Rattle.nvm_board.specs.Facts.{Answered, Steady};
 ghost use Rattle.nvm_board.specs.declared.board.TheConstants.{PAGES};
 ghost use Rattle.card_core.specs.declared.layout.TheConstants.{HEADER_PAGE};
 ghost use Rattle.card_core.specs.Memory.{page_words};
-ghost use Rattle.card_core.specs.Power.{FailsBy, WritesAtMost};
+ghost use Rattle.undo_journal.specs.Spending.{WritesAtMost};
+ghost use Rattle.card_core.specs.Power.{FailsBy};
 ghost use Rattle.card_core.specs.Factory.{IsFactory, factory_card, factory_free_block, factory_page as factory_page_of};
+ghost use Rattle.card_core.specs.Finding.{Finds};
 ghost use Rattle.card_core.specs.Plain.{StandsFor};
 
 use crate::layout::{FIRST_BLOCK_PAGE, FIRST_ENTRY_PAGE, FIRST_PIN_PAGE, HEADER_PAGE, MARK, PINS};
-use nvm_board::{Board, DeviceErr, PAGE_WORDS, PAGES};
+use undo_journal::{Board, DeviceErr, PAGE_WORDS, PAGES};
 
 type PageWords = [u32; PAGE_WORDS as usize];
 
@@ -108,6 +110,7 @@ fn write_pages<B: Board>(board: &mut B) -> Result<(), DeviceErr>
 pub fn format<B: Board>(mut board: B) -> Result<B, (B, DeviceErr)>
     ensures factory { IfOk result (λ b. IsFactory (B.facts b).words) }
     ensures stands { IfOk result (λ b. StandsFor (B.facts b).words factory_card) }
+    ensures found { IfOk result (λ b. Finds (B.facts b).words factory_card) }
     ensures power { IfOk result (λ b. Steady (B.facts board) (B.facts b)) }
     ensures power_err { IfErr result (λ e. FailsBy e.1 (B.facts board) (B.facts e.0)) }
     ensures counts { IfOk result (λ b. WritesAtMost PAGES (B.facts board) (B.facts b)) }

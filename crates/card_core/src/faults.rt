@@ -1,3 +1,8 @@
+ghost use Rattle.std.specs.Prelude.{◌≡◌};
+ghost use Rattle.card_core.specs.StartFaults.{fault_of_open, fault_of_store};
+
+use undo_journal::{OpenFault, StoreErr};
+
 /// Power was lost: the board is dark, and nothing is answered until the next start.
 #[derive(Clone, Copy, Debug, PartialEq, Eq)]
 pub struct PowerLost;
@@ -9,6 +14,31 @@ pub enum StartFault {
     PowerLost,
     /// The device failed.
     Fault,
-    /// The memory stands for no card.
+    /// The journal can't be undone. Nothing was written.
+    BadJournal,
+    /// The memory, its journal undone, stands for no card.
     Damaged,
+}
+
+impl From<OpenFault> for StartFault {
+    ghost from_gives = { λ e r. r ≡ fault_of_open e };
+
+    fn from(e: OpenFault) -> Self {
+        match e {
+            OpenFault::PowerLost => StartFault::PowerLost,
+            OpenFault::Fault => StartFault::Fault,
+            OpenFault::BadJournal => StartFault::BadJournal,
+        }
+    }
+}
+
+impl From<StoreErr> for StartFault {
+    ghost from_gives = { λ e r. r ≡ fault_of_store e };
+
+    fn from(e: StoreErr) -> Self {
+        match e {
+            StoreErr::PowerLost => StartFault::PowerLost,
+            StoreErr::Fault => StartFault::Fault,
+        }
+    }
 }

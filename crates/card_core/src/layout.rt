@@ -1,4 +1,4 @@
-// Where the memory keeps what: pages of 16 words. Pages 74 to 127 are the journal's.
+// Where the memory keeps what: pages of 16 words. The gate's page and the journal's pages, 73 to 127, are the store's.
 
 /// The header: the mark, the first free block, the card state.
 pub(crate) const HEADER_PAGE: u16 = 0;
@@ -21,8 +21,11 @@ pub(crate) const FIRST_PIN_PAGE: u16 = 65;
 /// PINs.
 pub(crate) const PINS: u16 = 8;
 
-/// The gate of the journal: how many of its pairs count.
-pub(crate) const GATE_PAGE: u16 = 73;
-
 /// The first block. Blocks reach to the last page; word 0 links to the next block of a chain.
 pub(crate) const FIRST_BLOCK_PAGE: u16 = 128;
+
+/// Words of a block that hold bytes, four each.
+pub(crate) const BLOCK_WORDS: usize = 15;
+
+/// Bytes of a block.
+pub(crate) const BLOCK_BYTES: u16 = 60;

@@ -17,7 +17,8 @@ pub use apdu_core::Answer;
 pub use condition::Condition;
 pub use factory::format;
 pub use faults::{PowerLost, StartFault};
-pub use machine::Card;
+pub use machine::{COMMAND_WRITES, Card};
+pub use undo_journal::{Armed, Board, DeviceErr};
 
 #[cfg(test)]
 mod tests;

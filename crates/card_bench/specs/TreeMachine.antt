@@ -1,0 +1,20 @@
+-- The tree machine as the machine of a world: a card, and the session that it is in.
+use Rattle.std.specs.Prelude.{ℕ, List}
+use Rattle.card_core.specs.Cards.{Card}
+use Rattle.card_core.specs.Sessions.{Session}
+use Rattle.card_core.specs.Steps.{Outcome, answer_bytes, carried_out}
+use Rattle.card_bench.specs.Worlds.{Machine}
+
+pub record Served : Type 0 where
+  pub card : Card
+  pub session : Session
+
+-- one step of the tree machine
+abbrev pub served : Served → List ℕ → Outcome
+served s command = carried_out s.card s.session command
+
+abbrev pub tree_machine : Machine Served
+tree_machine = record {
+  answer = λ s command. answer_bytes (served s command).response;
+  next = λ s command. record { card = (served s command).card; session = (served s command).session };
+}
