@@ -350,7 +350,7 @@ fn finds_before_or_after_at_every_cut(rt: HostRuntime) -> Result<(), Fail> {
 fn finds_the_same_at_every_cut_of_a_start(rt: HostRuntime) -> Result<(), Fail> {
     let mut answer = Answer::new();
     for write in 1..=UPDATE_WRITES {
-        for mask in [0x0000, 0x0001] {
+        for mask in MASKS {
             for start_write in 1..=4 {
                 for start_mask in [0x0000, 0x0001] {
                     let cut = Cut { write, mask };
