@@ -1,24 +1,38 @@
 -- What contracts know of a board that loses power at a write of one's choice.
-use Rattle.std.specs.Prelude.{◌≡◌, ◌+◌, if◌then◌else◌, is_some, Option, Some, false}
-use Rattle.nvm_board.specs.declared.cut_board.Arm.{Arm}
+use Rattle.std.specs.Prelude.{◌≡◌, ◌+◌, ℕ, if◌then◌else◌, is_some, List, Option, Some, None, Result, IsOk, IsErr}
+use Rattle.std.specs.Prelude.{IsErrOf, true, false}
+use Rattle.nvm_board.specs.declared.board.Arm.{Arm}
+use Rattle.nvm_board.specs.declared.board.DeviceErr.{DeviceErr}
+use Rattle.nvm_board.specs.declared.board.DeviceErr.TheVariants.{PowerLost}
 use Rattle.nvm_board.specs.declared.cut_board.CutBoard.{CutBoard}
-use Rattle.nvm_board.specs.Facts.{Facts}
+use Rattle.nvm_board.specs.Facts.{Facts, IsWorn}
 use Rattle.nvm_board.specs.Ram.{ram_facts}
+use Rattle.nvm_board.specs.Torn.{IsTornBy}
 
 -- a cut is to come while an arm is pending
 abbrev pub cut_facts : CutBoard → Facts
-cut_facts b = record (ram_facts b.ram) { due = if is_some b.arm then 1 else 0 }
+cut_facts b = record (ram_facts b.ram) { due = if is_some b.arm then 1 else 0; pending = b.arm }
 
--- the pending arm
-abbrev pub arm_of : CutBoard → Option Arm
-arm_of b = b.arm
+-- A write that no cut falls into. It leaves this arm pending; or power is lost in it for a count at its end, and the arm
+-- stays.
+pub record IsSpared {T : Type 0} (next : Option Arm) (old new : Facts) (result : Result T DeviceErr) : Type 0 where
+  pub done : IsOk result → new.pending ≡ next
+  pub worn : IsErr result → IsWorn old
+  pub stays : IsErr result → new.pending ≡ old.pending
 
--- the same arm, one write earlier
-abbrev pub one_later : Arm → Arm
-one_later a = record a { whole_writes = a.whole_writes + 1 }
+-- A write that the cut falls into: it is torn by the mask, and no cut is to come any more.
+pub record IsCut {T : Type 0} (mask at : ℕ) (run : List ℕ) (old new : Facts) (result : Result T DeviceErr)
+    : Type 0 where
+  pub lost : IsErrOf result PowerLost
+  pub torn : IsTornBy mask old.words at run new.words
+  pub spent : new.pending ≡ None
 
--- the next write is the one to be torn
-pub record Fires (arm : Arm) (pending : Option Arm) (facts : Facts) : Type 0 where
-  pub armed : pending ≡ Some arm
-  pub now : arm.whole_writes ≡ 0
-  pub lit : facts.dark ≡ false
+-- What a write of this run does to the cut that is to come: on a dark board nothing; on a lit one it brings the cut nearer
+-- by one write, until none is left before it.
+pub record ArmAfter {T : Type 0} (at : ℕ) (run : List ℕ) (old new : Facts) (result : Result T DeviceErr) : Type 0 where
+  pub dark : old.dark ≡ true → new.pending ≡ old.pending
+  pub unarmed : old.dark ≡ false → old.pending ≡ None → IsSpared None old new result
+  pub before : (left mask : ℕ) → old.dark ≡ false → old.pending ≡ Some (record { whole_writes = left + 1; mask = mask })
+      → IsSpared (Some (record { whole_writes = left; mask = mask })) old new result
+  pub fires : (mask : ℕ) → old.dark ≡ false → old.pending ≡ Some (record { whole_writes = 0; mask = mask })
+      → IsCut mask at run old new result

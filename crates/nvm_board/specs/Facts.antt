@@ -1,15 +1,18 @@
 -- What contracts know of a board, and what its calls do to it.
-use Rattle.std.specs.Prelude.{◌≡◌, ◌⊎◌, ℕ, ◌+◌, ◌*◌, Bool, true, false, List, replicate, slice_index, slice_set, Contains, Result, IsOk, IsErrOf}
+use Rattle.std.specs.Prelude.{◌≡◌, ◌⊎◌, ℕ, ◌≤◌, ◌<◌, ◌+◌, ◌*◌, ◌^◌, Bool, true, false, List, replicate, slice_index}
+use Rattle.std.specs.Prelude.{slice_set, All, Contains, Option, None, Result, IsOk, IsErrOf}
+use Rattle.nvm_board.specs.declared.board.Arm.{Arm}
 use Rattle.nvm_board.specs.declared.board.DeviceErr.{DeviceErr}
 use Rattle.nvm_board.specs.declared.board.DeviceErr.TheVariants.{PowerLost, Fault}
 use Rattle.nvm_board.specs.declared.board.TheConstants.{COUNT_END, PAGE_WORDS, WORDS, SECRETS}
 
--- All that contracts know of a board: its words, whether its power is off, how many cuts may still come, and what it
--- has counted; the comparisons and matches for each secret.
+-- All that contracts know of a board: its words, whether its power is off, how many cuts may still come, which cut or
+-- fault is set to come at a later write, and what it has counted; the comparisons and matches for each secret.
 pub record Facts : Type 0 where
   pub words : List ℕ
   pub dark : Bool
   pub due : ℕ
+  pub pending : Option Arm
   pub faults : ℕ
   pub cuts : ℕ
   pub writes : ℕ
@@ -22,11 +25,34 @@ address page first = PAGE_WORDS * page + first
 
 -- a new board: lit, all words and counts 0, and no cut to come
 abbrev pub new_board : Facts
-new_board = record { words = replicate WORDS 0; dark = false; due = 0; faults = 0; cuts = 0; writes = 0; compares = replicate SECRETS 0; matches = replicate SECRETS 0 }
+new_board = record {
+  words = replicate WORDS 0;
+  dark = false;
+  due = 0;
+  pending = None;
+  faults = 0;
+  cuts = 0;
+  writes = 0;
+  compares = replicate SECRETS 0;
+  matches = replicate SECRETS 0;
+}
+
+-- each is a word of 32 bits
+abbrev pub AreWords : List ℕ → Type 0
+AreWords words = All (λ w. w < 2 ^ 32) words
+
+-- no count is past its end
+pub record CountsFit (f : Facts) : Type 0 where
+  pub faults : f.faults ≤ COUNT_END
+  pub cuts : f.cuts ≤ COUNT_END
+  pub writes : f.writes ≤ COUNT_END
+  pub compares : All (λ n. n ≤ COUNT_END) f.compares
+  pub matches : All (λ n. n ≤ COUNT_END) f.matches
 
 -- a count that a call may raise, other than the cuts, stands at its end
 abbrev pub IsWorn : Facts → Type 0
-IsWorn f = (f.faults ≡ COUNT_END) ⊎ (f.writes ≡ COUNT_END) ⊎ Contains f.compares COUNT_END ⊎ Contains f.matches COUNT_END
+IsWorn f = (f.faults ≡ COUNT_END) ⊎ (f.writes ≡ COUNT_END) ⊎ Contains f.compares COUNT_END
+    ⊎ Contains f.matches COUNT_END
 
 -- some count stands at its end
 abbrev pub IsWornOut : Facts → Type 0
@@ -62,9 +88,9 @@ pub record Answered {T : Type 0} (old new : Facts) (result : Result T DeviceErr)
   pub lost : IsErrOf result PowerLost → GoesDark old new ⊎ ((old.dark ≡ true) × (new ≡ old))
   pub fault : IsErrOf result Fault → Fails old new
 
--- neither a cut nor a fault came
-abbrev pub IsUncut : Facts → Facts → Type 0
-IsUncut old new = (new.due ≡ old.due) × (new.faults ≡ old.faults)
+-- Where a call loses power that was on, a cut was due, or a count stood at its end before the call.
+unfoldable pub IsLostRightly : {T : Type 0} → Facts → Facts → Result T DeviceErr → Type 0
+IsLostRightly old new result = IsErrOf result PowerLost → old.dark ≡ false → (old.due ≡ new.due + 1) ⊎ IsWorn old
 
 -- one more of a secret's comparisons or matches
 abbrev pub raised : List ℕ → ℕ → List ℕ

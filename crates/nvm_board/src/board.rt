@@ -1,7 +1,9 @@
 //! What a board is: its calls, and what each does to its words, its light and its counts.
-ghost use Rattle.std.specs.Prelude.{◌≡◌, ◌⊎◌, ◌+◌, ◌<◌, ◌≤◌, ◌↔◌, if◌then◌else◌, true, false, length, IsTrue, IsErr, IsErrOf, IfOk, OnOk, OnErr, slice_index};
+ghost use Rattle.std.specs.Prelude.{◌≡◌, ◌⊎◌, ◌+◌, ◌-◌, ◌<◌, ◌≤◌, ◌↔◌, if◌then◌else◌, true, false, length, Some};
+ghost use Rattle.std.specs.Prelude.{IsTrue, IsErr, IsErrOf, IfOk, OnOk, OnErr, slice_index};
 ghost use Rattle.nvm_board.specs.declared.board.TheConstants.{PAGES, PAGE_WORDS, WORDS, SECRETS, COUNT_END};
-ghost use Rattle.nvm_board.specs.Facts.{Facts, Answered, RisesAt, IsUncut, IsWornOut, address, raised};
+ghost use Rattle.nvm_board.specs.Facts.{Facts, AreWords, CountsFit, Answered, IsLostRightly, RisesAt, IsWornOut};
+ghost use Rattle.nvm_board.specs.Facts.{address, raised};
 ghost use Rattle.nvm_board.specs.Torn.{Torn, written};
 
 /// Pages of a board.
@@ -32,6 +34,15 @@ pub enum DeviceErr {
 #[derive(Clone, Copy, Debug, PartialEq, Eq)]
 pub struct WornOut;
 
+/// A cut, or a fault, that is to come at a write.
+#[derive(Clone, Copy, Debug, PartialEq, Eq)]
+pub struct Arm {
+    /// The writes that are still carried out before the torn one.
+    pub whole_writes: u32,
+    /// Which words of the torn write are new: bit i tells of the ith.
+    pub mask: u16,
+}
+
 /// A memory of words that power may leave, with a comparer of secrets. The atomic step is one word of one
 /// write that turns from old to new: power may fail between any two such steps.
 pub trait Board {
@@ -43,6 +54,7 @@ pub trait Board {
         requires { at < WORDS }
         ensures word { IfOk result (λ w. w ≡ slice_index (facts self.old).words at) }
         ensures light { Answered (facts self.old) (facts self.new) result }
+        ensures worn { IsLostRightly (facts self.old) (facts self.new) result }
         ensures words { (facts self.new).words ≡ (facts self.old).words }
         ensures writes { (facts self.new).writes ≡ (facts self.old).writes }
         ensures compares { (facts self.new).compares ≡ (facts self.old).compares }
@@ -54,16 +66,16 @@ pub trait Board {
         requires page { page < PAGES }
         requires some { 0 < length words.now }
         requires run { first + length words.now ≤ PAGE_WORDS }
-        ensures done { OnOk result ((facts self.new).words ≡ written (facts self.old).words (address page first) words.now) }
+        ensures done { OnOk result ((facts self.new).words ≡ written (facts self.old).words (address page first)
+            words.now) }
         ensures torn { Torn (facts self.old).words (address page first) words.now (facts self.new).words }
         ensures light { Answered (facts self.old) (facts self.new) result }
+        ensures worn { IsLostRightly (facts self.old) (facts self.new) result }
 
-        // Nothing else raises the writes. Where power is lost without a cut, a count stood at its end before the call.
+        // Nothing else raises the writes.
         ensures counted { OnOk result ((facts self.new).writes ≡ (facts self.old).writes + 1) }
         ensures counted_err { OnErr result (((facts self.new).writes ≡ (facts self.old).writes)
             ⊎ ((facts self.new).writes ≡ (facts self.old).writes + 1)) }
-        ensures counted_uncut { OnErr result (IsUncut (facts self.old) (facts self.new)
-            → (facts self.new).writes ≡ (facts self.old).writes) }
         ensures compares { (facts self.new).compares ≡ (facts self.old).compares }
         ensures matches { (facts self.new).matches ≡ (facts self.old).matches };
 
@@ -72,6 +84,7 @@ pub trait Board {
         requires { secret < SECRETS }
         ensures equal { IfOk result (λ e. IsTrue e ↔ (kept.now ≡ shown.now)) }
         ensures light { Answered (facts self.old) (facts self.new) result }
+        ensures worn { IsLostRightly (facts self.old) (facts self.new) result }
         ensures words { (facts self.new).words ≡ (facts self.old).words }
         ensures writes { (facts self.new).writes ≡ (facts self.old).writes }
 
@@ -80,16 +93,19 @@ pub trait Board {
         ensures compared_err { OnErr result (RisesAt (facts self.old).compares secret (facts self.new).compares) }
         ensures matched { IfOk result (λ e. (facts self.new).matches
             ≡ (if e then raised (facts self.old).matches secret else (facts self.old).matches)) }
-        ensures matched_err { OnErr result (RisesAt (facts self.old).matches secret (facts self.new).matches) }
-        ensures compared_uncut { OnErr result (IsUncut (facts self.old) (facts self.new)
-            → ((facts self.new).compares ≡ (facts self.old).compares)
-            × ((facts self.new).matches ≡ (facts self.old).matches)) };
+        ensures matched_err { OnErr result (RisesAt (facts self.old).matches secret (facts self.new).matches) };
 
     /// Each board has all its words.
     ghost sized: { (board : Self) → length (facts board).words ≡ WORDS };
 
+    /// Each of them has 32 bits.
+    ghost words_fit: { (board : Self) → AreWords (facts board).words };
+
     /// Each board counts the comparisons of each secret, and its matches.
     ghost counted: { (board : Self) → (length (facts board).compares ≡ SECRETS) × (length (facts board).matches ≡ SECRETS) };
+
+    /// No count is past its end.
+    ghost counts_fit: { (board : Self) → CountsFit (facts board) };
 
     /// A lit board can count one more cut.
     ghost may_go: { (board : Self) → (facts board).dark ≡ false → (facts board).cuts < COUNT_END };
@@ -115,5 +131,21 @@ pub trait Armed: Socket {
     fn arm(&mut self, k: u32, mask: u16)
         requires { 1 ≤ k }
         ensures due { (Self.facts self.new).due ≤ 1 }
-        ensures same { Self.facts self.new ≡ record (Self.facts self.old) { due = (Self.facts self.new).due } };
+        ensures same { Self.facts self.new ≡ record (Self.facts self.old) {
+          due = (Self.facts self.new).due;
+          pending = Some record { whole_writes = k - 1; mask = mask };
+        } };
+}
+
+/// A board that has no faults.
+pub trait Faultless: Board {
+    /// No fault is counted.
+    ghost faultless: { (board : Self) → (Self.facts board).faults ≡ 0 };
+}
+
+/// Tells that a board counts no fault.
+pub fn has_no_fault<B: Faultless>(board: &B)
+    ensures { (B.facts board.now).faults ≡ 0 }
+{
+    let _ = board;
 }

@@ -1,20 +1,10 @@
 //! A board in working memory that loses power at a write of one's choice.
-ghost use Rattle.std.specs.Prelude.{◌≡◌, ◌⊎◌, ◌+◌, ◌-◌, ◌<◌, ◌≤◌, ◌↔◌, true, false, length, Some, None, IsTrue, IsErrOf, IfOk, OnOk, OnErr};
-ghost use Rattle.nvm_board.specs.declared.board.TheConstants.{PAGES, PAGE_WORDS};
-ghost use Rattle.nvm_board.specs.Facts.{address, new_board};
+ghost use Rattle.std.specs.Prelude.{◌≡◌, IfOk};
+ghost use Rattle.nvm_board.specs.Facts.{new_board};
 
-use crate::board::{Armed, Board, DeviceErr, Socket, WornOut};
+use crate::board::{Arm, Armed, Board, DeviceErr, Faultless, Socket, WornOut};
 use crate::ram_board::RamBoard;
 use std::alloc::{AllocError, Global};
-
-/// A cut that is to come.
-#[derive(Clone, Copy, Debug, PartialEq, Eq)]
-pub struct Arm {
-    /// The writes that are still carried out before the torn one.
-    pub whole_writes: u32,
-    /// Which words of the torn write are new: bit i tells of the ith.
-    pub mask: u16,
-}
 
 /// A board in working memory of which one write can be set to be torn, with power lost in it. The arm stays
 /// over power-ons until it fires.
@@ -39,41 +29,49 @@ impl CutBoard {
 }
 
 impl Board for CutBoard {
-    ghost use Rattle.std.specs.Prelude.{◌≡◌, ◌⊎◌, ◌+◌, ◌-◌, ◌<◌, ◌≤◌, ◌↔◌, true, false, length, Some, None, IsTrue, IsErrOf, IfOk, OnOk, OnErr, option_map};
-    ghost use Rattle.nvm_board.specs.declared.board.TheConstants.{PAGES, PAGE_WORDS};
-    ghost use Rattle.nvm_board.specs.declared.board.DeviceErr.TheVariants.{PowerLost};
-    ghost use Rattle.nvm_board.specs.declared.cut_board.Arm.{Arm};
-    ghost use Rattle.nvm_board.specs.Facts.{Answered, IsUncut, address};
-    ghost use Rattle.nvm_board.specs.Torn.{Torn, IsTornBy, written};
-    ghost use Rattle.nvm_board.specs.Cut.{cut_facts, arm_of, one_later, Fires};
+    ghost use Rattle.std.specs.Prelude.{◌≡◌, ◌⊎◌, ◌+◌, ◌<◌, ◌≤◌, ◌↔◌, if◌then◌else◌, length, IsTrue, IfOk, OnOk, OnErr};
+    ghost use Rattle.std.specs.Prelude.{slice_index};
+    ghost use Rattle.nvm_board.specs.declared.board.TheConstants.{PAGES, PAGE_WORDS, WORDS, SECRETS};
+    ghost use Rattle.nvm_board.specs.Facts.{Answered, IsLostRightly, RisesAt, address, raised};
+    ghost use Rattle.nvm_board.specs.Torn.{Torn, written};
+    ghost use Rattle.nvm_board.specs.Cut.{cut_facts, ArmAfter};
+    ghost use Rattle.nvm_board.specs.laws.Counts.{cut_counts_fit};
 
     ghost facts = { cut_facts };
 
-    fn read(&mut self, at: u16) -> Result<u32, DeviceErr> {
+    #[tactic(auto, unfolding(crate::specs::Facts::IsLostRightly))]
+    fn read(&mut self, at: u16) -> Result<u32, DeviceErr>
+        requires { at < WORDS }
+        ensures word { IfOk result (λ w. w ≡ slice_index (cut_facts self.old).words at) }
+        ensures light { Answered (cut_facts self.old) (cut_facts self.new) result }
+        ensures worn { IsLostRightly (cut_facts self.old) (cut_facts self.new) result }
+        ensures words { (cut_facts self.new).words ≡ (cut_facts self.old).words }
+        ensures writes { (cut_facts self.new).writes ≡ (cut_facts self.old).writes }
+        ensures compares { (cut_facts self.new).compares ≡ (cut_facts self.old).compares }
+        ensures matches { (cut_facts self.new).matches ≡ (cut_facts self.old).matches }
+
+        // Only writes bring the cut nearer.
+        ensures arm { (cut_facts self.new).pending ≡ (cut_facts self.old).pending }
+    {
         self.ram.read(at)
     }
 
+    #[tactic(auto, unfolding(crate::specs::Facts::IsLostRightly))]
     fn write(&mut self, page: u16, first: u8, words: &[u32]) -> Result<(), DeviceErr>
         requires page { page < PAGES }
         requires some { 0 < length words.now }
         requires run { first + length words.now ≤ PAGE_WORDS }
-        ensures done { OnOk result ((cut_facts self.new).words ≡ written (cut_facts self.old).words (address page first) words.now) }
+        ensures done { OnOk result ((cut_facts self.new).words ≡ written (cut_facts self.old).words (address page first)
+            words.now) }
         ensures torn { Torn (cut_facts self.old).words (address page first) words.now (cut_facts self.new).words }
         ensures light { Answered (cut_facts self.old) (cut_facts self.new) result }
+        ensures worn { IsLostRightly (cut_facts self.old) (cut_facts self.new) result }
         ensures counted { OnOk result ((cut_facts self.new).writes ≡ (cut_facts self.old).writes + 1) }
         ensures counted_err { OnErr result (((cut_facts self.new).writes ≡ (cut_facts self.old).writes)
             ⊎ ((cut_facts self.new).writes ≡ (cut_facts self.old).writes + 1)) }
-        ensures counted_uncut { OnErr result (IsUncut (cut_facts self.old) (cut_facts self.new)
-            → (cut_facts self.new).writes ≡ (cut_facts self.old).writes) }
         ensures compares { (cut_facts self.new).compares ≡ (cut_facts self.old).compares }
         ensures matches { (cut_facts self.new).matches ≡ (cut_facts self.old).matches }
-
-        // The armed write, and those before it.
-        ensures fires { (a : Arm) → Fires a (arm_of self.old) (cut_facts self.old)
-            → IsErrOf result PowerLost × (arm_of self.new ≡ None) }
-        ensures masked { (a : Arm) → Fires a (arm_of self.old) (cut_facts self.old)
-            → IsTornBy a.mask (cut_facts self.old).words (address page first) words.now (cut_facts self.new).words }
-        ensures nearer { OnOk result (arm_of self.old ≡ option_map one_later (arm_of self.new)) }
+        ensures arm { ArmAfter (address page first) words.now (cut_facts self.old) (cut_facts self.new) result }
     {
         if self.ram.is_dark() {
             return Err(DeviceErr::PowerLost);
@@ -95,13 +93,33 @@ impl Board for CutBoard {
         Ok(())
     }
 
-    fn compare(&mut self, secret: u8, kept: &[u8; 8], shown: &[u8; 8]) -> Result<bool, DeviceErr> {
+    #[tactic(auto, unfolding(crate::specs::Facts::IsLostRightly))]
+    fn compare(&mut self, secret: u8, kept: &[u8; 8], shown: &[u8; 8]) -> Result<bool, DeviceErr>
+        requires { secret < SECRETS }
+        ensures equal { IfOk result (λ e. IsTrue e ↔ (kept.now ≡ shown.now)) }
+        ensures light { Answered (cut_facts self.old) (cut_facts self.new) result }
+        ensures worn { IsLostRightly (cut_facts self.old) (cut_facts self.new) result }
+        ensures words { (cut_facts self.new).words ≡ (cut_facts self.old).words }
+        ensures writes { (cut_facts self.new).writes ≡ (cut_facts self.old).writes }
+        ensures compared { OnOk result ((cut_facts self.new).compares ≡ raised (cut_facts self.old).compares secret) }
+        ensures compared_err { OnErr result (RisesAt (cut_facts self.old).compares secret (cut_facts self.new).compares) }
+        ensures matched { IfOk result (λ e. (cut_facts self.new).matches
+            ≡ (if e then raised (cut_facts self.old).matches secret else (cut_facts self.old).matches)) }
+        ensures matched_err { OnErr result (RisesAt (cut_facts self.old).matches secret (cut_facts self.new).matches) }
+
+        // Only writes bring the cut nearer.
+        ensures arm { (cut_facts self.new).pending ≡ (cut_facts self.old).pending }
+    {
         self.ram.compare(secret, kept, shown)
     }
 
     ghost sized = { λ b. b.ram.sized };
 
+    ghost words_fit = { λ b. b.ram.words_fit };
+
     ghost counted = { λ b. (b.ram.compares_counted, b.ram.matches_counted) };
+
+    ghost counts_fit = { cut_counts_fit };
 
     ghost may_go = { λ b. b.ram.may_go };
 }
@@ -117,18 +135,26 @@ impl Socket for CutBoard {
 }
 
 impl Armed for CutBoard {
-    ghost use Rattle.std.specs.Prelude.{◌≡◌, ◌+◌, ◌≤◌, Some};
-    ghost use Rattle.nvm_board.specs.Cut.{cut_facts, arm_of};
+    ghost use Rattle.std.specs.Prelude.{◌≡◌, ◌-◌, ◌≤◌, Some};
+    ghost use Rattle.nvm_board.specs.Cut.{cut_facts};
 
     fn arm(&mut self, k: u32, mask: u16)
         requires { 1 ≤ k }
-        ensures due { (cut_facts self.new).due ≤ 1 }
-        ensures same { cut_facts self.new ≡ record (cut_facts self.old) { due = (cut_facts self.new).due } }
-        ensures armed { arm_of self.new ≡ Some record { whole_writes = k - 1; mask = mask } }
+        ensures due { (cut_facts self.new).due ≡ 1 }
+        ensures same { cut_facts self.new ≡ record (cut_facts self.old) {
+          due = (cut_facts self.new).due;
+          pending = Some record { whole_writes = k - 1; mask = mask };
+        } }
     {
         self.arm = Some(Arm {
             whole_writes: k - 1,
             mask,
         });
     }
+}
+
+impl Faultless for CutBoard {
+    ghost use Rattle.std.specs.Prelude.{refl};
+
+    ghost faultless = { λ b. refl };
 }

@@ -9,10 +9,8 @@ mod ram_board;
 mod runs;
 
 pub use board::{
-    Armed, Board, COUNT_END, DeviceErr, PAGE_WORDS, PAGES, SECRETS, Socket, WORDS, WornOut,
+    Arm, Armed, Board, COUNT_END, DeviceErr, Faultless, PAGE_WORDS, PAGES, SECRETS, Socket, WORDS,
+    WornOut, has_no_fault,
 };
 pub use cut_board::CutBoard;
 pub use ram_board::RamBoard;
-
-#[cfg(test)]
-mod tests;

@@ -1,10 +1,10 @@
 //! A board in working memory, which never fails and loses power only by call or at the end of a count.
-ghost use Rattle.std.specs.Prelude.{◌≡◌, ◌⊎◌, ◌+◌, ◌<◌, ◌≤◌, ◌↔◌, true, false, length, IsTrue, Contains, IfOk};
+ghost use Rattle.std.specs.Prelude.{◌≡◌, ◌⊎◌, ◌+◌, ◌<◌, ◌≤◌, ◌↔◌, true, false, length, IsTrue, All, Contains, IfOk};
 ghost use Rattle.nvm_board.specs.declared.board.TheConstants.{WORDS, SECRETS, COUNT_END, PAGES, PAGE_WORDS};
-ghost use Rattle.nvm_board.specs.Facts.{address};
+ghost use Rattle.nvm_board.specs.Facts.{AreWords, address};
 
 use crate::board::{
-    Board, COUNT_END, DeviceErr, PAGE_WORDS, PAGES, SECRETS, Socket, WORDS, WornOut,
+    Board, COUNT_END, DeviceErr, Faultless, PAGE_WORDS, PAGES, SECRETS, Socket, WORDS, WornOut,
 };
 use crate::runs::{put_masked, put_run};
 use std::alloc::{AllocError, Global};
@@ -19,8 +19,13 @@ pub struct RamBoard {
     compares: [u64; SECRETS as usize],
     matches: [u64; SECRETS as usize],
     ghost sized: { length words.items ≡ WORDS },
+    ghost words_fit: { AreWords words.items },
     ghost compares_counted: { length compares ≡ SECRETS },
     ghost matches_counted: { length matches ≡ SECRETS },
+    ghost cuts_fit: { cuts ≤ COUNT_END },
+    ghost writes_fit: { writes ≤ COUNT_END },
+    ghost compares_fit: { All (λ n. n ≤ COUNT_END) compares },
+    ghost matches_fit: { All (λ n. n ≤ COUNT_END) matches },
     ghost may_go: { dark ≡ false → cuts < COUNT_END },
 }
 
@@ -43,14 +48,14 @@ impl RamBoard {
         })
     }
 
-    // Whether power is off.
+    /// Whether power is off.
     pub(crate) fn is_dark(&self) -> bool
         ensures { result ≡ (ram_facts self.now).dark }
     {
         self.dark
     }
 
-    // Whether a count stands at its end.
+    /// Whether a count stands at its end.
     fn is_worn_out(&self) -> bool
         ensures worn { IsTrue result ↔ IsWornOut (ram_facts self.now) }
         ensures spare { result ≡ false → self.now.cuts < COUNT_END }
@@ -61,7 +66,7 @@ impl RamBoard {
             || has_ended(&self.matches)
     }
 
-    // Loses power in a call.
+    /// Loses power in a call.
     fn go_dark(&mut self)
         requires { self.old.dark ≡ false }
         ensures { ram_facts self.new ≡ record (ram_facts self.old) { dark = true; cuts = self.old.cuts + 1 } }
@@ -70,13 +75,15 @@ impl RamBoard {
         self.dark = true;
     }
 
-    // Tears a write by the mask, and loses power in it.
+    /// Tears a write by the mask, and loses power in it.
     pub(crate) fn tear(&mut self, page: u16, first: u8, words: &[u32], mask: u16)
         requires lit { self.old.dark ≡ false }
         requires page { page < PAGES }
         requires run { first + length words.now ≤ PAGE_WORDS }
-        ensures torn { IsTornBy mask (ram_facts self.old).words (address page first) words.now (ram_facts self.new).words }
-        ensures same { ram_facts self.new ≡ record (ram_facts self.old) { words = (ram_facts self.new).words; dark = true; cuts = self.old.cuts + 1 } }
+        ensures torn { IsTornBy mask (ram_facts self.old).words (address page first) words.now
+            (ram_facts self.new).words }
+        ensures same { ram_facts self.new ≡ record (ram_facts self.old)
+            { words = (ram_facts self.new).words; dark = true; cuts = self.old.cuts + 1 } }
     {
         put_masked(&mut self.words, place(page, first), words, mask);
         self.go_dark();
@@ -85,9 +92,11 @@ impl RamBoard {
 
 impl Board for RamBoard {
     ghost use Rattle.nvm_board.specs.Ram.{ram_facts};
+    ghost use Rattle.nvm_board.specs.laws.Counts.{ram_counts_fit};
 
     ghost facts = { ram_facts };
 
+    #[tactic(auto, unfolding(crate::specs::Facts::IsLostRightly))]
     fn read(&mut self, at: u16) -> Result<u32, DeviceErr> {
         if self.dark {
             return Err(DeviceErr::PowerLost);
@@ -95,6 +104,7 @@ impl Board for RamBoard {
         Ok(self.words[usize::from(at)])
     }
 
+    #[tactic(auto, unfolding(crate::specs::Facts::IsLostRightly))]
     fn write(&mut self, page: u16, first: u8, words: &[u32]) -> Result<(), DeviceErr> {
         if self.dark {
             return Err(DeviceErr::PowerLost);
@@ -108,6 +118,7 @@ impl Board for RamBoard {
         Ok(())
     }
 
+    #[tactic(auto, unfolding(crate::specs::Facts::IsLostRightly))]
     fn compare(&mut self, secret: u8, kept: &[u8; 8], shown: &[u8; 8]) -> Result<bool, DeviceErr> {
         if self.dark {
             return Err(DeviceErr::PowerLost);
@@ -129,7 +140,11 @@ impl Board for RamBoard {
 
     ghost sized = { λ b. b.sized };
 
+    ghost words_fit = { λ b. b.words_fit };
+
     ghost counted = { λ b. (b.compares_counted, b.matches_counted) };
+
+    ghost counts_fit = { ram_counts_fit };
 
     ghost may_go = { λ b. b.may_go };
 }
@@ -148,7 +163,13 @@ impl Socket for RamBoard {
     }
 }
 
-// A word's place among all words.
+impl Faultless for RamBoard {
+    ghost use Rattle.std.specs.Prelude.{refl};
+
+    ghost faultless = { λ b. refl };
+}
+
+/// A word's place among all words.
 fn place(page: u16, first: u8) -> usize
     requires page { page < PAGES }
     requires first { first ≤ PAGE_WORDS }
@@ -157,31 +178,9 @@ fn place(page: u16, first: u8) -> usize
     usize::from(PAGE_WORDS) * usize::from(page) + usize::from(first)
 }
 
-// Whether one of the counts stands at its end.
+/// Whether one of the counts stands at its end.
 fn has_ended(counts: &[u64]) -> bool
     ensures { IsTrue result ↔ Contains counts.now COUNT_END }
 {
     counts.contains(&COUNT_END)
-}
-
-#[cfg(test)]
-mod tests {
-    use super::*;
-    use std::test::Fail;
-
-    #[test]
-    fn ends_at_the_end_of_a_count(rt: HostRuntime) -> Result<(), Fail> {
-        let mut board = RamBoard::new(rt.alloc())?;
-        assert!(rt; board.compare(3, &[1; 8], &[1; 8])?);
-        assert!(rt; !board.compare(3, &[1; 8], &[2; 8])?);
-        let (compares, matches) = (board.compares[3], board.matches[3]);
-        assert_eq!(rt; compares, 2);
-        assert_eq!(rt; matches, 1);
-        board.writes = COUNT_END - 1;
-        board.write(0, 0, &[1])?;
-        assert_eq!(rt; board.write(0, 0, &[2]), Err(DeviceErr::PowerLost));
-        assert_eq!(rt; board.cuts, 1);
-        assert_eq!(rt; board.light(), Err(WornOut));
-        Ok(())
-    }
 }

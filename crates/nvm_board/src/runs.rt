@@ -1,26 +1,29 @@
 //! Runs of words, written whole or torn.
 ghost use Rattle.std.specs.Prelude.{◌≡◌, ◌+◌, ◌≤◌, length};
+ghost use Rattle.nvm_board.specs.Facts.{AreWords};
 ghost use Rattle.nvm_board.specs.Torn.{written, IsTornBy};
 ghost use Rattle.nvm_board.specs.declared.board.TheConstants.{PAGE_WORDS};
 
 use crate::board::PAGE_WORDS;
 
-// Writes the run into the words, from the place `start` on.
+/// Writes the run into the words, from the place `start` on.
 pub(crate) fn put_run(words: &mut Vec<u32>, start: usize, run: &[u32])
     requires { start + length run.now ≤ length words.old.items }
     ensures put { words.new.items ≡ written words.old.items start run.now }
     ensures size { length words.new.items ≡ length words.old.items }
+    ensures fits { AreWords words.old.items → AreWords words.new.items }
 {
     for (i, word) in run.iter().enumerate() {
         words[start + i] = *word;
     }
 }
 
-// Writes those words of the run whose bit of the mask is set.
+/// Writes those words of the run whose bit of the mask is set.
 pub(crate) fn put_masked(words: &mut Vec<u32>, start: usize, run: &[u32], mask: u16)
     requires inside { start + length run.now ≤ length words.old.items }
     requires page { length run.now ≤ PAGE_WORDS }
-    ensures { IsTornBy mask words.old.items start run.now words.new.items }
+    ensures torn { IsTornBy mask words.old.items start run.now words.new.items }
+    ensures fits { AreWords words.old.items → AreWords words.new.items }
 {
     for (i, word) in run.iter().enumerate() {
         if mask & 1 << i != 0 {

@@ -1,11 +1,16 @@
 -- Writes that last: with no pair that counts, and of the gate itself.
-use Rattle.std.proofs.Common.{◌≡◌, ◌⊎◌, ◌<◌, ◌≤◌, ◌+◌, ℕ, suc, List, [], ◌∷◌, length, slice_set, refl, sym, ◌∙◌, ap, subst, inl, inr, arith}
+use Rattle.std.specs.Prelude.{None}
+use Rattle.std.proofs.Common.{◌≡◌, ◌⊎◌, ◌<◌, ◌≤◌, ◌+◌, ℕ, suc, List, [], ◌∷◌, length, slice_set, refl, sym, ◌∙◌, ap}
+use Rattle.std.proofs.Common.{subst, inl, inr, arith}
 use Rattle.std.proofs.Math.ListN.{length-set}
-use Rattle.std.proofs.Math.Logic.{⊎_elim}
-use Rattle.nvm_board.specs.Torn.{Torn, written, Torn-all, IsMixture, IsMixture-Torn}
+use Rattle.std.proofs.Math.Logic.{⊎_elim, ⊎_map}
+use Rattle.nvm_board.specs.Torn.{Torn, written, IsMixture}
+use Rattle.nvm_board.specs.laws.Torn.{Torn-all, IsMixture-Torn}
 use Rattle.undo_journal.specs.declared.layout.TheConstants.{GATE, JOURNAL_END}
 use Rattle.undo_journal.specs.Undo.{gate, undo, data_words, IsOutside, IsDataAddress, IsDataRun, IsSound}
-use Rattle.undo_journal.specs.UndoLaws.{data_words-set, sound_shut}
+use Rattle.undo_journal.specs.laws.Undo.{data_words-set, sound_shut}
+use Rattle.undo_journal.specs.Memory.{Memory, committed, current, IsIdle, IsTrueToBoard}
+use Rattle.undo_journal.proofs.Standing.{board-place, board-run}
 use Rattle.undo_journal.proofs.Saving.{committed-shut, gate-set, gate-shut, current-gate}
 
 -- the gate set to 0: what was current is committed
@@ -21,7 +26,8 @@ commit-sound m n within sound torn = ⊎_elim
     torn
 
 -- the data words of a torn run
-pub data_words-Torn : (m run n : List ℕ) (a : ℕ) → ((k : ℕ) → k < length run → IsDataAddress m (a + k)) → Torn m a run n → Torn (data_words m) a run (data_words n)
+pub data_words-Torn : (m run n : List ℕ) (a : ℕ) → ((k : ℕ) → k < length run → IsDataAddress m (a + k)) → Torn m a run n
+    → Torn (data_words m) a run (data_words n)
 data_words-Torn m [] n a places e = ap data_words e
 data_words-Torn m (w ∷ run) n a places (inl old) =
     inl (data_words-Torn m run n (a + 1) (λ k lt.
@@ -45,7 +51,8 @@ data_words-Torn m (w ∷ run) n a places (inr new) =
     inr (subst family (data_words-set m a w here) rest)
 
 -- the data words of a written run
-pub data_words-written : (m run : List ℕ) (a : ℕ) → ((k : ℕ) → k < length run → IsDataAddress m (a + k)) → data_words (written m a run) ≡ written (data_words m) a run
+pub data_words-written : (m run : List ℕ) (a : ℕ) → ((k : ℕ) → k < length run → IsDataAddress m (a + k))
+    → data_words (written m a run) ≡ written (data_words m) a run
 data_words-written m [] a places = refl
 data_words-written m (w ∷ run) a places =
     let some : 0 < suc (length run) = omega arith in
@@ -78,16 +85,20 @@ run-apart m a n run = elim run.0 [
 ]
 
 -- with no pair that counts: a run of data words
-module _ (m run : List ℕ) (a : ℕ) (shut : gate m ≡ 0) (places : (k : ℕ) → k < length run → IsDataAddress m (a + k)) where
-  pub torn-gate : (n : List ℕ) → a + length run ≤ length m → (GATE < a) ⊎ (a + length run ≤ GATE) → Torn m a run n → gate n ≡ 0
+module _ (m run : List ℕ) (a : ℕ) (shut : gate m ≡ 0)
+    (places : (k : ℕ) → k < length run → IsDataAddress m (a + k)) where
+  pub torn-gate : (n : List ℕ) → a + length run ≤ length m → (GATE < a) ⊎ (a + length run ≤ GATE) → Torn m a run n
+      → gate n ≡ 0
   torn-gate n fits apart torn =
       let mixture : IsMixture m a run n = IsMixture-Torn m run n a fits torn in
       mixture.elsewhere GATE apart ∙ shut
 
-  pub torn-sound : (n : List ℕ) → a + length run ≤ length m → (GATE < a) ⊎ (a + length run ≤ GATE) → Torn m a run n → IsSound n
+  pub torn-sound : (n : List ℕ) → a + length run ≤ length m → (GATE < a) ⊎ (a + length run ≤ GATE) → Torn m a run n
+      → IsSound n
   torn-sound n fits apart torn = sound_shut n (torn-gate n fits apart torn)
 
-  pub torn-shut : (n : List ℕ) → 0 < length run → a + length run ≤ length m → (GATE < a) ⊎ (a + length run ≤ GATE) → Torn m a run n
+  pub torn-shut : (n : List ℕ) → 0 < length run → a + length run ≤ length m → (GATE < a) ⊎ (a + length run ≤ GATE)
+      → Torn m a run n
       → Torn (data_words (undo m)) a run (data_words (undo n))
   torn-shut n some fits apart torn =
       let before : List ℕ → Type 0 = λ l. Torn l a run (data_words n) in
@@ -95,7 +106,8 @@ module _ (m run : List ℕ) (a : ℕ) (shut : gate m ≡ 0) (places : (k : ℕ) 
       subst after (sym (committed-shut n (torn-gate n fits apart torn)))
       (subst before (sym (committed-shut m shut)) (data_words-Torn m run n a places torn))
 
-  pub written-shut : (n : List ℕ) → a + length run ≤ length m → (GATE < a) ⊎ (a + length run ≤ GATE) → n ≡ written m a run
+  pub written-shut : (n : List ℕ) → a + length run ≤ length m → (GATE < a) ⊎ (a + length run ≤ GATE)
+      → n ≡ written m a run
       → data_words (undo n) ≡ written (data_words (undo m)) a run
   written-shut n fits apart done =
       let family : List ℕ → Type 0 = λ l. Torn m a run l in
@@ -115,3 +127,67 @@ module _ (m : List ℕ) (a w : ℕ) (shut : gate m ≡ 0) (place : IsDataAddress
   word-alone n done =
       committed-shut n (gate-alone n done) ∙ ap data_words done ∙ data_words-set m a w place
       ∙ ap (λ (l : List ℕ). slice_set l a w) (sym (committed-shut m shut))
+
+-- A store that works, with no transaction: its value from within, and as its caller has it.
+module _ (inside m : Memory) (seen : inside ≡ m) (held : IsTrueToBoard inside) (works : inside.failed ≡ None)
+    (idle : IsIdle m) where
+  pub unused-within : inside.used ≡ 0
+  unused-within = ap (λ (x : Memory). x.used) seen ∙ idle
+
+  shut-within : gate inside.facts.words ≡ 0
+  shut-within = (held.works works).counts ∙ unused-within
+
+  words-within : inside.facts.words ≡ m.facts.words
+  words-within = ap (λ (x : Memory). x.facts.words) seen
+
+  -- a run of data words, whatever part of it is written
+  module _ (at : ℕ) (run : List ℕ) (place : IsDataRun (current m) at (length run)) where
+    run-within : IsDataRun inside.facts.words at (length run)
+    run-within = board-run m inside.facts.words at (length run) words-within place
+
+    places-within : (k : ℕ) → k < length run → IsDataAddress inside.facts.words (at + k)
+    places-within = run-places inside.facts.words at (length run) run-within
+
+    apart-within : (GATE < at) ⊎ (at + length run ≤ GATE)
+    apart-within = run-apart inside.facts.words at (length run) run-within
+
+    pub run-gate : (n : List ℕ) → Torn inside.facts.words at run n → gate n ≡ 0
+    run-gate n torn = torn-gate inside.facts.words run at shut-within places-within n run-within.1 apart-within torn
+
+    pub run-sound : (n : List ℕ) → Torn inside.facts.words at run n → IsSound n
+    run-sound n torn = sound_shut n (run-gate n torn)
+
+    pub run-torn : (n : List ℕ) → 0 < length run → Torn inside.facts.words at run n
+        → Torn (committed m) at run (data_words (undo n))
+    run-torn n some torn =
+        let family : List ℕ → Type 0 = λ l. Torn l at run (data_words (undo n)) in
+        subst family (ap committed seen)
+        (torn-shut inside.facts.words run at shut-within places-within n some run-within.1 apart-within torn)
+
+    pub run-written : (n : List ℕ) → n ≡ written inside.facts.words at run
+        → data_words (undo n) ≡ written (committed m) at run
+    run-written n done =
+        written-shut inside.facts.words run at shut-within places-within n run-within.1 apart-within done
+        ∙ ap (λ (x : Memory). written (committed x) at run) seen
+
+  -- a data word, written or not
+  module _ (at word : ℕ) (place : IsDataAddress (current m) at) where
+    pub place-within : IsDataAddress inside.facts.words at
+    place-within = board-place m inside.facts.words at words-within place
+
+    pub one-gate : (n : List ℕ) → n ≡ slice_set inside.facts.words at word → gate n ≡ 0
+    one-gate n done = gate-alone inside.facts.words at word shut-within place-within n done
+
+    pub one-sound : (n : List ℕ) → (n ≡ inside.facts.words) ⊎ (n ≡ slice_set inside.facts.words at word) → IsSound n
+    one-sound n torn = sound-alone inside.facts.words at word shut-within place-within n torn
+
+    pub one-written : (n : List ℕ) → n ≡ slice_set inside.facts.words at word
+        → data_words (undo n) ≡ slice_set (committed m) at word
+    one-written n done =
+        word-alone inside.facts.words at word shut-within place-within n done
+        ∙ ap (λ (x : Memory). slice_set (committed x) at word) seen
+
+    pub one-torn : (n : List ℕ) → (n ≡ inside.facts.words) ⊎ (n ≡ slice_set inside.facts.words at word)
+        → (data_words (undo n) ≡ committed m) ⊎ (data_words (undo n) ≡ slice_set (committed m) at word)
+    one-torn n torn = ⊎_map (λ old. ap (λ (l : List ℕ). data_words (undo l)) old ∙ ap committed seen)
+        (λ new. one-written n new) torn

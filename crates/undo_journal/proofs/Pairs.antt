@@ -1,5 +1,6 @@
 -- The pairs of a journal: each by its number, and what a look-up gives.
-use Rattle.std.proofs.Common.{◌≡◌, ◌==◌, ◌<◌, ◌≤◌, ◌+◌, ◌*◌, ℕ, zero, suc, Bool, List, [], ◌∷◌, ◌++◌, length, get_or, slice_index, refl, sym, ◌∙◌, ap, inl, inr, drop, arith}
+use Rattle.std.proofs.Common.{◌≡◌, ◌==◌, ◌<◌, ◌≤◌, ◌+◌, ◌*◌, ℕ, zero, suc, Bool, List, [], ◌∷◌, ◌++◌, length, get_or}
+use Rattle.std.proofs.Common.{slice_index, refl, sym, ◌∙◌, ap, inl, inr, drop, arith}
 use Rattle.std.specs.Prelude.{if◌then◌else◌}
 use Rattle.std.proofs.lemmas.Bool.Decides.{eqb_tells}
 use Rattle.undo_journal.specs.declared.layout.TheConstants.{JOURNAL}
@@ -22,7 +23,8 @@ pairs_from-at m i (suc n) (suc k) d lt =
 
 -- the same pairs, from words that are the same
 pub pairs_from-same : (m l : List ℕ) (i n : ℕ)
-    → ((k : ℕ) → JOURNAL + 2 * i ≤ k → k < JOURNAL + 2 * (i + n) → slice_index m k ≡ slice_index l k) → pairs_from m i n ≡ pairs_from l i n
+    → ((k : ℕ) → JOURNAL + 2 * i ≤ k → k < JOURNAL + 2 * (i + n) → slice_index m k ≡ slice_index l k)
+    → pairs_from m i n ≡ pairs_from l i n
 unfolding pairs_from
 pairs_from-same m l i zero words = refl
 pairs_from-same m l i (suc n) words =
@@ -45,23 +47,28 @@ unfolding pairs_from
 pairs_from-suc m i zero = let here : i ≡ i + zero = omega arith in ap (λ (j : ℕ). pair_at m j ∷ []) here
 pairs_from-suc m i (suc n) =
     let place : i + 1 + n ≡ i + suc n = omega arith in
-    ap (λ (ps : List Pair). pair_at m i ∷ ps) (pairs_from-suc m (i + 1) n ∙ ap (λ (j : ℕ). pairs_from m (i + 1) n ++ pair_at m j ∷ []) place)
+    ap (λ (ps : List Pair). pair_at m i ∷ ps)
+    (pairs_from-suc m (i + 1) n ∙ ap (λ (j : ℕ). pairs_from m (i + 1) n ++ pair_at m j ∷ []) place)
 
 -- a last pair that tells the word itself changes no look-up
-pub earlier-append : (ps : List Pair) (p : Pair) (a w : ℕ) → (p.address ≡ a → p.earlier ≡ w) → earlier (ps ++ p ∷ []) a w ≡ earlier ps a w
+pub earlier-append : (ps : List Pair) (p : Pair) (a w : ℕ) → (p.address ≡ a → p.earlier ≡ w)
+    → earlier (ps ++ p ∷ []) a w ≡ earlier ps a w
 unfolding earlier
 earlier-append [] p a w tells = elim (eqb_tells p.address a) [
   | inl same ↦ ap (λ (b : Bool). if b then p.earlier else w) same.0 ∙ tells same.1
   | inr other ↦ ap (λ (b : Bool). if b then p.earlier else w) other.0
 ]
-earlier-append (q ∷ ps) p a w tells = ap (λ (v : ℕ). if q.address == a then q.earlier else v) (earlier-append ps p a w tells)
+earlier-append (q ∷ ps) p a w tells = ap (λ (v : ℕ). if q.address == a then q.earlier else v)
+    (earlier-append ps p a w tells)
 
 -- the word itself does not matter where a pair names its address
-pub earlier-named : (ps : List Pair) (i a v w : ℕ) (d : Pair) → i < length ps → (get_or ps i d).address ≡ a → earlier ps a v ≡ earlier ps a w
+pub earlier-named : (ps : List Pair) (i a v w : ℕ) (d : Pair) → i < length ps → (get_or ps i d).address ≡ a
+    → earlier ps a v ≡ earlier ps a w
 unfolding earlier
 earlier-named [] i a v w d lt named = absurd (omega arith)
 earlier-named (p ∷ ps) zero a v w d lt named = elim (eqb_tells p.address a) [
-  | inl same ↦ ap (λ (b : Bool). if b then p.earlier else earlier ps a v) same.0 ∙ sym (ap (λ (b : Bool). if b then p.earlier else earlier ps a w) same.0)
+  | inl same ↦ ap (λ (b : Bool). if b then p.earlier else earlier ps a v) same.0
+      ∙ sym (ap (λ (b : Bool). if b then p.earlier else earlier ps a w) same.0)
   | inr other ↦ absurd (other.1 named)
 ]
 earlier-named (p ∷ ps) (suc i) a v w d lt named =
@@ -75,10 +82,12 @@ earlier-drop [] zero a w = refl
 earlier-drop [] (suc i) a w = refl
 earlier-drop (p ∷ ps) zero a w = elim (eqb_tells p.address a) [
   | inl same ↦
-      let first : (u : ℕ) → (if p.address == a then p.earlier else u) ≡ p.earlier = λ u. ap (λ (b : Bool). if b then p.earlier else u) same.0 in
+      let first : (u : ℕ) → (if p.address == a then p.earlier else u) ≡ p.earlier =
+      λ u. ap (λ (b : Bool). if b then p.earlier else u) same.0 in
       first _ ∙ sym (first _)
   | inr other ↦
-      let next : (u : ℕ) → (if p.address == a then p.earlier else u) ≡ u = λ u. ap (λ (b : Bool). if b then p.earlier else u) other.0 in
+      let next : (u : ℕ) → (if p.address == a then p.earlier else u) ≡ u =
+      λ u. ap (λ (b : Bool). if b then p.earlier else u) other.0 in
       next _ ∙ ap (λ (u : ℕ). earlier ps a u) (next _) ∙ earlier-drop ps 0 a w ∙ sym (next _)
 ]
 earlier-drop (p ∷ ps) (suc i) a w = ap (λ (u : ℕ). if p.address == a then p.earlier else u) (earlier-drop ps i a w)

@@ -1,16 +1,21 @@
 -- What the three writes of a set do to the words that undo gives, and to the words as they stand.
-use Rattle.std.proofs.Common.{◌≡◌, ◌≢◌, ◌⊎◌, ◌<◌, ◌≤◌, ◌+◌, ◌*◌, ℕ, suc, List, [], ◌∷◌, ◌++◌, length, get_or, slice_index, slice_set, sym, ◌∙◌, ap, subst, inl, inr, arith, get_or-set_same, get_or-set_other}
+use Rattle.std.proofs.Common.{◌≡◌, ◌≢◌, ◌⊎◌, ◌<◌, ◌≤◌, ◌+◌, ◌*◌, ℕ, suc, List, [], ◌∷◌, ◌++◌, length, get_or}
+use Rattle.std.proofs.Common.{slice_index, slice_set, sym, ◌∙◌, ap, subst, inl, inr, arith, get_or-set_same}
+use Rattle.std.proofs.Common.{get_or-set_other}
 use Rattle.std.proofs.Math.ListN.{length-set}
 use Rattle.std.proofs.lemmas.Bool.{cases_lt}
 use Rattle.std.proofs.lemmas.Bool.Decides.{eqb_tells}
 use Rattle.std.specs.Prelude.{All}
 use Rattle.std.proofs.Math.Logic.{⊎_elim}
 use Rattle.nvm_board.specs.declared.board.TheConstants.{WORDS}
-use Rattle.nvm_board.specs.Torn.{Torn, written, written-inside, written-elsewhere, Torn-all, IsMixture, IsMixture-Torn}
+use Rattle.nvm_board.specs.Torn.{Torn, written, IsMixture}
+use Rattle.nvm_board.specs.laws.Torn.{written-inside, written-elsewhere, Torn-all, IsMixture-Torn}
 use Rattle.undo_journal.specs.declared.layout.TheConstants.{GATE, JOURNAL, JOURNAL_END, PAIRS}
-use Rattle.undo_journal.specs.Undo.{Pair, gate, pair_at, pairs_from, pairs, earlier, undo, data_words, IsOutside, IsDataAddress, IsSound}
-use Rattle.undo_journal.specs.UndoLaws.{committed-same, data_words-same, data_words-set, undo_shut}
-use Rattle.undo_journal.proofs.Pairs.{length-pairs_from, pairs_from-at, pairs_from-same, pairs_from-suc, earlier-append, earlier-named}
+use Rattle.undo_journal.specs.Undo.{Pair, gate, pair_at, pairs_from, pairs, earlier, undo, data_words, IsOutside}
+use Rattle.undo_journal.specs.Undo.{IsDataAddress, IsSound}
+use Rattle.undo_journal.specs.laws.Undo.{committed-same, data_words-same, data_words-set, undo_shut}
+use Rattle.undo_journal.proofs.Pairs.{length-pairs_from, pairs_from-at, pairs_from-same, pairs_from-suc, earlier-append}
+use Rattle.undo_journal.proofs.Pairs.{earlier-named}
 
 -- two memories of which a store makes the same
 pub record SameStore (m n : List ℕ) : Type 0 where
@@ -25,19 +30,22 @@ pub place-at : (m : List ℕ) → IsSound m → (i : ℕ) → i < gate m → IsD
 place-at m sound i lt =
     let d : Pair = pair_at m i in
     let z : 0 + i ≡ i = omega arith in
-    let there : get_or (pairs m) i d ≡ pair_at m i = pairs_from-at m 0 (gate m) i d lt ∙ ap (λ (j : ℕ). pair_at m j) z in
+    let there : get_or (pairs m) i d ≡ pair_at m i = pairs_from-at m 0 (gate m) i d lt
+    ∙ ap (λ (j : ℕ). pair_at m j) z in
     let below : i < length (pairs m) = omega (arith, length-pairs_from m 0 (gate m)) in
     let family : Pair → Type 0 = λ p. IsDataAddress m p.address in
     subst family there (sound.places i d below)
 
 -- a journal is sound where each pair by its number names a data word
-pub sound-from : (m : List ℕ) → gate m ≤ PAIRS → ((i : ℕ) → i < gate m → IsDataAddress m (pair_at m i).address) → IsSound m
+pub sound-from : (m : List ℕ) → gate m ≤ PAIRS → ((i : ℕ) → i < gate m → IsDataAddress m (pair_at m i).address)
+    → IsSound m
 sound-from m room places = record {
   room = room;
   places = λ i d lt.
       let below : i < gate m = omega (arith, length-pairs_from m 0 (gate m)) in
       let z : i ≡ 0 + i = omega arith in
-      let there : pair_at m i ≡ get_or (pairs m) i d = ap (λ (j : ℕ). pair_at m j) z ∙ sym (pairs_from-at m 0 (gate m) i d below) in
+      let there : pair_at m i ≡ get_or (pairs m) i d = ap (λ (j : ℕ). pair_at m j) z
+      ∙ sym (pairs_from-at m 0 (gate m) i d below) in
       let family : Pair → Type 0 = λ p. IsDataAddress m p.address in
       subst family there (places i below);
 }
@@ -70,13 +78,15 @@ module _ (m r : List ℕ) (n : ℕ) (read : r ≡ m) (counts : n ≡ gate m) whe
       subst family (sym read) named_m
 
 -- words past the pairs that count
-pub past-pairs : (m n : List ℕ) → length m ≡ length n → ((k : ℕ) → (k < JOURNAL + 2 * gate m) ⊎ (JOURNAL_END ≤ k) → slice_index m k ≡ slice_index n k) → SameStore m n
+pub past-pairs : (m n : List ℕ) → length m ≡ length n
+    → ((k : ℕ) → (k < JOURNAL + 2 * gate m) ⊎ (JOURNAL_END ≤ k) → slice_index m k ≡ slice_index n k) → SameStore m n
 past-pairs m n size words =
     let gate_before : GATE < JOURNAL + 2 * gate m = omega arith in
     let gates : gate m ≡ gate n = words GATE (inl gate_before) in
     let z : 0 + gate m ≡ gate m = omega arith in
     let journals : pairs m ≡ pairs n =
-    pairs_from-same m n 0 (gate m) (λ k above below. let lt : k < JOURNAL + 2 * gate m = omega arith in words k (inl lt))
+    pairs_from-same m n 0 (gate m) (λ k above below. let lt : k < JOURNAL + 2 * gate m = omega arith in
+    words k (inl lt))
     ∙ ap (λ (g : ℕ). pairs_from n 0 g) gates in
     let data_same : (k : ℕ) → IsOutside k → slice_index m k ≡ slice_index n k = λ k out. elim out [
       | inl before ↦ let lt : k < JOURNAL + 2 * gate m = omega arith in words k (inl lt)
@@ -87,7 +97,8 @@ past-pairs m n size words =
       gates = gates;
       journals = journals;
       committed = committed-same m n size (λ k lt out.
-          ap (λ (ps : List Pair). earlier ps k (slice_index m k)) journals ∙ ap (λ (w : ℕ). earlier (pairs n) k w) (data_same k out));
+          ap (λ (ps : List Pair). earlier ps k (slice_index m k)) journals
+          ∙ ap (λ (w : ℕ). earlier (pairs n) k w) (data_same k out));
       current = data_words-same m n size (λ k lt out. data_same k out);
     }
 
@@ -114,7 +125,8 @@ module _ (m : List ℕ) (g a : ℕ) (h : HasSaved m g a) where
   pub journal-raised : (k : ℕ) → JOURNAL ≤ k → slice_index (slice_set m GATE (g + 1)) k ≡ slice_index m k
   journal-raised k le = let other : k ≢ GATE = omega arith in get_or-set_other m GATE k (g + 1) 0 other
 
-  pub pairs-raised : pairs (slice_set m GATE (g + 1)) ≡ pairs m ++ record { address = a; earlier = slice_index m a } ∷ []
+  pub pairs-raised : pairs (slice_set m GATE (g + 1)) ≡ pairs m ++ record { address = a; earlier = slice_index m a } ∷
+      []
   pairs-raised =
       let n = slice_set m GATE (g + 1) in
       let more : g + 1 ≡ suc g = omega arith in
@@ -144,13 +156,15 @@ module _ (m : List ℕ) (g a : ℕ) (h : HasSaved m g a) where
       let n = slice_set m GATE (g + 1) in
       let room : gate n ≤ PAIRS = omega (arith, gate-raised, h.room) in
       sound-from n room (λ i lt.
-      let here : slice_index n (JOURNAL + 2 * i) ≡ slice_index m (JOURNAL + 2 * i) = let le : JOURNAL ≤ JOURNAL + 2 * i = omega arith in journal-raised (JOURNAL + 2 * i) le in
+      let here : slice_index n (JOURNAL + 2 * i) ≡ slice_index m (JOURNAL + 2 * i) =
+      let le : JOURNAL ≤ JOURNAL + 2 * i = omega arith in journal-raised (JOURNAL + 2 * i) le in
       let fits : IsDataAddress m (slice_index m (JOURNAL + 2 * i)) = elim (cases_lt i g) [
         | inl before ↦ let below : i < gate m = omega (arith, h.counts) in place-at m h.sound i below
         | inr past ↦
             let same : g ≡ i = omega (arith, gate-raised) in
             let family : ℕ → Type 0 = λ j. IsDataAddress m (slice_index m (JOURNAL + 2 * j)) in
-            let at_g : IsDataAddress m (slice_index m (JOURNAL + 2 * g)) = let f : ℕ → Type 0 = λ x. IsDataAddress m x in subst f (sym h.named) h.place in
+            let at_g : IsDataAddress m (slice_index m (JOURNAL + 2 * g)) = let f : ℕ → Type 0 =
+            λ x. IsDataAddress m x in subst f (sym h.named) h.place in
             subst family same at_g
       ] in
       let f : ℕ → Type 0 = λ x. IsDataAddress m x in
@@ -181,17 +195,20 @@ module _ (m : List ℕ) (a w : ℕ) (sound : IsSound m) (place : IsDataAddress m
   sound-set = sound-same m (slice_set m a w) (sym (length-set m a w)) (sym gate-set) (sym pairs-set) sound
 
   -- a word that a pair names is the same after undo, whatever it is now
-  pub committed-named : (i : ℕ) → i < gate m → (pair_at m i).address ≡ a → data_words (undo (slice_set m a w)) ≡ data_words (undo m)
+  pub committed-named : (i : ℕ) → i < gate m → (pair_at m i).address ≡ a
+      → data_words (undo (slice_set m a w)) ≡ data_words (undo m)
   committed-named i lt named =
       let n = slice_set m a w in
       let d : Pair = pair_at m i in
       let z : 0 + i ≡ i = omega arith in
-      let there : get_or (pairs m) i d ≡ pair_at m i = pairs_from-at m 0 (gate m) i d lt ∙ ap (λ (j : ℕ). pair_at m j) z in
+      let there : get_or (pairs m) i d ≡ pair_at m i = pairs_from-at m 0 (gate m) i d lt
+      ∙ ap (λ (j : ℕ). pair_at m j) z in
       let below : i < length (pairs m) = omega (arith, length-pairs_from m 0 (gate m)) in
       committed-same n m (length-set m a w) (λ k inside out.
       ap (λ (ps : List Pair). earlier ps k (slice_index n k)) pairs-set
       ∙ elim (eqb_tells k a) [
-        | inl same ↦ earlier-named (pairs m) i k (slice_index n k) (slice_index m k) d below (ap (λ (p : Pair). p.address) there ∙ named ∙ sym same.1)
+        | inl same ↦ earlier-named (pairs m) i k (slice_index n k) (slice_index m k) d below
+            (ap (λ (p : Pair). p.address) there ∙ named ∙ sym same.1)
         | inr other ↦ ap (λ (v : ℕ). earlier (pairs m) k v) (get_or-set_other m a k w 0 other.1)
       ])
 
@@ -206,21 +223,24 @@ gate-shut m within = get_or-set_same m GATE 0 0 within
 
 -- A set in three writes: from the words m, read as r, behind the pair of the address a and its word e.
 module _ (m r : List ℕ) (g a e : ℕ) (read : r ≡ m) (saved : e ≡ slice_index m a)
-    (sound : IsSound m) (counts : gate m ≡ g) (room : g < PAIRS) (place : IsDataAddress m a) (size : length m ≡ WORDS) where
+    (sound : IsSound m) (counts : gate m ≡ g) (room : g < PAIRS) (place : IsDataAddress m a)
+    (size : length m ≡ WORDS) where
   -- a pair past those that count, whatever part of it is written
   pub pair-torn : (n : List ℕ) → Torn r (JOURNAL + 2 * g) (a ∷ e ∷ []) n → SameStore m n
   pair-torn n torn =
       let family : List ℕ → Type 0 = λ l. Torn l (JOURNAL + 2 * g) (a ∷ e ∷ []) n in
       let torn_m : Torn m (JOURNAL + 2 * g) (a ∷ e ∷ []) n = subst family read torn in
       let fits : JOURNAL + 2 * g + 2 ≤ length m = omega arith in
-      let mixture : IsMixture m (JOURNAL + 2 * g) (a ∷ e ∷ []) n = IsMixture-Torn m (a ∷ e ∷ []) n (JOURNAL + 2 * g) fits torn_m in
+      let mixture : IsMixture m (JOURNAL + 2 * g) (a ∷ e ∷ []) n =
+      IsMixture-Torn m (a ∷ e ∷ []) n (JOURNAL + 2 * g) fits torn_m in
       past-pairs m n (sym mixture.size) (λ k outside. elim outside [
         | inl before ↦ let lt : k < JOURNAL + 2 * g = omega arith in sym (mixture.elsewhere k (inl lt))
         | inr past ↦ let le : JOURNAL + 2 * g + 2 ≤ k = omega arith in sym (mixture.elsewhere k (inr le))
       ])
 
   pub pair-sound : (n : List ℕ) → Torn r (JOURNAL + 2 * g) (a ∷ e ∷ []) n → IsSound n
-  pair-sound n torn = let same : SameStore m n = pair-torn n torn in sound-same m n same.size same.gates same.journals sound
+  pair-sound n torn = let same : SameStore m n = pair-torn n torn in
+      sound-same m n same.size same.gates same.journals sound
 
   -- the pair when it is written
   pub pair-written : (p : List ℕ) → p ≡ written r (JOURNAL + 2 * g) (a ∷ e ∷ []) → HasSaved p g a
@@ -228,10 +248,12 @@ module _ (m r : List ℕ) (g a e : ℕ) (read : r ≡ m) (saved : e ≡ slice_in
       let run : List ℕ = a ∷ e ∷ [] in
       let family : List ℕ → Type 0 = λ l. Torn r (JOURNAL + 2 * g) (a ∷ e ∷ []) l in
       let same : SameStore m p = pair-torn p (subst family (sym done) (Torn-all r run (JOURNAL + 2 * g))) in
-      let in_m : p ≡ written m (JOURNAL + 2 * g) run = done ∙ ap (λ (l : List ℕ). written l (JOURNAL + 2 * g) run) read in
+      let in_m : p ≡ written m (JOURNAL + 2 * g) run = done
+      ∙ ap (λ (l : List ℕ). written l (JOURNAL + 2 * g) run) read in
       let fits : JOURNAL + 2 * g + 2 ≤ length m = omega arith in
       let inside : (k : ℕ) → k < 2 → slice_index p (JOURNAL + 2 * g + k) ≡ slice_index run k = λ k lt.
-      ap (λ (l : List ℕ). slice_index l (JOURNAL + 2 * g + k)) in_m ∙ written-inside m run (JOURNAL + 2 * g) k fits lt in
+      ap (λ (l : List ℕ). slice_index l (JOURNAL + 2 * g + k)) in_m
+      ∙ written-inside m run (JOURNAL + 2 * g) k fits lt in
       let outside : slice_index p a ≡ slice_index m a =
       ap (λ (l : List ℕ). slice_index l a) in_m ∙ written-elsewhere m run (JOURNAL + 2 * g) a (elim place.0 [
         | inl before ↦ let lt : a < JOURNAL + 2 * g = omega arith in inl lt
@@ -258,7 +280,8 @@ module _ (m r : List ℕ) (g a e : ℕ) (read : r ≡ m) (saved : e ≡ slice_in
     pub gate-torn : (n : List ℕ) → (n ≡ p) ⊎ (n ≡ slice_set p GATE (g + 1)) → data_words (undo n) ≡ data_words (undo m)
     gate-torn n torn = ⊎_elim
         (λ old. ap (λ (l : List ℕ). data_words (undo l)) old ∙ sym same_pair.committed)
-        (λ new. ap (λ (l : List ℕ). data_words (undo l)) new ∙ committed-raised p g a (pair-written p paired) ∙ sym same_pair.committed)
+        (λ new. ap (λ (l : List ℕ). data_words (undo l)) new ∙ committed-raised p g a (pair-written p paired)
+        ∙ sym same_pair.committed)
         torn
 
     pub gate-sound : (n : List ℕ) → (n ≡ p) ⊎ (n ≡ slice_set p GATE (g + 1)) → IsSound n
@@ -285,7 +308,8 @@ module _ (m r : List ℕ) (g a e : ℕ) (read : r ≡ m) (saved : e ≡ slice_in
       named_q =
           let le : JOURNAL ≤ JOURNAL + 2 * g = omega arith in
           let h : HasSaved p g a = pair-written p paired in
-          ap (λ (l : List ℕ). slice_index l (JOURNAL + 2 * g)) raised ∙ journal-raised p g a h (JOURNAL + 2 * g) le ∙ h.named
+          ap (λ (l : List ℕ). slice_index l (JOURNAL + 2 * g)) raised ∙ journal-raised p g a h (JOURNAL + 2 * g) le
+          ∙ h.named
 
       pub word-torn : (n : List ℕ) → (n ≡ q) ⊎ (n ≡ slice_set q a w) → data_words (undo n) ≡ data_words (undo m)
       word-torn n torn =
@@ -293,12 +317,14 @@ module _ (m r : List ℕ) (g a e : ℕ) (read : r ≡ m) (saved : e ≡ slice_in
           let at_q : data_words (undo q) ≡ data_words (undo m) = gate-torn q (inr raised) in
           ⊎_elim
           (λ old. ap (λ (l : List ℕ). data_words (undo l)) old ∙ at_q)
-          (λ new. ap (λ (l : List ℕ). data_words (undo l)) new ∙ committed-named q a w sound_q place_q g lt named_q ∙ at_q)
+          (λ new. ap (λ (l : List ℕ). data_words (undo l)) new ∙ committed-named q a w sound_q place_q g lt named_q
+          ∙ at_q)
           torn
 
       pub word-current : (n : List ℕ) → n ≡ slice_set q a w → data_words n ≡ slice_set (data_words m) a w
       word-current n done =
-          let at_q : data_words q ≡ data_words m = ap data_words raised ∙ current-gate p (g + 1) ∙ sym same_pair.current in
+          let at_q : data_words q ≡ data_words m = ap data_words raised ∙ current-gate p (g + 1)
+          ∙ sym same_pair.current in
           ap data_words done ∙ data_words-set q a w place_q ∙ ap (λ (l : List ℕ). slice_set l a w) at_q
 
       pub word-sound : (n : List ℕ) → (n ≡ q) ⊎ (n ≡ slice_set q a w) → IsSound n

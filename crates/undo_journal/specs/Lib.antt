@@ -1,9 +1,13 @@
 pub use Rattle.nvm_board.specs.Facts
 pub use Rattle.nvm_board.specs.Torn
 pub mod Undo
-pub mod UndoLaws
 pub mod Spending
 pub mod Memory
-pub mod MemoryLaws
 pub mod Lent
+pub mod Calls
+pub mod laws
 pub use Rattle.nvm_board.specs.declared.board.TheConstants
+pub use Rattle.nvm_board.specs.declared.board.DeviceErr
+pub use Rattle.nvm_board.specs.declared.board.Arm
+pub use Rattle.undo_journal.specs.laws.Undo as UndoLaws
+pub use Rattle.undo_journal.specs.laws.Memory as MemoryLaws

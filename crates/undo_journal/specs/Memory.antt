@@ -3,7 +3,7 @@ use Rattle.std.specs.Prelude.{◌≡◌, ◌⊎◌, ◌-◌, ℕ, true, false, L
 use Rattle.nvm_board.specs.declared.board.TheConstants.{WORDS}
 use Rattle.nvm_board.specs.declared.board.DeviceErr.{DeviceErr}
 use Rattle.nvm_board.specs.declared.board.DeviceErr.TheVariants as device
-use Rattle.nvm_board.specs.Facts.{Facts, Steady, GoesDark, Fails}
+use Rattle.nvm_board.specs.Facts.{Facts, AreWords, Steady, GoesDark, Fails}
 use Rattle.undo_journal.specs.declared.error.StoreErr.{StoreErr}
 use Rattle.undo_journal.specs.declared.error.StoreErr.TheVariants.{PowerLost, Fault}
 use Rattle.undo_journal.specs.declared.error.OpenFault.{OpenFault}
@@ -35,15 +35,18 @@ pub record IsOpen (m : Memory) : Type 0 where
   pub lit : m.facts.dark ≡ false
   pub committed_size : length (committed m) ≡ WORDS
   pub current_size : length (current m) ≡ WORDS
+  pub committed_fit : AreWords (committed m)
+  pub current_fit : AreWords (current m)
 
 -- no transaction is under way
 abbrev pub IsIdle : Memory → Type 0
 IsIdle m = m.used ≡ 0
 
--- open, with no transaction
+-- open, with no transaction: no pair counts
 pub record IsReady (m : Memory) : Type 0 where
   pub usable : IsOpen m
   pub idle : IsIdle m
+  pub shut : gate m.facts.words ≡ 0
   pub same : committed m ≡ current m
 
 -- the words, and the room, stay
@@ -57,6 +60,11 @@ pub record IsHeld (facts : Facts) (used : ℕ) : Type 0 where
   pub sound : IsSound facts.words
   pub counts : gate facts.words ≡ used
   pub lit : facts.dark ≡ false
+
+-- the invariant of a store: while it has not failed, it is held; where it failed for lost power, its board is dark
+pub record IsTrueToBoard (m : Memory) : Type 0 where
+  pub works : m.failed ≡ None → IsHeld m.facts m.used
+  pub lost : m.failed ≡ Some PowerLost → m.facts.dark ≡ true
 
 -- the store's word for a device's error
 abbrev pub store_err_of : DeviceErr → StoreErr
@@ -93,4 +101,5 @@ pub record Reports (old new : Memory) : Type 0 where
 abbrev pub OpensNot : OpenFault → Facts → Facts → Type 0
 OpensNot fault.PowerLost old new = GoesDark old new ⊎ ((old.dark ≡ true) × (new ≡ old))
 OpensNot fault.Fault old new = Fails old new
-OpensNot fault.BadJournal old new = IsBadJournal old.words × Steady old new × (new.words ≡ old.words) × (new.writes ≡ old.writes)
+OpensNot fault.BadJournal old new = IsBadJournal old.words × Steady old new × (new.words ≡ old.words)
+    × (new.writes ≡ old.writes)

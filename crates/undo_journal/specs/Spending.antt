@@ -1,6 +1,7 @@
 -- What calls on a board may cost.
 use Rattle.std.specs.Prelude.{◌≡◌, ◌==◌, ◌+◌, ◌≤◌, ℕ, if◌then◌else◌}
 use Rattle.nvm_board.specs.Facts.{Facts}
+use Rattle.undo_journal.specs.Undo.{gate}
 
 -- at most n device writes, and no comparison
 pub record WritesAtMost (n : ℕ) (old new : Facts) : Type 0 where
@@ -8,8 +9,8 @@ pub record WritesAtMost (n : ℕ) (old new : Facts) : Type 0 where
   pub compares : new.compares ≡ old.compares
   pub matches : new.matches ≡ old.matches
 
--- words and counts stay: only reads were made
-pub record OnlyReads (old new : Facts) : Type 0 where
+-- no word of a board and no count changed, but for cuts and faults
+pub record KeepsBoard (old new : Facts) : Type 0 where
   pub words : new.words ≡ old.words
   pub writes : new.writes ≡ old.writes
   pub compares : new.compares ≡ old.compares
@@ -18,3 +19,7 @@ pub record OnlyReads (old new : Facts) : Type 0 where
 -- device writes of a rollback: one a pair, and the gate; none where no pair counts
 abbrev pub rollback_writes : ℕ → ℕ
 rollback_writes pairs = if pairs == 0 then 0 else pairs + 1
+
+-- device writes of an opening at most
+abbrev pub start_writes : Facts → ℕ
+start_writes facts = rollback_writes (gate facts.words)

@@ -1,5 +1,6 @@
 -- What a memory stands for: its words after undo, without gate and journal.
-use Rattle.std.specs.Prelude.{◌==◌, ◌⊎◌, ◌<◌, ◌≤◌, ◌+◌, ◌*◌, ◌&&◌, ℕ, zero, suc, Bool, if◌then◌else◌, nat_le, nat_lt, List, [], ◌∷◌, length, slice_index, All}
+use Rattle.std.specs.Prelude.{◌==◌, ◌⊎◌, ◌<◌, ◌≤◌, ◌+◌, ◌*◌, ◌&&◌, ℕ, zero, suc, Bool, if◌then◌else◌, nat_le, nat_lt}
+use Rattle.std.specs.Prelude.{List, [], ◌∷◌, length, slice_index, All}
 use Rattle.undo_journal.specs.declared.layout.TheConstants.{GATE, JOURNAL, JOURNAL_END, PAIRS}
 
 -- a pair of the journal: an address, and the word that was there before

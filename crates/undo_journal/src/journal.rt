@@ -1,37 +1,61 @@
 //! The work of the journal on a board: a set behind its pair, the test of a journal, and the rollback.
-ghost use Rattle.std.specs.Prelude.{◌≡◌, ◌⊎◌, ◌↔◌, ◌+◌, ◌*◌, ◌<◌, ◌≤◌, ℕ, false, IsTrue, IfOk, OnOk, MatchOption, List, [], ◌∷◌, slice_set};
+ghost use Rattle.std.specs.Prelude.{◌≡◌, ◌⊎◌, ◌↔◌, ◌+◌, ◌*◌, ◌<◌, ◌≤◌, ℕ, false, IsTrue, IfOk, OnOk, MatchOption, List};
+ghost use Rattle.std.specs.Prelude.{[], ◌∷◌, slice_set};
 ghost use Rattle.nvm_board.specs.declared.board.TheConstants.{WORDS};
 ghost use Rattle.nvm_board.specs.Facts.{Answered};
 ghost use Rattle.nvm_board.specs.Torn.{Torn, written};
-ghost use Rattle.undo_journal.specs.declared.layout.TheConstants.{JOURNAL, PAIRS};
-ghost use Rattle.undo_journal.specs.Undo.{gate, pair_at, undo, data_words, IsOutside, IsDataAddress, IsSound, IsBadJournal};
-ghost use Rattle.undo_journal.specs.Spending.{WritesAtMost, OnlyReads, rollback_writes};
+ghost use Rattle.undo_journal.specs.declared.layout.TheConstants.{GATE, JOURNAL, PAIRS};
+ghost use Rattle.undo_journal.specs.Undo.{gate, pair_at, undo, data_words, IsOutside, IsDataAddress, IsSound};
+ghost use Rattle.undo_journal.specs.Undo.{IsBadJournal};
+ghost use Rattle.undo_journal.specs.Spending.{WritesAtMost, KeepsBoard, rollback_writes};
 
 use crate::layout::{GATE, JOURNAL, JOURNAL_END, PAIRS};
 use nvm_board::{Board, DeviceErr, PAGE_WORDS, WORDS};
 
-// Writes one word.
+/// Writes one word.
 pub(crate) fn write_word<B: Board>(board: &mut B, at: u16, word: u32) -> Result<(), DeviceErr>
     requires { at < WORDS }
     ensures done { OnOk result ((B.facts board.new).words ≡ slice_set (B.facts board.old).words at word) }
     ensures torn { ((B.facts board.new).words ≡ (B.facts board.old).words)
         ⊎ ((B.facts board.new).words ≡ slice_set (B.facts board.old).words at word) }
     ensures light { Answered (B.facts board.old) (B.facts board.new) result }
+    ensures counted { OnOk result ((B.facts board.new).writes ≡ (B.facts board.old).writes + 1) }
     ensures writes { WritesAtMost 1 (B.facts board.old) (B.facts board.new) }
 {
     board.write(at / PAGE_WORDS, (at % PAGE_WORDS) as u8, &[word])?;
     Ok(())
 }
 
-// Writes a pair into the journal.
+/// Writes how many pairs count.
+pub(crate) fn write_gate<B: Board>(board: &mut B, count: u16) -> Result<(), DeviceErr>
+    ensures done { OnOk result ((B.facts board.new).words ≡ slice_set (B.facts board.old).words GATE count) }
+    ensures torn { ((B.facts board.new).words ≡ (B.facts board.old).words)
+        ⊎ ((B.facts board.new).words ≡ slice_set (B.facts board.old).words GATE count) }
+    ensures light { Answered (B.facts board.old) (B.facts board.new) result }
+    ensures writes { WritesAtMost 1 (B.facts board.old) (B.facts board.new) }
+{
+    write_word(board, GATE, u32::from(count))?;
+    Ok(())
+}
+
+/// The address of a pair of the journal.
+fn pair_address(i: u16) -> u16
+    requires { i < PAIRS }
+    ensures { result ≡ JOURNAL + 2 * i }
+{
+    JOURNAL + 2 * i
+}
+
+/// Writes a pair into the journal.
 fn write_pair<B: Board>(board: &mut B, i: u16, at: u16, earlier: u32) -> Result<(), DeviceErr>
     requires { i < PAIRS }
-    ensures done { OnOk result ((B.facts board.new).words ≡ written (B.facts board.old).words (JOURNAL + 2 * i) (at ∷ earlier ∷ [])) }
+    ensures done { OnOk result ((B.facts board.new).words ≡ written (B.facts board.old).words (JOURNAL + 2 * i)
+        (at ∷ earlier ∷ [])) }
     ensures torn { Torn (B.facts board.old).words (JOURNAL + 2 * i) (at ∷ earlier ∷ []) (B.facts board.new).words }
     ensures light { Answered (B.facts board.old) (B.facts board.new) result }
     ensures writes { WritesAtMost 1 (B.facts board.old) (B.facts board.new) }
 {
-    let place = JOURNAL + 2 * i;
+    let place = pair_address(i);
     board.write(
         place / PAGE_WORDS,
         (place % PAGE_WORDS) as u8,
@@ -40,7 +64,7 @@ fn write_pair<B: Board>(board: &mut B, i: u16, at: u16, earlier: u32) -> Result<
     Ok(())
 }
 
-// Sets a data word behind its earlier word: first the pair, then the gate that counts it, then the word.
+/// Sets a data word behind its earlier word: first the pair, then the gate that counts it, then the word.
 pub(crate) fn save_and_write<B: Board>(
     board: &mut B,
     used: u16,
@@ -52,7 +76,8 @@ pub(crate) fn save_and_write<B: Board>(
     requires room { used < PAIRS }
     requires place { IsDataAddress (B.facts board.old).words at }
     ensures kept { data_words (undo (B.facts board.new).words) ≡ data_words (undo (B.facts board.old).words) }
-    ensures done { OnOk result (data_words (B.facts board.new).words ≡ slice_set (data_words (B.facts board.old).words) at word) }
+    ensures done { OnOk result (data_words (B.facts board.new).words ≡ slice_set (data_words (B.facts board.old).words)
+        at word) }
     ensures sound { IsSound (B.facts board.new).words }
     ensures counts { OnOk result (gate (B.facts board.new).words ≡ used + 1) }
     ensures light { Answered (B.facts board.old) (B.facts board.new) result }
@@ -60,28 +85,29 @@ pub(crate) fn save_and_write<B: Board>(
 {
     let earlier = board.read(at)?;
     write_pair(board, used, at, earlier)?;
-    write_word(board, GATE, u32::from(used) + 1)?;
+    write_gate(board, used + 1)?;
     write_word(board, at, word)?;
     Ok(())
 }
 
-// Whether an address is that of a data word.
+/// Whether an address is that of a data word.
 fn is_data_address(at: u32) -> bool
     ensures { IsTrue result ↔ (IsOutside at × (at < WORDS)) }
 {
     at < u32::from(GATE) || at >= u32::from(JOURNAL_END) && at < u32::from(WORDS)
 }
 
-// Whether each of the first pairs names a data word.
+/// Whether each of the first pairs names a data word.
 fn names_data_words<B: Board>(board: &mut B, count: u16) -> Result<bool, DeviceErr>
     requires lit { (B.facts board.old).dark ≡ false }
     requires room { count ≤ PAIRS }
-    ensures named { IfOk result (λ b. IsTrue b ↔ ((i : ℕ) → i < count → IsDataAddress (B.facts board.old).words (pair_at (B.facts board.old).words i).address)) }
+    ensures named { IfOk result (λ b. IsTrue b ↔
+        ((i : ℕ) → i < count → IsDataAddress (B.facts board.old).words (pair_at (B.facts board.old).words i).address)) }
     ensures light { Answered (B.facts board.old) (B.facts board.new) result }
-    ensures reads { OnlyReads (B.facts board.old) (B.facts board.new) }
+    ensures reads { KeepsBoard (B.facts board.old) (B.facts board.new) }
 {
     for i in 0..count {
-        let at = board.read(JOURNAL + 2 * i)?;
+        let at = board.read(pair_address(i))?;
         if !is_data_address(at) {
             return Ok(false);
         }
@@ -89,11 +115,12 @@ fn names_data_words<B: Board>(board: &mut B, count: u16) -> Result<bool, DeviceE
     Ok(true)
 }
 
-// How many pairs count, if undo is defined.
+/// How many pairs count, if undo is defined.
 pub(crate) fn sound_pairs<B: Board>(board: &mut B) -> Result<Option<u16>, DeviceErr>
-    ensures sound { IfOk result (λ c. MatchOption c (IsBadJournal (B.facts board.old).words) (λ n. IsSound (B.facts board.old).words × (gate (B.facts board.old).words ≡ n))) }
+    ensures sound { IfOk result (λ c. MatchOption c (IsBadJournal (B.facts board.old).words)
+        (λ n. IsSound (B.facts board.old).words × (gate (B.facts board.old).words ≡ n))) }
     ensures light { Answered (B.facts board.old) (B.facts board.new) result }
-    ensures reads { OnlyReads (B.facts board.old) (B.facts board.new) }
+    ensures reads { KeepsBoard (B.facts board.old) (B.facts board.new) }
 {
     let count = board.read(GATE)?;
     if count > u32::from(PAIRS) {
@@ -104,24 +131,26 @@ pub(crate) fn sound_pairs<B: Board>(board: &mut B) -> Result<Option<u16>, Device
     Ok(if sound { Some(count) } else { None })
 }
 
-// Puts back the earlier word of a pair.
+/// Puts back the earlier word of a pair.
 fn put_back<B: Board>(board: &mut B, i: u16) -> Result<(), DeviceErr>
     requires inside { i < PAIRS }
     requires place { IsDataAddress (B.facts board.old).words (pair_at (B.facts board.old).words i).address }
-    ensures done { OnOk result (let p = pair_at (B.facts board.old).words i in (B.facts board.new).words ≡ slice_set (B.facts board.old).words p.address p.earlier) }
-    ensures torn { let p = pair_at (B.facts board.old).words i in ((B.facts board.new).words ≡ (B.facts board.old).words)
+    ensures done { OnOk result (let p = pair_at (B.facts board.old).words i in
+        (B.facts board.new).words ≡ slice_set (B.facts board.old).words p.address p.earlier) }
+    ensures torn { let p = pair_at (B.facts board.old).words i in
+        ((B.facts board.new).words ≡ (B.facts board.old).words)
         ⊎ ((B.facts board.new).words ≡ slice_set (B.facts board.old).words p.address p.earlier) }
     ensures light { Answered (B.facts board.old) (B.facts board.new) result }
     ensures writes { WritesAtMost 1 (B.facts board.old) (B.facts board.new) }
 {
-    let at = board.read(JOURNAL + 2 * i)?;
-    let earlier = board.read(JOURNAL + 2 * i + 1)?;
+    let at = board.read(pair_address(i))?;
+    let earlier = board.read(pair_address(i) + 1)?;
     write_word(board, at as u16, earlier)?;
     Ok(())
 }
 
-// Puts back the earlier words, from the last pair to the first, and then sets the gate to 0. With no pair it
-// writes nothing.
+/// Puts back the earlier words, from the last pair to the first, and then sets the gate to 0. With no pair it
+/// writes nothing.
 pub(crate) fn roll_back<B: Board>(board: &mut B, count: u16) -> Result<(), DeviceErr>
     requires sound { IsSound (B.facts board.old).words }
     requires counts { gate (B.facts board.old).words ≡ count }
@@ -130,6 +159,7 @@ pub(crate) fn roll_back<B: Board>(board: &mut B, count: u16) -> Result<(), Devic
     ensures sound { IsSound (B.facts board.new).words }
     ensures done { OnOk result ((B.facts board.new).words ≡ undo (B.facts board.old).words) }
     ensures light { Answered (B.facts board.old) (B.facts board.new) result }
+    ensures none { count ≡ 0 → B.facts board.new ≡ B.facts board.old }
     ensures writes { WritesAtMost (rollback_writes count) (B.facts board.old) (B.facts board.new) }
 {
     if count == 0 {
@@ -140,6 +170,6 @@ pub(crate) fn roll_back<B: Board>(board: &mut B, count: u16) -> Result<(), Devic
         left -= 1;
         put_back(board, left)?;
     }
-    write_word(board, GATE, 0)?;
+    write_gate(board, 0)?;
     Ok(())
 }

@@ -4,15 +4,15 @@
 
 mod error;
 mod journal;
+pub mod laws;
 mod layout;
 mod store;
 mod txn;
 
 pub use error::{OpenFault, StoreErr};
 pub use layout::{GATE, GATE_PAGE, JOURNAL, JOURNAL_END, JOURNAL_END_PAGE, JOURNAL_PAGE, PAIRS};
-pub use nvm_board::{Armed, Board, DeviceErr, PAGE_WORDS, PAGES, SECRETS, Socket, WORDS};
+pub use nvm_board::{
+    Arm, Armed, Board, DeviceErr, Faultless, PAGE_WORDS, PAGES, SECRETS, Socket, WORDS,
+};
 pub use store::Store;
 pub use txn::Txn;
-
-#[cfg(test)]
-mod tests;

@@ -1,19 +1,22 @@
 //! The store: two lists of words over a board.
-ghost use Rattle.std.specs.Prelude.{◌≡◌, ◌⊎◌, ◌↔◌, ◌+◌, ◌<◌, ◌≤◌, if◌then◌else◌, length, IsTrue, IfOk, IfErr, OnOk, OnErr, Some, slice_index, slice_set};
+ghost use Rattle.std.specs.Prelude.{◌≡◌, ◌⊎◌, ◌↔◌, ◌+◌, ◌-◌, ◌<◌, ◌≤◌, if◌then◌else◌, length, IsTrue, IfOk, IfErr};
+ghost use Rattle.std.specs.Prelude.{OnOk, OnErr, IsErrOf, Some, true, slice_index, slice_set};
 ghost use Rattle.std.specs.Result.{result_err};
 ghost use Rattle.nvm_board.specs.declared.board.TheConstants.{PAGE_WORDS, SECRETS};
 ghost use Rattle.nvm_board.specs.Facts.{Steady, RisesAt, address, raised};
 ghost use Rattle.nvm_board.specs.Torn.{Torn, written};
 ghost use Rattle.undo_journal.specs.declared.layout.TheConstants.{PAIRS};
+ghost use Rattle.undo_journal.specs.declared.error.StoreErr.TheVariants.{PowerLost};
 ghost use Rattle.undo_journal.specs.Undo.{gate, undo, data_words, IsDataAddress, IsDataRun, IsSound};
-ghost use Rattle.undo_journal.specs.Spending.{WritesAtMost, rollback_writes};
-ghost use Rattle.undo_journal.specs.Memory.{committed, current, room, store_err_of, IsOpen, IsIdle, IsReady, KeepsWords, OpensNot, Reports};
+ghost use Rattle.undo_journal.specs.Spending.{KeepsBoard, WritesAtMost, rollback_writes, start_writes};
+ghost use Rattle.undo_journal.specs.Memory.{committed, current, room, store_err_of, IsOpen, IsIdle, IsReady};
+ghost use Rattle.undo_journal.specs.Memory.{KeepsWords, OpensNot, Reports};
 
 use crate::error::{OpenFault, StoreErr};
-use crate::journal::{roll_back, save_and_write, sound_pairs, write_word};
-use crate::layout::{GATE, PAIRS};
+use crate::journal::{roll_back, save_and_write, sound_pairs, write_gate, write_word};
+use crate::layout::PAIRS;
 use crate::txn::Txn;
-use nvm_board::{Armed, Board, DeviceErr};
+use nvm_board::{Armed, Board, DeviceErr, Faultless, has_no_fault};
 use std::marker::Model;
 
 /// Two lists of words over a board: the committed one, which a cut or a fault leaves, and the current one.
@@ -27,18 +30,18 @@ pub struct Store<B: Board> {
 }
 
 impl<B: Board> Model for Store<B> {
-    ghost use Rattle.std.specs.Prelude.{◌≡◌, None};
-    ghost use Rattle.undo_journal.specs.Memory.{Memory, IsHeld};
+    ghost use Rattle.undo_journal.specs.Memory.{Memory, IsTrueToBoard};
 
     ghost Value = { Memory };
 
     ghost view = { λ s. record { facts = B.facts s.board; failed = s.failed; used = s.used } };
 
-    ghost invariant = { λ s. s.failed ≡ None → IsHeld (B.facts s.board) s.used };
+    ghost invariant = { λ s. IsTrueToBoard (record { facts = B.facts s.board; failed = s.failed; used = s.used }) };
 }
 
 impl<B: Board> Store<B> {
     ghost use Rattle.undo_journal.specs.Lent.{memory_of, store_of};
+    ghost use Rattle.undo_journal.specs.Calls.{OnlyReads};
 
     /// Opens the store of a board, and takes back what was not committed. Where that fails it gives the board
     /// back.
@@ -49,13 +52,16 @@ impl<B: Board> Store<B> {
         ensures sound { OnOk result (IsSound (B.facts board).words) }
         ensures defined { IfOk result (λ s. IsSound s.facts.words) }
         ensures light { IfOk result (λ s. Steady (B.facts board) s.facts) }
-        ensures writes { IfOk result (λ s. WritesAtMost (rollback_writes (gate (B.facts board).words)) (B.facts board) s.facts) }
+        ensures shut { IfOk result (λ s. gate (B.facts board).words ≡ 0 → KeepsBoard (B.facts board) s.facts) }
+        ensures writes { IfOk result (λ s. WritesAtMost (start_writes (B.facts board)) (B.facts board) s.facts) }
 
         // The undone words stay where the store is not opened, too, and undo is defined just where it was.
         ensures kept_err { IfErr result (λ e. undo (B.facts e.0).words ≡ undo (B.facts board).words) }
         ensures sound_err { IfErr result (λ e. IsSound (B.facts e.0).words ↔ IsSound (B.facts board).words) }
         ensures not_opened { IfErr result (λ e. OpensNot e.1 (B.facts board) (B.facts e.0)) }
-        ensures writes_err { IfErr result (λ e. WritesAtMost (rollback_writes (gate (B.facts board).words)) (B.facts board) (B.facts e.0)) }
+        ensures shut_err { IfErr result (λ e. gate (B.facts board).words ≡ 0 → KeepsBoard (B.facts board) (B.facts e.0)) }
+        ensures writes_err { IfErr result
+            (λ e. WritesAtMost (start_writes (B.facts board)) (B.facts board) (B.facts e.0)) }
     {
         let count = match sound_pairs(&mut board) {
             Ok(Some(count)) => count,
@@ -79,8 +85,10 @@ impl<B: Board> Store<B> {
         ensures keeps { KeepsWords self.old self.new }
         ensures usable { OnOk result (IsOpen self.new) }
         ensures ready { OnOk result (IsIdle self.old → IsReady self.new) }
+        ensures reads { OnlyReads self.old self.new }
         ensures reports { Reports self.old self.new }
         ensures tells { self.new.failed ≡ result_err result }
+        ensures dark { IsErrOf result PowerLost → self.new.facts.dark ≡ true }
         ensures writes { WritesAtMost 0 self.old.facts self.new.facts }
     {
         if let Some(e) = self.failed {
@@ -106,12 +114,15 @@ impl<B: Board> Store<B> {
     pub fn put_alone(&mut self, at: u16, word: u32) -> Result<(), StoreErr>
         requires idle { IsIdle self.old }
         requires place { IsDataAddress (current self.old) at }
-        ensures any_exit { (committed self.new ≡ committed self.old) ⊎ (committed self.new ≡ slice_set (committed self.old) at word) }
+        ensures any_exit { (committed self.new ≡ committed self.old)
+            ⊎ (committed self.new ≡ slice_set (committed self.old) at word) }
         ensures done { OnOk result (committed self.new ≡ slice_set (committed self.old) at word) }
         ensures idle { IsIdle self.new }
         ensures ready { OnOk result (IsReady self.new) }
         ensures reports { Reports self.old self.new }
         ensures tells { self.new.failed ≡ result_err result }
+        ensures dark { IsErrOf result PowerLost → self.new.facts.dark ≡ true }
+        ensures counted { OnOk result (self.new.facts.writes ≡ self.old.facts.writes + 1) }
         ensures writes { WritesAtMost 1 self.old.facts self.new.facts }
     {
         if let Some(e) = self.failed {
@@ -136,6 +147,7 @@ impl<B: Board> Store<B> {
         ensures ready { OnOk result (IsReady self.new) }
         ensures reports { Reports self.old self.new }
         ensures tells { self.new.failed ≡ result_err result }
+        ensures dark { IsErrOf result PowerLost → self.new.facts.dark ≡ true }
         ensures writes { WritesAtMost 1 self.old.facts self.new.facts }
     {
         if let Some(e) = self.failed {
@@ -156,12 +168,14 @@ impl<B: Board> Store<B> {
         ensures ready { OnOk result (IsIdle self.old → IsReady self.new) }
         ensures reports { Reports self.old self.new }
         ensures tells { self.new.failed ≡ result_err result }
+        ensures dark { IsErrOf result PowerLost → self.new.facts.dark ≡ true }
         ensures writes { self.new.facts.writes ≡ self.old.facts.writes }
 
         // The comparison and the match are counted, and nothing else.
         ensures compared { OnOk result (self.new.facts.compares ≡ raised self.old.facts.compares secret) }
         ensures compared_err { OnErr result (RisesAt self.old.facts.compares secret self.new.facts.compares) }
-        ensures matched { IfOk result (λ e. self.new.facts.matches ≡ (if e then raised self.old.facts.matches secret else self.old.facts.matches)) }
+        ensures matched { IfOk result (λ e. self.new.facts.matches ≡
+            (if e then raised self.old.facts.matches secret else self.old.facts.matches)) }
         ensures matched_err { OnErr result (RisesAt self.old.facts.matches secret self.new.facts.matches) }
     {
         if let Some(e) = self.failed {
@@ -185,10 +199,11 @@ impl<B: Board> Store<B> {
         board
     }
 
-    // Ok unless the store has failed.
+    /// Ok unless the store has failed.
     pub(crate) fn check(&self) -> Result<(), StoreErr>
         ensures ready { OnOk result (IsOpen self.now) }
         ensures tells { self.now.failed ≡ result_err result }
+        ensures dark { IsErrOf result PowerLost → self.now.facts.dark ≡ true }
     {
         match self.failed {
             Some(e) => Err(e),
@@ -196,14 +211,14 @@ impl<B: Board> Store<B> {
         }
     }
 
-    // How many more sets there is room for.
+    /// How many more sets there is room for.
     pub(crate) fn room(&self) -> usize
         ensures { result ≡ room self.now }
     {
         usize::from(PAIRS.saturating_sub(self.used))
     }
 
-    // A set of a transaction.
+    /// A set of a transaction.
     pub(crate) fn set(&mut self, at: u16, word: u32) -> Result<(), StoreErr>
         requires room { 0 < room self.old }
         requires place { IsDataAddress (current self.old) at }
@@ -213,6 +228,7 @@ impl<B: Board> Store<B> {
         ensures ready { OnOk result (IsOpen self.new) }
         ensures reports { Reports self.old self.new }
         ensures tells { self.new.failed ≡ result_err result }
+        ensures dark { IsErrOf result PowerLost → self.new.facts.dark ≡ true }
         ensures writes { WritesAtMost 3 self.old.facts self.new.facts }
     {
         if let Some(e) = self.failed {
@@ -227,7 +243,7 @@ impl<B: Board> Store<B> {
         }
     }
 
-    // Makes the current words the committed ones: the gate turns to 0.
+    /// Makes the current words the committed ones: the gate turns to 0.
     pub(crate) fn commit(&mut self) -> Result<(), StoreErr>
         ensures any_exit { (committed self.new ≡ committed self.old)
             ⊎ ((committed self.new ≡ current self.old) × (gate self.new.facts.words ≡ 0)) }
@@ -236,19 +252,20 @@ impl<B: Board> Store<B> {
         ensures ready { OnOk result (IsReady self.new) }
         ensures reports { Reports self.old self.new }
         ensures tells { self.new.failed ≡ result_err result }
+        ensures dark { IsErrOf result PowerLost → self.new.facts.dark ≡ true }
         ensures writes { WritesAtMost 1 self.old.facts self.new.facts }
     {
         self.used = 0;
         if let Some(e) = self.failed {
             return Err(e);
         }
-        match write_word(&mut self.board, GATE, 0) {
+        match write_gate(&mut self.board, 0) {
             Ok(()) => Ok(()),
             Err(e) => Err(fail(&mut self.failed, e)),
         }
     }
 
-    // Makes the committed words the current ones again.
+    /// Makes the committed words the current ones again.
     pub(crate) fn abandon(&mut self) -> Result<(), StoreErr>
         ensures kept { committed self.new ≡ committed self.old }
         ensures done { OnOk result (current self.new ≡ committed self.old) }
@@ -256,6 +273,7 @@ impl<B: Board> Store<B> {
         ensures ready { OnOk result (IsReady self.new) }
         ensures reports { Reports self.old self.new }
         ensures tells { self.new.failed ≡ result_err result }
+        ensures dark { IsErrOf result PowerLost → self.new.facts.dark ≡ true }
         ensures writes { WritesAtMost (rollback_writes self.old.used) self.old.facts self.new.facts }
     {
         let count = self.used;
@@ -275,7 +293,12 @@ impl<B: Armed> Store<B> {
     pub fn arm(&mut self, k: u32, mask: u16)
         requires { 1 ≤ k }
         ensures due { self.new.facts.due ≤ 1 }
-        ensures same { self.new ≡ record self.old { facts = record self.old.facts { due = self.new.facts.due } } }
+        ensures same { self.new ≡ record self.old {
+          facts = record self.old.facts {
+            due = self.new.facts.due;
+            pending = Some record { whole_writes = k - 1; mask = mask };
+          };
+        } }
         ensures keeps { KeepsWords self.old self.new }
         ensures ready { IsReady self.old → IsReady self.new }
     {
@@ -283,7 +306,16 @@ impl<B: Armed> Store<B> {
     }
 }
 
-// Remembers why the store has failed.
+impl<B: Faultless> Store<B> {
+    /// Tells that the board counts no fault.
+    pub fn has_no_fault(&self)
+        ensures { self.now.facts.faults ≡ 0 }
+    {
+        has_no_fault(&self.board);
+    }
+}
+
+/// Remembers why the store has failed.
 fn fail(failed: &mut Option<StoreErr>, e: DeviceErr) -> StoreErr
     ensures failed { failed.new ≡ Some result }
     ensures error { result ≡ store_err_of e }

@@ -1,7 +1,9 @@
 //! A transaction.
-ghost use Rattle.std.specs.Prelude.{◌≡◌, ◌⊎◌, ◌+◌, ◌*◌, ◌<◌, ◌≤◌, length, IfOk, OnOk, slice_index, slice_set};
+ghost use Rattle.std.specs.Prelude.{◌≡◌, ◌⊎◌, ◌+◌, ◌*◌, ◌<◌, ◌≤◌, length, IfOk, OnOk, IsErrOf, true, slice_index};
+ghost use Rattle.std.specs.Prelude.{slice_set};
 ghost use Rattle.std.specs.Result.{result_err};
 ghost use Rattle.nvm_board.specs.Torn.{written};
+ghost use Rattle.undo_journal.specs.declared.error.StoreErr.TheVariants.{PowerLost};
 ghost use Rattle.undo_journal.specs.Undo.{gate, IsDataAddress, IsDataRun};
 ghost use Rattle.undo_journal.specs.Spending.{WritesAtMost, rollback_writes};
 ghost use Rattle.undo_journal.specs.Memory.{committed, current, room, IsOpen, IsIdle, IsReady, KeepsWords, Reports};
@@ -18,6 +20,7 @@ pub struct Txn<'a, B: Board> {
 
 impl<B: Board> Txn<'_, B> {
     ghost use Rattle.undo_journal.specs.Lent.{memory_of, store_of};
+    ghost use Rattle.undo_journal.specs.Calls.{TxnReads};
 
     /// How many more sets there is room for.
     pub fn room(&self) -> usize
@@ -33,8 +36,10 @@ impl<B: Board> Txn<'_, B> {
         ensures word { IfOk result (λ w. w ≡ slice_index (current (memory_of self.old)) at) }
         ensures keeps { KeepsWords (memory_of self.old) (memory_of self.new) }
         ensures ready { OnOk result (IsOpen (memory_of self.new)) }
+        ensures reads { TxnReads self.old self.new }
         ensures reports { Reports (memory_of self.old) (memory_of self.new) }
         ensures tells { (memory_of self.new).failed ≡ result_err result }
+        ensures dark { IsErrOf result PowerLost → (memory_of self.new).facts.dark ≡ true }
         ensures writes { WritesAtMost 0 (memory_of self.old).facts (memory_of self.new).facts }
     {
         self.store.read(at)
@@ -52,6 +57,7 @@ impl<B: Board> Txn<'_, B> {
         ensures ready { OnOk result (IsOpen (memory_of self.new)) }
         ensures reports { Reports (memory_of self.old) (memory_of self.new) }
         ensures tells { (memory_of self.new).failed ≡ result_err result }
+        ensures dark { IsErrOf result PowerLost → (memory_of self.new).facts.dark ≡ true }
         ensures writes { WritesAtMost 3 (memory_of self.old).facts (memory_of self.new).facts }
     {
         self.store.set(at, word)
@@ -68,6 +74,7 @@ impl<B: Board> Txn<'_, B> {
         ensures ready { OnOk result (IsOpen (memory_of self.new)) }
         ensures reports { Reports (memory_of self.old) (memory_of self.new) }
         ensures tells { (memory_of self.new).failed ≡ result_err result }
+        ensures dark { IsErrOf result PowerLost → (memory_of self.new).facts.dark ≡ true }
         ensures writes { WritesAtMost (3 * length words.now) (memory_of self.old).facts (memory_of self.new).facts }
     {
         self.store.check()?;
@@ -86,6 +93,7 @@ impl<B: Board> Txn<'_, B> {
         ensures ready { OnOk result (IsReady self.exit.0.now) }
         ensures reports { Reports (memory_of self.entry) self.exit.0.now }
         ensures tells { self.exit.0.now.failed ≡ result_err result }
+        ensures dark { IsErrOf result PowerLost → self.exit.0.now.facts.dark ≡ true }
         ensures writes { WritesAtMost 1 (memory_of self.entry).facts self.exit.0.now.facts }
     {
         let Txn { store } = self;
@@ -100,7 +108,9 @@ impl<B: Board> Txn<'_, B> {
         ensures ready { OnOk result (IsReady self.exit.0.now) }
         ensures reports { Reports (memory_of self.entry) self.exit.0.now }
         ensures tells { self.exit.0.now.failed ≡ result_err result }
-        ensures writes { WritesAtMost (rollback_writes (memory_of self.entry).used) (memory_of self.entry).facts self.exit.0.now.facts }
+        ensures dark { IsErrOf result PowerLost → self.exit.0.now.facts.dark ≡ true }
+        ensures writes { WritesAtMost (rollback_writes (memory_of self.entry).used) (memory_of self.entry).facts
+            self.exit.0.now.facts }
     {
         let Txn { store } = self;
         store.abandon()

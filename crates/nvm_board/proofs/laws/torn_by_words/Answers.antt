@@ -1,4 +1,4 @@
-use Rattle.nvm_board.specs.Torn.{IsMixture-Torn, Torn-IsMixture}
+use Rattle.nvm_board.specs.laws.Torn.{IsMixture-Torn, Torn-IsMixture}
 use Rattle.nvm_board.proofs.laws.torn_by_words.Goals as goal
 
 pub returns : goal.returns

@@ -1,6 +1,7 @@
-use Rattle.std.proofs.Common.{◌+◌, ◌<◌, ℕ, List, length, get_or, slice_set, arith, ap, ◌∙◌}
+use Rattle.std.proofs.Common.{◌+◌, ◌<◌, ◌^◌, ℕ, List, length, get_or, slice_set, arith, ap, ◌∙◌}
 use Rattle.std.proofs.Math.ListN.{length-set}
-use Rattle.nvm_board.specs.Torn.{written-more}
+use Rattle.std.proofs.lemmas.List.Elements.{All-set}
+use Rattle.nvm_board.specs.laws.Torn.{written-more}
 use Rattle.nvm_board.proofs.runs.put_run.Goals as goal
 
 pub loop-i-preserved : goal.loop-i-preserved
@@ -10,4 +11,6 @@ loop-i-preserved c =
     record {
       all = length-set _ _ _ ∙ c.loop-i.invariant.all;
       so_far = ap put c.loop-i.invariant.so_far ∙ written-more _ _ _ _ lt;
+      fits = λ old. let below : get_or c.args.run.now c.loop-i.i 0 < 2 ^ 32 = omega arith in
+          All-set (λ w. w < 2 ^ 32) _ _ _ below (c.loop-i.invariant.fits old);
     }

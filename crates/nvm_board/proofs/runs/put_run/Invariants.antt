@@ -1,4 +1,5 @@
 use Rattle.std.proofs.Common.{◌≡◌, length, take}
+use Rattle.nvm_board.specs.Facts.{AreWords}
 use Rattle.nvm_board.specs.Torn.{written}
 use Rattle.nvm_board.proofs.runs.put_run.Given as goal
 
@@ -6,4 +7,5 @@ abbrev pub invariant-loop-i : goal.invariant-loop-i
 invariant-loop-i l = record {
   all : length l.words.items ≡ length l.initial.words.items;
   so_far : l.words.items ≡ written l.initial.words.items l.start (take l.i l.run);
+  fits : AreWords l.initial.words.items → AreWords l.words.items;
 }

@@ -1,8 +1,9 @@
 use Rattle.std.proofs.Common.{◌≡◌, ◌-◌, ◌<◌, suc, true, arith, sym, ap, ◌∙◌, refl, length, ℕ}
 use Rattle.undo_journal.specs.declared.layout.TheConstants.{GATE}
 use Rattle.undo_journal.specs.Undo.{gate}
-use Rattle.undo_journal.specs.UndoLaws.{undo_shut}
-use Rattle.undo_journal.proofs.Restore.{put_back_from, put_back-none, turn-place, turn-done, turn-kept, turn-sound, end-done, end-kept, end-sound}
+use Rattle.undo_journal.specs.laws.Undo.{undo_shut}
+use Rattle.undo_journal.proofs.Restore.{put_back_from, put_back-none, turn-place, turn-done, turn-kept, turn-sound}
+use Rattle.undo_journal.proofs.Restore.{end-done, end-kept, end-sound}
 use Rattle.undo_journal.proofs.journal.roll_back.Goals as goal
 
 pub returns-then-count-eq0-clause-done : goal.returns-then-count-eq0-clause-done
@@ -45,7 +46,8 @@ loop-left-preserved g c =
         cuts = light.cuts ∙ kept.steady.cuts;
         due = light.due ∙ kept.steady.due;
       };
-      so_far = turn-done m _ c.requires.sound c.loop-left.left kept.so_far (c.loop-left.left - 1) _ next lt c.in_ok-put_back.ensures.done;
+      so_far = turn-done m _ c.requires.sound c.loop-left.left kept.so_far (c.loop-left.left - 1) _ next lt
+          c.in_ok-put_back.ensures.done;
       writes = omega (arith, cost.writes, kept.writes);
       compares = cost.compares ∙ kept.compares;
       matches = cost.matches ∙ kept.matches;
@@ -56,46 +58,53 @@ returns-in_err-put_back-clause-kept g c =
     let m = (g.B.Board.facts c.args.board.now).words in
     let lt : c.loop-left.left - 1 < gate m = omega (arith, c.requires.counts, c.loop-left.invariant.within) in
     let next : c.loop-left.left ≡ suc (c.loop-left.left - 1) = omega arith in
-    turn-kept m _ c.requires.sound c.loop-left.left c.loop-left.invariant.so_far (c.loop-left.left - 1) _ next lt c.in_err-put_back.ensures.torn
+    turn-kept m _ c.requires.sound c.loop-left.left c.loop-left.invariant.so_far (c.loop-left.left - 1) _ next lt
+    c.in_err-put_back.ensures.torn
 
-pub returns-in_err-write_word-clause-kept : goal.returns-in_err-write_word-clause-kept
-returns-in_err-write_word-clause-kept g c =
+pub returns-in_err-write_gate-clause-kept : goal.returns-in_err-write_gate-clause-kept
+returns-in_err-write_gate-clause-kept g c =
     let m = (g.B.Board.facts c.args.board.now).words in
     let within : GATE < length m = omega (arith, g.met.B.Board.sized c.args.board.now) in
     let none : c.loop-left.left ≡ 0 = omega arith in
-    end-kept m _ c.requires.sound c.loop-left.left c.loop-left.invariant.so_far _ within none c.in_err-write_word.ensures.torn
+    end-kept m _ c.requires.sound c.loop-left.left c.loop-left.invariant.so_far _ within none
+    c.in_err-write_gate.ensures.torn
 
 pub returns-clause-kept : goal.returns-clause-kept
 returns-clause-kept g c =
     let m = (g.B.Board.facts c.args.board.now).words in
     let within : GATE < length m = omega (arith, g.met.B.Board.sized c.args.board.now) in
     let none : c.loop-left.left ≡ 0 = omega arith in
-    end-kept m _ c.requires.sound c.loop-left.left c.loop-left.invariant.so_far _ within none c.in_ok-write_word.ensures.torn
+    end-kept m _ c.requires.sound c.loop-left.left c.loop-left.invariant.so_far _ within none
+    c.in_ok-write_gate.ensures.torn
 
 pub returns-clause-done : goal.returns-clause-done
 returns-clause-done g c =
     let m = (g.B.Board.facts c.args.board.now).words in
     let within : GATE < length m = omega (arith, g.met.B.Board.sized c.args.board.now) in
     let none : c.loop-left.left ≡ 0 = omega arith in
-    end-done m _ c.requires.sound c.loop-left.left c.loop-left.invariant.so_far _ within none c.in_ok-write_word.ensures.done
+    end-done m _ c.requires.sound c.loop-left.left c.loop-left.invariant.so_far _ within none
+    c.in_ok-write_gate.ensures.done
 
 pub returns-in_err-put_back-clause-sound : goal.returns-in_err-put_back-clause-sound
 returns-in_err-put_back-clause-sound g c =
     let m = (g.B.Board.facts c.args.board.now).words in
     let lt : c.loop-left.left - 1 < gate m = omega (arith, c.requires.counts, c.loop-left.invariant.within) in
     let next : c.loop-left.left ≡ suc (c.loop-left.left - 1) = omega arith in
-    turn-sound m _ c.requires.sound c.loop-left.left c.loop-left.invariant.so_far (c.loop-left.left - 1) _ next lt c.in_err-put_back.ensures.torn
+    turn-sound m _ c.requires.sound c.loop-left.left c.loop-left.invariant.so_far (c.loop-left.left - 1) _ next lt
+    c.in_err-put_back.ensures.torn
 
-pub returns-in_err-write_word-clause-sound : goal.returns-in_err-write_word-clause-sound
-returns-in_err-write_word-clause-sound g c =
+pub returns-in_err-write_gate-clause-sound : goal.returns-in_err-write_gate-clause-sound
+returns-in_err-write_gate-clause-sound g c =
     let m = (g.B.Board.facts c.args.board.now).words in
     let within : GATE < length m = omega (arith, g.met.B.Board.sized c.args.board.now) in
     let none : c.loop-left.left ≡ 0 = omega arith in
-    end-sound m _ c.requires.sound c.loop-left.left c.loop-left.invariant.so_far _ within none c.in_err-write_word.ensures.torn
+    end-sound m _ c.requires.sound c.loop-left.left c.loop-left.invariant.so_far _ within none
+    c.in_err-write_gate.ensures.torn
 
 pub returns-clause-sound : goal.returns-clause-sound
 returns-clause-sound g c =
     let m = (g.B.Board.facts c.args.board.now).words in
     let within : GATE < length m = omega (arith, g.met.B.Board.sized c.args.board.now) in
     let none : c.loop-left.left ≡ 0 = omega arith in
-    end-sound m _ c.requires.sound c.loop-left.left c.loop-left.invariant.so_far _ within none c.in_ok-write_word.ensures.torn
+    end-sound m _ c.requires.sound c.loop-left.left c.loop-left.invariant.so_far _ within none
+    c.in_ok-write_gate.ensures.torn

@@ -14,6 +14,7 @@ pub returns-else-sound-clause-sound : goal.returns-else-sound-clause-sound
 returns-else-sound-clause-sound g c =
     λ sound.
     let read = c.in_ok-count.ensures in
-    let good : c.in_ok-sound.sound ≡ true = c.in_ok-sound.ensures.named.1 (named-sound _ _ c.in_ok-count.count read.words read.word sound) in
+    let good : c.in_ok-sound.sound ≡ true =
+    c.in_ok-sound.ensures.named.1 (named-sound _ _ c.in_ok-count.count read.words read.word sound) in
     let bad : c.in_ok-sound.sound ≡ false = c.if-sound.false in
     cc

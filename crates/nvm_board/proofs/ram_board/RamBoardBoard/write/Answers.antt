@@ -1,6 +1,7 @@
 use Rattle.std.proofs.Common.{ℕ, List, ap, sym, ◌∙◌, subst}
 use Rattle.nvm_board.specs.Facts.{Facts, address}
-use Rattle.nvm_board.specs.Torn.{Torn, Torn-none, Torn-all, written}
+use Rattle.nvm_board.specs.Torn.{Torn, written}
+use Rattle.nvm_board.specs.laws.Torn.{Torn-none, Torn-all}
 use Rattle.nvm_board.proofs.ram_board.RamBoardBoard.write.Goals as goal
 
 pub returns-then-self-clause-torn : goal.returns-then-self-clause-torn

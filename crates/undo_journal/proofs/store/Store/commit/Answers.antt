@@ -4,15 +4,16 @@ use Rattle.undo_journal.specs.declared.layout.TheConstants.{GATE}
 use Rattle.undo_journal.specs.Undo.{gate, undo, data_words, IsSound}
 use Rattle.undo_journal.specs.Memory.{committed, current}
 use Rattle.undo_journal.proofs.Saving.{gate-shut}
-use Rattle.undo_journal.proofs.Standing.{ready-from, held-shut}
+use Rattle.undo_journal.proofs.Standing.{ready-from, true-shut}
 use Rattle.undo_journal.proofs.Lasting.{gate-commits, commit-sound}
 use Rattle.undo_journal.proofs.store.Store.commit.Goals as goal
 
 pub invariant_of-self-in-Ok : goal.invariant_of-self-in-Ok
-invariant_of-self-in-Ok g c = λ works.
+invariant_of-self-in-Ok g c =
     let words = (g.B.Board.facts c.self.inside.board).words in
     let within : GATE < length words = omega (arith, g.met.B.Board.sized c.self.inside.board) in
-    held-shut _ 0 (ap gate c.in-Ok.ensures.done ∙ gate-shut words within) refl (c.in-Ok.ensures.light.ok refl).lit
+    true-shut _ c.in_default.is (ap gate c.in-Ok.ensures.done ∙ gate-shut words within) refl
+    (c.in-Ok.ensures.light.ok refl).lit
 
 pub returns-in-Ok-clause-any_exit : goal.returns-in-Ok-clause-any_exit
 returns-in-Ok-clause-any_exit g c =
@@ -31,7 +32,8 @@ pub returns-in-Ok-clause-ready : goal.returns-in-Ok-clause-ready
 returns-in-Ok-clause-ready g c =
     let words = (g.B.Board.facts c.self.inside.board).words in
     let within : GATE < length words = omega (arith, g.met.B.Board.sized c.self.inside.board) in
-    ready-from _ c.in_default.is (c.in-Ok.ensures.light.ok refl).lit (g.met.B.Board.sized _) (ap gate c.in-Ok.ensures.done ∙ gate-shut words within) refl
+    ready-from _ c.in_default.is (c.in-Ok.ensures.light.ok refl).lit (g.met.B.Board.sized _) (g.met.B.Board.words_fit _)
+    (ap gate c.in-Ok.ensures.done ∙ gate-shut words within) refl
 
 pub returns-in-Err-clause-any_exit : goal.returns-in-Err-clause-any_exit
 returns-in-Err-clause-any_exit g c =
@@ -46,14 +48,14 @@ pub returns-in-Ok-clause-reports : goal.returns-in-Ok-clause-reports
 returns-in-Ok-clause-reports g c =
     let words = (g.B.Board.facts c.self.inside.board).words in
     let within : GATE < length words = omega (arith, g.met.B.Board.sized c.self.inside.board) in
-    let sound : IsSound (g.B.Board.facts c.write_word.new.board).words =
-    commit-sound words _ within (c.self.invariant c.in_default.is).sound c.in-Ok.ensures.torn in
+    let sound : IsSound (g.B.Board.facts c.write_gate.new.board).words =
+    commit-sound words _ within (c.self.invariant.works c.in_default.is).sound c.in-Ok.ensures.torn in
     search rules
 
 pub returns-in-Err-clause-reports : goal.returns-in-Err-clause-reports
 returns-in-Err-clause-reports g c =
     let words = (g.B.Board.facts c.self.inside.board).words in
     let within : GATE < length words = omega (arith, g.met.B.Board.sized c.self.inside.board) in
-    let sound : IsSound (g.B.Board.facts c.write_word.new.board).words =
-    commit-sound words _ within (c.self.invariant c.in_default.is).sound c.in-Err.ensures.torn in
+    let sound : IsSound (g.B.Board.facts c.write_gate.new.board).words =
+    commit-sound words _ within (c.self.invariant.works c.in_default.is).sound c.in-Err.ensures.torn in
     search rules

@@ -9,3 +9,4 @@ save_and_write-requires-clause-place g c =
 
 pub returns-in-Ok-clause-ready : goal.returns-in-Ok-clause-ready
 returns-in-Ok-clause-ready g c = open-from _ c.in_default.is (c.in-Ok.ensures.light.ok refl).lit (g.met.B.Board.sized _)
+    (g.met.B.Board.words_fit _)

@@ -1,6 +1,6 @@
 use Rattle.std.proofs.Common.{◌<◌, ◌+◌, ℕ, List, length, get_or, slice_set, ap, ◌∙◌, arith}
-use Rattle.nvm_board.specs.Torn.{written-more}
-use Rattle.undo_journal.specs.MemoryLaws.{reports_then}
+use Rattle.nvm_board.specs.laws.Torn.{written-more}
+use Rattle.undo_journal.specs.laws.Memory.{reports_then}
 use Rattle.undo_journal.proofs.txn.Txn.set_run.Goals as goal
 
 pub returns-in_err-set-clause-reports : goal.returns-in_err-set-clause-reports

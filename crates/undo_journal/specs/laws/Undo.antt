@@ -1,5 +1,7 @@
 -- Laws of undo and of the data words, word by word.
-use Rattle.std.proofs.Common.{◌≡◌, ◌≢◌, ◌==◌, ◌⊎◌, ◌<◌, ◌≤◌, ◌+◌, ℕ, zero, suc, Bool, true, false, List, [], ◌∷◌, length, slice_index, slice_set, refl, sym, ◌∙◌, ap, subst, inl, inr, arith, get_or-set_same, get_or-set_other}
+use Rattle.std.proofs.Common.{◌≡◌, ◌≢◌, ◌==◌, ◌⊎◌, ◌<◌, ◌≤◌, ◌+◌, ℕ, zero, suc, Bool, true, false, List, [], ◌∷◌}
+use Rattle.std.proofs.Common.{length, slice_index, slice_set, refl, sym, ◌∙◌, ap, subst, inl, inr, arith}
+use Rattle.std.proofs.Common.{get_or-set_same, get_or-set_other}
 use Rattle.std.specs.Prelude.{if◌then◌else◌}
 use Rattle.std.proofs.Math.ListN.{length-set}
 use Rattle.std.proofs.lemmas.Grind.{same_number_lists}
@@ -7,7 +9,8 @@ use Rattle.std.proofs.lemmas.Bool.{cases_lt}
 use Rattle.std.proofs.lemmas.Bool.Decides.{eqb_tells, nat_tests}
 use Rattle.std.proofs.lemmas.List.{get_or_past}
 use Rattle.undo_journal.specs.declared.layout.TheConstants.{GATE, PAIRS}
-use Rattle.undo_journal.specs.Undo.{Pair, gate, pairs_from, pairs, earlier, by_address, undo, in_journal, data_words, IsOutside, IsDataAddress, IsSound}
+use Rattle.undo_journal.specs.Undo.{Pair, gate, pairs_from, pairs, earlier, by_address, undo, in_journal, data_words}
+use Rattle.undo_journal.specs.Undo.{IsOutside, IsDataAddress, IsSound}
 
 -- by address: as many words
 pub length-by_address : (f : ℕ → ℕ → ℕ) (a : ℕ) (m : List ℕ) → length (by_address f a m) ≡ length m
@@ -16,7 +19,8 @@ length-by_address f a [] = refl
 length-by_address f a (w ∷ m) = ap suc (length-by_address f (a + 1) m)
 
 -- by address: the word at an address
-pub by_address-at : (f : ℕ → ℕ → ℕ) (a : ℕ) (m : List ℕ) (k : ℕ) → k < length m → slice_index (by_address f a m) k ≡ f (a + k) (slice_index m k)
+pub by_address-at : (f : ℕ → ℕ → ℕ) (a : ℕ) (m : List ℕ) (k : ℕ) → k < length m
+    → slice_index (by_address f a m) k ≡ f (a + k) (slice_index m k)
 unfolding by_address
 by_address-at f a [] k lt = absurd (omega arith)
 by_address-at f a (w ∷ m) zero lt = let here : a ≡ a + zero = omega arith in ap (λ (j : ℕ). f j w) here
@@ -56,7 +60,8 @@ data_words-at m k lt =
     by_address-at word 0 m k lt ∙ ap (λ (j : ℕ). word j (slice_index m k)) z
 
 -- two memories that agree word by word after undo
-pub undo-same : (m n : List ℕ) → length m ≡ length n → ((k : ℕ) → k < length m → undone_word m k ≡ undone_word n k) → undo m ≡ undo n
+pub undo-same : (m n : List ℕ) → length m ≡ length n → ((k : ℕ) → k < length m → undone_word m k ≡ undone_word n k)
+    → undo m ≡ undo n
 undo-same m n size words =
     same_number_lists (undo m) (undo n) (length-undo m ∙ size ∙ sym (length-undo n)) (λ k lt.
     let below : k < length m = omega (arith, length-undo m) in
@@ -72,11 +77,13 @@ pub in_journal-cases : (k : ℕ) → (in_journal k ≡ true) ⊎ ((in_journal k 
 in_journal-cases k = grind (arith, nat_tests)
 
 -- two memories that agree on each data word
-pub data_words-same : (m n : List ℕ) → length m ≡ length n → ((k : ℕ) → k < length m → IsOutside k → slice_index m k ≡ slice_index n k) → data_words m ≡ data_words n
+pub data_words-same : (m n : List ℕ) → length m ≡ length n
+    → ((k : ℕ) → k < length m → IsOutside k → slice_index m k ≡ slice_index n k) → data_words m ≡ data_words n
 data_words-same m n size words =
     let word : ℕ → Bool → ℕ → ℕ = λ k b w. if b then 0 else w in
     let each : (k : ℕ) → k < length m → data_word m k ≡ data_word n k = λ k lt. elim (in_journal-cases k) [
-      | inl inside ↦ ap (λ (b : Bool). word k b (slice_index m k)) inside ∙ sym (ap (λ (b : Bool). word k b (slice_index n k)) inside)
+      | inl inside ↦ ap (λ (b : Bool). word k b (slice_index m k)) inside
+          ∙ sym (ap (λ (b : Bool). word k b (slice_index n k)) inside)
       | inr out ↦ ap (λ (w : ℕ). word k (in_journal k) w) (words k lt out.1)
     ] in
     same_number_lists (data_words m) (data_words n) (length-data_words m ∙ size ∙ sym (length-data_words n)) (λ k lt.
@@ -85,21 +92,28 @@ data_words-same m n size words =
     data_words-at m k below ∙ each k below ∙ sym (data_words-at n k below_n))
 
 -- a data word is the memory's word
-pub data_words-outside : (m : List ℕ) (k : ℕ) → k < length m → IsOutside k → slice_index (data_words m) k ≡ slice_index m k
-data_words-outside m k lt out = data_words-at m k lt ∙ ap (λ (b : Bool). if b then 0 else slice_index m k) (outside-in_journal k out)
+pub data_words-outside : (m : List ℕ) (k : ℕ) → k < length m → IsOutside k
+    → slice_index (data_words m) k ≡ slice_index m k
+data_words-outside m k lt out = data_words-at m k lt
+    ∙ ap (λ (b : Bool). if b then 0 else slice_index m k) (outside-in_journal k out)
 
 -- a data word is set
-pub data_words-set : (m : List ℕ) (a w : ℕ) → IsDataAddress m a → data_words (slice_set m a w) ≡ slice_set (data_words m) a w
+pub data_words-set : (m : List ℕ) (a w : ℕ) → IsDataAddress m a
+    → data_words (slice_set m a w) ≡ slice_set (data_words m) a w
 data_words-set m a w place =
-    same_number_lists _ _ (length-data_words (slice_set m a w) ∙ length-set m a w ∙ sym (length-data_words m) ∙ sym (length-set (data_words m) a w)) (λ k lt.
+    same_number_lists _ _ (length-data_words (slice_set m a w) ∙ length-set m a w ∙ sym (length-data_words m)
+    ∙ sym (length-set (data_words m) a w)) (λ k lt.
     let below : k < length (slice_set m a w) = omega (arith, length-data_words (slice_set m a w)) in
     let below_m : k < length m = omega (arith, length-set m a w) in
     let within : a < length (data_words m) = omega (arith, length-data_words m) in
     elim (eqb_tells k a) [
       | inl same ↦
           let set_there : slice_index (data_words (slice_set m a w)) a ≡ w =
-          data_words-outside (slice_set m a w) a (let l : a < length (slice_set m a w) = omega (arith, length-set m a w) in l) place.0 ∙ get_or-set_same m a w 0 place.1 in
-          let family : ℕ → Type 0 = λ j. slice_index (data_words (slice_set m a w)) j ≡ slice_index (slice_set (data_words m) a w) j in
+          data_words-outside (slice_set m a w) a
+          (let l : a < length (slice_set m a w) = omega (arith, length-set m a w) in l) place.0
+          ∙ get_or-set_same m a w 0 place.1 in
+          let family : ℕ → Type 0 = λ j. slice_index (data_words (slice_set m a w)) j ≡ slice_index
+          (slice_set (data_words m) a w) j in
           subst family (sym same.1) (set_there ∙ sym (get_or-set_same (data_words m) a w 0 within))
       | inr other ↦
           data_words-at (slice_set m a w) k below
@@ -109,7 +123,8 @@ data_words-set m a w place =
 
 -- two memories whose data words agree after undo
 pub committed-same : (m n : List ℕ) → length m ≡ length n
-    → ((k : ℕ) → k < length m → IsOutside k → earlier (pairs m) k (slice_index m k) ≡ earlier (pairs n) k (slice_index n k))
+    → ((k : ℕ) → k < length m → IsOutside k
+    → earlier (pairs m) k (slice_index m k) ≡ earlier (pairs n) k (slice_index n k))
     → data_words (undo m) ≡ data_words (undo n)
 committed-same m n size words =
     data_words-same (undo m) (undo n) (length-undo m ∙ size ∙ sym (length-undo n)) (λ k lt out.
@@ -141,8 +156,10 @@ module _ (m : List ℕ) (shut : gate m ≡ 0) where
   undo_shut = same_number_lists (undo m) m (length-undo m) (λ k lt.
       let below : k < length m = omega (arith, length-undo m) in
       undo-at m k below ∙ elim (eqb_tells k GATE) [
-        | inl same ↦ ap (λ (b : Bool). if b then 0 else earlier (pairs m) k (slice_index m k)) same.0 ∙ sym (ap (λ (j : ℕ). slice_index m j) same.1 ∙ shut)
-        | inr other ↦ ap (λ (b : Bool). if b then 0 else earlier (pairs m) k (slice_index m k)) other.0 ∙ ap (λ (ps : List Pair). earlier ps k (slice_index m k)) pairs_shut
+        | inl same ↦ ap (λ (b : Bool). if b then 0 else earlier (pairs m) k (slice_index m k)) same.0
+            ∙ sym (ap (λ (j : ℕ). slice_index m j) same.1 ∙ shut)
+        | inr other ↦ ap (λ (b : Bool). if b then 0 else earlier (pairs m) k (slice_index m k)) other.0
+            ∙ ap (λ (ps : List Pair). earlier ps k (slice_index m k)) pairs_shut
       ])
 
 -- after undo no pair counts

@@ -6,7 +6,7 @@ use Rattle.nvm_board.specs.Facts.{Facts}
 use Rattle.undo_journal.specs.declared.error.StoreErr.{StoreErr}
 use Rattle.undo_journal.specs.declared.error.StoreErr.TheVariants.{PowerLost, Fault}
 use Rattle.undo_journal.specs.Undo.{undo}
-use Rattle.undo_journal.specs.UndoLaws.{length-undo, length-data_words}
+use Rattle.undo_journal.specs.laws.Undo.{length-undo, length-data_words}
 use Rattle.undo_journal.specs.Spending.{WritesAtMost}
 use Rattle.undo_journal.specs.Memory.{Memory, committed, current, SameLight, FailsBy, Reports}
 
@@ -76,7 +76,8 @@ reports_then a b c first rest = record {
   sound = λ h. rest.sound (first.sound h);
 }
   where
-    at_failure : (e : StoreErr) → a.failed ≡ None → c.failed ≡ Some e → (f : Option StoreErr) → b.failed ≡ f → FailsBy e a.facts c.facts
+    at_failure : (e : StoreErr) → a.failed ≡ None → c.failed ≡ Some e → (f : Option StoreErr) → b.failed ≡ f
+        → FailsBy e a.facts c.facts
     at_failure e works fails None h = FailsBy-after e a.facts b.facts c.facts (first.works h).1 (rest.fails e h fails)
     at_failure e works fails (Some x) h =
         let after = rest.stuck x h in

@@ -1,0 +1,27 @@
+-- What the boards in working memory are known to be.
+use Rattle.std.proofs.Common.{arith}
+use Rattle.nvm_board.specs.declared.ram_board.RamBoard.{RamBoard}
+use Rattle.nvm_board.specs.declared.cut_board.CutBoard.{CutBoard}
+use Rattle.nvm_board.specs.Facts.{CountsFit}
+use Rattle.nvm_board.specs.Ram.{ram_facts}
+use Rattle.nvm_board.specs.Cut.{cut_facts}
+
+-- no count of a board in working memory is past its end
+pub ram_counts_fit : (b : RamBoard) → CountsFit (ram_facts b)
+ram_counts_fit b = record {
+  faults = omega arith;
+  cuts = b.cuts_fit;
+  writes = b.writes_fit;
+  compares = b.compares_fit;
+  matches = b.matches_fit;
+}
+
+-- nor of one that can be cut
+pub cut_counts_fit : (b : CutBoard) → CountsFit (cut_facts b)
+cut_counts_fit b = record {
+  faults = omega arith;
+  cuts = b.ram.cuts_fit;
+  writes = b.ram.writes_fit;
+  compares = b.ram.compares_fit;
+  matches = b.ram.matches_fit;
+}

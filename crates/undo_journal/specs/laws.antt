@@ -1,0 +1,6 @@
+-- Laws of the definitions, with their proofs.
+pub use Rattle.nvm_board.specs.laws.Torn
+pub mod Undo
+pub mod Words
+pub mod Memory
+pub mod Calls

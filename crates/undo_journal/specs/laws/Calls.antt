@@ -1,0 +1,97 @@
+-- Laws of calls in a row: reads, and the sets of a transaction.
+use Rattle.std.proofs.Common.{◌+◌, ◌≤◌, ℕ, refl, ◌∙◌, arith}
+use Rattle.nvm_board.specs.Facts.{Facts}
+use Rattle.undo_journal.specs.declared.txn.Txn.{Txn}
+use Rattle.undo_journal.specs.Memory.{Memory}
+use Rattle.undo_journal.specs.laws.Memory.{reports_same, reports_then}
+use Rattle.undo_journal.specs.Spending.{KeepsBoard, WritesAtMost}
+use Rattle.undo_journal.specs.Calls.{OnlyReads, TxnReads, Sets}
+
+-- a board that is kept costs nothing
+pub keeping_spends : (n : ℕ) (a b : Facts) → KeepsBoard a b → WritesAtMost n a b
+keeping_spends n a b kept = record {
+  writes = omega (arith, kept.writes);
+  compares = kept.compares;
+  matches =
+      kept.matches;
+}
+
+-- reads cost nothing
+pub reads_spend : (n : ℕ) (a b : Memory) → OnlyReads a b → WritesAtMost n a.facts b.facts
+reads_spend n a b reads = keeping_spends n a.facts b.facts reads.board
+
+-- no read at all
+pub reads_same : (m : Memory) → OnlyReads m m
+reads_same m = record {
+  board = record { words = refl; writes = refl; compares = refl; matches = refl };
+  keeps = record { committed_words = refl; current_words = refl; used = refl };
+  reports = reports_same m;
+}
+
+-- reads in a row
+pub reads_then : (a b c : Memory) → OnlyReads a b → OnlyReads b c → OnlyReads a c
+reads_then a b c first rest = record {
+  board = record {
+    words = rest.board.words ∙ first.board.words;
+    writes = rest.board.writes ∙ first.board.writes;
+    compares = rest.board.compares ∙ first.board.compares;
+    matches = rest.board.matches ∙ first.board.matches;
+  };
+  keeps = record {
+    committed_words = rest.keeps.committed_words ∙ first.keeps.committed_words;
+    current_words = rest.keeps.current_words ∙ first.keeps.current_words;
+    used = rest.keeps.used ∙ first.keeps.used;
+  };
+  reports = reports_then a b c first.reports rest.reports;
+}
+
+-- no read at all in a transaction
+pub txn_reads_same : {B : Type 0} (a : Txn B) → TxnReads a a
+txn_reads_same a = record { same_store = refl; reads = reads_same _ }
+
+-- reads in a row in a transaction
+pub txn_reads_then : {B : Type 0} (a b c : Txn B) → TxnReads a b → TxnReads b c → TxnReads a c
+txn_reads_then a b c first rest = record
+    { same_store = rest.same_store ∙ first.same_store; reads = reads_then _ _ _ first.reads rest.reads }
+
+-- sets in a row
+pub sets_then : {B : Type 0} (i k n : ℕ) (a b c : Txn B) → i + k ≤ n → Sets i a b → Sets k b c → Sets n a c
+sets_then i k n a b c fits first rest = record {
+  same_store = rest.same_store ∙ first.same_store;
+  kept = rest.kept ∙ first.kept;
+  room = omega (arith, fits, first.room, rest.room);
+  reports = reports_then _ _ _ first.reports rest.reports;
+  writes = record {
+    writes = omega (arith, fits, first.writes.writes, rest.writes.writes);
+    compares = rest.writes.compares ∙ first.writes.compares;
+    matches = rest.writes.matches ∙ first.writes.matches;
+  };
+}
+
+-- reads are no sets
+pub reads_sets : {B : Type 0} (n : ℕ) (a b : Txn B) → TxnReads a b → Sets n a b
+reads_sets n a b reads = record {
+  same_store = reads.same_store;
+  kept = reads.reads.keeps.committed_words;
+  room = omega (arith, reads.reads.keeps.used);
+  reports = reads.reads.reports;
+  writes = record {
+    writes = omega (arith, reads.reads.board.writes);
+    compares = reads.reads.board.compares;
+    matches = reads.reads.board.matches;
+  };
+}
+
+-- fewer sets are at most as many
+pub sets_weaker : {B : Type 0} (i n : ℕ) (a b : Txn B) → i ≤ n → Sets i a b → Sets n a b
+sets_weaker i n a b fits sets = record {
+  same_store = sets.same_store;
+  kept = sets.kept;
+  room = omega (arith, fits, sets.room);
+  reports = sets.reports;
+  writes = record {
+    writes = omega (arith, fits, sets.writes.writes);
+    compares = sets.writes.compares;
+    matches = sets.writes.matches;
+  };
+}
