@@ -3,7 +3,9 @@ use Rattle.std.specs.Prelude.{ℕ, ◌-◌, ◌/◌, ◌^◌, Bool, ◌==◌, co
 use Rattle.std.specs.Int.{bit_at}
 use Rattle.card_rules.specs.declared.access_mode.AccessMode.{AccessMode}
 use Rattle.card_rules.specs.declared.access_mode.AccessBit.{AccessBit}
-use Rattle.card_rules.specs.declared.access_mode.AccessBit.TheVariants.{DeleteSelf, Terminate, Activate, Deactivate, CreateDf, Append, CreateEf, Update, DeleteChild, Read}
+use Rattle.card_rules.specs.declared.access_mode.AccessBit.TheVariants.{DeleteSelf, Terminate, Activate, Deactivate}
+use Rattle.card_rules.specs.declared.access_mode.AccessBit.TheVariants.{CreateDf, Append, CreateEf, Update, DeleteChild}
+use Rattle.card_rules.specs.declared.access_mode.AccessBit.TheVariants.{Read}
 
 -- the byte of an access mode
 abbrev pub mode_byte : AccessMode → ℕ

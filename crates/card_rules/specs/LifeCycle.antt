@@ -1,7 +1,8 @@
 -- The life cycle of a file, as bytes and under commands (ISO/IEC 7816-4, 7.4.10; ISO/IEC 7816-9).
 use Rattle.std.specs.Prelude.{ℕ, Option, Some, None, ◌==◌, if◌then◌else◌}
 use Rattle.card_rules.specs.declared.life_cycle.LifeCycle.{LifeCycle}
-use Rattle.card_rules.specs.declared.life_cycle.LifeCycle.TheVariants.{Creation, Initialisation, Deactivated, Activated, Terminated}
+use Rattle.card_rules.specs.declared.life_cycle.LifeCycle.TheVariants.{Creation, Initialisation, Deactivated, Activated}
+use Rattle.card_rules.specs.declared.life_cycle.LifeCycle.TheVariants.{Terminated}
 use Rattle.card_rules.specs.declared.life_cycle.LifeCycleCommand.{LifeCycleCommand}
 use Rattle.card_rules.specs.declared.life_cycle.LifeCycleCommand.TheVariants.{Activate, Deactivate, Terminate}
 

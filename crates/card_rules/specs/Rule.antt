@@ -1,5 +1,6 @@
 -- Rules in compact format, and what they allow (ISO/IEC 7816-4, 9.3.3).
-use Rattle.std.specs.Prelude.{ℕ, ◌%◌, Bool, true, false, ◌&&◌, ◌||◌, ◌==◌, nat_lt, nat_le, if◌then◌else◌, List, [], ◌∷◌, length, count_ones, Option, Some, None, is_some, slice_get, option_and_then}
+use Rattle.std.specs.Prelude.{ℕ, ◌%◌, Bool, true, false, ◌&&◌, ◌||◌, ◌==◌, nat_lt, nat_le, if◌then◌else◌, List, [], ◌∷◌}
+use Rattle.std.specs.Prelude.{length, count_ones, Option, Some, None, is_some, slice_get, option_and_then}
 use Rattle.std.specs.List.{list_all}
 use Rattle.std.specs.Option.{option_map_or}
 use Rattle.card_rules.specs.declared.access_mode.AccessBit.{AccessBit}
@@ -35,7 +36,8 @@ is_rule (mode ∷ conditions) =
 abbrev pub condition_at : List ℕ → AccessBit → Option Condition
 condition_at [] bit = None
 condition_at (mode ∷ conditions) bit =
-    if is_set mode bit then option_and_then condition_of (slice_get (mode ∷ conditions) (set_down_to mode bit)) else None
+    if is_set mode bit then option_and_then condition_of (slice_get (mode ∷ conditions) (set_down_to mode bit)) else
+    None
 
 -- whether a file's rule allows an operation: everything in creation and initialisation states, else where the
 -- operation's bit is set and its condition is met

@@ -1,6 +1,7 @@
 //! The access mode byte of a rule, and what its bits stand for.
 
-ghost use Rattle.std.specs.Prelude.{⊤, ℕ, ◌≡◌, ◌-◌, ◌==◌, [], ◌∷◌, codes, count_ones, nat_lt, option_map, Some, None, if◌then◌else◌};
+ghost use Rattle.std.specs.Prelude.{⊤, ℕ, ◌≡◌, ◌-◌, ◌==◌, [], ◌∷◌, codes, count_ones, nat_lt, option_map, Some, None};
+ghost use Rattle.std.specs.Prelude.{if◌then◌else◌};
 ghost use Rattle.card_rules.specs.Access.{bit_number, flag_of, is_set, set_down_to, mode_byte};
 
 use bitflags::{Flag, Flags, bitflag_items};
@@ -124,14 +125,14 @@ impl AccessMode {
         self.contains(bit.flag())
     }
 
-    // How many bits are set.
+    /// How many bits are set.
     pub(crate) fn count(self) -> usize
         ensures { result ≡ count_ones (mode_byte self) }
     {
         self.0.count_ones() as usize
     }
 
-    // How many bits are set from the highest down to this one, itself included.
+    /// How many bits are set from the highest down to this one, itself included.
     pub(crate) fn set_down_to(self, bit: AccessBit) -> usize
         ensures { result ≡ set_down_to (mode_byte self) bit }
     {

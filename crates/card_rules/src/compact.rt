@@ -33,6 +33,7 @@ impl Condition {
         }
     }
 
+    /// Whether the condition is met where these PINs are verified.
     fn is_met(self, verified: &Verified) -> bool
         ensures { result ≡ is_met verified.now self }
     {
@@ -100,7 +101,7 @@ impl Compact {
         }
     }
 
-    // The condition of the bit, where it is set.
+    /// The condition of the bit, where it is set.
     fn condition(&self, bit: AccessBit) -> Option<Condition>
         ensures { result ≡ condition_at self.now bit }
     {
@@ -113,7 +114,7 @@ impl Compact {
     }
 }
 
-// Whether the bytes are a rule.
+/// Whether the bytes are a rule.
 fn is_rule(bytes: &[u8]) -> bool
     ensures { result ≡ is_rule bytes.now }
 {
@@ -126,7 +127,7 @@ fn is_rule(bytes: &[u8]) -> bool
     }
 }
 
-// Whether each byte is a condition that a rule may have.
+/// Whether each byte is a condition that a rule may have.
 fn are_conditions(bytes: &[u8]) -> bool
     ensures { result ≡ list_all (λ b. is_some (condition_of b)) bytes.now }
 {

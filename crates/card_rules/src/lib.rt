@@ -13,6 +13,3 @@ pub use compact::Compact;
 pub use life_cycle::{LifeCycle, LifeCycleCommand};
 pub use pins::{PinNumber, Verified};
 pub use status::Sw;
-
-#[cfg(test)]
-mod tests;

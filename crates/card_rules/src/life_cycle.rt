@@ -1,3 +1,5 @@
+//! The life cycle of a file.
+
 ghost use Rattle.std.specs.Prelude.{◌≡◌, Some};
 ghost use Rattle.card_rules.specs.LifeCycle.{life_cycle_at, life_cycle_byte, state_after};
 

@@ -45,7 +45,7 @@ impl PinNumber {
         self.number
     }
 
-    // The place of the PIN in a list of all PINs.
+    /// The place of the PIN in a list of all PINs.
     fn index(self) -> usize
         ensures value { result ≡ self - 1 }
         ensures in_range { result < 8 }

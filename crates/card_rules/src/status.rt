@@ -1,3 +1,5 @@
+//! Status words.
+
 ghost use Rattle.std.specs.Prelude.{◌≡◌, ◌/◌, ◌%◌, ◌∷◌, []};
 
 /// The status word that ends each answer (ISO/IEC 7816-4, 5.1.3): SW1 is its upper byte, SW2 its lower.

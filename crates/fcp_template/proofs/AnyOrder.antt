@@ -1,5 +1,7 @@
 -- Objects mean the same in any order.
-use Rattle.std.proofs.Common.{ℕ, zero, suc, ◌≡◌, ◌+◌, ◌≤◌, ◌<◌, ◌==◌, nat_lt, not, ◌&&◌, ◌||◌, Bool, true, false, cond, List, [], ◌∷◌, length, Option, Some, None, option_map, is_some, Result, refl, sym, ap, subst, ◌∙◌, inl, inr, arith}
+use Rattle.std.proofs.Common.{ℕ, zero, suc, ◌≡◌, ◌+◌, ◌≤◌, ◌<◌, ◌==◌, nat_lt, not, ◌&&◌, ◌||◌, Bool, true, false, cond}
+use Rattle.std.proofs.Common.{List, [], ◌∷◌, length, Option, Some, None, option_map, is_some, Result, refl, sym, ap}
+use Rattle.std.proofs.Common.{subst, ◌∙◌, inl, inr, arith}
 use Rattle.std.specs.Prelude.{find, count_by, if◌then◌else◌, Contains, slice_index_or}
 use Rattle.std.specs.List.{list_any}
 use Rattle.std.specs.List.Sorted.{IsPermutation}
@@ -13,8 +15,11 @@ use Rattle.fcp_template.specs.declared.descriptor.Structure.{Structure}
 use Rattle.fcp_template.specs.declared.descriptor.Descriptor.{Descriptor}
 use Rattle.fcp_template.specs.declared.descriptor.Descriptor.TheVariants as descriptors
 use Rattle.fcp_template.specs.DataObjects.{DataObject, IsTemplate}
-use Rattle.fcp_template.specs.Table.{is_tag, descriptor_of, identifier_of, name_of, short_of, number_of, size_of, records_of, life_cycle_of, rule_of}
-use Rattle.fcp_template.specs.Reads.{◌>>=◌, has, value_at, is_df_descriptor, count_of, is_again, is_missing, is_twice, has_unknown, df_of, transparent_of, structured, record_file_of, kind_of, fcp_of, meaning, FcpReads}
+use Rattle.fcp_template.specs.Table.{is_tag, descriptor_of, identifier_of, name_of, short_of, number_of, size_of}
+use Rattle.fcp_template.specs.Table.{records_of, life_cycle_of, rule_of}
+use Rattle.fcp_template.specs.Reads.{◌>>=◌, has, value_at, is_df_descriptor, count_of, is_again, is_missing, is_twice}
+use Rattle.fcp_template.specs.Reads.{has_unknown, df_of, transparent_of, structured, record_file_of, kind_of, fcp_of}
+use Rattle.fcp_template.specs.Reads.{meaning, FcpReads}
 use Rattle.fcp_template.proofs.OneReading.{reading_of_template}
 
 -- ---- a search, where one element at most passes
@@ -35,9 +40,11 @@ module _ {X : Type 0} (p : X → Bool) where
       let c = count_cons y ys in
       omega arith
 
-  find_only : (xs : List X) (x : X) (k : ℕ) → k < length xs → slice_index_or xs k x ≡ x → p x ≡ true → count_by p xs ≤ 1 → find p xs ≡ Some x
+  find_only : (xs : List X) (x : X) (k : ℕ) → k < length xs → slice_index_or xs k x ≡ x → p x ≡ true → count_by p xs ≤ 1
+      → find p xs ≡ Some x
   find_only [] x k lt at passes once = absurd (omega arith)
-  find_only (y ∷ ys) x zero lt at passes once = let e : p y ≡ true = ap p at ∙ passes in rw e (ap (λ (z : X). Some z) at)
+  find_only (y ∷ ys) x zero lt at passes once = let e : p y ≡ true = ap p at ∙ passes in
+      rw e (ap (λ (z : X). Some z) at)
   find_only (y ∷ ys) x (suc k) lt at passes once =
       let more = counted ys x k (omega arith) at passes in
       let later = find_only ys x k (omega arith) at passes in
@@ -59,19 +66,22 @@ module _ {X : Type 0} (p : X → Bool) where
   none_counted [] e = refl
   none_counted (y ∷ ys) e =
       let later = none_counted ys in
-      count_cons y ys ∙ elim (p y) as (λ b. cond b (Some y) (find p ys) ≡ None → cond b 1 0 + count_by p ys ≡ 0) [ true ↦ λ is. absurd cc | false ↦ λ is. let l = later is in omega arith ] e
+      count_cons y ys ∙ elim (p y) as (λ b. cond b (Some y) (find p ys) ≡ None → cond b 1 0 + count_by p ys ≡ 0)
+      [ true ↦ λ is. absurd cc | false ↦ λ is. let l = later is in omega arith ] e
 
   counted_none : (xs : List X) → count_by p xs ≡ 0 → find p xs ≡ None
   counted_none [] e = refl
   counted_none (y ∷ ys) e =
       let later = counted_none ys in
-      elim (p y) as (λ b. cond b 1 0 + count_by p ys ≡ 0 → cond b (Some y) (find p ys) ≡ None) [ true ↦ λ is. absurd (omega arith) | false ↦ λ is. later (omega arith) ] (sym (count_cons y ys) ∙ e)
+      elim (p y) as (λ b. cond b 1 0 + count_by p ys ≡ 0 → cond b (Some y) (find p ys) ≡ None)
+      [ true ↦ λ is. absurd (omega arith) | false ↦ λ is. later (omega arith) ] (sym (count_cons y ys) ∙ e)
 
   any_counted : (xs : List X) → list_any p xs ≡ nat_lt 0 (count_by p xs)
   any_counted [] = refl
   any_counted (y ∷ ys) =
       let later = any_counted ys in
-      let step : (p y || list_any p ys) ≡ nat_lt 0 (cond (p y) 1 0 + count_by p ys) = elim (p y) as (λ b. (b || list_any p ys) ≡ nat_lt 0 (cond b 1 0 + count_by p ys)) [
+      let step : (p y || list_any p ys) ≡ nat_lt 0 (cond (p y) 1 0 + count_by p ys) =
+      elim (p y) as (λ b. (b || list_any p ys) ≡ nat_lt 0 (cond b 1 0 + count_by p ys)) [
         | true ↦ sym (lt-ltb 0 (1 + count_by p ys) (omega arith))
         | false ↦ let z : 0 + count_by p ys ≡ count_by p ys = omega arith in rw z later
       ] in
@@ -104,19 +114,23 @@ module _ (os ps : List DataObject) (moved : IsPermutation os ps) where
   count_same tag = same_count (λ o. o.tag == tag) os ps moved
 
   missing_same : is_missing os ≡ is_missing ps
-  missing_same = λ i. not (has_same 0x82 i) || not (has_same 0x83 i) || not (has_same 0x8C i) || not (has_same 0x80 i) && not (same_any is_df_descriptor os ps moved i)
+  missing_same = λ i. not (has_same 0x82 i) || not (has_same 0x83 i) || not (has_same 0x8C i) || not (has_same 0x80 i)
+      && not (same_any is_df_descriptor os ps moved i)
 
   twice_same : is_twice os ≡ is_twice ps
-  twice_same = (λ i. list_any (λ o. is_tag o.tag && nat_lt 1 (count_same o.tag i)) os) ∙ same_any (is_again ps) os ps moved
+  twice_same = (λ i. list_any (λ o. is_tag o.tag && nat_lt 1 (count_same o.tag i)) os)
+      ∙ same_any (is_again ps) os ps moved
 
   unknown_same : has_unknown os ≡ has_unknown ps
   unknown_same = same_any (λ o. not (is_tag o.tag)) os ps moved
 
   value_same : (tag : ℕ) → count_of os tag ≤ 1 → value_at os tag ≡ value_at ps tag
-  value_same tag once = ap (λ (o : Option DataObject). option_map (λ o. o.value) o) (same_find (λ o. o.tag == tag) os ps moved once)
+  value_same tag once = ap (λ (o : Option DataObject). option_map (λ o. o.value) o)
+      (same_find (λ o. o.tag == tag) os ps moved once)
 
 -- some object with a tag passes a test that each object with the tag passes
-some_with : (test : DataObject → Bool) (tag : ℕ) → ((o : DataObject) → o.tag ≡ tag → test o ≡ true) → (os : List DataObject) → 1 ≤ count_of os tag → list_any test os ≡ true
+some_with : (test : DataObject → Bool) (tag : ℕ) → ((o : DataObject) → o.tag ≡ tag → test o ≡ true)
+    → (os : List DataObject) → 1 ≤ count_of os tag → list_any test os ≡ true
 some_with test tag each [] more = absurd (omega arith)
 some_with test tag each (o ∷ os) more =
     let later = some_with test tag each os in
@@ -140,8 +154,10 @@ once : (os : List DataObject) → is_twice os ≡ false → (tag : ℕ) → is_t
 once os none tag known =
     elim (cases_lt 1 (count_of os tag)) [
       | inl more ↦
-          let test : (is_tag tag && nat_lt 1 (count_of os tag)) ≡ true = rw (known, lt-ltb 1 (count_of os tag) more) refl in
-          let each : (o : DataObject) → o.tag ≡ tag → is_again os o ≡ true = λ o same. subst (λ (t : ℕ). (is_tag t && nat_lt 1 (count_of os t)) ≡ true) (sym same) test in
+          let test : (is_tag tag && nat_lt 1 (count_of os tag)) ≡ true =
+          rw (known, lt-ltb 1 (count_of os tag) more) refl in
+          let each : (o : DataObject) → o.tag ≡ tag → is_again os o ≡ true =
+          λ o same. subst (λ (t : ℕ). (is_tag t && nat_lt 1 (count_of os t)) ≡ true) (sym same) test in
           absurd (false≢true (sym none ∙ some_with (is_again os) tag each os (omega arith)))
       | inr few ↦ few
     ]
@@ -162,28 +178,37 @@ record SameValues (os ps : List DataObject) : Type 0 where
 
 df_same : (os ps : List DataObject) → SameValues os ps → df_of os ≡ df_of ps
 unfolding df_of
-df_same os ps s = λ i. (name_of (s.name i) >>= λ name. if s.has_short i || s.has_size i && not (is_some (s.size i >>= number_of)) then None else Some (kinds.Df name))
+df_same os ps s = λ i. (name_of (s.name i) >>= λ name. if s.has_short i || s.has_size i && not
+    (is_some (s.size i >>= number_of)) then None else Some (kinds.Df name))
 
 transparent_same : (os ps : List DataObject) → SameValues os ps → transparent_of os ≡ transparent_of ps
 unfolding transparent_of
-transparent_same os ps s = λ i. (short_of (s.short i) >>= λ short. size_of (s.size i >>= number_of) >>= λ size. if s.has_name i then None else Some (kinds.Transparent short size))
+transparent_same os ps s = λ i. (short_of (s.short i) >>= λ short. size_of (s.size i >>= number_of) >>= λ size. if
+    s.has_name i then None else Some (kinds.Transparent short size))
 
-record_file_same : (os ps : List DataObject) → SameValues os ps → (structure : Structure) (record_length : ℕ) (existing : Option ℕ) → record_file_of structure record_length existing os ≡ record_file_of structure record_length existing ps
+record_file_same : (os ps : List DataObject) → SameValues os ps
+    → (structure : Structure) (record_length : ℕ) (existing : Option ℕ)
+    → record_file_of structure record_length existing os ≡ record_file_of structure record_length existing ps
 unfolding record_file_of
 record_file_same os ps s structure record_length existing = λ i.
-    (short_of (s.short i) >>= λ short. size_of (s.size i >>= number_of) >>= λ size. records_of record_length existing size >>= λ records. if s.has_name i then None else Some (structured structure short records))
+    (short_of (s.short i) >>= λ short. size_of (s.size i >>= number_of) >>= λ size. records_of record_length existing
+    size >>= λ records. if s.has_name i then None else Some (structured structure short records))
 
-kind_same : (os ps : List DataObject) → SameValues os ps → (descriptor : Descriptor) → kind_of descriptor os ≡ kind_of descriptor ps
+kind_same : (os ps : List DataObject) → SameValues os ps → (descriptor : Descriptor)
+    → kind_of descriptor os ≡ kind_of descriptor ps
 kind_same os ps s descriptors.Df = df_same os ps s
 kind_same os ps s descriptors.Transparent = transparent_same os ps s
-kind_same os ps s (descriptors.Records structure record_length existing) = record_file_same os ps s structure record_length existing
+kind_same os ps s (descriptors.Records structure record_length existing) =
+    record_file_same os ps s structure record_length existing
 
 fcp_same : (os ps : List DataObject) → SameValues os ps → fcp_of os ≡ fcp_of ps
 unfolding fcp_of
 fcp_same os ps s = λ i.
-    (s.descriptor i >>= descriptor_of >>= λ descriptor. s.identifier i >>= identifier_of >>= λ identifier. kind_same os ps s descriptor i >>= λ kind.
+    (s.descriptor i >>= descriptor_of >>= λ descriptor. s.identifier i >>= identifier_of >>= λ identifier. kind_same os
+    ps s descriptor i >>= λ kind.
     life_cycle_of (s.life_cycle i) >>= λ life_cycle. s.rule i >>= rule_of >>= λ rule.
-    if s.unknown i then None else Some (record { identifier = identifier; life_cycle = life_cycle; rule = rule; kind = kind }))
+    if s.unknown i then None else Some (record
+    { identifier = identifier; life_cycle = life_cycle; rule = rule; kind = kind }))
 
 same_values : (os ps : List DataObject) → IsPermutation os ps → is_twice os ≡ false → SameValues os ps
 same_values os ps moved none = record {
@@ -211,5 +236,7 @@ meaning_in_any_order os ps moved = at_twice (is_twice os) refl
         let f : is_twice ps ≡ false = sym (twice_same os ps moved) ∙ e in
         rw (e, f, missing_same os ps moved, fcp_same os ps (same_values os ps moved e)) refl
 
-pub in_any_order : (text other : List ℕ) (os ps : List DataObject) (read : Result Fcp FcpFault) → IsTemplate text os → IsTemplate other ps → IsPermutation os ps → FcpReads text read → FcpReads other read
-in_any_order text other os ps read t u moved reads = inl (ps, u, reading_of_template text os read t reads ∙ meaning_in_any_order os ps moved)
+pub in_any_order : (text other : List ℕ) (os ps : List DataObject) (read : Result Fcp FcpFault) → IsTemplate text os
+    → IsTemplate other ps → IsPermutation os ps → FcpReads text read → FcpReads other read
+in_any_order text other os ps read t u moved reads =
+    inl (ps, u, reading_of_template text os read t reads ∙ meaning_in_any_order os ps moved)

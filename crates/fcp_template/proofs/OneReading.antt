@@ -1,5 +1,7 @@
 -- A text reads as one thing.
-use Rattle.std.proofs.Common.{ℕ, zero, suc, ◌≡◌, ◌≤◌, ◌<◌, ◌==◌, nat_le, ◌&&◌, Bool, true, false, List, [], ◌∷◌, ◌++◌, length, take, drop, Option, Some, None, option_map, Result, Err, refl, sym, ap, subst, ◌∙◌, inl, inr, arith}
+use Rattle.std.proofs.Common.{ℕ, zero, suc, ◌≡◌, ◌≤◌, ◌<◌, ◌==◌, nat_le, ◌&&◌, Bool, true, false, List, [], ◌∷◌, ◌++◌}
+use Rattle.std.proofs.Common.{length, take, drop, Option, Some, None, option_map, Result, Err, refl, sym, ap, subst}
+use Rattle.std.proofs.Common.{◌∙◌, inl, inr, arith}
 use Rattle.std.specs.Prelude.{MatchOption, ◌↔◌, if◌then◌else◌}
 use Rattle.std.proofs.lemmas.Bool.{cases_lt, lt-leb, le-leb, eqb-true, leb-true, and_parts}
 use Rattle.std.proofs.lemmas.Bool.Decides.{nat_tests}
@@ -13,20 +15,24 @@ use Rattle.fcp_template.specs.Function.{objects_in, meaning_of, fcp_read}
 use Rattle.fcp_template.proofs.Splitting.{one_template, same_object}
 
 -- a template reads as what its objects mean
-pub reading_of_template : (text : List ℕ) (os : List DataObject) (read : Result Fcp FcpFault) → IsTemplate text os → FcpReads text read → read ≡ meaning os
+pub reading_of_template : (text : List ℕ) (os : List DataObject) (read : Result Fcp FcpFault) → IsTemplate text os
+    → FcpReads text read → read ≡ meaning os
 reading_of_template text os read t (inl h) = h.2 ∙ ap meaning (one_template text h.0 os h.1 t)
 reading_of_template text os read t (inr h) = absurd (h.0 os t)
 
 -- any other text reads as the fault Shape
-pub reading_of_other : (text : List ℕ) (read : Result Fcp FcpFault) → ((os : List DataObject) → IsTemplate text os → ⊥) → FcpReads text read → read ≡ Err Shape
+pub reading_of_other : (text : List ℕ) (read : Result Fcp FcpFault) → ((os : List DataObject) → IsTemplate text os → ⊥)
+    → FcpReads text read → read ≡ Err Shape
 reading_of_other text read none (inl h) = absurd (none h.0 h.1)
 reading_of_other text read none (inr h) = h.1
 
 -- what the objects in bytes are, where these are at most so many bytes
 abbrev Fill : List ℕ → Option (List DataObject) → Type 0
-Fill bytes found = MatchOption found ((os : List DataObject) → bytes ≡ objects_text os → ⊥) (λ os. bytes ≡ objects_text os)
+Fill bytes found = MatchOption found ((os : List DataObject) → bytes ≡ objects_text os → ⊥)
+    (λ os. bytes ≡ objects_text os)
 
-nothing_more : (tag n : ℕ) (rest : List ℕ) → length rest < n → (os : List DataObject) → tag ∷ n ∷ rest ≡ objects_text os → ⊥
+nothing_more : (tag n : ℕ) (rest : List ℕ) → length rest < n → (os : List DataObject) → tag ∷ n ∷ rest ≡ objects_text os
+    → ⊥
 nothing_more tag n rest few [] e = absurd cc
 nothing_more tag n rest few (o ∷ os) e =
     let is : rest ≡ o.value ++ objects_text os = cc in
@@ -35,21 +41,25 @@ nothing_more tag n rest few (o ∷ os) e =
     omega (arith, length-append o.value (objects_text os))
 
 -- bytes with a first object are its bytes and what follows it
-cut_first : (tag n : ℕ) (rest : List ℕ) → n ≤ length rest → tag ∷ n ∷ rest ≡ object_text (record { tag = tag; value = take n rest }) ++ drop n rest
+cut_first : (tag n : ℕ) (rest : List ℕ) → n ≤ length rest
+    → tag ∷ n ∷ rest ≡ object_text (record { tag = tag; value = take n rest }) ++ drop n rest
 cut_first tag n rest enough =
     let len : n ≡ length (take n rest) = omega (arith, length-take n rest) in
     let parts : rest ≡ take n rest ++ drop n rest = sym (take-append-drop n rest) in
     λ i. tag ∷ len i ∷ parts i
 
 -- the first object, and the objects of what follows it
-with_first : (tag n : ℕ) (rest : List ℕ) → n ≤ length rest → (found : Option (List DataObject)) → Fill (drop n rest) found
+with_first : (tag n : ℕ) (rest : List ℕ) → n ≤ length rest → (found : Option (List DataObject))
+    → Fill (drop n rest) found
     → Fill (tag ∷ n ∷ rest) (option_map (λ os. record { tag = tag; value = take n rest } ∷ os) found)
 with_first tag n rest enough None none = at_objects
   where
     at_objects : (os : List DataObject) → tag ∷ n ∷ rest ≡ objects_text os → ⊥
     at_objects [] e = absurd cc
-    at_objects (o ∷ os) e = none os (same_object (record { tag = tag; value = take n rest }) o (drop n rest) (objects_text os) (sym (cut_first tag n rest enough) ∙ e)).1
-with_first tag n rest enough (Some os) is = cut_first tag n rest enough ∙ ap (λ (more : List ℕ). object_text (record { tag = tag; value = take n rest }) ++ more) is
+    at_objects (o ∷ os) e = none os (same_object (record { tag = tag; value = take n rest }) o (drop n rest)
+        (objects_text os) (sym (cut_first tag n rest enough) ∙ e)).1
+with_first tag n rest enough (Some os) is = cut_first tag n rest enough
+    ∙ ap (λ (more : List ℕ). object_text (record { tag = tag; value = take n rest }) ++ more) is
 
 -- a tag alone is no object
 lone_tag : (tag : ℕ) (os : List DataObject) → tag ∷ [] ≡ objects_text os → ⊥
@@ -70,15 +80,25 @@ objects_fill (suc most) (tag ∷ n ∷ rest) few =
     ]
 
 -- a text whose tag and length are right reads as its objects
-reads_found : (text body : List ℕ) → text ≡ 0x62 ∷ length body ∷ body → length body ≤ 0x7F → (found : Option (List DataObject)) → Fill body found → FcpReads text (meaning_of found)
+reads_found : (text body : List ℕ) → text ≡ 0x62 ∷ length body ∷ body → length body ≤ 0x7F
+    → (found : Option (List DataObject)) → Fill body found → FcpReads text (meaning_of found)
 reads_found text body is short None none = inr (other, refl)
   where
     other : (os : List DataObject) → IsTemplate text os → ⊥
     other os t = let spelled = t.spelled in let e : body ≡ objects_text os = cc in none os e
 reads_found text body is short (Some os) fill =
-    inl (os, record { spelled = is ∙ ap (λ (bytes : List ℕ). 0x62 ∷ length bytes ∷ bytes) fill; short = subst (λ (bytes : List ℕ). length bytes ≤ 0x7F) fill short }, refl)
+    inl (
+      os,
+      record {
+        spelled = is ∙ ap (λ (bytes : List ℕ). 0x62 ∷ length bytes ∷ bytes) fill;
+        short =
+            subst (λ (bytes : List ℕ). length bytes ≤ 0x7F) fill short;
+      },
+      refl,
+    )
 
-read_at : (tag n : ℕ) (body : List ℕ) (test : Bool) → ((tag == 0x62) && nat_le n 0x7F && (length body == n)) ≡ test → FcpReads (tag ∷ n ∷ body) (if test then meaning_of (objects_in n body) else Err Shape)
+read_at : (tag n : ℕ) (body : List ℕ) (test : Bool) → ((tag == 0x62) && nat_le n 0x7F && (length body == n)) ≡ test
+    → FcpReads (tag ∷ n ∷ body) (if test then meaning_of (objects_in n body) else Err Shape)
 read_at tag n body true e =
     let parts = and_parts ((tag == 0x62) && nat_le n 0x7F) (length body == n) e in
     let others = and_parts (tag == 0x62) (nat_le n 0x7F) parts.0 in
@@ -115,4 +135,8 @@ fcp_read-is text read reads = same_reading (fcp_read-reads text)
     same_reading (inr h) = reading_of_other text read h.0 reads ∙ sym h.1
 
 pub reading_is_a_function : (text : List ℕ) (read : Result Fcp FcpFault) → FcpReads text read ↔ (read ≡ fcp_read text)
-reading_is_a_function text read = (fcp_read-is text read, λ e. subst (λ (r : Result Fcp FcpFault). FcpReads text r) (sym e) (fcp_read-reads text))
+reading_is_a_function text read = (
+  fcp_read-is text read,
+  λ e. subst (λ (r : Result Fcp FcpFault). FcpReads text r)
+      (sym e) (fcp_read-reads text),
+)

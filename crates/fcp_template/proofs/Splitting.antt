@@ -24,11 +24,13 @@ same_object o p x y e =
     ((λ i. record { tag = tag i; value = r.0 i }), r.1)
 
 -- what follows the first of a list of objects is the bytes of the others
-pub after_objects : (front os : List DataObject) (rest : List ℕ) → objects_text front ++ rest ≡ objects_text os → (others : List DataObject) × (rest ≡ objects_text others)
+pub after_objects : (front os : List DataObject) (rest : List ℕ) → objects_text front ++ rest ≡ objects_text os
+    → (others : List DataObject) × (rest ≡ objects_text others)
 after_objects [] os rest e = (os, e)
 after_objects (o ∷ front) [] rest e = absurd cc
 after_objects (o ∷ front) (p ∷ os) rest e =
-    let e' : object_text o ++ (objects_text front ++ rest) ≡ object_text p ++ objects_text os = sym (append_assoc (object_text o) (objects_text front) rest) ∙ e in
+    let e' : object_text o ++ (objects_text front ++ rest) ≡ object_text p ++ objects_text os =
+    sym (append_assoc (object_text o) (objects_text front) rest) ∙ e in
     after_objects front os rest (same_object o p _ _ e').1
 
 pub same_objects : (os ps : List DataObject) → objects_text os ≡ objects_text ps → os ≡ ps
@@ -49,7 +51,9 @@ one_template text os ps t u =
     same_objects os ps e
 
 -- bytes that no object begins are no objects, whatever objects stand before them
-pub no_objects : (front os : List DataObject) (rest : List ℕ) → 0 < length rest → ((o : DataObject) (more : List ℕ) → rest ≡ object_text o ++ more → ⊥) → objects_text front ++ rest ≡ objects_text os → ⊥
+pub no_objects : (front os : List DataObject) (rest : List ℕ) → 0 < length rest
+    → ((o : DataObject) (more : List ℕ) → rest ≡ object_text o ++ more → ⊥)
+    → objects_text front ++ rest ≡ objects_text os → ⊥
 no_objects front os rest some stuck e = at_others (after_objects front os rest e)
   where
     at_others : (others : List DataObject) × (rest ≡ objects_text others) → ⊥

@@ -1,5 +1,6 @@
 -- What a text reads as: file control parameters, or the least fault that it has.
-use Rattle.std.specs.Prelude.{◌≡◌, ◌⊎◌, ℕ, Bool, false, not, ◌&&◌, ◌||◌, ◌==◌, nat_lt, if◌then◌else◌, List, [], ◌∷◌, Option, Some, None, is_some, Result, Err, find, count_by, option_map}
+use Rattle.std.specs.Prelude.{◌≡◌, ◌⊎◌, ℕ, Bool, false, not, ◌&&◌, ◌||◌, ◌==◌, nat_lt, if◌then◌else◌, List, [], ◌∷◌}
+use Rattle.std.specs.Prelude.{Option, Some, None, is_some, Result, Err, find, count_by, option_map}
 use Rattle.std.specs.List.{list_any}
 use Rattle.std.specs.Option.{ok_or}
 use Rattle.fcp_template.specs.declared.fcp.Fcp.{Fcp}
@@ -14,7 +15,8 @@ use Rattle.fcp_template.specs.declared.descriptor.Descriptor.TheVariants as desc
 use Rattle.fcp_template.specs.declared.fault.FcpFault.{FcpFault}
 use Rattle.fcp_template.specs.declared.fault.FcpFault.TheVariants.{Shape, Missing, Twice, Value}
 use Rattle.fcp_template.specs.DataObjects.{DataObject, IsTemplate}
-use Rattle.fcp_template.specs.Table.{is_tag, descriptor_of, identifier_of, name_of, short_of, number_of, size_of, records_of, life_cycle_of, rule_of}
+use Rattle.fcp_template.specs.Table.{is_tag, descriptor_of, identifier_of, name_of, short_of, number_of, size_of}
+use Rattle.fcp_template.specs.Table.{records_of, life_cycle_of, rule_of}
 
 infixl 10 ◌>>=◌
 abbrev pub ◌>>=◌ : {A B : Type 0} → Option A → (A → Option B) → Option B
@@ -102,7 +104,8 @@ fcp_of os = do
   kind ← kind_of descriptor os
   life_cycle ← life_cycle_of (value_at os 0x8A)
   rule ← value_at os 0x8C >>= rule_of
-  if has_unknown os then None else Some (record { identifier = identifier; life_cycle = life_cycle; rule = rule; kind = kind })
+  if has_unknown os then None else Some (record
+      { identifier = identifier; life_cycle = life_cycle; rule = rule; kind = kind })
 
 -- what a template of these objects reads as: the least fault, or the value
 abbrev pub meaning : List DataObject → Result Fcp FcpFault

@@ -45,8 +45,10 @@ abbrev pub kind_objects : FileKind → List DataObject
 kind_objects (Df None) = []
 kind_objects (Df (Some name)) = data_object 0x84 name ∷ []
 kind_objects (Transparent short size) = data_object 0x88 (short_value short) ∷ data_object 0x80 (two_bytes size) ∷ []
-kind_objects (Linear short records) = data_object 0x88 (short_value short) ∷ data_object 0x80 (two_bytes records.size) ∷ []
-kind_objects (Cyclic short records) = data_object 0x88 (short_value short) ∷ data_object 0x80 (two_bytes records.size) ∷ []
+kind_objects (Linear short records) = data_object 0x88 (short_value short) ∷ data_object 0x80 (two_bytes records.size) ∷
+    []
+kind_objects (Cyclic short records) = data_object 0x88 (short_value short) ∷ data_object 0x80 (two_bytes records.size) ∷
+    []
 
 -- the objects of an answer, in the order 82, 83, 84, 88, 80, 8A, 8C
 abbrev pub fcp_objects : Fcp → List DataObject

@@ -1,13 +1,16 @@
 -- The data objects of a template of file control parameters: tags, lengths, values and their meaning in CREATE FILE
 -- (ISO/IEC 7816-4, 7.4.3; ISO/IEC 7816-9; ETSI TS 102 222).
-use Rattle.std.specs.Prelude.{ℕ, ◌+◌, ◌*◌, ◌/◌, ◌%◌, Bool, ◌&&◌, ◌||◌, ◌==◌, nat_le, if◌then◌else◌, List, [], ◌∷◌, length, Option, Some, None}
+use Rattle.std.specs.Prelude.{ℕ, ◌+◌, ◌*◌, ◌/◌, ◌%◌, Bool, ◌&&◌, ◌||◌, ◌==◌, nat_le, if◌then◌else◌, List, [], ◌∷◌}
+use Rattle.std.specs.Prelude.{length, Option, Some, None}
 use Rattle.std.specs.List.{list_any}
 use Rattle.std.specs.Option.{unwrap_or}
 use Rattle.card_rules.specs.declared.life_cycle.LifeCycle.{LifeCycle}
 use Rattle.card_rules.specs.declared.life_cycle.LifeCycle.TheVariants as life
 use Rattle.card_rules.specs.Rule.{is_rule}
 use Rattle.fcp_template.specs.declared.tag.Tag.{Tag}
-use Rattle.fcp_template.specs.declared.tag.Tag.TheVariants.{FileDescriptor, FileIdentifier, Name, ShortFileIdentifier, DataBytes, LifeCycleStatus, CompactRule, TotalBytes, Proprietary, PinStatus}
+use Rattle.fcp_template.specs.declared.tag.Tag.TheVariants.{FileDescriptor, FileIdentifier, Name, ShortFileIdentifier}
+use Rattle.fcp_template.specs.declared.tag.Tag.TheVariants.{DataBytes, LifeCycleStatus, CompactRule, TotalBytes}
+use Rattle.fcp_template.specs.declared.tag.Tag.TheVariants.{Proprietary, PinStatus}
 use Rattle.fcp_template.specs.declared.fcp.ShortIdentifier.{ShortIdentifier}
 use Rattle.fcp_template.specs.declared.fcp.ShortIdentifier.TheVariants.{Absent, Empty, Given}
 use Rattle.fcp_template.specs.declared.fcp.Records.{Records}
@@ -60,7 +63,8 @@ abbrev pub descriptor_of : List ℕ → Option Descriptor
 descriptor_of (byte ∷ []) = plain_descriptor byte
 descriptor_of (byte ∷ coding ∷ []) = plain_descriptor byte
 descriptor_of (byte ∷ coding ∷ high ∷ low ∷ []) = record_descriptor (structure_of byte) (256 * high + low) None
-descriptor_of (byte ∷ coding ∷ high ∷ low ∷ existing ∷ []) = record_descriptor (structure_of byte) (256 * high + low) (Some existing)
+descriptor_of (byte ∷ coding ∷ high ∷ low ∷ existing ∷ []) =
+    record_descriptor (structure_of byte) (256 * high + low) (Some existing)
 descriptor_of _ = None
 
 -- 83, file identifier, two bytes: not 3F00, 3FFF or FFFF
@@ -79,7 +83,8 @@ name_of (Some name) = if nat_le 1 (length name) && nat_le (length name) 16 then 
 abbrev pub short_of : Option (List ℕ) → Option ShortIdentifier
 short_of None = Some Absent
 short_of (Some []) = Some Empty
-short_of (Some (byte ∷ [])) = if (byte % 8 == 0) && nat_le 1 (byte / 8) && nat_le (byte / 8) 30 then Some (Given (byte / 8)) else None
+short_of (Some (byte ∷ [])) = if (byte % 8 == 0) && nat_le 1 (byte / 8) && nat_le (byte / 8) 30 then Some
+    (Given (byte / 8)) else None
 short_of (Some _) = None
 
 -- 80, a number in 2 to 4 bytes

@@ -26,17 +26,3 @@ size_of_kind (Df name) = 0
 size_of_kind (Transparent short size) = size
 size_of_kind (Linear short records) = records.size
 size_of_kind (Cyclic short records) = records.size
-
--- how many bytes a record has
-abbrev pub record_length_of_kind : FileKind → ℕ
-record_length_of_kind (Df name) = 0
-record_length_of_kind (Transparent short size) = 0
-record_length_of_kind (Linear short records) = records.record_length
-record_length_of_kind (Cyclic short records) = records.record_length
-
--- how many records exist
-abbrev pub existing_of_kind : FileKind → ℕ
-existing_of_kind (Df name) = 0
-existing_of_kind (Transparent short size) = 0
-existing_of_kind (Linear short records) = records.existing
-existing_of_kind (Cyclic short records) = records.existing

@@ -42,6 +42,7 @@ impl Descriptor {
         }
     }
 
+    /// The descriptor of a file without records, by its byte.
     fn plain(byte: u8) -> Option<Descriptor>
         ensures { result ≡ plain_descriptor byte }
     {
@@ -52,6 +53,7 @@ impl Descriptor {
         }
     }
 
+    /// The descriptor of a file of records, by its byte.
     fn records(byte: u8, record_length: u16, existing: Option<u8>) -> Option<Descriptor>
         ensures { result ≡ record_descriptor (structure_of byte) record_length existing }
     {
@@ -65,6 +67,7 @@ impl Descriptor {
 }
 
 impl Structure {
+    /// The structure of a file of records, by the byte of its descriptor.
     fn from_byte(byte: u8) -> Option<Structure>
         ensures { result ≡ structure_of byte }
     {

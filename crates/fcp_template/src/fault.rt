@@ -1,3 +1,5 @@
+//! What can be wrong with a template.
+
 /// Why a text is no template of file control parameters. Of several faults the least is reported.
 #[derive(Clone, Copy, Debug, PartialEq, Eq, PartialOrd, Ord, Hash)]
 pub enum FcpFault {

@@ -39,7 +39,7 @@ pub enum FileKind<'a> {
 }
 
 impl<'a> FileKind<'a> {
-    ghost use Rattle.fcp_template.specs.Views.{name_bytes, short_of_kind, size_of_kind, record_length_of_kind, existing_of_kind};
+    ghost use Rattle.fcp_template.specs.Views.{name_bytes, short_of_kind, size_of_kind};
 
     /// The bytes of the name, 1 to 16; none where the file has no name.
     pub fn name(&self) -> &'a [u8]
@@ -70,27 +70,6 @@ impl<'a> FileKind<'a> {
             FileKind::Df { .. } => 0,
             FileKind::Transparent { size, .. } => *size,
             FileKind::Linear { records, .. } | FileKind::Cyclic { records, .. } => records.size,
-        }
-    }
-
-    /// How many bytes a record has, 1 to 255; 0 where there are no records.
-    pub fn record_length(&self) -> u8
-        ensures { result ≡ record_length_of_kind self.now }
-    {
-        match self {
-            FileKind::Linear { records, .. } | FileKind::Cyclic { records, .. } =>
-                records.record_length,
-            FileKind::Df { .. } | FileKind::Transparent { .. } => 0,
-        }
-    }
-
-    /// How many records exist, at most 254.
-    pub fn existing(&self) -> u8
-        ensures { result ≡ existing_of_kind self.now }
-    {
-        match self {
-            FileKind::Linear { records, .. } | FileKind::Cyclic { records, .. } => records.existing,
-            FileKind::Df { .. } | FileKind::Transparent { .. } => 0,
         }
     }
 }
@@ -136,7 +115,8 @@ impl<'a> Model for DfName<'a> {
 impl<'a> DfName<'a> {
     /// The name of these bytes, where they are 1 to 16.
     pub fn new(bytes: &'a [u8]) -> Option<DfName<'a>>
-        ensures { result ≡ (if nat_le 1 (length bytes.now) && nat_le (length bytes.now) 16 then Some bytes.now else None) }
+        ensures { result ≡ (if nat_le 1 (length bytes.now) && nat_le (length bytes.now) 16 then Some bytes.now else
+            None) }
     {
         if 1 <= bytes.len() && bytes.len() <= 16 {
             Some(DfName { bytes })

@@ -12,7 +12,8 @@ ghost use Rattle.fcp_template.specs.Function.{fcp_read};
 /// What is written of file control parameters in full is read again as the same parameters, but for those of the MF and
 /// of a terminated file, which no CREATE FILE can make.
 pub fn template_read_again()
-    ensures { (fcp : Fcp) → IsInFull fcp → fcp.life_cycle ≢ Terminated → fcp.identifier ≢ 0x3F00 → FcpReads (fcp_text fcp) (Ok fcp) }
+    ensures { (fcp : Fcp) → IsInFull fcp → fcp.life_cycle ≢ Terminated → fcp.identifier ≢ 0x3F00
+        → FcpReads (fcp_text fcp) (Ok fcp) }
 {}
 
 /// Each text reads as one thing: the value or the fault that the function `fcp_read` of the definitions gives.

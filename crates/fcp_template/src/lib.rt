@@ -14,6 +14,3 @@ pub use fault::FcpFault;
 pub use fcp::{DfName, Fcp, FileKind, Records, ShortIdentifier};
 pub use reading::parse;
 pub use writing::write;
-
-#[cfg(test)]
-mod tests;

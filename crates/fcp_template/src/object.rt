@@ -59,7 +59,7 @@ pub(crate) fn objects_of(text: &[u8]) -> Option<Objects<'_>>
     }
 }
 
-// The objects that fill the bytes exactly.
+/// The objects that fill the bytes exactly.
 fn split(bytes: &[u8]) -> Option<Objects<'_>>
     requires { length bytes.now ≤ 0x7F }
     ensures filled { IfSome result (λ os. bytes.now ≡ objects_text os.items) }
@@ -75,7 +75,7 @@ fn split(bytes: &[u8]) -> Option<Objects<'_>>
     Some(objects)
 }
 
-// The object at the front, and what follows it.
+/// The object at the front, and what follows it.
 fn split_first(bytes: &[u8]) -> Option<(Object<'_>, &[u8])>
     ensures found { IfSome result (λ x. bytes.now ≡ object_text x.0 ++ x.1.now) }
     ensures none { IfNone result ((o : DataObject) (rest : List ℕ) → bytes.now ≡ object_text o ++ rest → ⊥) }

@@ -4,8 +4,11 @@ ghost use Rattle.std.specs.Prelude.{◌≡◌, ◌≢◌, Result, IfOk, IfSome};
 ghost use Rattle.std.specs.Option.{option_copied};
 ghost use Rattle.fcp_template.specs.declared.fault.FcpFault.{FcpFault};
 ghost use Rattle.fcp_template.specs.declared.fcp.Fcp.{Fcp};
-ghost use Rattle.fcp_template.specs.Table.{tag_byte, is_tag, identifier_of, name_of, short_of, number_of, size_of, records_of, life_cycle_of};
-ghost use Rattle.fcp_template.specs.Reads.{has, value_at, data_bytes, is_df_descriptor, tells_of_df, count_of, is_again, is_missing, is_twice, has_unknown, df_of, transparent_of, record_file_of, kind_of, fcp_of, meaning, FcpReads};
+ghost use Rattle.fcp_template.specs.Table.{tag_byte, is_tag, identifier_of, name_of, short_of, number_of, size_of};
+ghost use Rattle.fcp_template.specs.Table.{records_of, life_cycle_of};
+ghost use Rattle.fcp_template.specs.Reads.{has, value_at, data_bytes, is_df_descriptor, tells_of_df, count_of};
+ghost use Rattle.fcp_template.specs.Reads.{is_again, is_missing, is_twice, has_unknown, df_of, transparent_of};
+ghost use Rattle.fcp_template.specs.Reads.{record_file_of, kind_of, fcp_of, meaning, FcpReads};
 ghost use Rattle.fcp_template.specs.Function.{fcp_read};
 ghost use Rattle.fcp_template.specs.Ranges.{IsShort, IsSize, IsName, IsRecords, IsKind, IsCreatable};
 ghost use Rattle.card_rules.specs.declared.life_cycle.LifeCycle.TheVariants.{Terminated};
@@ -36,7 +39,7 @@ pub fn parse(text: &[u8]) -> Result<Fcp<'_>, FcpFault>
     }
 }
 
-// What a template of these objects reads as.
+/// What a template of these objects reads as.
 fn meaning<'a>(objects: &[Object<'a>]) -> Result<Fcp<'a>, FcpFault>
     ensures value { result ≡ meaning objects.now }
     ensures ranges { IfOk result IsCreatable }
@@ -50,21 +53,21 @@ fn meaning<'a>(objects: &[Object<'a>]) -> Result<Fcp<'a>, FcpFault>
     fcp_of(objects).ok_or(FcpFault::Value)
 }
 
-// Whether an object has this tag.
+/// Whether an object has this tag.
 fn has(objects: &[Object<'_>], tag: Tag) -> bool
     ensures { result ≡ has objects.now (tag_byte tag) }
 {
     objects.iter().any(|object| object.tag() == tag.byte())
 }
 
-// How many objects have this tag.
+/// How many objects have this tag.
 fn count_of(objects: &[Object<'_>], tag: u8) -> usize
     ensures { result ≡ count_of objects.now tag }
 {
     objects.iter().filter(|object| object.tag() == tag).count()
 }
 
-// The value of the first object that has this tag.
+/// The value of the first object that has this tag.
 fn value_at<'a>(objects: &[Object<'a>], tag: Tag) -> Option<&'a [u8]>
     ensures { option_copied result ≡ value_at objects.now (tag_byte tag) }
 {
@@ -74,20 +77,21 @@ fn value_at<'a>(objects: &[Object<'a>], tag: Tag) -> Option<&'a [u8]>
         .map(|object| object.value())
 }
 
+/// Whether an object is a file descriptor that begins with a byte of a DF.
 fn is_df_descriptor(object: &Object<'_>) -> bool
     ensures { result ≡ is_df_descriptor object.now }
 {
     object.tag() == Tag::FileDescriptor.byte() && matches!(object.value(), [0x38 | 0x78, ..])
 }
 
-// Whether an object is the file descriptor of a DF.
+/// Whether an object is the file descriptor of a DF.
 fn tells_of_df(objects: &[Object<'_>]) -> bool
     ensures { result ≡ tells_of_df objects.now }
 {
     objects.iter().any(|object| is_df_descriptor(object))
 }
 
-// Whether an object that must be there is missing.
+/// Whether an object that must be there is missing.
 fn is_missing(objects: &[Object<'_>]) -> bool
     ensures { result ≡ is_missing objects.now }
 {
@@ -97,35 +101,35 @@ fn is_missing(objects: &[Object<'_>]) -> bool
         || !has(objects, Tag::DataBytes) && !tells_of_df(objects)
 }
 
-// Whether a tag of the table comes twice.
+/// Whether a tag of the table comes twice.
 fn is_twice(objects: &[Object<'_>]) -> bool
     ensures { result ≡ is_twice objects.now }
 {
     objects.iter().any(|object| comes_again(objects, object))
 }
 
-// Whether the object has a tag of the table, and another object has it too.
+/// Whether the object has a tag of the table, and another object has it too.
 fn comes_again(objects: &[Object<'_>], object: &Object<'_>) -> bool
     ensures { result ≡ is_again objects.now object.now }
 {
     is_known(object) && count_of(objects, object.tag()) > 1
 }
 
-// Whether the object has a tag of the table.
+/// Whether the object has a tag of the table.
 fn is_known(object: &Object<'_>) -> bool
     ensures { result ≡ is_tag object.now.tag }
 {
     Tag::from_byte(object.tag()).is_some()
 }
 
-// Whether an object has another tag.
+/// Whether an object has another tag.
 fn has_unknown(objects: &[Object<'_>]) -> bool
     ensures { result ≡ has_unknown objects.now }
 {
     objects.iter().any(|object| !is_known(object))
 }
 
-// The parameters that the objects tell, where all have tags, lengths and values of the table.
+/// The parameters that the objects tell, where all have tags, lengths and values of the table.
 #[tactic(auto, unfolding(crate::specs::Reads::fcp_of))]
 fn fcp_of<'a>(objects: &[Object<'a>]) -> Option<Fcp<'a>>
     ensures value { result ≡ fcp_of objects.now }
@@ -147,6 +151,7 @@ fn fcp_of<'a>(objects: &[Object<'a>]) -> Option<Fcp<'a>>
     })
 }
 
+/// The kind of a file, by its descriptor.
 fn kind_of<'a>(descriptor: Descriptor, objects: &[Object<'a>]) -> Option<FileKind<'a>>
     ensures value { result ≡ kind_of descriptor objects.now }
     ensures ranges { IfSome result IsKind }
@@ -162,6 +167,7 @@ fn kind_of<'a>(descriptor: Descriptor, objects: &[Object<'a>]) -> Option<FileKin
     }
 }
 
+/// What makes a DF: a name, or none, and no object of an elementary file but a number of data bytes.
 #[tactic(auto, unfolding(crate::specs::Reads::df_of))]
 fn df_of<'a>(objects: &[Object<'a>]) -> Option<FileKind<'a>>
     ensures value { result ≡ df_of objects.now }
@@ -176,6 +182,7 @@ fn df_of<'a>(objects: &[Object<'a>]) -> Option<FileKind<'a>>
     Some(FileKind::Df { name })
 }
 
+/// What makes a transparent file: a size, and no name.
 #[tactic(auto, unfolding(crate::specs::Reads::transparent_of))]
 fn transparent_of<'a>(objects: &[Object<'a>]) -> Option<FileKind<'a>>
     ensures value { result ≡ transparent_of objects.now }
@@ -189,6 +196,7 @@ fn transparent_of<'a>(objects: &[Object<'a>]) -> Option<FileKind<'a>>
     Some(FileKind::Transparent { short, size })
 }
 
+/// What makes a file of records: a size that its records fill, and no name.
 #[tactic(auto, unfolding(crate::specs::Reads::record_file_of))]
 fn record_file_of<'a>(
     structure: Structure,
@@ -211,6 +219,7 @@ fn record_file_of<'a>(
     }
 }
 
+/// The identifier in object 83: two bytes, but for those of the MF and of the current DF, and FFFF.
 fn identifier_of(value: &[u8]) -> Option<u16>
     ensures value { result ≡ identifier_of value.now }
     ensures below_mf { IfSome result (λ n. n ≢ 0x3F00) }
@@ -226,6 +235,7 @@ fn identifier_of(value: &[u8]) -> Option<u16>
     }
 }
 
+/// The name in object 84, of 1 to 16 bytes.
 fn name_of<'a>(value: Option<&'a [u8]>) -> Option<Option<DfName<'a>>>
     ensures value { result ≡ name_of (option_copied value.entry) }
     ensures ranges { IfSome result IsName }
@@ -236,6 +246,7 @@ fn name_of<'a>(value: Option<&'a [u8]>) -> Option<Option<DfName<'a>>>
     }
 }
 
+/// The short identifier in object 88: 1 to 30, in the upper five bits of its byte.
 fn short_of(value: Option<&[u8]>) -> Option<ShortIdentifier>
     ensures value { result ≡ short_of (option_copied value.entry) }
     ensures ranges { IfSome result IsShort }
@@ -255,13 +266,14 @@ fn short_of(value: Option<&[u8]>) -> Option<ShortIdentifier>
     }
 }
 
-// The number in object 80.
+/// The number in object 80.
 fn data_bytes(objects: &[Object<'_>]) -> Option<u32>
     ensures { result ≡ data_bytes objects.now }
 {
     number_of(value_at(objects, Tag::DataBytes)?)
 }
 
+/// A number of two to four bytes, the most significant first.
 fn number_of(value: &[u8]) -> Option<u32>
     ensures { result ≡ number_of value.now }
 {
@@ -273,6 +285,7 @@ fn number_of(value: &[u8]) -> Option<u32>
     }
 }
 
+/// The size of a file: 1 to 32,767 bytes.
 fn size_of(number: Option<u32>) -> Option<u16>
     ensures value { result ≡ size_of number }
     ensures ranges { IfSome result IsSize }
@@ -285,6 +298,8 @@ fn size_of(number: Option<u32>) -> Option<u16>
     }
 }
 
+/// The records of a file of this size, where they fill it: 1 to 254, of 1 to 255 bytes. As many exist as the
+/// descriptor says, or all.
 fn records_of(record_length: u16, existing: Option<u8>, size: u16) -> Option<Records>
     requires { IsSize size }
     ensures value { result ≡ records_of record_length existing size }
@@ -308,6 +323,7 @@ fn records_of(record_length: u16, existing: Option<u8>, size: u16) -> Option<Rec
     })
 }
 
+/// The life cycle status in object 8A; a file without it is activated.
 fn life_cycle_of(value: Option<&[u8]>) -> Option<LifeCycle>
     ensures value { result ≡ life_cycle_of (option_copied value.entry) }
     ensures live { IfSome result (λ state. state ≢ Terminated) }

@@ -1,3 +1,5 @@
+//! The tags of a template.
+
 ghost use Rattle.std.specs.Prelude.{◌≡◌, Some, None, option_map, if◌then◌else◌};
 ghost use Rattle.fcp_template.specs.Table.{tag_byte, is_tag};
 

@@ -4,7 +4,8 @@ ghost use Rattle.std.specs.Prelude.{◌≡◌, ◌+◌, ◌≤◌, [], ◌∷◌
 ghost use Rattle.fcp_template.specs.Table.{tag_byte};
 ghost use Rattle.fcp_template.specs.DataObjects.{object_text, objects_text};
 ghost use Rattle.fcp_template.specs.Ranges.{IsKind, IsShort};
-ghost use Rattle.fcp_template.specs.Spelling.{IsInFull, data_object, two_bytes, short_value, descriptor_value, kind_objects, fcp_objects, fcp_text};
+ghost use Rattle.fcp_template.specs.Spelling.{IsInFull, data_object, two_bytes, short_value, descriptor_value};
+ghost use Rattle.fcp_template.specs.Spelling.{kind_objects, fcp_objects, fcp_text};
 
 use crate::fcp::{Fcp, FileKind, Records, ShortIdentifier};
 use crate::tag::Tag;
@@ -26,7 +27,7 @@ pub fn write(fcp: &Fcp<'_>, out: &mut ArrayVec<u8, 256>)
     out.try_extend_from_slice(&body).unwrap();
 }
 
-// Writes the objects into an empty buffer.
+/// Writes the objects into an empty buffer.
 fn put_objects(fcp: &Fcp<'_>, body: &mut Body)
     requires empty { body.old.items ≡ [] }
     requires full { IsInFull fcp.now }
@@ -39,7 +40,7 @@ fn put_objects(fcp: &Fcp<'_>, body: &mut Body)
     put(body, Tag::CompactRule, fcp.rule.as_bytes());
 }
 
-// Writes object 82 behind what is there.
+/// Writes object 82 behind what is there.
 fn put_descriptor(kind: &FileKind<'_>, body: &mut Body)
     requires room { length body.old.items + 7 ≤ 127 }
     ensures written { body.new.items ≡ body.old.items ++ object_text (data_object 0x82 (descriptor_value kind.now)) }
@@ -53,9 +54,11 @@ fn put_descriptor(kind: &FileKind<'_>, body: &mut Body)
     }
 }
 
+/// Writes object 82 of a file of records behind what is there.
 fn put_record_descriptor(byte: u8, records: &Records, body: &mut Body)
     requires room { length body.old.items + 7 ≤ 127 }
-    ensures { body.new.items ≡ body.old.items ++ object_text (data_object 0x82 (byte ∷ 0x21 ∷ two_bytes records.now.record_length ++ records.now.existing ∷ [])) }
+    ensures { body.new.items ≡ body.old.items ++ object_text
+        (data_object 0x82 (byte ∷ 0x21 ∷ two_bytes records.now.record_length ++ records.now.existing ∷ [])) }
 {
     let [high, low] = two_bytes(u16::from(records.record_length));
     put(
@@ -65,7 +68,7 @@ fn put_record_descriptor(byte: u8, records: &Records, body: &mut Body)
     );
 }
 
-// Writes objects 84, 88 and 80 behind what is there.
+/// Writes objects 84, 88 and 80 behind what is there.
 fn put_kind(kind: &FileKind<'_>, body: &mut Body)
     requires room { length body.old.items + 18 ≤ 127 }
     requires ranges { IsKind kind.now }
@@ -82,11 +85,12 @@ fn put_kind(kind: &FileKind<'_>, body: &mut Body)
     }
 }
 
-// Writes objects 88 and 80 of an elementary file behind what is there.
+/// Writes objects 88 and 80 of an elementary file behind what is there.
 fn put_short_and_size(short: ShortIdentifier, size: u16, body: &mut Body)
     requires room { length body.old.items + 7 ≤ 127 }
     requires ranges { IsShort short }
-    ensures { body.new.items ≡ body.old.items ++ objects_text (data_object 0x88 (short_value short) ∷ data_object 0x80 (two_bytes size) ∷ []) }
+    ensures { body.new.items ≡ body.old.items ++ objects_text
+        (data_object 0x88 (short_value short) ∷ data_object 0x80 (two_bytes size) ∷ []) }
 {
     match short {
         ShortIdentifier::Given(number) => put(body, Tag::ShortFileIdentifier, &[number * 8]),
@@ -99,7 +103,7 @@ fn put_short_and_size(short: ShortIdentifier, size: u16, body: &mut Body)
     put(body, Tag::DataBytes, &two_bytes(size));
 }
 
-// Writes an object behind what is there.
+/// Writes an object behind what is there.
 fn put(body: &mut Body, tag: Tag, value: &[u8])
     requires { length body.old.items + 2 + length value.now ≤ 127 }
     ensures written { body.new.items ≡ body.old.items ++ object_text (data_object (tag_byte tag) value.now) }
@@ -110,7 +114,7 @@ fn put(body: &mut Body, tag: Tag, value: &[u8])
     body.try_extend_from_slice(value).unwrap();
 }
 
-// A number in two bytes, the most significant first.
+/// A number in two bytes, the most significant first.
 fn two_bytes(number: u16) -> [u8; 2]
     ensures { result ≡ two_bytes number }
 {

@@ -11,9 +11,9 @@ card_link c = record {
     ifsd = c.ifsd;
     sent = if c.has_sent then Some c.answer.field else None;
     rest = c.answer.rest;
-    held = if c.is_idle then c.command.items else [];
+    held = if c.waits then [] else c.command.items;
   };
-  waiting = if c.is_idle then None else Some c.command.items;
+  waiting = if c.waits then Some c.command.items else None;
 }
 
 -- every I-block fits

@@ -1,12 +1,14 @@
 -- The card's end of T=1: what it holds between blocks, and its reaction to each (ISO/IEC 7816-3, clause 11.6).
 -- Its rows are numbered as in the table of docs/LINK.md.
-use Rattle.std.specs.Prelude.{ℕ, Bool, false, not, List, [], ◌∷◌, ◌++◌, length, take, drop, ◌==◌, ◌&&◌, Option, None, Some, Result, Ok, Err, unwrap_or, is_some}
+use Rattle.std.specs.Prelude.{ℕ, Bool, false, not, List, [], ◌∷◌, ◌++◌, length, take, drop, ◌==◌, ◌&&◌, Option, None}
+use Rattle.std.specs.Prelude.{Some, Result, Ok, Err, unwrap_or, is_some}
 use Rattle.t1_link.specs.declared.block.ErrorKind.{ErrorKind}
 use Rattle.t1_link.specs.declared.block.ErrorKind.TheVariants.{ErrorFree, OtherError}
 use Rattle.t1_link.specs.declared.block.Fault.{Fault}
 use Rattle.t1_link.specs.declared.card_end.Action.{Action}
 use Rattle.t1_link.specs.declared.card_end.Action.TheVariants.{Reply, Run}
-use Rattle.t1_link.specs.Blocks.{Block, information, receive_ready, resynch_request, resynch_response, ifs_request, ifs_response, frame, heard, first_of, same, told_as}
+use Rattle.t1_link.specs.Blocks.{Block, information, receive_ready, resynch_request, resynch_response, ifs_request}
+use Rattle.t1_link.specs.Blocks.{ifs_response, frame, heard, first_of, same, told_as}
 
 -- What the card's end holds: the number of the next I-block that it sends and of the one that it expects, the size of
 -- information field that the reader takes, the information field of the last I-block sent, the bytes of the answer that
@@ -102,8 +104,8 @@ card_takes l (Ok (receive_ready number error)) = takes_receive_ready l number
 card_takes l (Ok (information number more field)) = takes_information l number more field
 
 -- the reaction to bytes that came
-abbrev pub LinkStep : Link → List ℕ → Taken
-LinkStep l bytes = card_takes l (heard bytes)
+abbrev pub link_step : Link → List ℕ → Taken
+link_step l bytes = card_takes l (heard bytes)
 
 -- the first I-block of an answer
 abbrev pub answers : Link → List ℕ → Taken

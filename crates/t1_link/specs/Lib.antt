@@ -1,11 +1,11 @@
-pub mod BlockLaws
 pub mod Blocks
 pub mod CardFields
-pub mod CardRows
 pub mod CardTable
 pub mod Cut
-pub mod ReaderBusy
 pub mod ReaderFields
-pub mod ReaderRows
 pub mod ReaderTable
 pub mod Spoken
+pub mod laws
+pub use Rattle.t1_link.specs.laws.Blocks as BlockLaws
+pub use Rattle.t1_link.specs.laws.CardRows
+pub use Rattle.t1_link.specs.laws.ReaderRows

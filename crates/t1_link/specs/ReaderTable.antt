@@ -1,6 +1,7 @@
 -- The reader's end of T=1: what it holds between blocks, and its reaction to each (ISO/IEC 7816-3, clause 11.6).
 -- Its rows are numbered as in the table of docs/LINK.md.
-use Rattle.std.specs.Prelude.{◌+◌, ◌==◌, ◌||◌, ℕ, Bool, true, false, not, nat_lt, if◌then◌else◌, List, [], ◌∷◌, ◌++◌, length, take, drop, Result, Ok, Err}
+use Rattle.std.specs.Prelude.{◌+◌, ◌==◌, ◌||◌, ℕ, Bool, true, false, not, nat_lt, if◌then◌else◌, List, [], ◌∷◌, ◌++◌}
+use Rattle.std.specs.Prelude.{length, take, drop, Result, Ok, Err}
 use Rattle.t1_link.specs.declared.block.ErrorKind.{ErrorKind}
 use Rattle.t1_link.specs.declared.block.ErrorKind.TheVariants.{ErrorFree, OtherError}
 use Rattle.t1_link.specs.declared.block.Fault.{Fault}
@@ -8,7 +9,8 @@ use Rattle.t1_link.specs.declared.reader_end.Phase.{Phase}
 use Rattle.t1_link.specs.declared.reader_end.Phase.TheVariants.{Idle, Busy, Dead}
 use Rattle.t1_link.specs.declared.reader_end.Failure.{Failure}
 use Rattle.t1_link.specs.declared.reader_end.Failure.TheVariants.{LinkLost, BadAnswer}
-use Rattle.t1_link.specs.Blocks.{Block, information, receive_ready, resynch_request, resynch_response, ifs_request, ifs_response, heard, first_of, same, told_as}
+use Rattle.t1_link.specs.Blocks.{Block, information, receive_ready, resynch_request, resynch_response, ifs_request}
+use Rattle.t1_link.specs.Blocks.{ifs_response, heard, first_of, same, told_as}
 
 -- What the reader's end holds: the number of the next I-block that it sends and of the one that it expects, how often it
 -- tried in vain, the information field of its last I-block, the bytes of the command that are not sent yet, the bytes of
@@ -25,7 +27,17 @@ pub record Reader : Type 0 where
 
 -- after power-on and after a RESYNCH that was answered
 abbrev pub fresh_reader : Reader
-fresh_reader = record { ns = false; nr = false; tries = 0; field = []; rest = []; answer = []; resynchs = 0; phase = Idle }
+fresh_reader = record {
+  ns = false;
+  nr = false;
+  tries = 0;
+  field = [];
+  rest = [];
+  answer = [];
+  resynchs = 0;
+  phase =
+      Idle;
+}
 
 -- What the reader's end says: a block to be sent, the answer, that it isn't known whether the command was run, or a failure.
 pub data Outcome : Type 0 where
@@ -52,7 +64,8 @@ requesting r = record { reader = record r { resynchs = r.resynchs + 1 }; outcome
 
 -- a try: this block, or after three tries the request for RESYNCH in its place
 abbrev pub trying : Reader → Block → Turned
-trying r b = if nat_lt r.tries 3 then record { reader = record r { tries = r.tries + 1 }; outcome = sends b } else requesting r
+trying r b = if nat_lt r.tries 3 then record { reader = record r { tries = r.tries + 1 }; outcome = sends b } else
+    requesting r
 
 -- a try: an R-block with the expected number
 abbrev pub asking : Reader → ErrorKind → Turned
@@ -86,7 +99,14 @@ turns_answer r more bytes = first_of (
     -- 8 and 9. an answer has at most 258 bytes
     (nat_lt 258 (length bytes), failing r BadAnswer)
     -- 8. more blocks follow: R-block, no error, with the next number
-    ∷ (more, record { reader = record r { nr = not r.nr; tries = 0; answer = bytes }; outcome = sends (receive_ready (not r.nr) ErrorFree) })
+    ∷ (
+      more,
+      record {
+        reader = record r { nr = not r.nr; tries = 0; answer = bytes };
+        outcome =
+            sends (receive_ready (not r.nr) ErrorFree);
+      },
+    )
     -- 9. an answer has at least 2 bytes
     ∷ (nat_lt (length bytes) 2, failing r BadAnswer)
     ∷ [])
@@ -130,8 +150,8 @@ abbrev pub reader_takes : Reader → Result Block Fault → Turned
 reader_takes r h = if r.resynchs == 0 then turns_block r h else turns_resynch r h
 
 -- the reaction to bytes that came
-abbrev pub ReaderStep : Reader → List ℕ → Turned
-ReaderStep r bytes = reader_takes r (heard bytes)
+abbrev pub reader_step : Reader → List ℕ → Turned
+reader_step r bytes = reader_takes r (heard bytes)
 
 -- 1. nothing came in time: R-block, other error, a try; or the request for RESYNCH was not answered
 abbrev pub reader_times_out : Reader → Turned

@@ -1,9 +1,11 @@
 -- What the code's blocks say.
 use Rattle.std.specs.Prelude.{Result, Ok, Err}
-use Rattle.t1_link.specs.Blocks.{Block, information, receive_ready, resynch_request, resynch_response, ifs_request, ifs_response}
+use Rattle.t1_link.specs.Blocks.{Block, information, receive_ready, resynch_request, resynch_response, ifs_request}
+use Rattle.t1_link.specs.Blocks.{ifs_response}
 use Rattle.t1_link.specs.declared.block.Fault.{Fault}
 use Rattle.t1_link.specs.declared.block.Block as spelled
-use Rattle.t1_link.specs.declared.block.Block.TheVariants.{Information, ReceiveReady, ResynchRequest, ResynchResponse, IfsRequest, IfsResponse}
+use Rattle.t1_link.specs.declared.block.Block.TheVariants.{Information, ReceiveReady, ResynchRequest, ResynchResponse}
+use Rattle.t1_link.specs.declared.block.Block.TheVariants.{IfsRequest, IfsResponse}
 
 -- a block, with its information field in place of a loan of it
 abbrev pub block_of : spelled.Block → Block

@@ -1,7 +1,10 @@
+//! Blocks, and their bytes (ISO/IEC 7816-3, 11.3).
+
 ghost use Rattle.std.specs.Prelude.{◌≡◌, ◌≤◌, ◌++◌, length, IfOk};
 ghost use Rattle.std.specs.Option.{ok_or};
 ghost use Rattle.arrayvec.specs.ArrayVec.{array_vec_len};
-ghost use Rattle.t1_link.specs.Blocks.{IsSpellable, at_byte, bare, control_byte, exclusive_or, field_of, frame, heard, kinds, size_told, told_as};
+ghost use Rattle.t1_link.specs.Blocks.{IsSpellable, at_byte, bare, control_byte, exclusive_or, field_of, frame, heard};
+ghost use Rattle.t1_link.specs.Blocks.{kinds, size_told, told_as};
 ghost use Rattle.t1_link.specs.Spoken.{block_of, spoken};
 
 use arrayvec::ArrayVec;

@@ -1,6 +1,9 @@
+//! The card's end of T=1.
+
 ghost use Rattle.std.specs.Prelude.{◌≡◌, ◌≤◌, ◌++◌, None, IsSome, IsTrue, ◌↔◌, Some, length, take, Ok};
 ghost use Rattle.t1_link.specs.Blocks.{IsSpellable, frame, receive_ready};
-ghost use Rattle.t1_link.specs.CardTable.{CardLink, LinkStep, action_of, after, answers, bytes_of, card_takes, fresh, sending, sent_block, takes_information, takes_receive_ready};
+ghost use Rattle.t1_link.specs.CardTable.{CardLink, link_step, action_of, after, answers, bytes_of, card_takes, fresh};
+ghost use Rattle.t1_link.specs.CardTable.{sending, sent_block, takes_information, takes_receive_ready};
 ghost use Rattle.t1_link.specs.Spoken.{block_of};
 
 use crate::block::{Block, BlockBytes, ErrorKind};
@@ -35,7 +38,7 @@ pub struct CardEnd {
     has_sent: bool,
     answer: Outgoing,
     command: ArrayVec<u8, COMMAND_LIMIT>,
-    is_idle: bool,
+    waits: bool,
 }
 
 impl Model for CardEnd {
@@ -62,7 +65,7 @@ impl CardEnd {
             has_sent: false,
             answer: Outgoing::new(),
             command: ArrayVec::new(),
-            is_idle: true,
+            waits: false,
         }
     }
 
@@ -70,7 +73,7 @@ impl CardEnd {
     pub fn waiting(&self) -> bool
         ensures { IsTrue result ↔ IsSome self.now.waiting }
     {
-        !self.is_idle
+        self.waits
     }
 
     /// The bytes of the command that waits.
@@ -85,9 +88,9 @@ impl CardEnd {
     #[tactic(auto, unfolding(crate::specs::CardTable::card_takes))]
     pub fn take(&mut self, got: &[u8], out: &mut BlockBytes) -> Action
         requires { self.old.waiting ≡ None }
-        ensures state { self.new ≡ after (LinkStep self.old.link got.now) }
-        ensures action { result ≡ action_of (LinkStep self.old.link got.now).reaction }
-        ensures block { out.new.items ≡ bytes_of (LinkStep self.old.link got.now).reaction }
+        ensures state { self.new ≡ after (link_step self.old.link got.now) }
+        ensures action { result ≡ action_of (link_step self.old.link got.now).reaction }
+        ensures block { out.new.items ≡ bytes_of (link_step self.old.link got.now).reaction }
 
         // What these say of the command that waits.
         ensures replied { result ≡ Action.Reply → self.new.waiting ≡ None }
@@ -105,7 +108,7 @@ impl CardEnd {
         ensures state { self.new ≡ after (answers self.old.link answer.now.items) }
         ensures block { out.new.items ≡ bytes_of (answers self.old.link answer.now.items).reaction }
     {
-        self.is_idle = true;
+        self.waits = false;
         self.command.clear();
         self.answer.load(answer.as_slice());
         let _ = self.send_next(out);
@@ -164,7 +167,7 @@ impl CardEnd {
         if more {
             return self.receive_ready(ErrorKind::ErrorFree, out);
         }
-        self.is_idle = false;
+        self.waits = true;
         out.clear();
         Action::Run
     }

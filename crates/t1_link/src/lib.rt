@@ -6,8 +6,6 @@ mod card_end;
 pub mod laws;
 mod outgoing;
 mod reader_end;
-#[cfg(test)]
-mod tests;
 
 pub use block::{BlockBytes, ErrorKind, Fault};
 pub use card_end::{Action, AnswerBytes, CardEnd};

@@ -1,3 +1,5 @@
+//! Bytes that are sent in pieces.
+
 ghost use Rattle.std.specs.Prelude.{◌≡◌, ◌≤◌, ◌==◌, [], length, not};
 ghost use Rattle.t1_link.specs.Cut.{cut};
 

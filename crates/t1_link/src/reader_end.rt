@@ -1,7 +1,11 @@
+//! The reader's end of T=1.
+
 ghost use Rattle.std.specs.Prelude.{◌≡◌, ◌≢◌, ◌≤◌, ◌++◌, ◌<◌, ◌↔◌, IsTrue, length, Ok};
 ghost use Rattle.t1_link.specs.Blocks.{field_of};
-ghost use Rattle.t1_link.specs.ReaderTable.{ReaderStep, advancing, asking, failing, fresh_reader, last_block, reader_sends, reader_times_out};
-ghost use Rattle.t1_link.specs.ReaderTable.{requesting, requesting_again, sends, trying, turns_answer, turns_block, turns_information, turns_receive_ready, turns_resynch};
+ghost use Rattle.t1_link.specs.ReaderTable.{reader_step, advancing, asking, failing, fresh_reader, last_block};
+ghost use Rattle.t1_link.specs.ReaderTable.{reader_sends, reader_times_out};
+ghost use Rattle.t1_link.specs.ReaderTable.{requesting, requesting_again, sends, trying, turns_answer, turns_block};
+ghost use Rattle.t1_link.specs.ReaderTable.{turns_information, turns_receive_ready, turns_resynch};
 ghost use Rattle.t1_link.specs.ReaderFields.{IsSend, next_of};
 ghost use Rattle.t1_link.specs.Spoken.{block_of, spoken};
 
@@ -128,8 +132,8 @@ impl ReaderEnd {
     #[tactic(auto, unfolding(crate::specs::ReaderTable::turns_block))]
     pub fn got(&mut self, got: &[u8]) -> Next
         requires { self.old.phase ≡ Phase.Busy }
-        ensures state { self.new ≡ (ReaderStep self.old got.now).reader }
-        ensures next { result ≡ next_of (ReaderStep self.old got.now).outcome }
+        ensures state { self.new ≡ (reader_step self.old got.now).reader }
+        ensures next { result ≡ next_of (reader_step self.old got.now).outcome }
 
         // The command stays in hand exactly where a block is to be sent.
         ensures busy { IsSend result ↔ (self.new.phase ≡ Phase.Busy) }

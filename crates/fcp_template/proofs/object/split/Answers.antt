@@ -10,5 +10,6 @@ returns-in_err-object-clause-none c =
     let empty = c.is_empty.ensures in
     let some : 0 < length c.loop-rest.rest.now = grind (arith, nat_tests, test, empty) in
     let none : (os : List DataObject) → c.args.bytes.now ≡ objects_text os → ⊥ =
-    λ os e. no_objects c.loop-rest.objects.items os c.loop-rest.rest.now some c.in_err-object.ensures.none (sym c.loop-rest.invariant.so_far ∙ e) in
+    λ os e. no_objects c.loop-rest.objects.items os c.loop-rest.rest.now some c.in_err-object.ensures.none
+    (sym c.loop-rest.invariant.so_far ∙ e) in
     rw c.from_residual.ensures none

@@ -10,7 +10,8 @@ take-min n xs = same_number_lists _ _ (grind (arith, elements)) (λ k lt. grind 
 fits : (xs ys : List ℕ) (room : ℕ) → room + length xs ≡ 262 → take 262 (xs ++ ys) ≡ xs ++ take (min room (length ys)) ys
 fits xs ys room e =
     let n : 262 ≡ length xs + room = omega arith in
-    ap (λ (n : ℕ). take n (xs ++ ys)) n ∙ take-append-add xs ys room ∙ ap (λ (zs : List ℕ). xs ++ zs) (sym (take-min room ys))
+    ap (λ (n : ℕ). take n (xs ++ ys)) n ∙ take-append-add xs ys room
+    ∙ ap (λ (zs : List ℕ). xs ++ zs) (sym (take-min room ys))
 
 pub returns : goal.returns
 returns c =

@@ -1,4 +1,4 @@
-use Rattle.t1_link.specs.BlockLaws.{heard-frame}
+use Rattle.t1_link.specs.laws.Blocks.{heard-frame}
 use Rattle.t1_link.proofs.laws.block_read_again.Goals as goal
 
 pub returns : goal.returns

@@ -1,4 +1,4 @@
-use Rattle.t1_link.specs.BlockLaws.{frame-heard}
+use Rattle.t1_link.specs.laws.Blocks.{frame-heard}
 use Rattle.t1_link.proofs.laws.block_spelled_so.Goals as goal
 
 pub returns-clause-spelled : goal.returns-clause-spelled

@@ -1,5 +1,5 @@
-use Rattle.t1_link.specs.CardRows.{sent_block-sending}
-use Rattle.t1_link.specs.ReaderRows.{last_block-advancing}
+use Rattle.t1_link.specs.laws.CardRows.{sent_block-sending}
+use Rattle.t1_link.specs.laws.ReaderRows.{last_block-advancing}
 use Rattle.t1_link.proofs.laws.last_block_again.Goals as goal
 
 pub returns-clause-card : goal.returns-clause-card

@@ -6,4 +6,5 @@ use Rattle.card_rules.proofs.access_mode.AccessMode.has.Goals as goal
 pub returns : goal.returns
 returns c =
     let mode = mode_byte c.args.self in
-    c.contains.ensures tt ∙ ap (λ (flag : ℕ). bit_and mode flag == flag) c.flag.ensures ∙ has_bit mode (bit_number c.args.bit - 1)
+    c.contains.ensures tt ∙ ap (λ (flag : ℕ). bit_and mode flag == flag) c.flag.ensures
+    ∙ has_bit mode (bit_number c.args.bit - 1)

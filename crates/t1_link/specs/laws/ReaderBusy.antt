@@ -1,5 +1,6 @@
 -- The reader's end has a command in hand exactly where it says that a block is to be sent.
-use Rattle.std.specs.Prelude.{◌≡◌, ◌↔◌, ◌||◌, ◌+◌, Bool, true, false, not, nat_lt, if◌then◌else◌, List, [], ◌++◌, length, ℕ, Result, Ok, Err, refl}
+use Rattle.std.specs.Prelude.{◌≡◌, ◌↔◌, ◌||◌, ◌+◌, Bool, true, false, not, nat_lt, if◌then◌else◌, List, [], ◌++◌}
+use Rattle.std.specs.Prelude.{length, ℕ, Result, Ok, Err, refl}
 use Rattle.std.proofs.Common.{ap, subst, sym}
 use Rattle.t1_link.specs.declared.block.ErrorKind.{ErrorKind}
 use Rattle.t1_link.specs.declared.block.ErrorKind.TheVariants.{ErrorFree, OtherError}
@@ -7,11 +8,14 @@ use Rattle.t1_link.specs.declared.block.Fault.{Fault}
 use Rattle.t1_link.specs.declared.reader_end.Phase.{Phase}
 use Rattle.t1_link.specs.declared.reader_end.Phase.TheVariants.{Idle, Busy, Dead}
 use Rattle.t1_link.specs.declared.reader_end.Failure.TheVariants.{BadAnswer, LinkLost}
-use Rattle.t1_link.specs.Blocks.{Block, information, receive_ready, resynch_request, resynch_response, ifs_request, ifs_response, same, told_as}
+use Rattle.t1_link.specs.Blocks.{Block, information, receive_ready, resynch_request, resynch_response, ifs_request}
+use Rattle.t1_link.specs.Blocks.{ifs_response, same, told_as}
 use Rattle.t1_link.specs.declared.reader_end.Next.{Next}
 use Rattle.t1_link.specs.ReaderFields.{IsSend, next_of}
-use Rattle.t1_link.specs.ReaderTable.{Outcome, Reader, Turned, advancing, asking, failing, fails, gives, has_more, is_busy, last_block, requesting, requesting_again}
-use Rattle.t1_link.specs.ReaderTable.{sends, trying, turns_answer, turns_block, turns_information, turns_receive_ready, turns_resynch, unknown}
+use Rattle.t1_link.specs.ReaderTable.{Outcome, Reader, Turned, advancing, asking, failing, fails, gives, has_more}
+use Rattle.t1_link.specs.ReaderTable.{is_busy, last_block, requesting, requesting_again}
+use Rattle.t1_link.specs.ReaderTable.{sends, trying, turns_answer, turns_block, turns_information, turns_receive_ready}
+use Rattle.t1_link.specs.ReaderTable.{turns_resynch, unknown}
 
 -- a block is to be sent
 abbrev pub is_block : Outcome → Bool
@@ -32,26 +36,37 @@ module _ (r : Reader) (busy : r.phase ≡ Busy) where
   in_hand = sym (ap is_busy busy)
 
   agrees-trying : (b : Block) → Agrees (trying r b)
-  agrees-trying b = agrees-if (nat_lt r.tries 3) (record { reader = record r { tries = r.tries + 1 }; outcome = sends b }) (requesting r) in_hand in_hand
+  agrees-trying b = agrees-if (nat_lt r.tries 3)
+      (record { reader = record r { tries = r.tries + 1 }; outcome = sends b }) (requesting r) in_hand in_hand
 
   agrees-asking : (error : ErrorKind) → Agrees (asking r error)
   agrees-asking error = agrees-trying (receive_ready r.nr error)
 
   agrees-receive_ready : (number : Bool) → Agrees (turns_receive_ready r number)
-  agrees-receive_ready number = agrees-if (same number (not r.ns)) (trying r (last_block r)) (if has_more r then advancing r r.rest else asking r OtherError)
+  agrees-receive_ready number = agrees-if (same number (not r.ns)) (trying r (last_block r))
+      (if has_more r then advancing r r.rest else asking r OtherError)
       (agrees-trying (last_block r))
       (agrees-if (has_more r) (advancing r r.rest) (asking r OtherError) in_hand (agrees-asking OtherError))
 
   agrees-answer : (more : Bool) (bytes : List ℕ) → Agrees (turns_answer r more bytes)
   agrees-answer more bytes =
-      let joined : Turned = record { reader = record r { nr = not r.nr; tries = 0; answer = bytes }; outcome = sends (receive_ready (not r.nr) ErrorFree) } in
-      let done : Turned = record { reader = record r { nr = not r.nr; answer = []; phase = Idle }; outcome = gives bytes } in
+      let joined : Turned = record {
+        reader = record r { nr = not r.nr; tries = 0; answer = bytes };
+        outcome =
+            sends (receive_ready (not r.nr) ErrorFree);
+      } in
+      let done : Turned = record {
+        reader = record r { nr = not r.nr; answer = []; phase = Idle };
+        outcome =
+            gives bytes;
+      } in
       let whole : Turned = if nat_lt (length bytes) 2 then failing r BadAnswer else done in
       agrees-if (nat_lt 258 (length bytes)) (failing r BadAnswer) (if more then joined else whole) refl
       (agrees-if more joined whole in_hand (agrees-if (nat_lt (length bytes) 2) (failing r BadAnswer) done refl refl))
 
   agrees-information : (number more : Bool) (field : List ℕ) → Agrees (turns_information r number more field)
-  agrees-information number more field = agrees-if (has_more r || not (same number r.nr)) (asking r OtherError) (turns_answer r more (r.answer ++ field))
+  agrees-information number more field =
+      agrees-if (has_more r || not (same number r.nr)) (asking r OtherError) (turns_answer r more (r.answer ++ field))
       (agrees-asking OtherError) (agrees-answer more (r.answer ++ field))
 
   pub agrees-block : (h : Result Block Fault) → Agrees (turns_block r h)
@@ -78,9 +93,11 @@ module _ (r : Reader) (busy : r.phase ≡ Busy) where
   agrees-resynch (Ok (information number more field)) = agrees-again
 
 -- in the words of the clauses
-pub send-in_hand : (t : Turned) (next : Next) (r : Reader) → next ≡ next_of t.outcome → r ≡ t.reader → Agrees t → IsSend next ↔ (r.phase ≡ Busy)
+pub send-in_hand : (t : Turned) (next : Next) (r : Reader) → next ≡ next_of t.outcome → r ≡ t.reader → Agrees t
+    → IsSend next ↔ (r.phase ≡ Busy)
 send-in_hand t next r says is agrees =
-    subst (λ (n : Next). IsSend n ↔ (r.phase ≡ Busy)) (sym says) (subst (λ (x : Reader). IsSend (next_of t.outcome) ↔ (x.phase ≡ Busy)) (sym is)
+    subst (λ (n : Next). IsSend n ↔ (r.phase ≡ Busy)) (sym says)
+    (subst (λ (x : Reader). IsSend (next_of t.outcome) ↔ (x.phase ≡ Busy)) (sym is)
     (by t.outcome t.reader.phase agrees))
   where
     by : (o : Outcome) (p : Phase) → is_block o ≡ is_busy p → IsSend (next_of o) ↔ (p ≡ Busy)

@@ -1,0 +1,5 @@
+-- Laws of the definitions, with their proofs.
+pub mod Blocks
+pub mod CardRows
+pub mod ReaderRows
+pub mod ReaderBusy
