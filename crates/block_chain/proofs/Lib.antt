@@ -1,0 +1,5 @@
+pub mod Taking
+pub mod Giving
+pub mod Runs
+pub mod Fills
+pub mod Puts

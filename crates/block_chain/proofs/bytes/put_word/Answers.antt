@@ -1,0 +1,45 @@
+use Rattle.std.proofs.Common.{◌≡◌, ◌+◌, ◌*◌, ◌%◌, ℕ, List, length, slice_index, slice_set, ◌∙◌, ap, ap₂, inr, arith}
+use Rattle.std.proofs.lemmas.Result.{on_ok_weaker}
+use Rattle.nvm_board.specs.Facts.{address}
+use Rattle.undo_journal.specs.Memory.{current}
+use Rattle.undo_journal.specs.Lent.{memory_of}
+use Rattle.undo_journal.specs.laws.Calls.{reads_sets, sets_then}
+use Rattle.block_chain.specs.Parts.{byte_over}
+use Rattle.block_chain.specs.Words.{word, word_bytes}
+use Rattle.block_chain.proofs.bytes.put_word.Goals as goal
+use Rattle.nvm_board.specs.declared.board.TheConstants.{PAGE_WORDS}
+use Rattle.block_chain.specs.declared.layout.TheConstants.{BLOCK_WORDS}
+
+pub content-requires-clause-place : goal.content-requires-clause-place
+content-requires-clause-place g c =
+    let block = c.requires.block in let size = c.requires.ready.current_size in
+    (inr (omega (arith, block.0)), omega (arith, block.1, size))
+
+pub put-requires-clause-place : goal.put-requires-clause-place
+put-requires-clause-place g c =
+    let block = c.requires.block in let size = c.requires.ready.current_size in
+    let same = ap (λ (l : List ℕ). length l) c.content.ensures.reads.reads.keeps.current_words in
+    (inr (omega (arith, block.0)), omega (arith, block.1, size, same))
+
+pub returns-clause-sets : goal.returns-clause-sets
+returns-clause-sets g c =
+    sets_then 0 1 1 _ _ _ (omega arith) (reads_sets _ _ _ c.content.ensures.reads) c.put.ensures.sets
+
+pub returns-clause-done : goal.returns-clause-done
+returns-clause-done g c =
+    let m = current (memory_of c.args.txn.now) in
+    let page = c.args.page in
+    let k = c.args.k in
+    let at : PAGE_WORDS * page + 1 + k % BLOCK_WORDS ≡ address page (1 + k % BLOCK_WORDS) = omega arith in
+    let read : current (memory_of c.content.new.txn) ≡ m = c.content.ensures.reads.reads.keeps.current_words in
+    let was : c.in_ok-word.word ≡ word m page (1 + k % BLOCK_WORDS) =
+    c.in_ok-word.ensures.word ∙ ap (slice_index m) at in
+    on_ok_weaker c.put.result (λ
+    (done : current (memory_of c.put.new.txn) ≡ slice_set (current (memory_of c.content.new.txn))
+    (PAGE_WORDS * page + 1 + k % BLOCK_WORDS) c.overwritten_word-new.result). record {
+      put = c.overwritten_word-new.result;
+      done = done ∙ ap₂ (λ (l : List ℕ) (i : ℕ). slice_set l i c.overwritten_word-new.result) read at;
+      over = λ place lt. c.overwritten_word-new.ensures place lt
+          ∙ ap (λ (w : ℕ). byte_over c.args.offset c.args.bytes.now (4 * k + place)
+          (slice_index (word_bytes w) place)) was;
+    }) c.put.ensures.done

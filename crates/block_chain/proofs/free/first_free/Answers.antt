@@ -1,0 +1,54 @@
+use Rattle.std.proofs.Common.{◌-◌, ◌<◌, ℕ, List, length, slice_index, ◌∙◌, ap, ap₂, arith}
+use Rattle.undo_journal.specs.Memory.{current}
+use Rattle.undo_journal.specs.Lent.{memory_of}
+use Rattle.undo_journal.specs.laws.Calls.{txn_reads_then}
+use Rattle.block_chain.specs.Chains.{chain, free_chain}
+use Rattle.block_chain.specs.Words.{link}
+use Rattle.block_chain.specs.laws.Chains.{at_block, head_small}
+use Rattle.block_chain.proofs.free.first_free.Goals as goal
+
+pub head-requires-clause-small : goal.head-requires-clause-small
+head-requires-clause-small g c = head_small _ _ _ c.requires.free.leads
+
+pub next-requires-clause-block : goal.next-requires-clause-block
+next-requires-clause-block g c =
+    let m = current (memory_of c.args.txn.now) in
+    let within : c.args.n - 1 < length (free_chain m) = omega (arith, c.requires.some, c.requires.enough) in
+    let same = c.walk.ensures.reads.reads.keeps.current_words ∙ c.head.ensures.reads.reads.keeps.current_words in
+    let last = c.in_ok-last.ensures.page
+    ∙ ap₂ (λ (l : List ℕ) (p : ℕ). slice_index (chain l p)
+    (c.args.n - 1)) c.head.ensures.reads.reads.keeps.current_words c.in_ok-first.ensures.page in
+    let at = at_block _ _ _ _ _ _ same c.requires.free.leads last within in
+    at.block
+
+pub next-requires-clause-small : goal.next-requires-clause-small
+next-requires-clause-small g c =
+    let m = current (memory_of c.args.txn.now) in
+    let within : c.args.n - 1 < length (free_chain m) = omega (arith, c.requires.some, c.requires.enough) in
+    let same = c.walk.ensures.reads.reads.keeps.current_words ∙ c.head.ensures.reads.reads.keeps.current_words in
+    let last = c.in_ok-last.ensures.page
+    ∙ ap₂ (λ (l : List ℕ) (p : ℕ). slice_index (chain l p)
+    (c.args.n - 1)) c.head.ensures.reads.reads.keeps.current_words c.in_ok-first.ensures.page in
+    let at = at_block _ _ _ _ _ _ same c.requires.free.leads last within in
+    at.small
+
+pub returns-clause-found : goal.returns-clause-found
+returns-clause-found g c =
+    let m = current (memory_of c.args.txn.now) in
+    let within : c.args.n - 1 < length (free_chain m) = omega (arith, c.requires.some, c.requires.enough) in
+    let same = c.walk.ensures.reads.reads.keeps.current_words ∙ c.head.ensures.reads.reads.keeps.current_words in
+    let last = c.in_ok-last.ensures.page
+    ∙ ap₂ (λ (l : List ℕ) (p : ℕ). slice_index (chain l p)
+    (c.args.n - 1)) c.head.ensures.reads.reads.keeps.current_words c.in_ok-first.ensures.page in
+    let at = at_block _ _ _ _ _ _ same c.requires.free.leads last within in
+    record {
+      first = c.in_ok-first.ensures.page;
+      last = last;
+      block = at.block;
+      after = c.in_ok-rest.ensures.page ∙ ap (λ (l : List ℕ). link l c.in_ok-last.last) same;
+      small = (let z = c.in_ok-rest.ensures.page in let y = at.small in omega (arith, z, y));
+    }
+
+pub returns-in_err-rest-clause-reads : goal.returns-in_err-rest-clause-reads
+returns-in_err-rest-clause-reads g c =
+    txn_reads_then _ _ _ (txn_reads_then _ _ _ c.head.ensures.reads c.walk.ensures.reads) c.next.ensures.reads

@@ -1,0 +1,50 @@
+use Rattle.std.proofs.Common.{◌≡◌, ◌≢◌, slice_index, ◌∙◌, arith}
+use Rattle.undo_journal.specs.Memory.{committed}
+use Rattle.undo_journal.specs.laws.Calls.{reads_then}
+use Rattle.block_chain.specs.Chains.{free_chain}
+use Rattle.block_chain.specs.laws.Chains.{at_some, head_small, leads_ended}
+use Rattle.block_chain.proofs.free.free_count.Goals as goal
+
+pub read_head-requires-clause-small : goal.read_head-requires-clause-small
+read_head-requires-clause-small g c = head_small _ _ _ c.requires.free.leads
+
+pub read_link-requires-clause-block : goal.read_link-requires-clause-block
+read_link-requires-clause-block g c =
+    let m = committed c.args.store.now in
+    let some : c.loop-page.page ≢ 0 = omega (arith, c.loop-page-test.true) in
+    (at_some m _ _
+    (free_chain m) c.loop-page.count c.loop-page.page c.loop-page.invariant.reads.keeps.committed_words
+    c.requires.free.leads c.loop-page.invariant.place some).block
+
+pub read_link-requires-clause-small : goal.read_link-requires-clause-small
+read_link-requires-clause-small g c =
+    let m = committed c.args.store.now in
+    let some : c.loop-page.page ≢ 0 = omega (arith, c.loop-page-test.true) in
+    (at_some m _ _
+    (free_chain m) c.loop-page.count c.loop-page.page c.loop-page.invariant.reads.keeps.committed_words
+    c.requires.free.leads c.loop-page.invariant.place some).small
+
+pub loop-page-preserved : goal.loop-page-preserved
+loop-page-preserved g c =
+    let m = committed c.args.store.now in
+    let some : c.loop-page.page ≢ 0 = omega (arith, c.loop-page-test.true) in
+    let here = at_some m (committed c.loop-page.store) _
+    (free_chain m) c.loop-page.count c.loop-page.page c.loop-page.invariant.reads.keeps.committed_words
+    c.requires.free.leads c.loop-page.invariant.place some in
+    record {
+      ready = c.in_ok-page-2.ensures.ready;
+      reads = reads_then _ _ _ c.loop-page.invariant.reads c.read_link.ensures.reads;
+      within = omega (arith, here.within);
+      place = c.in_ok-page-2.ensures.page ∙ here.next;
+    }
+
+pub returns-clause-count : goal.returns-clause-count
+returns-clause-count g c =
+    let m = committed c.args.store.now in
+    let none : slice_index (free_chain m) c.loop-page.count ≡ 0 =
+    omega (arith, c.loop-page-test.false, c.loop-page.invariant.place) in
+    let ended = leads_ended m _ (free_chain m) c.loop-page.count c.requires.free.leads none in
+    omega (arith, ended, c.loop-page.invariant.within)
+
+pub returns-in_err-page-2-clause-reads : goal.returns-in_err-page-2-clause-reads
+returns-in_err-page-2-clause-reads g c = reads_then _ _ _ c.loop-page.invariant.reads c.read_link.ensures.reads

@@ -1,0 +1,35 @@
+use Rattle.std.proofs.Common.{rules, ◌≡◌, ℕ, List, length, slice_set, sym, ◌∙◌, subst, arith}
+use Rattle.std.proofs.lemmas.Result.{on_ok_weaker}
+use Rattle.nvm_board.specs.Facts.{address}
+use Rattle.undo_journal.specs.Memory.{current}
+use Rattle.undo_journal.specs.Lent.{memory_of}
+use Rattle.undo_journal.specs.laws.Calls.{sets_then}
+use Rattle.block_chain.specs.Changes.{GivesBack}
+use Rattle.block_chain.specs.Parts.{first_of, joined}
+use Rattle.block_chain.specs.declared.layout.TheConstants.{HEADER_PAGE}
+use Rattle.block_chain.proofs.Giving.{gives_back, gives_none}
+use Rattle.block_chain.proofs.free.give_back.Goals as goal
+use Rattle.block_chain.specs.declared.layout.TheConstants.{FREE_HEAD_WORD}
+
+pub returns-clause-done : goal.returns-clause-done
+returns-clause-done g c =
+    let m = current (memory_of c.args.txn.now) in
+    let cs = c.args.chains.now in
+    let page : c.from.result ≡ first_of m cs = c.from.ensures ∙ c.in_ok-page.ensures.page in
+    let words : current (memory_of c.join.new.txn) ≡ joined m cs = c.in_ok-page.ensures.done in
+    let family : List ℕ → Type 0 = λ l. GivesBack m cs l in
+    on_ok_weaker c.put.result (λ
+    (done : current (memory_of c.put.new.txn) ≡ slice_set (current (memory_of c.join.new.txn))
+    (address HEADER_PAGE FREE_HEAD_WORD) c.from.result).
+    let after : current (memory_of c.put.new.txn) ≡ slice_set (joined m cs) (address HEADER_PAGE FREE_HEAD_WORD)
+    (first_of m cs) = done ∙ (λ i. slice_set (words i) (address HEADER_PAGE FREE_HEAD_WORD) (page i)) in
+    subst family (sym after)
+    (gives_back m cs c.requires.ready.current_size c.requires.free c.requires.apart)) c.put.ensures.done
+
+pub returns-clause-sets : goal.returns-clause-sets
+returns-clause-sets g c = sets_then _ _ _ _ _ _ (omega arith) c.join.ensures.sets c.put.ensures.sets
+
+pub returns-then-is_empty-clause-done : goal.returns-then-is_empty-clause-done
+returns-then-is_empty-clause-done g c =
+    let none : length c.args.chains.now ≡ 0 = search rules in
+    gives_none (current (memory_of c.args.txn.now)) c.args.chains.now none c.requires.free

@@ -1,0 +1,79 @@
+use Rattle.std.proofs.Common.{◌≡◌, ◌+◌, ◌-◌, ◌*◌, ◌<◌, ◌≤◌, ℕ, List, [], ◌∷◌, length, drop, slice_set, slice_index_or}
+use Rattle.std.proofs.Common.{sym, ◌∙◌, ap, inr, arith}
+use Rattle.std.proofs.lemmas.List.{drop_more}
+use Rattle.std.proofs.Math.Seq.{drop-length}
+use Rattle.nvm_board.specs.Facts.{address}
+use Rattle.undo_journal.specs.Memory.{current}
+use Rattle.undo_journal.specs.Lent.{memory_of}
+use Rattle.undo_journal.specs.laws.Calls.{reads_sets, sets_then}
+use Rattle.block_chain.specs.Parts.{first_of, joined}
+use Rattle.block_chain.specs.declared.chain.Chain.{Chain}
+use Rattle.block_chain.specs.laws.Chains.{head_small}
+use Rattle.block_chain.specs.laws.Joining.{joined-nil, joined-cons, length-joined, whole_block}
+use Rattle.block_chain.proofs.free.join.Goals as goal
+use Rattle.nvm_board.specs.declared.board.TheConstants.{PAGE_WORDS}
+
+pub head-requires-clause-small : goal.head-requires-clause-small
+head-requires-clause-small g c = head_small _ _ _ c.requires.free.leads
+
+pub loop-left-init : goal.loop-left-init
+loop-left-init g c =
+    let m = current (memory_of c.args.txn.now) in
+    let none : drop (length c.args.chains.now) c.args.chains.now ≡ [] = drop-length c.args.chains.now in
+    record {
+      within = omega arith;
+      ready = c.in_ok-page.ensures.ready;
+      sets = reads_sets _ _ _ c.head.ensures.reads;
+      page = c.in_ok-page.ensures.page ∙ sym (ap (first_of m) none);
+      words = c.head.ensures.reads.reads.keeps.current_words ∙ sym (ap (joined m) none ∙ joined-nil m);
+    }
+
+pub overflow_mul-chain : goal.overflow_mul-chain
+overflow_mul-chain g c =
+    let m = current (memory_of c.args.txn.now) in
+    let lt : c.loop-left.left - 1 < length c.args.chains.now =
+    omega (arith, c.loop-left.invariant.within, c.loop-left-test.true) in
+    let block = whole_block m _ (c.requires.apart.each (c.loop-left.left - 1) (record { first = 0; last = 0 }) lt) in
+    omega (arith, block.1)
+
+pub put-requires-clause-place : goal.put-requires-clause-place
+put-requires-clause-place g c =
+    let m = current (memory_of c.args.txn.now) in
+    let lt : c.loop-left.left - 1 < length c.args.chains.now =
+    omega (arith, c.loop-left.invariant.within, c.loop-left-test.true) in
+    let block = whole_block m _ (c.requires.apart.each (c.loop-left.left - 1) (record { first = 0; last = 0 }) lt) in
+    let size = c.requires.ready.current_size in
+    let same = ap (λ (l : List ℕ). length l) c.loop-left.invariant.words
+    ∙ length-joined m (drop c.loop-left.left c.args.chains.now) in
+    (inr (omega (arith, block.0)), omega (arith, block.1, size, same))
+
+pub returns-in_err-put-clause-sets : goal.returns-in_err-put-clause-sets
+returns-in_err-put-clause-sets g c =
+    let fits : length c.args.chains.now - c.loop-left.left + 1 ≤ length c.args.chains.now =
+    omega (arith, c.loop-left.invariant.within, c.loop-left-test.true) in
+    sets_then _ _ _ _ _ _ fits c.loop-left.invariant.sets c.put.ensures.sets
+
+pub loop-left-preserved : goal.loop-left-preserved
+loop-left-preserved g c =
+    let m = current (memory_of c.args.txn.now) in
+    let cs = c.args.chains.now in
+    let left = c.loop-left.left in
+    let d : Chain = record { first = 0; last = 0 } in
+    let lt : left - 1 < length cs = omega (arith, c.loop-left.invariant.within, c.loop-left-test.true) in
+    let back : left - 1 + 1 ≡ left = omega (arith, c.loop-left-test.true) in
+    let fits : length cs - left + 1 ≤ length cs - (left - 1) =
+    omega (arith, c.loop-left.invariant.within, c.loop-left-test.true) in
+    let more : drop (left - 1) cs ≡ slice_index_or cs (left - 1) d ∷ drop left cs =
+    drop_more cs (left - 1) d lt ∙ ap (λ (i : ℕ). slice_index_or cs (left - 1) d ∷ drop i cs) back in
+    let at : PAGE_WORDS * (slice_index_or cs (left - 1) d).last ≡ address (slice_index_or cs (left - 1) d).last 0 =
+    omega arith in
+    let page : c.from.result ≡ first_of m (drop left cs) = c.from.ensures ∙ c.loop-left.invariant.page in
+    record {
+      within = omega (arith, lt);
+      ready = c.in_ok-put.ensures.ready;
+      sets = sets_then _ _ _ _ _ _ fits c.loop-left.invariant.sets c.put.ensures.sets;
+      page = sym (ap (first_of m) more);
+      words = c.in_ok-put.ensures.done
+          ∙ (λ i. slice_set (c.loop-left.invariant.words i) (at i) (page i))
+          ∙ sym (ap (joined m) more ∙ joined-cons m _ _);
+    }

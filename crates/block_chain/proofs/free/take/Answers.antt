@@ -1,0 +1,45 @@
+use Rattle.std.proofs.Common.{◌≡◌, ◌*◌, ℕ, List, slice_set, sym, ◌∙◌, ap₂, subst, refl, arith}
+use Rattle.nvm_board.specs.Facts.{address}
+use Rattle.undo_journal.specs.Memory.{current}
+use Rattle.undo_journal.specs.Lent.{memory_of}
+use Rattle.undo_journal.specs.laws.Calls.{sets_then, reads_sets}
+use Rattle.block_chain.specs.Changes.{Takes}
+use Rattle.block_chain.specs.declared.layout.TheConstants.{HEADER_PAGE}
+use Rattle.block_chain.proofs.Taking.{takes}
+use Rattle.block_chain.proofs.free.take.Goals as goal
+use Rattle.nvm_board.specs.declared.board.TheConstants.{PAGE_WORDS}
+use Rattle.block_chain.specs.declared.layout.TheConstants.{FREE_HEAD_WORD}
+
+pub returns-in_err-put-clause-sets : goal.returns-in_err-put-clause-sets
+returns-in_err-put-clause-sets g c =
+    sets_then 0 1 2 _ _ _ (omega arith) (reads_sets _ _ _ c.first_free.ensures.reads) c.put.ensures.sets
+
+pub returns-in_err-put-2-clause-sets : goal.returns-in_err-put-2-clause-sets
+returns-in_err-put-2-clause-sets g c =
+    sets_then 1 1 2 _ _ _ (omega arith) (sets_then 0 1 1 _ _ _ (omega arith)
+    (reads_sets _ _ _ c.first_free.ensures.reads) c.put.ensures.sets) c.put-2.ensures.sets
+
+pub returns-clause-sets : goal.returns-clause-sets
+returns-clause-sets g c =
+    sets_then 1 1 2 _ _ _ (omega arith) (sets_then 0 1 1 _ _ _ (omega arith)
+    (reads_sets _ _ _ c.first_free.ensures.reads) c.put.ensures.sets) c.put-2.ensures.sets
+
+pub returns-clause-done : goal.returns-clause-done
+returns-clause-done g c =
+    let m = current (memory_of c.args.txn.now) in
+    let chain = c.in_ok-chain.chain in
+    let rest = c.in_ok-chain.rest in
+    let found = c.in_ok-chain.ensures.found in
+    let read = c.first_free.ensures.reads.reads.keeps.current_words in
+    let first : current (memory_of c.put.new.txn) ≡ slice_set m (address chain.last 0) 0 =
+    let at : PAGE_WORDS * chain.last ≡ address chain.last 0 = omega arith in
+    c.in_ok-put.ensures.done ∙ ap₂ (λ (l : List ℕ) (k : ℕ). slice_set l k 0) read at in
+    let word : c.from.result ≡ rest = c.from.ensures in
+    let after : current (memory_of c.put-2.new.txn) ≡ slice_set (slice_set m (address chain.last 0) 0)
+    (address HEADER_PAGE FREE_HEAD_WORD) rest =
+    c.in_ok-put-2.ensures.done
+    ∙ ap₂ (λ (l : List ℕ) (w : ℕ). slice_set l (address HEADER_PAGE FREE_HEAD_WORD) w) first word in
+    let family : List ℕ → Type 0 = λ l. Takes m c.args.n chain l in
+    subst family (sym after)
+    (takes m c.args.n chain.last rest c.requires.ready.current_size c.requires.free c.requires.some c.requires.enough
+    found.last found.after chain found.first refl)

@@ -1,0 +1,32 @@
+use Rattle.std.proofs.Common.{◌<◌, length, ◌∙◌, arith}
+use Rattle.undo_journal.specs.Memory.{committed}
+use Rattle.undo_journal.specs.laws.Calls.{reads_then}
+use Rattle.block_chain.specs.Chains.{chain}
+use Rattle.block_chain.specs.laws.Chains.{at_block}
+use Rattle.block_chain.proofs.reading.block_at.Goals as goal
+
+pub read_link-requires-clause-block : goal.read_link-requires-clause-block
+read_link-requires-clause-block g c =
+    let within : c.loop-i._i < length (chain (committed c.args.store.now) c.args.first) =
+    omega (arith, c.requires.within, c.loop-i-test.true) in
+    (at_block _ _ _ _ _ _ c.loop-i.invariant.reads.keeps.committed_words c.requires.leads c.loop-i.invariant.place
+    within).block
+
+pub read_link-requires-clause-small : goal.read_link-requires-clause-small
+read_link-requires-clause-small g c =
+    let within : c.loop-i._i < length (chain (committed c.args.store.now) c.args.first) =
+    omega (arith, c.requires.within, c.loop-i-test.true) in
+    (at_block _ _ _ _ _ _ c.loop-i.invariant.reads.keeps.committed_words c.requires.leads c.loop-i.invariant.place
+    within).small
+
+pub loop-i-preserved : goal.loop-i-preserved
+loop-i-preserved g c =
+    let within : c.loop-i._i < length (chain (committed c.args.store.now) c.args.first) =
+    omega (arith, c.requires.within, c.loop-i-test.true) in
+    let at = at_block _ _ _ _ _ _ c.loop-i.invariant.reads.keeps.committed_words c.requires.leads
+    c.loop-i.invariant.place within in
+    record {
+      ready = c.in_ok-page.ensures.ready;
+      reads = reads_then _ _ _ c.loop-i.invariant.reads c.read_link.ensures.reads;
+      place = c.in_ok-page.ensures.page ∙ at.next;
+    }

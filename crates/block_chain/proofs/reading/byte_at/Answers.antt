@@ -1,0 +1,35 @@
+use Rattle.std.proofs.Common.{◌≡◌, ◌+◌, ◌/◌, ◌%◌, ◌<◌, ℕ, List, length, slice_index, sym, ◌∙◌, ap, ap₂, subst}
+use Rattle.std.proofs.Common.{arith}
+use Rattle.undo_journal.specs.Memory.{committed}
+use Rattle.block_chain.specs.declared.layout.TheConstants.{BLOCK_BYTES, BLOCK_WORDS}
+use Rattle.block_chain.specs.Words.{word, word_bytes, IsBlock}
+use Rattle.block_chain.specs.Chains.{chain_of}
+use Rattle.block_chain.specs.laws.Chains.{leads_block}
+use Rattle.block_chain.specs.laws.Bytes.{content_word, leads_blocks, index-bytes_of}
+use Rattle.block_chain.proofs.reading.byte_at.Goals as goal
+
+pub read_word-requires-clause-block : goal.read_word-requires-clause-block
+read_word-requires-clause-block g c =
+    let m = committed c.args.store.now in
+    let ps = chain_of m c.args.chain in
+    let place_in : c.args.offset / BLOCK_BYTES < length ps = omega (arith, c.requires.within) in
+    let family : ℕ → Type 0 = λ q. IsBlock q in
+    subst family (sym c.in_ok-page.ensures.page) (leads_block m _ 0 ps
+    (c.args.offset / BLOCK_BYTES) c.requires.leads place_in)
+
+pub returns-clause-byte : goal.returns-clause-byte
+returns-clause-byte g c =
+    let m = committed c.args.store.now in
+    let ps = chain_of m c.args.chain in
+    let offset = c.args.offset in
+    let place : offset / BLOCK_BYTES ≡ offset / 4 / BLOCK_WORDS = omega arith in
+    let page : c.in_ok-page.page ≡ slice_index ps (offset / 4 / BLOCK_WORDS) =
+    c.in_ok-page.ensures.page ∙ ap (slice_index ps) place in
+    let words = c.block_at.ensures.reads.keeps.committed_words in
+    let read : c.in_ok-word.word ≡ content_word m ps (offset / 4) =
+    c.in_ok-word.ensures.word ∙ ap₂ (λ (l : List ℕ) (q : ℕ). word l q (1 + offset / 4 % BLOCK_WORDS)) words page in
+    let byte : c.from.result ≡ offset % 4 = c.from.ensures in
+    c.byte_of.ensures ∙ ap (slice_index (word_bytes c.in_ok-word.word)) byte
+    ∙ ap (λ (w : ℕ). slice_index (word_bytes w) (offset % 4)) read
+    ∙ sym (index-bytes_of m ps offset c.requires.ready.usable.committed_size
+    (leads_blocks m _ 0 ps c.requires.leads) c.requires.within)

@@ -1,0 +1,5 @@
+use Rattle.std.proofs.Common.{List, ℕ, ap, slice_index}
+use Rattle.block_chain.proofs.reading.byte_of.Goals as goal
+
+pub returns : goal.returns
+returns c = ap (λ (bytes : List ℕ). slice_index bytes c.args.place) c.to_be_bytes.ensures

@@ -1,0 +1,19 @@
+use Rattle.std.proofs.Common.{◌≡◌, ◌+◌, ◌*◌, ◌/◌, ◌%◌, slice_index, sym, ◌∙◌, inr, arith}
+use Rattle.std.proofs.lemmas.Result.{IfOk-weaker}
+use Rattle.nvm_board.specs.Facts.{address}
+use Rattle.nvm_board.specs.declared.board.TheConstants.{PAGE_WORDS}
+use Rattle.block_chain.specs.declared.layout.TheConstants.{BLOCK_WORDS}
+use Rattle.block_chain.proofs.reading.read_word.Goals as goal
+
+pub read-requires : goal.read-requires
+read-requires g c =
+    let block = c.requires.block in
+    let size = c.requires.ready.usable.current_size in
+    (inr (omega (arith, block.0)), omega (arith, block.1, size))
+
+pub returns-clause-word : goal.returns-clause-word
+returns-clause-word g c =
+    let at : PAGE_WORDS * c.args.page + 1 + c.args.offset / 4 % BLOCK_WORDS ≡ address c.args.page
+    (1 + c.args.offset / 4 % BLOCK_WORDS) = omega arith in
+    IfOk-weaker c.read.result _ _
+    (λ word is. is ∙ (λ i. slice_index (sym c.requires.ready.same i) (at i))) c.read.ensures.word

@@ -1,0 +1,16 @@
+use Rattle.std.proofs.Common.{◌≡◌, ◌≤◌, length}
+use Rattle.undo_journal.specs.Memory.{committed, IsReady}
+use Rattle.undo_journal.specs.Calls.{OnlyReads}
+use Rattle.block_chain.specs.declared.layout.TheConstants.{BLOCKS}
+use Rattle.block_chain.specs.Chains.{free_chain}
+use Rattle.block_chain.specs.laws.Laying.{AreLaidSoFar}
+use Rattle.block_chain.proofs.walk.lay.Given as goal
+
+abbrev pub invariant-loop-i : goal.invariant-loop-i
+invariant-loop-i g l = let m = committed l.fn.store in record {
+  ready : IsReady l.store;
+  reads : OnlyReads l.fn.store l.store;
+  most : l.blocks ≤ BLOCKS;
+  free : l.free ≡ length (free_chain m);
+  so_far : AreLaidSoFar m l.extents l._i l.seen l.blocks;
+}

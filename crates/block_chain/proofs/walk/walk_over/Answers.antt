@@ -1,0 +1,86 @@
+use Rattle.std.proofs.Common.{rules, ◌≡◌, ◌≢◌, ◌+◌, ◌-◌, ◌*◌, ◌<◌, ℕ, List, length, slice_index, slice_set, IsTrue}
+use Rattle.std.proofs.Common.{sym, ◌∙◌, ap, subst, arith}
+use Rattle.nvm_board.specs.Facts.{address}
+use Rattle.undo_journal.specs.Memory.{committed, current}
+use Rattle.undo_journal.specs.laws.Calls.{reads_then, reads_same}
+use Rattle.block_chain.specs.Counts.{count}
+use Rattle.block_chain.specs.Parts.{marked}
+use Rattle.block_chain.specs.Words.{link, IsBlock}
+use Rattle.block_chain.specs.declared.layout.TheConstants.{BLOCKS, FIRST_BLOCK_PAGE}
+use Rattle.block_chain.specs.laws.Walking.{HasWalked, walked_none, walked_more, walked_all, walked_fresh}
+use Rattle.block_chain.specs.laws.Walking.{stale_long, stale_next, last_more, pages_zero}
+use Rattle.block_chain.proofs.walk.walk_over.Goals as goal
+use Rattle.block_chain.proofs.walk.walk_over.Goals.{then-loop-blocks-test+else-page-ne0, else-loop-blocks-test}
+use Rattle.nvm_board.specs.declared.board.TheConstants.{PAGE_WORDS}
+
+pub loop-blocks-init : goal.loop-blocks-init
+loop-blocks-init g c = record {
+  ready = c.requires.ready;
+  reads = reads_same _;
+  within = omega arith;
+  walked = walked_none _ _ _ c.requires.marks;
+  last = sym (ap (λ (ps : List ℕ). slice_index ps 0) (pages_zero (committed c.args.store.now) c.args.first));
+}
+
+pub loop-blocks-preserved : goal.loop-blocks-preserved
+loop-blocks-preserved g c =
+    let m = committed c.args.store.now in
+    let page = c.loop-blocks.page in
+    let invariant = c.loop-blocks.invariant in
+    let fits : c.loop-blocks.blocks < BLOCKS = omega (arith, c.loop-blocks-test.true) in
+    let some : page ≢ 0 = search rules in
+    let fit : IsBlock page × (marked c.loop-blocks.seen page ≡ 0) =
+    (let yes : IsTrue c.mark.result = search rules in c.mark.ensures.new.0 yes) in
+    let seen : c.mark.new.seen ≡ slice_set c.loop-blocks.seen (page - FIRST_BLOCK_PAGE) 1 = search rules in
+    let next : c.in_ok-page.page ≡ link m page =
+    (let at : PAGE_WORDS * page ≡ address page 0 = omega arith in c.in_ok-page.ensures.word
+    ∙ ap (λ (k : ℕ). slice_index (current c.loop-blocks.store) k) at)
+    ∙ ap (λ (l : List ℕ). link l page) (sym invariant.ready.same ∙ invariant.reads.keeps.committed_words) in
+    let more = walked_more m c.args.first c.loop-blocks.blocks page c.args.seen.now c.loop-blocks.seen invariant.walked
+    fits some fit.0 fit.1 in
+    record {
+      ready = search rules;
+      reads = reads_then _ _ _ invariant.reads c.read.ensures.reads;
+      within = omega (arith, fits);
+      walked = (let family : ℕ → List ℕ
+          → Type 0 = λ p l. HasWalked m c.args.first (c.loop-blocks.blocks + 1) p c.args.seen.now l in
+          subst (λ (p : ℕ). family p c.mark.new.seen) (sym next) (subst (family (link m page)) (sym seen) more));
+      last = last_more m c.args.first c.loop-blocks.blocks page c.args.seen.now c.loop-blocks.seen invariant.walked
+          fits some;
+    }
+
+pub returns-then-not-mark-clause-stale : goal.returns-then-not-mark-clause-stale
+returns-then-not-mark-clause-stale g c = λ _.
+    let m = committed c.args.store.now in
+    let page = c.loop-blocks.page in
+    let fits : c.loop-blocks.blocks < BLOCKS = omega (arith, c.loop-blocks-test.true) in
+    let some : page ≢ 0 = search rules in
+    stale_next m c.args.first c.loop-blocks.blocks page c.args.seen.now c.loop-blocks.seen
+    c.loop-blocks.invariant.walked fits some (λ fit. let yes : IsTrue c.mark.result = c.mark.ensures.new.1 fit in
+    cc)
+
+pub returns-then-page-ne0-2-clause-stale : goal.returns-then-page-ne0-2-clause-stale
+returns-then-page-ne0-2-clause-stale g c = λ _.
+    let m = committed c.args.store.now in
+    let page = c.loop-blocks.page in
+    let some : page ≢ 0 = search rules in
+    stale_long m c.args.first c.loop-blocks.blocks page c.args.seen.now c.loop-blocks.seen
+    c.loop-blocks.invariant.walked (elim c.loop-blocks-test.branch [
+      | then-loop-blocks-test+else-page-ne0 w ↦ absurd (some (let none : page ≡ 0 = search rules in none))
+      | else-loop-blocks-test w ↦ omega (arith, w.loop-blocks-test.false, c.loop-blocks.invariant.within)
+    ]) some
+
+pub returns-clause-walked : goal.returns-clause-walked
+returns-clause-walked g c =
+    let none : c.loop-blocks.page ≡ 0 = search rules in
+    let invariant = c.loop-blocks.invariant in
+    let all = walked_all
+    (committed c.args.store.now) c.args.first c.loop-blocks.blocks _ _ _ invariant.walked invariant.within none in
+    record {
+      fresh = walked_fresh _ _ c.loop-blocks.blocks _ _ _ invariant.walked invariant.within none;
+      blocks = sym (ap (λ (ps : List ℕ). length ps) all ∙ invariant.walked.long);
+      last = invariant.last ∙ sym (ap (λ (ps : List ℕ). slice_index ps (c.loop-blocks.blocks - 1)) all);
+      marks = λ q block. invariant.walked.marks q block
+          ∙ sym (ap (λ (ps : List ℕ). marked c.args.seen.now q + count q ps) all);
+      fine = invariant.walked.fine;
+    }

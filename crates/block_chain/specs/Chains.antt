@@ -1,0 +1,66 @@
+-- Chains of blocks in a memory, as lists of pages.
+use Rattle.std.specs.Prelude.{◌≡◌, ◌==◌, ◌≤◌, ◌-◌, ℕ, zero, suc, if◌then◌else◌}
+use Rattle.std.specs.Prelude.{List, [], ◌∷◌, ◌++◌, length, slice_index, All}
+use Rattle.std.specs.List.{flat_map}
+use Rattle.block_chain.specs.declared.layout.TheConstants.{FREE_HEAD, BLOCKS}
+use Rattle.block_chain.specs.declared.chain.Chain.{Chain}
+use Rattle.block_chain.specs.Words.{link, block_bytes, IsBlock}
+use Rattle.block_chain.specs.Counts.{NoneTwice}
+
+-- the links lead from a page over these blocks to this page
+abbrev pub Leads : List ℕ → ℕ → List ℕ → ℕ → Type 0
+Leads m from [] to = from ≡ to
+Leads m from (p ∷ ps) to = (from ≡ p) × IsBlock p × Leads m (link m p) ps to
+
+-- the pages that the links lead over from a page on, at most so many, up to the link 0
+unfoldable pub pages_from : List ℕ → ℕ → ℕ → List ℕ
+pages_from m zero page = []
+pages_from m (suc n) page = if page == 0 then [] else page ∷ pages_from m n (link m page)
+
+-- the chain from a page on, with at most as many links as there are blocks
+abbrev pub chain : List ℕ → ℕ → List ℕ
+chain m page = pages_from m BLOCKS page
+
+-- the chain of the free blocks, which the header begins
+abbrev pub free_chain : List ℕ → List ℕ
+free_chain m = chain m (slice_index m FREE_HEAD)
+
+-- the bytes of these blocks
+unfoldable pub bytes_of : List ℕ → List ℕ → List ℕ
+bytes_of m ps = flat_map (block_bytes m) ps
+
+-- These are the blocks of the chain from a page on: no block stands twice, the last links to 0. (No list of blocks
+-- without
+-- twins has more than there are; it is said here so that no proof has to count.)
+pub record IsChain (m : List ℕ) (from : ℕ) (ps : List ℕ) : Type 0 where
+  pub leads : Leads m from ps 0
+  pub once : NoneTwice ps
+  pub size : length ps ≤ BLOCKS
+
+-- the free blocks are a chain
+abbrev pub HasFree : List ℕ → Type 0
+HasFree m = IsChain m (slice_index m FREE_HEAD) (free_chain m)
+
+-- the blocks of a chain that is named by its first and its last one
+abbrev pub chain_of : List ℕ → Chain → List ℕ
+chain_of m c = chain m c.first
+
+-- and its bytes
+abbrev pub chain_bytes : List ℕ → Chain → List ℕ
+chain_bytes m c = bytes_of m (chain_of m c)
+
+-- the chain has blocks, and its last is the one named
+pub record IsWhole (m : List ℕ) (c : Chain) : Type 0 where
+  pub leads : Leads m c.first (chain_of m c) 0
+  pub some : 1 ≤ length (chain_of m c)
+  pub last : c.last ≡ slice_index (chain_of m c) (length (chain_of m c) - 1)
+
+-- the blocks of chains, laid end to end
+unfoldable pub laid : List ℕ → List Chain → List ℕ
+laid m cs = flat_map (chain_of m) cs
+
+-- Chains that can be given back: each is whole, and no block stands twice in them and the free chain.
+pub record AreApart (m : List ℕ) (cs : List Chain) : Type 0 where
+  pub each : All (IsWhole m) cs
+  pub once : NoneTwice (laid m cs ++ free_chain m)
+  pub size : length (laid m cs ++ free_chain m) ≤ BLOCKS

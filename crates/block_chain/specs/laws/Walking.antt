@@ -1,0 +1,220 @@
+-- Laws of a walk over a chain that marks its blocks, to find whether it ends and comes to no marked one.
+use Rattle.std.proofs.Common.{refl, sym, ◌∙◌, ap, ap₂, subst, arith, inl, inr, get_or-set_same, get_or-set_other}
+use Rattle.std.proofs.Math.ListN.{length-set}
+use Rattle.std.proofs.lemmas.Bool.Decides.{eqb_tells}
+use Rattle.std.proofs.lemmas.List.{length-append, get_or_push}
+use Rattle.std.specs.Prelude.{◌≡◌, ◌≢◌, ◌<◌, ◌≤◌, ◌+◌, ◌-◌, ℕ, zero, suc, Bool, if◌then◌else◌, List, [], ◌∷◌, ◌++◌}
+use Rattle.std.specs.Prelude.{length, slice_index, slice_set}
+use Rattle.block_chain.specs.Chains.{Leads, pages_from, chain}
+use Rattle.block_chain.specs.Counts.{count}
+use Rattle.block_chain.specs.Parts.{marked, AreMarks, IsFresh, Marks}
+use Rattle.block_chain.specs.Words.{link, IsBlock}
+use Rattle.block_chain.specs.declared.layout.TheConstants.{FIRST_BLOCK_PAGE, BLOCKS}
+use Rattle.block_chain.specs.laws.Chains.{leads_then, leads_on}
+use Rattle.block_chain.specs.laws.Counts.{count-append, count-here, count-other, count-nil}
+
+-- n blocks were walked over and marked, up to this page
+pub record HasWalked (m : List ℕ) (from n page : ℕ) (old new : List ℕ) : Type 0 where
+  pub leads : Leads m from (pages_from m n from) page
+  pub long : length (pages_from m n from) ≡ n
+  pub marks : Marks old (pages_from m n from) new
+  pub fine : AreMarks new
+
+pub pages_zero : (m : List ℕ) (from : ℕ) → pages_from m 0 from ≡ []
+unfolding pages_from
+pages_zero m from = refl
+
+-- more pages, after those that lead to one
+pub pages_on : (m : List ℕ) (i j from page : ℕ) → Leads m from (pages_from m i from) page
+    → length (pages_from m i from) ≡ i
+    → pages_from m (i + j) from ≡ pages_from m i from ++ pages_from m j page
+unfolding pages_from
+pages_on m zero j from page leads long =
+    let z : zero + j ≡ j = omega arith in ap₂ (λ (n p : ℕ). pages_from m n p) z leads
+pages_on m (suc i) j from page leads long = elim (eqb_tells from 0) [
+  | inl same ↦ absurd (
+      let none : length (pages_from m (suc i) from) ≡ 0 =
+      ap (λ (b : Bool). length (if b then [] else from ∷ pages_from m i (link m from))) same.0 in
+      omega (arith, none, long))
+  | inr other ↦
+      let n : suc i + j ≡ suc (i + j) = omega arith in
+      let here : pages_from m (suc i) from ≡ from ∷ pages_from m i (link m from) =
+      ap (λ (b : Bool). if b then [] else from ∷ pages_from m i (link m from)) other.0 in
+      let family : List ℕ → Type 0 = λ ps. Leads m from ps page in
+      let way = subst family here leads in
+      let size : length (pages_from m i (link m from)) ≡ i = let l = ap (λ (ps : List ℕ). length ps) here in
+      omega (arith, l, long) in
+      ap (λ (k : ℕ). pages_from m k from) n
+      ∙ ap (λ (b : Bool). if b then [] else from ∷ pages_from m (i + j) (link m from)) other.0
+      ∙ ap (λ (ps : List ℕ). from ∷ ps) (pages_on m i j (link m from) page way.2 size)
+      ∙ sym (ap (λ (ps : List ℕ). ps ++ pages_from m j page) here)
+]
+
+pub pages_some : (m : List ℕ) (n page : ℕ) → page ≢ 0 → pages_from m (suc n) page ≡ page ∷ pages_from m n (link m page)
+unfolding pages_from
+pages_some m n page some = elim (eqb_tells page 0) [
+  | inl same ↦ absurd (some same.1)
+  | inr other ↦ ap (λ (b : Bool). if b then [] else page ∷ pages_from m n (link m page)) other.0
+]
+
+pub pages_end : (m : List ℕ) (n page : ℕ) → page ≡ 0 → pages_from m n page ≡ []
+unfolding pages_from
+pages_end m zero page none = refl
+pages_end m (suc n) page none = elim (eqb_tells page 0) [
+  | inl same ↦ ap (λ (b : Bool). if b then [] else page ∷ pages_from m n (link m page)) same.0
+  | inr other ↦ absurd (other.1 none)
+]
+
+-- the way over some blocks ends at one page
+pub leads_one : (m : List ℕ) (from : ℕ) (ps : List ℕ) (to end : ℕ) → Leads m from ps to → Leads m from ps end → to ≡ end
+leads_one m from [] to end a b = sym a ∙ b
+leads_one m from (p ∷ ps) to end a b = leads_one m (link m p) ps to end a.2 b.2
+
+-- no block yet
+pub walked_none : (m : List ℕ) (from : ℕ) (seen : List ℕ) → AreMarks seen → HasWalked m from 0 from seen seen
+walked_none m from seen fine = record {
+  leads = (let family : List ℕ → Type 0 = λ ps. Leads m from ps from in subst family (sym (pages_zero m from)) refl);
+  long = ap (λ (ps : List ℕ). length ps) (pages_zero m from);
+  marks = λ page block. let none : count page (pages_from m 0 from) ≡ 0 = ap (count page) (pages_zero m from)
+      ∙ count-nil page in omega (arith, none);
+  fine = fine;
+}
+
+module _ (m : List ℕ) (from n page : ℕ) (old new : List ℕ) (walked : HasWalked m from n page old new) where
+  -- the chain is what was walked over, and the rest
+  rest_of : n ≤ BLOCKS → chain m from ≡ pages_from m n from ++ pages_from m (BLOCKS - n) page
+  rest_of fits = let all : BLOCKS ≡ n + (BLOCKS - n) = omega arith in ap (λ (k : ℕ). pages_from m k from) all
+      ∙ pages_on m n (BLOCKS - n) from page walked.leads walked.long
+
+  -- at the end
+  pub walked_all : n ≤ BLOCKS → page ≡ 0 → chain m from ≡ pages_from m n from
+  walked_all fits none = rest_of fits
+      ∙ ap (λ (ps : List ℕ). pages_from m n from ++ ps) (pages_end m (BLOCKS - n) page none)
+      ∙ append_nil (pages_from m n from)
+    where
+      append_nil : (ps : List ℕ) → ps ++ [] ≡ ps
+      append_nil [] = refl
+      append_nil (p ∷ ps) = ap (λ (qs : List ℕ). p ∷ qs) (append_nil ps)
+
+  pub walked_fresh : n ≤ BLOCKS → page ≡ 0 → IsFresh m old from
+  walked_fresh fits none = record {
+    leads = (
+        let family : List ℕ → Type 0 = λ ps. Leads m from ps 0 in
+        let to : ℕ → Type 0 = λ p. Leads m from (pages_from m n from) p in
+        subst family (sym (walked_all fits none)) (subst to none walked.leads));
+    once = λ q block.
+        let same : count q (chain m from) ≡ count q (pages_from m n from) = ap (count q) (walked_all fits none) in
+        let marks = walked.marks q block in
+        let most = walked.fine.each q block in
+        omega (arith, same, marks, most);
+  }
+
+  -- a chain that goes on where all blocks were walked over does not end
+  pub stale_long : n ≡ BLOCKS → page ≢ 0 → (IsFresh m old from → ⊥)
+  stale_long all some fresh =
+      let family : ℕ → Type 0 = λ k. Leads m from (pages_from m k from) 0 in
+      some (leads_one m from (pages_from m n from) page 0 walked.leads (subst family (sym all) fresh.leads))
+
+  -- the next block
+  next_of : n < BLOCKS → page ≢ 0
+      → chain m from ≡ pages_from m n from ++ page ∷ pages_from m (BLOCKS - n - 1) (link m page)
+  next_of fits some =
+      let less : n ≤ BLOCKS = omega arith in
+      let one : BLOCKS - n ≡ suc (BLOCKS - n - 1) = omega arith in
+      rest_of less ∙ ap (λ (k : ℕ). pages_from m n from ++ pages_from m k page) one
+      ∙ ap (λ (ps : List ℕ). pages_from m n from ++ ps) (pages_some m (BLOCKS - n - 1) page some)
+
+  pub stale_block : n < BLOCKS → page ≢ 0 → (IsBlock page → ⊥) → (IsFresh m old from → ⊥)
+  stale_block fits some outside fresh =
+      let family : List ℕ → Type 0 = λ ps. Leads m from ps 0 in
+      outside (leads_on m from 0 page (pages_from m n from) _ (subst family (next_of fits some) fresh.leads)).0
+
+  pub stale_mark : n < BLOCKS → page ≢ 0 → IsBlock page → marked new page ≢ 0 → (IsFresh m old from → ⊥)
+  stale_mark fits some block mark fresh =
+      let whole : count page (chain m from) ≡ count page (pages_from m n from ++ page ∷ pages_from m (BLOCKS - n - 1)
+      (link m page)) = ap (count page) (next_of fits some) in
+      let parts = count-append page (pages_from m n from) (page ∷ pages_from m (BLOCKS - n - 1) (link m page)) in
+      let here = count-here page (pages_from m (BLOCKS - n - 1) (link m page)) in
+      let marks = walked.marks page block in
+      let most = fresh.once page block in
+      omega (arith, whole, parts, here, marks, most, mark)
+
+  -- one block more
+  pub walked_more : n < BLOCKS → page ≢ 0 → IsBlock page → marked new page ≡ 0
+      → HasWalked m from (n + 1) (link m page) old (slice_set new (page - FIRST_BLOCK_PAGE) 1)
+  walked_more fits some block free =
+      let one : pages_from m 1 page ≡ page ∷ [] =
+      pages_some m 0 page some ∙ ap (λ (ps : List ℕ). page ∷ ps) (pages_zero m (link m page)) in
+      let more : pages_from m (n + 1) from ≡ pages_from m n from ++ page ∷ [] =
+      pages_on m n 1 from page walked.leads walked.long ∙ ap (λ (ps : List ℕ). pages_from m n from ++ ps) one in
+      let family : List ℕ → Type 0 = λ ps. Leads m from ps (link m page) in
+      let size = walked.fine.size in
+      let inside : page - FIRST_BLOCK_PAGE < length new = omega (arith, size, block.0, block.1) in
+      let each : (q : ℕ) → IsBlock q
+      → marked (slice_set new (page - FIRST_BLOCK_PAGE) 1) q ≡ marked old q + count q (pages_from m (n + 1) from) =
+      λ q is.
+      let whole : count q (pages_from m (n + 1) from) ≡ count q (pages_from m n from) + count q (page ∷ []) =
+      ap (count q) more ∙ count-append q (pages_from m n from) (page ∷ []) in
+      let marks = walked.marks q is in
+      elim (eqb_tells q page) [
+        | inl same ↦
+            let there : marked (slice_set new (page - FIRST_BLOCK_PAGE) 1) q ≡ 1 =
+            ap (λ (k : ℕ). marked (slice_set new (page - FIRST_BLOCK_PAGE) 1) k) same.1
+            ∙ get_or-set_same new (page - FIRST_BLOCK_PAGE) 1 0 inside in
+            let was : marked new q ≡ 0 = ap (λ (k : ℕ). marked new k) same.1 ∙ free in
+            let here : count q (page ∷ []) ≡ 1 =
+            ap (λ (k : ℕ). count k (page ∷ [])) same.1 ∙ count-here page []
+            ∙ (let nil = count-nil page in let z : 1 + count page [] ≡ 1 = omega (arith, nil) in z) in
+            omega (arith, there, was, here, whole, marks)
+        | inr other ↦
+            let apart : q - FIRST_BLOCK_PAGE ≢ page - FIRST_BLOCK_PAGE =
+            λ e. other.1 (let z : q ≡ page = omega (arith, e, is.0, block.0) in z) in
+            let kept : marked (slice_set new (page - FIRST_BLOCK_PAGE) 1) q ≡ marked new q =
+            get_or-set_other new (page - FIRST_BLOCK_PAGE) (q - FIRST_BLOCK_PAGE) 1 0 apart in
+            let none : count q (page ∷ []) ≡ 0 = count-other q page [] other.1 ∙ count-nil q in
+            omega (arith, kept, none, whole, marks)
+      ] in
+      record {
+        leads = subst family (sym more) (leads_then m from page (link m page) (pages_from m n from)
+            (page ∷ []) walked.leads (refl, block, refl));
+        long = (let l =
+            ap (λ (ps : List ℕ). length ps) more in let a =
+            length-append (pages_from m n from) (page ∷ []) in let w = walked.long in omega (arith, l, a, w));
+        marks = each;
+        fine = record {
+          size = length-set new (page - FIRST_BLOCK_PAGE) 1 ∙ size;
+          each = λ q is. elim (eqb_tells q page) [
+            | inl same ↦
+                let there : marked (slice_set new (page - FIRST_BLOCK_PAGE) 1) q ≡ 1 =
+                ap (λ (k : ℕ). marked (slice_set new (page - FIRST_BLOCK_PAGE) 1) k) same.1
+                ∙ get_or-set_same new (page - FIRST_BLOCK_PAGE) 1 0 inside in
+                omega (arith, there)
+            | inr other ↦
+                let apart : q - FIRST_BLOCK_PAGE ≢ page - FIRST_BLOCK_PAGE =
+                λ e. other.1 (let z : q ≡ page = omega (arith, e, is.0, block.0) in z) in
+                let kept : marked (slice_set new (page - FIRST_BLOCK_PAGE) 1) q ≡ marked new q =
+                get_or-set_other new (page - FIRST_BLOCK_PAGE) (q - FIRST_BLOCK_PAGE) 1 0 apart in
+                let most = walked.fine.each q is in
+                omega (arith, kept, most)
+          ];
+        };
+      }
+
+  -- the next is no block, or one that was marked
+  pub stale_next : n < BLOCKS → page ≢ 0 → (IsBlock page × (marked new page ≡ 0) → ⊥) → (IsFresh m old from → ⊥)
+  stale_next fits some unfit fresh =
+      let family : List ℕ → Type 0 = λ ps. Leads m from ps 0 in
+      let block : IsBlock page =
+      (leads_on m from 0 page (pages_from m n from) _ (subst family (next_of fits some) fresh.leads)).0 in
+      stale_mark fits some block (λ free. unfit (block, free)) fresh
+
+  -- the last block that was walked over, and one more
+  pub last_more : n < BLOCKS → page ≢ 0 → page ≡ slice_index (pages_from m (n + 1) from) (n + 1 - 1)
+  last_more fits some =
+      let one : pages_from m 1 page ≡ page ∷ [] =
+      pages_some m 0 page some ∙ ap (λ (ps : List ℕ). page ∷ ps) (pages_zero m (link m page)) in
+      let more : pages_from m (n + 1) from ≡ pages_from m n from ++ page ∷ [] =
+      pages_on m n 1 from page walked.leads walked.long ∙ ap (λ (ps : List ℕ). pages_from m n from ++ ps) one in
+      let place : length (pages_from m n from) ≡ n + 1 - 1 = let l = walked.long in omega (arith, l) in
+      sym (ap (λ (ps : List ℕ). slice_index ps (n + 1 - 1)) more
+      ∙ get_or_push (pages_from m n from) page 0 (n + 1 - 1) place)

@@ -1,0 +1,169 @@
+//! Bytes of a chain that are set within a transaction, and of free blocks that are filled before one.
+ghost use Rattle.std.specs.Prelude.{◌≡◌, ◌+◌, ◌-◌, ◌*◌, ◌/◌, ◌<◌, ◌≤◌, ℕ, length, take, replicate, IfOk, OnOk};
+ghost use Rattle.std.specs.Prelude.{slice_index};
+ghost use Rattle.std.specs.Result.{result_err};
+ghost use Rattle.block_chain.specs.declared.layout.TheConstants.{BLOCK_BYTES, BLOCK_WORDS};
+ghost use Rattle.block_chain.specs.Changes.{touched_words};
+ghost use Rattle.undo_journal.specs.Memory.{committed, current, room, IsOpen, IsReady, IsIdle, Reports};
+ghost use Rattle.undo_journal.specs.Spending.{WritesAtMost};
+ghost use Rattle.undo_journal.specs.Calls.{Sets, TxnReads};
+ghost use Rattle.block_chain.specs.Chains.{free_chain, bytes_of, IsChain, chain_of, HasFree};
+ghost use Rattle.block_chain.specs.Changes.{OnlyContent, Overwrites};
+ghost use Rattle.block_chain.specs.Parts.{filled_word, byte_over, PutsWord};
+ghost use Rattle.block_chain.specs.Words.{word_bytes, IsBlock};
+ghost use Rattle.nvm_board.specs.Facts.{address};
+ghost use Rattle.nvm_board.specs.Torn.{Torn, written};
+ghost use Rattle.undo_journal.specs.Lent.{memory_of};
+ghost use Rattle.undo_journal.specs.Undo.{IsDataAddress};
+
+use crate::chain::Chain;
+use crate::layout::{BLOCK_BYTES, BLOCK_WORDS, WORD_BYTES};
+use crate::words::{next, put, read_head, read_link, walk};
+use undo_journal::{Board, PAGE_WORDS, Store, StoreErr, Txn};
+
+/// A word whose first byte is that at `at`, with bytes from an offset on put in place of its own.
+fn overwritten_word(word: u32, at: u16, offset: u16, bytes: &[u8]) -> u32
+    requires { at + 3 < 65536 }
+    ensures { (place : ℕ) → place < 4 → slice_index (word_bytes result) place
+        ≡ byte_over offset bytes.now (at + place) (slice_index (word_bytes word) place) }
+{
+    let [first, second, third, fourth] = word.to_be_bytes();
+    u32::from_be_bytes([
+        overwritten_byte(first, at, offset, bytes),
+        overwritten_byte(second, at + 1, offset, bytes),
+        overwritten_byte(third, at + 2, offset, bytes),
+        overwritten_byte(fourth, at + 3, offset, bytes),
+    ])
+}
+
+/// The byte at `at`, or the one of the bytes from an offset on that takes its place.
+fn overwritten_byte(byte: u8, at: u16, offset: u16, bytes: &[u8]) -> u8
+    ensures { result ≡ byte_over offset bytes.now at byte }
+{
+    if offset <= at && usize::from(at - offset) < bytes.len() {
+        bytes[usize::from(at - offset)]
+    } else {
+        byte
+    }
+}
+
+/// Sets the content word of a block in which bytes lie that are put from an offset of its chain on: word k of the chain.
+fn put_word<B: Board>(
+    txn: &mut Txn<'_, B>,
+    page: u16,
+    k: u16,
+    offset: u16,
+    bytes: &[u8],
+) -> Result<(), StoreErr>
+    requires ready { IsOpen (memory_of txn.old) }
+    requires block { IsBlock page }
+    requires small { 4 * k + 3 < 65536 }
+    requires room { 0 < room (memory_of txn.old) }
+    ensures done { OnOk result (PutsWord (current (memory_of txn.old)) page k offset bytes.now
+        (current (memory_of txn.new))) }
+    ensures ready { OnOk result (IsOpen (memory_of txn.new)) }
+    ensures sets { Sets 1 txn.old txn.new }
+    ensures tells { (memory_of txn.new).failed ≡ result_err result }
+{
+    let at = PAGE_WORDS * page + 1 + k % BLOCK_WORDS;
+    let word = content(txn, at)?;
+    let new = overwritten_word(word, WORD_BYTES * k, offset, bytes);
+    put(txn, at, new)
+}
+
+/// A word, within a transaction.
+fn content<B: Board>(txn: &mut Txn<'_, B>, at: u16) -> Result<u32, StoreErr>
+    requires ready { IsOpen (memory_of txn.old) }
+    requires place { IsDataAddress (current (memory_of txn.old)) at }
+    ensures word { IfOk result (λ word. word ≡ slice_index (current (memory_of txn.old)) at) }
+    ensures ready { OnOk result (IsOpen (memory_of txn.new)) }
+    ensures reads { TxnReads txn.old txn.new }
+    ensures tells { (memory_of txn.new).failed ≡ result_err result }
+{
+    txn.read(at)
+}
+
+/// Puts bytes in place of those of a chain from an offset on: one set for each touched word, in order. No bytes change
+/// nothing.
+///
+/// # Errors
+/// What the store answers: power was lost, or the device failed.
+pub fn set_bytes<B: Board>(
+    txn: &mut Txn<'_, B>,
+    chain: Chain,
+    offset: u16,
+    bytes: &[u8],
+) -> Result<(), StoreErr>
+    requires ready { IsOpen (memory_of txn.old) }
+    requires chain { IsChain (current (memory_of txn.old)) chain.first (chain_of (current (memory_of txn.old)) chain) }
+    requires within { offset + length bytes.now ≤ BLOCK_BYTES * length (chain_of (current (memory_of txn.old)) chain) }
+    requires room { touched_words offset (length bytes.now) ≤ room (memory_of txn.old) }
+    ensures done { OnOk result (Overwrites (current (memory_of txn.old))
+        (chain_of (current (memory_of txn.old)) chain) offset bytes.now (current (memory_of txn.new))) }
+    ensures ready { OnOk result (IsOpen (memory_of txn.new)) }
+    ensures none { length bytes.now ≡ 0 → memory_of txn.new ≡ memory_of txn.old }
+    ensures sets { Sets (touched_words offset (length bytes.now)) txn.old txn.new }
+    ensures tells { (memory_of txn.new).failed ≡ result_err result }
+{
+    if bytes.is_empty() {
+        // the offset may be the size of the chain: there is no block there
+        return Ok(());
+    }
+    let mut page = walk(txn, chain.first, offset / BLOCK_BYTES)?;
+    let end = (offset + bytes.len() as u16 + WORD_BYTES - 1) / WORD_BYTES;
+    let mut k = offset / WORD_BYTES;
+    while k < end {
+        put_word(txn, page, k, offset, bytes)?;
+        k += 1;
+        if k % BLOCK_WORDS == 0 {
+            page = next(txn, page)?;
+        }
+    }
+    Ok(())
+}
+
+/// Fills the content words of a block with a word.
+fn fill_block<B: Board>(store: &mut Store<B>, page: u16, word: u32) -> Result<(), StoreErr>
+    requires ready { IsReady store.old }
+    requires block { IsBlock page }
+    ensures any_exit { Torn (committed store.old) (address page 1) (replicate BLOCK_WORDS word) (committed store.new) }
+    ensures done { OnOk result (committed store.new
+        ≡ written (committed store.old) (address page 1) (replicate BLOCK_WORDS word)) }
+    ensures idle { IsIdle store.new }
+    ensures ready { OnOk result (IsReady store.new) }
+    ensures reports { Reports store.old store.new }
+    ensures tells { store.new.failed ≡ result_err result }
+    ensures writes { WritesAtMost 1 store.old.facts store.new.facts }
+{
+    let words = [word; BLOCK_WORDS as usize];
+    store.write_plain(page, 1, &words)
+}
+
+/// Fills the first n free blocks with a byte, in one device write a block. No other word changes, at no exit, so that all
+/// that stood in the memory still stands.
+///
+/// # Errors
+/// What the store answers: power was lost, or the device failed. Then the blocks may hold anything.
+#[tactic(auto, using(undo_journal::specs::MemoryLaws::reports_then))]
+pub fn fill<B: Board>(store: &mut Store<B>, n: u16, byte: u8) -> Result<(), StoreErr>
+    requires ready { IsReady store.old }
+    requires free { HasFree (committed store.old) }
+    requires enough { n ≤ length (free_chain (committed store.old)) }
+    ensures any_exit { OnlyContent (committed store.old)
+        (take n (free_chain (committed store.old))) (committed store.new) }
+    ensures done { OnOk result (bytes_of (committed store.new) (take n (free_chain (committed store.old)))
+        ≡ replicate (BLOCK_BYTES * n) byte) }
+    ensures idle { IsIdle store.new }
+    ensures ready { OnOk result (IsReady store.new) }
+    ensures reports { Reports store.old store.new }
+    ensures tells { store.new.failed ≡ result_err result }
+    ensures writes { WritesAtMost n store.old.facts store.new.facts }
+{
+    let word = u32::from_be_bytes([byte; 4]);
+    let mut page = read_head(store)?;
+    for _i in 0..n {
+        fill_block(store, page, word)?;
+        page = read_link(store, page)?;
+    }
+    Ok(())
+}

@@ -1,0 +1,121 @@
+//! The free blocks.
+ghost use Rattle.std.specs.Prelude.{◌≡◌, ◌+◌, ◌*◌, ◌<◌, ◌≤◌, IfOk, OnOk, length};
+ghost use Rattle.std.specs.Result.{result_err};
+ghost use Rattle.undo_journal.specs.Memory.{committed, current, room, IsReady, IsOpen};
+ghost use Rattle.undo_journal.specs.Lent.{memory_of};
+ghost use Rattle.undo_journal.specs.Calls.{OnlyReads, TxnReads, Sets};
+ghost use Rattle.block_chain.specs.Chains.{free_chain, HasFree, AreApart};
+ghost use Rattle.block_chain.specs.Changes.{Takes, GivesBack};
+ghost use Rattle.block_chain.specs.Parts.{IsFirstFree, first_of, joined};
+
+use crate::chain::Chain;
+use crate::layout::FREE_HEAD;
+use crate::words::{head, next, put, read_head, read_link, walk};
+use undo_journal::{Board, PAGE_WORDS, Store, StoreErr, Txn};
+
+/// How many blocks are free: one device read a free block.
+///
+/// # Errors
+/// What the store answers: power was lost, or the device failed.
+#[tactic(auto, using(undo_journal::specs::laws::Calls::reads_then))]
+pub fn free_count<B: Board>(store: &mut Store<B>) -> Result<u16, StoreErr>
+    requires ready { IsReady store.old }
+    requires free { HasFree (committed store.old) }
+    ensures count { IfOk result (λ count. count ≡ length (free_chain (committed store.old))) }
+    ensures ready { OnOk result (IsReady store.new) }
+    ensures reads { OnlyReads store.old store.new }
+    ensures tells { store.new.failed ≡ result_err result }
+{
+    let mut page = read_head(store)?;
+    let mut count = 0;
+    while page != 0 {
+        page = read_link(store, page)?;
+        count += 1;
+    }
+    Ok(count)
+}
+
+/// The chain of the first n free blocks, and the page of the free block after them, or 0.
+#[tactic(auto, using(undo_journal::specs::laws::Calls::txn_reads_then))]
+fn first_free<B: Board>(txn: &mut Txn<'_, B>, n: u16) -> Result<(Chain, u16), StoreErr>
+    requires ready { IsOpen (memory_of txn.old) }
+    requires free { HasFree (current (memory_of txn.old)) }
+    requires some { 1 ≤ n }
+    requires enough { n ≤ length (free_chain (current (memory_of txn.old))) }
+    ensures found { IfOk result (λ found. IsFirstFree (current (memory_of txn.old)) n found.0 found.1) }
+    ensures ready { OnOk result (IsOpen (memory_of txn.new)) }
+    ensures reads { TxnReads txn.old txn.new }
+    ensures tells { (memory_of txn.new).failed ≡ result_err result }
+{
+    let first = head(txn)?;
+    let last = walk(txn, first, n - 1)?;
+    let rest = next(txn, last)?;
+    Ok((Chain { first, last }, rest))
+}
+
+/// Takes the first n free blocks, of 1 or more: they become a chain, whose bytes stay as they are.
+///
+/// # Errors
+/// What the store answers: power was lost, or the device failed.
+pub fn take<B: Board>(txn: &mut Txn<'_, B>, n: u16) -> Result<Chain, StoreErr>
+    requires ready { IsOpen (memory_of txn.old) }
+    requires free { HasFree (current (memory_of txn.old)) }
+    requires some { 1 ≤ n }
+    requires enough { n ≤ length (free_chain (current (memory_of txn.old))) }
+    requires room { 2 ≤ room (memory_of txn.old) }
+    ensures done { IfOk result (λ chain. Takes (current (memory_of txn.old)) n chain (current (memory_of txn.new))) }
+    ensures ready { OnOk result (IsOpen (memory_of txn.new)) }
+    ensures sets { Sets 2 txn.old txn.new }
+    ensures tells { (memory_of txn.new).failed ≡ result_err result }
+{
+    let (chain, rest) = first_free(txn, n)?;
+    put(txn, PAGE_WORDS * chain.last, 0)?;
+    put(txn, FREE_HEAD, u32::from(rest))?;
+    Ok(chain)
+}
+
+/// Gives the blocks of chains back: the last block of each links to the first of the next one, the last block of all to
+/// the first that was free. It makes one set for each chain and one for the header; no chains change nothing.
+///
+/// # Errors
+/// What the store answers: power was lost, or the device failed.
+pub fn give_back<B: Board>(txn: &mut Txn<'_, B>, chains: &[Chain]) -> Result<(), StoreErr>
+    requires ready { IsOpen (memory_of txn.old) }
+    requires free { HasFree (current (memory_of txn.old)) }
+    requires apart { AreApart (current (memory_of txn.old)) chains.now }
+    requires room { length chains.now + 1 ≤ room (memory_of txn.old) }
+    ensures done { OnOk result (GivesBack (current (memory_of txn.old)) chains.now (current (memory_of txn.new))) }
+    ensures ready { OnOk result (IsOpen (memory_of txn.new)) }
+    ensures none { length chains.now ≡ 0 → memory_of txn.new ≡ memory_of txn.old }
+    ensures sets { Sets (length chains.now + 1) txn.old txn.new }
+    ensures tells { (memory_of txn.new).failed ≡ result_err result }
+{
+    if chains.is_empty() {
+        return Ok(());
+    }
+    let page = join(txn, chains)?;
+    put(txn, FREE_HEAD, u32::from(page))
+}
+
+/// Joins chains to the free one. The answer is the first block of all, or 0.
+fn join<B: Board>(txn: &mut Txn<'_, B>, chains: &[Chain]) -> Result<u16, StoreErr>
+    requires ready { IsOpen (memory_of txn.old) }
+    requires free { HasFree (current (memory_of txn.old)) }
+    requires apart { AreApart (current (memory_of txn.old)) chains.now }
+    requires room { length chains.now ≤ room (memory_of txn.old) }
+    ensures page { IfOk result (λ page. page ≡ first_of (current (memory_of txn.old)) chains.now) }
+    ensures done { OnOk result (current (memory_of txn.new) ≡ joined (current (memory_of txn.old)) chains.now) }
+    ensures ready { OnOk result (IsOpen (memory_of txn.new)) }
+    ensures sets { Sets (length chains.now) txn.old txn.new }
+    ensures tells { (memory_of txn.new).failed ≡ result_err result }
+{
+    let mut page = head(txn)?;
+    let mut left = chains.len();
+    while left > 0 {
+        left -= 1;
+        let chain = chains[left];
+        put(txn, PAGE_WORDS * chain.last, u32::from(page))?;
+        page = chain.first;
+    }
+    Ok(page)
+}

@@ -1,0 +1,16 @@
+//! Laws of the definitions, as contracts of functions that do nothing.
+ghost use Rattle.std.specs.Prelude.{◌≡◌, ◌*◌, ◌≤◌, ◌<◌, ◌↔◌, ℕ, List, length, slice_index};
+ghost use Rattle.block_chain.specs.declared.layout.TheConstants.{BLOCKS, BLOCK_BYTES, BLOCK_WORDS, FREE_HEAD};
+ghost use Rattle.block_chain.specs.Words.{IsBlock, block_bytes, link};
+
+/// Where blocks lie: pages 128 to 1,023, 896 of them, each with a link in its word 0 and 60 bytes in the 15 words after
+/// it. Word 1 of the memory names the first free block.
+pub fn layout()
+    ensures pages { (page : ℕ) → IsBlock page ↔ ((128 ≤ page) × (page < 1024)) }
+    ensures blocks { BLOCKS ≡ 896 }
+    ensures words { BLOCK_WORDS ≡ 15 }
+    ensures bytes { BLOCK_BYTES ≡ 60 }
+    ensures free { FREE_HEAD ≡ 1 }
+    ensures block { (m : List ℕ) (page : ℕ) → length m ≡ 16384 → IsBlock page → length (block_bytes m page) ≡ 60 }
+    ensures links { (m : List ℕ) (page : ℕ) → link m page ≡ slice_index m (16 * page) }
+{}

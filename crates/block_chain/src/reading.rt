@@ -1,0 +1,129 @@
+//! Bytes of a chain, read from a store.
+ghost use Rattle.std.specs.Prelude.{◌≡◌, ◌+◌, ◌*◌, ◌/◌, ◌%◌, ◌<◌, ◌≤◌, ◌++◌, length, take, drop, IfOk, OnOk};
+ghost use Rattle.std.specs.Prelude.{slice_index};
+ghost use Rattle.std.specs.Result.{result_err};
+ghost use Rattle.arrayvec.specs.ArrayVec.{array_vec_len};
+ghost use Rattle.undo_journal.specs.Memory.{committed, IsReady};
+ghost use Rattle.undo_journal.specs.Calls.{OnlyReads};
+ghost use Rattle.block_chain.specs.declared.layout.TheConstants.{BLOCK_BYTES, BLOCK_WORDS};
+ghost use Rattle.block_chain.specs.Words.{word, word_bytes, IsBlock};
+ghost use Rattle.block_chain.specs.Chains.{Leads, chain, chain_bytes, chain_of};
+ghost use Rattle.block_chain.specs.Changes.{AppendsSome};
+
+use crate::chain::Chain;
+use crate::layout::{BLOCK_BYTES, BLOCK_WORDS, WORD_BYTES};
+use crate::words::read_link;
+use arrayvec::ArrayVec;
+use undo_journal::{Board, PAGE_WORDS, Store, StoreErr};
+
+/// A byte of a word, 0 the most significant.
+fn byte_of(word: u32, place: usize) -> u8
+    requires { place < 4 }
+    ensures { result ≡ slice_index (word_bytes word) place }
+{
+    word.to_be_bytes()[place]
+}
+
+/// Block k of a chain, by its first block: one device read a link.
+#[tactic(auto, using(undo_journal::specs::laws::Calls::reads_then))]
+fn block_at<B: Board>(store: &mut Store<B>, first: u16, k: u16) -> Result<u16, StoreErr>
+    requires ready { IsReady store.old }
+    requires leads { Leads (committed store.old) first (chain (committed store.old) first) 0 }
+    requires within { k < length (chain (committed store.old) first) }
+    ensures page { IfOk result (λ page. page ≡ slice_index (chain (committed store.old) first) k) }
+    ensures ready { OnOk result (IsReady store.new) }
+    ensures reads { OnlyReads store.old store.new }
+    ensures tells { store.new.failed ≡ result_err result }
+{
+    let mut page = first;
+    for _i in 0..k {
+        page = read_link(store, page)?;
+    }
+    Ok(page)
+}
+
+/// The word of a block in which the byte of its chain at an offset lies.
+fn read_word<B: Board>(store: &mut Store<B>, page: u16, offset: u16) -> Result<u32, StoreErr>
+    requires ready { IsReady store.old }
+    requires block { IsBlock page }
+    ensures word { IfOk result (λ read. read ≡ word (committed store.old) page (1 + offset / 4 % BLOCK_WORDS)) }
+    ensures ready { OnOk result (IsReady store.new) }
+    ensures reads { OnlyReads store.old store.new }
+    ensures tells { store.new.failed ≡ result_err result }
+{
+    store.read(PAGE_WORDS * page + 1 + offset / WORD_BYTES % BLOCK_WORDS)
+}
+
+/// The byte of a chain at an offset below its size.
+///
+/// # Errors
+/// What the store answers: power was lost, or the device failed.
+#[tactic(auto, using(undo_journal::specs::laws::Calls::reads_then))]
+pub fn byte_at<B: Board>(store: &mut Store<B>, chain: Chain, offset: u16) -> Result<u8, StoreErr>
+    requires ready { IsReady store.old }
+    requires leads { Leads (committed store.old) chain.first (chain_of (committed store.old) chain) 0 }
+    requires within { offset < BLOCK_BYTES * length (chain_of (committed store.old) chain) }
+    ensures byte { IfOk result (λ byte. byte ≡ slice_index (chain_bytes (committed store.old) chain) offset) }
+    ensures ready { OnOk result (IsReady store.new) }
+    ensures reads { OnlyReads store.old store.new }
+    ensures tells { store.new.failed ≡ result_err result }
+{
+    let page = block_at(store, chain.first, offset / BLOCK_BYTES)?;
+    let word = read_word(store, page, offset)?;
+    Ok(byte_of(word, usize::from(offset % WORD_BYTES)))
+}
+
+/// Appends some bytes of a word, from a place on.
+fn append_bytes<const N: usize>(out: &mut ArrayVec<u8, N>, word: u32, from: usize, some: usize)
+    requires within { from + some ≤ 4 }
+    requires room { array_vec_len out.old + some ≤ N }
+    ensures items { out.new.items ≡ out.old.items ++ take some (drop from (word_bytes word)) }
+{
+    for i in 0..some {
+        out.push(byte_of(word, from + i));
+    }
+}
+
+/// Appends so many bytes of a chain, from an offset on. It makes one device read for each word that holds some of them,
+/// and one for each link that it goes over. At an error some of them may stand in the buffer.
+///
+/// # Errors
+/// What the store answers: power was lost, or the device failed.
+#[tactic(auto, using(undo_journal::specs::laws::Calls::reads_then))]
+pub fn read_bytes<B: Board, const N: usize>(
+    store: &mut Store<B>,
+    chain: Chain,
+    offset: u16,
+    count: u16,
+    out: &mut ArrayVec<u8, N>,
+) -> Result<(), StoreErr>
+    requires ready { IsReady store.old }
+    requires leads { Leads (committed store.old) chain.first (chain_of (committed store.old) chain) 0 }
+    requires within { offset + count ≤ BLOCK_BYTES * length (chain_of (committed store.old) chain) }
+    requires room { array_vec_len out.old + count ≤ N }
+    ensures done { OnOk result (out.new.items
+        ≡ out.old.items ++ take count (drop offset (chain_bytes (committed store.old) chain))) }
+    ensures any_exit { AppendsSome out.old.items
+        (take count (drop offset (chain_bytes (committed store.old) chain))) out.new.items }
+    ensures ready { OnOk result (IsReady store.new) }
+    ensures reads { OnlyReads store.old store.new }
+    ensures tells { store.new.failed ≡ result_err result }
+{
+    if count == 0 {
+        // the offset may be the size of the chain: there is no block there
+        return Ok(());
+    }
+    let mut page = block_at(store, chain.first, offset / BLOCK_BYTES)?;
+    let end = offset + count;
+    let mut at = offset;
+    while at < end {
+        let word = read_word(store, page, at)?;
+        let some = (WORD_BYTES - at % WORD_BYTES).min(end - at);
+        append_bytes(out, word, usize::from(at % WORD_BYTES), usize::from(some));
+        at += some;
+        if at % BLOCK_BYTES == 0 {
+            page = read_link(store, page)?;
+        }
+    }
+    Ok(())
+}

@@ -1,0 +1,120 @@
+//! The check of the layout: a walk over each chain that marks its blocks.
+ghost use Rattle.std.specs.Prelude.{◌≡◌, ◌+◌, ◌-◌, ◌≤◌, ◌↔◌, length, IfOk, OnOk, IsTrue, IfSome, Some, None};
+ghost use Rattle.std.specs.Prelude.{slice_index, slice_set, if◌then◌else◌};
+ghost use Rattle.std.specs.Result.{result_err};
+ghost use Rattle.nvm_board.specs.declared.board.TheConstants.{PAGES};
+ghost use Rattle.undo_journal.specs.Memory.{committed, IsReady};
+ghost use Rattle.undo_journal.specs.Calls.{OnlyReads};
+ghost use Rattle.block_chain.specs.Chains.{chain, free_chain};
+ghost use Rattle.block_chain.specs.Layout.{TellsFree};
+ghost use Rattle.block_chain.specs.Parts.{marked, AreMarks, IsFresh, IsWalked};
+ghost use Rattle.block_chain.specs.Words.{link, IsBlock};
+ghost use Rattle.block_chain.specs.declared.layout.TheConstants.{FIRST_BLOCK_PAGE};
+
+use crate::chain::Extent;
+use crate::layout::{BLOCKS, FIRST_BLOCK_PAGE, FREE_HEAD};
+use undo_journal::{Board, PAGE_WORDS, PAGES, Store, StoreErr};
+
+/// How long a chain is, and its last block, or 0.
+#[derive(Clone, Copy)]
+pub(crate) struct Walked {
+    pub blocks: u16,
+    pub last: u16,
+}
+
+/// Marks a block, if it is one that was not marked before.
+fn mark(page: u32, seen: &mut [u8; BLOCKS as usize]) -> bool
+    requires { AreMarks seen.old }
+    ensures new { IsTrue result ↔ (IsBlock page × (marked seen.old page ≡ 0)) }
+    ensures marks { IsTrue result → seen.new ≡ slice_set seen.old (page - FIRST_BLOCK_PAGE) 1 }
+{
+    if page < u32::from(FIRST_BLOCK_PAGE) || page >= u32::from(PAGES) {
+        return false;
+    }
+    let place = (page - u32::from(FIRST_BLOCK_PAGE)) as usize;
+    if seen[place] != 0 {
+        return false;
+    }
+    seen[place] = 1;
+    true
+}
+
+/// Walks over the chain from a page on, and marks its blocks. The answer is None where it does not end, leads out of the
+/// blocks, or comes to one that was marked.
+#[tactic(auto, using(undo_journal::specs::laws::Calls::reads_then))]
+fn walk_over<B: Board>(
+    store: &mut Store<B>,
+    first: u32,
+    seen: &mut [u8; BLOCKS as usize],
+) -> Result<Option<Walked>, StoreErr>
+    requires ready { IsReady store.old }
+    requires marks { AreMarks seen.old }
+    ensures walked { IfOk result (λ walked. IfSome walked (λ w. IsWalked
+        (committed store.old) first seen.old w seen.new)) }
+    ensures stale { IfOk result (λ walked. walked ≡ None → ¬ IsFresh (committed store.old) seen.old first) }
+    ensures ready { OnOk result (IsReady store.new) }
+    ensures reads { OnlyReads store.old store.new }
+    ensures tells { store.new.failed ≡ result_err result }
+{
+    let mut page = first;
+    let mut blocks = 0;
+    let mut last = 0;
+    while blocks < BLOCKS && page != 0 {
+        if !mark(page, seen) {
+            return Ok(None);
+        }
+        last = page as u16;
+        page = store.read(PAGE_WORDS * last)?;
+        blocks += 1;
+    }
+    if page != 0 {
+        return Ok(None);
+    }
+    Ok(Some(Walked { blocks, last }))
+}
+
+/// The check of the layout at a start: whether the free chain and these extents are laid out as they should be, each
+/// block in exactly one of them, once. Then the answer is how many blocks are free, else None.
+///
+/// Each block is marked when the walk first comes to it, and no marked one is gone over again. So a ring ends the walk, and
+/// there are never more device reads than blocks and one, whatever the words are.
+///
+/// # Errors
+/// What the store answers: power was lost, or the device failed.
+#[tactic(auto, using(undo_journal::specs::laws::Calls::reads_then))]
+pub fn lay<B: Board>(store: &mut Store<B>, extents: &[Extent]) -> Result<Option<u16>, StoreErr>
+    requires ready { IsReady store.old }
+    ensures found { IfOk result (λ free. TellsFree (committed store.old) extents.now free) }
+    ensures ready { OnOk result (IsReady store.new) }
+    ensures reads { OnlyReads store.old store.new }
+    ensures tells { store.new.failed ≡ result_err result }
+{
+    let mut seen = [0; BLOCKS as usize];
+    let head = store.read(FREE_HEAD)?;
+    let free = match walk_over(store, head, &mut seen)? {
+        Some(walked) => walked.blocks,
+        None => return Ok(None),
+    };
+    let mut blocks = free;
+    for (_i, extent) in extents.iter().enumerate() {
+        let walked = match walk_over(store, u32::from(extent.chain.first), &mut seen)? {
+            Some(walked) => walked,
+            None => return Ok(None),
+        };
+        if !is_extent(walked, extent) || walked.blocks > BLOCKS - blocks {
+            return Ok(None);
+        }
+        blocks += walked.blocks;
+    }
+    if blocks != BLOCKS {
+        return Ok(None);
+    }
+    Ok(Some(free))
+}
+
+/// Whether what was walked over is as an extent says.
+fn is_extent(walked: Walked, extent: &Extent) -> bool
+    ensures { IsTrue result ↔ ((walked.blocks ≡ extent.now.blocks) × (walked.last ≡ extent.now.chain.last)) }
+{
+    walked.blocks == extent.blocks && walked.last == extent.chain.last
+}

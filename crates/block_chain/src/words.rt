@@ -1,0 +1,99 @@
+// Links of blocks, read from a store or within a transaction.
+ghost use Rattle.std.specs.Prelude.{◌≡◌, ◌+◌, ◌*◌, ◌<◌, length, IfOk, OnOk, slice_index, slice_set};
+ghost use Rattle.std.specs.Result.{result_err};
+ghost use Rattle.nvm_board.specs.declared.board.TheConstants.{PAGES};
+ghost use Rattle.undo_journal.specs.Memory.{committed, current, room, IsReady, IsOpen};
+ghost use Rattle.undo_journal.specs.Lent.{memory_of};
+ghost use Rattle.undo_journal.specs.Calls.{OnlyReads, TxnReads, Sets};
+ghost use Rattle.block_chain.specs.Chains.{Leads, chain};
+ghost use Rattle.block_chain.specs.Words.{link, IsBlock};
+ghost use Rattle.block_chain.specs.declared.layout.TheConstants.{FREE_HEAD};
+ghost use Rattle.undo_journal.specs.Undo.{IsDataAddress};
+
+use crate::layout::FREE_HEAD;
+use undo_journal::{Board, PAGE_WORDS, Store, StoreErr, Txn};
+
+/// The page of the first free block, or 0.
+pub(crate) fn read_head<B: Board>(store: &mut Store<B>) -> Result<u16, StoreErr>
+    requires ready { IsReady store.old }
+    requires small { slice_index (committed store.old) FREE_HEAD < PAGES }
+    ensures page { IfOk result (λ page. page ≡ slice_index (committed store.old) FREE_HEAD) }
+    ensures ready { OnOk result (IsReady store.new) }
+    ensures reads { OnlyReads store.old store.new }
+    ensures tells { store.new.failed ≡ result_err result }
+{
+    let word = store.read(FREE_HEAD)?;
+    Ok(word as u16)
+}
+
+/// The page of the block after a block, or 0.
+pub(crate) fn read_link<B: Board>(store: &mut Store<B>, page: u16) -> Result<u16, StoreErr>
+    requires ready { IsReady store.old }
+    requires block { IsBlock page }
+    requires small { link (committed store.old) page < PAGES }
+    ensures page { IfOk result (λ next. next ≡ link (committed store.old) page) }
+    ensures ready { OnOk result (IsReady store.new) }
+    ensures reads { OnlyReads store.old store.new }
+    ensures tells { store.new.failed ≡ result_err result }
+{
+    let word = store.read(PAGE_WORDS * page)?;
+    Ok(word as u16)
+}
+
+/// The page of the first free block, or 0.
+pub(crate) fn head<B: Board>(txn: &mut Txn<'_, B>) -> Result<u16, StoreErr>
+    requires ready { IsOpen (memory_of txn.old) }
+    requires small { slice_index (current (memory_of txn.old)) FREE_HEAD < PAGES }
+    ensures page { IfOk result (λ page. page ≡ slice_index (current (memory_of txn.old)) FREE_HEAD) }
+    ensures ready { OnOk result (IsOpen (memory_of txn.new)) }
+    ensures reads { TxnReads txn.old txn.new }
+    ensures tells { (memory_of txn.new).failed ≡ result_err result }
+{
+    let word = txn.read(FREE_HEAD)?;
+    Ok(word as u16)
+}
+
+/// The page of the block after a block, or 0.
+pub(crate) fn next<B: Board>(txn: &mut Txn<'_, B>, page: u16) -> Result<u16, StoreErr>
+    requires ready { IsOpen (memory_of txn.old) }
+    requires block { IsBlock page }
+    requires small { link (current (memory_of txn.old)) page < PAGES }
+    ensures page { IfOk result (λ next. next ≡ link (current (memory_of txn.old)) page) }
+    ensures ready { OnOk result (IsOpen (memory_of txn.new)) }
+    ensures reads { TxnReads txn.old txn.new }
+    ensures tells { (memory_of txn.new).failed ≡ result_err result }
+{
+    let word = txn.read(PAGE_WORDS * page)?;
+    Ok(word as u16)
+}
+
+/// Block k of a chain, by its first block.
+#[tactic(auto, using(undo_journal::specs::laws::Calls::txn_reads_then))]
+pub(crate) fn walk<B: Board>(txn: &mut Txn<'_, B>, first: u16, k: u16) -> Result<u16, StoreErr>
+    requires ready { IsOpen (memory_of txn.old) }
+    requires leads { Leads (current (memory_of txn.old)) first (chain (current (memory_of txn.old)) first) 0 }
+    requires within { k < length (chain (current (memory_of txn.old)) first) }
+    ensures page { IfOk result (λ page. page ≡ slice_index (chain (current (memory_of txn.old)) first) k) }
+    ensures ready { OnOk result (IsOpen (memory_of txn.new)) }
+    ensures reads { TxnReads txn.old txn.new }
+    ensures tells { (memory_of txn.new).failed ≡ result_err result }
+{
+    let mut page = first;
+    for _i in 0..k {
+        page = next(txn, page)?;
+    }
+    Ok(page)
+}
+
+/// One set of a transaction.
+pub(crate) fn put<B: Board>(txn: &mut Txn<'_, B>, at: u16, word: u32) -> Result<(), StoreErr>
+    requires ready { IsOpen (memory_of txn.old) }
+    requires room { 0 < room (memory_of txn.old) }
+    requires place { IsDataAddress (current (memory_of txn.old)) at }
+    ensures done { OnOk result (current (memory_of txn.new) ≡ slice_set (current (memory_of txn.old)) at word) }
+    ensures ready { OnOk result (IsOpen (memory_of txn.new)) }
+    ensures sets { Sets 1 txn.old txn.new }
+    ensures tells { (memory_of txn.new).failed ≡ result_err result }
+{
+    txn.set(at, word)
+}
