@@ -1,0 +1,15 @@
+use Rattle.std.proofs.Common.{◌+◌, sym, ◌∙◌, arith}
+use Rattle.undo_journal.specs.Memory.{committed}
+use Rattle.block_chain.specs.Words.{page_words}
+use Rattle.block_chain.specs.laws.Words.{index-page_words}
+use Rattle.file_tree.specs.laws.Tables.{entry_of-same, entry_in-table}
+use Rattle.file_tree.proofs.reading.read_entry.Goals as goal
+
+pub returns-clause-entry : goal.returns-clause-entry
+returns-clause-entry g c =
+    let m = committed c.args.store.now in
+    let words = c.in_ok-words.words in
+    c.from_words.ensures
+    ∙ entry_of-same (page_words m (1 + c.args.e)) words
+    (λ k lt. c.in_ok-words.ensures.words k lt ∙ sym (index-page_words m (1 + c.args.e) k (omega (arith, lt))))
+    ∙ sym (entry_in-table m c.args.e c.requires.within)

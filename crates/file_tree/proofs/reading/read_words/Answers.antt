@@ -1,0 +1,36 @@
+use Rattle.std.proofs.Common.{rules, ◌≡◌, ◌+◌, ◌<◌, ◌≤◌, ℕ, List, slice_index, slice_set, sym, ◌∙◌, ap, ap₂, arith}
+use Rattle.std.proofs.Common.{⊎_elim, get_or-set_same, get_or-set_other, length-set}
+use Rattle.std.proofs.lemmas.Bool.{cases_lt}
+use Rattle.nvm_board.specs.Facts.{address}
+use Rattle.undo_journal.specs.Memory.{committed}
+use Rattle.undo_journal.specs.laws.Calls.{reads_then}
+use Rattle.block_chain.specs.Words.{word}
+use Rattle.file_tree.proofs.reading.read_words.Goals as goal
+
+pub loop-k-preserved : goal.loop-k-preserved
+loop-k-preserved g c =
+    let m = committed c.args.store.now in
+    let at = c.loop-k.k in
+    let small : at < 11 = search rules in
+    let size = c.loop-k.invariant.size in
+    let page : c.from-page.result ≡ c.args.e = search rules in
+    let kept = sym c.loop-k.invariant.ready.same ∙ c.loop-k.invariant.reads.keeps.committed_words in
+    let here : c.in_ok-words.field-0 ≡ word m (1 + c.args.e) at =
+    c.in_ok-words.ensures.word
+    ∙ ap₂ (λ (l : List ℕ) (i : ℕ). slice_index l i) kept (ap (λ (e : ℕ). address (1 + e) at) page) in
+    let w = c.in_ok-words.field-0 in
+    record {
+      ready = search rules;
+      reads = search (rules, reads_then);
+      size = length-set c.loop-k.words at c.in_ok-words.field-0 ∙ size;
+      so_far = λ k lt. ⊎_elim
+          (λ (before : k < at).
+          get_or-set_other c.loop-k.words at k w 0 (λ is. let z : ⊥ = omega (arith, before, is) in z)
+          ∙ c.loop-k.invariant.so_far k before)
+          (λ (from : at ≤ k).
+          let is : k ≡ at = omega (arith, lt, from) in
+          ap (λ (i : ℕ). slice_index (slice_set c.loop-k.words at w) i) is
+          ∙ get_or-set_same c.loop-k.words at w 0 (omega (arith, size, small)) ∙ here
+          ∙ ap (word m (1 + c.args.e)) (sym is))
+          (cases_lt k at);
+    }

@@ -1,0 +1,8 @@
+use Rattle.std.proofs.Common.{◌<◌, ℕ}
+use Rattle.file_tree.specs.Table.{entry_in, IsUsed}
+use Rattle.file_tree.specs.laws.Alikes.{Alike}
+use Rattle.file_tree.proofs.table.is_alone.Given as goal
+
+abbrev pub invariant-loop-f : goal.invariant-loop-f
+invariant-loop-f l = (f : ℕ) → l.fn.e < f → f < l.f → IsUsed l.entries f
+    → Alike l.fn.e (entry_in l.entries l.fn.e) (entry_in l.entries f) → ⊥

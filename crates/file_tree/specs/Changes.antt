@@ -1,0 +1,49 @@
+-- What a change of the words of a memory makes of the tree of files.
+use Rattle.std.specs.Prelude.{◌≡◌, ◌≢◌, ◌⊎◌, ◌<◌, ◌≤◌, ◌+◌, ℕ, List, length, not, nat_eq}
+use Rattle.std.specs.List.{starts_with}
+use Rattle.std.specs.FinMap.{insert, retain_keys}
+use Rattle.nvm_board.specs.declared.board.TheConstants.{PAGE_WORDS}
+use Rattle.block_chain.specs.declared.layout.TheConstants.{HEADER_PAGE, FREE_HEAD_WORD}
+use Rattle.block_chain.specs.Words.{word, IsBlock}
+use Rattle.block_chain.specs.Chains.{free_chain}
+use Rattle.file_tree.specs.declared.layout.TheConstants.{FIRST_ENTRY_PAGE, ENTRIES}
+use Rattle.file_tree.specs.Cards.{File, file_at, bytes_of, with_bytes, overwrite}
+use Rattle.file_tree.specs.Table.{table, path_of}
+use Rattle.file_tree.specs.Trees.{tree_of, TreeStands}
+
+-- the page of a file entry
+abbrev pub IsEntryPage : ℕ → Type 0
+IsEntryPage page = (FIRST_ENTRY_PAGE ≤ page) × (page < FIRST_ENTRY_PAGE + ENTRIES)
+
+-- Every word stays but those of file entries and of blocks, and the header's that names the first free block.
+pub record KeepsRest (m after : List ℕ) : Type 0 where
+  pub size : length after ≡ length m
+  pub words : (page place : ℕ) → place < PAGE_WORDS → (IsEntryPage page → ⊥) → (IsBlock page → ⊥)
+      → (page ≢ HEADER_PAGE) ⊎ (place ≢ FREE_HEAD_WORD) → word after page place ≡ word m page place
+
+-- a file with bytes put in place of its own from an offset on
+abbrev pub with_overwritten : File → ℕ → List ℕ → File
+with_overwritten file offset bytes = record file { kind = with_bytes file.kind (overwrite (bytes_of file.kind) offset bytes) }
+
+-- The bytes of an entry's file are overwritten, and no other file is other.
+pub record Rewrites (m : List ℕ) (e offset : ℕ) (bytes after : List ℕ) : Type 0 where
+  pub tree : tree_of after ≡ insert (tree_of m) (path_of (table m) e)
+      (with_overwritten (file_at (tree_of m) (path_of (table m) e)) offset bytes)
+  pub stands : TreeStands after
+  pub free : free_chain after ≡ free_chain m
+  pub rest : KeepsRest m after
+  pub table : table after ≡ table m
+
+-- Neither the tree nor what is free is other.
+pub record KeepsTree (m after : List ℕ) : Type 0 where
+  pub tree : tree_of after ≡ tree_of m
+  pub stands : TreeStands after
+  pub free : free_chain after ≡ free_chain m
+  pub rest : KeepsRest m after
+  pub table : table after ≡ table m
+
+-- An entry's file is away, with all files below it, and no other file is other.
+pub record Deletes (m : List ℕ) (e : ℕ) (after : List ℕ) : Type 0 where
+  pub tree : tree_of after ≡ retain_keys (tree_of m) (λ path. not (starts_with nat_eq path (path_of (table m) e)))
+  pub stands : TreeStands after
+  pub rest : KeepsRest m after

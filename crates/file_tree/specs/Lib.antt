@@ -1,0 +1,10 @@
+-- What is meant: files and the tree, what names reach, free space, entries, their table, and the tree of a memory.
+-- The laws stand apart.
+pub mod Cards
+pub mod Reaching
+pub mod Spaces
+pub mod Entries
+pub mod Table
+pub mod Trees
+pub mod Changes
+pub mod laws

@@ -1,0 +1,38 @@
+-- The tree of files that the words of a memory stand for.
+use Rattle.std.specs.Prelude.{◌≡◌, ◌==◌, ℕ, if◌then◌else◌, List, [], Option, None, Some}
+use Rattle.std.specs.List.{range_with_len, filter_map}
+use Rattle.std.specs.Option.{option_map_or}
+use Rattle.std.specs.FinMap.{from_entries}
+use Rattle.block_chain.specs.Chains.{bytes_of}
+use Rattle.block_chain.specs.Layout.{AreLaid, blocks_of}
+use Rattle.file_tree.specs.declared.entry.Entry.{Entry}
+use Rattle.file_tree.specs.declared.space.FreeSpace.{FreeSpace}
+use Rattle.file_tree.specs.Cards.{Path, File, Tree}
+use Rattle.file_tree.specs.Spaces.{free_space}
+use Rattle.file_tree.specs.Entries.{file_of, extent_of}
+use Rattle.file_tree.specs.Table.{table, entry_in, path_of, extents, IsTable}
+
+-- the bytes in the blocks of an entry's file; a dedicated file has none
+unfoldable pub content : List ℕ → Entry → List ℕ
+content m entry = option_map_or (λ extent. bytes_of m (blocks_of m extent)) (extent_of entry) []
+
+-- the path and the file of an entry, if it has one
+unfoldable pub node : List ℕ → ℕ → Option (Path × File)
+node m e =
+    let t = table m in
+    if (entry_in t e).kind == 0 then None else Some (path_of t e, file_of (entry_in t e) (content m (entry_in t e)))
+
+-- the tree of all files
+unfoldable pub tree_of : List ℕ → Tree
+tree_of m = from_entries (filter_map (node m) (range_with_len 0 64))
+
+-- The words stand for a tree: the entries hold to their rules, and the free chain and the files' chains hold each block
+-- once, each file as many as its size takes.
+pub record TreeStands (m : List ℕ) : Type 0 where
+  pub entries : IsTable (table m)
+  pub blocks : AreLaid m (extents (table m))
+
+-- what a check of the words answers: the free space of the tree, or None exactly where they stand for none
+abbrev pub TellsSpace : List ℕ → Option FreeSpace → Type 0
+TellsSpace m None = TreeStands m → ⊥
+TellsSpace m (Some free) = TreeStands m × (free ≡ free_space (tree_of m))

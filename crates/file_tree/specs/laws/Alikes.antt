@@ -1,0 +1,87 @@
+-- Entries that cannot stand in one table: children of one dedicated file with one identifier, or with one short
+-- identifier, and files with one name. The rules on identifiers and names say that no two used entries are so.
+use Rattle.std.specs.Prelude.{◌≡◌, ◌≢◌, ◌⊎◌, ◌<◌, ◌≤◌, ℕ, List, length, All}
+use Rattle.std.proofs.Common.{refl, sym, ◌∙◌, ap, arith, inl, inr, ⊎_elim}
+use Rattle.std.proofs.lemmas.Bool.{cases_lt}
+use Rattle.file_tree.specs.declared.entry.Entry.{Entry}
+use Rattle.file_tree.specs.Entries.{name_of}
+use Rattle.file_tree.specs.Table.{entry_in, IsUsed, IsChild, IsEntry, IsMasterFile, IsBelowMaster, IsTable}
+use Rattle.file_tree.specs.Table.{HaveIdentifiers, HaveShortIdentifiers, HaveNames}
+
+-- an entry of this number cannot stand beside another
+abbrev pub Alike : ℕ → Entry → Entry → Type 0
+Alike e one other =
+    ((0 < e) × (one.parent ≡ other.parent)
+    × ((one.identifier ≡ other.identifier) ⊎ ((one.short ≢ 0) × (one.short ≡ other.short))))
+    ⊎ ((0 < length (name_of one)) × (name_of one ≡ name_of other))
+
+-- no used entry behind this one is like it
+abbrev pub IsAlone : List Entry → ℕ → Type 0
+IsAlone t e = (f : ℕ) → e < f → IsUsed t f → Alike e (entry_in t e) (entry_in t f) → ⊥
+
+-- no two used entries are alike
+abbrev pub AreApart : List Entry → Type 0
+AreApart t = (e : ℕ) → IsUsed t e → IsAlone t e
+
+-- each file but the master file stands below it
+abbrev pub AreBelow : List Entry → Type 0
+AreBelow t = (e : ℕ) → 0 < e → IsUsed t e → IsBelowMaster t e
+
+-- of two numbers neither is below the other
+same_number : (e f : ℕ) → (e < f → ⊥) → (f < e → ⊥) → e ≡ f
+same_number e f before behind = ⊎_elim
+    (λ (lt : e < f). absurd (before lt))
+    (λ (ge : f ≤ e). ⊎_elim
+    (λ (lt : f < e). absurd (behind lt))
+    (λ (le : e ≤ f). let z : e ≡ f = omega (arith, ge, le) in z)
+    (cases_lt f e))
+    (cases_lt e f)
+
+module _ (t : List Entry) (apart : AreApart t) where
+  pub apart_identifiers : HaveIdentifiers t
+  apart_identifiers df e f one other same = same_number e f
+      (λ lt. apart e one.used f lt other.used (inl (one.below, one.parent ∙ sym other.parent, inl same)))
+      (λ lt. apart f other.used e lt one.used (inl (other.below, other.parent ∙ sym one.parent, inl (sym same))))
+
+  pub apart_shorts : HaveShortIdentifiers t
+  apart_shorts df e f one other some same = same_number e f
+      (λ lt. apart e one.used f lt other.used (inl (one.below, one.parent ∙ sym other.parent, inr (some, same))))
+      (λ lt. apart f other.used e lt one.used
+      (inl (other.below, other.parent ∙ sym one.parent, inr ((λ none. some (same ∙ none)), sym same))))
+
+  pub apart_names : HaveNames t
+  apart_names e f used other some same =
+      let size : length (name_of (entry_in t e)) ≡ length (name_of (entry_in t f)) =
+      ap (λ (l : List ℕ). length l) same in
+      same_number e f
+      (λ lt. apart e used f lt other (inr (some, same)))
+      (λ lt. apart f other e lt used (inr (omega (arith, some, size), sym same)))
+
+-- the rules on identifiers and names leave no two alike
+pub rules_apart : (t : List Entry) → HaveIdentifiers t → HaveShortIdentifiers t → HaveNames t → AreApart t
+rules_apart t identifiers shorts names e used f lt other (inl siblings) =
+    let one : IsChild t (entry_in t e).parent e = record { below = siblings.0; used = used; parent = refl } in
+    let two : IsChild t (entry_in t e).parent f =
+    record { below = omega (arith, siblings.0, lt); used = other; parent = sym siblings.1 } in
+    ⊎_elim
+    (λ (same : (entry_in t e).identifier ≡ (entry_in t f).identifier).
+    let z = identifiers _ e f one two same in let no_such : ⊥ = omega (arith, z, lt) in no_such)
+    (λ (same : ((entry_in t e).short ≢ 0) × ((entry_in t e).short ≡ (entry_in t f).short)).
+    let z = shorts _ e f one two same.0 same.1 in let no_such : ⊥ = omega (arith, z, lt) in no_such)
+    siblings.2
+rules_apart t identifiers shorts names e used f lt other (inr named) =
+    let z = names e f used other named.0 named.1 in omega (arith, z, lt)
+
+-- the rules on the table, as the check goes over them
+pub table_of : (t : List Entry) → IsMasterFile (entry_in t 0) → All IsEntry t → AreBelow t → AreApart t → IsTable t
+table_of t master each below apart = record {
+  each = each;
+  master = master;
+  below = below;
+  identifiers = apart_identifiers t apart;
+  short_identifiers = apart_shorts t apart;
+  names = apart_names t apart;
+}
+
+pub table_apart : (t : List Entry) → IsTable t → AreApart t
+table_apart t rules = rules_apart t rules.identifiers rules.short_identifiers rules.names

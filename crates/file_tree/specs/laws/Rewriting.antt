@@ -1,0 +1,208 @@
+-- What writing bytes of blocks makes of the tree: bytes of one file, and of free blocks.
+use Rattle.std.specs.Prelude.{◌≡◌, ◌≢◌, ◌⊎◌, ◌<◌, ◌≤◌, ◌+◌, ◌==◌, ℕ, Bool, true, false, if◌then◌else◌, List, [], length, take}
+use Rattle.std.specs.Prelude.{slice_index, Option, None, Some, unwrap_or}
+use Rattle.std.proofs.Common.{refl, sym, ◌∙◌, ap, ap₂, subst, arith, inl, inr, ⊎_elim, get_or-take}
+use Rattle.std.proofs.lemmas.Bool.{cases_lt}
+use Rattle.std.proofs.lemmas.Bool.Decides.{eqb_tells}
+use Rattle.std.proofs.lemmas.List.{length-take-le}
+use Rattle.std.proofs.lemmas.Grind.{same_number_lists}
+use Rattle.std.specs.FinMap.{insert}
+use Rattle.nvm_board.specs.Facts.{address}
+use Rattle.nvm_board.specs.declared.board.TheConstants.{WORDS, PAGE_WORDS}
+use Rattle.card_rules.specs.LifeCycle.{life_cycle_at}
+use Rattle.card_rules.specs.declared.life_cycle.LifeCycle.TheVariants.{Activated}
+use Rattle.block_chain.specs.declared.layout.TheConstants.{HEADER_PAGE, FREE_HEAD_WORD, BLOCK_BYTES}
+use Rattle.block_chain.specs.declared.chain.Extent.{Extent}
+use Rattle.block_chain.specs.Counts.{count, IsNotIn}
+use Rattle.block_chain.specs.Words.{word, page_words, IsBlock}
+use Rattle.block_chain.specs.Chains.{free_chain, bytes_of}
+use Rattle.block_chain.specs.Changes.{OnlyContent, Overwrites, overwrite}
+use Rattle.block_chain.specs.Parts.{byte_over}
+use Rattle.block_chain.specs.Layout.{blocks_of, laid_out, IsExtent, AreLaid, SameBytes}
+use Rattle.block_chain.specs.laws.Counts.{count-append, count-split}
+use Rattle.block_chain.specs.laws.Bytes.{AreBlocks, leads_blocks, blocks_take}
+use Rattle.block_chain.specs.laws.Overwriting.{length-overwrite, index-overwrite}
+use Rattle.block_chain.specs.laws.Footprints.{page_words_same, not_among, no_header, laid_kept, extent_kept, extent_bytes}
+use Rattle.file_tree.specs.declared.entry.Entry.{Entry}
+use Rattle.file_tree.specs.Cards.{transparent, linear, cyclic, dedicated, elementary, File, Path, file_at, with_bytes}
+use Rattle.file_tree.specs.Entries.{file_of, kind_of, body_of, linear_records, cyclic_records, capacity_of, rule_of, name_of}
+use Rattle.file_tree.specs.Entries.{extent_of, extent_told}
+use Rattle.file_tree.specs.Table.{table, entry_in, path_of, extents, IsUsed, IsTable}
+use Rattle.file_tree.specs.Trees.{content, tree_of, TreeStands}
+use Rattle.file_tree.specs.Changes.{IsEntryPage, KeepsRest, KeepsTree, Rewrites, with_overwritten}
+use Rattle.file_tree.specs.laws.Tables.{table-same, length-table}
+use Rattle.file_tree.specs.laws.Nodes.{file_in, file_at_entry, used_small}
+use Rattle.file_tree.specs.laws.Costs.{entry_extent, room_for_size}
+use Rattle.file_tree.specs.laws.Contents.{content-none, content-some, count_both, count_named, named-some}
+use Rattle.file_tree.specs.laws.Changing.{tree_inserted, tree_stays}
+
+-- the first bytes of a list that is overwritten within them
+pub take_overwritten : (xs bytes : List ℕ) (offset n : ℕ) → offset + length bytes ≤ n → n ≤ length xs
+    → take n (overwrite xs offset bytes) ≡ overwrite (take n xs) offset bytes
+take_overwritten xs bytes offset n within fits =
+    let size = length-take-le n xs fits in
+    let outer = length-overwrite xs bytes offset (omega (arith, within, fits)) in
+    let inner = length-overwrite (take n xs) bytes offset (omega (arith, within, size)) in
+    let left = length-take-le n (overwrite xs offset bytes) (omega (arith, outer, fits)) in
+    same_number_lists _ _ (left ∙ sym (inner ∙ size)) (λ i lt.
+    let small : i < n = omega (arith, lt, left) in
+    get_or-take n (overwrite xs offset bytes) i 0 small
+    ∙ index-overwrite xs bytes offset (omega (arith, within, fits)) i
+    ∙ sym (index-overwrite (take n xs) bytes offset (omega (arith, within, size)) i
+    ∙ ap (byte_over offset bytes i) (get_or-take n xs i 0 small)))
+
+-- the file of a transparent entry
+pub file_of-transparent : (x : Entry) (bytes : List ℕ) → x.kind ≡ 2 → file_of x bytes ≡ record {
+  life = unwrap_or (life_cycle_at x.life) Activated;
+  rule = rule_of x;
+  kind = elementary (if x.short == 0 then None else Some x.short) (transparent (take x.size bytes));
+}
+unfolding file_of
+file_of-transparent x bytes is = λ i. record {
+  life = unwrap_or (life_cycle_at x.life) Activated;
+  rule = rule_of x;
+  kind = if is i == 1 then dedicated (if x.name_length == 0 then None else Some (name_of x))
+      else elementary (if x.short == 0 then None else Some x.short) (
+      if is i == 2 then transparent (take x.size bytes) else
+      if is i == 3 then linear x.record_length (capacity_of x) (linear_records x bytes) else
+      cyclic x.record_length (capacity_of x) (cyclic_records x bytes));
+}
+
+-- so overwriting its bytes overwrites the file's
+pub file_overwritten : (x : Entry) (content bytes : List ℕ) (offset : ℕ) → x.kind ≡ 2 → offset + length bytes ≤ x.size
+    → x.size ≤ length content → file_of x (overwrite content offset bytes) ≡ with_overwritten (file_of x content) offset bytes
+file_overwritten x content bytes offset is within fits =
+    file_of-transparent x (overwrite content offset bytes) is
+    ∙ ap (λ (bs : List ℕ). record {
+      life = unwrap_or (life_cycle_at x.life) Activated;
+      rule = rule_of x;
+      kind = elementary (if x.short == 0 then None else Some x.short) (transparent bs);
+    }) (take_overwritten content bytes offset x.size within fits)
+    ∙ sym (ap (λ (file : File). with_overwritten file offset bytes) (file_of-transparent x content is))
+
+-- Words of blocks that hold bytes change: entries stay, and so does all that is no block.
+module _ (m after ps : List ℕ) (sized : length m ≡ WORDS) (blocks : AreBlocks ps) (only : OnlyContent m ps after) where
+  other_page : (page place : ℕ) → place < PAGE_WORDS → (IsBlock page → ⊥) → word after page place ≡ word m page place
+  other_page page place small outside = only.others page place small (inr (not_among page outside ps blocks))
+
+  pub content_table : table after ≡ table m
+  content_table = table-same m after (λ page from below.
+      page_words_same m after page (omega (arith, sized, below)) only.size
+      (λ place small. other_page page place small (λ block. let low = block.0 in let z : ⊥ = omega (arith, low, below) in z)))
+
+  pub content_rest : KeepsRest m after
+  content_rest = record {
+    size = only.size;
+    words = λ page place small entry block header. other_page page place small block;
+  }
+
+  pub content_stands : TreeStands m → TreeStands after
+  content_stands stands = record {
+    entries = subst IsTable (sym content_table) stands.entries;
+    blocks = (
+        let family : List Extent → Type 0 = λ es. AreLaid after es in
+        subst family (sym (ap extents content_table))
+        (laid_kept m after (extents (table m)) ps stands.blocks only (no_header ps blocks)).0);
+  }
+
+  pub content_free : TreeStands m → free_chain after ≡ free_chain m
+  content_free stands = (laid_kept m after (extents (table m)) ps stands.blocks only (no_header ps blocks)).1
+
+  -- a file whose blocks are not among these stays
+  pub content_file : TreeStands m → (e : ℕ) → IsUsed (table m) e
+      → ((q : ℕ) → 1 ≤ count q (blocks_of m (extent_told (entry_in (table m) e))) → 2 ≤ (entry_in (table m) e).kind → IsNotIn q ps)
+      → file_in after e ≡ file_in m e
+  content_file stands e used apart =
+      let x = entry_in (table m) e in
+      let same : content after x ≡ content m x = ⊎_elim
+      (λ (low : x.kind < 2). content-none after x low ∙ sym (content-none m x low))
+      (λ (high : 2 ≤ x.kind).
+      let extent : IsExtent m (extent_told x) = entry_extent m sized stands e (used_small m e used) high in
+      let kept = extent_bytes m after ps (extent_told x) sized extent only (λ q some. apart q some high) in
+      content-some after x high ∙ ap (bytes_of after) kept.0 ∙ kept.1 ∙ sym (content-some m x high))
+      (cases_lt x.kind 2) in
+      ap₂ (λ (t : List Entry) (bytes : List ℕ). file_of (entry_in t e) bytes) content_table
+      (ap (λ (t : List Entry). content after (entry_in t e)) content_table ∙ same)
+
+-- the blocks of two entries are apart
+pub entries_apart : (m : List ℕ) → TreeStands m → (e f : ℕ) → e ≢ f → e < 64 → f < 64 → 2 ≤ (entry_in (table m) e).kind
+    → 2 ≤ (entry_in (table m) f).kind → (q : ℕ) → 1 ≤ count q (blocks_of m (extent_told (entry_in (table m) f)))
+    → IsNotIn q (blocks_of m (extent_told (entry_in (table m) e)))
+entries_apart m stands e f other e_in f_in e_high f_high q some =
+    let t = table m in
+    let long = length-table m in
+    let one = ap (count q) (named-some m (entry_in t e) e_high) in
+    let two = ap (count q) (named-some m (entry_in t f) f_high) in
+    let most = stands.blocks.once q in
+    let parts = count-append q (free_chain m) (laid_out m (extents t)) in
+    ⊎_elim
+    (λ (lt : e < f). let both = count_both m q t e f lt (omega (arith, f_in, long)) in omega (arith, one, two, most, parts, both, some))
+    (λ (from : f ≤ e).
+    let lt : f < e = omega (arith, from, other) in
+    let both = count_both m q t f e lt (omega (arith, e_in, long)) in omega (arith, one, two, most, parts, both, some))
+    (cases_lt e f)
+
+-- The bytes of a transparent file are overwritten within its size: the tree has the file so, and all else stays.
+pub rewritten : (m after : List ℕ) (e offset : ℕ) (bytes : List ℕ) → length m ≡ WORDS → TreeStands m → IsUsed (table m) e
+    → (entry_in (table m) e).kind ≡ 2 → offset + length bytes ≤ (entry_in (table m) e).size
+    → Overwrites m (blocks_of m (extent_told (entry_in (table m) e))) offset bytes after → Rewrites m e offset bytes after
+rewritten m after e offset bytes sized stands used is within over =
+    let t = table m in
+    let x = entry_in t e in
+    let p = path_of t e in
+    let e_in = used_small m e used in
+    let high : 2 ≤ x.kind = omega (arith, is) in
+    let extent : IsExtent m (extent_told x) = entry_extent m sized stands e e_in high in
+    let ps = blocks_of m (extent_told x) in
+    let blocks = leads_blocks m _ 0 ps extent.leads in
+    let same = content_table m after ps sized blocks over.only in
+    let stands_after = content_stands m after ps sized blocks over.only stands in
+    let kept : blocks_of after (extent_told x) ≡ ps =
+    (extent_kept m after (extent_told x) extent (λ q some. over.only.others q 0 (omega arith) (inl refl))).1 in
+    let content_after : content after x ≡ overwrite (content m x) offset bytes =
+    content-some after x high ∙ ap (bytes_of after) kept ∙ over.content
+    ∙ ap (λ (bs : List ℕ). overwrite bs offset bytes) (sym (content-some m x high)) in
+    let own : file_in after e ≡ with_overwritten (file_in m e) offset bytes =
+    ap (λ (u : List Entry). file_of (entry_in u e) (content after (entry_in u e))) same
+    ∙ ap (file_of x) content_after
+    ∙ file_overwritten x (content m x) bytes offset is within (room_for_size m sized stands e e_in high) in
+    let before : (f : ℕ) → IsUsed (table after) f → IsUsed t f = λ f u. subst (λ (s : List Entry). IsUsed s f) same u in
+    let now : (f : ℕ) → IsUsed t f → IsUsed (table after) f = λ f u. subst (λ (s : List Entry). IsUsed s f) (sym same) u in
+    let others : (f : ℕ) → f ≢ e → IsUsed (table after) f → IsUsed t f × (file_in after f ≡ file_in m f) = λ f other u. (
+      before f u,
+      content_file m after ps sized blocks over.only stands f (before f u) (λ q some f_high.
+          entries_apart m stands e f (λ eq. other (sym eq)) e_in (used_small m f (before f u)) high f_high q some),
+    ) in
+    let inserted = tree_inserted m after stands.entries stands_after.entries e (now e used) others
+    (λ f u. (now f u, ap (λ (s : List Entry). path_of s f) same)) in
+    record {
+      tree = inserted
+          ∙ ap (λ (s : List Entry). insert (tree_of m) (path_of s e) (file_in after e)) same
+          ∙ ap (insert (tree_of m) p) (own ∙ ap (λ (file : File). with_overwritten file offset bytes)
+          (sym (file_at_entry m stands.entries e p used refl)));
+      stands = stands_after;
+      free = content_free m after ps sized blocks over.only stands;
+      rest = content_rest m after ps sized blocks over.only;
+      table = same;
+    }
+
+-- Bytes of the first free blocks are set: the tree stays.
+pub filled : (m after : List ℕ) (n : ℕ) → length m ≡ WORDS → TreeStands m → OnlyContent m (take n (free_chain m)) after
+    → KeepsTree m after
+filled m after n sized stands only =
+    let ps = take n (free_chain m) in
+    let blocks : AreBlocks ps = blocks_take n (free_chain m) (leads_blocks m _ 0 (free_chain m) stands.blocks.free) in
+    let same = content_table m after ps sized blocks only in
+    record {
+      tree = tree_stays m after stands.entries same (λ e used. content_file m after ps sized blocks only stands e used (λ q some high.
+          let own = ap (count q) (named-some m (entry_in (table m) e) high) in
+          let among = count_named m q (table m) e (let long = length-table m in let small = used_small m e used in omega (arith, long, small)) in
+          let most = stands.blocks.once q in
+          let parts = count-append q (free_chain m) (laid_out m (extents (table m))) in
+          let split = count-split q n (free_chain m) in
+          omega (arith, own, among, most, parts, split, some)));
+      stands = content_stands m after ps sized blocks only stands;
+      free = content_free m after ps sized blocks only stands;
+      rest = content_rest m after ps sized blocks only;
+      table = same;
+    }

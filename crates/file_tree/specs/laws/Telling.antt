@@ -1,0 +1,32 @@
+-- What the parts of the check of a memory say together.
+use Rattle.std.specs.Prelude.{◌≡◌, ℕ, List, length, Some}
+use Rattle.std.proofs.Common.{sym, ◌∙◌, ap, subst}
+use Rattle.nvm_board.specs.declared.board.TheConstants.{WORDS}
+use Rattle.block_chain.specs.declared.chain.Extent.{Extent}
+use Rattle.block_chain.specs.Chains.{free_chain}
+use Rattle.block_chain.specs.Layout.{AreLaid}
+use Rattle.file_tree.specs.declared.entry.Entry.{Entry}
+use Rattle.file_tree.specs.declared.space.FreeSpace.{FreeSpace}
+use Rattle.file_tree.specs.Table.{table, extents, free_entries, IsTable}
+use Rattle.file_tree.specs.Trees.{TreeStands, TellsSpace}
+use Rattle.file_tree.specs.laws.Costs.{space_counted}
+
+-- the entries hold to their rules, their extents lie as they should, and free blocks and entries are counted
+pub tells_space : (m now : List ℕ) (t : List Entry) (es : List Extent) (blocks free : ℕ) → length m ≡ WORDS → now ≡ m
+    → t ≡ table m → es ≡ extents t → IsTable t → AreLaid now es × (blocks ≡ length (free_chain now))
+    → free ≡ free_entries t
+    → TellsSpace m (Some (record { blocks = blocks; entries = free }))
+tells_space m now t es blocks free sized same entries named rules laid counted =
+    let is_table : List Entry → Type 0 = λ l. IsTable l in
+    let lies : List ℕ → Type 0 = λ l. AreLaid l es in
+    let holds : List Extent → Type 0 = λ l. AreLaid m l in
+    let stands : TreeStands m = record {
+      entries = subst is_table entries rules;
+      blocks = subst holds (named ∙ ap extents entries) (subst lies same laid.0);
+    } in
+    let blocks_are : blocks ≡ length (free_chain m) = laid.1 ∙ ap (λ (l : List ℕ). length (free_chain l)) same in
+    let free_are : free ≡ free_entries (table m) = counted ∙ ap free_entries entries in
+    let record_is : ◌≡◌ {A = FreeSpace} (record { blocks = blocks; entries = free })
+    (record { blocks = length (free_chain m); entries = free_entries (table m) }) =
+    (λ i. record { blocks = blocks_are i; entries = free_are i }) in
+    (stands, record_is ∙ sym (space_counted m sized stands))

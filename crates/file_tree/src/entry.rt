@@ -1,0 +1,175 @@
+//! File entries, as their pages hold them.
+
+ghost use Rattle.std.specs.Prelude.{◌≡◌, ◌++◌, IsTrue, ◌↔◌};
+ghost use Rattle.block_chain.specs.Words.{word_bytes};
+ghost use Rattle.file_tree.specs.Entries.{high, low, entry_of, name_of, rule_of, extent_of};
+
+use crate::layout::ENTRIES;
+use arrayvec::ArrayVec;
+use block_chain::{Chain, Extent};
+
+/// A file entry, as words 0 to 10 of its page tell it. Any words are an entry; the rules on entries say which tables of
+/// entries are a tree.
+#[derive(Clone, Copy, Default)]
+pub struct Entry {
+    /// 0 free, 1 a dedicated file, 2 a transparent, 3 a linear, 4 a cyclic elementary file.
+    pub kind: u8,
+    /// The life cycle status byte (ISO/IEC 7816-4, 7.4.10).
+    pub life: u8,
+    /// The file identifier.
+    pub identifier: u16,
+    /// The number of the parent's entry; the master file's is its own, 0.
+    pub parent: u8,
+    /// The short identifier, or 0 for none.
+    pub short: u8,
+    /// How many bytes of `name` are the name of a dedicated file; 0 for none.
+    pub name_length: u8,
+    /// How many bytes of `rule` are the access rule.
+    pub rule_length: u8,
+    /// The access rule in compact format, and bytes that are not looked at.
+    pub rule: [u8; 8],
+    /// The name, and bytes that are not looked at.
+    pub name: [u8; 16],
+    /// The bytes that are reserved for the body.
+    pub size: u16,
+    /// The bytes of a record; of a transparent file 0.
+    pub record_length: u16,
+    /// The page of the body's first block.
+    pub first: u16,
+    /// The page of its last block.
+    pub last: u16,
+    /// How many records exist.
+    pub records: u16,
+    /// The slot of record 1 of a cyclic file; of other files 0.
+    pub start: u16,
+}
+
+const TABLE_ROOM: usize = ENTRIES as usize;
+
+/// The file entries of a memory, in the order of their numbers.
+pub type Table = ArrayVec<Entry, TABLE_ROOM>;
+
+/// The extents of elementary files.
+pub type ExtentList = ArrayVec<Extent, TABLE_ROOM>;
+
+/// The words of a page that an entry takes.
+pub(crate) const ENTRY_WORDS: usize = 11;
+
+/// The entry that no file has.
+const FREE: Entry = Entry {
+    kind: 0,
+    life: 0,
+    identifier: 0,
+    parent: 0,
+    short: 0,
+    name_length: 0,
+    rule_length: 0,
+    rule: [0; 8],
+    name: [0; 16],
+    size: 0,
+    record_length: 0,
+    first: 0,
+    last: 0,
+    records: 0,
+    start: 0,
+};
+
+impl Entry {
+    /// The entry that the first words of a page tell.
+    pub(crate) fn from_words(words: &[u32; ENTRY_WORDS]) -> Entry
+        ensures { result ≡ entry_of words.now }
+    {
+        if words[0] == 0 {
+            return FREE;
+        }
+        let [kind, life, _, _] = words[0].to_be_bytes();
+        let [parent, short, name_length, rule_length] = words[1].to_be_bytes();
+        Entry {
+            kind,
+            life,
+            identifier: low(words[0]),
+            parent,
+            short,
+            name_length,
+            rule_length,
+            rule: two_words(words[2], words[3]),
+            name: four_words(words[4], words[5], words[6], words[7]),
+            size: high(words[8]),
+            record_length: low(words[8]),
+            first: high(words[9]),
+            last: low(words[9]),
+            records: high(words[10]),
+            start: low(words[10]),
+        }
+    }
+
+    /// The name of a dedicated file, or no bytes.
+    pub fn name(&self) -> &[u8]
+        ensures { result.now ≡ name_of self.now }
+    {
+        let length = usize::from(self.name_length).min(self.name.len());
+        &self.name[..length]
+    }
+
+    /// The access rule.
+    pub fn rule(&self) -> &[u8]
+        ensures { result.now ≡ rule_of self.now }
+    {
+        let length = usize::from(self.rule_length).min(self.rule.len());
+        &self.rule[..length]
+    }
+
+    /// The blocks that an elementary file has: as many as its size takes, in the chain that the entry names.
+    #[tactic(auto, unfolding(crate::specs::Entries::extent_of))]
+    pub(crate) fn extent(&self) -> Option<Extent>
+        ensures { result ≡ extent_of self.now }
+    {
+        if self.kind < 2 {
+            return None;
+        }
+        let chain = Chain {
+            first: self.first,
+            last: self.last,
+        };
+        let blocks = (u32::from(self.size) + 59) / 60;
+        Some(Extent {
+            chain,
+            blocks: blocks as u16,
+        })
+    }
+}
+
+/// The first two bytes of a word.
+fn high(word: u32) -> u16
+    ensures { result ≡ high word }
+{
+    (word >> 16) as u16
+}
+
+/// The last two bytes of a word.
+fn low(word: u32) -> u16
+    ensures { result ≡ low word }
+{
+    (word % 0x1_0000) as u16
+}
+
+/// The bytes of two words.
+fn two_words(first: u32, second: u32) -> [u8; 8]
+    ensures { result ≡ word_bytes first ++ word_bytes second }
+{
+    let a = first.to_be_bytes();
+    let b = second.to_be_bytes();
+    [a[0], a[1], a[2], a[3], b[0], b[1], b[2], b[3]]
+}
+
+/// The bytes of four words.
+fn four_words(first: u32, second: u32, third: u32, fourth: u32) -> [u8; 16]
+    ensures { result ≡ word_bytes first ++ word_bytes second ++ word_bytes third ++ word_bytes fourth }
+{
+    let a = two_words(first, second);
+    let b = two_words(third, fourth);
+    [
+        a[0], a[1], a[2], a[3], a[4], a[5], a[6], a[7], b[0], b[1], b[2], b[3], b[4], b[5], b[6],
+        b[7],
+    ]
+}

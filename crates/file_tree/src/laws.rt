@@ -1,0 +1,62 @@
+//! Laws of the tree that a memory stands for.
+
+ghost use Rattle.std.specs.Prelude.{◌≡◌, ◌<◌, ℕ, List, length, Option, Some, None};
+ghost use Rattle.std.specs.FinMap.{get};
+ghost use Rattle.nvm_board.specs.declared.board.TheConstants.{WORDS};
+ghost use Rattle.block_chain.specs.Chains.{free_chain};
+ghost use Rattle.file_tree.specs.declared.layout.TheConstants.{FIRST_ENTRY_PAGE, ENTRIES, DEEPEST, MASTER_FILE};
+ghost use Rattle.file_tree.specs.Cards.{Path, IsTree, master_file};
+ghost use Rattle.file_tree.specs.Spaces.{free_space};
+ghost use Rattle.file_tree.specs.Table.{table, path_of, free_entries, IsUsed};
+ghost use Rattle.file_tree.specs.Trees.{tree_of, TreeStands};
+ghost use Rattle.file_tree.specs.laws.Footprints.{KeepsTree};
+ghost use Rattle.file_tree.specs.laws.Nodes.{file_in};
+
+/// Entry 0 is on page 1, there are 64 entries, no file is more than seven steps below the master file, and this has the
+/// identifier 3F00.
+pub fn layout()
+    ensures first { FIRST_ENTRY_PAGE ≡ 1 }
+    ensures entries { ENTRIES ≡ 64 }
+    ensures deepest { DEEPEST ≡ 7 }
+    ensures master { (MASTER_FILE ≡ 0x3F00) × (master_file ≡ 0x3F00) }
+{}
+
+/// The tree has each used entry's file at its path.
+#[tactic(auto, using(crate::specs::laws::Nodes::files))]
+pub fn entries_are_files()
+    ensures { (m : List ℕ) (e : ℕ) → TreeStands m → IsUsed (table m) e
+        → get (tree_of m) (path_of (table m) e) ≡ Some (file_in m e) }
+{}
+
+/// What the tree has at a path is the file of a used entry with this path.
+#[tactic(auto, using(crate::specs::laws::Nodes::files))]
+pub fn files_are_entries()
+    ensures { (m : List ℕ) (path : Path) → TreeStands m
+        → ((e : ℕ) → IsUsed (table m) e → path_of (table m) e ≡ path → ⊥) → get (tree_of m) path ≡ None }
+{}
+
+/// Files with one path are one file.
+#[tactic(auto, using(crate::specs::laws::Paths::one_path))]
+pub fn one_file_a_path()
+    ensures { (m : List ℕ) (e f : ℕ) → TreeStands m → IsUsed (table m) e → IsUsed (table m) f
+        → path_of (table m) e ≡ path_of (table m) f → e ≡ f }
+{}
+
+/// The files are those of a card: the master file is there, and each file's parent, a dedicated file.
+#[tactic(auto, using(crate::specs::laws::Standing::stands_tree))]
+pub fn files_of_a_card()
+    ensures { (m : List ℕ) → TreeStands m → IsTree (tree_of m) }
+{}
+
+/// Free are the blocks of the free chain, and the entries that no file has.
+#[tactic(auto, using(crate::specs::laws::Costs::space_counted))]
+pub fn free_space_is_counted()
+    ensures { (m : List ℕ) → length m ≡ WORDS → TreeStands m
+        → free_space (tree_of m) ≡ record { blocks = length (free_chain m); entries = free_entries (table m) } }
+{}
+
+/// The tree depends on the pages of entries, on blocks, and on the header's word of free blocks alone.
+pub fn words_elsewhere_keep_the_tree()
+    ensures { (m after : List ℕ) → length m ≡ WORDS → KeepsTree m after → TreeStands m
+        → TreeStands after × (table after ≡ table m) × (tree_of after ≡ tree_of m) × (free_chain after ≡ free_chain m) }
+{}

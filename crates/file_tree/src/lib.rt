@@ -1,0 +1,20 @@
+//! The tree of files that a memory holds, as a table of file entries over chains of blocks.
+#![tactic(auto)]
+
+mod entry;
+pub mod laws;
+mod layout;
+mod look_up;
+mod reading;
+mod rules;
+mod space;
+mod table;
+mod tree;
+
+pub use entry::{Entry, ExtentList, Table};
+pub use layout::{DEEPEST, ENTRIES, FIRST_ENTRY_PAGE, MASTER_FILE};
+pub use look_up::{find_child, find_short, select};
+pub use reading::{read_entry, read_table};
+pub use space::FreeSpace;
+pub use table::{extents_of, is_table};
+pub use tree::is_tree;

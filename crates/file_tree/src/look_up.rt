@@ -1,0 +1,169 @@
+//! Files by their names: every look-up of an identifier goes through `find_child`.
+
+ghost use Rattle.std.specs.Prelude.{◌≡◌, ◌≤◌, ◌<◌, IfOk, OnOk, IfSome, option_map};
+ghost use Rattle.std.specs.Result.{result_err};
+ghost use Rattle.undo_journal.specs.Memory.{committed, IsReady};
+ghost use Rattle.undo_journal.specs.Calls.{OnlyReads};
+ghost use Rattle.file_tree.specs.Reaching.{reached, child_by_short};
+ghost use Rattle.file_tree.specs.Table.{table, entry_in, path_of, IsUsed, IsChild};
+ghost use Rattle.file_tree.specs.Trees.{tree_of, TreeStands};
+ghost use Rattle.file_tree.specs.laws.LookUps.{TellsChild, TellsShort, TellsBeside, TellsAbove};
+
+use crate::layout::{ENTRIES, MASTER_FILE};
+use crate::reading::read_entry;
+use undo_journal::{Board, Store, StoreErr};
+
+/// The entry of the child of a dedicated file with this identifier, if it has one.
+#[tactic(auto, using(undo_journal::specs::laws::Calls::reads_then))]
+pub fn find_child<B: Board>(
+    store: &mut Store<B>,
+    df: u8,
+    identifier: u16,
+) -> Result<Option<u8>, StoreErr>
+    requires ready { IsReady store.old }
+    ensures found { IfOk result (TellsChild (table (committed store.old)) df identifier) }
+    ensures ready { OnOk result (IsReady store.new) }
+    ensures reads { OnlyReads store.old store.new }
+    ensures tells { store.new.failed ≡ result_err result }
+{
+    for e in 1..ENTRIES as u8 {
+        let entry = read_entry(store, e)?;
+        if entry.kind != 0 && entry.parent == df && entry.identifier == identifier {
+            return Ok(Some(e));
+        }
+    }
+    Ok(None)
+}
+
+/// The entry of the child of a dedicated file with this short identifier, 1 to 30, if it has one.
+#[tactic(auto, using(undo_journal::specs::laws::Calls::reads_then))]
+fn find_short_child<B: Board>(
+    store: &mut Store<B>,
+    df: u8,
+    short: u8,
+) -> Result<Option<u8>, StoreErr>
+    requires ready { IsReady store.old }
+    ensures found { IfOk result (TellsShort (table (committed store.old)) df short) }
+    ensures ready { OnOk result (IsReady store.new) }
+    ensures reads { OnlyReads store.old store.new }
+    ensures tells { store.new.failed ≡ result_err result }
+{
+    for e in 1..ENTRIES as u8 {
+        let entry = read_entry(store, e)?;
+        if entry.kind != 0 && entry.parent == df && entry.short == short {
+            return Ok(Some(e));
+        }
+    }
+    Ok(None)
+}
+
+/// The entry of the child of a dedicated file that a short identifier names, if it has one.
+///
+/// # Errors
+/// What the store answers: power was lost, or the device failed.
+#[tactic(auto, using(undo_journal::specs::laws::Calls::reads_then))]
+pub fn find_short<B: Board>(store: &mut Store<B>, df: u8, short: u8) -> Result<Option<u8>, StoreErr>
+    requires ready { IsReady store.old }
+    requires tree { TreeStands (committed store.old) }
+    requires df { IsUsed (table (committed store.old)) df }
+    requires some { 1 ≤ short }
+    ensures found { IfOk result (λ found. option_map (path_of (table (committed store.old))) found
+        ≡ child_by_short (tree_of (committed store.old)) (path_of (table (committed store.old)) df) short) }
+    ensures child { IfOk result (λ found. IfSome found (IsChild (table (committed store.old)) df)) }
+    ensures elementary { IfOk result (λ found. IfSome found (λ e. 2 ≤ (entry_in (table (committed store.old)) e).kind)) }
+    ensures ready { OnOk result (IsReady store.new) }
+    ensures reads { OnlyReads store.old store.new }
+    ensures tells { store.new.failed ≡ result_err result }
+{
+    let found = find_short_child(store, df, short)?;
+    Ok(found)
+}
+
+/// A dedicated file beside this one with this identifier. The master file has none beside it.
+#[tactic(auto, using(undo_journal::specs::laws::Calls::reads_then))]
+fn find_beside<B: Board>(
+    store: &mut Store<B>,
+    df: u8,
+    identifier: u16,
+) -> Result<Option<u8>, StoreErr>
+    requires ready { IsReady store.old }
+    requires tree { TreeStands (committed store.old) }
+    requires df { IsUsed (table (committed store.old)) df }
+    ensures found { IfOk result (TellsBeside (table (committed store.old)) df identifier) }
+    ensures ready { OnOk result (IsReady store.new) }
+    ensures reads { OnlyReads store.old store.new }
+    ensures tells { store.new.failed ≡ result_err result }
+{
+    if df == 0 {
+        return Ok(None);
+    }
+    let entry = read_entry(store, df)?;
+    let Some(beside) = find_child(store, entry.parent, identifier)? else {
+        return Ok(None);
+    };
+    let other = read_entry(store, beside)?;
+    if other.kind == 1 {
+        Ok(Some(beside))
+    } else {
+        Ok(None)
+    }
+}
+
+/// The parent of a dedicated file, or itself, or the master file: the first that has this identifier.
+#[tactic(auto, using(undo_journal::specs::laws::Calls::reads_then))]
+fn find_above<B: Board>(
+    store: &mut Store<B>,
+    df: u8,
+    identifier: u16,
+) -> Result<Option<u8>, StoreErr>
+    requires ready { IsReady store.old }
+    requires tree { TreeStands (committed store.old) }
+    requires df { IsUsed (table (committed store.old)) df }
+    ensures found { IfOk result (TellsAbove (table (committed store.old)) df identifier) }
+    ensures ready { OnOk result (IsReady store.new) }
+    ensures reads { OnlyReads store.old store.new }
+    ensures tells { store.new.failed ≡ result_err result }
+{
+    let own = read_entry(store, df)?;
+    let above = read_entry(store, own.parent)?;
+    if df != 0 && above.identifier == identifier {
+        Ok(Some(own.parent))
+    } else if own.identifier == identifier {
+        Ok(Some(df))
+    } else if identifier == MASTER_FILE {
+        Ok(Some(0))
+    } else {
+        Ok(None)
+    }
+}
+
+/// The entry of the file that two bytes name from a dedicated file: a child of it; a dedicated file beside it; its
+/// parent; itself; the master file. The first of these that exists counts (ISO/IEC 7816-4, 7.3.1).
+///
+/// # Errors
+/// What the store answers: power was lost, or the device failed.
+#[tactic(auto, using(undo_journal::specs::laws::Calls::reads_then))]
+pub fn select<B: Board>(
+    store: &mut Store<B>,
+    df: u8,
+    identifier: u16,
+) -> Result<Option<u8>, StoreErr>
+    requires ready { IsReady store.old }
+    requires tree { TreeStands (committed store.old) }
+    requires df { IsUsed (table (committed store.old)) df }
+    ensures found { IfOk result (λ found. option_map (path_of (table (committed store.old))) found
+        ≡ reached (tree_of (committed store.old)) (path_of (table (committed store.old)) df) identifier) }
+    ensures used { IfOk result (λ found. IfSome found (IsUsed (table (committed store.old)))) }
+    ensures ready { OnOk result (IsReady store.new) }
+    ensures reads { OnlyReads store.old store.new }
+    ensures tells { store.new.failed ≡ result_err result }
+{
+    if let Some(child) = find_child(store, df, identifier)? {
+        return Ok(Some(child));
+    }
+    if let Some(beside) = find_beside(store, df, identifier)? {
+        return Ok(Some(beside));
+    }
+    let above = find_above(store, df, identifier)?;
+    Ok(above)
+}

@@ -1,0 +1,61 @@
+//! Entries read from a store.
+
+ghost use Rattle.std.specs.Prelude.{◌≡◌, ◌+◌, ◌<◌, ℕ, slice_index, IfOk, OnOk};
+ghost use Rattle.std.specs.Result.{result_err};
+ghost use Rattle.undo_journal.specs.Memory.{committed, IsReady};
+ghost use Rattle.undo_journal.specs.Calls.{OnlyReads};
+ghost use Rattle.block_chain.specs.Words.{word};
+ghost use Rattle.file_tree.specs.Table.{table, entry_in};
+
+use crate::entry::{ENTRY_WORDS, Entry, Table};
+use crate::layout::{ENTRIES, FIRST_ENTRY_PAGE};
+use undo_journal::{Board, PAGE_WORDS, Store, StoreErr};
+
+/// The words of an entry's page that an entry takes, each read once.
+#[tactic(auto, using(undo_journal::specs::laws::Calls::reads_then))]
+fn read_words<B: Board>(store: &mut Store<B>, e: u8) -> Result<[u32; ENTRY_WORDS], StoreErr>
+    requires ready { IsReady store.old }
+    requires within { e < 64 }
+    ensures words { IfOk result (λ words. (k : ℕ) → k < 11
+        → slice_index words k ≡ word (committed store.old) (1 + e) k) }
+    ensures ready { OnOk result (IsReady store.new) }
+    ensures reads { OnlyReads store.old store.new }
+    ensures tells { store.new.failed ≡ result_err result }
+{
+    let page = FIRST_ENTRY_PAGE + u16::from(e);
+    let mut words = [0; ENTRY_WORDS];
+    for k in 0..ENTRY_WORDS {
+        words[k] = store.read(PAGE_WORDS * page + k as u16)?;
+    }
+    Ok(words)
+}
+
+/// An entry by its number, as its page tells it.
+#[tactic(auto, using(undo_journal::specs::laws::Calls::reads_then))]
+pub fn read_entry<B: Board>(store: &mut Store<B>, e: u8) -> Result<Entry, StoreErr>
+    requires ready { IsReady store.old }
+    requires within { e < 64 }
+    ensures entry { IfOk result (λ entry. entry ≡ entry_in (table (committed store.old)) e) }
+    ensures ready { OnOk result (IsReady store.new) }
+    ensures reads { OnlyReads store.old store.new }
+    ensures tells { store.new.failed ≡ result_err result }
+{
+    let words = read_words(store, e)?;
+    Ok(Entry::from_words(&words))
+}
+
+/// All entries, in the order of their numbers. It reads eleven words of each.
+#[tactic(auto, using(undo_journal::specs::laws::Calls::reads_then))]
+pub fn read_table<B: Board>(store: &mut Store<B>) -> Result<Table, StoreErr>
+    requires ready { IsReady store.old }
+    ensures table { IfOk result (λ entries. entries.items ≡ table (committed store.old)) }
+    ensures ready { OnOk result (IsReady store.new) }
+    ensures reads { OnlyReads store.old store.new }
+    ensures tells { store.new.failed ≡ result_err result }
+{
+    let mut entries = Table::new();
+    for e in 0..ENTRIES as u8 {
+        entries.push(read_entry(store, e)?);
+    }
+    Ok(entries)
+}

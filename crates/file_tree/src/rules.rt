@@ -1,0 +1,116 @@
+//! The rules on one entry.
+
+ghost use Rattle.std.specs.Prelude.{◌≡◌, ◌≢◌, ◌⊎◌, ◌↔◌, IsTrue, All};
+ghost use Rattle.file_tree.specs.Table.{IsTransparentBody, IsRecordBody, HasShort, HasName, HasRule, HasBody};
+ghost use Rattle.file_tree.specs.Table.{IsFileEntry, IsEntry};
+
+use crate::entry::Entry;
+use card_rules::{Compact, LifeCycle};
+
+/// The most bytes of a body.
+const MOST_BYTES: u16 = 32_767;
+
+/// The most bytes of a record.
+const MOST_RECORD_BYTES: u16 = 255;
+
+/// The most records of a body.
+const MOST_RECORDS: u16 = 254;
+
+/// The highest short identifier.
+const MOST_SHORT: u8 = 30;
+
+/// A body of bytes: 1 to 32,767 of them, and no records.
+fn is_transparent_body(entry: &Entry) -> bool
+    ensures { IsTrue result ↔ IsTransparentBody entry.now }
+{
+    1 <= entry.size
+        && entry.size <= MOST_BYTES
+        && entry.record_length == 0
+        && entry.records == 0
+        && entry.start == 0
+}
+
+/// A body of records: 1 to 254 slots of 1 to 255 bytes, 32,767 bytes at most; a linear file begins in the first slot.
+fn is_record_body(entry: &Entry) -> bool
+    ensures { IsTrue result ↔ IsRecordBody entry.now }
+{
+    let length = entry.record_length;
+    if length == 0
+        || length > MOST_RECORD_BYTES
+        || entry.size > MOST_BYTES
+        || entry.size % length != 0
+    {
+        return false;
+    }
+    let capacity = entry.size / length;
+    1 <= capacity
+        && capacity <= MOST_RECORDS
+        && entry.records <= capacity
+        && entry.start < capacity
+        && (entry.kind != 3 || entry.start == 0)
+}
+
+/// A body of the entry's kind.
+fn has_body(entry: &Entry) -> bool
+    ensures { IsTrue result ↔ HasBody entry.now }
+{
+    match entry.kind {
+        2 => is_transparent_body(entry),
+        3 | 4 => is_record_body(entry),
+        _ => true,
+    }
+}
+
+/// A short identifier up to 30, of an elementary file alone.
+fn has_short(entry: &Entry) -> bool
+    ensures { IsTrue result ↔ HasShort entry.now }
+{
+    entry.short <= MOST_SHORT && (entry.kind != 1 || entry.short == 0)
+}
+
+/// A name of at most 16 bytes, of a dedicated file alone.
+fn has_name(entry: &Entry) -> bool
+    ensures { IsTrue result ↔ HasName entry.now }
+{
+    usize::from(entry.name_length) <= entry.name.len()
+        && (entry.kind == 1 || entry.name_length == 0)
+}
+
+/// An access rule of at most 8 bytes.
+fn has_rule(entry: &Entry) -> bool
+    ensures { IsTrue result ↔ HasRule entry.now }
+{
+    usize::from(entry.rule_length) <= entry.rule.len() && Compact::parse(entry.rule()).is_some()
+}
+
+/// What a used entry says of its file.
+fn is_file_entry(entry: &Entry) -> bool
+    ensures { IsTrue result ↔ IsFileEntry entry.now }
+{
+    entry.kind <= 4
+        && LifeCycle::from_byte(entry.life).is_some()
+        && entry.identifier != 0x3FFF
+        && entry.identifier != 0xFFFF
+        && has_short(entry)
+        && has_name(entry)
+        && has_rule(entry)
+        && has_body(entry)
+}
+
+/// The entry is free, or it is a file's.
+pub(crate) fn is_entry(entry: &Entry) -> bool
+    ensures { IsTrue result ↔ IsEntry entry.now }
+{
+    if entry.kind == 0 {
+        entry.life == 0 && entry.identifier == 0
+    } else {
+        is_file_entry(entry)
+    }
+}
+
+/// Each entry of the table is free, or it is a file's.
+pub(crate) fn are_entries(entries: &[Entry]) -> bool
+    ensures { IsTrue result ↔ All IsEntry entries.now }
+{
+    entries.iter().all(is_entry)
+}

@@ -1,0 +1,155 @@
+//! The rules on the table of entries. They look at entries that were read; no store is touched.
+
+ghost use Rattle.std.specs.Prelude.{◌≡◌, ◌≢◌, ◌⊎◌, ◌↔◌, ◌<◌, ◌≤◌, ℕ, length, slice_index_or, IsTrue, All};
+ghost use Rattle.std.specs.List.{filter_map};
+ghost use Rattle.file_tree.specs.Entries.{extent_of};
+ghost use Rattle.file_tree.specs.Table.{entry_in, ancestor, extents, IsUsed, IsMasterFile, IsBelowMaster, IsTable};
+ghost use Rattle.file_tree.specs.Table.{free_entries};
+ghost use Rattle.file_tree.specs.laws.Alikes.{Alike, AreBelow, AreApart, IsAlone};
+
+use crate::entry::{Entry, ExtentList};
+use crate::layout::{DEEPEST, MASTER_FILE};
+use crate::rules::are_entries;
+
+/// The parent of an entry's file; past the table that of a free entry.
+#[tactic(auto, using(crate::specs::laws::Tables::entry_past))]
+fn parent_of(entries: &[Entry], e: u8) -> u8
+    ensures { result ≡ (entry_in entries.now e).parent }
+{
+    match entries.get(usize::from(e)) {
+        Some(entry) => entry.parent,
+        None => 0,
+    }
+}
+
+/// From an entry, by at most seven steps to parents, the master file is reached.
+#[tactic(auto, using(crate::specs::laws::Levels::levels))]
+fn is_low_enough(entries: &[Entry], from: u8) -> bool
+    ensures { IsTrue result ↔ (ancestor entries.now 7 from ≡ 0) }
+{
+    let mut at = from;
+    for _step in 0..DEEPEST {
+        at = parent_of(entries, at);
+    }
+    at == 0
+}
+
+/// Entry 0 is that of the master file.
+fn is_master_file(entry: &Entry) -> bool
+    ensures { IsTrue result ↔ IsMasterFile entry.now }
+{
+    entry.kind == 1 && entry.identifier == MASTER_FILE && entry.parent == 0
+}
+
+/// The file of an entry stands in a dedicated file, no more than seven steps below the master file.
+#[tactic(auto, using(crate::specs::laws::Tables::entry_past))]
+fn is_below_master(entries: &[Entry], e: u8) -> bool
+    requires { e < length entries.now }
+    ensures { IsTrue result ↔ IsBelowMaster entries.now e }
+{
+    let entry = entries[usize::from(e)];
+    match entries.get(usize::from(entry.parent)) {
+        Some(parent) => parent.kind == 1
+            && entry.identifier != MASTER_FILE
+            && is_low_enough(entries, e),
+        None => false,
+    }
+}
+
+/// So does each file but the master file.
+fn are_below_master(entries: &[Entry]) -> bool
+    requires { length entries.now ≤ 64 }
+    ensures { IsTrue result ↔ AreBelow entries.now }
+{
+    for e in 1..entries.len() {
+        if entries[e].kind != 0 && !is_below_master(entries, e as u8) {
+            return false;
+        }
+    }
+    true
+}
+
+/// Whether two used entries can't stand in one table: children of one dedicated file with one identifier, or one short
+/// identifier; or files with one name. `e` is the number of the first; the master file is no child.
+fn are_alike(e: usize, one: &Entry, other: &Entry) -> bool
+    ensures { IsTrue result ↔ Alike e one.now other.now }
+{
+    let same_identifier = one.identifier == other.identifier;
+    let same_short = one.short != 0 && one.short == other.short;
+    let siblings = e > 0 && one.parent == other.parent && (same_identifier || same_short);
+    siblings || !one.name().is_empty() && one.name() == other.name()
+}
+
+/// Whether no used entry behind this one is like it.
+fn is_alone(entries: &[Entry], e: usize) -> bool
+    requires { e < length entries.now }
+    ensures { IsTrue result ↔ IsAlone entries.now e }
+{
+    let one = entries[e];
+    for f in e + 1..entries.len() {
+        let other = entries[f];
+        if other.kind != 0 && are_alike(e, &one, &other) {
+            return false;
+        }
+    }
+    true
+}
+
+/// Whether no two used entries are alike.
+fn are_apart(entries: &[Entry]) -> bool
+    ensures { IsTrue result ↔ AreApart entries.now }
+{
+    for e in 0..entries.len() {
+        if entries[e].kind != 0 && !is_alone(entries, e) {
+            return false;
+        }
+    }
+    true
+}
+
+/// Whether entries hold to the rules that make a tree of them.
+#[tactic(auto, using(crate::specs::laws::Alikes::table_of, crate::specs::laws::Alikes::table_apart))]
+pub fn is_table(entries: &[Entry]) -> bool
+    requires { length entries.now ≡ 64 }
+    ensures { IsTrue result ↔ IsTable entries.now }
+{
+    if !is_master_file(&entries[0]) {
+        return false;
+    }
+    if !are_entries(entries) {
+        return false;
+    }
+    if !are_below_master(entries) {
+        return false;
+    }
+    are_apart(entries)
+}
+
+/// The extents that the entries of elementary files name, in the order of entries.
+#[tactic(auto, using(crate::specs::laws::Tables::extents_pushed))]
+pub fn extents_of(entries: &[Entry]) -> ExtentList
+    requires { length entries.now ≤ 64 }
+    ensures { result.items ≡ extents entries.now }
+{
+    let mut extents = ExtentList::new();
+    for entry in entries {
+        if let Some(extent) = entry.extent() {
+            extents.push(extent);
+        }
+    }
+    extents
+}
+
+/// How many entries no file has.
+pub(crate) fn count_free(entries: &[Entry]) -> u16
+    requires { length entries.now ≡ 64 }
+    ensures { result ≡ free_entries entries.now }
+{
+    let mut free = 0;
+    for entry in entries {
+        if entry.kind == 0 {
+            free += 1;
+        }
+    }
+    free
+}

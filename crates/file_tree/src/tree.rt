@@ -1,0 +1,37 @@
+//! Whether a memory stands for a tree of files.
+
+ghost use Rattle.std.specs.Prelude.{◌≡◌, IfOk, OnOk};
+ghost use Rattle.std.specs.Result.{result_err};
+ghost use Rattle.undo_journal.specs.Memory.{committed, IsReady};
+ghost use Rattle.undo_journal.specs.Calls.{OnlyReads};
+ghost use Rattle.file_tree.specs.Trees.{TellsSpace};
+
+use crate::reading::read_table;
+use crate::space::FreeSpace;
+use crate::table::{count_free, extents_of, is_table};
+use block_chain::lay;
+use undo_journal::{Board, Store, StoreErr};
+
+/// What is free in a memory that stands for a tree of files, or None where it stands for none. It reads eleven words of
+/// each entry, one link of each block, and the header's word of the free chain, and nothing twice.
+#[tactic(auto, using(undo_journal::specs::laws::Calls::reads_then))]
+pub fn is_tree<B: Board>(store: &mut Store<B>) -> Result<Option<FreeSpace>, StoreErr>
+    requires ready { IsReady store.old }
+    ensures tree { IfOk result (TellsSpace (committed store.old)) }
+    ensures ready { OnOk result (IsReady store.new) }
+    ensures reads { OnlyReads store.old store.new }
+    ensures tells { store.new.failed ≡ result_err result }
+{
+    let entries = read_table(store)?;
+    if !is_table(entries.as_slice()) {
+        return Ok(None);
+    }
+    let extents = extents_of(entries.as_slice());
+    match lay(store, extents.as_slice())? {
+        None => Ok(None),
+        Some(blocks) => {
+            let entries = count_free(entries.as_slice());
+            Ok(Some(FreeSpace { blocks, entries }))
+        }
+    }
+}
