@@ -13,5 +13,9 @@ body_of (le ∷ []) = Some (record { sent = []; expected = Some le })
 body_of (lc ∷ byte ∷ bytes) =
     if lc == 0 then None else
     if length (byte ∷ bytes) == lc then Some (record { sent = byte ∷ bytes; expected = None }) else
-    if length (byte ∷ bytes) == lc + 1 then Some (record { sent = take lc (byte ∷ bytes); expected = Some (slice_index (byte ∷ bytes) lc) }) else
+    if length (byte ∷ bytes) == lc + 1 then Some (record {
+      sent = take lc (byte ∷ bytes);
+      expected = Some (slice_index
+          (byte ∷ bytes) lc);
+    }) else
     None

@@ -1,3 +1,4 @@
+-- A body as the definitions speak of it.
 use Rattle.apdu_core.specs.Bodies.{Body}
 use Rattle.apdu_core.specs.declared.form.CommandBody.{CommandBody}
 

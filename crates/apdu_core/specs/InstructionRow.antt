@@ -1,4 +1,7 @@
-use Rattle.apdu_core.specs.Asked.{Row, select_row, read_binary_row, update_binary_row}
+-- The row of each instruction that the code knows.
+use Rattle.apdu_core.specs.Rows.{Row}
+use Rattle.apdu_core.specs.SelectRows.{select_row}
+use Rattle.apdu_core.specs.BinaryRows.{read_binary_row, update_binary_row}
 use Rattle.apdu_core.specs.declared.commands.Instruction.{Instruction}
 use Rattle.apdu_core.specs.declared.commands.Instruction.TheVariants.{Select, ReadBinary, UpdateBinary}
 

@@ -2,5 +2,10 @@ pub mod Bodies
 pub mod BodyView
 pub mod Requests
 pub mod Ranges
+pub mod Rows
+pub mod SelectRows
+pub mod BinaryRows
 pub mod Asked
 pub mod InstructionRow
+pub mod OfBytes
+pub mod laws

@@ -3,8 +3,8 @@ use Rattle.std.specs.Prelude.{◌≡◌, ℕ, List, Option, Result, Ok, Err}
 use Rattle.card_rules.specs.declared.status.Sw.{Sw}
 use Rattle.apdu_core.specs.declared.commands.Command.{Command}
 use Rattle.apdu_core.specs.declared.commands.Command.TheVariants.{Select, ReadBinary, UpdateBinary}
-use Rattle.apdu_core.specs.declared.commands.Selector.{Selector}
-use Rattle.apdu_core.specs.declared.commands.Target.{Target}
+use Rattle.apdu_core.specs.declared.select.Selector.{Selector}
+use Rattle.apdu_core.specs.declared.binary.Target.{Target}
 
 -- a command as a value: numbers, and the bytes that were sent, with no place in memory
 pub data Request : Type 0 where

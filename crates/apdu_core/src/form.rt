@@ -1,4 +1,4 @@
-// The bytes after the header of a short command.
+//! The bytes after the header of a short command (ISO/IEC 7816-4, 5.2).
 ghost use Rattle.std.specs.Prelude.{◌≡◌, ◌≢◌, ◌≤◌, ◌∷◌, [], length, option_map, IfSome};
 ghost use Rattle.apdu_core.specs.Bodies.{body_of};
 ghost use Rattle.apdu_core.specs.BodyView.{body_view};
@@ -29,7 +29,7 @@ impl<'a> CommandBody<'a> {
         }
     }
 
-    // The forms that begin with Lc.
+    /// The forms that begin with Lc: its bytes, and Le behind them or not.
     fn with_data(lc: u8, rest: &'a [u8]) -> Option<CommandBody<'a>>
         requires { rest.now ≢ [] }
         ensures form { option_map body_view result ≡ body_of (lc ∷ rest.now) }

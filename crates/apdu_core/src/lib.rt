@@ -1,15 +1,17 @@
 //! The bytes of a short command (ISO/IEC 7816-4, clause 5) as a value, or the status word that refuses them.
 #![tactic(auto)]
 
+mod binary;
 mod commands;
 mod form;
+pub mod laws;
+mod select;
 
 use arrayvec::ArrayVec;
+pub use binary::Target;
 pub use card_rules::Sw;
-pub use commands::{Command, Selector, Target};
+pub use commands::Command;
+pub use select::Selector;
 
 /// The data and the status word of an answer: 2 to 258 bytes.
 pub type Answer = ArrayVec<u8, 258>;
-
-#[cfg(test)]
-mod tests;

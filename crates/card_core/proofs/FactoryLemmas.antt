@@ -1,76 +1,137 @@
 -- The factory's memory stands for the factory's card.
-use Rattle.std.proofs.Common.{◌≡◌, ◌<◌, ◌≤◌, ◌+◌, ◌/◌, ◌==◌, ◌&&◌, ℕ, Bool, true, false, nat_lt, nat_le, List, [], ◌∷◌, zero, suc, length, take, drop, map, slice_index}
-use Rattle.std.proofs.Common.{slice_range, refl, sym, ◌∙◌, ap, ap₂, arith, lit≤, lit<, replicate, if◌then◌else◌}
-use Rattle.std.proofs.lemmas.Bool.{lt-ltb, lt-leb, le-leb, ne_eqb}
-use Rattle.std.specs.List.{flat_map, range_with_len}
-use Rattle.nvm_board.specs.declared.board.TheConstants.{PAGES}
-use Rattle.card_core.specs.declared.layout.TheConstants.{ENTRIES, PINS}
-use Rattle.card_core.specs.Cards.{Pin}
-use Rattle.card_core.specs.Memory.{word, word_bytes, page_words, entry_page, pin_page, pin_at}
-use Rattle.card_core.specs.Plain.{IsPlain, IsPinPage, card_of, plain_tree, plain_content}
+use Rattle.std.proofs.Common.{◌≡◌, ◌<◌, ◌≤◌, ◌+◌, ◌==◌, ℕ, true, List, [], ◌∷◌, ◌++◌, zero, suc, length, drop, map}
+use Rattle.std.proofs.Common.{slice_index}
+use Rattle.std.proofs.Common.{slice_range, refl, sym, ◌∙◌, ap, ap₂, subst, arith, inl, lit≤, lit<, replicate, Option}
+use Rattle.std.proofs.Common.{Some}
+use Rattle.std.specs.List.{flat_map, range_with_len, filter_map, cons_option}
+use Rattle.std.specs.FinMap.{from_entries}
+use Rattle.std.specs.Ordering.{nat_cmp}
+use Rattle.std.specs.Cmp.Lexicographic.{slice_cmp}
+use Rattle.nvm_board.specs.declared.board.TheConstants.{PAGES, WORDS}
 use Rattle.undo_journal.specs.Undo.{gate}
-use Rattle.card_core.specs.Factory.{factory_page, factory_header, factory_master, factory_file, factory_block, factory_free_block, factory_pin_page, factory_pin, factory_card}
-use Rattle.card_core.specs.Factory.{filled, IsFactory}
-use Rattle.card_core.proofs.Blocks.{index-page_words}
+use Rattle.block_chain.specs.declared.chain.Extent.{Extent}
+use Rattle.block_chain.specs.Words.{word, link, word_bytes, page_words}
+use Rattle.block_chain.specs.Chains.{free_chain, bytes_of}
+use Rattle.block_chain.specs.Layout.{AreLaid}
+use Rattle.block_chain.specs.laws.Words.{index-page_words}
+use Rattle.file_tree.specs.declared.entry.Entry.{Entry}
+use Rattle.file_tree.specs.declared.space.FreeSpace.{FreeSpace}
+use Rattle.file_tree.specs.Spaces.{free_space}
+use Rattle.file_tree.specs.Entries.{entry_of, file_of}
+use Rattle.file_tree.specs.Table.{table, entry_in, path_of, extents, free_entries, IsTable}
+use Rattle.file_tree.specs.Trees.{content, node, tree_of, TreeStands}
+use Rattle.file_tree.specs.laws.Tables.{entry_of-free}
+use Rattle.file_tree.specs.laws.Paths.{path-zero}
+use Rattle.file_tree.specs.laws.Nodes.{Node, file_in, node-used, node-free}
+use Rattle.file_tree.specs.laws.Costs.{space_counted}
+use Rattle.file_tree.specs.laws.Contents.{content-some}
+use Rattle.card_core.specs.declared.layout.TheConstants.{PINS}
+use Rattle.card_core.specs.Cards.{Pin}
+use Rattle.card_core.specs.Standing.{IsCard, IsPinPage, card_of, pin_at, pin_page}
+use Rattle.card_core.specs.Factory.{factory_page, factory_block, factory_pin_page, factory_pin}
+use Rattle.card_core.specs.Factory.{factory_card, factory_tree, factory_space, master_of_factory, file_of_factory}
+use Rattle.card_core.specs.Factory.{IsFactory}
+use Rattle.card_core.proofs.FactoryPages.{blank_page, pin_page_is, free_block_is}
+use Rattle.card_core.proofs.FactoryBlocks.{next_page, blocks_laid, free_long, one_is}
+use Rattle.card_core.proofs.FactoryTable.{master_entry, file_entry, entries_with, table_is, rules_hold, extents_are}
+use Rattle.card_core.proofs.FactoryTable.{file_path, none_used}
+use Rattle.card_core.proofs.FactoryTable.{master_kind, file_kind, free_ones}
 
--- a page by the tests of its number
-abbrev page_by : Bool → Bool → Bool → Bool → Bool → Bool → ℕ → List ℕ
-page_by header master file pin before first page =
-    if header then factory_header else
-    if master then factory_master else
-    if file then factory_file else
-    if pin then factory_pin_page else
-    if before then filled [] 0 else
-    if first then factory_block else
-    factory_free_block page
+-- the file of the master file's entry has no content, and that of the other has as many bytes as its size says
+master_file_is : (bytes : List ℕ) → file_of master_entry bytes ≡ master_of_factory
+unfolding file_of entry_of
+master_file_is bytes = refl
 
-length-page_by : (header master file pin before first : Bool) (page : ℕ) → length (page_by header master file pin before first page) ≡ 16
-length-page_by true master file pin before first page = refl
-length-page_by false true file pin before first page = refl
-length-page_by false false true pin before first page = refl
-length-page_by false false false true before first page = refl
-length-page_by false false false false true first page = refl
-length-page_by false false false false false true page = refl
-length-page_by false false false false false false page = refl
-
--- a page has sixteen words
-pub length-factory_page : (page : ℕ) → length (factory_page page) ≡ 16
-length-factory_page page = length-page_by (page == 0) (page == 1) (page == 2) (nat_le 65 page && nat_lt page 73) (nat_lt page 128) (page == 128) page
-
--- the pages of free entries, and those of the PINs
-free_entry : (page : ℕ) → 3 ≤ page → page < 65 → factory_page page ≡ filled [] 0
-free_entry page low high =
-    let a : (page == 0) ≡ false = ne_eqb page 0 (λ is. let z : ⊥ = omega arith in z) in
-    let b : (page == 1) ≡ false = ne_eqb page 1 (λ is. let z : ⊥ = omega arith in z) in
-    let c : (page == 2) ≡ false = ne_eqb page 2 (λ is. let z : ⊥ = omega arith in z) in
-    let d : nat_le 65 page ≡ false = lt-leb 65 page high in
-    let e : nat_lt page 128 ≡ true = lt-ltb page 128 (omega arith) in
-    λ i. page_by (a i) (b i) (c i) (d i && nat_lt page 73) (e i) (page == 128) page
-
-pin_page_is : (page : ℕ) → 65 ≤ page → page < 73 → factory_page page ≡ factory_pin_page
-pin_page_is page low high =
-    let a : (page == 0) ≡ false = ne_eqb page 0 (λ is. let z : ⊥ = omega arith in z) in
-    let b : (page == 1) ≡ false = ne_eqb page 1 (λ is. let z : ⊥ = omega arith in z) in
-    let c : (page == 2) ≡ false = ne_eqb page 2 (λ is. let z : ⊥ = omega arith in z) in
-    let d : nat_le 65 page ≡ true = le-leb 65 page low in
-    let e : nat_lt page 73 ≡ true = lt-ltb page 73 high in
-    λ i. page_by (a i) (b i) (c i) (d i && e i) (nat_lt page 128) (page == 128) page
+file_is : (rest : List ℕ) → file_of file_entry (flat_map word_bytes (drop 1 factory_block) ++ rest) ≡ file_of_factory
+unfolding file_of entry_of
+file_is rest = refl
 
 module _ (m : List ℕ) (factory : IsFactory m) where
   -- a word of the memory is a word of the factory's page
   place : (page k : ℕ) → page < PAGES → k < 16 → word m page k ≡ slice_index (factory_page page) k
-  place page k lt small = sym (index-page_words m page k small) ∙ ap (λ (words : List ℕ). slice_index words k) (factory page lt)
+  place page k lt small = sym (index-page_words m page k small)
+      ∙ ap (λ (words : List ℕ). slice_index words k) (factory page lt)
 
-  others : (entry : ℕ) → 2 ≤ entry → entry < ENTRIES → word m (entry_page entry) 0 ≡ 0
-  others entry low high =
-      let within : entry_page entry < PAGES = omega arith in
-      place (entry_page entry) 0 within (lit< tt) ∙ ap (λ (words : List ℕ). slice_index words 0) (free_entry (entry_page entry) (omega arith) (omega arith))
+  links : (page : ℕ) → 128 < page → page < PAGES → link m page ≡ next_page (page + 1)
+  links page low high = place page 0 high (lit< tt)
+      ∙ ap (λ (words : List ℕ). slice_index words 0) (free_block_is page low)
+
+  entries : table m ≡ entries_with 62
+  entries = table_is m (factory 1 (lit< tt)) (factory 2 (lit< tt)) (λ page low high.
+      let within : page < PAGES = omega (arith, high) in
+      entry_of-free (page_words m page)
+      (ap (λ (words : List ℕ). slice_index words 0) (factory page within
+      ∙ blank_page page low (omega (arith, high)) (inl high))))
+
+  laid : AreLaid m (extents (table m))
+  laid =
+      let are_laid : List Extent → Type 0 = λ es. AreLaid m es in
+      subst are_laid (sym (ap extents entries ∙ extents_are 62))
+      (blocks_laid m links (place 0 1 (lit< tt) (lit< tt)) (place 128 0 (lit< tt) (lit< tt)) 895 refl)
+
+  pub tree-stands : TreeStands m
+  tree-stands = let is_table : List Entry → Type 0 = λ t. IsTable t in
+      record { entries = subst is_table (sym entries) (rules_hold 62); blocks = laid }
+
+  in_table : (e : ℕ) → entry_in (table m) e ≡ entry_in (entries_with 62) e
+  in_table e = ap (λ (t : List Entry). entry_in t e) entries
+
+  bytes_are : content m file_entry ≡ flat_map word_bytes (drop 1 factory_block) ++ []
+  unfolding entry_of bytes_of
+  bytes_are = content-some m file_entry (lit≤ tt)
+      ∙ ap (bytes_of m) (one_is m links (place 0 1 (lit< tt) (lit< tt)) (place 128 0 (lit< tt) (lit< tt)) 895 refl)
+      ∙ ap (λ (words : List ℕ). flat_map word_bytes (drop 1 words) ++ []) (factory 128 (lit< tt))
+
+  master_node : node m 0 ≡ Some ([], master_of_factory)
+  master_node = node-used m 0 (λ none. let is = ap (λ (x : Entry). x.kind) (in_table 0) ∙ master_kind 62 in
+      let z : ⊥ = omega (arith, is, none) in z)
+      ∙ (λ i. Some (path-zero (table m) 7 0 refl i, master_file i))
+    where
+      master_file : file_in m 0 ≡ master_of_factory
+      master_file = ap (λ (x : Entry). file_of x (content m x)) (in_table 0) ∙ master_file_is (content m master_entry)
+
+  file_node : node m 1 ≡ Some (0x2FE2 ∷ [], file_of_factory)
+  file_node = node-used m 1 (λ none. let is = ap (λ (x : Entry). x.kind) (in_table 1) ∙ file_kind 62 in
+      let z : ⊥ = omega (arith, is, none) in z)
+      ∙ (λ i. Some (path i, file i))
+    where
+      path : path_of (table m) 1 ≡ 0x2FE2 ∷ []
+      path = ap (λ (t : List Entry). path_of t 1) entries ∙ file_path 62
+
+      file : file_in m 1 ≡ file_of_factory
+      file = ap (λ (x : Entry). file_of x (content m x)) (in_table 1) ∙ ap (file_of file_entry) bytes_are ∙ file_is []
+
+  no_nodes : (a n : ℕ) → 2 ≤ a → filter_map (node m) (range_with_len a n) ≡ []
+  no_nodes a zero low = refl
+  no_nodes a (suc n) low =
+      ap₂ (λ (o : Option Node) (ns : List Node). cons_option o ns)
+      (node-free m a (ap (λ (x : Entry). x.kind) (in_table a) ∙ none_used 62 a low))
+      (no_nodes (a + 1) n (omega (arith, low)))
+
+  pub tree-factory : tree_of m ≡ factory_tree
+  unfolding tree_of
+  tree-factory = ap (from_entries {R = slice_cmp nat_cmp})
+      (ap₂ (λ (o : Option Node) (ns : List Node). cons_option o ns) master_node
+      (ap₂ (λ (o : Option Node) (ns : List Node). cons_option o ns) file_node (no_nodes 2 62 (lit≤ tt))))
+
+  pub space-factory : length m ≡ WORDS → free_space (tree_of m) ≡ factory_space
+  space-factory sized =
+      let blocks : length (free_chain m) ≡ 895 =
+      free_long m links (place 0 1 (lit< tt) (lit< tt)) (place 128 0 (lit< tt) (lit< tt)) 895 refl in
+      let free : free_entries (table m) ≡ 62 = ap free_entries entries ∙ free_ones 62 in
+      let counted : ◌≡◌ {A = FreeSpace} (record { blocks = length (free_chain m); entries = free_entries (table m) })
+      factory_space =
+      (λ i. record { blocks = blocks i; entries = free i }) in
+      space_counted m sized tree-stands ∙ counted
 
   pin_words : (pin : ℕ) → pin < PINS → page_words m (pin_page pin) ≡ factory_pin_page
-  pin_words pin lt = factory (pin_page pin) (omega arith) ∙ pin_page_is (pin_page pin) (omega arith) (omega arith)
+  pin_words pin lt = factory (pin_page pin) (omega (arith, lt))
+      ∙ pin_page_is (pin_page pin) (omega arith) (omega (arith, lt))
 
   pin_word : (pin k : ℕ) → pin < PINS → k < 16 → word m (pin_page pin) k ≡ slice_index factory_pin_page k
-  pin_word pin k lt small = sym (index-page_words m (pin_page pin) k small) ∙ ap (λ (words : List ℕ). slice_index words k) (pin_words pin lt)
+  pin_word pin k lt small =
+      sym (index-page_words m (pin_page pin) k small)
+      ∙ ap (λ (words : List ℕ). slice_index words k) (pin_words pin lt)
 
   pins : (pin : ℕ) → pin < PINS → IsPinPage m pin
   pins pin lt = record {
@@ -81,34 +142,22 @@ module _ (m : List ℕ) (factory : IsFactory m) where
   pub gate-factory : gate m ≡ 0
   gate-factory = place 73 0 (lit< tt) (lit< tt)
 
-  pub plain-factory : IsPlain m
-  plain-factory = record {
-    header = record { mark = place 0 0 (lit< tt) (lit< tt); in_use = place 0 2 (lit< tt) (lit< tt) };
-    master = record {
-      kind = place 1 0 (lit< tt) (lit< tt);
-      lengths = place 1 1 (lit< tt) (lit< tt);
-      rule = place 1 2 (lit< tt) (lit< tt);
-      rule_end = ap (λ (w : ℕ). w / 0x1000000) (place 1 3 (lit< tt) (lit< tt));
+  pub words-factory : IsCard m
+  words-factory = record {
+    header = record {
+      mark = place 0 0 (lit< tt) (lit< tt);
+      state = let is = place 0 2 (lit< tt) (lit< tt) in
+          omega (arith, is);
     };
-    file = record {
-      kind = place 2 0 (lit< tt) (lit< tt);
-      lengths = place 2 1 (lit< tt) (lit< tt);
-      rule = ap (λ (w : ℕ). w / 0x100) (place 2 2 (lit< tt) (lit< tt));
-      records = place 2 10 (lit< tt) (lit< tt);
-    };
-    chain = record { blocks = place 2 9 (lit< tt) (lit< tt); link = place 128 0 (lit< tt) (lit< tt) };
-    size = let is = place 2 8 (lit< tt) (lit< tt) in record { some = omega (arith, is); fits = omega (arith, is); record_length = omega (arith, is) };
-    others = others;
+    tree = tree-stands;
     pins = pins;
   }
 
-  content : plain_content m ≡ 0x98 ∷ 0x10 ∷ 0x32 ∷ 0x54 ∷ 0x76 ∷ 0x98 ∷ 0x10 ∷ 0x32 ∷ 0x54 ∷ 0x76 ∷ []
-  content =
-      ap₂ (λ (size : ℕ) (words : List ℕ). take (size / 0x10000) (flat_map word_bytes (drop 1 words))) (place 2 8 (lit< tt) (lit< tt)) (factory 128 (lit< tt))
-
   pin-is : (pin : ℕ) → pin < PINS → pin_at m pin ≡ factory_pin
   pin-is pin lt =
-      let words = pin_words pin lt in let tries = pin_word pin 0 lt (lit< tt) in let unblocking_tries = pin_word pin 1 lt (lit< tt) in
+      let words = pin_words pin lt in
+      let tries = pin_word pin 0 lt (lit< tt) in
+      let unblocking_tries = pin_word pin 1 lt (lit< tt) in
       λ i. record {
         value = flat_map word_bytes (slice_range (words i) 2 4);
         tries = tries i;
@@ -118,11 +167,12 @@ module _ (m : List ℕ) (factory : IsFactory m) where
 
   pins_from : (a n : ℕ) → a + n ≤ PINS → map (pin_at m) (range_with_len a n) ≡ replicate n factory_pin
   pins_from a zero le = refl
-  pins_from a (suc n) le = ap₂ (λ (pin : Pin) (rest : List Pin). pin ∷ rest) (pin-is a (omega arith)) (pins_from (a + 1) n (omega arith))
+  pins_from a (suc n) le = ap₂ (λ (pin : Pin) (rest : List Pin). pin ∷ rest) (pin-is a (omega (arith, le)))
+      (pins_from (a + 1) n (omega (arith, le)))
 
   pub card-factory : card_of m ≡ factory_card
   unfolding card_of
   card-factory =
       let state : (word m 0 2 == 0) ≡ true = ap (λ (w : ℕ). w == 0) (place 0 2 (lit< tt) (lit< tt)) in
       let all = pins_from 0 8 (lit≤ tt) in
-      λ i. record { tree = plain_tree (content i); pins = all i; in_use = state i }
+      λ i. record { tree = tree-factory i; pins = all i; in_use = state i }

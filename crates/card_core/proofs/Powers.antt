@@ -11,7 +11,14 @@ use Rattle.card_core.specs.Running.{StopsBy}
 
 module _ (a b c : Facts) (before : Steady a b) where
   pub steady_then : Steady b c → Steady a c
-  steady_then s = record { was_lit = before.was_lit; lit = s.lit; faults = s.faults ∙ before.faults; cuts = s.cuts ∙ before.cuts; due = s.due ∙ before.due }
+  steady_then s = record {
+    was_lit = before.was_lit;
+    lit = s.lit;
+    faults = s.faults ∙ before.faults;
+    cuts = s.cuts
+        ∙ before.cuts;
+    due = s.due ∙ before.due;
+  }
 
   goes_dark_then : GoesDark b c → GoesDark a c
   goes_dark_then g = record {
@@ -19,21 +26,33 @@ module _ (a b c : Facts) (before : Steady a b) where
     dark = g.dark;
     faults = g.faults ∙ before.faults;
     cuts = g.cuts ∙ ap (λ (n : ℕ). n + 1) before.cuts;
-    due = ⊎_elim (λ (cut : b.due ≡ c.due + 1). inl (sym before.due ∙ cut)) (λ (worn : IsWorn c × (c.due ≡ b.due)). inr (worn.0, worn.1 ∙ before.due)) g.due;
+    due = ⊎_elim (λ (cut : b.due ≡ c.due + 1). inl (sym before.due ∙ cut)) (λ (worn : IsWorn c × (c.due
+        ≡ b.due)). inr (worn.0, worn.1 ∙ before.due)) g.due;
   }
 
   fails_then : Fails b c → Fails a c
-  fails_then f = record { was_lit = before.was_lit; lit = f.lit; faults = f.faults ∙ ap (λ (n : ℕ). n + 1) before.faults; cuts = f.cuts ∙ before.cuts; due = f.due ∙ before.due }
+  fails_then f = record {
+    was_lit = before.was_lit;
+    lit = f.lit;
+    faults = f.faults
+        ∙ ap (λ (n : ℕ). n + 1) before.faults;
+    cuts = f.cuts ∙ before.cuts;
+    due = f.due ∙ before.due;
+  }
 
   -- an answer, after calls that succeeded
   pub answered_after : {T : Type 0} (r : Result T DeviceErr) → Answered b c r → Answered a c r
   answered_after r answer = record {
     ok = λ h. steady_then (answer.ok h);
-    lost = λ h. ⊎_elim (λ (dark : GoesDark b c). inl (goes_dark_then dark)) (λ (off : (b.dark ≡ true) × (c ≡ b)). absurd (true≢false (sym off.0 ∙ before.lit))) (answer.lost h);
+    lost = λ h. ⊎_elim (λ (dark : GoesDark b c). inl (goes_dark_then dark)) (λ (off : (b.dark ≡ true) × (c
+        ≡ b)). absurd (true≢false (sym off.0 ∙ before.lit))) (answer.lost h);
     fault = λ h. fails_then (answer.fault h);
   }
 
 -- a store that fails, over a board that held when it was opened
-pub stops-by : (e : StoreErr) (stop : StartFault) (a b c : Facts) → stop ≡ fault_of_store e → Steady a b → StoreFailsBy e b c → StopsBy stop a c
-stops-by PowerLost stop a b c is before fails = subst (λ (f : StartFault). StopsBy f a c) (sym is) (inl (goes_dark_then a b c before fails))
-stops-by Fault stop a b c is before fails = subst (λ (f : StartFault). StopsBy f a c) (sym is) (fails_then a b c before fails)
+pub stops-by : (e : StoreErr) (stop : StartFault) (a b c : Facts) → stop ≡ fault_of_store e → Steady a b
+    → StoreFailsBy e b c → StopsBy stop a c
+stops-by PowerLost stop a b c is before fails = subst (λ (f : StartFault). StopsBy f a c) (sym is) (inl
+    (goes_dark_then a b c before fails))
+stops-by Fault stop a b c is before fails = subst (λ (f : StartFault). StopsBy f a c) (sym is) (fails_then a b c
+    before fails)

@@ -1,10 +1,16 @@
 -- The factory's memory: the master file, one elementary file, eight PINs, and all other blocks free.
-use Rattle.std.specs.Prelude.{◌≡◌, ◌<◌, ℕ, ◌+◌, ◌-◌, ◌==◌, ◌&&◌, nat_lt, nat_le, true, List, [], ◌∷◌, ◌++◌, length, replicate, if◌then◌else◌}
+use Rattle.std.specs.Prelude.{◌≡◌, ◌<◌, ℕ, ◌+◌, ◌-◌, ◌==◌, ◌&&◌, nat_lt, nat_le, true, List, [], ◌∷◌, ◌++◌, length}
+use Rattle.std.specs.Prelude.{replicate}
+use Rattle.std.specs.Prelude.{if◌then◌else◌, None, Some}
+use Rattle.std.specs.FinMap.{from_entries}
 use Rattle.nvm_board.specs.declared.board.TheConstants.{PAGES, PAGE_WORDS}
-use Rattle.card_core.specs.declared.layout.TheConstants.{MARK, HEADER_PAGE, FIRST_ENTRY_PAGE, FIRST_PIN_PAGE, PINS, FIRST_BLOCK_PAGE}
-use Rattle.card_core.specs.Cards.{Pin, Card}
-use Rattle.card_core.specs.Memory.{page_words}
-use Rattle.card_core.specs.Plain.{plain_tree}
+use Rattle.card_rules.specs.declared.life_cycle.LifeCycle.TheVariants.{Activated}
+use Rattle.block_chain.specs.declared.layout.TheConstants.{FIRST_BLOCK_PAGE}
+use Rattle.block_chain.specs.Words.{page_words}
+use Rattle.file_tree.specs.declared.layout.TheConstants.{FIRST_ENTRY_PAGE}
+use Rattle.file_tree.specs.declared.space.FreeSpace.{FreeSpace}
+use Rattle.card_core.specs.declared.layout.TheConstants.{MARK, HEADER_PAGE, FIRST_PIN_PAGE, PINS}
+use Rattle.card_core.specs.Cards.{transparent, dedicated, elementary, File, Tree, Pin, Card}
 
 -- the words of a page that begins with these, and has one filler behind them
 abbrev pub filled : List ℕ → ℕ → List ℕ
@@ -58,10 +64,30 @@ factory_pin = record {
   unblocking_tries = 10;
 }
 
+-- the master file: activated, without a name, rule 27 18 00 00 00
+abbrev pub master_of_factory : File
+master_of_factory = record { life = Activated; rule = 0x27 ∷ 0x18 ∷ 0x00 ∷ 0x00 ∷ 0x00 ∷ []; kind = dedicated None }
+
+-- the content of the elementary file
+abbrev pub factory_content : List ℕ
+factory_content = 0x98 ∷ 0x10 ∷ 0x32 ∷ 0x54 ∷ 0x76 ∷ 0x98 ∷ 0x10 ∷ 0x32 ∷ 0x54 ∷ 0x76 ∷ []
+
+-- its elementary file: activated, short identifier 2, rule 03 11 00
+abbrev pub file_of_factory : File
+file_of_factory = record {
+  life = Activated;
+  rule = 0x03 ∷ 0x11 ∷ 0x00 ∷ [];
+  kind = elementary (Some 2) (transparent factory_content);
+}
+
+-- its two files
+abbrev pub factory_tree : Tree
+factory_tree = from_entries (([], master_of_factory) ∷ (0x2FE2 ∷ [], file_of_factory) ∷ [])
+
+-- all blocks are free but that of the elementary file, and all entries but two
+abbrev pub factory_space : FreeSpace
+factory_space = record { blocks = 895; entries = 62 }
+
 -- the factory's card
 abbrev pub factory_card : Card
-factory_card = record {
-  tree = plain_tree (0x98 ∷ 0x10 ∷ 0x32 ∷ 0x54 ∷ 0x76 ∷ 0x98 ∷ 0x10 ∷ 0x32 ∷ 0x54 ∷ 0x76 ∷ []);
-  pins = replicate PINS factory_pin;
-  in_use = true;
-}
+factory_card = record { tree = factory_tree; pins = replicate PINS factory_pin; in_use = true }

@@ -3,7 +3,7 @@ use Rattle.std.specs.Prelude.{◌≡◌, ◌↔◌, List, ℕ}
 use Rattle.std.proofs.Common.{sym, ◌∙◌}
 use Rattle.undo_journal.specs.Undo.{undo, data_words, IsSound}
 use Rattle.card_core.specs.Cards.{Card}
-use Rattle.card_core.specs.Plain.{IsPlain, card_of}
+use Rattle.card_core.specs.Standing.{IsCard, card_of}
 
 -- the words that are found: the data words after undo
 abbrev pub words_found : List ℕ → List ℕ
@@ -12,7 +12,7 @@ words_found m = data_words (undo m)
 -- there is a card to be found: undo is defined, and what it gives are the words of a card
 pub record HasCard (m : List ℕ) : Type 0 where
   pub journal : IsSound m
-  pub plain : IsPlain (words_found m)
+  pub words : IsCard (words_found m)
 
 -- the card that is found
 abbrev pub found : List ℕ → Card

@@ -1,14 +1,18 @@
+-- What is meant: the card and the session, what names reach, one step of the tree machine and its stages, the memory that
+-- stands for a card, what calls promise. The laws stand apart.
 pub mod Cards
 pub mod Sessions
 pub mod Reaching
+pub mod Outcomes
+pub mod Selecting
+pub mod Binaries
 pub mod Steps
-pub mod Memory
-pub mod Plain
-pub mod Finding
-pub mod Overwriting
-pub mod Working
-pub mod Power
 pub mod Stages
-pub mod StartFaults
-pub mod Running
+pub mod Standing
 pub mod Factory
+pub mod Finding
+pub mod Running
+pub mod StartFaults
+pub mod Proper
+pub mod Working
+pub mod laws

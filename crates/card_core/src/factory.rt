@@ -1,16 +1,19 @@
-// The factory's memory, and its writing.
-ghost use Rattle.std.specs.Prelude.{◌≡◌, ◌+◌, ◌<◌, ◌≤◌, false, OnOk, IfOk, IfErr};
+//! The factory's memory, and its writing.
+ghost use Rattle.std.specs.Prelude.{◌≡◌, ◌+◌, ◌<◌, ◌≤◌, false, Err, OnOk, IfOk, IfErr};
 ghost use Rattle.nvm_board.specs.Facts.{Answered, Steady};
 ghost use Rattle.nvm_board.specs.declared.board.TheConstants.{PAGES};
 ghost use Rattle.card_core.specs.declared.layout.TheConstants.{HEADER_PAGE};
-ghost use Rattle.card_core.specs.Memory.{page_words};
+ghost use Rattle.block_chain.specs.Words.{page_words};
+ghost use Rattle.file_tree.specs.Spaces.{free_space};
 ghost use Rattle.undo_journal.specs.Spending.{WritesAtMost};
-ghost use Rattle.card_core.specs.Power.{FailsBy};
-ghost use Rattle.card_core.specs.Factory.{IsFactory, factory_card, factory_free_block, factory_page as factory_page_of};
-ghost use Rattle.card_core.specs.Finding.{Finds};
-ghost use Rattle.card_core.specs.Plain.{StandsFor};
+ghost use Rattle.card_core.specs.Factory.{IsFactory, factory_card, factory_space, factory_free_block};
+ghost use Rattle.card_core.specs.Factory.{factory_page as factory_page_of};
+ghost use Rattle.card_core.specs.Finding.{Finds, found};
+ghost use Rattle.card_core.specs.Standing.{StandsFor};
 
-use crate::layout::{FIRST_BLOCK_PAGE, FIRST_ENTRY_PAGE, FIRST_PIN_PAGE, HEADER_PAGE, MARK, PINS};
+use crate::layout::{FIRST_PIN_PAGE, HEADER_PAGE, MARK, PINS};
+use block_chain::FIRST_BLOCK_PAGE;
+use file_tree::FIRST_ENTRY_PAGE;
 use undo_journal::{Board, DeviceErr, PAGE_WORDS, PAGES};
 
 type PageWords = [u32; PAGE_WORDS as usize];
@@ -105,14 +108,15 @@ fn write_pages<B: Board>(board: &mut B) -> Result<(), DeviceErr>
     Ok(())
 }
 
-/// Writes the factory's memory to a board: its two files, its PINs, and all other blocks free. The board comes back at
-/// every exit. After an error the memory stands for nothing that is promised.
+/// Writes the factory's memory to a board: its two files, its PINs, and all other blocks free. Then 895 blocks and 62
+/// entries are free. The board comes back at every exit. After an error the memory stands for nothing that is promised.
 pub fn format<B: Board>(mut board: B) -> Result<B, (B, DeviceErr)>
     ensures factory { IfOk result (λ b. IsFactory (B.facts b).words) }
     ensures stands { IfOk result (λ b. StandsFor (B.facts b).words factory_card) }
     ensures found { IfOk result (λ b. Finds (B.facts b).words factory_card) }
+    ensures space { IfOk result (λ b. free_space (found (B.facts b).words).tree ≡ factory_space) }
     ensures power { IfOk result (λ b. Steady (B.facts board) (B.facts b)) }
-    ensures power_err { IfErr result (λ e. FailsBy e.1 (B.facts board) (B.facts e.0)) }
+    ensures power_err { IfErr result (λ e. Answered {T = Unit {0}} (B.facts board) (B.facts e.0) (Err e.1)) }
     ensures counts { IfOk result (λ b. WritesAtMost PAGES (B.facts board) (B.facts b)) }
     ensures counts_err { IfErr result (λ e. WritesAtMost PAGES (B.facts board) (B.facts e.0)) }
 {

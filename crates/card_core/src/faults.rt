@@ -1,3 +1,4 @@
+//! Why a card stops answering, and why it doesn't start.
 ghost use Rattle.std.specs.Prelude.{◌≡◌};
 ghost use Rattle.card_core.specs.StartFaults.{fault_of_open, fault_of_store};
 

@@ -1,9 +1,15 @@
 //! Laws of the definitions, as contracts of functions that do nothing.
 ghost use Rattle.std.specs.Prelude.{◌≡◌, ℕ, List, length};
+ghost use Rattle.card_core.specs.declared.layout.TheConstants.{MARK, HEADER_PAGE, STATE_WORD, FIRST_PIN_PAGE, PINS};
 ghost use Rattle.nvm_board.specs.declared.board.TheConstants.{WORDS};
+ghost use Rattle.apdu_core.specs.OfBytes.{AreBytes};
 ghost use Rattle.card_core.specs.Cards.{Card};
-ghost use Rattle.card_core.specs.Finding.{Finds};
-ghost use Rattle.card_core.specs.Plain.{StandsFor};
+ghost use Rattle.card_core.specs.Finding.{Finds, HasCard, found};
+ghost use Rattle.card_core.specs.Outcomes.{answer_bytes};
+ghost use Rattle.card_core.specs.Standing.{StandsFor};
+ghost use Rattle.card_core.specs.Proper.{IsAnswer, IsProper};
+ghost use Rattle.card_core.specs.Sessions.{Session};
+ghost use Rattle.card_core.specs.Steps.{carried_out};
 
 /// One card at most is found in a memory, whatever its journal holds: what is found is a function of the words.
 pub fn one_card()
@@ -13,4 +19,29 @@ pub fn one_card()
 /// Where no pair of the journal counts and the words are a card's, that card is found.
 pub fn standing_card_is_found()
     ensures { (m : List ℕ) (c : Card) → length m ≡ WORDS → StandsFor m c → Finds m c }
+{}
+
+/// The card that is found is proper: what it holds are bytes, and no record, name or rule is too long.
+pub fn found_is_proper()
+    ensures { (m : List ℕ) → HasCard m → IsProper (found m) }
+{}
+
+/// A command of bytes leaves a proper card proper, whatever it does.
+pub fn step_keeps_proper()
+    ensures { (c : Card) (s : Session) (command : List ℕ) → IsProper c → AreBytes command
+        → IsProper (carried_out c s command).card }
+{}
+
+/// The answer of a proper card to a command of bytes is 2 to 258 bytes.
+pub fn answers_are_short()
+    ensures { (c : Card) (s : Session) (command : List ℕ) → IsProper c → AreBytes command
+        → IsAnswer (answer_bytes (carried_out c s command).response) }
+{}
+
+/// The numbers of the header and of the PINs, as a reader sees them: the mark "TSC1" and the state in words 0 and 2 of page 0,
+/// and the pages of 8 PINs from page 65 on. Those of file entries and blocks are laws of file_tree and block_chain.
+pub fn layout()
+    ensures mark { MARK ≡ 0x54534331 }
+    ensures header { (HEADER_PAGE ≡ 0) × (STATE_WORD ≡ 2) }
+    ensures pins { (FIRST_PIN_PAGE ≡ 65) × (PINS ≡ 8) }
 {}

@@ -1,24 +1,22 @@
 //! The card: what its memory stands for, its start, and its commands.
 #![tactic(auto)]
 
+mod binary;
+mod card_state;
+mod check;
 mod commands;
-mod condition;
-mod content;
+mod current;
 mod factory;
 mod faults;
-mod files;
 pub mod laws;
 mod layout;
 mod machine;
-mod plain;
-mod words;
+mod select;
 
 pub use apdu_core::Answer;
-pub use condition::Condition;
+pub use card_state::CardState;
 pub use factory::format;
 pub use faults::{PowerLost, StartFault};
+pub use file_tree::FreeSpace;
 pub use machine::{COMMAND_WRITES, Card};
 pub use undo_journal::{Armed, Board, DeviceErr};
-
-#[cfg(test)]
-mod tests;

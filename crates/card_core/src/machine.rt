@@ -1,20 +1,23 @@
-// A started card and its commands.
-ghost use Rattle.std.specs.Prelude.{◌≡◌, ◌⊎◌, ◌≤◌, true, false, [], length, IsOk, IsErr, OnOk, OnErr, IfOk, IfErr};
-ghost use Rattle.undo_journal.specs.Spending.{WritesAtMost, rollback_writes};
+//! A started card and its commands.
+ghost use Rattle.std.specs.Prelude.{◌≡◌, ◌⊎◌, ◌≤◌, ◌-◌, Some, true, false, [], length, IsOk, IsErr, OnOk, OnErr, IfOk};
+ghost use Rattle.std.specs.Prelude.{IfErr};
+ghost use Rattle.undo_journal.specs.Spending.{WritesAtMost, KeepsBoard, start_writes};
 ghost use Rattle.undo_journal.specs.Undo.{gate};
+ghost use Rattle.file_tree.specs.Spaces.{free_space};
 ghost use Rattle.card_core.specs.Finding.{HasCard, FindsAgain};
 ghost use Rattle.card_core.specs.Running.{Starts, StopsBy, Steps, FailsIn, IsCutIn, card_found, memory_failure};
-ghost use Rattle.card_core.specs.Stages.{IsStage};
-ghost use Rattle.card_core.specs.Steps.{answer_bytes};
+ghost use Rattle.card_core.specs.Stages.{IsStage, ChangesNothing};
+ghost use Rattle.card_core.specs.Outcomes.{answer_bytes};
 
+use crate::card_state::CardState;
+use crate::check::find_card;
 use crate::commands::carry_out;
-use crate::condition::Condition;
+use crate::current::Current;
 use crate::faults::{PowerLost, StartFault};
-use crate::files::CurrentFile;
-use crate::plain::is_plain;
 use apdu_core::{Answer, Sw};
+use file_tree::FreeSpace;
 use std::marker::Model;
-use undo_journal::{Armed, Board, Store, StoreErr};
+use undo_journal::{Armed, Board, Faultless, Store, StoreErr};
 
 /// The most device writes of a command.
 pub const COMMAND_WRITES: u16 = 700;
@@ -23,8 +26,9 @@ pub const COMMAND_WRITES: u16 = 700;
 #[derive(Drop)]
 pub struct Card<B: Board> {
     store: Store<B>,
-    current: CurrentFile,
-    condition: Condition,
+    current: Current,
+    free: FreeSpace,
+    state: CardState,
 }
 
 impl<B: Board> Model for Card<B> {
@@ -37,75 +41,98 @@ impl<B: Board> Model for Card<B> {
     ghost coded = { Prim.hlevel (codes, session_code) };
 
     ghost use Rattle.std.specs.Prelude.{◌≡◌, true};
-    ghost use Rattle.undo_journal.specs.Memory.{IsReady};
     ghost use Rattle.card_core.specs.Finding.{HasCard};
-    ghost use Rattle.card_core.specs.declared.condition.Condition.TheVariants.{Working, Dark};
-    ghost use Rattle.card_core.specs.Working.{session_of};
+    ghost use Rattle.card_core.specs.declared.card_state.CardState.TheVariants.{Working, Dark};
+    ghost use Rattle.card_core.specs.Working.{session_while, table_in, IsKept};
 
-    ghost view = { λ c. record { facts = c.store.facts; session = session_of c.current; condition = c.condition } };
+    ghost view = { λ c. record {
+      facts = c.store.facts;
+      session = session_while c.state (table_in c.store) c.current;
+      state = c.state;
+    } };
 
-    ghost invariant = { λ c. HasCard c.store.facts.words × (c.condition ≡ Working → IsReady c.store) × (c.condition ≡ Dark → c.store.facts.dark ≡ true) };
+    ghost invariant = { λ c. HasCard c.store.facts.words × (c.state ≡ Working → IsKept c.store c.current c.free)
+        × (c.state ≡ Dark → c.store.facts.dark ≡ true) };
 }
 
 impl<B: Board> Card<B> {
     /// Starts the card that the memory stands for, its journal undone, in a fresh session. At every exit the card that is
-    /// found is what it was, so that a start may itself be cut any number of times. The board comes back where the card
-    /// doesn't start.
+    /// found is what it was, so that a start may itself be cut any number of times; where no pair of the journal counts, it
+    /// changes no word and writes nothing. The board comes back where the card doesn't start.
     pub fn start(board: B) -> Result<Card<B>, (B, StartFault)>
         ensures started { IfOk result (Starts (B.facts board)) }
         ensures stopped { IfErr result (λ e. StopsBy e.1 (B.facts board) (B.facts e.0)) }
-        ensures there { IfOk result (λ c. HasCard c.facts.words) }
+        ensures has_card { IfOk result (λ c. HasCard c.facts.words) }
         ensures found { IfOk result (λ c. FindsAgain (B.facts board).words c.facts.words) }
         ensures found_err { IfErr result (λ e. FindsAgain (B.facts board).words (B.facts e.0).words) }
-        ensures writes { IfOk result (λ c. WritesAtMost (rollback_writes (gate (B.facts board).words)) (B.facts board) c.facts) }
-        ensures writes_err { IfErr result (λ e. WritesAtMost (rollback_writes (gate (B.facts board).words)) (B.facts board) (B.facts e.0)) }
+        ensures shut { IfOk result (λ c. gate (B.facts board).words ≡ 0 → KeepsBoard (B.facts board) c.facts) }
+        ensures shut_err { IfErr result (λ e. gate (B.facts board).words ≡ 0
+            → KeepsBoard (B.facts board) (B.facts e.0)) }
+        ensures writes { IfOk result (λ c. WritesAtMost (start_writes (B.facts board)) (B.facts board) c.facts) }
+        ensures writes_err { IfErr result (λ e. WritesAtMost (start_writes (B.facts board)) (B.facts board) (B.facts
+            e.0)) }
     {
         let mut store = match Store::open(board) {
             Ok(store) => store,
             Err((board, fault)) => return Err((board, StartFault::from(fault))),
         };
-        match is_plain(&mut store) {
-            Ok(true) => Ok(Card {
+        match find_card(&mut store) {
+            Ok(Some(free)) => Ok(Card {
                 store,
-                current: CurrentFile::MasterFile,
-                condition: Condition::Working,
+                current: Current::MASTER_FILE,
+                free,
+                state: CardState::Working,
             }),
-            Ok(false) => Err((store.into_board(), StartFault::Damaged)),
+            Ok(None) => Err((store.into_board(), StartFault::Damaged)),
             Err(e) => Err((store.into_board(), StartFault::from(e))),
         }
     }
 
     /// What the card can still do. A card that works has power, and one that is dark has none.
-    pub fn condition(&self) -> Condition
-        ensures condition { result ≡ self.now.condition }
-        ensures lit { self.now.condition ≡ Condition.Working → self.now.facts.dark ≡ false }
-        ensures unlit { self.now.condition ≡ Condition.Dark → self.now.facts.dark ≡ true }
+    pub fn state(&self) -> CardState
+        ensures state { result ≡ self.now.state }
+        ensures lit { self.now.state ≡ CardState.Working → self.now.facts.dark ≡ false }
+        ensures unlit { self.now.state ≡ CardState.Dark → self.now.facts.dark ≡ true }
     {
-        self.condition
+        self.state
     }
 
-    /// Carries out the bytes of a command, and puts its answer into the buffer, whatever that held.
+    /// The free space of the card, from counts that each command keeps: blocks and file entries. It is told as long as the
+    /// card works.
+    pub fn free(&self) -> FreeSpace
+        ensures { self.now.state ≡ CardState.Working → result ≡ free_space (card_found self.now).tree }
+    {
+        self.free
+    }
+
+    /// Carries out the bytes of a command (ISO/IEC 7816-4, clause 5), and puts its answer into the buffer, whatever that held.
+    /// A refusal is an answer too. A fault of the device is answered 6581, here and from then on, until the next start; where
+    /// power is lost, `PowerLost` is the result and nothing is answered, here and from then on.
     pub fn command(&mut self, command: &[u8], answer: &mut Answer) -> Result<(), PowerLost>
         // At every exit, cut or fault or neither, the card that is found is one of the command's stages.
-        ensures there { HasCard self.new.facts.words }
+        ensures has_card { HasCard self.new.facts.words }
         ensures stage { IsStage (card_found self.old) self.old.session command.now (card_found self.new) }
-        ensures done { OnOk result (self.old.condition ≡ Condition.Working
+        // A command that changes nothing lasting leaves each word of the board, and each of its counts.
+        ensures idle { ChangesNothing (card_found self.old) self.old.session command.now
+            → KeepsBoard self.old.facts self.new.facts }
+        ensures done { OnOk result (self.old.state ≡ CardState.Working
             → Steps self.old command.now self.new answer.new.items ⊎ FailsIn self.old self.new answer.new.items) }
-        ensures lost { OnErr result (self.old.condition ≡ Condition.Working → IsCutIn self.old self.new answer.new.items) }
-        ensures failed { self.old.condition ≡ Condition.Failed
+        ensures lost { OnErr result (self.old.state ≡ CardState.Working → IsCutIn self.old self.new answer.new.items) }
+        ensures failed { self.old.state ≡ CardState.Failed
             → IsOk result × (self.new ≡ self.old) × (answer.new.items ≡ memory_failure) }
-        ensures dark { self.old.condition ≡ Condition.Dark → IsErr result × (self.new ≡ self.old) × (answer.new.items ≡ []) }
+        ensures dark { self.old.state ≡ CardState.Dark → IsErr result × (self.new ≡ self.old) × (answer.new.items
+            ≡ []) }
         ensures unlit { OnErr result (self.new.facts.dark ≡ true) }
         ensures writes { WritesAtMost COMMAND_WRITES self.old.facts self.new.facts }
     {
         answer.clear();
-        match self.condition {
-            Condition::Working => {}
-            Condition::Failed => {
+        match self.state {
+            CardState::Working => {}
+            CardState::Failed => {
                 end_answer(answer, Sw::MEMORY_FAILURE);
                 return Ok(());
             }
-            Condition::Dark => return Err(PowerLost),
+            CardState::Dark => return Err(PowerLost),
         }
         match carry_out(&mut self.store, &mut self.current, command, answer) {
             Ok(status) => {
@@ -113,13 +140,13 @@ impl<B: Board> Card<B> {
                 Ok(())
             }
             Err(StoreErr::Fault) => {
-                self.condition = Condition::Failed;
+                self.state = CardState::Failed;
                 answer.clear();
                 end_answer(answer, Sw::MEMORY_FAILURE);
                 Ok(())
             }
             Err(StoreErr::PowerLost) => {
-                self.condition = Condition::Dark;
+                self.state = CardState::Dark;
                 answer.clear();
                 Err(PowerLost)
             }
@@ -133,9 +160,19 @@ impl<B: Board> Card<B> {
         let Card {
             store,
             current: _,
-            condition: _,
+            free: _,
+            state: _,
         } = self;
         store.into_board()
+    }
+}
+
+impl<B: Faultless> Card<B> {
+    /// Tells that the board counts no fault.
+    pub fn has_no_fault(&self)
+        ensures { self.now.facts.faults ≡ 0 }
+    {
+        self.store.has_no_fault();
     }
 }
 
@@ -144,7 +181,12 @@ impl<B: Armed> Card<B> {
     pub fn arm(&mut self, k: u32, mask: u16)
         requires { 1 ≤ k }
         ensures due { self.new.facts.due ≤ 1 }
-        ensures same { self.new ≡ record self.old { facts = record self.old.facts { due = self.new.facts.due } } }
+        ensures same { self.new ≡ record self.old {
+          facts = record self.old.facts {
+            due = self.new.facts.due;
+            pending = Some record { whole_writes = k - 1; mask = mask };
+          };
+        } }
     {
         self.store.arm(k, mask);
     }

@@ -1,9 +1,9 @@
 use Rattle.std.proofs.Common.{◌≡◌, ◌≢◌, ◌≤◌, ℕ, List, length, refl, rules, ap, ◌∙◌, arith, below_more}
 use Rattle.nvm_board.specs.Facts.{address}
-use Rattle.card_core.specs.Memory.{page_words}
-use Rattle.card_core.proofs.Pages.{page_words-written, page_words-written_other}
+use Rattle.block_chain.specs.Words.{page_words}
+use Rattle.card_core.proofs.FactoryPages.{page_words-written, page_words-written_other}
 use Rattle.card_core.proofs.Powers.{answered_after, steady_then}
-use Rattle.card_core.proofs.FactoryLemmas.{length-factory_page}
+use Rattle.card_core.proofs.FactoryPages.{length-factory_page}
 use Rattle.card_core.proofs.factory.write_pages.Goals as goal
 
 pub returns-in_err-write-clause-power : goal.returns-in_err-write-clause-power
@@ -15,7 +15,8 @@ loop-page-preserved g c =
     let m = (g.B.Board.facts c.loop-page.board).words in
     let sized = g.met.B.Board.sized c.loop-page.board in
     let within : address c.loop-page.page 16 ≤ length m = omega (arith, sized) in
-    let whole : length c.factory_page.result ≡ 16 = ap length c.factory_page.ensures ∙ length-factory_page c.loop-page.page in
+    let whole : length c.factory_page.result ≡ 16 = ap length c.factory_page.ensures
+    ∙ length-factory_page c.loop-page.page in
     let fits : length c.factory_page.result ≤ 16 = omega arith in
     record {
       steady = steady_then _ _ _ c.loop-page.invariant.steady (c.in_ok-write.ensures.light.ok refl);
@@ -26,7 +27,8 @@ loop-page-preserved g c =
           (λ page below.
           let other : page ≢ c.loop-page.page = λ same. let z : ⊥ = omega arith in z in
           ap (λ (words : List ℕ). page_words words page) c.in_ok-write.ensures.done
-          ∙ page_words-written_other m c.factory_page.result c.loop-page.page page fits other ∙ c.loop-page.invariant.so_far page below)
+          ∙ page_words-written_other m c.factory_page.result c.loop-page.page page fits other
+          ∙ c.loop-page.invariant.so_far page below)
           (ap (λ (words : List ℕ). page_words words c.loop-page.page) c.in_ok-write.ensures.done
           ∙ page_words-written m c.factory_page.result c.loop-page.page whole within ∙ c.factory_page.ensures);
     }

@@ -1,0 +1,5 @@
+use Rattle.apdu_core.specs.laws.ByteLaws.{asked-of_bytes}
+use Rattle.apdu_core.proofs.laws.requests_are_of_bytes.Goals as goal
+
+pub returns : goal.returns
+returns c = λ command all. asked-of_bytes command all

@@ -1,0 +1,116 @@
+-- A command of bytes asks for a request of bytes, or is refused by a status word of two bytes.
+use Rattle.std.specs.Prelude.{◌≡◌, ◌<◌, ◌==◌, ◌+◌, ℕ, zero, suc, Bool, true, false, ◌&&◌, nat_lt, List, [], ◌∷◌}
+use Rattle.std.specs.Prelude.{length, take, slice_index}
+use Rattle.std.specs.Prelude.{find, Option, Some, None, is_some, unwrap_or, Result, Ok, Err, MatchResult, IfSome}
+use Rattle.std.specs.Prelude.{if◌then◌else◌}
+use Rattle.std.specs.List.{list_all}
+use Rattle.std.proofs.lemmas.Bool.{ltb-true, and_parts}
+use Rattle.std.proofs.Common.{arith, lit<, subst, sym, get_or-take, length-take}
+use Rattle.card_rules.specs.declared.status.Sw.{Sw}
+use Rattle.card_rules.specs.declared.status.TheConstants.Sw.{WRONG_LENGTH, WRONG_PARAMETERS, UNKNOWN_CLASS}
+use Rattle.apdu_core.specs.Bodies.{Body, body_of}
+use Rattle.apdu_core.specs.Requests.{Request}
+use Rattle.apdu_core.specs.Rows.{Row}
+use Rattle.apdu_core.specs.Asked.{asked, asked_by_body, asked_by_row, command_table, is_class, row_of}
+use Rattle.apdu_core.specs.OfBytes.{AreBytes, IsOfBytes, IsStatusWord}
+
+-- a body of bytes
+record IsBodyOfBytes (body : Body) : Type 0 where
+  sent : AreBytes body.sent
+  expected : unwrap_or body.expected 0 < 256
+
+-- a row whose meaning is of bytes, if its body is
+abbrev IsRowOfBytes : Row → Type 0
+IsRowOfBytes row = (p1 p2 : ℕ) (body : Body) → IsBodyOfBytes body → IsOfBytes (row.meaning p1 p2 body)
+
+pub bytes-rest : (byte : ℕ) (bytes : List ℕ) → AreBytes (byte ∷ bytes) → AreBytes bytes
+bytes-rest byte bytes all k d lt = all (suc k) d (let below : suc k < length (byte ∷ bytes) = omega (arith, lt) in
+    below)
+
+bytes-take : (n : ℕ) (bytes : List ℕ) → AreBytes bytes → AreBytes (take n bytes)
+bytes-take n bytes all k d lt =
+    let some = length-take n bytes in
+    let taken : k < n = omega (arith, lt, some) in
+    let below : k < length bytes = omega (arith, lt, some) in
+    subst (λ (byte : ℕ). byte < 256) (sym (get_or-take n bytes k d taken)) (all k d below)
+
+-- a choice between two that hold is one that holds
+either-if : {X : Type 0} (P : X → Type 0) (test : Bool) (one other : X) → P one → P other
+    → P (if test then one else other)
+either-if P true one other y n = y
+either-if P false one other y n = n
+
+-- each of some bytes, and 0 past their end, is below 256
+pub byte-at : (bytes : List ℕ) (i : ℕ) → AreBytes bytes → slice_index bytes i < 256
+byte-at [] i all = omega arith
+byte-at (byte ∷ bytes) zero all = all 0 0 (let some : 0 < length (byte ∷ bytes) = omega arith in some)
+byte-at (byte ∷ bytes) (suc i) all = byte-at bytes i (bytes-rest byte bytes all)
+
+body-of_bytes : (bytes : List ℕ) → AreBytes bytes → IfSome (body_of bytes) IsBodyOfBytes
+body-of_bytes [] all = record { sent = all; expected = omega arith }
+body-of_bytes (le ∷ []) all = record { sent = bytes-rest le [] all; expected = byte-at (le ∷ []) 0 all }
+body-of_bytes (lc ∷ byte ∷ bytes) all =
+    let rest = byte ∷ bytes in
+    let rest_bytes : AreBytes rest = bytes-rest lc rest all in
+    let whole : Option Body = Some (record { sent = rest; expected = None }) in
+    let with_le : Option Body = Some (record { sent = take lc rest; expected = Some (slice_index rest lc) }) in
+    let holds : Option Body → Type 0 = λ body. IfSome body IsBodyOfBytes in
+    either-if holds (lc == 0) None _ tt
+    (either-if holds (length rest == lc) whole _ (record { sent = rest_bytes; expected = omega arith })
+    (either-if holds (length rest == lc + 1) with_le None
+    (record { sent = bytes-take lc rest rest_bytes; expected = byte-at rest lc rest_bytes }) tt))
+
+-- what a row makes of a body
+body-asked : (row : Row) (p1 p2 : ℕ) (body : Option Body) → IsRowOfBytes row → IfSome body IsBodyOfBytes
+    → MatchResult (asked_by_body row p1 p2 body) IsOfBytes IsStatusWord
+body-asked row p1 p2 None meant sent = lit< tt
+body-asked row p1 p2 (Some body) meant sent =
+    either-if (λ (asked : Result Request Sw). MatchResult asked IsOfBytes IsStatusWord)
+    (row.lengths p1 p2 (length body.sent) (is_some body.expected)) (Ok (row.meaning p1 p2 body)) (Err WRONG_LENGTH)
+    (meant p1 p2 body sent) (lit< tt)
+
+row-asked : (row : Option Row) (p1 p2 : ℕ) (bytes : List ℕ) → IfSome row IsRowOfBytes → AreBytes bytes
+    → MatchResult (asked_by_row row p1 p2 bytes) IsOfBytes IsStatusWord
+row-asked None p1 p2 bytes meant all = lit< tt
+row-asked (Some row) p1 p2 bytes meant all =
+    either-if (λ (asked : Result Request Sw). MatchResult asked IsOfBytes IsStatusWord)
+    (row.parameters p1 p2) (asked_by_body row p1 p2 (body_of bytes)) (Err WRONG_PARAMETERS)
+    (body-asked row p1 p2 (body_of bytes) meant (body-of_bytes bytes all)) (lit< tt)
+
+-- a row that is found among some of which each has the property has it
+abbrev AreRowsOfBytes : List Row → Type 0
+AreRowsOfBytes [] = Unit {0}
+AreRowsOfBytes (row ∷ rows) = IsRowOfBytes row × AreRowsOfBytes rows
+
+find-of_bytes : (test : Row → Bool) (rows : List Row) → AreRowsOfBytes rows → IfSome (find test rows) IsRowOfBytes
+find-of_bytes test [] all = tt
+find-of_bytes test (row ∷ rows) all =
+    either-if (λ (found : Option Row). IfSome found IsRowOfBytes) (test row) (Some row) _ all.0 (find-of_bytes test
+    rows all.1)
+
+-- the rows of the table, one by one
+table-of_bytes : AreRowsOfBytes command_table
+table-of_bytes = (λ p1 p2 body sent. tt, (λ p1 p2 body sent. sent.expected, (λ p1 p2 body sent. sent.sent, tt)))
+
+pub asked-of_bytes : (command : List ℕ) → AreBytes command → MatchResult (asked command) IsOfBytes IsStatusWord
+asked-of_bytes [] all = lit< tt
+asked-of_bytes (class ∷ []) all = lit< tt
+asked-of_bytes (class ∷ instruction ∷ []) all = lit< tt
+asked-of_bytes (class ∷ instruction ∷ p1 ∷ []) all = lit< tt
+asked-of_bytes (class ∷ instruction ∷ p1 ∷ p2 ∷ bytes) all =
+    let rest : AreBytes bytes =
+    bytes-rest p2 bytes (bytes-rest p1 (p2 ∷ bytes) (bytes-rest instruction (p1 ∷ p2 ∷ bytes) (bytes-rest class
+    (instruction ∷ p1 ∷ p2 ∷ bytes) all))) in
+    let row = find-of_bytes (λ row. (row.class == class) && (row.instruction == instruction)) command_table
+    table-of_bytes in
+    either-if (λ (asked : Result Request Sw). MatchResult asked IsOfBytes IsStatusWord)
+    (is_class class) (asked_by_row (row_of class instruction) p1 p2 bytes) (Err UNKNOWN_CLASS)
+    (row-asked (row_of class instruction) p1 p2 bytes row rest) (lit< tt)
+
+-- numbers that are tested to be bytes are bytes
+pub are_bytes-tell : (numbers : List ℕ) → list_all (λ number. nat_lt number 256) numbers ≡ true → AreBytes numbers
+are_bytes-tell [] e k d lt = absurd (omega arith)
+are_bytes-tell (number ∷ numbers) e zero d lt = ltb-true number 256 (and_parts (nat_lt number 256) _ e).0
+are_bytes-tell (number ∷ numbers) e (suc k) d lt =
+    are_bytes-tell numbers (and_parts (nat_lt number 256) _ e).1 k d (let below : k < length numbers = omega arith in
+    below)

@@ -1,0 +1,87 @@
+//! READ BINARY and UPDATE BINARY (ISO/IEC 7816-4, 11.3).
+ghost use Rattle.std.specs.Prelude.{◌≡◌, ◌≤◌, Some, None, if◌then◌else◌, IfOk, IfSome};
+ghost use Rattle.apdu_core.specs.Asked.{asked_by_row};
+ghost use Rattle.apdu_core.specs.BinaryRows.{read_binary_row, update_binary_row, is_place, named_target, named_offset};
+ghost use Rattle.apdu_core.specs.Ranges.{IsTarget, IsInRange};
+ghost use Rattle.apdu_core.specs.Requests.{Gives};
+
+use crate::commands::Command;
+use crate::form::CommandBody;
+use byteorder::{BigEndian, ByteOrder};
+use card_rules::Sw;
+
+/// The elementary file of a binary command.
+#[derive(Clone, Copy, Debug, PartialEq, Eq)]
+pub enum Target {
+    /// The current one.
+    Current,
+    /// The child of the current dedicated file with this short identifier, 1 to 30.
+    Short(u8),
+}
+
+/// Where a binary command begins to read or write, by an offset in bytes.
+#[derive(Clone, Copy)]
+struct Place {
+    target: Target,
+    offset: u16,
+}
+
+impl Place {
+    /// Reads P1 and P2 of a binary command, if they name a place.
+    fn of(p1: u8, p2: u8) -> Option<Place>
+        ensures named { result ≡ (if is_place p1 p2 then Some (record {
+          target = named_target p1;
+          offset =
+              named_offset p1 p2;
+        }) else None) }
+        ensures ranges { IfSome result (λ place. IsTarget place.target × (place.offset ≤ 32767)) }
+    {
+        match p1 {
+            0x00..=0x7F => Some(Place {
+                target: Target::Current,
+                offset: BigEndian::read_u16(&[p1, p2]),
+            }),
+            // Bit 8 stands, bits 7 and 6 don't, and bits 5 to 1 are a short identifier: 0 and 31 are none.
+            0x81..=0x9E => Some(Place {
+                target: Target::Short(p1 - 0x80),
+                offset: p2 as u16,
+            }),
+            _ => None,
+        }
+    }
+}
+
+/// Reads P1, P2 and what follows the header of READ BINARY. P1 and P2 that name no place are 6A86; data, or no Le, are 6700.
+pub(crate) fn parse_read_binary<'a>(p1: u8, p2: u8, rest: &'a [u8]) -> Result<Command<'a>, Sw>
+    ensures asked { Gives result (asked_by_row (Some read_binary_row) p1 p2 rest.now) }
+    ensures ranges { IfOk result IsInRange }
+{
+    let place = Place::of(p1, p2).ok_or(Sw::WRONG_PARAMETERS)?;
+    let body = CommandBody::parse(rest).ok_or(Sw::WRONG_LENGTH)?;
+    match body.expected {
+        Some(expected) if body.sent.is_empty() => Ok(Command::ReadBinary {
+            target: place.target,
+            offset: place.offset,
+            expected,
+        }),
+        _ => Err(Sw::WRONG_LENGTH),
+    }
+}
+
+/// Reads P1, P2 and what follows the header of UPDATE BINARY. P1 and P2 that name no place are 6A86; no data, or Le, are
+/// 6700.
+pub(crate) fn parse_update_binary<'a>(p1: u8, p2: u8, rest: &'a [u8]) -> Result<Command<'a>, Sw>
+    ensures asked { Gives result (asked_by_row (Some update_binary_row) p1 p2 rest.now) }
+    ensures ranges { IfOk result IsInRange }
+{
+    let place = Place::of(p1, p2).ok_or(Sw::WRONG_PARAMETERS)?;
+    let body = CommandBody::parse(rest).ok_or(Sw::WRONG_LENGTH)?;
+    match body.expected {
+        None if !body.sent.is_empty() => Ok(Command::UpdateBinary {
+            target: place.target,
+            offset: place.offset,
+            bytes: body.sent,
+        }),
+        _ => Err(Sw::WRONG_LENGTH),
+    }
+}

@@ -1,0 +1,26 @@
+-- What is said of a value or an error, said in other words.
+use Rattle.std.proofs.Common.{Result, Ok, Err, IfOk, OnOk, MatchResult, ◌≡◌, subst}
+
+pub ok_then : {T E : Type 0} (P Q : T → Type 0) (r : Result T E) → ((x : T) → P x → Q x) → IfOk r P → IfOk r Q
+ok_then P Q (Ok x) f h = f x h
+ok_then P Q (Err e) f h = tt
+
+-- what is said of either, where it is known which it is
+pub said_ok : {T E : Type 0} (P : T → Type 0) (Q : E → Type 0) (r : Result T E) (x : T) → r ≡ Ok x
+    → MatchResult r P Q → P x
+said_ok {T} {E} P Q r x is said = subst (λ (s : Result T E). MatchResult s P Q) is said
+
+pub said_err : {T E : Type 0} (P : T → Type 0) (Q : E → Type 0) (r : Result T E) (e : E) → r ≡ Err e
+    → MatchResult r P Q → Q e
+said_err {T} {E} P Q r e is said = subst (λ (s : Result T E). MatchResult s P Q) is said
+
+-- two things said of a value
+pub ok_both : {T E : Type 0} (P Q R : T → Type 0) (r : Result T E) → ((x : T) → P x → Q x → R x) → IfOk r P
+    → IfOk r Q → IfOk r R
+ok_both P Q R (Ok x) f p q = f x p q
+ok_both P Q R (Err e) f p q = tt
+
+-- what holds anyway holds of a success
+pub ok_anyway : {T E : Type 0} (P : Type 0) (r : Result T E) → P → OnOk r P
+ok_anyway P (Ok x) h = h
+ok_anyway P (Err e) h = tt

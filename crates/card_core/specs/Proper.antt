@@ -1,0 +1,44 @@
+-- When a card is well formed as far as its answers need: each byte that it may give is one, and no answer is too long.
+use Rattle.std.specs.Prelude.{◌≡◌, ◌≤◌, ℕ, List, length, All, Option, Some, None}
+use Rattle.std.specs.FinMap.{get}
+use Rattle.apdu_core.specs.OfBytes.{AreBytes}
+use Rattle.card_core.specs.Cards.{Body, Card, File, Kind, Path, transparent, linear, cyclic, dedicated, elementary}
+
+-- a record is 1 to 255 bytes
+pub record IsRecord (text : List ℕ) : Type 0 where
+  pub bytes : AreBytes text
+  pub size : length text ≤ 255
+
+-- what an elementary file holds
+abbrev pub IsProperBody : Body → Type 0
+IsProperBody (transparent bytes) = AreBytes bytes
+IsProperBody (linear size capacity records) = All IsRecord records
+IsProperBody (cyclic size capacity records) = All IsRecord records
+
+-- a name is at most 16 bytes
+pub record IsName (name : List ℕ) : Type 0 where
+  pub bytes : AreBytes name
+  pub size : length name ≤ 16
+
+abbrev pub IsProperName : Option (List ℕ) → Type 0
+IsProperName None = Unit {0}
+IsProperName (Some name) = IsName name
+
+abbrev pub IsProperKind : Kind → Type 0
+IsProperKind (dedicated name) = IsProperName name
+IsProperKind (elementary short body) = IsProperBody body
+
+-- a rule is at most 8 bytes
+pub record IsProperFile (file : File) : Type 0 where
+  pub rule : AreBytes file.rule
+  pub rule_size : length file.rule ≤ 8
+  pub kind : IsProperKind file.kind
+
+pub record IsProper (c : Card) : Type 0 where
+  pub files : (path : Path) (file : File) → get c.tree path ≡ Some file → IsProperFile file
+
+-- An answer is 2 to 258 bytes: at most 256 of data, and SW1 and SW2.
+pub record IsAnswer (answer : List ℕ) : Type 0 where
+  pub at_least : 2 ≤ length answer
+  pub at_most : length answer ≤ 258
+  pub bytes : AreBytes answer
