@@ -2,52 +2,72 @@
 use Rattle.std.specs.Prelude.{◌≡◌, ◌<◌, ◌-◌, ℕ, zero, suc, List, Option, Some, Ok, Err, refl}
 use Rattle.std.proofs.Common.{arith, inl, inr, subst, sym}
 use Rattle.t1_link.specs.ReaderTable.{Reader}
-use Rattle.card_bench.specs.declared.desk.Printed.{Printed}
-use Rattle.card_bench.specs.declared.exchange.Ending.{Ending}
-use Rattle.card_bench.specs.declared.exchange.Ending.TheVariants.{Lost}
-use Rattle.card_bench.specs.declared.exchange.UnderWay.{UnderWay}
-use Rattle.card_bench.specs.Exchanges.{Commands, Desk, Ends, Exchanged, Exchanges, Passes, left_by, printed_by}
+use Rattle.card_bench.specs.BenchStates.{BenchState, off, on, IsOn}
+use Rattle.card_bench.specs.Exchanges.{Arrives, Commands, Desk, Ended, Ends, Exchanged, Exchanges, Passes, Way, cut_off, given_up, left_by, printed_by, toward_card}
+use Rattle.card_bench.specs.declared.line.Line.{Line}
+use Rattle.card_bench.specs.declared.playing.Item.TheVariants as item
+use Rattle.card_bench.specs.Lines.{arriving, line_after}
+use Rattle.card_bench.specs.Turns.{GoodBlock}
+use Rattle.card_bench.specs.Performing.{PerformsCommand}
+use Rattle.card_bench.specs.Printouts.{Print}
 
 -- However the exchange goes on from here, with so many blocks left, so it goes from where it began.
-pub record HasPassed (limit : ℕ) (first : Ends) (way : UnderWay) (left : ℕ) (here : Ends) (next : UnderWay) : Type 0 where
-  pub continues : (new : Ends) (ending : Ending) → Exchanges left here next new ending → Exchanges limit first way new ending
+pub record HasPassed (limit : ℕ) (first : Ends) (way : Way) (left : ℕ) (here : Ends) (next : Way) : Type 0 where
+  pub continues : (new : Ends) (ending : Ended) → Exchanges left here next new ending → Exchanges limit first way new ending
 
-pub begins : (limit : ℕ) (first : Ends) (way : UnderWay) (left : ℕ) → left ≡ limit → HasPassed limit first way left first way
+pub begins : (limit : ℕ) (first : Ends) (way : Way) (left : ℕ) → left ≡ limit → HasPassed limit first way left first way
 begins limit first way left e = record { continues = λ new ending run. subst (λ (n : ℕ). Exchanges n first way new ending) e run }
 
 -- the exchange ends with the next block
-last : (left : ℕ) (here : Ends) (next : UnderWay) (new : Ends) (ending : Ending) → Passes here next new (Err ending) → Exchanges (suc left) here next new ending
+last : (left : ℕ) (here : Ends) (next : Way) (new : Ends) (ending : Ended) → Passes here next new (Err ending) → Exchanges (suc left) here next new ending
 unfolding Exchanges
 last left here next new ending passes = inl passes
 
-more : (left : ℕ) (here between : Ends) (next following : UnderWay) (new : Ends) (ending : Ending) → Passes here next between (Ok following)
+more : (left : ℕ) (here between : Ends) (next following : Way) (new : Ends) (ending : Ended) → Passes here next between (Ok following)
     → Exchanges left between following new ending → Exchanges (suc left) here next new ending
 unfolding Exchanges
 more left here between next following new ending passes run = inr (between, following, passes, run)
 
-none : (here : Ends) (next : UnderWay) → Exchanges zero here next here Lost
+none : (here : Ends) (next : Way) → Exchanges zero here next here given_up
 unfolding Exchanges
 none here next = (refl, refl)
 
-module _ (limit : ℕ) (first : Ends) (way : UnderWay) (left : ℕ) (here : Ends) (next : UnderWay) (past : HasPassed limit first way left here next) where
-  pub ends : (new : Ends) (ending : Ending) → 0 < left → Passes here next new (Err ending) → Exchanges limit first way new ending
+module _ (limit : ℕ) (first : Ends) (way : Way) (left : ℕ) (here : Ends) (next : Way) (past : HasPassed limit first way left here next) where
+  pub ends : (new : Ends) (ending : Ended) → 0 < left → Passes here next new (Err ending) → Exchanges limit first way new ending
   ends new ending some passes =
       let one : suc (left - 1) ≡ left = omega (arith, some) in
       past.continues new ending (subst (λ (n : ℕ). Exchanges n here next new ending) one (last (left - 1) here next new ending passes))
 
-  pub goes_on : (between : Ends) (following : UnderWay) (fewer : ℕ) → suc fewer ≡ left → Passes here next between (Ok following)
+  pub goes_on : (between : Ends) (following : Way) (fewer : ℕ) → suc fewer ≡ left → Passes here next between (Ok following)
       → HasPassed limit first way fewer between following
   goes_on between following fewer one passes = record {
     continues = λ new ending run. past.continues new ending
         (subst (λ (n : ℕ). Exchanges n here next new ending) one (more fewer here between next following new ending passes run));
   }
 
-  pub gives_up : left ≡ 0 → Exchanges limit first way here Lost
-  gives_up e = past.continues here Lost (subst (λ (n : ℕ). Exchanges n here next here Lost) (sym e) (none here next))
+  pub gives_up : left ≡ 0 → Exchanges limit first way here given_up
+  gives_up e = past.continues here given_up (subst (λ (n : ℕ). Exchanges n here next here given_up) (sym e) (none here next))
 
 -- a command where the reader's end is there
-pub commands-open : (old new : Desk) (command : List ℕ) (prints : Printed) (reader after : Reader) (ending : Ending) → Some reader ≡ old.reader
-    → Exchanged (record { powered = old.powered; reader = reader; line = old.line }) command (record { powered = new.powered; reader = after; line = new.line }) ending
+pub commands-open : (old new : Desk) (command : List ℕ) (prints : Print) (reader after : Reader) (ending : Ended) → Some reader ≡ old.reader
+    → Exchanged (record { bench = old.bench; reader = reader; line = old.line }) command (record { bench = new.bench; reader = after; line = new.line }) ending
     → new.reader ≡ left_by ending after → prints ≡ printed_by ending → Commands old old.reader command new prints
 commands-open old new command prints reader after ending e exchanged left printed =
     subst (λ (r : Option Reader). Commands old r command new prints) e (after, ending, exchanged, left, printed)
+
+-- with power on a command goes through both ends
+pub powered_command : (b : BenchState) (old new : Desk) (command : List ℕ) (prints : Print) → IsOn b → Commands old old.reader command new prints
+    → PerformsCommand b old command new prints
+powered_command (off facts) old new command prints power commands = absurd power
+powered_command (on powered) old new command prints power commands = commands
+
+-- a block arrives at the card's end, and power is lost there
+pub cut_there : (bench after : BenchState) (reader : Reader) (old new : Line) (block got : List ℕ) → new ≡ line_after 1 old
+    → arriving old 0 block ≡ Some got → GoodBlock bench got item.Dark after
+    → Passes (record { bench = bench; reader = reader; line = old }) (toward_card block)
+    (record { bench = after; reader = reader; line = new }) (Err cut_off)
+cut_there bench after reader old new block got line came turn = record {
+  block = line;
+  arrives = subst (λ (o : Option (List ℕ)). Arrives (record { bench = bench; reader = reader; line = old }) (toward_card block) o
+      (record { bench = after; reader = reader; line = new }) (Err cut_off)) (sym came) (refl, turn);
+}

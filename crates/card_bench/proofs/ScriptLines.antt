@@ -1,7 +1,10 @@
 -- The lines of a script, as they are read one by one.
-use Rattle.std.proofs.Common.{◌≡◌, ◌<◌, ◌≤◌, ◌+◌, ◌-◌, ◌==◌, ◌&&◌, IfSome, ℕ, Bool, true, false, true≢false, cond, nat_lt, List, [], ◌∷◌, ◌++◌, length, take, Option}
-use Rattle.std.proofs.Common.{Some, None, is_some, slice_index, refl, sym, ◌∙◌, ap, ap₂, subst, arith, append_assoc, append-nil, length-append, length-take}
+use Rattle.std.proofs.Common.{◌≡◌, ◌≢◌, ◌⊎◌, ◌<◌, ◌≤◌, ◌+◌, ◌-◌, ◌==◌, ◌&&◌, IfSome, ℕ, zero, suc, Bool, true, false, true≢false, cond, nat_lt, List, [], ◌∷◌, ◌++◌, length, take}
+use Rattle.std.proofs.Common.{Option, Some, None, OnSome, is_some, slice_index, refl, sym, ◌∙◌, ap, ap₂, subst, inl, inr, arith, append_assoc, append-nil, length-append, length-take}
 use Rattle.std.proofs.Common.{if◌then◌else◌}
+use Rattle.std.proofs.KnownBytes.{Appends-nil, Appends-trans}
+use Rattle.std.proofs.Math.Seq.{take-append-add, take-length}
+use Rattle.std.specs.Io.KnownBytes.{Appends, Consumes, IsAtEnd, Keeps}
 use Rattle.std.specs.List.{slice_split, onto_first}
 use Rattle.std.specs.Str.Lines.{lines, lines_of_parts, strip_carriage_return}
 use Rattle.std.proofs.lemmas.List.Splits.{slice_split_none, slice_split_at, slice_split-cons_no}
@@ -9,11 +12,18 @@ use Rattle.std.proofs.lemmas.List.Elements.{All-head, All-tail}
 use Rattle.std.proofs.lemmas.List.Folds.{list_all-append}
 use Rattle.std.proofs.lemmas.Bool.{lt-ltb, ne_eqb}
 use Rattle.card_bench.specs.declared.order.TheConstants.{LINE_LIMIT}
-use Rattle.card_bench.specs.Orders.{order_of}
-use Rattle.card_bench.specs.Scripts.{are_orders, IsInLine, IsScript, FailsAtLine, TakesLine, TakesTooMuch, Counts}
+use Rattle.card_bench.specs.declared.order.Order.{Order}
+use Rattle.card_bench.specs.declared.order.Order.TheVariants.{Nothing}
 use Rattle.card_bench.specs.declared.reading.TheConstants.{SCRIPT_LIMIT}
 use Rattle.card_bench.specs.declared.reading.LineEnd.{LineEnd}
 use Rattle.card_bench.specs.declared.reading.LineEnd.TheVariants.{LineFeed, EndOfScript}
+use Rattle.card_bench.specs.Endings.{HasBegun, HasWritten, IsRunToEnd, IsRunToLine, SomeFirstLines}
+use Rattle.card_bench.specs.Exchanges.{Desk}
+use Rattle.card_bench.specs.Orders.{order_of}
+use Rattle.card_bench.specs.Performing.{Performs}
+use Rattle.card_bench.specs.Printouts.{Print, text_of}
+use Rattle.card_bench.specs.Prints.{IsFirstDesk, LinesPrint, PrintsLines}
+use Rattle.card_bench.specs.Scripts.{are_orders, Counts, FailsAtLine, IsInLine, IsTooLong, TakesLine, TakesTooMuch}
 
 -- whether a byte is a line feed
 abbrev ends : ℕ → Bool
@@ -52,26 +62,46 @@ split-in_line (b ∷ bytes) more part parts inside is =
     slice_split-cons_no ends b (bytes ++ more) (All-head (λ b. (b == 10) ≡ false) b bytes inside)
     ∙ ap (onto_first b) (split-in_line bytes more part parts (All-tail (λ b. (b == 10) ≡ false) b bytes inside) is)
 
-shorter : (drops : Bool) (bytes : List ℕ) (n : ℕ) → n + 1 < length bytes → n < length (cond drops (take (length bytes - 1) bytes) bytes)
-shorter true bytes n long = let t = length-take (length bytes - 1) bytes in omega (arith, t)
-shorter false bytes n long = omega arith
+strip-shorter : (bytes : List ℕ) → length bytes ≤ length (strip_carriage_return bytes) + 1
+strip-shorter bytes = by (slice_index bytes (length bytes - 1) == 13)
+  where
+    by : (drops : Bool) → length bytes ≤ length (cond drops (take (length bytes - 1) bytes) bytes) + 1
+    by true = let t = length-take (length bytes - 1) bytes in omega (arith, t)
+    by false = omega arith
+
+-- stripped, a line has no more bytes
+strip-within : (bytes : List ℕ) → length (strip_carriage_return bytes) ≤ length bytes
+strip-within bytes = by (slice_index bytes (length bytes - 1) == 13)
+  where
+    by : (drops : Bool) → length (cond drops (take (length bytes - 1) bytes) bytes) ≤ length bytes
+    by true = let t = length-take (length bytes - 1) bytes in omega (arith, t)
+    by false = omega arith
+
+-- a line that is too long is so whatever follows in it
+long-more : (bytes more : List ℕ) → IsTooLong bytes → IsTooLong (bytes ++ more)
+long-more bytes [] long = subst IsTooLong (sym (append-nil bytes)) long
+long-more bytes (b ∷ more) long =
+    let sum = length-append bytes (b ∷ more) in
+    let whole = strip-within bytes in
+    let stripped = strip-shorter (bytes ++ b ∷ more) in
+    omega (arith, sum, whole, stripped, long)
 
 -- a first line of too many bytes
 abbrev IsLong : List (List ℕ) → Type 0
 IsLong ls = (line : List ℕ) × (others : List (List ℕ)) × (ls ≡ line ∷ others) × (LINE_LIMIT < length line)
 
-long_line : (first : List ℕ) (parts : List (List ℕ)) → LINE_LIMIT + 1 < length first → IsLong (lines_of_parts (first ∷ parts))
+long_line : (first : List ℕ) (parts : List (List ℕ)) → IsTooLong first → IsLong (lines_of_parts (first ∷ parts))
 long_line first [] long =
-    let some : (length first == 0) ≡ false = ne_eqb (length first) 0 (λ none. let z : ⊥ = omega arith in z) in
-    (first, [], ap (λ (b : Bool). cond b [] (first ∷ [])) some, omega arith)
-long_line first (part ∷ parts) long =
-    (strip_carriage_return first, lines_of_parts (part ∷ parts), refl, shorter (slice_index first (length first - 1) == 13) first LINE_LIMIT long)
+    let whole = strip-within first in
+    let some : (length first == 0) ≡ false = ne_eqb (length first) 0 (λ none. let z : ⊥ = omega (arith, whole, long, none) in z) in
+    (first, [], ap (λ (b : Bool). cond b [] (first ∷ [])) some, omega (arith, whole, long))
+long_line first (part ∷ parts) long = (strip_carriage_return first, lines_of_parts (part ∷ parts), refl, long)
 
-pub lines-long : (bytes more : List ℕ) → IsInLine bytes → length bytes ≡ LINE_LIMIT + 2 → IsLong (lines (bytes ++ more))
-lines-long bytes more inside size =
+pub lines-long : (bytes more : List ℕ) → IsInLine bytes → IsTooLong bytes → IsLong (lines (bytes ++ more))
+lines-long bytes more inside long =
     let some = parts_some more in
-    let sum = length-append bytes some.0 in
-    subst IsLong (sym (ap lines_of_parts (split-in_line bytes more some.0 some.1 inside some.2))) (long_line (bytes ++ some.0) some.1 (omega (arith, sum)))
+    subst IsLong (sym (ap lines_of_parts (split-in_line bytes more some.0 some.1 inside some.2)))
+    (long_line (bytes ++ some.0) some.1 (long-more bytes some.0 long))
 
 -- a line of too many bytes asks for nothing
 order_of-long : (line : List ℕ) → LINE_LIMIT < length line → order_of line ≡ None
@@ -79,9 +109,24 @@ unfolding order_of
 order_of-long line long = let over : nat_lt LINE_LIMIT (length line) ≡ true = lt-ltb LINE_LIMIT (length line) long in rw over refl
 
 -- an empty line asks for nothing to be done
-order_of-empty : is_some (order_of []) ≡ true
+order_of-none : order_of [] ≡ Some Nothing
 unfolding order_of
-order_of-empty = refl
+order_of-none = refl
+
+order_of-empty : is_some (order_of []) ≡ true
+order_of-empty = ap is_some order_of-none
+
+-- it prints nothing
+silent : (order : Order) (prints : Print) (desk desk' : Desk) → order_of [] ≡ Some order → Performs order desk desk' prints → text_of prints ≡ []
+silent order prints desk desk' good performs =
+    let nothing : order ≡ Nothing = let some = sym good ∙ order_of-none in cc in
+    let does : Performs Nothing desk desk' prints = subst (λ (o : Order). Performs o desk desk' prints) nothing performs in
+    ap text_of does.1
+
+-- no bytes of none
+take-none : (size : ℕ) → take {A = ℕ} size [] ≡ []
+take-none zero = refl
+take-none (suc size) = refl
 
 some_bytes : (b : ℕ) (l : List ℕ) → (length (b ∷ l) == 0) ≡ false
 some_bytes b l = ne_eqb (length (b ∷ l)) 0 (λ none. let z : ⊥ = omega arith in z)
@@ -90,104 +135,375 @@ some_bytes b l = ne_eqb (length (b ∷ l)) 0 (λ none. let z : ⊥ = omega arith
 are_orders-more : (ls : List (List ℕ)) (line : List ℕ) → are_orders ls → is_some (order_of line) ≡ true → are_orders (ls ++ line ∷ [])
 are_orders-more ls line all one = list_all-append (λ l. is_some (order_of l)) ls (line ∷ []) ∙ ap₂ (λ (a b : Bool). a && (b && true)) all one
 
--- The script up to here: its lines so far all ask for something, and their bytes were counted.
-pub record Runs (script rest : List ℕ) (n taken : ℕ) : Type 0 where
+-- bytes that were taken are counted
+pub counts_of : (old new : Option (List ℕ)) (bytes : List ℕ) (before after : ℕ) → Consumes old new bytes → after ≡ before + length bytes
+    → Counts old new before after
+counts_of None new bytes before after taken counted = tt
+counts_of (Some xs) None bytes before after taken counted = absurd taken
+counts_of (Some xs) (Some ys) bytes before after taken counted =
+    let sum : length xs ≡ length bytes + length ys = ap length taken ∙ length-append bytes ys in
+    omega (arith, sum, counted)
+
+-- a buffer that is empty is the end of what is known
+pub at_end_of : (old new : Option (List ℕ)) (shown : List ℕ) → IfSome old (λ xs. length shown ≡ 0 → xs ≡ []) → Keeps old new → length shown ≡ 0
+    → OnSome old (IsAtEnd new)
+at_end_of None new shown end kept none = tt
+at_end_of (Some xs) None shown end kept none = absurd kept
+at_end_of (Some xs) (Some ys) shown end kept none = kept ∙ end none
+
+-- one more line is carried out
+prints_more : (old between new : Desk) (some : List (List ℕ)) (out line : List ℕ) (order : Order) (prints : Print)
+    → PrintsLines old some between out → order_of line ≡ Some order → Performs order between new prints
+    → PrintsLines old (some ++ line ∷ []) new (out ++ text_of prints)
+unfolding PrintsLines
+prints_more old between new [] out line order prints all is one = (
+  order,
+  new,
+  prints,
+  [],
+  is,
+  subst (λ (d : Desk). Performs order d new prints) all.0 one,
+  (refl, refl),
+  ap (λ (l : List ℕ). l ++ text_of prints) all.1 ∙ sym (append-nil (text_of prints)),
+)
+prints_more old between new (l ∷ some) out line order prints all is one = (
+  all.0,
+  all.1,
+  all.2,
+  all.3 ++ text_of prints,
+  all.4,
+  all.5,
+  prints_more all.1 between new some all.3 line order prints all.6 is one,
+  ap (λ (l : List ℕ). l ++ text_of prints) all.7 ∙ append_assoc (text_of all.2) all.3 (text_of prints),
+)
+
+-- no line yet
+prints_none : (desk : Desk) → PrintsLines desk [] desk []
+unfolding PrintsLines
+prints_none desk = (refl, refl)
+
+-- The script up to here: its lines so far all ask for something, their bytes were counted, and they were carried out.
+pub record Runs (script rest : List ℕ) (n taken : ℕ) (desk : Desk) (out : List ℕ) : Type 0 where
+  pub front : List ℕ
   pub done : List (List ℕ)
-  pub all : lines script ≡ done ++ lines rest
+  pub split : script ≡ front ++ rest
+  pub goes : (more : List ℕ) → lines (front ++ more) ≡ done ++ lines more
   pub number : length done ≡ n
   pub orders : are_orders done
-  pub size : length script ≡ taken + length rest
+  pub size : length front ≡ taken
+  pub first : Desk
+  pub begins : IsFirstDesk first
+  pub prints : PrintsLines first done desk out
 
-abbrev pub HasRun : Option (List ℕ) → Option (List ℕ) → ℕ → ℕ → Type 0
-HasRun None now n taken = Unit {0}
-HasRun (Some script) None n taken = ⊥
-HasRun (Some script) (Some rest) n taken = Runs script rest n taken
+-- the same, where the reader and the writer tell their bytes
+abbrev pub HasRun : Option (List ℕ) → Option (List ℕ) → ℕ → ℕ → Desk → Option (List ℕ) → Option (List ℕ) → Type 0
+HasRun None now n taken desk held holds = Unit {0}
+HasRun (Some script) None n taken desk held holds = ⊥
+HasRun (Some script) (Some rest) n taken desk held holds = (out : List ℕ) × Runs script rest n taken desk out × Appends held holds out
 
--- the line that was read is the first of what was left, unless it is empty and the last
-module _ (script rest rest' line : List ℕ) (n taken : ℕ) (run : Runs script rest n taken) where
-  fed : (bytes : List ℕ) → rest ≡ (bytes ++ 10 ∷ []) ++ rest' → IsInLine bytes → line ≡ strip_carriage_return bytes → lines rest ≡ line ∷ lines rest'
-  fed bytes is inside stripped =
-      ap lines (is ∙ append_assoc bytes (10 ∷ []) rest') ∙ lines-line bytes rest' inside ∙ ap (λ (l : List ℕ). l ∷ lines rest') (sym stripped)
+-- nothing was read yet
+pub begins_run : (script : Option (List ℕ)) (desk : Desk) (held : Option (List ℕ)) → IsFirstDesk desk → HasRun script script 0 0 desk held held
+begins_run None desk held first = tt
+begins_run (Some script) desk held first = (
+  [],
+  record {
+    front = [];
+    done = [];
+    split = refl;
+    goes = λ more. refl;
+    number = refl;
+    orders = refl;
+    size = refl;
+    first = desk;
+    begins = first;
+    prints = prints_none desk;
+  },
+  Appends-nil held,
+)
 
-  next : (taken' : ℕ) → lines rest ≡ line ∷ lines rest' → length rest + taken ≡ length rest' + taken' → is_some (order_of line) ≡ true → Runs script rest' (n + 1) taken'
-  next taken' is counted good = record {
-    done = run.done ++ line ∷ [];
-    all = run.all ∙ ap (λ (ls : List (List ℕ)). run.done ++ ls) is ∙ sym (append_assoc run.done (line ∷ []) (lines rest'));
-    number = let sum = length-append run.done (line ∷ []) in let is_n = run.number in omega (arith, sum, is_n);
-    orders = are_orders-more run.done line run.orders good;
-    size = let s = run.size in omega (arith, s, counted);
-  }
+-- some lines print this
+pub printed : (script rest : List ℕ) (n taken : ℕ) (desk : Desk) (out : List ℕ) (run : Runs script rest n taken desk out) → LinesPrint run.done out
+printed script rest n taken desk out run = record { first = run.first; last = desk; begins = run.begins; all = run.prints }
 
-  -- the first line asks for nothing that is known
-  fails : (others : List (List ℕ)) → lines rest ≡ line ∷ others → order_of line ≡ None → FailsAtLine script (n + 1)
-  fails others is bad = record {
-    before = run.done;
-    line = line;
-    after = others;
-    all = run.all ∙ ap (λ (ls : List (List ℕ)). run.done ++ ls) is;
-    number = ap (λ (k : ℕ). k + 1) run.number;
-    orders = run.orders;
-    bad = bad;
-  }
+-- one more line, that ends with a line feed
+module _ (script rest rest' line : List ℕ) (n taken taken' : ℕ) (desk : Desk) (out : List ℕ) (run : Runs script rest n taken desk out) where
+  all_lines : lines script ≡ run.done ++ lines rest
+  all_lines = ap lines run.split ∙ run.goes rest
 
-  -- the last line
-  last : rest ≡ line ++ [] → IsInLine line → lines rest ≡ (if length line == 0 then [] else line ∷ [])
-  last is inside = ap lines (is ∙ append-nil line) ∙ lines-last line inside
+  module _ (bytes : List ℕ) (is : rest ≡ (bytes ++ 10 ∷ []) ++ rest') (inside : IsInLine bytes) (stripped : line ≡ strip_carriage_return bytes) where
+    fed : (more : List ℕ) → lines ((run.front ++ (bytes ++ 10 ∷ [])) ++ more) ≡ (run.done ++ line ∷ []) ++ lines more
+    fed more =
+        ap lines (append_assoc run.front (bytes ++ 10 ∷ []) more ∙ ap (λ (l : List ℕ). run.front ++ l) (append_assoc bytes (10 ∷ []) more))
+        ∙ run.goes (bytes ++ 10 ∷ more) ∙ ap (λ (ls : List (List ℕ)). run.done ++ ls) (lines-line bytes more inside)
+        ∙ ap (λ (l : List ℕ). run.done ++ l ∷ lines more) (sym stripped) ∙ sym (append_assoc run.done (line ∷ []) (lines more))
 
-  last_fails : rest ≡ line ++ [] → IsInLine line → order_of line ≡ None → FailsAtLine script (n + 1)
-  last_fails is inside bad = fails [] (last is inside ∙ only line bad) bad
-    where
-      only : (l : List ℕ) → order_of l ≡ None → (if length l == 0 then [] else l ∷ []) ≡ l ∷ []
-      only [] none = absurd (true≢false (sym order_of-empty ∙ ap is_some none))
-      only (b ∷ l) none = ap (λ (e : Bool). cond e [] ((b ∷ l) ∷ [])) (some_bytes b l)
+    split_on : script ≡ (run.front ++ (bytes ++ 10 ∷ [])) ++ rest'
+    split_on = run.split ∙ ap (λ (l : List ℕ). run.front ++ l) is ∙ sym (append_assoc run.front (bytes ++ 10 ∷ []) rest')
 
-  complete : rest ≡ line ++ rest' → rest' ≡ [] → IsInLine line → (taken' : ℕ) → length rest + taken ≡ length rest' + taken' → taken' ≤ SCRIPT_LIMIT
-      → is_some (order_of line) ≡ true → IsScript script
-  complete is none inside taken' counted within good = record {
-    orders = all_orders line good (run.all ∙ ap (λ (ls : List (List ℕ)). run.done ++ ls) (last (is ∙ ap (λ (bytes : List ℕ). line ++ bytes) none) inside));
-    size = let s = run.size in let empty = ap length none in omega (arith, s, counted, empty, within);
-  }
-    where
-      all_orders : (l : List ℕ) → is_some (order_of l) ≡ true → lines script ≡ run.done ++ (if length l == 0 then [] else l ∷ []) → are_orders (lines script)
-      all_orders [] some all = subst are_orders (sym (all ∙ append-nil run.done)) run.orders
-      all_orders (b ∷ l) some all = subst are_orders (sym (all ∙ ap (λ (e : Bool). run.done ++ cond e [] ((b ∷ l) ∷ [])) (some_bytes b l)))
-          (are_orders-more run.done (b ∷ l) run.orders some)
+    size_on : length rest + taken ≡ length rest' + taken' → length (run.front ++ (bytes ++ 10 ∷ [])) ≡ taken'
+    size_on counted =
+        let a = length-append run.front (bytes ++ 10 ∷ []) in
+        let b : length rest ≡ length (bytes ++ 10 ∷ []) + length rest' = ap length is ∙ length-append (bytes ++ 10 ∷ []) rest' in
+        let s = run.size in
+        omega (arith, a, b, s, counted)
+
+    next : (desk' : Desk) (order : Order) (prints : Print) → length rest + taken ≡ length rest' + taken' → order_of line ≡ Some order
+        → Performs order desk desk' prints → Runs script rest' (n + 1) taken' desk' (out ++ text_of prints)
+    next desk' order prints counted good performs = record {
+      front = run.front ++ (bytes ++ 10 ∷ []);
+      done = run.done ++ line ∷ [];
+      split = split_on;
+      goes = fed;
+      number = let sum = length-append run.done (line ∷ []) in let is_n = run.number in omega (arith, sum, is_n);
+      orders = are_orders-more run.done line run.orders (ap is_some good);
+      size = size_on counted;
+      first = run.first;
+      begins = run.begins;
+      prints = prints_more run.first desk desk' run.done out line order prints run.prints good performs;
+    }
+
+    fed_rest : lines script ≡ (run.done ++ line ∷ []) ++ lines rest'
+    fed_rest = ap lines split_on ∙ fed rest'
+
+    -- it asks for nothing that is known
+    fed_fails : length rest + taken ≡ length rest' + taken' → taken' ≤ SCRIPT_LIMIT → order_of line ≡ None → FailsAtLine script (n + 1)
+    fed_fails counted within bad = record {
+      before = run.done;
+      line = line;
+      after = lines rest';
+      all = fed_rest ∙ append_assoc run.done (line ∷ []) (lines rest');
+      number = ap (λ (k : ℕ). k + 1) run.number;
+      orders = run.orders;
+      bad = bad;
+      seen = run.front ++ (bytes ++ 10 ∷ []);
+      rest = rest';
+      parts = split_on;
+      shows = (
+        line,
+        ap lines (sym (append-nil (run.front ++ (bytes ++ 10 ∷ [])))) ∙ fed [] ∙ append-nil (run.done ++ line ∷ []),
+        inl (inl (run.front ++ bytes, sym (append_assoc run.front bytes (10 ∷ []))), bad),
+      );
+      within = let s = size_on counted in omega (arith, s, within);
+    }
+
+  -- the last line, without a line feed
+  module _ (is : rest ≡ line ++ rest') (none : rest' ≡ []) (inside : IsInLine line) where
+    rest_is : rest ≡ line
+    rest_is = is ∙ ap (λ (bytes : List ℕ). line ++ bytes) none ∙ append-nil line
+
+    last_lines : lines script ≡ run.done ++ (if length line == 0 then [] else line ∷ [])
+    last_lines = all_lines ∙ ap (λ (ls : List (List ℕ)). run.done ++ ls) (ap lines rest_is ∙ lines-last line inside)
+
+    last_size : length rest + taken ≡ length rest' + taken' → taken' ≤ SCRIPT_LIMIT → length script ≤ SCRIPT_LIMIT
+    last_size counted within =
+        let sum : length script ≡ length run.front + length rest = ap length run.split ∙ length-append run.front rest in
+        let s = run.size in
+        let empty = ap length none in
+        omega (arith, s, sum, counted, empty, within)
+
+    last_fails : length rest + taken ≡ length rest' + taken' → taken' ≤ SCRIPT_LIMIT → order_of line ≡ None → FailsAtLine script (n + 1)
+    last_fails counted within bad = record {
+      before = run.done;
+      line = line;
+      after = [];
+      all = last_lines ∙ ap (λ (ls : List (List ℕ)). run.done ++ ls) (only line bad);
+      number = ap (λ (k : ℕ). k + 1) run.number;
+      orders = run.orders;
+      bad = bad;
+      seen = script;
+      rest = [];
+      parts = sym (append-nil script);
+      shows = (line, last_lines ∙ ap (λ (ls : List (List ℕ)). run.done ++ ls) (only line bad), inl (inr refl, bad));
+      within = last_size counted within;
+    }
+      where
+        only : (l : List ℕ) → order_of l ≡ None → (if length l == 0 then [] else l ∷ []) ≡ l ∷ []
+        only [] none = absurd (true≢false (sym order_of-empty ∙ ap is_some none))
+        only (b ∷ l) none = ap (λ (e : Bool). cond e [] ((b ∷ l) ∷ [])) (some_bytes b l)
 
 -- a line that ends with a line feed
-pub goes_on : (first old new : Option (List ℕ)) (n taken taken' : ℕ) (line : List ℕ) → HasRun first old n taken → TakesLine old new line LineFeed
-    → Counts old new taken taken' → is_some (order_of line) ≡ true → HasRun first new (n + 1) taken'
-goes_on None old new n taken taken' line run takes counted good = tt
-goes_on (Some script) None new n taken taken' line run takes counted good = absurd run
-goes_on (Some script) (Some rest) None n taken taken' line run takes counted good = absurd counted
-goes_on (Some script) (Some rest) (Some rest') n taken taken' line run takes counted good =
-    next script rest rest' line n taken run taken' (fed script rest rest' line n taken run takes.0 takes.1 takes.2 takes.3) counted good
+pub goes_on : (script old new : Option (List ℕ)) (n taken taken' : ℕ) (line : List ℕ) (desk desk' : Desk) (held before holds : Option (List ℕ))
+    (order : Order) (prints : Print) → HasRun script old n taken desk held before → TakesLine old new line LineFeed
+    → Counts old new taken taken' → order_of line ≡ Some order → Performs order desk desk' prints → Appends before holds (text_of prints)
+    → HasRun script new (n + 1) taken' desk' held holds
+goes_on None old new n taken taken' line desk desk' held before holds order prints run takes counted good performs wrote = tt
+goes_on (Some script) None new n taken taken' line desk desk' held before holds order prints run takes counted good performs wrote = absurd run
+goes_on (Some script) (Some rest) None n taken taken' line desk desk' held before holds order prints run takes counted good performs wrote = absurd counted
+goes_on (Some script) (Some rest) (Some rest') n taken taken' line desk desk' held before holds order prints run takes counted good performs wrote = (
+  run.0 ++ text_of prints,
+  next script rest rest' line n taken taken' desk run.0 run.1 takes.0 takes.1 takes.2 takes.3 desk' order prints counted good performs,
+  Appends-trans held before holds run.0 (text_of prints) run.2 wrote,
+)
 
--- the last line
-pub is_done : (first old new : Option (List ℕ)) (n taken taken' : ℕ) (line : List ℕ) → HasRun first old n taken → TakesLine old new line EndOfScript
-    → Counts old new taken taken' → taken' ≤ SCRIPT_LIMIT → is_some (order_of line) ≡ true → IfSome first IsScript
-is_done None old new n taken taken' line run takes counted within good = tt
-is_done (Some script) None new n taken taken' line run takes counted within good = absurd run
-is_done (Some script) (Some rest) None n taken taken' line run takes counted within good = absurd counted
-is_done (Some script) (Some rest) (Some rest') n taken taken' line run takes counted within good =
-    complete script rest rest' line n taken run takes.0 takes.1 takes.2 taken' counted within good
+-- the last line: what it prints is written
+whole : (script rest rest' line : List ℕ) (n taken taken' : ℕ) (desk desk' : Desk) (out : List ℕ) (run : Runs script rest n taken desk out)
+    (held before holds : Option (List ℕ)) (order : Order) (prints : Print) → rest ≡ line ++ rest' → rest' ≡ [] → IsInLine line
+    → Appends held before out → order_of line ≡ Some order → Performs order desk desk' prints → Appends before holds (text_of prints)
+    → are_orders (lines script) × HasWritten held (lines script) holds
+whole script rest rest' [] n taken taken' desk desk' out run held before holds order prints is none inside held_out good performs wrote =
+    let all : lines script ≡ run.done = last_lines script rest rest' [] n taken taken' desk out run is none inside ∙ append-nil run.done in (
+      subst are_orders (sym all) run.orders,
+      (
+        out,
+        subst (λ (ls : List (List ℕ)). LinesPrint ls out) (sym all) (printed script rest n taken desk out run),
+        subst (Appends held holds) (ap (λ (l : List ℕ). out ++ l) (silent order prints desk desk' good performs) ∙ append-nil out)
+            (Appends-trans held before holds out (text_of prints) held_out wrote),
+      ),
+    )
+whole script rest rest' (b ∷ l) n taken taken' desk desk' out run held before holds order prints is none inside held_out good performs wrote =
+    let all : lines script ≡ run.done ++ (b ∷ l) ∷ [] =
+    last_lines script rest rest' (b ∷ l) n taken taken' desk out run is none inside
+    ∙ ap (λ (e : Bool). run.done ++ cond e [] ((b ∷ l) ∷ [])) (some_bytes b l) in (
+      subst are_orders (sym all) (are_orders-more run.done (b ∷ l) run.orders (ap is_some good)),
+      (
+        out ++ text_of prints,
+        subst (λ (ls : List (List ℕ)). LinesPrint ls (out ++ text_of prints)) (sym all) (record {
+          first = run.first;
+          last = desk';
+          begins = run.begins;
+          all = prints_more run.first desk desk' run.done out (b ∷ l) order prints run.prints good performs;
+        }),
+        Appends-trans held before holds out (text_of prints) held_out wrote,
+      ),
+    )
+
+pub is_done : (script old new : Option (List ℕ)) (n taken taken' : ℕ) (line : List ℕ) (desk desk' : Desk) (held before holds : Option (List ℕ))
+    (order : Order) (prints : Print) → HasRun script old n taken desk held before → TakesLine old new line EndOfScript
+    → Counts old new taken taken' → taken' ≤ SCRIPT_LIMIT → order_of line ≡ Some order → Performs order desk desk' prints
+    → Appends before holds (text_of prints) → IfSome script (λ bytes. IsRunToEnd bytes held holds)
+is_done None old new n taken taken' line desk desk' held before holds order prints run takes counted within good performs wrote = tt
+is_done (Some script) None new n taken taken' line desk desk' held before holds order prints run takes counted within good performs wrote = absurd run
+is_done (Some script) (Some rest) None n taken taken' line desk desk' held before holds order prints run takes counted within good performs wrote = absurd counted
+is_done (Some script) (Some rest) (Some rest') n taken taken' line desk desk' held before holds order prints run takes counted within good performs wrote =
+    let all = whole script rest rest' line n taken taken' desk desk' run.0 run.1 held before holds order prints takes.0 takes.1 takes.2 run.2 good performs wrote in
+    record {
+      good = record { orders = all.0; size = last_size script rest rest' line n taken taken' desk run.0 run.1 takes.0 takes.1 takes.2 counted within };
+      written = all.1;
+    }
 
 -- a bad line
-pub is_bad : (first old new : Option (List ℕ)) (n taken : ℕ) (line : List ℕ) (end : LineEnd) → HasRun first old n taken → TakesLine old new line end
-    → order_of line ≡ None → IfSome first (λ script. FailsAtLine script (n + 1))
-is_bad None old new n taken line end run takes bad = tt
-is_bad (Some script) None new n taken line end run takes bad = absurd run
-is_bad (Some script) (Some rest) None n taken line LineFeed run takes bad = absurd takes.1
-is_bad (Some script) (Some rest) None n taken line EndOfScript run takes bad = absurd takes.0
-is_bad (Some script) (Some rest) (Some rest') n taken line LineFeed run takes bad =
-    fails script rest rest' line n taken run (lines rest') (fed script rest rest' line n taken run takes.0 takes.1 takes.2 takes.3) bad
-is_bad (Some script) (Some rest) (Some rest') n taken line EndOfScript run takes bad =
-    last_fails script rest rest' line n taken run (takes.0 ∙ ap (λ (bytes : List ℕ). line ++ bytes) takes.1) takes.2 bad
+pub is_bad : (script old new : Option (List ℕ)) (n taken taken' : ℕ) (line : List ℕ) (end : LineEnd) (desk : Desk) (held holds : Option (List ℕ))
+    → HasRun script old n taken desk held holds → TakesLine old new line end → Counts old new taken taken' → taken' ≤ SCRIPT_LIMIT
+    → order_of line ≡ None → IfSome script (λ bytes. IsRunToLine (n + 1) bytes held holds)
+unfolding fed_fails last_fails
+is_bad None old new n taken taken' line end desk held holds run takes counted within bad = tt
+is_bad (Some script) None new n taken taken' line end desk held holds run takes counted within bad = absurd run
+is_bad (Some script) (Some rest) None n taken taken' line end desk held holds run takes counted within bad = absurd counted
+is_bad (Some script) (Some rest) (Some rest') n taken taken' line LineFeed desk held holds run takes counted within bad = record {
+  fails = fed_fails script rest rest' line n taken taken' desk run.0 run.1 takes.0 takes.1 takes.2 takes.3 counted within bad;
+  written = (run.0, printed script rest n taken desk run.0 run.1, run.2);
+}
+is_bad (Some script) (Some rest) (Some rest') n taken taken' line EndOfScript desk held holds run takes counted within bad = record {
+  fails = last_fails script rest rest' line n taken taken' desk run.0 run.1 takes.0 takes.1 takes.2 counted within bad;
+  written = (run.0, printed script rest n taken desk run.0 run.1, run.2);
+}
 
 -- a line of too many bytes
-pub is_too_long : (first old new : Option (List ℕ)) (n taken : ℕ) → HasRun first old n taken → TakesTooMuch old new → IfSome first (λ script. FailsAtLine script (n + 1))
-is_too_long None old new n taken run takes = tt
-is_too_long (Some script) None new n taken run takes = absurd run
-is_too_long (Some script) (Some rest) None n taken run takes = absurd takes.1
-is_too_long (Some script) (Some rest) (Some rest') n taken run takes =
-    let long = lines-long takes.0 rest' takes.2 takes.3 in
-    fails script rest rest' long.0 n taken run long.1 (ap lines takes.1 ∙ long.2) (order_of-long long.0 long.3)
+pub is_too_long : (script old new : Option (List ℕ)) (n taken taken' : ℕ) (desk : Desk) (held holds : Option (List ℕ))
+    → HasRun script old n taken desk held holds → TakesTooMuch old new taken taken' → taken' ≤ SCRIPT_LIMIT
+    → IfSome script (λ bytes. IsRunToLine (n + 1) bytes held holds)
+is_too_long None old new n taken taken' desk held holds run takes within = tt
+is_too_long (Some script) None new n taken taken' desk held holds run takes within = absurd run
+is_too_long (Some script) (Some rest) None n taken taken' desk held holds run takes within = absurd takes.1
+is_too_long (Some script) (Some rest) (Some rest') n taken taken' desk held holds run takes within = record {
+  fails = record {
+    before = run.1.done;
+    line = long.0;
+    after = long.1;
+    all = ap lines run.1.split ∙ run.1.goes rest ∙ ap (λ (ls : List (List ℕ)). run.1.done ++ ls) (ap lines takes.1 ∙ long.2);
+    number = ap (λ (k : ℕ). k + 1) run.1.number;
+    orders = run.1.orders;
+    bad = order_of-long long.0 long.3;
+    seen = run.1.front ++ takes.0;
+    rest = rest';
+    parts = run.1.split ∙ ap (λ (l : List ℕ). run.1.front ++ l) takes.1 ∙ sym (append_assoc run.1.front takes.0 rest');
+    shows = (takes.0, run.1.goes takes.0 ∙ ap (λ (ls : List (List ℕ)). run.1.done ++ ls) only, inr takes.3);
+    within =
+        let sum = length-append run.1.front takes.0 in
+        let size = run.1.size in
+        let parts : length rest ≡ length takes.0 + length rest' = ap length takes.1 ∙ length-append takes.0 rest' in
+        let counted = takes.4 in
+        omega (arith, sum, size, parts, counted, within);
+  };
+  written = (run.0, printed script rest n taken desk run.0 run.1, run.2);
+}
+  where
+    long : IsLong (lines (takes.0 ++ rest'))
+    long = lines-long takes.0 rest' takes.2 takes.3
+
+    only : lines takes.0 ≡ takes.0 ∷ []
+    only =
+        let whole = strip-within takes.0 in
+        let long = takes.3 in
+        let some : (length takes.0 == 0) ≡ false = ne_eqb (length takes.0) 0 (λ none. let z : ⊥ = omega (arith, whole, long, none) in z) in
+        lines-last takes.0 takes.2 ∙ ap (λ (b : Bool). cond b [] (takes.0 ∷ [])) some
+
+-- the reader fails
+pub is_unread : (script old : Option (List ℕ)) (n taken : ℕ) (desk : Desk) (held holds : Option (List ℕ)) → HasRun script old n taken desk held holds
+    → IfSome script (λ bytes. SomeFirstLines bytes (λ first. HasWritten held first holds))
+is_unread None old n taken desk held holds run = tt
+is_unread (Some script) None n taken desk held holds run = absurd run
+is_unread (Some script) (Some rest) n taken desk held holds run =
+    (run.1.done, lines rest, ap lines run.1.split ∙ run.1.goes rest, (run.0, printed script rest n taken desk run.0 run.1, run.2))
+
+-- the first bytes of what is printed
+begun : (held before holds : Option (List ℕ)) (out text : List ℕ) (size : ℕ) → Appends held before out → Appends before holds (take size text)
+    → Appends held holds (take (length out + size) (out ++ text))
+begun held before holds out text size held_out began =
+    subst (Appends held holds) (sym (take-append-add out text size)) (Appends-trans held before holds out (take size text) held_out began)
+
+-- the writer fails
+pub is_unwritten : (script old new : Option (List ℕ)) (n taken taken' : ℕ) (line : List ℕ) (end : LineEnd) (desk desk' : Desk)
+    (held before holds : Option (List ℕ)) (order : Order) (prints : Print) → HasRun script old n taken desk held before → TakesLine old new line end
+    → Counts old new taken taken' → order_of line ≡ Some order → Performs order desk desk' prints
+    → (size : ℕ) × Appends before holds (take size (text_of prints))
+    → IfSome script (λ bytes. SomeFirstLines bytes (λ first. HasBegun held first holds))
+unfolding next
+is_unwritten None old new n taken taken' line end desk desk' held before holds order prints run takes counted good performs began = tt
+is_unwritten (Some script) None new n taken taken' line end desk desk' held before holds order prints run takes counted good performs began = absurd run
+is_unwritten (Some script) (Some rest) None n taken taken' line end desk desk' held before holds order prints run takes counted good performs began = absurd counted
+is_unwritten (Some script) (Some rest) (Some rest') n taken taken' line LineFeed desk desk' held before holds order prints run takes counted good performs began =
+    let more = next script rest rest' line n taken taken' desk run.0 run.1 takes.0 takes.1 takes.2 takes.3 desk' order prints counted good performs in (
+      run.1.done ++ line ∷ [],
+      lines rest',
+      fed_rest script rest rest' line n taken taken' desk run.0 run.1 takes.0 takes.1 takes.2 takes.3,
+      (
+        run.0 ++ text_of prints,
+        length run.0 + began.0,
+        printed script rest' (n + 1) taken' desk' (run.0 ++ text_of prints) more,
+        begun held before holds run.0 (text_of prints) began.0 run.2 began.1,
+      ),
+    )
+is_unwritten (Some script) (Some rest) (Some rest') n taken taken' [] EndOfScript desk desk' held before holds order prints run takes counted good performs began =
+    let silence : text_of prints ≡ [] = silent order prints desk desk' good performs in
+    let nothing : Appends before holds [] = subst (Appends before holds) (ap (take began.0) silence ∙ take-none began.0) began.1 in
+    let all : lines script ≡ run.1.done = last_lines script rest rest' [] n taken taken' desk run.0 run.1 takes.0 takes.1 takes.2 ∙ append-nil run.1.done in (
+      run.1.done,
+      [],
+      all ∙ sym (append-nil run.1.done),
+      (
+        run.0,
+        length run.0,
+        printed script rest n taken desk run.0 run.1,
+        subst (Appends held holds) (append-nil run.0 ∙ sym (take-length run.0)) (Appends-trans held before holds run.0 [] run.2 nothing),
+      ),
+    )
+is_unwritten (Some script) (Some rest) (Some rest') n taken taken' (b ∷ l) EndOfScript desk desk' held before holds order prints run takes counted good performs began =
+    let all : lines script ≡ run.1.done ++ (b ∷ l) ∷ [] =
+    last_lines script rest rest' (b ∷ l) n taken taken' desk run.0 run.1 takes.0 takes.1 takes.2
+    ∙ ap (λ (e : Bool). run.1.done ++ cond e [] ((b ∷ l) ∷ [])) (some_bytes b l) in (
+      run.1.done ++ (b ∷ l) ∷ [],
+      [],
+      all ∙ sym (append-nil (run.1.done ++ (b ∷ l) ∷ [])),
+      (
+        run.0 ++ text_of prints,
+        length run.0 + began.0,
+        record {
+          first = run.1.first;
+          last = desk';
+          begins = run.1.begins;
+          all = prints_more run.1.first desk desk' run.1.done run.0 (b ∷ l) order prints run.1.prints good performs;
+        },
+        begun held before holds run.0 (text_of prints) began.0 run.2 began.1,
+      ),
+    )

@@ -4,7 +4,7 @@ use Rattle.std.proofs.Common.{inl, inr, ⊎_elim, sym, ◌∙◌, ap, subst, ari
 use Rattle.t1_link.specs.declared.reader_end.Failure.TheVariants.{LinkLost}
 use Rattle.t1_link.specs.Blocks.{Block, frame, heard, resynch_request, resynch_response}
 use Rattle.t1_link.specs.CardTable.{fresh}
-use Rattle.t1_link.specs.ReaderTable.{is_busy, ReaderStep, Turned, fresh_reader, requesting_again, turns_resynch, unknown}
+use Rattle.t1_link.specs.ReaderTable.{is_busy, reader_step, Turned, fresh_reader, requesting_again, turns_resynch, unknown}
 use Rattle.t1_link.specs.ReaderRows.{reader_takes-resynch, reader_times_out-resynch, requesting_again-last, requesting_again-more, turns_resynch-answered, turns_resynch-else}
 use Rattle.card_bench.specs.Worlds.{world, Answers, Arrival, Event, Failed, Line, Machine, Unknown, World, arrival, arriving, at_reader, garble, in_vain, is_command}
 use Rattle.card_bench.specs.Worlds.{lose, nothing, pass, powered, quiet, send, toward_card, toward_reader, turning, world_step}
@@ -20,7 +20,7 @@ send-quiet quiet command = refl
 send-quiet (toward_card b) command = refl
 send-quiet (toward_reader b) command = refl
 
-module _ {M : Type 0} (machine : Machine M) (start : M) (fits : Answers machine) where
+module _ {M : Type 0} (machine : Machine M) (start : M) (Invariant : M → Type 0) (fits : Answers machine Invariant) (begins : Invariant start) where
   -- the reports so far, where a command is in hand, and where none is
   kept-busy : (w : World M) → is_busy w.reader.phase ≡ true → Kept machine start w.sent w.carried (Unknown ∷ w.reports) w.machine
       → Kept machine start w.sent w.carried (so_far w) w.machine
@@ -56,7 +56,7 @@ module _ {M : Type 0} (machine : Machine M) (start : M) (fits : Answers machine)
     fits = λ free. r.fits;
   }
   lawful c w (exchange x budget) = let busy = ap is_busy x.awaits.phase in record {
-    kept = kept-busy w busy (at-open machine start fits x.stage (core w) x.at);
+    kept = kept-busy w busy (at-open machine start Invariant fits begins x.stage (core w) x.at);
     under_way = ⊎_elim
         (λ (there : (b : Block) × (w.line ≡ toward_card b) × ToCard x.stage (core w) b). way-there w there.0 there.1 busy)
         (λ (back : (b : Block) × (w.line ≡ toward_reader b) × ToReader x.stage (core w) b). way-back w back.0 back.1 busy)
@@ -84,7 +84,7 @@ module _ {M : Type 0} (machine : Machine M) (start : M) (fits : Answers machine)
   answered-so : (w : World M) (bytes : List ℕ) → Requesting machine start w → heard bytes ≡ Ok resynch_response
       → ((arriving machine w (at_reader bytes)).reports ≡ Unknown ∷ w.reports) × ((arriving machine w (at_reader bytes)).offered ≡ w.offered)
   answered-so w bytes r e =
-      let row : ReaderStep w.reader bytes ≡ record { reader = fresh_reader; outcome = unknown } =
+      let row : reader_step w.reader bytes ≡ record { reader = fresh_reader; outcome = unknown } =
       reader_takes-resynch w.reader (heard bytes) r.some ∙ ap (turns_resynch w.reader) e ∙ turns_resynch-answered w.reader in
       subst (λ (t : Turned). ((turning w t).reports ≡ Unknown ∷ w.reports) × ((turning w t).offered ≡ w.offered)) (sym row) (refl, refl)
 
@@ -182,7 +182,7 @@ module _ {M : Type 0} (machine : Machine M) (start : M) (fits : Answers machine)
   same (event ∷ events) v = same events (record { world = world_step machine v.world event; counts = counts_after v event })
 
   good-watched : (events : List Event) → Good machine start (watched machine start events).counts (watched machine start events).world
-  good-watched events = good-watch machine start fits events (record { world = powered start; counts = no_counts }) (good-powered machine start fits)
+  good-watched events = good-watch machine start Invariant fits begins events (record { world = powered start; counts = no_counts }) (good-powered machine start Invariant fits begins)
 
   same-watched : (events : List Event) → (watched machine start events).world ≡ comes_of machine start events
   same-watched events = same events (record { world = powered start; counts = no_counts })
@@ -191,17 +191,17 @@ module _ {M : Type 0} (machine : Machine M) (start : M) (fits : Answers machine)
   good-world events = subst (λ (w : World M). Good machine start (watched machine start events).counts w) (same-watched events) (good-watched events)
 
 -- the law, for a machine with states of any type
-pub world-lawful : {M : Type 0} (machine : Machine M) → Answers machine → WorldLaw machine
-world-lawful machine fits start events = lawful machine start fits (watched machine start events).counts (comes_of machine start events)
-    (good-world machine start fits events)
+pub world-lawful : {M : Type 0} (machine : Machine M) (Invariant : M → Type 0) → Answers machine Invariant → WorldLaw machine Invariant
+world-lawful machine Invariant fits start events begins = lawful machine start Invariant fits begins (watched machine start events).counts (comes_of machine start events)
+    (good-world machine start Invariant fits begins events)
 
-pub world-resynchs : {M : Type 0} (machine : Machine M) → Answers machine → ResynchLaw machine
-world-resynchs machine fits start events event busy some = resynchs-good machine start fits (watched machine start events).counts (comes_of machine start events) event
-    (good-world machine start fits events) busy some
+pub world-resynchs : {M : Type 0} (machine : Machine M) (Invariant : M → Type 0) → Answers machine Invariant → ResynchLaw machine Invariant
+world-resynchs machine Invariant fits start events event begins busy some = resynchs-good machine start Invariant fits begins (watched machine start events).counts (comes_of machine start events) event
+    (good-world machine start Invariant fits begins events) busy some
 
-pub world-repairs : {M : Type 0} (machine : Machine M) → Answers machine → RepairLaw machine
-world-repairs machine fits start events = record {
-  same_world = same-watched machine start fits events;
-  repaired = repaired-so machine start fits (watched machine start events).counts (watched machine start events).world (good-watched machine start fits events);
-  in_time = in_time-so machine start fits (watched machine start events).counts (watched machine start events).world (good-watched machine start fits events);
+pub world-repairs : {M : Type 0} (machine : Machine M) (Invariant : M → Type 0) → Answers machine Invariant → RepairLaw machine Invariant
+world-repairs machine Invariant fits start events begins = record {
+  same_world = same-watched machine start Invariant fits begins events;
+  repaired = repaired-so machine start Invariant fits begins (watched machine start events).counts (watched machine start events).world (good-watched machine start Invariant fits begins events);
+  in_time = in_time-so machine start Invariant fits begins (watched machine start events).counts (watched machine start events).world (good-watched machine start Invariant fits begins events);
 }

@@ -13,7 +13,7 @@ use Rattle.t1_link.specs.Blocks.{Block, IsSpellable, frame, heard, information, 
 use Rattle.t1_link.specs.BlockLaws.{heard-frame, not-not, same-not, same-refl}
 use Rattle.t1_link.specs.CardTable.{Link, Taken, card_takes, fresh, joined, refusing, sending, sent_block, sent_more}
 use Rattle.t1_link.specs.CardRows.{card_takes-again, card_takes-fault, card_takes-joins, card_takes-next, card_takes-nothing, card_takes-resynch, card_takes-runs}
-use Rattle.t1_link.specs.ReaderTable.{is_busy, Reader, ReaderStep, Turned, advancing, asking, failing, last_block, requesting, requesting_again, sends, trying}
+use Rattle.t1_link.specs.ReaderTable.{is_busy, Reader, reader_step, Turned, advancing, asking, failing, last_block, requesting, requesting_again, sends, trying}
 use Rattle.t1_link.specs.ReaderTable.{turns_block, turns_resynch, fresh_reader, unknown}
 use Rattle.t1_link.specs.ReaderRows.{reader_sends-dead, reader_sends-idle, reader_takes-awaits, reader_takes-resynch, reader_times_out-asks}
 use Rattle.t1_link.specs.ReaderRows.{reader_times_out-resynch, turns_answer-done, turns_answer-more, turns_block-again, turns_block-fault, turns_block-joins}
@@ -125,17 +125,29 @@ spent tries (many m) three = m
 spent tries (once f n) three = absurd (omega (arith, n, three))
 spent tries (none_yet f t s) three = absurd (omega (arith, t))
 
-module _ {M : Type 0} (machine : Machine M) (start : M) (fits : Answers machine) where
+module _ {M : Type 0} (machine : Machine M) (start : M) (Invariant : M → Type 0) (fits : Answers machine Invariant) (begins : Invariant start) where
+  -- the invariant holds of the state that the machine is in
+  kept-invariant : (sent : List (List ℕ)) (carried : List Carried) (reports : List Report) (m : M) → Kept machine start sent carried reports m → Invariant m
+  kept-invariant [] carried [] m h = subst Invariant (sym h.1) begins
+  kept-invariant [] carried (report ∷ reports) m h = absurd h
+  kept-invariant (command ∷ sent) carried [] m h = absurd h
+  kept-invariant (command ∷ sent) carried (report ∷ reports) m (inl h) =
+      subst Invariant (sym h.3) (fits.keeps h.0 command (kept-invariant sent h.1 reports h.0 h.6) h.4)
+  kept-invariant (command ∷ sent) carried (report ∷ reports) m (inr h) = kept-invariant sent carried reports m h.1
+
+  before-invariant : (h : History M) (command : List ℕ) → Before machine start h command → Invariant h.machine
+  before-invariant h command b = kept-invariant b.earlier h.carried h.reports h.machine b.kept
+
   before-open : (h : History M) (command : List ℕ) → Before machine start h command → Kept machine start h.sent h.carried (Unknown ∷ h.reports) h.machine
   before-open h command b = subst (λ (s : List (List ℕ)). Kept machine start s h.carried (Unknown ∷ h.reports) h.machine) (sym b.sent) (inr (inl refl, b.kept))
 
   after-open : (h : History M) (answer : List ℕ) → After machine start h answer → Kept machine start h.sent h.carried (Unknown ∷ h.reports) h.machine
   after-open h answer a = subst (λ (s : List (List ℕ)). Kept machine start s h.carried (Unknown ∷ h.reports) h.machine) (sym a.sent)
-      (inl (a.was, a.before, a.carried, a.machine_is, inr (inl refl), a.kept))
+      (inl (a.was, a.before, a.carried, a.machine_is, a.sound, inr (inl refl), a.kept))
 
   after-done : (h : History M) (answer : List ℕ) → After machine start h answer → Kept machine start h.sent h.carried (Done answer ∷ h.reports) h.machine
   after-done h answer a = subst (λ (s : List (List ℕ)). Kept machine start s h.carried (Done answer ∷ h.reports) h.machine) (sym a.sent)
-      (inl (a.was, a.before, a.carried, a.machine_is, inl (ap Done (sym a.answer_is)), a.kept))
+      (inl (a.was, a.before, a.carried, a.machine_is, a.sound, inl (ap Done (sym a.answer_is)), a.kept))
 
   pub at-open : (stage : Stage) (k : Core M) → At machine start stage k → Kept machine start k.past.sent k.past.carried (Unknown ∷ k.past.reports) k.past.machine
   at-open command_offered k at = before-open k.past at.command at.history
@@ -146,7 +158,7 @@ module _ {M : Type 0} (machine : Machine M) (start : M) (fits : Answers machine)
   kept-failed : (sent : List (List ℕ)) (carried : List Carried) (reports : List Report) (m : M)
       → Kept machine start sent carried (Unknown ∷ reports) m → Kept machine start sent carried (Failed LinkLost ∷ reports) m
   kept-failed [] carried reports m h = absurd h
-  kept-failed (command ∷ sent) carried reports m (inl h) = inl (h.0, h.1, h.2, h.3, inr (inr refl), h.5)
+  kept-failed (command ∷ sent) carried reports m (inl h) = inl (h.0, h.1, h.2, h.3, h.4, inr (inr refl), h.6)
   kept-failed (command ∷ sent) carried reports m (inr h) = inr (inr refl, h.1)
 
   -- a request for RESYNCH goes on the line
@@ -212,7 +224,7 @@ module _ {M : Type 0} (machine : Machine M) (start : M) (fits : Answers machine)
   reader-gets : (c : Counts) (w : World M) (b : Block) (turned : Turned) → IsSpellable b → w.reader.resynchs ≡ 0 → turns_block w.reader (Ok b) ≡ turned
       → Good machine start c (turning w turned) → Good machine start c (arriving machine w (at_reader (frame b)))
   reader-gets c w b turned spellable none row good =
-      let step : ReaderStep w.reader (frame b) ≡ turned = reader_takes-awaits w.reader (heard (frame b)) none ∙ ap (turns_block w.reader) (heard-frame b spellable)
+      let step : reader_step w.reader (frame b) ≡ turned = reader_takes-awaits w.reader (heard (frame b)) none ∙ ap (turns_block w.reader) (heard-frame b spellable)
       ∙ row in
       subst (λ (t : Turned). Good machine start c (turning w t)) (sym step) good
 
@@ -270,12 +282,12 @@ module _ {M : Type 0} (machine : Machine M) (start : M) (fits : Answers machine)
       }) budget
 
   -- the machine's answer begins where the command ends
-  run_straight : (w : World M) (command : List ℕ) → is_command command ≡ true → w.reader.rest ≡ [] → w.card.ifsd ≡ 32 → (passes : ℕ)
+  run_straight : (w : World M) (command : List ℕ) → is_command command ≡ true → Invariant w.machine → w.reader.rest ≡ [] → w.card.ifsd ≡ 32 → (passes : ℕ)
       → Straight passes command_offered offers_card (core w)
       → passes + 1 + 3 + 2 * answer_blocks (drop w.card.ifsd (machine.answer w.machine command)) ≡ 2 *
       (command_blocks (newest w.sent) + answer_blocks (machine.answer w.machine command))
-  run_straight w command sound all size passes s =
-      let low = fits.at_least w.machine command sound in
+  run_straight w command sound holds all size passes s =
+      let low = fits.at_least w.machine command holds sound in
       let less = one_answer_block_less (machine.answer w.machine command) w.card.ifsd size (omega (arith, low)) in
       let last : command_blocks w.reader.rest ≡ 0 = ap command_blocks all in
       omega (arith, s, less, last)
@@ -329,8 +341,8 @@ module _ {M : Type 0} (machine : Machine M) (start : M) (fits : Answers machine)
       → Budget c answer_offered offers_reader (core (running machine w command)) w.reader.tries → Good machine start c (running machine w command)
   runs-it c w command sound history awaits number answered held sent_all size empty budget =
       let ran : World M = record w { machine = machine.next w.machine command; carried = carrying machine w.machine command ∷ w.carried } in
-      offers c ran (machine.answer w.machine command) (machine.answer w.machine command) (fits.at_least w.machine command sound)
-      (fits.at_most w.machine command sound)
+      offers c ran (machine.answer w.machine command) (machine.answer w.machine command) (fits.at_least w.machine command (before-invariant (core w).past command history) sound)
+      (fits.at_most w.machine command (before-invariant (core w).past command history) sound)
       (record {
         command = command;
         sound = sound;
@@ -391,7 +403,7 @@ module _ {M : Type 0} (machine : Machine M) (start : M) (fits : Answers machine)
       at.history
       (record { phase = awaits.phase; resynchs = awaits.resynchs; only = awaits.only; requested = awaits.requested })
       (turned_back w.card.nr w.reader.ns at.number) at.answered refl all at.size at.empty
-      (passes_on budget answer_offered offers_reader _ w.reader.tries (omega arith) (λ t s. (t, run_straight w at.command at.sound all at.size c.passes s)))))
+      (passes_on budget answer_offered offers_reader _ w.reader.tries (omega arith) (λ t s. (t, run_straight w at.command at.sound (before-invariant (core w).past at.command at.history) all at.size c.passes s)))))
 
   -- the reader's end is asked for the block that the card's end expects
   asked_back : (c : Counts) (stage : Stage) (w : World M) (error : ErrorKind) → At machine start stage (core w) → Awaits w
@@ -523,7 +535,7 @@ module _ {M : Type 0} (machine : Machine M) (start : M) (fits : Answers machine)
       → Budget c stage kind (core w) w.reader.tries → heard bytes ≡ Err fault
       → Good machine start (faulted c) (arriving machine w (at_reader bytes))
   garbled_back c stage w bytes fault kind at awaits budget e =
-      let row : ReaderStep w.reader bytes ≡ asking w.reader (told_as fault) = reader_takes-awaits w.reader (heard bytes) awaits.resynchs
+      let row : reader_step w.reader bytes ≡ asking w.reader (told_as fault) = reader_takes-awaits w.reader (heard bytes) awaits.resynchs
       ∙ ap (turns_block w.reader) e ∙ turns_block-fault w.reader fault in
       subst (λ (t : Turned). Good machine start (faulted c) (turning w t)) (sym row)
       (ask (faulted c) stage w (told_as fault) at awaits (faults_on budget stage asks_card (core w) (w.reader.tries + 1) (omega arith)))
@@ -556,7 +568,7 @@ module _ {M : Type 0} (machine : Machine M) (start : M) (fits : Answers machine)
   hears_else : (c : Counts) → 2 ≤ c.faults → (w : World M) (bytes : List ℕ) → Requesting machine start w → heard bytes ≢ Ok resynch_response
       → Good machine start c (arriving machine w (at_reader bytes))
   hears_else c often w bytes r other =
-      let row : ReaderStep w.reader bytes ≡ requesting_again w.reader = reader_takes-resynch w.reader (heard bytes) r.some
+      let row : reader_step w.reader bytes ≡ requesting_again w.reader = reader_takes-resynch w.reader (heard bytes) r.some
       ∙ turns_resynch-else w.reader (heard bytes) other in
       subst (λ (t : Turned). Good machine start c (turning w t)) (sym row) (requests_again c often w r)
 
@@ -594,7 +606,7 @@ module _ {M : Type 0} (machine : Machine M) (start : M) (fits : Answers machine)
   responded : (c : Counts) → 2 ≤ c.faults → (w : World M) → Requesting machine start w → w.card ≡ fresh
       → Good machine start c (arriving machine w (at_reader (frame resynch_response)))
   responded c often w r set_back =
-      let row : ReaderStep w.reader (frame resynch_response) ≡ record { reader = fresh_reader; outcome = unknown } =
+      let row : reader_step w.reader (frame resynch_response) ≡ record { reader = fresh_reader; outcome = unknown } =
       reader_takes-resynch w.reader (heard (frame resynch_response)) r.some ∙ ap (turns_resynch w.reader) (heard-frame resynch_response tt)
       ∙ turns_resynch-answered w.reader in
       subst (λ (t : Turned). Good machine start c (turning w t)) (sym row) (at_rest (record {

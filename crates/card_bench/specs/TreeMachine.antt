@@ -1,6 +1,7 @@
 -- The tree machine as the machine of a world: a card, and the session that it is in.
 use Rattle.std.specs.Prelude.{ℕ, List}
 use Rattle.card_core.specs.Cards.{Card}
+use Rattle.card_core.specs.Proper.{IsProper}
 use Rattle.card_core.specs.Sessions.{Session}
 use Rattle.card_core.specs.Steps.{Outcome, answer_bytes, carried_out}
 use Rattle.card_bench.specs.Worlds.{Machine}
@@ -8,6 +9,10 @@ use Rattle.card_bench.specs.Worlds.{Machine}
 pub record Served : Type 0 where
   pub card : Card
   pub session : Session
+
+-- the card is well formed, as the one that is found in a memory always is
+abbrev pub IsProperState : Served → Type 0
+IsProperState s = IsProper s.card
 
 -- one step of the tree machine
 abbrev pub served : Served → List ℕ → Outcome

@@ -1,79 +1,115 @@
--- A card behind its end of the link: what it makes of each block.
-use Rattle.std.specs.Prelude.{◌≡◌, ℕ, List, []}
-use Rattle.nvm_board.specs.Facts.{Steady, GoesDark, Fails}
-use Rattle.t1_link.specs.CardTable.{Link, LinkStep, Taken, Reaction, replies, runs, answers, bytes_of}
-use Rattle.card_core.specs.declared.condition.Condition.TheVariants.{Working, Failed, Dark}
-use Rattle.card_core.specs.Cards.{Card}
-use Rattle.card_core.specs.Sessions.{Session}
-use Rattle.card_core.specs.Stages.{IsStage}
-use Rattle.card_core.specs.Steps.{Outcome, answer_bytes, carried_out}
-use Rattle.card_core.specs.Running.{Running, card_found, memory_failure}
+-- What each turn at a bench does, and what comes of it; and turns, one after another.
+use Rattle.std.specs.Prelude.{◌≡◌, ◌⊎◌, ◌≤◌, ◌+◌, ℕ, List, [], ◌∷◌}
+use Rattle.nvm_board.specs.Facts.{Facts, IsWorn, IsWornOut}
+use Rattle.t1_link.specs.CardTable.{link_step}
+use Rattle.card_bench.specs.declared.playing.Turn.{Turn}
+use Rattle.card_bench.specs.declared.playing.Turn.TheVariants as turn
+use Rattle.card_bench.specs.declared.playing.Item.{Item}
+use Rattle.card_bench.specs.declared.playing.Item.TheVariants.{Atr, Quiet, Mute, Dark, Reply}
+use Rattle.card_bench.specs.BenchStates.{BenchState, off, on, bench_card, bench_facts, IsFresh, IsOff}
+use Rattle.card_bench.specs.CardBlocks.{Powered, Replies, IsRun, IsBlockStage}
 
--- the card, and its end of the link
-pub record Powered : Type 0 where
-  pub card : Running
-  pub link : Link
+-- power is off, and the card that is found is what it was
+pub record RestsOff (old new : BenchState) : Type 0 where
+  pub power : IsOff new
+  pub card : bench_card new ≡ bench_card old
 
--- the link after a reaction, the answer being put to a command that is to run, and the block that goes back
-abbrev pub answering : Link → Reaction → (List ℕ → List ℕ) → Taken
-answering link (replies block) answer_to = record { link = link; reaction = replies block }
-answering link (runs command) answer_to = answers link (answer_to command)
+-- Power on: the card starts, in a fresh session, with a fresh link; or power is lost; or, where a count of the board stands
+-- at its end, the card stays mute.
+abbrev pub TurnsOn : BenchState → Item → BenchState → Type 0
+TurnsOn old Atr new = IsFresh new × (bench_card new ≡ bench_card old)
+TurnsOn old Quiet new = ⊥
+TurnsOn old Mute new = RestsOff old new × IsWornOut (bench_facts new)
+TurnsOn old Dark new = RestsOff old new
+TurnsOn old (Reply block) new = ⊥
 
--- the session after a reaction
-abbrev pub session_by : Session → Reaction → (List ℕ → Session) → Session
-session_by session (replies block) session_to = session
-session_by session (runs command) session_to = session_to command
+-- Power off: nothing is said.
+abbrev pub TurnsOff : BenchState → Item → BenchState → Type 0
+TurnsOff old Atr new = ⊥
+TurnsOff old Quiet new = RestsOff old new
+TurnsOff old Mute new = ⊥
+TurnsOff old Dark new = ⊥
+TurnsOff old (Reply block) new = ⊥
 
--- the reaction of the card's end to a block, with an answer for each command
-abbrev pub block_answered : Link → List ℕ → (List ℕ → List ℕ) → Taken
-block_answered link got answer_to = answering (LinkStep link got).link (LinkStep link got).reaction answer_to
+-- A block with power off: the card doesn't answer.
+abbrev pub HearsNothing : BenchState → Item → BenchState → Type 0
+HearsNothing old Atr new = ⊥
+HearsNothing old Quiet new = ⊥
+HearsNothing old Mute new = RestsOff old new
+HearsNothing old Dark new = ⊥
+HearsNothing old (Reply block) new = ⊥
 
--- whether a reaction is to run a command
-abbrev pub IsRun : Reaction → Type 0
-IsRun (replies block) = ⊥
-IsRun (runs command) = Unit {0}
+-- the card replies with this block, and goes on
+abbrev pub GoesOnWith : Powered → List ℕ → BenchState → List ℕ → Type 0
+GoesOnWith old got (off facts) out = ⊥
+GoesOnWith old got (on new) out = Replies old got new out
 
--- what a card in this session makes of a command
-abbrev pub machine : Powered → List ℕ → Outcome
-machine old command = carried_out (card_found old.card) old.card.session command
+-- Power was lost while a command ran: the card that is found is one of its stages.
+pub record IsCutOff (old : Powered) (got : List ℕ) (new : BenchState) : Type 0 where
+  pub power : IsOff new
+  pub run : IsRun (link_step old.link got).reaction
+  pub stage : IsBlockStage old (link_step old.link got).reaction (bench_card new)
 
--- the card after a reaction
-abbrev pub card_by : Card → Reaction → (List ℕ → Card) → Card
-card_by card (replies block) card_to = card
-card_by card (runs command) card_to = card_to command
+-- A block with power on: the card replies, or power is lost.
+abbrev pub Hears : Powered → List ℕ → Item → BenchState → Type 0
+Hears old got Atr new = ⊥
+Hears old got Quiet new = ⊥
+Hears old got Mute new = ⊥
+Hears old got Dark new = IsCutOff old got new
+Hears old got (Reply block) new = GoesOnWith old got new block.items
 
--- a card that is a stage of the command that a reaction runs, or the same card where none runs
-abbrev pub IsBlockStage : Powered → Reaction → Card → Type 0
-IsBlockStage old (replies block) card = card ≡ card_found old.card
-IsBlockStage old (runs command) card = IsStage (card_found old.card) old.card.session command card
+-- a block
+abbrev pub TakesBlock : BenchState → List ℕ → Item → BenchState → Type 0
+TakesBlock (off facts) got item new = HearsNothing (off facts) item new
+TakesBlock (on powered) got item new = Hears powered got item new
 
--- The reply is the link's, over one step of the tree machine where a command is to run: card, session and link go on as
--- these do, and the board had neither cut nor fault.
-pub record Replies (old : Powered) (got : List ℕ) (new : Powered) (out : List ℕ) : Type 0 where
-  pub power : Steady old.card.facts new.card.facts
-  pub condition : new.card.condition ≡ Working
-  pub card : card_found new.card ≡ card_by (card_found old.card) (LinkStep old.link got).reaction (λ command. (machine old command).card)
-  pub session : new.card.session ≡ session_by old.card.session (LinkStep old.link got).reaction (λ command. (machine old command).session)
-  pub link : new.link ≡ (block_answered old.link got (λ command. answer_bytes (machine old command).response)).link
-  pub block : out ≡ bytes_of (block_answered old.link got (λ command. answer_bytes (machine old command).response)).reaction
+-- One turn.
+abbrev pub OneTurn : BenchState → Turn → Item → BenchState → Type 0
+OneTurn old turn.On item new = TurnsOn old item new
+OneTurn old turn.Off item new = TurnsOff old item new
+OneTurn old (turn.Block got) item new = TakesBlock old got.now item new
 
--- The reply of a card whose memory failed: each command is answered 6581, and the session stays.
-pub record RepliesFailure (old : Powered) (got : List ℕ) (new : Powered) (out : List ℕ) : Type 0 where
-  pub condition : new.card.condition ≡ Failed
-  pub session : new.card.session ≡ old.card.session
-  pub link : new.link ≡ (block_answered old.link got (λ command. memory_failure)).link
-  pub block : out ≡ bytes_of (block_answered old.link got (λ command. memory_failure)).reaction
+-- Turns, one after another, with what comes of each.
+unfoldable pub Runs : BenchState → List Turn → List Item → BenchState → Type 0
+Runs old [] [] new = new ≡ old
+Runs old [] (item ∷ items) new = ⊥
+Runs old (turn ∷ turns) [] new = ⊥
+Runs old (turn ∷ turns) (item ∷ items) new = (between : BenchState) × OneTurn old turn item between × Runs between turns items new
 
--- a command was to run, the board had a fault, and from here on the memory has failed
-pub record FailsAt (old : Powered) (got : List ℕ) (new : Powered) (out : List ℕ) : Type 0 where
-  pub power : Fails old.card.facts new.card.facts
-  pub run : IsRun (LinkStep old.link got).reaction
-  pub reply : RepliesFailure old got new out
+-- 1 where power was lost in a turn, else 0
+abbrev pub dark_of : Item → ℕ
+dark_of Atr = 0
+dark_of Quiet = 0
+dark_of Mute = 0
+dark_of Dark = 1
+dark_of (Reply block) = 0
 
--- a command was to run, and the board lost power: nothing goes back
-pub record IsCutAt (old : Powered) (got : List ℕ) (new : Powered) (out : List ℕ) : Type 0 where
-  pub power : GoesDark old.card.facts new.card.facts
-  pub run : IsRun (LinkStep old.link got).reaction
-  pub condition : new.card.condition ≡ Dark
-  pub session : new.card.session ≡ old.card.session
-  pub block : out ≡ []
+-- how often power was lost
+unfoldable pub darks : List Item → ℕ
+darks [] = 0
+darks (item ∷ items) = dark_of item + darks items
+
+-- What a turn leaves of the board's counts, in which power was lost once (1) or not (0). Each loss is counted, and takes one
+-- of the cuts that were due; or a count of the board stands at its end. No fault is forgotten.
+pub record Spends (lost : ℕ) (old new : Facts) : Type 0 where
+  pub cuts : new.cuts ≡ old.cuts + lost
+  pub due : (old.due ≡ new.due + lost) ⊎ (IsWorn new × (new.due ≡ old.due))
+  pub faults : old.faults ≤ new.faults
+
+-- What turns leave of them, in which power was lost so often: so many cuts more were counted, and no cut became due, nor are
+-- more gone than power was lost.
+pub record Counts (lost : ℕ) (old new : Facts) : Type 0 where
+  pub cuts : new.cuts ≡ old.cuts + lost
+  pub due : old.due ≤ new.due + lost
+  pub undue : new.due ≤ old.due
+  pub faults : old.faults ≤ new.faults
+
+-- A turn of a board that has no faults, with its counts.
+pub record GoodTurn (old : BenchState) (turn : Turn) (item : Item) (new : BenchState) : Type 0 where
+  pub one : OneTurn old turn item new
+  pub counts : Spends (dark_of item) (bench_facts old) (bench_facts new)
+
+-- A block to a board that has no faults, with its counts.
+pub record GoodBlock (old : BenchState) (got : List ℕ) (item : Item) (new : BenchState) : Type 0 where
+  pub one : TakesBlock old got item new
+  pub counts : Spends (dark_of item) (bench_facts old) (bench_facts new)

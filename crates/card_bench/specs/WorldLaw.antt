@@ -3,7 +3,7 @@ use Rattle.std.specs.Prelude.{◌⊎◌, ◌≡◌, ◌≢◌, ◌≤◌, ◌<�
 use Rattle.t1_link.specs.declared.reader_end.Failure.TheVariants.{LinkLost}
 use Rattle.t1_link.specs.Blocks.{Block, information, receive_ready, resynch_request, resynch_response, ifs_request, ifs_response, heard}
 use Rattle.t1_link.specs.ReaderTable.{is_busy}
-use Rattle.card_bench.specs.Worlds.{Arrival, Carried, Done, Event, Failed, Line, Machine, Report, Unknown, World, arrival, at_reader, carrying, in_vain, powered}
+use Rattle.card_bench.specs.Worlds.{Arrival, Carried, Done, Event, Failed, Line, Machine, Report, Unknown, World, arrival, at_reader, carrying, in_vain, is_command, powered}
 use Rattle.card_bench.specs.Worlds.{quiet, toward_card, toward_reader, world, world_step}
 
 -- the report of a command that may have been carried out or not
@@ -16,7 +16,7 @@ IsOpenEnded report = (report ≡ Unknown) ⊎ (report ≡ Failed LinkLost)
 abbrev pub Kept : {M : Type 0} → Machine M → M → List (List ℕ) → List Carried → List Report → M → Type 0
 Kept {M} machine start (command ∷ sent) carried (report ∷ reports) m =
     ((was : M) × (before : List Carried) × (carried ≡ carrying machine was command ∷ before) × (m ≡ machine.next was command)
-    × ((report ≡ Done (machine.answer was command)) ⊎ IsOpenEnded report) × Kept machine start sent before reports was)
+    × (is_command command ≡ true) × ((report ≡ Done (machine.answer was command)) ⊎ IsOpenEnded report) × Kept machine start sent before reports was)
     ⊎ (IsOpenEnded report × Kept machine start sent carried reports m)
 Kept {M} machine start [] carried [] m = (carried ≡ []) × (m ≡ start)
 Kept {M} machine start [] carried (report ∷ reports) m = ⊥
@@ -85,12 +85,13 @@ pub record Resynchs {M : Type 0} (w : World M) (came : Arrival) (after : World M
 abbrev pub comes_of : {M : Type 0} → Machine M → M → List Event → World M
 comes_of machine start events = world machine (powered start) events
 
--- The law, for every list of events.
-abbrev pub WorldLaw : {M : Type 0} → Machine M → Type 0
-WorldLaw {M} machine = (start : M) (events : List Event) → Lawful machine start (comes_of machine start events)
+-- The law, for every list of events, from a state in which the invariant holds.
+abbrev pub WorldLaw : {M : Type 0} → Machine M → (M → Type 0) → Type 0
+WorldLaw {M} machine Invariant = (start : M) (events : List Event) → Invariant start → Lawful machine start (comes_of machine start events)
 
 -- After RESYNCH was requested, for every list of events and an event after it.
-abbrev pub ResynchLaw : {M : Type 0} → Machine M → Type 0
-ResynchLaw {M} machine = (start : M) (events : List Event) (event : Event)
+abbrev pub ResynchLaw : {M : Type 0} → Machine M → (M → Type 0) → Type 0
+ResynchLaw {M} machine Invariant = (start : M) (events : List Event) (event : Event) → Invariant start
     → is_busy (comes_of machine start events).reader.phase ≡ true → 1 ≤ requests (comes_of machine start events).offered
-    → Resynchs (comes_of machine start events) (arrival (comes_of machine start events).line event) (world_step machine (comes_of machine start events) event)
+    → Resynchs (comes_of machine start events) (arrival (comes_of machine start events).line event)
+    (world_step machine (comes_of machine start events) event)

@@ -91,6 +91,6 @@ pub record BoundedRepair {M : Type 0} (machine : Machine M) (start : M) (events 
   -- when one is: after 20 blocks that arrived as they were the report is there
   pub in_time : is_busy v.world.reader.phase ≡ true → v.counts.faults ≡ 0 → v.counts.passes < 20
 
--- Bounded repair, for every list of events.
-abbrev pub RepairLaw : {M : Type 0} → Machine M → Type 0
-RepairLaw {M} machine = (start : M) (events : List Event) → BoundedRepair machine start events (watched machine start events)
+-- Bounded repair, for every list of events, from a state in which the invariant holds.
+abbrev pub RepairLaw : {M : Type 0} → Machine M → (M → Type 0) → Type 0
+RepairLaw {M} machine Invariant = (start : M) (events : List Event) → Invariant start → BoundedRepair machine start events (watched machine start events)

@@ -6,8 +6,8 @@ use Rattle.t1_link.specs.declared.block.Fault.{Fault}
 use Rattle.t1_link.specs.declared.block.Fault.TheVariants.{WrongLength, WrongCheck, UnknownBlock}
 use Rattle.t1_link.specs.declared.reader_end.Failure.{Failure}
 use Rattle.t1_link.specs.Blocks.{Block, frame, heard}
-use Rattle.t1_link.specs.CardTable.{Link, LinkStep, Reaction, Taken, answers, fresh, replies, runs}
-use Rattle.t1_link.specs.ReaderTable.{Outcome, Reader, ReaderStep, Turned, fails, fresh_reader, gives, is_busy, reader_sends, reader_times_out, sends, unknown}
+use Rattle.t1_link.specs.CardTable.{Link, link_step, Reaction, Taken, answers, fresh, replies, runs}
+use Rattle.t1_link.specs.ReaderTable.{Outcome, Reader, reader_step, Turned, fails, fresh_reader, gives, is_busy, reader_sends, reader_times_out, sends, unknown}
 
 -- numbers that are bytes, each 0 to 255
 abbrev pub are_bytes : List ℕ → Bool
@@ -22,10 +22,11 @@ pub record Machine (M : Type 0) : Type 0 where
   pub answer : M → List ℕ → List ℕ
   pub next : M → List ℕ → M
 
--- A machine that answers each command by 2 to 258 bytes.
-pub record Answers {M : Type 0} (machine : Machine M) : Type 0 where
-  pub at_least : (m : M) (command : List ℕ) → is_command command ≡ true → 2 ≤ length (machine.answer m command)
-  pub at_most : (m : M) (command : List ℕ) → is_command command ≡ true → length (machine.answer m command) ≤ 258
+-- A machine that keeps an invariant over commands, and in states where it holds answers each by 2 to 258 bytes.
+pub record Answers {M : Type 0} (machine : Machine M) (Invariant : M → Type 0) : Type 0 where
+  pub at_least : (m : M) (command : List ℕ) → Invariant m → is_command command ≡ true → 2 ≤ length (machine.answer m command)
+  pub at_most : (m : M) (command : List ℕ) → Invariant m → is_command command ≡ true → length (machine.answer m command) ≤ 258
+  pub keeps : (m : M) (command : List ℕ) → Invariant m → is_command command ≡ true → Invariant (machine.next m command)
 
 -- What the line has under way: nothing, or one block toward either end.
 pub data Line : Type 0 where
@@ -143,8 +144,8 @@ taking machine w taken = reacting machine (record w { card = taken.link }) taken
 
 -- what comes of what arrives
 abbrev pub arriving : {M : Type 0} → Machine M → World M → Arrival → World M
-arriving machine w (at_card bytes) = taking machine w (LinkStep w.card bytes)
-arriving machine w (at_reader bytes) = turning w (ReaderStep w.reader bytes)
+arriving machine w (at_card bytes) = taking machine w (link_step w.card bytes)
+arriving machine w (at_reader bytes) = turning w (reader_step w.reader bytes)
 arriving machine w in_vain = turning w (reader_times_out w.reader)
 arriving machine w nothing = w
 

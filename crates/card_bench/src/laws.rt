@@ -1,17 +1,17 @@
 //! Laws of the definitions: each is a function whose contract is the law.
 
-ghost use Rattle.std.specs.Prelude.{◌≡◌, ◌+◌, ℕ, List, true, Ok, Err};
+ghost use Rattle.std.specs.Prelude.{◌≡◌, ◌+◌, ℕ, Bool, List, true, IsTrue, Ok, Err};
 ghost use Rattle.t1_link.specs.Blocks.{Block as BlockValue, heard};
 ghost use Rattle.t1_link.specs.declared.block.Fault.TheVariants.{WrongCheck};
 ghost use Rattle.card_bench.specs.declared.line.Line.{Line};
 ghost use Rattle.card_bench.specs.Lines.{arriving, last_bit_turned, line_after};
-ghost use Rattle.card_bench.specs.TreeMachine.{tree_machine};
+ghost use Rattle.card_bench.specs.TreeMachine.{tree_machine, IsProperState};
 ghost use Rattle.card_bench.specs.WorldLaw.{ResynchLaw, WorldLaw};
 ghost use Rattle.card_bench.specs.WorldRepairs.{RepairLaw};
 ghost use Rattle.card_bench.specs.Worlds.{Answers, Machine, are_bytes, may_arrive};
 
-/// The law of the world of both ends (ISO/IEC 7816-3, clause 11.6), for every card, every session that it begins in, and
-/// every list of events:
+/// The law of the world of both ends (ISO/IEC 7816-3, clause 11.6), for every proper card, every session that it begins in,
+/// and every list of events:
 ///
 /// - `law`: the commands carried out are the commands sent, in order, each at most once, with only such left out as were
 ///   not reported Done; Done has the tree machine's answer at that point; no answer is reported as bad; once RESYNCH was
@@ -21,16 +21,17 @@ ghost use Rattle.card_bench.specs.Worlds.{Answers, Machine, are_bytes, may_arriv
 /// - `repair`: where at most one block was lost or garbled since a command was sent, and no report was Failed before, its
 ///   report is Done; where none was, it comes after at most 20 blocks, and exactly as many as are said there.
 pub fn world()
-    ensures law { WorldLaw tree_machine }
-    ensures resynch { ResynchLaw tree_machine }
-    ensures repair { RepairLaw tree_machine }
+    ensures law { WorldLaw tree_machine IsProperState }
+    ensures resynch { ResynchLaw tree_machine IsProperState }
+    ensures repair { RepairLaw tree_machine IsProperState }
 {}
 
-/// The same law for every machine that answers each command by 2 to 258 bytes, whatever type `M` its states have.
+/// The same law for every machine that keeps an invariant, any test of its states, and answers each command by 2 to 258 bytes
+/// where that holds, whatever type `M` the states have.
 pub fn world_of_any_machine<M>()
-    ensures law { (machine : Machine M) → Answers machine → WorldLaw machine }
-    ensures resynch { (machine : Machine M) → Answers machine → ResynchLaw machine }
-    ensures repair { (machine : Machine M) → Answers machine → RepairLaw machine }
+    ensures law { (machine : Machine M) (holds : M → Bool) → Answers machine (λ m. IsTrue (holds m)) → WorldLaw machine (λ m. IsTrue (holds m)) }
+    ensures resynch { (machine : Machine M) (holds : M → Bool) → Answers machine (λ m. IsTrue (holds m)) → ResynchLaw machine (λ m. IsTrue (holds m)) }
+    ensures repair { (machine : Machine M) (holds : M → Bool) → Answers machine (λ m. IsTrue (holds m)) → RepairLaw machine (λ m. IsTrue (holds m)) }
 {}
 
 /// What the faults that are pending on a line do to a block depends on how many blocks went before it, and on nothing else:

@@ -1,5 +1,5 @@
-// The line between the two ends, on which a block may be lost or garbled.
-ghost use Rattle.std.specs.Prelude.{◌≡◌, ◌≤◌, ◌-◌, None, Some, option_map};
+//! The line between the two ends, on which a block may be lost or garbled.
+ghost use Rattle.std.specs.Prelude.{◌≡◌, ◌≤◌, ◌-◌, false, None, Some, if◌then◌else◌};
 ghost use Rattle.card_bench.specs.Lines.{arriving, is_due, last_bit_turned, line_after, pending_after};
 
 use t1_link::BlockBytes;
@@ -40,20 +40,21 @@ impl Line {
         self.garble = Some(number - 1);
     }
 
-    /// Puts a block on the line, and gives what arrives of it, if anything does.
-    pub fn put(&mut self, block: BlockBytes) -> Option<BlockBytes>
+    /// Puts the block in a buffer on the line, and tells whether it arrives: as it then stands in the buffer.
+    pub fn put(&mut self, block: &mut BlockBytes) -> bool
         ensures after { self.new ≡ line_after 1 self.old }
-        ensures arrives { option_map (λ b. b.items) result ≡ arriving self.old 0 block.items }
+        ensures arrives { (if result then Some block.new.items else None) ≡ arriving self.old 0 block.old.items }
+        ensures lost { result ≡ false → block.new ≡ block.old }
     {
         let is_lost = falls_due(&mut self.lose);
         let is_garbled = falls_due(&mut self.garble);
         if is_lost {
-            None
-        } else if is_garbled {
-            Some(garbled(block))
-        } else {
-            Some(block)
+            return false;
         }
+        if is_garbled {
+            garble(block);
+        }
+        true
     }
 }
 
@@ -75,12 +76,13 @@ fn falls_due(pending: &mut Option<u32>) -> bool
     }
 }
 
-/// A block with bit 1 of its last byte turned.
-fn garbled(mut block: BlockBytes) -> BlockBytes
-    ensures { result.items ≡ last_bit_turned block.items }
+/// Turns bit 1 of the last byte of a block.
+#[tactic(auto, using(crate::proofs::LineFaults::last_bit_turned_at))]
+fn garble(block: &mut [u8])
+    ensures { block.new ≡ last_bit_turned block.old }
 {
-    if let Some(last) = block.pop() {
-        block.push(last ^ 1);
+    let size = block.len();
+    if size > 0 {
+        block[size - 1] ^= 1;
     }
-    block
 }

@@ -1,15 +1,15 @@
-// A card behind its end of the link.
-ghost use Rattle.std.specs.Prelude.{◌≡◌, ◌⊎◌, ◌≤◌, true, [], IsOk, IsErr, OnOk, OnErr, IfOk, IfErr};
-ghost use Rattle.undo_journal.specs.Spending.{WritesAtMost, rollback_writes};
+//! A card behind its end of the link.
+ghost use Rattle.std.specs.Prelude.{◌≡◌, ◌≢◌, ◌⊎◌, ◌-◌, ◌≤◌, Some, true, [], IsOk, IsErr, OnOk, OnErr, IfOk, IfErr};
+ghost use Rattle.undo_journal.specs.Spending.{KeepsBoard, WritesAtMost, start_writes};
 ghost use Rattle.undo_journal.specs.Undo.{gate};
 ghost use Rattle.card_core.specs.declared.machine.TheConstants.{COMMAND_WRITES};
 ghost use Rattle.card_core.specs.Finding.{HasCard, FindsAgain};
 ghost use Rattle.card_core.specs.Running.{Starts, StopsBy, card_found};
-ghost use Rattle.t1_link.specs.CardTable.{LinkStep, fresh};
-ghost use Rattle.card_bench.specs.Turns.{Replies, RepliesFailure, FailsAt, IsCutAt, IsBlockStage};
+ghost use Rattle.t1_link.specs.CardTable.{link_step, fresh};
+ghost use Rattle.card_bench.specs.CardBlocks.{Replies, RepliesFailure, FailsAt, IsCutAt, IsBlockStage, IsRun, BlockChangesNothing};
 
-use card_core::{Answer, Card, Condition, PowerLost, StartFault};
-use nvm_board::{Armed, Board};
+use card_core::{Answer, Card, CardState, PowerLost, StartFault};
+use nvm_board::{Armed, Board, Faultless};
 use std::marker::Model;
 use t1_link::{Action, BlockBytes, CardEnd};
 
@@ -18,25 +18,27 @@ use t1_link::{Action, BlockBytes, CardEnd};
 pub struct Powered<B: Board> {
     card: Card<B>,
     link: CardEnd,
+    /// Room for the answer of a command. What it holds between blocks tells nothing.
+    answer: Answer,
 }
 
 impl<B: Board> Model for Powered<B> {
     ghost use Rattle.std.specs.Coded.{codes};
     ghost use Rattle.card_core.specs.Sessions.{session_code};
-    ghost use Rattle.card_bench.specs.Turns.{Powered as PoweredValue};
+    ghost use Rattle.card_bench.specs.CardBlocks.{Powered as PoweredValue};
 
     ghost Value = { PoweredValue };
 
     ghost coded = { Prim.hlevel (codes, session_code) };
 
     ghost use Rattle.std.specs.Prelude.{◌≡◌, ◌≢◌, None};
-    ghost use Rattle.card_core.specs.declared.condition.Condition.TheVariants.{Dark};
+    ghost use Rattle.card_core.specs.declared.card_state.CardState.TheVariants.{Dark};
 
     ghost view = { λ p. record { card = p.card; link = p.link.link } };
 
     ghost use Rattle.card_core.specs.Finding.{HasCard};
 
-    ghost invariant = { λ p. HasCard p.card.facts.words × (p.card.condition ≢ Dark → p.link.waiting ≡ None) };
+    ghost invariant = { λ p. HasCard p.card.facts.words × (p.card.state ≢ Dark → p.link.waiting ≡ None) };
 }
 
 impl<B: Board> Powered<B> {
@@ -47,13 +49,17 @@ impl<B: Board> Powered<B> {
         ensures stopped { IfErr result (λ e. StopsBy e.1 (B.facts board) (B.facts e.0)) }
         ensures found { IfOk result (λ p. FindsAgain (B.facts board).words p.card.facts.words) }
         ensures found_err { IfErr result (λ e. FindsAgain (B.facts board).words (B.facts e.0).words) }
-        ensures writes { IfOk result (λ p. WritesAtMost (rollback_writes (gate (B.facts board).words)) (B.facts board) p.card.facts) }
-        ensures writes_err { IfErr result (λ e. WritesAtMost (rollback_writes (gate (B.facts board).words)) (B.facts board) (B.facts e.0)) }
+        // Where no pair of the journal counts, no word changes, and nothing is written.
+        ensures shut { IfOk result (λ p. gate (B.facts board).words ≡ 0 → KeepsBoard (B.facts board) p.card.facts) }
+        ensures shut_err { IfErr result (λ e. gate (B.facts board).words ≡ 0 → KeepsBoard (B.facts board) (B.facts e.0)) }
+        ensures writes { IfOk result (λ p. WritesAtMost (start_writes (B.facts board)) (B.facts board) p.card.facts) }
+        ensures writes_err { IfErr result (λ e. WritesAtMost (start_writes (B.facts board)) (B.facts board) (B.facts e.0)) }
     {
         match Card::start(board) {
             Ok(card) => Ok(Powered {
                 card,
                 link: CardEnd::new(),
+                answer: Answer::new(),
             }),
             Err((board, fault)) => Err((board, fault)),
         }
@@ -64,26 +70,29 @@ impl<B: Board> Powered<B> {
         // At every exit, cut or fault or neither, the card that is found is one of the stages of the command that ran, or
         // what it was where none ran.
         ensures there { HasCard self.new.card.facts.words }
-        ensures stage { IsBlockStage self.old (LinkStep self.old.link got.now).reaction (card_found self.new.card) }
-        ensures replies { OnOk result (self.old.card.condition ≡ Condition.Working
+        ensures stage { IsBlockStage self.old (link_step self.old.link got.now).reaction (card_found self.new.card) }
+        ensures replies { OnOk result (self.old.card.state ≡ CardState.Working
             → Replies self.old got.now self.new out.new.items ⊎ FailsAt self.old got.now self.new out.new.items) }
-        ensures lost { OnErr result (self.old.card.condition ≡ Condition.Working → IsCutAt self.old got.now self.new out.new.items) }
-        ensures failed { self.old.card.condition ≡ Condition.Failed
-            → IsOk result × (self.new.card.facts ≡ self.old.card.facts) × RepliesFailure self.old got.now self.new out.new.items }
-        ensures dark { self.old.card.condition ≡ Condition.Dark → IsErr result × (self.new ≡ self.old) × (out.new.items ≡ []) }
+        ensures lost { OnErr result (self.old.card.state ≢ CardState.Dark → IsCutAt self.old got.now self.new out.new.items) }
+        ensures failed { self.old.card.state ≡ CardState.Failed
+            → IsOk result × (self.new.card ≡ self.old.card) × RepliesFailure self.old got.now self.new out.new.items }
+        ensures dark { self.old.card.state ≡ CardState.Dark → IsErr result × (self.new ≡ self.old) × (out.new.items ≡ []) }
         ensures unlit { OnErr result (self.new.card.facts.dark ≡ true) }
+        // Where no command runs, the card is what it was; and one that changes nothing lasting leaves each word of the board,
+        // and each of its counts.
+        ensures unrun { IsRun (link_step self.old.link got.now).reaction ⊎ (self.new.card ≡ self.old.card) }
+        ensures idle { BlockChangesNothing self.old (link_step self.old.link got.now).reaction → KeepsBoard self.old.card.facts self.new.card.facts }
         ensures writes { WritesAtMost COMMAND_WRITES self.old.card.facts self.new.card.facts }
     {
         out.clear();
-        if let Condition::Dark = self.card.condition() {
+        if let CardState::Dark = self.card.state() {
             return Err(PowerLost);
         }
         match self.link.take(got, out) {
             Action::Reply => Ok(()),
             Action::Run => {
-                let mut answer = Answer::new();
-                self.card.command(self.link.command(), &mut answer)?;
-                self.link.answer(&answer, out);
+                self.card.command(self.link.command(), &mut self.answer)?;
+                self.link.answer(&self.answer, out);
                 Ok(())
             }
         }
@@ -93,7 +102,11 @@ impl<B: Board> Powered<B> {
     pub fn into_board(self) -> B
         ensures { B.facts result ≡ self.card.facts }
     {
-        let Powered { card, link: _ } = self;
+        let Powered {
+            card,
+            link: _,
+            answer: _,
+        } = self;
         card.into_board()
     }
 }
@@ -103,9 +116,24 @@ impl<B: Armed> Powered<B> {
     pub fn arm(&mut self, k: u32, mask: u16)
         requires { 1 ≤ k }
         ensures due { self.new.card.facts.due ≤ 1 }
-        ensures same { self.new
-            ≡ record self.old { card = record self.old.card { facts = record self.old.card.facts { due = self.new.card.facts.due } } } }
+        ensures same { self.new ≡ record self.old {
+          card = record self.old.card {
+            facts = record self.old.card.facts {
+              due = self.new.card.facts.due;
+              pending = Some record { whole_writes = k - 1; mask = mask };
+            };
+          };
+        } }
     {
         self.card.arm(k, mask);
+    }
+}
+
+impl<B: Faultless> Powered<B> {
+    /// Tells that the board counts no fault.
+    pub(crate) fn has_no_fault(&self)
+        ensures { self.now.card.facts.faults ≡ 0 }
+    {
+        self.card.has_no_fault();
     }
 }

@@ -1,5 +1,7 @@
-// What a line prints.
-ghost use Rattle.std.specs.Prelude.{◌≡◌, ◌≤◌, length, IfErr};
+//! What a line prints.
+ghost use Rattle.std.specs.Prelude.{◌≡◌, ◌≤◌, ℕ, length, take, IfErr, OnErr, OnOk};
+ghost use Rattle.std.specs.Io.KnownBytes.{Appends};
+ghost use Rattle.card_bench.specs.Printouts.{print_of, prints_bytes, text_of};
 
 use crate::desk::Printed;
 use crate::fault::RunFault;
@@ -9,12 +11,30 @@ use std::io::Write;
 /// The answer to reset of the card.
 const ATR: &[u8] = b"atr 3B808131FE458B\n";
 
-/// Room for a printed line: two digits a byte, what stands before them, and the line feed.
-const PRINTED_ROOM: usize = 2 + 2 * 258 + 1;
+/// The hexadecimal digits.
+const DIGITS: &[u8; 16] = b"0123456789ABCDEF";
 
-/// Writes what a line prints, and flushes it.
-pub(crate) fn print<W: Write>(writer: &mut W, printed: &Printed) -> Result<(), RunFault>
-    ensures { IfErr result (λ fault. fault ≡ RunFault.Write) }
+/// The most bytes that the card sends at once.
+const BYTES_ROOM: usize = 258;
+
+/// Room for a printed line: two digits a byte, what stands before them, and the line feed.
+const PRINTED_ROOM: usize = 2 + 2 * BYTES_ROOM + 1;
+
+/// Room for the text of bytes. What it holds between lines tells nothing.
+pub(crate) type PrintedText = ArrayVec<u8, PRINTED_ROOM>;
+
+/// Writes what a line prints, and flushes it. The bytes of the card stand in a buffer.
+pub(crate) fn print<W: Write>(
+    writer: &mut W,
+    printed: Printed,
+    bytes: &[u8],
+    text: &mut PrintedText,
+) -> Result<(), RunFault>
+    requires { length bytes.now ≤ BYTES_ROOM }
+    ensures wrote { OnOk result (Appends (W.contents writer.old) (W.contents writer.new) (text_of (print_of printed bytes.now))) }
+    ensures began { OnErr result ((size : ℕ)
+        × Appends (W.contents writer.old) (W.contents writer.new) (take size (text_of (print_of printed bytes.now)))) }
+    ensures fault { IfErr result (λ fault. fault ≡ RunFault.Write) }
 {
     match printed {
         Printed::Nothing => Ok(()),
@@ -22,29 +42,46 @@ pub(crate) fn print<W: Write>(writer: &mut W, printed: &Printed) -> Result<(), R
         Printed::Mute => write_line(writer, b"mute\n"),
         Printed::Dark => write_line(writer, b"dark\n"),
         Printed::Lost => write_line(writer, b"lost\n"),
-        Printed::Bytes(bytes) => print_bytes(writer, bytes),
+        Printed::Bytes => print_bytes(writer, bytes, text),
     }
 }
 
 /// Writes bytes as hexadecimal digits.
-fn print_bytes<W: Write>(writer: &mut W, bytes: &[u8]) -> Result<(), RunFault>
-    requires { length bytes.now ≤ 258 }
-    ensures { IfErr result (λ fault. fault ≡ RunFault.Write) }
+fn print_bytes<W: Write>(
+    writer: &mut W,
+    bytes: &[u8],
+    text: &mut PrintedText,
+) -> Result<(), RunFault>
+    requires { length bytes.now ≤ BYTES_ROOM }
+    ensures wrote { OnOk result (Appends (W.contents writer.old) (W.contents writer.new) (text_of (prints_bytes bytes.now))) }
+    ensures began { OnErr result ((size : ℕ)
+        × Appends (W.contents writer.old) (W.contents writer.new) (take size (text_of (prints_bytes bytes.now)))) }
+    ensures fault { IfErr result (λ fault. fault ≡ RunFault.Write) }
 {
-    let mut digits = [0u8; 2 * 258];
-    let digits = &mut digits[..2 * bytes.len()];
-    let _ = hex::encode_to_slice(bytes, digits);
-    digits.make_ascii_uppercase();
-    let mut line: ArrayVec<u8, PRINTED_ROOM> = ArrayVec::new();
-    line.try_extend_from_slice(b"< ").unwrap();
-    line.try_extend_from_slice(digits).unwrap();
+    spell(bytes, text);
+    write_line(writer, text)
+}
+
+/// Spells bytes as the text that is printed of them.
+fn spell(bytes: &[u8], line: &mut PrintedText)
+    requires { length bytes.now ≤ BYTES_ROOM }
+    ensures { line.new.items ≡ text_of (prints_bytes bytes.now) }
+{
+    line.clear();
+    line.push(b'<');
+    line.push(b' ');
+    for byte in bytes {
+        line.push(DIGITS[(*byte / 16) as usize]);
+        line.push(DIGITS[(*byte % 16) as usize]);
+    }
     line.push(b'\n');
-    write_line(writer, &line)
 }
 
 /// Writes a whole line, and flushes it.
 fn write_line<W: Write>(writer: &mut W, line: &[u8]) -> Result<(), RunFault>
-    ensures { IfErr result (λ fault. fault ≡ RunFault.Write) }
+    ensures wrote { OnOk result (Appends (W.contents writer.old) (W.contents writer.new) line.now) }
+    ensures began { OnErr result ((size : ℕ) × Appends (W.contents writer.old) (W.contents writer.new) (take size line.now)) }
+    ensures fault { IfErr result (λ fault. fault ≡ RunFault.Write) }
 {
     let mut written = 0;
     while written < line.len() {

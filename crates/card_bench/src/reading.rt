@@ -1,19 +1,19 @@
-// The lines of a script, read byte by byte.
-ghost use Rattle.std.specs.Prelude.{◌≡◌, ◌≤◌, IfOk, IfErr, OnOk, Err, option_to_list, None};
-ghost use Rattle.std.specs.Io.KnownBytes.{Consumes, IsAtEnd};
+//! The lines of a script, read from the reader's own buffer.
+ghost use Rattle.std.specs.Prelude.{◌≡◌, ◌⊎◌, ◌+◌, ◌<◌, ◌≤◌, length, slice_index, take, IsTrue, IfOk, IfErr, OnOk, Err};
 ghost use Rattle.std.specs.Str.Lines.{strip_carriage_return};
-ghost use Rattle.card_bench.specs.Scripts.{TakesLine, TakesTooMuch, Counts};
+ghost use Rattle.card_bench.specs.Scripts.{Counts, IsInLine, IsTooLong, TakesLine, TakesPart, TakesTooMuch, size_of};
+ghost use Rattle.card_bench.specs.declared.order.TheConstants.{LINE_LIMIT};
 ghost use Rattle.card_bench.specs.declared.reading.TheConstants.{SCRIPT_LIMIT};
 
 use crate::order::LINE_LIMIT;
 use arrayvec::ArrayVec;
-use std::io::Read;
+use std::io::BufRead;
 
 /// The most bytes of a script.
 pub(crate) const SCRIPT_LIMIT: u32 = 16_777_216;
 
-/// Room for a line and the carriage return at its end.
-const LINE_ROOM: usize = LINE_LIMIT + 1;
+/// Room for a line, the carriage return at its end, and a byte that makes it too long.
+const LINE_ROOM: usize = LINE_LIMIT + 2;
 
 /// A line, without its line feed and a carriage return before it.
 pub(crate) type LineBytes = ArrayVec<u8, LINE_ROOM>;
@@ -36,51 +36,109 @@ pub(crate) enum LineFault {
     TooLong,
 }
 
-/// The next byte, or None at the end.
-fn read_byte<R: Read>(reader: &mut R) -> Result<Option<u8>, LineFault>
-    ensures bytes { IfOk result (λ byte. Consumes (R.remaining reader.old) (R.remaining reader.new) (option_to_list byte)) }
-    ensures end { IfOk result (λ byte. byte ≡ None → IsAtEnd (R.remaining reader.new)) }
+/// What the reader's buffer gave of a line.
+#[derive(Clone, Copy)]
+enum Part {
+    /// Nothing: the script is at its end.
+    End,
+    /// So many bytes, with no line feed among them.
+    Begun(usize),
+    /// So many bytes, of which the last is a line feed, and no other one.
+    LineFeed(usize),
+}
+
+/// Takes what the reader's buffer holds of a line, at most so many bytes, and appends it, without its line feed. It is a fault
+/// to be at the most already, and not at the end.
+fn read_part<R: BufRead>(
+    reader: &mut R,
+    most: usize,
+    line: &mut LineBytes,
+) -> Result<Part, LineFault>
+    requires { length line.old.items + most ≤ LINE_ROOM }
+    ensures part { IfOk result (TakesPart (R.remaining reader.old) (R.remaining reader.new) line.old.items line.new.items) }
+    ensures size { IfOk result (λ part. size_of part ≤ most) }
     ensures failed { IfErr result (λ e. e ≡ LineFault.Read) }
 {
-    let mut buffer = [0u8; 1];
-    match reader.read(&mut buffer) {
-        Ok(0) => Ok(None),
-        Ok(_) => Ok(Some(buffer[0])),
-        Err(_) => Err(LineFault::Read),
+    let available = match reader.fill_buf() {
+        Ok(available) => available,
+        Err(_) => return Err(LineFault::Read),
+    };
+    if available.is_empty() {
+        return Ok(Part::End);
     }
+    if most == 0 {
+        return Err(LineFault::Read);
+    }
+    let seen = &available[..available.len().min(most)];
+    let size = size_in_line(seen);
+    let is_fed = size < seen.len();
+    line.try_extend_from_slice(&seen[..size]).unwrap();
+    if is_fed {
+        reader.consume(size + 1);
+        return Ok(Part::LineFeed(size + 1));
+    }
+    reader.consume(size);
+    Ok(Part::Begun(size))
+}
+
+/// How many bytes go before the first line feed, or all.
+fn size_in_line(bytes: &[u8]) -> usize
+    ensures within { result ≤ length bytes.now }
+    ensures before { IsInLine (take result bytes.now) }
+    ensures at { result < length bytes.now → slice_index bytes.now result ≡ 10 }
+{
+    let mut size = 0;
+    while size < bytes.len() && bytes[size] != b'\n' {
+        size += 1;
+    }
+    size
 }
 
 /// Reads the next line into the buffer, and counts the bytes that were taken. A line of too many bytes is told before
 /// its end has come.
-pub(crate) fn read_line<R: Read>(
+pub(crate) fn read_line<R: BufRead>(
     reader: &mut R,
     taken: &mut u32,
     line: &mut LineBytes,
 ) -> Result<LineEnd, LineFault>
     requires { taken.old ≤ SCRIPT_LIMIT }
     ensures line { IfOk result (TakesLine (R.remaining reader.old) (R.remaining reader.new) line.new.items) }
-    ensures too_long { result ≡ Err LineFault.TooLong → TakesTooMuch (R.remaining reader.old) (R.remaining reader.new) }
+    ensures too_long { result ≡ Err LineFault.TooLong → TakesTooMuch (R.remaining reader.old) (R.remaining reader.new) taken.old taken.new }
     ensures counted { OnOk result (Counts (R.remaining reader.old) (R.remaining reader.new) taken.old taken.new) }
     ensures taken { taken.new ≤ SCRIPT_LIMIT }
 {
     line.clear();
+    // Each turn takes a byte at least.
     for _ in 0..=LINE_ROOM {
-        let Some(byte) = read_byte(reader)? else {
-            return Ok(LineEnd::EndOfScript);
-        };
-        if *taken == SCRIPT_LIMIT {
-            return Err(LineFault::Read);
+        let most = (LINE_ROOM - line.len()).min((SCRIPT_LIMIT - *taken) as usize);
+        match read_part(reader, most, line) {
+            Ok(Part::End) => return Ok(LineEnd::EndOfScript),
+            Ok(Part::Begun(size)) => *taken += size as u32,
+            Ok(Part::LineFeed(size)) => {
+                *taken += size as u32;
+                drop_carriage_return(line);
+                return Ok(LineEnd::LineFeed);
+            }
+            Err(_) => return Err(LineFault::Read),
         }
-        *taken += 1;
-        if byte == b'\n' {
-            drop_carriage_return(line);
-            return Ok(LineEnd::LineFeed);
-        }
-        if line.try_push(byte).is_err() {
+        if is_too_long(line) {
             return Err(LineFault::TooLong);
         }
     }
     Err(LineFault::TooLong)
+}
+
+/// Whether a begun line is too long: only a carriage return may follow 1,024 bytes, since a line feed may follow that.
+fn is_too_long(line: &[u8]) -> bool
+    ensures long { IsTrue result → IsTooLong line.now }
+    ensures short { IsTrue result ⊎ (length line.now ≤ LINE_LIMIT + 1) }
+{
+    let size = line.len();
+    if size == LINE_LIMIT + 1 {
+        line[LINE_LIMIT] != b'\r'
+    } else {
+        size > LINE_LIMIT
+    }
 }
 
 /// Drops the carriage return at the end of a line, if there is one.

@@ -1,34 +1,48 @@
-// A script, run from its first line to its last.
+//! A script, run from its first line to its last.
 ghost use Rattle.std.specs.Prelude.{◌≡◌, Err, IfSome, IfErr, OnOk};
-ghost use Rattle.card_bench.specs.Runs.{StopsBy};
-ghost use Rattle.card_bench.specs.Scripts.{IsScript};
+ghost use Rattle.nvm_board.specs.Cut.{cut_facts};
+ghost use Rattle.nvm_board.specs.Facts.{new_board};
+ghost use Rattle.card_core.specs.Factory.{factory_card};
+ghost use Rattle.card_core.specs.Finding.{Finds};
+ghost use Rattle.card_bench.specs.Endings.{IsRunToEnd, StopsBy};
 
-use crate::desk::{Bench, Performed};
+use crate::desk::Desk;
 use crate::fault::RunFault;
 use crate::order::Order;
-use crate::printing::print;
+use crate::printing::{PrintedText, print};
 use crate::reading::{LineBytes, LineEnd, LineFault, SCRIPT_LIMIT, read_line};
 use card_core::format;
-use nvm_board::{CutBoard, Socket};
+use nvm_board::CutBoard;
 use std::alloc::Global;
-use std::io::{Read, Write};
+use std::io::{BufRead, Write};
 
 /// Runs a script on the factory's card, power off at first. What a line prints is written, and flushed, before the next
 /// line is read. All memory is taken before the first byte is read.
-pub fn run<R: Read, W: Write>(alloc: Global, reader: &mut R, writer: &mut W) -> Result<(), RunFault>
-    // At the end of the script each of its lines was one.
-    ensures done { OnOk result (IfSome (R.remaining reader.old) IsScript) }
-    // A bad line is the first one; with too little memory nothing was read or written.
-    ensures stopped { IfErr result (λ fault. StopsBy fault (R.remaining reader.old)) }
+pub fn run<R: BufRead, W: Write>(
+    alloc: Global,
+    reader: &mut R,
+    writer: &mut W,
+) -> Result<(), RunFault>
+    // At the end of the script each of its lines was one, and the writer holds what they print.
+    ensures done { OnOk result (IfSome (R.remaining reader.old)
+        (λ script. IsRunToEnd script (W.contents writer.old) (W.contents writer.new))) }
+
+    // A bad line is the first one, and the writer holds what the lines before it print.
+    ensures stopped { IfErr result (λ fault.
+        StopsBy fault (R.remaining reader.old) (W.contents writer.old) (W.contents writer.new)) }
+
+    // With too little memory nothing was read or written.
     ensures unread { result ≡ Err RunFault.Memory → R.remaining reader.new ≡ R.remaining reader.old }
     ensures unwritten { result ≡ Err RunFault.Memory → W.contents writer.new ≡ W.contents writer.old }
 {
     let Ok(board) = CutBoard::new(alloc) else {
         return Err(RunFault::Memory);
     };
-    let mut bench = Bench::new(factory_board(board));
+    let mut desk = Desk::new(factory_board(board));
     let mut line = LineBytes::new();
+    let mut text = PrintedText::new();
     let mut taken = 0;
+    // A script of so many bytes has no more lines, and one without a line feed at its end.
     for number in 1..=SCRIPT_LIMIT + 1 {
         let end = match read_line(reader, &mut taken, &mut line) {
             Ok(end) => end,
@@ -38,12 +52,10 @@ pub fn run<R: Read, W: Write>(alloc: Global, reader: &mut R, writer: &mut W) -> 
         let Some(order) = Order::parse(&line) else {
             return Err(RunFault::BadLine(number));
         };
-        let Performed {
-            bench: next,
-            printed,
-        } = bench.perform(order);
-        bench = next;
-        print(writer, &printed)?;
+        let printed = desk.perform(&order);
+        let Ok(()) = print(writer, printed, desk.bytes(), &mut text) else {
+            return Err(RunFault::Write);
+        };
         match end {
             LineEnd::LineFeed => {}
             LineEnd::EndOfScript => return Ok(()),
@@ -52,11 +64,14 @@ pub fn run<R: Read, W: Write>(alloc: Global, reader: &mut R, writer: &mut W) -> 
     Err(RunFault::Read)
 }
 
-/// The board of a factory's card, power off.
-fn factory_board(board: CutBoard) -> CutBoard {
-    let mut board = match format(board) {
-        Ok(board) | Err((board, _)) => board,
-    };
-    board.power_off();
-    board
+/// A new board with the factory's card. Nothing can be cut on it yet, so that it takes all that is written.
+fn factory_board(board: CutBoard) -> CutBoard
+    requires { cut_facts board ≡ new_board }
+    ensures card { Finds (cut_facts result).words factory_card }
+    ensures due { (cut_facts result).due ≡ 0 }
+{
+    match format(board) {
+        Ok(board) => board,
+        Err(_) => unreachable!(),
+    }
 }

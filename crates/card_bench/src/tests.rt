@@ -1,6 +1,9 @@
+//! Scripts and turns against vectors from outside, and readers and writers that fail.
 use super::*;
+use card_core::format;
+use nvm_board::CutBoard;
 use std::alloc::Global;
-use std::io::{self, Error, ErrorKind, Read, Write};
+use std::io::{self, BufRead, Error, ErrorKind, Read, Write};
 use std::process::Abort;
 use std::test::Fail;
 
@@ -339,37 +342,70 @@ fn long_lines(rt: HostRuntime) -> Result<(), Fail> {
     Ok(())
 }
 
-/// A script that never ends: comments of 1,000 bytes with their line feeds.
-struct Comments {
-    given: u32,
+/// A script that never ends: a line again and again, for so many bytes, and then a tail again and again.
+struct Comments<'a> {
+    line: &'a [u8],
+    tail: &'a [u8],
+    rest: &'a [u8],
+    given: usize,
+    whole: usize,
 }
 
-impl Read for Comments {
-    fn read(&mut self, buf: &mut [u8]) -> io::Result<usize> {
-        let Some(first) = buf.first_mut() else {
-            return Ok(0);
-        };
-        *first = if self.given % 1000 == 999 {
-            b'\n'
-        } else {
-            b'#'
-        };
-        self.given = self.given.wrapping_add(1);
-        Ok(1)
+/// Only its buffer is looked at.
+impl Read for Comments<'_> {
+    fn read(&mut self, _: &mut [u8]) -> io::Result<usize> {
+        Err(Error::from(ErrorKind::Unsupported))
     }
 }
 
-// Past 16,777,216 bytes a script is a read fault, after good lines.
+impl BufRead for Comments<'_> {
+    fn fill_buf(&mut self) -> io::Result<&[u8]> {
+        Ok(self.rest)
+    }
+
+    fn consume(&mut self, amount: usize) {
+        self.given = self.given.saturating_add(amount);
+        let next = if self.given < self.whole {
+            self.line
+        } else {
+            self.tail
+        };
+        self.rest = match self.rest.get(amount..) {
+            None | Some([]) => next,
+            Some(rest) => rest,
+        };
+    }
+}
+
+// Past 16,777,216 bytes a script is a read fault, after good lines; but a begun line that is too long by then is a bad one.
 #[test]
-fn endless_script(rt: HostRuntime) {
+fn endless_scripts(rt: HostRuntime) -> Result<(), Fail> {
     let alloc = rt.alloc();
-    let mut reader = Comments { given: 0 };
-    let mut printed = Vec::new(alloc);
-    let status = status_of(run(alloc, &mut reader, &mut printed));
-    let Comments { given } = reader;
-    assert_eq!(rt; status, 3);
-    assert_eq!(rt; given, 16_777_217);
-    assert_eq!(rt; printed.as_slice(), b"".as_slice());
+    let line = comment(alloc, 999, b"\n")?;
+    let mut tail = comment(alloc, 190, b"\n")?;
+    tail.extend_from_slice(comment(alloc, 2000, b"")?.as_slice())?;
+    for (whole, wanted) in [(usize::MAX, 3), (16_776_000, 2)] {
+        let mut reader = Comments {
+            line: line.as_slice(),
+            tail: tail.as_slice(),
+            rest: line.as_slice(),
+            given: 0,
+            whole,
+        };
+        let mut printed = Vec::new(alloc);
+        let status = status_of(run(alloc, &mut reader, &mut printed));
+        let Comments {
+            line: _,
+            tail: _,
+            rest: _,
+            given,
+            whole: _,
+        } = reader;
+        assert_eq!(rt; status, wanted);
+        assert_eq!(rt; given, 16_777_216);
+        assert_eq!(rt; printed.as_slice(), b"".as_slice());
+    }
+    Ok(())
 }
 
 /// A reader of a script that fails at its end.
@@ -377,17 +413,51 @@ struct Failing<'a> {
     rest: &'a [u8],
 }
 
+/// Only its buffer is looked at.
 impl Read for Failing<'_> {
-    fn read(&mut self, buf: &mut [u8]) -> io::Result<usize> {
-        match (self.rest, buf) {
-            ([byte, rest @ ..], [first, ..]) => {
-                *first = *byte;
-                self.rest = rest;
-                Ok(1)
-            }
-            _ => Err(Error::from(ErrorKind::Other)),
-        }
+    fn read(&mut self, _: &mut [u8]) -> io::Result<usize> {
+        Err(Error::from(ErrorKind::Unsupported))
     }
+}
+
+impl BufRead for Failing<'_> {
+    fn fill_buf(&mut self) -> io::Result<&[u8]> {
+        if self.rest.is_empty() {
+            return Err(Error::from(ErrorKind::Other));
+        }
+        Ok(self.rest)
+    }
+
+    fn consume(&mut self, amount: usize) {
+        self.rest = match self.rest.get(amount..) {
+            Some(rest) => rest,
+            None => &[],
+        };
+    }
+}
+
+// A begun line that is too long is a bad one before its end has come: the reader isn't asked for more. One whose 1,025th byte
+// is a carriage return may still turn out good.
+#[test]
+fn begun_lines(rt: HostRuntime) -> Result<(), Fail> {
+    let alloc = rt.alloc();
+    for (size, end, wanted) in [
+        (1025, b"".as_slice(), 2),
+        (1024, b"\r", 3),
+        (1024, b"\r#", 2),
+        (1024, b"", 3),
+    ] {
+        let script = comment(alloc, size, end)?;
+        let mut reader = Failing {
+            rest: script.as_slice(),
+        };
+        let mut printed = Vec::new(alloc);
+        let status = status_of(run(alloc, &mut reader, &mut printed));
+        let Failing { rest } = reader;
+        assert_eq!(rt; status, wanted);
+        assert_eq!(rt; rest.len(), 0);
+    }
+    Ok(())
 }
 
 // A reader that fails: what was written before stands.
@@ -404,11 +474,12 @@ fn failing_reader(rt: HostRuntime) {
     assert_eq!(rt; printed.as_slice(), b"atr 3B808131FE458B\n".as_slice());
 }
 
-/// A writer that takes one byte at a time, and fails or takes nothing after some.
+/// A writer that takes one byte at a time, and fails or takes nothing after some; or fails where it is to flush.
 struct Narrow {
     printed: Vec<u8>,
     room: usize,
     fails: bool,
+    flushes: bool,
 }
 
 impl Write for Narrow {
@@ -429,32 +500,107 @@ impl Write for Narrow {
     }
 
     fn flush(&mut self) -> io::Result<()> {
-        Ok(())
+        if self.flushes {
+            Ok(())
+        } else {
+            Err(Error::from(ErrorKind::Other))
+        }
     }
 }
 
-// A writer that takes one byte at a time gets the same text; one that takes nothing more ends the run.
+// A writer that takes one byte at a time gets the same text; one that takes nothing more ends the run, and so does one that
+// fails to flush a line.
 #[test]
 fn narrow_writers(rt: HostRuntime) {
     let alloc = rt.alloc();
     let text = b"atr 3B808131FE458B\n< 9000\n".as_slice();
-    for (room, fails, wanted) in [(100, true, 0), (21, true, 4), (21, false, 4), (0, true, 4)] {
+    for (room, fails, flushes, wanted, size) in [
+        (100, true, true, 0, 26),
+        (21, true, true, 4, 21),
+        (21, false, true, 4, 21),
+        (0, true, true, 4, 0),
+        (100, true, false, 4, 19),
+    ] {
         let mut reader = b"on\napdu 00A4000C023F00\n".as_slice();
         let mut writer = Narrow {
             printed: Vec::new(alloc),
             room,
             fails,
+            flushes,
         };
         let status = status_of(run(alloc, &mut reader, &mut writer));
         let Narrow {
             printed,
             room: _,
             fails: _,
+            flushes: _,
         } = writer;
         assert_eq!(rt; status, wanted);
-        let end = text.len().min(room);
-        assert_eq!(rt; printed.as_slice(), &text[..end]);
+        assert_eq!(rt; printed.as_slice(), &text[..size]);
     }
+}
+
+// Power lost under a block line: the card is off, whether or not a command may be sent.
+#[test]
+fn block_is_cut(rt: HostRuntime) {
+    check(
+        &rt,
+        b"on\nblock 00000700A4000C022FE260\ncut 1 0000\nblock 00400600D6000001AA3B\napdu 00A4000C022FE2\non\napdu 00A4000C022FE2\n",
+        b"atr 3B808131FE458B\n< 000002900092\ndark\nmute\natr 3B808131FE458B\n< 9000\n",
+        0,
+    );
+}
+
+/// Whether these bytes are the card's reply.
+fn replies(item: &Item, wanted: &[u8]) -> bool {
+    match item {
+        Item::Reply(block) => block.as_slice() == wanted,
+        Item::Atr | Item::Quiet | Item::Mute | Item::Dark => false,
+    }
+}
+
+// Power on and off, blocks with wrong check bytes and lengths and of another node, and requests of the link.
+#[test]
+fn turns_are_played(rt: HostRuntime) -> Result<(), Fail> {
+    let Ok(board) = format(CutBoard::new(rt.alloc())?) else {
+        return Ok(());
+    };
+    let mut bench = Bench::new(board);
+    let turns = [
+        Turn::Block(&[0x00, 0xC0, 0x00, 0xC0]),
+        Turn::On,
+        Turn::Block(&[
+            0x00, 0x00, 0x08, 0x00, 0xA4, 0x00, 0x04, 0x02, 0x3F, 0x00, 0x00, 0x94,
+        ]),
+        Turn::Block(&[
+            0x00, 0x00, 0x09, 0x00, 0xA4, 0x00, 0x04, 0x02, 0x3F, 0x00, 0x00, 0x95,
+        ]),
+        Turn::Block(&[0x01, 0xC0, 0x00, 0xC1]),
+        Turn::Block(&[0x00, 0xC1, 0x01, 0xFE, 0x3E]),
+        Turn::Block(&[0x00, 0xC0, 0x00, 0xC0]),
+        Turn::Off,
+    ];
+    let mut trace = [
+        Item::Quiet,
+        Item::Quiet,
+        Item::Quiet,
+        Item::Quiet,
+        Item::Quiet,
+        Item::Quiet,
+        Item::Quiet,
+        Item::Atr,
+    ];
+    bench.play(&turns, &mut trace);
+    assert!(rt; matches!(&trace[0], Item::Mute));
+    assert!(rt; matches!(&trace[1], Item::Atr));
+    assert!(rt; replies(&trace[2], &[0x00, 0x81, 0x00, 0x81]));
+    assert!(rt; replies(&trace[3], &[0x00, 0x82, 0x00, 0x82]));
+    assert!(rt; replies(&trace[4], &[0x00, 0x82, 0x00, 0x82]));
+    assert!(rt; replies(&trace[5], &[0x00, 0xE1, 0x01, 0xFE, 0x1E]));
+    assert!(rt; replies(&trace[6], &[0x00, 0xE0, 0x00, 0xE0]));
+    assert!(rt; matches!(&trace[7], Item::Quiet));
+    let _ = bench.into_board();
+    Ok(())
 }
 
 // The laws hold for the tree machine, and for machines of any type.

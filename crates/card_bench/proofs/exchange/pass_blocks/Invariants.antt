@@ -1,15 +1,18 @@
 use Rattle.std.proofs.Common.{◌≡◌, ◌≤◌, ◌-◌}
 use Rattle.t1_link.specs.declared.reader_end.Phase.TheVariants.{Busy}
-use Rattle.card_bench.specs.Lines.{line_after}
+use Rattle.card_bench.specs.BenchStates.{IsOn}
+use Rattle.card_bench.specs.ExchangeViews.{way_of}
+use Rattle.card_bench.specs.Plays.{IsGood}
 use Rattle.card_bench.proofs.ExchangeRuns.{HasPassed}
 use Rattle.card_bench.proofs.exchange.pass_blocks.Given as goal
 
 abbrev pub invariant-loop : goal.invariant-loop
 invariant-loop g l = record {
   busy : l.reader.phase ≡ Busy;
+  good : IsGood l.bench;
+  power : IsOn l.bench;
   within : l.counter ≤ l.limit;
-  put : l.line ≡ line_after l.counter l.initial.line;
   run : HasPassed l.limit
-      (record { powered = l.initial.powered; reader = l.initial.reader; line = l.initial.line }) l.initial.under_way (l.limit - l.counter)
-      (record { powered = l.powered; reader = l.reader; line = l.line }) l.under_way;
+      (record { bench = l.initial.bench; reader = l.initial.reader; line = l.initial.line }) (way_of l.initial.toward l.initial.blocks) (l.limit - l.counter)
+      (record { bench = l.bench; reader = l.reader; line = l.line }) (way_of l.toward l.blocks);
 }

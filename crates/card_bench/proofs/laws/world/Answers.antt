@@ -1,13 +1,13 @@
-use Rattle.card_bench.specs.TreeMachine.{tree_machine}
+use Rattle.card_bench.specs.TreeMachine.{tree_machine, IsProperState}
 use Rattle.card_bench.proofs.TreeAnswers.{tree-answers}
 use Rattle.card_bench.proofs.WorldLawful.{world-lawful, world-repairs, world-resynchs}
 use Rattle.card_bench.proofs.laws.world.Goals as goal
 
 pub returns-clause-law : goal.returns-clause-law
-returns-clause-law c = world-lawful tree_machine tree-answers
+returns-clause-law c = world-lawful tree_machine IsProperState tree-answers
 
 pub returns-clause-resynch : goal.returns-clause-resynch
-returns-clause-resynch c = world-resynchs tree_machine tree-answers
+returns-clause-resynch c = world-resynchs tree_machine IsProperState tree-answers
 
 pub returns-clause-repair : goal.returns-clause-repair
-returns-clause-repair c = world-repairs tree_machine tree-answers
+returns-clause-repair c = world-repairs tree_machine IsProperState tree-answers

@@ -1,16 +1,16 @@
-use Rattle.std.proofs.Common.{◌≡◌, ◌≤◌, length}
+use Rattle.std.proofs.Common.{◌≡◌, ◌≤◌, ◌+◌, length}
 use Rattle.std.specs.Io.KnownBytes.{Consumes}
-use Rattle.card_bench.specs.Scripts.{IsInLine, Counts}
+use Rattle.card_bench.specs.Scripts.{IsInLine}
+use Rattle.card_bench.specs.declared.order.TheConstants.{LINE_LIMIT}
 use Rattle.card_bench.specs.declared.reading.TheConstants.{SCRIPT_LIMIT}
 use Rattle.card_bench.proofs.reading.read_line.Given as goal
 
 abbrev pub invariant-loop : goal.invariant-loop
-invariant-loop g l =
-    let first = g.R.Read.remaining l.initial.reader in
-    let now = g.R.Read.remaining l.reader in record {
-      taken : l.taken ≤ SCRIPT_LIMIT;
-      size : length l.line.items ≡ l.counter;
-      in_line : IsInLine l.line.items;
-      so_far : Consumes first now l.line.items;
-      counted : Counts first now l.initial.taken l.taken;
-    }
+invariant-loop g l = record {
+  taken : l.taken ≤ SCRIPT_LIMIT;
+  size : l.counter ≤ length l.line.items;
+  room : length l.line.items ≤ LINE_LIMIT + 1;
+  in_line : IsInLine l.line.items;
+  so_far : Consumes (g.R.Read.remaining l.initial.reader) (g.R.Read.remaining l.reader) l.line.items;
+  counted : l.taken ≡ l.initial.taken + length l.line.items;
+}

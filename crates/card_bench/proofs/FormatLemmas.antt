@@ -1,0 +1,64 @@
+-- Formatting a new board succeeds: no cut is due, and no count stands at its end.
+use Rattle.std.specs.Prelude.{◌≡◌, ◌<◌, ℕ, zero, suc, true, false, List, None, Err, Contains, replicate, slice_index_or, refl}
+use Rattle.std.proofs.Common.{arith, inl, inr, subst, sym, ap, ◌∙◌, true≢false}
+use Rattle.nvm_board.specs.declared.board.DeviceErr.{DeviceErr}
+use Rattle.nvm_board.specs.declared.board.DeviceErr.TheVariants.{PowerLost, Fault}
+use Rattle.nvm_board.specs.declared.board.TheConstants.{COUNT_END, PAGES}
+use Rattle.nvm_board.specs.Facts.{Answered, Facts, GoesDark, new_board}
+use Rattle.undo_journal.specs.Spending.{WritesAtMost}
+use Rattle.card_core.specs.Factory.{factory_card}
+use Rattle.card_core.specs.Finding.{Finds}
+use Rattle.card_bench.specs.BenchStates.{BenchState, off, bench_card, bench_facts, IsOff}
+use Rattle.card_bench.specs.Exchanges.{Desk}
+use Rattle.card_bench.specs.Plays.{IsGood}
+use Rattle.card_bench.specs.Prints.{IsFirstDesk}
+
+zero_at : (n k x : ℕ) → k < n → slice_index_or (replicate n 0) k x ≡ 0
+zero_at zero k x lt = absurd (omega arith)
+zero_at (suc n) zero x lt = refl
+zero_at (suc n) (suc k) x lt = zero_at n k x (omega arith)
+
+-- no count of comparisons or matches of a new board stands at its end
+new_count : (counts : List ℕ) → counts ≡ replicate 16 0 → Contains counts COUNT_END → ⊥
+new_count counts none at_end =
+    let some = subst (λ (l : List ℕ). Contains l COUNT_END) none at_end in
+    let zero_there = zero_at 16 some.0 COUNT_END some.1 in
+    let same : 0 ≡ COUNT_END = sym zero_there ∙ some.2 in
+    omega (arith, same)
+
+-- power isn't lost
+stays_lit : (old new : Facts) → old ≡ new_board → new.faults ≡ 0 → WritesAtMost PAGES old new → GoesDark old new → ⊥
+stays_lit old new is none counts dark = elim dark.due [
+  | inl spent ↦ let due : old.due ≡ 0 = ap (λ (f : Facts). f.due) is in omega (arith, spent, due)
+  | inr worn ↦ elim worn.0 [
+    | inl faults ↦ omega (arith, faults, none)
+    | inr (inl writes) ↦
+        let before : old.writes ≡ 0 = ap (λ (f : Facts). f.writes) is in
+        let few = counts.writes in
+        omega (arith, writes, before, few)
+    | inr (inr (inl compares)) ↦ new_count new.compares (counts.compares ∙ ap (λ (f : Facts). f.compares) is) compares
+    | inr (inr (inr matches)) ↦ new_count new.matches (counts.matches ∙ ap (λ (f : Facts). f.matches) is) matches
+  ]
+]
+
+pub format_succeeds : (old new : Facts) (e : DeviceErr) → old ≡ new_board → new.faults ≡ 0 → WritesAtMost PAGES old new
+    → Answered {T = Unit {0}} old new (Err e) → ⊥
+format_succeeds old new Fault is none counts answered = let rises = (answered.fault refl).faults in omega (arith, none, rises)
+format_succeeds old new PowerLost is none counts answered = elim (answered.lost refl) [
+  | inl dark ↦ stays_lit old new is none counts dark
+  | inr dark ↦
+      let lit : old.dark ≡ false = ap (λ (f : Facts). f.dark) is in
+      true≢false (sym dark.0 ∙ lit)
+]
+
+-- the desk with the factory's board
+pub first_desk : (d : Desk) (f : Facts) → d.bench ≡ off (record f { dark = true }) → d.reader ≡ None → d.line ≡ record { lose = None; garble = None }
+    → Finds f.words factory_card → f.due ≡ 0 → f.faults ≡ 0 → IsFirstDesk d
+first_desk d f bench reader line finds due faults = record {
+  power = subst IsOff (sym bench) tt;
+  good = subst IsGood (sym bench) (record { there = finds.there; faults = faults; well = tt });
+  card = subst (λ (b : BenchState). bench_card b ≡ factory_card) (sym bench) finds.card;
+  due = subst (λ (b : BenchState). (bench_facts b).due ≡ 0) (sym bench) due;
+  reader = reader;
+  line = line;
+}

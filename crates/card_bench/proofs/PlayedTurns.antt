@@ -1,0 +1,89 @@
+-- Turns played one after another.
+use Rattle.std.specs.Prelude.{◌≡◌, ◌+◌, ◌≤◌, ℕ, true, List, [], ◌∷◌, ◌++◌, refl}
+use Rattle.std.proofs.Common.{arith, sym, subst, inl, inr}
+use Rattle.nvm_board.specs.Facts.{Facts}
+use Rattle.card_bench.specs.declared.playing.Turn.{Turn}
+use Rattle.card_bench.specs.declared.playing.Item.{Item}
+use Rattle.t1_link.specs.CardTable.{link_step}
+use Rattle.card_core.specs.Finding.{HasCard}
+use Rattle.card_core.specs.Running.{card_found}
+use Rattle.card_bench.specs.declared.playing.Item.TheVariants.{Dark}
+use Rattle.card_bench.specs.BenchStates.{BenchState, off, on, bench_facts}
+use Rattle.card_bench.specs.CardBlocks.{Powered, IsCutAt, IsBlockStage}
+use Rattle.card_bench.specs.Plays.{HasNoFault, Plays, PlaysAll, PlaysBlock}
+use Rattle.card_bench.specs.Turns.{Counts, OneTurn, Runs, Spends, dark_of, darks}
+
+run_more : (old between new : BenchState) (turns : List Turn) (trace : List Item) (turn : Turn) (item : Item)
+    → Runs old turns trace between → OneTurn between turn item new → Runs old (turns ++ turn ∷ []) (trace ++ item ∷ []) new
+unfolding Runs
+run_more old between new [] [] turn item run one = (new, subst (λ (b : BenchState). OneTurn b turn item new) run one, refl)
+run_more old between new [] (i ∷ trace) turn item run one = absurd run
+run_more old between new (t ∷ turns) [] turn item run one = absurd run
+run_more old between new (t ∷ turns) (i ∷ trace) turn item run one =
+    (run.0, run.1, run_more run.0 between new turns trace turn item run.2 one)
+
+darks_more : (trace : List Item) (item : Item) → darks (trace ++ item ∷ []) ≡ darks trace + dark_of item
+unfolding darks
+darks_more [] item = omega arith
+darks_more (i ∷ trace) item = let e : darks (trace ++ item ∷ []) ≡ darks trace + dark_of item = darks_more trace item in omega (arith, e)
+
+none_run : (old : BenchState) → Runs old [] [] old
+unfolding Runs
+none_run old = refl
+
+none_dark : darks [] ≡ 0
+unfolding darks
+none_dark = refl
+
+-- one more turn's counts
+counts_more : (a b : ℕ) (old between new : Facts) → Counts a old between → Spends b between new → Counts (a + b) old new
+counts_more a b old between new all more =
+    let due : (between.due ≤ new.due + b) × (new.due ≤ between.due) = elim more.due [
+      | inl spent ↦ (omega (arith, spent), omega (arith, spent))
+      | inr worn ↦ (omega (arith, worn.1), omega (arith, worn.1))
+    ] in
+    record {
+      cuts = omega (arith, all.cuts, more.cuts);
+      due = omega (arith, all.due, due.0);
+      undue = omega (arith, all.undue, due.1);
+      faults = omega (arith, all.faults, more.faults);
+    }
+
+-- no turn
+pub plays_none : (old : BenchState) → PlaysAll old [] [] old
+plays_none old = record {
+  there = λ there. there;
+  counts = record { cuts = omega (arith, none_dark); due = omega (arith, none_dark); undue = omega arith; faults = omega arith };
+  well = λ good. good.well;
+  runs = λ there good. none_run old;
+}
+
+-- one more turn
+pub plays_more : (old between new : BenchState) (turns : List Turn) (trace : List Item) (turn : Turn) (item : Item)
+    → PlaysAll old turns trace between → Plays between turn item new → PlaysAll old (turns ++ turn ∷ []) (trace ++ item ∷ []) new
+plays_more old between new turns trace turn item all more =
+    let first : HasNoFault old new → HasNoFault old between =
+    λ good. record { faults = omega (arith, good.faults, all.counts.faults, more.counts.faults); well = good.well } in
+    let second : HasNoFault old new → HasNoFault between new = λ good. record {
+      faults = omega (arith, good.faults, all.counts.faults, more.counts.faults);
+      well = all.well (first good);
+    } in
+    record {
+      there = λ there. more.there (all.there there);
+      counts = subst (λ (n : ℕ). Counts n (bench_facts old) (bench_facts new)) (sym (darks_more trace item))
+          (counts_more (darks trace) (dark_of item) (bench_facts old) (bench_facts between) (bench_facts new) all.counts more.counts);
+      well = λ good. more.well (second good);
+      runs = λ there good. run_more old between new turns trace turn item (all.runs there (first good)) (more.one (all.there there) (second good));
+    }
+
+-- a block in which power was lost, which is then turned off
+pub plays_cut : (old new : Powered) (got out : List ℕ) → IsCutAt old got new out → HasCard new.card.facts.words
+    → IsBlockStage old (link_step old.link got).reaction (card_found new.card)
+    → PlaysBlock (on old) got Dark (off (record new.card.facts { dark = true }))
+plays_cut old new got out cut there stage = record {
+  there = λ before. there;
+  counts = record { cuts = cut.power.cuts; due = cut.power.due; faults = omega (arith, cut.power.faults) };
+  well = λ good. tt;
+  one = λ before good. record { power = tt; run = cut.run; stage = stage };
+  heard = λ powered. tt;
+}

@@ -1,0 +1,9 @@
+use Rattle.std.proofs.Common.{refl}
+use Rattle.nvm_board.specs.Cut.{cut_facts}
+use Rattle.card_bench.proofs.FormatLemmas.{format_succeeds}
+use Rattle.card_bench.proofs.script.factory_board.Goals as goal
+
+pub unreachable-unreachable : goal.unreachable-unreachable
+unreachable-unreachable c =
+    format_succeeds (cut_facts c.args.board) (cut_facts c.in-Err.field-0.0) c.in-Err.field-0.1 c.requires refl c.in-Err.ensures.counts_err
+    c.in-Err.ensures.power_err

@@ -1,0 +1,46 @@
+-- A bench: a board with power off, or a card with its end of the link.
+use Rattle.std.specs.Prelude.{◌≡◌}
+use Rattle.nvm_board.specs.Facts.{Facts}
+use Rattle.card_core.specs.declared.card_state.CardState.TheVariants.{Working}
+use Rattle.card_core.specs.Cards.{Card}
+use Rattle.card_core.specs.Finding.{HasCard, found}
+use Rattle.card_core.specs.Sessions.{fresh_session}
+use Rattle.t1_link.specs.CardTable.{fresh}
+use Rattle.card_bench.specs.CardBlocks.{Powered}
+
+pub data BenchState : Type 0 where
+  off : Facts → BenchState
+  on : Powered → BenchState
+
+-- what contracts know of its board
+abbrev pub bench_facts : BenchState → Facts
+bench_facts (off facts) = facts
+bench_facts (on powered) = powered.card.facts
+
+-- a card is found in its memory
+abbrev pub BenchHasCard : BenchState → Type 0
+BenchHasCard b = HasCard (bench_facts b).words
+
+-- the card that is found in its memory
+abbrev pub bench_card : BenchState → Card
+bench_card b = found (bench_facts b).words
+
+-- power is off
+abbrev pub IsOff : BenchState → Type 0
+IsOff (off facts) = Unit {0}
+IsOff (on powered) = ⊥
+
+-- power is on
+abbrev pub IsOn : BenchState → Type 0
+IsOn (off facts) = ⊥
+IsOn (on powered) = Unit {0}
+
+-- power is on, with a fresh session and a fresh link
+abbrev pub IsFresh : BenchState → Type 0
+IsFresh (off facts) = ⊥
+IsFresh (on powered) = (powered.card.session ≡ fresh_session) × (powered.link ≡ fresh)
+
+-- no fault since power came on
+abbrev pub IsWell : BenchState → Type 0
+IsWell (off facts) = Unit {0}
+IsWell (on powered) = powered.card.state ≡ Working

@@ -1,0 +1,84 @@
+-- A card behind its end of the link: what it makes of each block.
+use Rattle.std.specs.Prelude.{◌≡◌, ℕ, List, []}
+use Rattle.nvm_board.specs.Facts.{Steady, GoesDark, Fails}
+use Rattle.t1_link.specs.CardTable.{Link, link_step, Taken, Reaction, replies, runs, answers, bytes_of}
+use Rattle.card_core.specs.declared.card_state.CardState.TheVariants.{Working, Failed, Dark}
+use Rattle.card_core.specs.Cards.{Card}
+use Rattle.card_core.specs.Sessions.{Session, fresh_session}
+use Rattle.card_core.specs.Stages.{ChangesNothing, IsStage}
+use Rattle.card_core.specs.Steps.{Outcome, answer_bytes, carried_out}
+use Rattle.card_core.specs.Running.{Running, card_found, memory_failure}
+
+-- the card, and its end of the link
+pub record Powered : Type 0 where
+  pub card : Running
+  pub link : Link
+
+-- the link after a reaction, the answer being put to a command that is to run, and the block that goes back
+abbrev pub answering : Link → Reaction → (List ℕ → List ℕ) → Taken
+answering link (replies block) answer_to = record { link = link; reaction = replies block }
+answering link (runs command) answer_to = answers link (answer_to command)
+
+-- the session after a reaction
+abbrev pub session_by : Session → Reaction → (List ℕ → Session) → Session
+session_by session (replies block) session_to = session
+session_by session (runs command) session_to = session_to command
+
+-- the reaction of the card's end to a block, with an answer for each command
+abbrev pub block_answered : Link → List ℕ → (List ℕ → List ℕ) → Taken
+block_answered link got answer_to = answering (link_step link got).link (link_step link got).reaction answer_to
+
+-- whether a reaction is to run a command
+abbrev pub IsRun : Reaction → Type 0
+IsRun (replies block) = ⊥
+IsRun (runs command) = Unit {0}
+
+-- what a card in this session makes of a command
+abbrev pub machine : Powered → List ℕ → Outcome
+machine old command = carried_out (card_found old.card) old.card.session command
+
+-- the card after a reaction
+abbrev pub card_by : Card → Reaction → (List ℕ → Card) → Card
+card_by card (replies block) card_to = card
+card_by card (runs command) card_to = card_to command
+
+-- a card that is a stage of the command that a reaction runs, or the same card where none runs
+abbrev pub IsBlockStage : Powered → Reaction → Card → Type 0
+IsBlockStage old (replies block) card = card ≡ card_found old.card
+IsBlockStage old (runs command) card = IsStage (card_found old.card) old.card.session command card
+
+-- a reaction runs no command, or one that changes nothing lasting
+abbrev pub BlockChangesNothing : Powered → Reaction → Type 0
+BlockChangesNothing old (replies block) = Unit {0}
+BlockChangesNothing old (runs command) = ChangesNothing (card_found old.card) old.card.session command
+
+-- The reply is the link's, over one step of the tree machine where a command is to run: card, session and link go on as
+-- these do, and the board had neither cut nor fault.
+pub record Replies (old : Powered) (got : List ℕ) (new : Powered) (out : List ℕ) : Type 0 where
+  pub power : Steady old.card.facts new.card.facts
+  pub state : new.card.state ≡ Working
+  pub card : card_found new.card ≡ card_by (card_found old.card) (link_step old.link got).reaction (λ command. (machine old command).card)
+  pub session : new.card.session ≡ session_by old.card.session (link_step old.link got).reaction (λ command. (machine old command).session)
+  pub link : new.link ≡ (block_answered old.link got (λ command. answer_bytes (machine old command).response)).link
+  pub block : out ≡ bytes_of (block_answered old.link got (λ command. answer_bytes (machine old command).response)).reaction
+
+-- The reply of a card whose memory failed: each command is answered 6581.
+pub record RepliesFailure (old : Powered) (got : List ℕ) (new : Powered) (out : List ℕ) : Type 0 where
+  pub state : new.card.state ≡ Failed
+  pub link : new.link ≡ (block_answered old.link got (λ command. memory_failure)).link
+  pub block : out ≡ bytes_of (block_answered old.link got (λ command. memory_failure)).reaction
+
+-- a command was to run, the board had a fault, and from here on the memory has failed
+pub record FailsAt (old : Powered) (got : List ℕ) (new : Powered) (out : List ℕ) : Type 0 where
+  pub power : Fails old.card.facts new.card.facts
+  pub run : IsRun (link_step old.link got).reaction
+  pub session : new.card.session ≡ fresh_session
+  pub reply : RepliesFailure old got new out
+
+-- a command was to run, and the board lost power: nothing goes back
+pub record IsCutAt (old : Powered) (got : List ℕ) (new : Powered) (out : List ℕ) : Type 0 where
+  pub power : GoesDark old.card.facts new.card.facts
+  pub run : IsRun (link_step old.link got).reaction
+  pub state : new.card.state ≡ Dark
+  pub session : new.card.session ≡ fresh_session
+  pub block : out ≡ []

@@ -1,0 +1,25 @@
+-- What the fields of an exchange stand for: blocks and answers stand in buffers.
+use Rattle.std.specs.Prelude.{Result, Ok, Err}
+use Rattle.card_bench.specs.declared.exchange.Toward.{Toward}
+use Rattle.card_bench.specs.declared.exchange.Toward.TheVariants.{Card, Reader}
+use Rattle.card_bench.specs.declared.exchange.Ending.{Ending}
+use Rattle.card_bench.specs.declared.exchange.Ending.TheVariants.{Answered, SetBack, Lost, Dark}
+use Rattle.card_bench.specs.declared.exchange.Blocks.{Blocks}
+use Rattle.card_bench.specs.Exchanges.{Way, toward_card, toward_reader, Ended, answered, set_back, given_up, cut_off}
+
+-- the block that goes on the line next
+abbrev pub way_of : Toward → Blocks → Way
+way_of Card blocks = toward_card blocks.toward_card.items
+way_of Reader blocks = toward_reader blocks.toward_reader.items
+
+-- how an exchange ends; an answer stands in the buffer toward the reader
+abbrev pub ended_by : Ending → Blocks → Ended
+ended_by Answered blocks = answered blocks.toward_reader.items
+ended_by SetBack blocks = set_back
+ended_by Lost blocks = given_up
+ended_by Dark blocks = cut_off
+
+-- what follows
+abbrev pub follows_of : Result Toward Ending → Blocks → Result Way Ended
+follows_of (Ok toward) blocks = Ok (way_of toward blocks)
+follows_of (Err ending) blocks = Err (ended_by ending blocks)

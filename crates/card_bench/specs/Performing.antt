@@ -1,0 +1,91 @@
+-- What each line of a script does to the desk, and what it prints.
+use Rattle.std.specs.Prelude.{◌≡◌, ◌≤◌, ◌-◌, ℕ, List, Option, None, Some}
+use Rattle.nvm_board.specs.Facts.{Facts}
+use Rattle.t1_link.specs.ReaderTable.{Reader, fresh_reader}
+use Rattle.card_bench.specs.declared.order.Order.{Order}
+use Rattle.card_bench.specs.declared.order.Order.TheVariants.{Nothing, On, Off, Apdu, Block, Cut, Lose, Garble}
+use Rattle.card_bench.specs.declared.playing.Turn.TheVariants as turn
+use Rattle.card_bench.specs.declared.playing.Item.{Item}
+use Rattle.card_bench.specs.declared.playing.Item.TheVariants as item
+use Rattle.card_bench.specs.BenchStates.{BenchState, off, on, bench_facts}
+use Rattle.card_bench.specs.Exchanges.{Commands, Desk}
+use Rattle.card_bench.specs.Printouts.{Print, prints_nothing, prints_atr, prints_mute, prints_dark, prints_bytes}
+use Rattle.card_bench.specs.Turns.{GoodBlock, GoodTurn}
+
+-- what is printed of a turn
+abbrev pub shown : Item → Print
+shown item.Atr = prints_atr
+shown item.Quiet = prints_nothing
+shown item.Mute = prints_mute
+shown item.Dark = prints_dark
+shown (item.Reply block) = prints_bytes block.items
+
+-- the reader's end after a power-on: a fresh one, where the card started
+abbrev pub reader_after : Item → Option Reader
+reader_after item.Atr = Some fresh_reader
+reader_after item.Quiet = None
+reader_after item.Mute = None
+reader_after item.Dark = None
+reader_after (item.Reply block) = None
+
+-- a bench with these facts of its board
+abbrev pub with_facts : BenchState → Facts → BenchState
+with_facts (off was) facts = off facts
+with_facts (on powered) facts = on (record powered { card = record powered.card { facts = facts } })
+
+-- The write with this number from now on, counted from 1, is set to be torn: bit i of the mask tells whether its ith word is
+-- new. Nothing else changes, but that at most one cut is due.
+pub record IsArmed (number mask : ℕ) (old new : BenchState) : Type 0 where
+  pub due : (bench_facts new).due ≤ 1
+  pub same : new ≡ with_facts old (record (bench_facts old) {
+    due = (bench_facts new).due;
+    pending = Some record { whole_writes = number - 1; mask = mask };
+  })
+
+-- A turn at the desk, and what is printed of it. What is pending on the line stays.
+pub record PerformsOn (old new : Desk) (prints : Print) : Type 0 where
+  pub came : Item
+  pub turn : GoodTurn old.bench turn.On came new.bench
+  pub reader : new.reader ≡ reader_after came
+  pub line : new.line ≡ old.line
+  pub printed : prints ≡ shown came
+
+-- Power off prints nothing. No command is sent any more.
+pub record PerformsOff (old new : Desk) (prints : Print) : Type 0 where
+  pub turn : GoodTurn old.bench turn.Off item.Quiet new.bench
+  pub reader : new.reader ≡ None
+  pub line : new.line ≡ old.line
+  pub printed : prints ≡ prints_nothing
+
+-- A block straight to the card's end: the reader's end doesn't know of it, so that no command is sent any more.
+pub record PerformsBlock (old : Desk) (block : List ℕ) (new : Desk) (prints : Print) : Type 0 where
+  pub came : Item
+  pub turn : GoodBlock old.bench block came new.bench
+  pub reader : new.reader ≡ None
+  pub line : new.line ≡ old.line
+  pub printed : prints ≡ shown came
+
+-- A cut is set to come. It prints nothing.
+pub record PerformsCut (number mask : ℕ) (old new : Desk) (prints : Print) : Type 0 where
+  pub armed : IsArmed number mask old.bench new.bench
+  pub reader : new.reader ≡ old.reader
+  pub line : new.line ≡ old.line
+  pub printed : prints ≡ prints_nothing
+
+-- A command: with power off the card doesn't answer; with power on it goes through both ends of the link.
+abbrev pub PerformsCommand : BenchState → Desk → List ℕ → Desk → Print → Type 0
+PerformsCommand (off facts) old command new prints = (new ≡ old) × (prints ≡ prints_mute)
+PerformsCommand (on powered) old command new prints = Commands old old.reader command new prints
+
+-- A line is carried out.
+abbrev pub Performs : Order → Desk → Desk → Print → Type 0
+Performs Nothing old new prints = (new ≡ old) × (prints ≡ prints_nothing)
+Performs On old new prints = PerformsOn old new prints
+Performs Off old new prints = PerformsOff old new prints
+Performs (Apdu command) old new prints = PerformsCommand old.bench old command.items new prints
+Performs (Block block) old new prints = PerformsBlock old block.items new prints
+Performs (Cut number mask) old new prints = PerformsCut number mask old new prints
+Performs (Lose number) old new prints =
+    (new ≡ record old { line = record old.line { lose = Some (number - 1) } }) × (prints ≡ prints_nothing)
+Performs (Garble number) old new prints =
+    (new ≡ record old { line = record old.line { garble = Some (number - 1) } }) × (prints ≡ prints_nothing)

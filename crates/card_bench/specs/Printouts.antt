@@ -1,0 +1,36 @@
+-- What a line of a script prints.
+use Rattle.std.specs.Prelude.{ℕ, List, [], ◌∷◌, ◌++◌, codes}
+use Rattle.hex.specs.Hex.{encode_upper}
+use Rattle.card_bench.specs.declared.desk.Printed.{Printed}
+use Rattle.card_bench.specs.declared.desk.Printed.TheVariants.{Nothing, Atr, Mute, Dark, Lost, Bytes}
+
+-- nothing; the answer to reset; that the card doesn't answer; that power was lost; that the link was; or bytes of the card
+pub data Print : Type 0 where
+  prints_nothing : Print
+  prints_atr : Print
+  prints_mute : Print
+  prints_dark : Print
+  prints_lost : Print
+  prints_bytes : List ℕ → Print
+
+-- a text and its line feed
+abbrev pub ended_line : List ℕ → List ℕ
+ended_line text = text ++ 10 ∷ []
+
+-- The text that is printed. Bytes are spelled in hexadecimal digits of upper case.
+abbrev pub text_of : Print → List ℕ
+text_of prints_nothing = []
+text_of prints_atr = ended_line (codes "atr 3B808131FE458B")
+text_of prints_mute = ended_line (codes "mute")
+text_of prints_dark = ended_line (codes "dark")
+text_of prints_lost = ended_line (codes "lost")
+text_of (prints_bytes bytes) = ended_line (codes "< " ++ encode_upper bytes)
+
+-- what is printed, where the bytes stand in a buffer
+abbrev pub print_of : Printed → List ℕ → Print
+print_of Nothing bytes = prints_nothing
+print_of Atr bytes = prints_atr
+print_of Mute bytes = prints_mute
+print_of Dark bytes = prints_dark
+print_of Lost bytes = prints_lost
+print_of Bytes bytes = prints_bytes bytes

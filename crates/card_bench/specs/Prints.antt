@@ -1,0 +1,38 @@
+-- What a script prints, line by line.
+use Rattle.std.specs.Prelude.{◌≡◌, ℕ, List, [], ◌∷◌, ◌++◌, None, Some}
+use Rattle.std.specs.Str.Lines.{lines}
+use Rattle.card_core.specs.Factory.{factory_card}
+use Rattle.card_bench.specs.declared.order.Order.{Order}
+use Rattle.card_bench.specs.BenchStates.{bench_card, bench_facts, IsOff}
+use Rattle.card_bench.specs.Exchanges.{Desk}
+use Rattle.card_bench.specs.Orders.{order_of}
+use Rattle.card_bench.specs.Performing.{Performs}
+use Rattle.card_bench.specs.Plays.{IsGood}
+use Rattle.card_bench.specs.Printouts.{Print, text_of}
+
+-- Lines, one after another: what each asks for is carried out, and its text follows the text of those before it.
+unfoldable pub PrintsLines : Desk → List (List ℕ) → Desk → List ℕ → Type 0
+PrintsLines old [] new out = (new ≡ old) × (out ≡ [])
+PrintsLines old (line ∷ others) new out =
+    (order : Order) × (between : Desk) × (prints : Print) × (rest : List ℕ)
+    × (order_of line ≡ Some order) × Performs order old between prints × PrintsLines between others new rest × (out ≡ text_of prints ++ rest)
+
+-- The desk at first: the factory's card, power off, no cut to come, and nothing pending on the line.
+pub record IsFirstDesk (d : Desk) : Type 0 where
+  pub power : IsOff d.bench
+  pub good : IsGood d.bench
+  pub card : bench_card d.bench ≡ factory_card
+  pub due : (bench_facts d.bench).due ≡ 0
+  pub reader : d.reader ≡ None
+  pub line : d.line ≡ record { lose = None; garble = None }
+
+-- what lines print
+pub record LinesPrint (some : List (List ℕ)) (out : List ℕ) : Type 0 where
+  pub first : Desk
+  pub last : Desk
+  pub begins : IsFirstDesk first
+  pub all : PrintsLines first some last out
+
+-- what a script prints
+abbrev pub Prints : List ℕ → List ℕ → Type 0
+Prints script out = LinesPrint (lines script) out

@@ -1,0 +1,296 @@
+//! A bench that plays turns: power on, power off, and blocks straight to the card's end of the link.
+ghost use Rattle.std.specs.Prelude.{◌≡◌, ◌≤◌, ◌↔◌, length, true, IsTrue};
+ghost use Rattle.card_bench.specs.BenchStates.{off, bench_facts, BenchHasCard, IsOn, IsWell};
+ghost use Rattle.card_bench.specs.BenchViews.{power_state, IsKept};
+ghost use Rattle.card_bench.specs.Performing.{IsArmed};
+ghost use Rattle.card_bench.specs.Plays.{Plays, PlaysBlock, HasNoFault, IsGood, IsHeard, powered_item, sent_item};
+ghost use Rattle.card_bench.specs.Turns.{Counts, GoodBlock, GoodTurn, Runs, darks};
+
+use crate::powered::Powered;
+use card_core::StartFault;
+use core::mem::replace_with;
+use nvm_board::{Armed, Faultless, Socket, has_no_fault};
+use std::marker::Model;
+use t1_link::BlockBytes;
+
+/// What is done at the bench.
+#[derive(Clone, Copy)]
+pub enum Turn<'a> {
+    /// Power goes off if it is on, and comes on.
+    On,
+    /// Power goes off.
+    Off,
+    /// These bytes, of whatever kind, go to the card's end of the link.
+    Block(&'a [u8]),
+}
+
+/// What comes of a turn.
+#[derive(Drop)]
+pub enum Item {
+    /// The card started, and gave its answer to reset.
+    Atr,
+    /// Power is off, as was asked.
+    Quiet,
+    /// The card doesn't answer: power is off, or it doesn't start.
+    Mute,
+    /// Power was lost, and is off.
+    Dark,
+    /// The block that the card's end sent.
+    Reply(BlockBytes),
+}
+
+/// How a power-on ended.
+#[derive(Clone, Copy)]
+pub(crate) enum PowerOn {
+    /// The card started.
+    Started,
+    /// The card doesn't start, and power is off.
+    Mute,
+    /// Power was lost in the start.
+    Dark,
+}
+
+/// What a block met.
+#[derive(Clone, Copy)]
+pub(crate) enum Sent {
+    /// The card's end, whose reply stands in the buffer.
+    Reply,
+    /// No card: power is off.
+    Mute,
+    /// The card, and power was lost while it ran a command.
+    Dark,
+}
+
+/// The card's board with power off, or the card.
+#[derive(Drop)]
+enum Power<B: Socket> {
+    Off(B),
+    On(Powered<B>),
+}
+
+/// A bench with a card: its board, and with power on its session and its end of the link.
+#[derive(Drop)]
+pub struct Bench<B: Socket> {
+    power: Power<B>,
+}
+
+impl<B: Socket> Model for Bench<B> {
+    ghost use Rattle.std.specs.Coded.{codes};
+    ghost use Rattle.card_core.specs.Sessions.{session_code};
+    ghost use Rattle.card_bench.specs.BenchStates.{BenchState};
+
+    ghost Value = { BenchState };
+
+    ghost coded = { Prim.hlevel (codes, session_code) };
+
+    ghost use Rattle.card_bench.specs.BenchViews.{power_state, IsKept};
+
+    ghost view = { λ b. power_state B.facts b.power };
+
+    ghost invariant = { λ b. IsKept b.power };
+}
+
+impl<B: Socket> Bench<B> {
+    /// The bench with this board, power off.
+    pub fn new(board: B) -> Bench<B>
+        ensures { result ≡ off (record (B.facts board) { dark = true }) }
+    {
+        let mut board = board;
+        board.power_off();
+        Bench {
+            power: Power::Off(board),
+        }
+    }
+
+    /// Plays turns, one after another. Item i of the trace becomes that of turn i, whatever stood there.
+    pub fn play(&mut self, turns: &[Turn<'_>], trace: &mut [Item])
+        requires { length turns.now ≡ length trace.old }
+        // Whatever is cut, and whatever fails: where a card was found, one is found.
+        ensures there { BenchHasCard self.old → BenchHasCard self.new }
+
+        // The board counts as many cuts more as there are Dark in the trace, and so many of those due are gone at most.
+        ensures counts { Counts (darks trace.new) (bench_facts self.old) (bench_facts self.new) }
+
+        // The headline: over a card, and with no fault of the device in the run, nor before it since power came on, the
+        // trace is the tree machine's, from the card that was found to the one that is found.
+        ensures well { HasNoFault self.old self.new → IsWell self.new }
+        ensures runs { BenchHasCard self.old → HasNoFault self.old self.new → Runs self.old turns.now trace.new self.new }
+    {
+        for i in 0..turns.len() {
+            trace[i] = self.turn(turns[i]);
+        }
+    }
+
+    /// Plays a turn.
+    fn turn(&mut self, turn: Turn<'_>) -> Item
+        ensures { Plays self.old turn.entry result self.new }
+    {
+        match turn {
+            Turn::On => match self.turn_on() {
+                PowerOn::Started => Item::Atr,
+                PowerOn::Mute => Item::Mute,
+                PowerOn::Dark => Item::Dark,
+            },
+            Turn::Off => {
+                self.turn_off();
+                Item::Quiet
+            }
+            Turn::Block(block) => {
+                let mut reply = BlockBytes::new();
+                match self.send(block, &mut reply) {
+                    Sent::Reply => Item::Reply(reply),
+                    Sent::Mute => Item::Mute,
+                    Sent::Dark => Item::Dark,
+                }
+            }
+        }
+    }
+
+    /// Power off if it is on, and then a start.
+    pub(crate) fn turn_on(&mut self) -> PowerOn
+        ensures { Plays self.old Turn.On (powered_item result) self.new }
+    {
+        replace_with(&mut self.power, (), Power::start)
+    }
+
+    /// Power off.
+    pub(crate) fn turn_off(&mut self)
+        ensures { Plays self.old Turn.Off Item.Quiet self.new }
+    {
+        replace_with(&mut self.power, (), Power::darken);
+    }
+
+    /// A block straight to the card's end. Its reply is put into the buffer, whatever that held.
+    pub(crate) fn send(&mut self, block: &[u8], out: &mut BlockBytes) -> Sent
+        ensures { PlaysBlock self.old block.now (sent_item result out.new) self.new }
+    {
+        match &mut self.power {
+            Power::Off(_) => Sent::Mute,
+            Power::On(powered) => match powered.block(block, out) {
+                Ok(()) => Sent::Reply,
+                Err(_) => {
+                    replace_with(&mut self.power, (), Power::darken);
+                    Sent::Dark
+                }
+            },
+        }
+    }
+
+    /// Whether power is on.
+    pub(crate) fn is_on(&self) -> bool
+        ensures { IsTrue result ↔ IsOn self.now }
+    {
+        matches!(&self.power, Power::On(_))
+    }
+
+    /// The board, power off.
+    pub fn into_board(self) -> B
+        ensures { B.facts result ≡ record (bench_facts self) { dark = true } }
+    {
+        let Bench { power } = self;
+        power.into_dark_board()
+    }
+}
+
+impl<B: Armed> Bench<B> {
+    /// Sets a cut to come at a later write (`Armed::arm`), with power on or off.
+    pub fn arm(&mut self, k: u32, mask: u16)
+        requires { 1 ≤ k }
+        ensures { IsArmed k mask self.old self.new }
+    {
+        match &mut self.power {
+            Power::Off(board) => board.arm(k, mask),
+            Power::On(powered) => powered.arm(k, mask),
+        }
+    }
+}
+
+impl<B: Socket + Faultless> Bench<B> {
+    /// Power off if it is on, and then a start, on a board without faults.
+    pub(crate) fn good_on(&mut self) -> PowerOn
+        requires { IsGood self.old }
+        ensures good { IsGood self.new }
+        ensures turn { GoodTurn self.old Turn.On (powered_item result) self.new }
+    {
+        let power_on = self.turn_on();
+        self.has_no_fault();
+        power_on
+    }
+
+    /// Power off, on a board without faults.
+    pub(crate) fn good_off(&mut self)
+        requires { IsGood self.old }
+        ensures good { IsGood self.new }
+        ensures turn { GoodTurn self.old Turn.Off Item.Quiet self.new }
+    {
+        self.turn_off();
+        self.has_no_fault();
+    }
+
+    /// A block straight to the card's end (`send`), on a board without faults.
+    pub(crate) fn good_send(&mut self, block: &[u8], out: &mut BlockBytes) -> Sent
+        requires { IsGood self.old }
+        ensures good { IsGood self.new }
+        ensures turn { GoodBlock self.old block.now (sent_item result out.new) self.new }
+        ensures heard { IsOn self.old → IsHeard (sent_item result out.new) self.new }
+    {
+        let sent = self.send(block, out);
+        self.has_no_fault();
+        sent
+    }
+
+    /// Tells that the board counts no fault.
+    fn has_no_fault(&self)
+        ensures { (bench_facts self.now).faults ≡ 0 }
+    {
+        match &self.power {
+            Power::Off(board) => has_no_fault(board),
+            Power::On(powered) => powered.has_no_fault(),
+        }
+    }
+}
+
+impl<B: Socket> Power<B> {
+    /// The board, with power off.
+    fn into_dark_board(self) -> B
+        ensures { B.facts result ≡ record (bench_facts (power_state B.facts self)) { dark = true } }
+    {
+        let mut board = match self {
+            Power::Off(board) => board,
+            Power::On(powered) => powered.into_board(),
+        };
+        board.power_off();
+        board
+    }
+
+    /// Power off.
+    fn darken(self, _: ()) -> (Power<B>, ())
+        ensures off { power_state B.facts result.0 ≡ off (record (bench_facts (power_state B.facts self)) { dark = true }) }
+        ensures kept { IsKept result.0 }
+    {
+        (Power::Off(self.into_dark_board()), ())
+    }
+
+    /// Power off if it is on, and then a start.
+    fn start(self, _: ()) -> (Power<B>, PowerOn)
+        ensures plays { Plays (power_state B.facts self) Turn.On (powered_item result.1) (power_state B.facts result.0) }
+        ensures kept { IsKept result.0 }
+    {
+        let mut board = self.into_dark_board();
+        if board.light().is_err() {
+            return (Power::Off(board), PowerOn::Mute);
+        }
+        match Powered::start(board) {
+            Ok(powered) => (Power::On(powered), PowerOn::Started),
+            Err((mut board, fault)) => {
+                board.power_off();
+                let power_on = match fault {
+                    StartFault::PowerLost => PowerOn::Dark,
+                    StartFault::Fault | StartFault::BadJournal | StartFault::Damaged =>
+                        PowerOn::Mute,
+                };
+                (Power::Off(board), power_on)
+            }
+        }
+    }
+}
