@@ -1,0 +1,222 @@
+//! The store: words before or after a cut at each write, of a change and of the openings after it; bad journals; errors.
+ghost use Rattle.std.specs.Prelude.{◌≤◌, IfOk, OnOk};
+ghost use Rattle.std.specs.Option.{ForSome};
+ghost use Rattle.undo_journal.specs.Memory.{room, IsOpen, IsReady};
+ghost use Rattle.undo_journal.specs.Lent.{memory_of};
+
+use nvm_board::{Armed, Board, CutBoard, DeviceErr, RamBoard, Socket};
+use std::alloc::Global;
+use std::test::Fail;
+use undo_journal::{OpenFault, Store, StoreErr, Txn};
+
+// Words 5, 2048 and 2049, one before the journal and two after it: before the change, and after it.
+const BEFORE: [u32; 3] = [50, 60, 61];
+
+const AFTER: [u32; 3] = [3, 2, 4];
+
+// A lit board with the words as they are before. The first pair of the journal, which doesn't count, is an old one: it
+// names no word of the data.
+fn board_before(alloc: Global) -> Result<CutBoard, Fail> {
+    let mut board = CutBoard::new(alloc)?;
+    board.write(0, 5, &[50])?;
+    board.write(74, 0, &[0xFFFF_FFFF, 50])?;
+    board.write(128, 0, &[60, 61])?;
+    Ok(board)
+}
+
+// A store of a board that can be opened.
+fn opened<B: Board + Drop>(board: B) -> Result<Store<B>, Fail>
+    ensures { IfOk result IsReady }
+{
+    match Store::open(board) {
+        Ok(store) => Ok(store),
+        Err(_) => Err(Fail::from("not opened")),
+    }
+}
+
+// The three words.
+fn found<B: Board>(store: &mut Store<B>) -> Result<[u32; 3], StoreErr>
+    requires { IsReady store.old }
+    ensures { OnOk result (IsReady store.new) }
+{
+    Ok([store.read(5)?, store.read(2048)?, store.read(2049)?])
+}
+
+// Four sets, of which two are of one word: 12 device writes. A read before them makes none.
+fn set_words<B: Board>(txn: &mut Txn<'_, B>) -> Result<(), StoreErr>
+    requires ready { IsOpen (memory_of txn.old) }
+    requires room { 4 ≤ room (memory_of txn.old) }
+{
+    txn.read(5)?;
+    txn.set(5, 1)?;
+    txn.set(5, 3)?;
+    txn.set_run(2048, &[2, 4])
+}
+
+// What becomes of the sets: one device write for a commit, five to take them back.
+#[derive(Clone, Copy, Debug, PartialEq, Eq)]
+enum End {
+    Commits,
+    Abandons,
+}
+
+fn change<B: Board>(store: &mut Store<B>, end: End) -> Result<(), StoreErr>
+    requires { IsReady store.old }
+{
+    let mut txn = store.begin();
+    if txn.room() < 4 {
+        return txn.abandon();
+    }
+    match (set_words(&mut txn), end) {
+        (Ok(()), End::Commits) => txn.commit(),
+        _ => txn.abandon(),
+    }
+}
+
+// A cut at a device write, counted from 1, with those words new whose bit of the mask is set.
+#[derive(Clone, Copy, Debug)]
+struct Cut {
+    write: u32,
+    mask: u16,
+}
+
+// The words after a change that is cut, and whose next opening may be cut too.
+fn words_after(alloc: Global, end: End, cut: Cut, reopen: Option<Cut>) -> Result<[u32; 3], Fail>
+    requires cut { 1 ≤ cut.write }
+    requires reopen { ForSome reopen (λ c. 1 ≤ c.write) }
+{
+    let mut store = opened(board_before(alloc)?)?;
+    store.arm(cut.write, cut.mask);
+    let _ = change(&mut store, end);
+    let mut board = store.into_board();
+    board.light()?;
+    if let Some(next) = reopen {
+        board.arm(next.write, next.mask);
+        board = match Store::open(board) {
+            Ok(store) => store.into_board(),
+            Err((board, _)) => board,
+        };
+        board.light()?;
+    }
+    let mut store = opened(board)?;
+    Ok(found(&mut store)?)
+}
+
+// A commit is the 13th write: the words are those after it exactly where the gate was written.
+fn is_after(end: End, cut: Cut) -> bool {
+    match end {
+        End::Commits => cut.write > 13 || cut.write == 13 && cut.mask & 1 == 1,
+        End::Abandons => false,
+    }
+}
+
+#[test]
+fn finds_before_or_after_each_cut(rt: HostRuntime) -> Result<(), Fail> {
+    for (end, writes) in [(End::Commits, 13), (End::Abandons, 17)] {
+        for write in 1..=writes + 1 {
+            for mask in [0x0000, 0xFFFF, 0x0001, 0x0002] {
+                let cut = Cut { write, mask };
+                let want = if is_after(end, cut) { AFTER } else { BEFORE };
+                let words = words_after(rt.alloc(), end, cut, None)?;
+                assert_eq!(rt; words, want, "{end:?} at {cut:?}");
+                for next in 1..=6 {
+                    let next = Cut {
+                        write: next,
+                        mask: mask & 1,
+                    };
+                    let words = words_after(rt.alloc(), end, cut, Some(next))?;
+                    assert_eq!(rt; words, want, "{end:?} at {cut:?} and {next:?}");
+                }
+            }
+        }
+    }
+    Ok(())
+}
+
+// A board in working memory, with words at these addresses.
+fn board_with(alloc: Global, words: &[(u16, u32)]) -> Result<RamBoard, Fail> {
+    let mut board = RamBoard::new(alloc)?;
+    for &(at, word) in words {
+        if at < 16384 {
+            board.write(at / 16, (at % 16) as u8, &[word])?;
+        }
+    }
+    Ok(board)
+}
+
+// Too many pairs; an address of the gate, at the end of the journal, and past the last page; and the same not counted.
+#[test]
+fn opens_what_undo_is_defined_for(rt: HostRuntime) -> Result<(), Fail> {
+    for (words, want) in [
+        ([(1168, 433), (1184, 5)], Some(OpenFault::BadJournal)),
+        ([(1168, 1), (1184, 1168)], Some(OpenFault::BadJournal)),
+        ([(1168, 1), (1184, 2047)], Some(OpenFault::BadJournal)),
+        ([(1168, 1), (1184, 16384)], Some(OpenFault::BadJournal)),
+        ([(1168, 0), (1184, 16384)], None),
+        ([(1168, 1), (1184, 16383)], None),
+    ] {
+        let fault = match Store::open(board_with(rt.alloc(), &words)?) {
+            Ok(_) => None,
+            Err((_, fault)) => Some(fault),
+        };
+        assert_eq!(rt; fault, want, "at {words:?}");
+    }
+    // The first pair that names a word counts.
+    let pairs = [
+        (1168, 2),
+        (1184, 2049),
+        (1185, 0x9810_3254),
+        (1186, 2049),
+        (1187, 0),
+        (2049, 7),
+    ];
+    let mut store = opened(board_with(rt.alloc(), &pairs)?)?;
+    assert_eq!(rt; store.read(2049)?, 0x9810_3254);
+    Ok(())
+}
+
+// What a transaction answers whose first set is cut, and what the store answers after it.
+fn tries_in_the_dark<B: Board>(store: &mut Store<B>) -> [Result<(), StoreErr>; 4]
+    requires { IsReady store.old }
+{
+    let mut txn = store.begin();
+    let set = txn.set(2048, 3);
+    let abandoned = txn.abandon();
+    let compared = store.compare(0, &[1; 8], &[1; 8]).map(|_| ());
+    [set, abandoned, store.begin().commit(), compared]
+}
+
+#[test]
+fn answers_the_same_error_until_it_is_opened_again(rt: HostRuntime) -> Result<(), Fail> {
+    let mut store = opened(board_before(rt.alloc())?)?;
+    store.arm(1, 0x0000);
+    let answers = tries_in_the_dark(&mut store);
+    assert_eq!(rt; answers, [Err(StoreErr::PowerLost); 4]);
+    let mut board = store.into_board();
+    assert_eq!(rt; board.read(0), Err(DeviceErr::PowerLost));
+    board.light()?;
+    let mut store = opened(board)?;
+    assert_eq!(rt; found(&mut store)?, BEFORE);
+    Ok(())
+}
+
+// Words that are written alone and in a run, of which one that is cut leaves some.
+fn write_without_undo<B: Board>(store: &mut Store<B>) -> Result<(), StoreErr>
+    requires { IsReady store.old }
+{
+    store.put_alone(5, 7)?;
+    store.write_plain(128, 0, &[8, 9])?;
+    store.write_plain(128, 0, &[1, 2])
+}
+
+#[test]
+fn writes_without_undo(rt: HostRuntime) -> Result<(), Fail> {
+    let mut store = opened(board_before(rt.alloc())?)?;
+    store.arm(3, 0x0001);
+    assert_eq!(rt; write_without_undo(&mut store), Err(StoreErr::PowerLost));
+    let mut board = store.into_board();
+    board.light()?;
+    let mut store = opened(board)?;
+    assert_eq!(rt; found(&mut store)?, [7, 1, 9]);
+    Ok(())
+}
