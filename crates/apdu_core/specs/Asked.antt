@@ -9,10 +9,11 @@ use Rattle.apdu_core.specs.Requests.{Request}
 use Rattle.apdu_core.specs.Rows.{Row}
 use Rattle.apdu_core.specs.SelectRows.{select_row}
 use Rattle.apdu_core.specs.BinaryRows.{read_binary_row, update_binary_row}
+use Rattle.apdu_core.specs.FileRows.{create_file_row, delete_file_row}
 
 -- the commands that are built
 abbrev pub command_table : List Row
-command_table = select_row ∷ read_binary_row ∷ update_binary_row ∷ []
+command_table = select_row ∷ read_binary_row ∷ update_binary_row ∷ create_file_row ∷ delete_file_row ∷ []
 
 -- the row of an instruction under its class
 abbrev pub row_of : ℕ → ℕ → Option Row

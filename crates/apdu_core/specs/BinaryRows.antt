@@ -2,8 +2,9 @@
 use Rattle.std.specs.Prelude.{ℕ, ◌-◌, ◌==◌, nat_le, Bool, not, ◌&&◌, ◌||◌, if◌then◌else◌, unwrap_or}
 use Rattle.apdu_core.specs.declared.binary.Target.{Target}
 use Rattle.apdu_core.specs.declared.binary.Target.TheVariants.{Current, Short}
+use Rattle.apdu_core.specs.Numbers.{two_bytes}
 use Rattle.apdu_core.specs.Requests.{read_binary, update_binary}
-use Rattle.apdu_core.specs.Rows.{Row, two_bytes}
+use Rattle.apdu_core.specs.Rows.{Row}
 
 -- P1 of a binary command with bit 8 set holds a short identifier in its bits 5 to 1, and then P2 is the offset; else P1 P2
 -- is the offset

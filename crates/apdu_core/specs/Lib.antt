@@ -1,11 +1,17 @@
 pub mod Bodies
 pub mod BodyView
+pub mod Numbers
+pub mod Selections
+pub mod Ways
 pub mod Requests
 pub mod Ranges
 pub mod Rows
 pub mod SelectRows
 pub mod BinaryRows
+pub mod FileRows
 pub mod Asked
 pub mod InstructionRow
 pub mod OfBytes
+pub mod Sizes
+pub mod Listing
 pub mod laws

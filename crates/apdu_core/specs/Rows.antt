@@ -1,5 +1,5 @@
 -- A row of the table of commands (ISO/IEC 7816-4, clause 5.4): what is allowed under a class and an instruction, and what it means.
-use Rattle.std.specs.Prelude.{ℕ, ◌+◌, ◌*◌, Bool}
+use Rattle.std.specs.Prelude.{ℕ, Bool}
 use Rattle.apdu_core.specs.Bodies.{Body}
 use Rattle.apdu_core.specs.Requests.{Request}
 
@@ -12,7 +12,3 @@ pub record Row : Type 0 where
   pub lengths : ℕ → ℕ → ℕ → Bool → Bool
   -- what is asked for by P1, P2 and the body
   pub meaning : ℕ → ℕ → Body → Request
-
--- two bytes as a number, the first one the more significant
-abbrev pub two_bytes : ℕ → ℕ → ℕ
-two_bytes high low = 256 * high + low

@@ -1,1 +1,3 @@
+pub mod Identifiers
 pub mod ByteLaws
+pub mod SizeLaws

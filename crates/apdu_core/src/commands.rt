@@ -5,15 +5,17 @@ ghost use Rattle.apdu_core.specs.Ranges.{IsInRange};
 ghost use Rattle.apdu_core.specs.Requests.{Gives};
 
 use crate::binary::{Target, parse_read_binary, parse_update_binary};
-use crate::select::{Selector, parse_select};
+use crate::files::{Subject, parse_create_file, parse_delete_file};
+use crate::select::{Returned, Selector, parse_select};
 use card_rules::Sw;
 
 /// A command as a value. `expected` is its Le byte: how many bytes of data are wanted, 0 for all that there are.
 #[derive(Clone, Copy, Debug, PartialEq, Eq)]
 pub enum Command<'a> {
-    /// SELECT (ISO/IEC 7816-4, 11.2.2), with no data in return.
+    /// SELECT (ISO/IEC 7816-4, 11.2.2), with a template in return or with no data.
     Select {
-        selector: Selector,
+        selector: Selector<'a>,
+        returned: Returned,
         expected: Option<u8>,
     },
     /// READ BINARY (ISO/IEC 7816-4, 11.3.3), from an offset in bytes, 0 to 32,767.
@@ -28,6 +30,14 @@ pub enum Command<'a> {
         offset: u16,
         bytes: &'a [u8],
     },
+    /// CREATE FILE (ISO/IEC 7816-9): the new file's template of control parameters, 1 to 255 bytes.
+    CreateFile {
+        template: &'a [u8],
+    },
+    /// DELETE FILE (ISO/IEC 7816-9).
+    DeleteFile {
+        subject: Subject,
+    },
 }
 
 /// An instruction that is built.
@@ -36,6 +46,8 @@ enum Instruction {
     Select,
     ReadBinary,
     UpdateBinary,
+    CreateFile,
+    DeleteFile,
 }
 
 impl<'a> Command<'a> {
@@ -55,6 +67,8 @@ impl<'a> Command<'a> {
             Instruction::Select => parse_select(*p1, *p2, rest),
             Instruction::ReadBinary => parse_read_binary(*p1, *p2, rest),
             Instruction::UpdateBinary => parse_update_binary(*p1, *p2, rest),
+            Instruction::CreateFile => parse_create_file(*p1, *p2, rest),
+            Instruction::DeleteFile => parse_delete_file(*p1, *p2, rest),
         }
     }
 }
@@ -74,6 +88,10 @@ impl Instruction {
             Some(Instruction::ReadBinary)
         } else if instruction == 0xD6 {
             Some(Instruction::UpdateBinary)
+        } else if instruction == 0xE0 {
+            Some(Instruction::CreateFile)
+        } else if instruction == 0xE4 {
+            Some(Instruction::DeleteFile)
         } else {
             None
         }

@@ -1,10 +1,101 @@
 //! Laws of the definitions, as contracts of functions that do nothing.
-ghost use Rattle.std.specs.Prelude.{ℕ, List, MatchResult};
-ghost use Rattle.apdu_core.specs.Asked.{asked};
+ghost use Rattle.std.specs.Prelude.{◌≡◌, ◌+◌, ◌*◌, ◌++◌, ◌∷◌, ◌&&◌, [], ℕ, List, Bool, true, false, Ok, Some, None, map};
+ghost use Rattle.std.specs.Prelude.{MatchResult, IfOk};
+ghost use Rattle.apdu_core.specs.declared.binary.Target.TheVariants.{Current as current_file, Short as short_file};
+ghost use Rattle.apdu_core.specs.declared.files.Subject.TheVariants.{Identifier as by_identifier};
+ghost use Rattle.apdu_core.specs.declared.select.Returned.TheVariants.{Template, Nothing};
+ghost use Rattle.apdu_core.specs.Asked.{asked, command_table, is_class};
+ghost use Rattle.apdu_core.specs.BinaryRows.{read_binary_row, update_binary_row};
+ghost use Rattle.apdu_core.specs.FileRows.{create_file_row, delete_file_row};
+ghost use Rattle.apdu_core.specs.SelectRows.{select_row, is_way, is_returned};
+ghost use Rattle.apdu_core.specs.Listing.{header, bytes_with, first_parameters, second_parameters, lengths_allowed};
+ghost use Rattle.std.specs.List.{range_with_len};
 ghost use Rattle.apdu_core.specs.OfBytes.{AreBytes, IsOfBytes, IsStatusWord};
+ghost use Rattle.apdu_core.specs.Requests.{select, read_binary, update_binary, create_file, delete_file};
+ghost use Rattle.apdu_core.specs.Selections.{identifier, parent, name, path_from_master, path_from_current};
+ghost use Rattle.apdu_core.specs.Sizes.{IsSized};
 
-/// A command of bytes asks for a request of bytes, Le and what is sent being bytes, each 0 to 255; or it is refused by a
-/// status word of two bytes.
+/// A command of bytes asks for a request of bytes, Le and what is sent being bytes, each 0 to 255, and identifiers two
+/// bytes; or it is refused by a status word of two bytes.
 pub fn requests_are_of_bytes()
     ensures { (command : List ℕ) → AreBytes command → MatchResult (asked command) IsOfBytes IsStatusWord }
+{}
+
+/// What a command names or sends is of the size that the table of commands allows: a name 1 to 16 bytes, a path 1 to 7
+/// identifiers, a template and what is written 1 to 255 bytes.
+pub fn requests_are_sized()
+    ensures { (command : List ℕ) → IfOk (asked command) IsSized }
+{}
+
+/// The classes that are known, and the class and the instruction of each command (ISO/IEC 7816-4, 5.4.2;
+/// ISO/IEC 7816-9).
+pub fn headers()
+    ensures classes { bytes_with is_class ≡ 0x00 ∷ 0x80 ∷ [] }
+    ensures commands { map header command_table
+        ≡ (0x00, 0xA4) ∷ (0x00, 0xB0) ∷ (0x00, 0xD6) ∷ (0x00, 0xE0) ∷ (0x00, 0xE4) ∷ [] }
+{}
+
+/// The numbers of SELECT (ISO/IEC 7816-4, 11.2.2): each P1 and P2, and how many bytes may be sent under each P1; Le may
+/// stand.
+pub fn select_numbers()
+    ensures parameters { (p1 p2 : ℕ) → select_row.parameters p1 p2 ≡ (is_way p1 && is_returned p2) }
+    ensures ways { bytes_with is_way ≡ 0x00 ∷ 0x03 ∷ 0x04 ∷ 0x08 ∷ 0x09 ∷ [] }
+    ensures returned { bytes_with is_returned ≡ 0x04 ∷ 0x0C ∷ [] }
+    ensures identifiers { (p2 : ℕ) (le : Bool) → lengths_allowed select_row 0x00 p2 le ≡ 0 ∷ 2 ∷ [] }
+    ensures parents { (p2 : ℕ) (le : Bool) → lengths_allowed select_row 0x03 p2 le ≡ 0 ∷ [] }
+    ensures names { (p2 : ℕ) (le : Bool) → lengths_allowed select_row 0x04 p2 le ≡ range_with_len 1 16 }
+    ensures paths { (p2 : ℕ) (le : Bool)
+        → (lengths_allowed select_row 0x08 p2 le ≡ 2 ∷ 4 ∷ 6 ∷ 8 ∷ 10 ∷ 12 ∷ 14 ∷ [])
+        × (lengths_allowed select_row 0x09 p2 le ≡ 2 ∷ 4 ∷ 6 ∷ 8 ∷ 10 ∷ 12 ∷ 14 ∷ []) }
+{}
+
+/// The numbers of READ BINARY and UPDATE BINARY (ISO/IEC 7816-4, 11.3): P1 is 00 to 7F or 81 to 9E, P2 any; the one
+/// sends nothing and has Le, the other sends 1 to 255 bytes and has none.
+pub fn binary_numbers()
+    ensures parameters { (p2 : ℕ)
+        → (first_parameters read_binary_row p2 ≡ range_with_len 0x00 128 ++ range_with_len 0x81 30)
+        × (first_parameters update_binary_row p2 ≡ range_with_len 0x00 128 ++ range_with_len 0x81 30) }
+    ensures read { (p1 p2 : ℕ) → (lengths_allowed read_binary_row p1 p2 true ≡ 0 ∷ [])
+        × (lengths_allowed read_binary_row p1 p2 false ≡ []) }
+    ensures update { (p1 p2 : ℕ) → (lengths_allowed update_binary_row p1 p2 true ≡ [])
+        × (lengths_allowed update_binary_row p1 p2 false ≡ range_with_len 1 255) }
+{}
+
+/// The numbers of CREATE FILE and DELETE FILE (ISO/IEC 7816-9): P1 and P2 are 00 and Le doesn't stand; the one sends 1 to
+/// 255 bytes, the other none or 2.
+pub fn file_numbers()
+    ensures create { (first_parameters create_file_row 0x00 ≡ 0x00 ∷ [])
+        × (second_parameters create_file_row 0x00 ≡ 0x00 ∷ [])
+        × (lengths_allowed create_file_row 0x00 0x00 true ≡ [])
+        × (lengths_allowed create_file_row 0x00 0x00 false ≡ range_with_len 1 255) }
+    ensures delete { (first_parameters delete_file_row 0x00 ≡ 0x00 ∷ [])
+        × (second_parameters delete_file_row 0x00 ≡ 0x00 ∷ [])
+        × (lengths_allowed delete_file_row 0x00 0x00 true ≡ [])
+        × (lengths_allowed delete_file_row 0x00 0x00 false ≡ 0 ∷ 2 ∷ []) }
+{}
+
+/// What SELECT asks for, from its bytes: by an identifier, a path, a name, and the parent.
+pub fn select_in_bytes()
+    ensures identifier { (high low : ℕ) → asked (0x00 ∷ 0xA4 ∷ 0x00 ∷ 0x0C ∷ 0x02 ∷ high ∷ low ∷ [])
+        ≡ Ok (select (identifier (256 * high + low)) Nothing None) }
+    ensures from_master { (a b c d le : ℕ)
+        → asked (0x00 ∷ 0xA4 ∷ 0x08 ∷ 0x04 ∷ 0x04 ∷ a ∷ b ∷ c ∷ d ∷ le ∷ [])
+        ≡ Ok (select (path_from_master ((256 * a + b) ∷ (256 * c + d) ∷ [])) Template (Some le)) }
+    ensures from_current { (a b c d le : ℕ)
+        → asked (0x00 ∷ 0xA4 ∷ 0x09 ∷ 0x04 ∷ 0x04 ∷ a ∷ b ∷ c ∷ d ∷ le ∷ [])
+        ≡ Ok (select (path_from_current ((256 * a + b) ∷ (256 * c + d) ∷ [])) Template (Some le)) }
+    ensures name { (a b c : ℕ) → asked (0x00 ∷ 0xA4 ∷ 0x04 ∷ 0x0C ∷ 0x03 ∷ a ∷ b ∷ c ∷ [])
+        ≡ Ok (select (name (a ∷ b ∷ c ∷ [])) Nothing None) }
+    ensures parent { asked (0x00 ∷ 0xA4 ∷ 0x03 ∷ 0x04 ∷ 0x00 ∷ []) ≡ Ok (select parent Template (Some 0)) }
+{}
+
+/// What the other commands ask for, from their bytes.
+pub fn commands_in_bytes()
+    ensures read { (offset le : ℕ) → asked (0x00 ∷ 0xB0 ∷ 0x9E ∷ offset ∷ le ∷ [])
+        ≡ Ok (read_binary (short_file 30) offset le) }
+    ensures update { (low a b : ℕ) → asked (0x00 ∷ 0xD6 ∷ 0x7F ∷ low ∷ 0x02 ∷ a ∷ b ∷ [])
+        ≡ Ok (update_binary current_file (0x7F00 + low) (a ∷ b ∷ [])) }
+    ensures create { (a b : ℕ) → asked (0x00 ∷ 0xE0 ∷ 0x00 ∷ 0x00 ∷ 0x02 ∷ a ∷ b ∷ []) ≡ Ok (create_file (a ∷ b ∷ [])) }
+    ensures delete { (high low : ℕ) → asked (0x00 ∷ 0xE4 ∷ 0x00 ∷ 0x00 ∷ 0x02 ∷ high ∷ low ∷ [])
+        ≡ Ok (delete_file (by_identifier (256 * high + low))) }
 {}

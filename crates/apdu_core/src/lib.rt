@@ -3,15 +3,19 @@
 
 mod binary;
 mod commands;
+mod files;
 mod form;
 pub mod laws;
+mod path;
 mod select;
 
 use arrayvec::ArrayVec;
 pub use binary::Target;
 pub use card_rules::Sw;
 pub use commands::Command;
-pub use select::Selector;
+pub use files::Subject;
+pub use path::FilePath;
+pub use select::{Returned, Selector};
 
 /// The data and the status word of an answer: 2 to 258 bytes.
 pub type Answer = ArrayVec<u8, 258>;

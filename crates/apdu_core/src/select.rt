@@ -1,41 +1,129 @@
 //! SELECT (ISO/IEC 7816-4, 11.2.2).
-ghost use Rattle.std.specs.Prelude.{Some, IfOk};
+ghost use Rattle.std.specs.Prelude.{◌≡◌, Some, IfOk, IfSome, is_some, length};
 ghost use Rattle.apdu_core.specs.Asked.{asked_by_row};
-ghost use Rattle.apdu_core.specs.SelectRows.{select_row};
-ghost use Rattle.apdu_core.specs.Ranges.{IsInRange};
+ghost use Rattle.apdu_core.specs.Selections.{selection_of};
+ghost use Rattle.apdu_core.specs.SelectRows.{select_row, is_way, is_returned, returned_by, names_file, named_file};
+ghost use Rattle.apdu_core.specs.Ranges.{IsInRange, IsSelector};
 ghost use Rattle.apdu_core.specs.Requests.{Gives};
+ghost use Rattle.apdu_core.specs.Ways.{byte_of};
 
 use crate::commands::Command;
 use crate::form::CommandBody;
+use crate::path::FilePath;
 use byteorder::{BigEndian, ByteOrder};
 use card_rules::Sw;
 
 /// How SELECT names a file (ISO/IEC 7816-4, 11.2.2).
 #[derive(Clone, Copy, Debug, PartialEq, Eq)]
-pub enum Selector {
+pub enum Selector<'a> {
     /// The master file.
     MasterFile,
     /// The first file with this identifier that is reached from the current dedicated file.
     Identifier(u16),
+    /// The parent of the current dedicated file.
+    Parent,
+    /// The dedicated file with this name, 1 to 16 bytes.
+    Name(&'a [u8]),
+    /// The file at the end of this path from the master file, each identifier that of a child.
+    PathFromMaster(FilePath<'a>),
+    /// The file at the end of this path from the current dedicated file.
+    PathFromCurrent(FilePath<'a>),
 }
 
-/// Reads P1, P2 and what follows the header of SELECT. Other P1 and P2 than 00 0C are 6A86, other lengths than 0 and 2 are
-/// 6700.
+/// What SELECT answers.
+#[derive(Clone, Copy, Debug, PartialEq, Eq)]
+pub enum Returned {
+    /// The template of the file's control parameters.
+    Template,
+    /// No data.
+    Nothing,
+}
+
+/// The ways to name a file, each a P1 of SELECT.
+#[derive(Clone, Copy)]
+enum Way {
+    ByIdentifier,
+    ToParent,
+    ByName,
+    DownFromMaster,
+    DownFromCurrent,
+}
+
+impl Way {
+    /// The way of a P1, if it is one.
+    fn of(p1: u8) -> Option<Way>
+        ensures known { is_some result ≡ is_way p1 }
+        ensures way { IfSome result (λ way. byte_of way ≡ p1) }
+    {
+        match p1 {
+            0x00 => Some(Way::ByIdentifier),
+            0x03 => Some(Way::ToParent),
+            0x04 => Some(Way::ByName),
+            0x08 => Some(Way::DownFromMaster),
+            0x09 => Some(Way::DownFromCurrent),
+            _ => None,
+        }
+    }
+}
+
+impl Returned {
+    /// What P2 of SELECT wants to be answered, if it is one of the two that are known.
+    fn of(p2: u8) -> Option<Returned>
+        ensures known { is_some result ≡ is_returned p2 }
+        ensures returned { IfSome result (λ returned. returned ≡ returned_by p2) }
+    {
+        match p2 {
+            0x04 => Some(Returned::Template),
+            0x0C => Some(Returned::Nothing),
+            _ => None,
+        }
+    }
+}
+
+impl<'a> Selector<'a> {
+    /// The file that the sent bytes name, if their number is right for the way.
+    fn of(way: Way, sent: &'a [u8]) -> Option<Selector<'a>>
+        ensures known { is_some result ≡ names_file (byte_of way) (length sent.now) }
+        ensures named { IfSome result (λ selector. selection_of selector ≡ named_file (byte_of way) sent.now) }
+        ensures ranges { IfSome result IsSelector }
+    {
+        match way {
+            Way::ByIdentifier => Selector::by_identifier(sent),
+            Way::ToParent if sent.is_empty() => Some(Selector::Parent),
+            Way::ByName if 1 <= sent.len() && sent.len() <= 16 => Some(Selector::Name(sent)),
+            Way::DownFromMaster => Some(Selector::PathFromMaster(FilePath::new(sent)?)),
+            Way::DownFromCurrent => Some(Selector::PathFromCurrent(FilePath::new(sent)?)),
+            _ => None,
+        }
+    }
+
+    /// The master file under no bytes, and a file by its identifier under two.
+    fn by_identifier(sent: &'a [u8]) -> Option<Selector<'a>>
+        ensures known { is_some result ≡ names_file 0x00 (length sent.now) }
+        ensures named { IfSome result (λ selector. selection_of selector ≡ named_file 0x00 sent.now) }
+        ensures ranges { IfSome result IsSelector }
+    {
+        match sent {
+            [] => Some(Selector::MasterFile),
+            [_, _] => Some(Selector::Identifier(BigEndian::read_u16(sent))),
+            _ => None,
+        }
+    }
+}
+
+/// Reads P1, P2 and what follows the header of SELECT. Unknown P1 and P2 are 6A86, lengths that don't fit P1 are 6700.
 pub(crate) fn parse_select<'a>(p1: u8, p2: u8, rest: &'a [u8]) -> Result<Command<'a>, Sw>
     ensures asked { Gives result (asked_by_row (Some select_row) p1 p2 rest.now) }
     ensures ranges { IfOk result IsInRange }
 {
-    if p1 != 0x00 || p2 != 0x0C {
+    let (Some(way), Some(returned)) = (Way::of(p1), Returned::of(p2)) else {
         return Err(Sw::WRONG_PARAMETERS);
-    }
-    let body = CommandBody::parse(rest).ok_or(Sw::WRONG_LENGTH)?;
-    let selector = match body.sent {
-        [] => Selector::MasterFile,
-        [_, _] => Selector::Identifier(BigEndian::read_u16(body.sent)),
-        _ => return Err(Sw::WRONG_LENGTH),
     };
+    let body = CommandBody::parse(rest).ok_or(Sw::WRONG_LENGTH)?;
+    let selector = Selector::of(way, body.sent).ok_or(Sw::WRONG_LENGTH)?;
     Ok(Command::Select {
         selector,
+        returned,
         expected: body.expected,
     })
 }

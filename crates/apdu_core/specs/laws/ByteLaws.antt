@@ -12,7 +12,10 @@ use Rattle.apdu_core.specs.Bodies.{Body, body_of}
 use Rattle.apdu_core.specs.Requests.{Request}
 use Rattle.apdu_core.specs.Rows.{Row}
 use Rattle.apdu_core.specs.Asked.{asked, asked_by_body, asked_by_row, command_table, is_class, row_of}
-use Rattle.apdu_core.specs.OfBytes.{AreBytes, IsOfBytes, IsStatusWord}
+use Rattle.apdu_core.specs.Numbers.{two_bytes}
+use Rattle.apdu_core.specs.Selections.{identifiers, parent, name, path_from_master, path_from_current}
+use Rattle.apdu_core.specs.SelectRows.{by_identifier, named_file}
+use Rattle.apdu_core.specs.OfBytes.{AreBytes, AreIdentifiers, IsNamedByBytes, IsOfBytes, IsStatusWord}
 
 -- a body of bytes
 record IsBodyOfBytes (body : Body) : Type 0 where
@@ -88,9 +91,54 @@ find-of_bytes test (row ∷ rows) all =
     either-if (λ (found : Option Row). IfSome found IsRowOfBytes) (test row) (Some row) _ all.0 (find-of_bytes test
     rows all.1)
 
+-- two bytes are below 65,536
+two_bytes-below : (high low : ℕ) → high < 256 → low < 256 → two_bytes high low < 65536
+two_bytes-below high low h l = omega (arith, h, l)
+
+-- identifiers of bytes
+identifiers-of_bytes : (bytes : List ℕ) → AreBytes bytes → AreIdentifiers (identifiers bytes)
+identifiers-of_bytes [] all k d lt = absurd (omega (arith, lt))
+identifiers-of_bytes (byte ∷ []) all k d lt = absurd (omega (arith, lt))
+identifiers-of_bytes (high ∷ low ∷ bytes) all zero d lt =
+    two_bytes-below high low (byte-at (high ∷ low ∷ bytes) 0 all) (byte-at (high ∷ low ∷ bytes) 1 all)
+identifiers-of_bytes (high ∷ low ∷ bytes) all (suc k) d lt =
+    identifiers-of_bytes bytes (bytes-rest low bytes (bytes-rest high (low ∷ bytes) all)) k d
+    (let below : k < length (identifiers bytes) = omega (arith, lt) in below)
+
+-- a file that is named by an identifier
+by_identifier-of_bytes : (sent : List ℕ) → AreBytes sent → IsNamedByBytes (by_identifier sent)
+by_identifier-of_bytes [] all = tt
+by_identifier-of_bytes (high ∷ bytes) all =
+    two_bytes-below high (slice_index bytes 0) (byte-at (high ∷ bytes) 0 all) (byte-at bytes 0 (bytes-rest high bytes all))
+
+-- a file that is named in any way
+named_file-of_bytes : (p1 : ℕ) (sent : List ℕ) → AreBytes sent → IsNamedByBytes (named_file p1 sent)
+named_file-of_bytes p1 sent all =
+    let path = identifiers-of_bytes sent all in
+    either-if IsNamedByBytes (p1 == 0x00) (by_identifier sent) _ (by_identifier-of_bytes sent all)
+    (either-if IsNamedByBytes (p1 == 0x03) parent _ tt
+    (either-if IsNamedByBytes (p1 == 0x04) (name sent) _ all
+    (either-if IsNamedByBytes (p1 == 0x08) (path_from_master (identifiers sent)) (path_from_current (identifiers sent))
+    path path)))
+
 -- the rows of the table, one by one
 table-of_bytes : AreRowsOfBytes command_table
-table-of_bytes = (λ p1 p2 body sent. tt, (λ p1 p2 body sent. sent.expected, (λ p1 p2 body sent. sent.sent, tt)))
+table-of_bytes = (
+  λ p1 p2 body sent. (named_file-of_bytes p1 body.sent sent.sent, sent.expected),
+  (
+    λ p1 p2 body sent. sent.expected,
+    (
+      λ p1 p2 body sent. sent.sent,
+      (
+        λ p1 p2 body sent. sent.sent,
+        (
+          λ p1 p2 body sent. tt,
+          tt,
+        ),
+      ),
+    ),
+  ),
+)
 
 pub asked-of_bytes : (command : List ℕ) → AreBytes command → MatchResult (asked command) IsOfBytes IsStatusWord
 asked-of_bytes [] all = lit< tt

@@ -1,0 +1,5 @@
+use Rattle.apdu_core.specs.laws.SizeLaws.{asked-sized}
+use Rattle.apdu_core.proofs.laws.requests_are_sized.Goals as goal
+
+pub returns : goal.returns
+returns c = λ command. asked-sized command

@@ -1,0 +1,11 @@
+-- The P1 of each way of SELECT that the code knows.
+use Rattle.std.specs.Prelude.{ℕ}
+use Rattle.apdu_core.specs.declared.select.Way.{Way}
+use Rattle.apdu_core.specs.declared.select.Way.TheVariants.{ByIdentifier, ToParent, ByName, DownFromMaster, DownFromCurrent}
+
+abbrev pub byte_of : Way → ℕ
+byte_of ByIdentifier = 0x00
+byte_of ToParent = 0x03
+byte_of ByName = 0x04
+byte_of DownFromMaster = 0x08
+byte_of DownFromCurrent = 0x09

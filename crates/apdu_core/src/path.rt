@@ -1,0 +1,46 @@
+//! Paths as SELECT sends them: identifiers one behind the other (ISO/IEC 7816-4, 7.2.2).
+ghost use Rattle.std.specs.Prelude.{◌≡◌, ◌<◌, Some, None, length, slice_index, if◌then◌else◌, option_map, IfSome};
+ghost use Rattle.apdu_core.specs.Ranges.{IsFilePath};
+ghost use Rattle.apdu_core.specs.Selections.{identifiers, identifiers_in, is_path};
+
+use byteorder::{BigEndian, ByteOrder};
+
+/// A path of 1 to 7 identifiers, each two bytes, the more significant first.
+#[derive(Clone, Copy, Debug, PartialEq, Eq)]
+pub struct FilePath<'a> {
+    bytes: &'a [u8],
+}
+
+impl<'a> FilePath<'a> {
+    /// The path that these bytes are, if they are 1 to 7 identifiers.
+    #[tactic(auto, using(crate::specs::laws::Identifiers::identifiers_counted))]
+    pub fn new(bytes: &'a [u8]) -> Option<FilePath<'a>>
+        ensures identifiers { option_map identifiers_in result
+            ≡ (if is_path (length bytes.now) then Some (identifiers bytes.now) else None) }
+        ensures ranges { IfSome result IsFilePath }
+    {
+        if bytes.len() % 2 == 0 && 2 <= bytes.len() && bytes.len() <= 14 {
+            Some(FilePath { bytes })
+        } else {
+            None
+        }
+    }
+
+    /// How many identifiers it has.
+    #[tactic(auto, using(crate::specs::laws::Identifiers::identifiers_counted))]
+    pub fn count(self) -> usize
+        ensures { result ≡ length (identifiers_in self.entry) }
+    {
+        self.bytes.len() / 2
+    }
+
+    /// The identifier at an index, from 0 on.
+    #[tactic(auto, using(crate::specs::laws::Identifiers::identifier_at))]
+    pub fn identifier(self, index: usize) -> u16
+        requires { index < length (identifiers_in self) }
+        ensures { result ≡ slice_index (identifiers_in self.entry) index }
+    {
+        let first = 2 * index;
+        BigEndian::read_u16(&[self.bytes[first], self.bytes[first + 1]])
+    }
+}
