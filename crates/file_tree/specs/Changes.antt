@@ -1,5 +1,5 @@
 -- What a change of the words of a memory makes of the tree of files.
-use Rattle.std.specs.Prelude.{◌≡◌, ◌≢◌, ◌⊎◌, ◌<◌, ◌≤◌, ◌+◌, ℕ, List, length, not, nat_eq}
+use Rattle.std.specs.Prelude.{◌≡◌, ◌≢◌, ◌⊎◌, ◌<◌, ◌≤◌, ◌+◌, ℕ, List, [], ◌∷◌, ◌++◌, length, false, not, nat_eq}
 use Rattle.std.specs.List.{starts_with}
 use Rattle.std.specs.FinMap.{insert, retain_keys}
 use Rattle.nvm_board.specs.declared.board.TheConstants.{PAGE_WORDS}
@@ -7,8 +7,9 @@ use Rattle.block_chain.specs.declared.layout.TheConstants.{HEADER_PAGE, FREE_HEA
 use Rattle.block_chain.specs.Words.{word, IsBlock}
 use Rattle.block_chain.specs.Chains.{free_chain}
 use Rattle.file_tree.specs.declared.layout.TheConstants.{FIRST_ENTRY_PAGE, ENTRIES}
+use Rattle.file_tree.specs.declared.space.FreeSpace.{FreeSpace}
 use Rattle.file_tree.specs.Cards.{File, file_at, bytes_of, with_bytes, overwrite}
-use Rattle.file_tree.specs.Table.{table, path_of}
+use Rattle.file_tree.specs.Table.{table, entry_in, path_of, IsUsed}
 use Rattle.file_tree.specs.Trees.{tree_of, TreeStands}
 
 -- the page of a file entry
@@ -35,15 +36,27 @@ pub record Rewrites (m : List ℕ) (e offset : ℕ) (bytes after : List ℕ) : T
   pub table : table after ≡ table m
 
 -- Neither the tree nor what is free is other.
-pub record KeepsTree (m after : List ℕ) : Type 0 where
+pub record SameTree (m after : List ℕ) : Type 0 where
   pub tree : tree_of after ≡ tree_of m
   pub stands : TreeStands after
   pub free : free_chain after ≡ free_chain m
   pub rest : KeepsRest m after
   pub table : table after ≡ table m
 
--- An entry's file is away, with all files below it, and no other file is other.
+-- A file more stands in the dedicated file of an entry, under this identifier, and no other file is other.
+pub record Creates (m : List ℕ) (df identifier : ℕ) (file : File) (after : List ℕ) : Type 0 where
+  pub tree : tree_of after ≡ insert (tree_of m) (path_of (table m) df ++ identifier ∷ []) file
+  pub stands : TreeStands after
+  pub rest : KeepsRest m after
+
+-- An entry's file is away, with all files below it, and no other file is other, nor its entry.
 pub record Deletes (m : List ℕ) (e : ℕ) (after : List ℕ) : Type 0 where
   pub tree : tree_of after ≡ retain_keys (tree_of m) (λ path. not (starts_with nat_eq path (path_of (table m) e)))
   pub stands : TreeStands after
   pub rest : KeepsRest m after
+  pub kept : (f : ℕ) → IsUsed (table m) f → starts_with nat_eq (path_of (table m) f) (path_of (table m) e) ≡ false
+      → (entry_in (table after) f ≡ entry_in (table m) f) × (path_of (table after) f ≡ path_of (table m) f)
+
+-- so much more is free
+abbrev pub with_freed : FreeSpace → FreeSpace → FreeSpace
+with_freed old freed = record { blocks = old.blocks + freed.blocks; entries = old.entries + freed.entries }

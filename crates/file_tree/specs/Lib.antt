@@ -7,4 +7,6 @@ pub mod Entries
 pub mod Table
 pub mod Trees
 pub mod Changes
+pub mod NewFiles
+pub mod Creations
 pub mod laws

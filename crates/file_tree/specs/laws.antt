@@ -14,3 +14,16 @@ pub mod Footprints
 pub mod Shorts
 pub mod Standing
 pub mod Subtrees
+pub mod Parting
+pub mod Deleting
+pub mod Removals
+pub mod Adding
+pub mod NewEntries
+pub mod EntryWords
+pub mod Creating
+pub mod Refusing
+pub mod Allowed
+pub mod Places
+pub mod Created
+pub mod Made
+pub mod Selecting

@@ -56,7 +56,7 @@ pub type ExtentList = ArrayVec<Extent, TABLE_ROOM>;
 pub(crate) const ENTRY_WORDS: usize = 11;
 
 /// The entry that no file has.
-const FREE: Entry = Entry {
+pub(crate) const FREE: Entry = Entry {
     kind: 0,
     life: 0,
     identifier: 0,

@@ -1,11 +1,13 @@
 //! Laws of the tree that a memory stands for.
 
-ghost use Rattle.std.specs.Prelude.{◌≡◌, ◌<◌, ℕ, List, length, Option, Some, None};
+ghost use Rattle.std.specs.Prelude.{◌≡◌, ◌<◌, ◌&&◌, ℕ, List, ◌∷◌, ◌++◌, length, Option, Some, None, false, IsTrue};
 ghost use Rattle.std.specs.FinMap.{get};
 ghost use Rattle.nvm_board.specs.declared.board.TheConstants.{WORDS};
 ghost use Rattle.block_chain.specs.Chains.{free_chain};
 ghost use Rattle.file_tree.specs.declared.layout.TheConstants.{FIRST_ENTRY_PAGE, ENTRIES, DEEPEST, MASTER_FILE};
-ghost use Rattle.file_tree.specs.Cards.{Path, IsTree, master_file};
+ghost use Rattle.file_tree.specs.declared.layout.TheConstants.{MOST_FILE_BLOCKS, CREATE_WRITES, DELETE_WRITES};
+ghost use Rattle.file_tree.specs.Cards.{Path, IsTree, master_file, exists, file_at, is_dedicated};
+ghost use Rattle.file_tree.specs.Reaching.{IsReserved};
 ghost use Rattle.file_tree.specs.Spaces.{free_space};
 ghost use Rattle.file_tree.specs.Table.{table, path_of, free_entries, IsUsed};
 ghost use Rattle.file_tree.specs.Trees.{tree_of, TreeStands};
@@ -13,12 +15,13 @@ ghost use Rattle.file_tree.specs.laws.Footprints.{KeepsTree};
 ghost use Rattle.file_tree.specs.laws.Nodes.{file_in};
 
 /// Entry 0 is on page 1, there are 64 entries, no file is more than seven steps below the master file, and this has the
-/// identifier 3F00.
+/// identifier 3F00. The largest file has 547 blocks; a creation makes at most 587 device writes, a deletion 388.
 pub fn layout()
     ensures first { FIRST_ENTRY_PAGE ≡ 1 }
     ensures entries { ENTRIES ≡ 64 }
     ensures deepest { DEEPEST ≡ 7 }
     ensures master { (MASTER_FILE ≡ 0x3F00) × (master_file ≡ 0x3F00) }
+    ensures writes { (MOST_FILE_BLOCKS ≡ 547) × (CREATE_WRITES ≡ 587) × (DELETE_WRITES ≡ 388) }
 {}
 
 /// The tree has each used entry's file at its path.
@@ -59,4 +62,18 @@ pub fn free_space_is_counted()
 pub fn words_elsewhere_keep_the_tree()
     ensures { (m after : List ℕ) → length m ≡ WORDS → KeepsTree m after → TreeStands m
         → TreeStands after × (table after ≡ table m) × (tree_of after ≡ tree_of m) × (free_chain after ≡ free_chain m) }
+{}
+
+/// A path leads through dedicated files alone: where it goes on from a file, this is there, and a dedicated file.
+#[tactic(auto, using(crate::specs::laws::Selecting::way_through))]
+pub fn paths_lead_through_dedicated_files()
+    ensures { (m : List ℕ) (path left : Path) (id : ℕ) → TreeStands m → IsTrue (exists (tree_of m) (path ++ id ∷ left))
+        → IsTrue (exists (tree_of m) path && is_dedicated (file_at (tree_of m) path).kind) }
+{}
+
+/// No path has an identifier that no file has below the master file: 3F00, 3FFF and FFFF name no child.
+#[tactic(auto, using(crate::specs::laws::Selecting::way_reserved))]
+pub fn no_path_has_a_reserved_identifier()
+    ensures { (m : List ℕ) (path left : Path) (id : ℕ) → TreeStands m → IsReserved id
+        → exists (tree_of m) (path ++ id ∷ left) ≡ false }
 {}

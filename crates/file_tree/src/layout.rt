@@ -11,3 +11,14 @@ pub const DEEPEST: u8 = 7;
 
 /// The identifier of the master file (ISO/IEC 7816-4, 7.4.1).
 pub const MASTER_FILE: u16 = 0x3F00;
+
+/// The most device writes of a deletion: three for each entry that is freed, for each chain that is given back and for
+/// the header's word of free blocks, and one for the commit.
+pub(crate) const DELETE_WRITES: u16 = 3 * (ENTRIES + ENTRIES + 1) + 1;
+
+/// The most blocks of a file: those of 32,767 bytes.
+pub(crate) const MOST_FILE_BLOCKS: u16 = 547;
+
+/// The most device writes of a creation: one for each block that is filled, three for each word of the entry, for the last
+/// block's link and for the header's word of free blocks, and one for the commit.
+pub(crate) const CREATE_WRITES: u16 = MOST_FILE_BLOCKS + 3 * (11 + 2) + 1;

@@ -1,19 +1,28 @@
 //! The tree of files that a memory holds, as a table of file entries over chains of blocks.
 #![tactic(auto)]
 
+mod creating;
+mod deleting;
 mod entry;
 pub mod laws;
 mod layout;
 mod look_up;
+mod naming;
+mod placing;
 mod reading;
+mod refusing;
 mod rules;
 mod space;
 mod table;
 mod tree;
+mod writing;
 
+pub use creating::{Creation, create};
+pub use deleting::delete;
 pub use entry::{Entry, ExtentList, Table};
 pub use layout::{DEEPEST, ENTRIES, FIRST_ENTRY_PAGE, MASTER_FILE};
 pub use look_up::{find_child, find_short, select};
+pub use naming::{find_name, find_parent, find_path, find_path_from_master};
 pub use reading::{read_entry, read_table};
 pub use space::FreeSpace;
 pub use table::{extents_of, is_table};

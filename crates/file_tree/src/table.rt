@@ -13,7 +13,7 @@ use crate::rules::are_entries;
 
 /// The parent of an entry's file; past the table that of a free entry.
 #[tactic(auto, using(crate::specs::laws::Tables::entry_past))]
-fn parent_of(entries: &[Entry], e: u8) -> u8
+pub(crate) fn parent_of(entries: &[Entry], e: u8) -> u8
     ensures { result ≡ (entry_in entries.now e).parent }
 {
     match entries.get(usize::from(e)) {

@@ -200,7 +200,7 @@ blocks_by_kind x some =
     ]
 
 -- the blocks of extents, laid end to end, are as many as they say together
-laid_blocks : (m : List ℕ) (es : List Extent) → All (IsExtent m) es
+pub laid_blocks : (m : List ℕ) (es : List Extent) → All (IsExtent m) es
     → sum_by (λ x. x.blocks) es ≡ length (laid_out m es)
 unfolding laid_out
 laid_blocks m [] each = refl

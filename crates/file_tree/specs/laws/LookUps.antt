@@ -50,7 +50,7 @@ told_child m now p q id o e same there is told =
     subst of_words same (subst of_parent there (subst of_answer is told))
 
 -- the first of some candidates leads, or what is reached is among the others
-picks : (leads : Bool) (path : Path) (rest : List Candidate)
+pub picks : (leads : Bool) (path : Path) (rest : List Candidate)
     → first_reached (record { leads = leads; path = path } ∷ rest) ≡ (if leads then Some path else first_reached rest)
 picks true path rest = refl
 picks false path rest = refl
@@ -94,7 +94,7 @@ module _ (m : List ℕ) (rules : IsTable (table m)) (df id : ℕ) (used : IsUsed
   parent_small = used_small m (entry_in (table m) df).parent above_used
 
   -- the master file alone has the empty path
-  at_root : (length (path_of (table m) df) == 0) ≡ (df == 0)
+  pub at_root : (length (path_of (table m) df) == 0) ≡ (df == 0)
   at_root = elim (eqb_tells df 0) [
     | inl same ↦ ap (λ (p : Path). length p == 0) (path-zero (table m) 7 df same.1) ∙ sym same.0
     | inr other ↦ elim (eqb_tells (length (path_of (table m) df)) 0) [
@@ -104,7 +104,7 @@ module _ (m : List ℕ) (rules : IsTable (table m)) (df id : ℕ) (used : IsUsed
     ]
   ]
 
-  above_path : parent (path_of (table m) df) ≡ path_of (table m) (entry_in (table m) df).parent
+  pub above_path : parent (path_of (table m) df) ≡ path_of (table m) (entry_in (table m) df).parent
   above_path = parent_path (table m) rules df used
 
   above_identifier : identifier (parent (path_of (table m) df))

@@ -43,13 +43,13 @@ path-enough t (suc n) e master up = elim (eqb_tells e 0) [
 ]
 
 -- a list that ends in an element: the list before it, and that element
-parent-push : (path : Path) (id : ℕ) → parent (path ++ id ∷ []) ≡ path
+pub parent-push : (path : Path) (id : ℕ) → parent (path ++ id ∷ []) ≡ path
 parent-push path id =
     let l = length-append path (id ∷ []) in
     let size : length (path ++ id ∷ []) - 1 ≡ length path = omega (arith, l) in
     ap (λ (n : ℕ). take n (path ++ id ∷ [])) size ∙ take-append_seam path (id ∷ [])
 
-identifier-push : (path : Path) (id : ℕ) → identifier (path ++ id ∷ []) ≡ id
+pub identifier-push : (path : Path) (id : ℕ) → identifier (path ++ id ∷ []) ≡ id
 identifier-push path id =
     let l = length-append path (id ∷ []) in
     let size : length (path ++ id ∷ []) ≡ suc (length path) = omega (arith, l) in
@@ -61,7 +61,7 @@ same_last ps qs a b same = (
   sym (identifier-push ps a) ∙ ap identifier same ∙ identifier-push qs b,
 )
 
-not_empty : (ps : Path) (a : ℕ) → ps ++ a ∷ [] ≡ [] → ⊥
+pub not_empty : (ps : Path) (a : ℕ) → ps ++ a ∷ [] ≡ [] → ⊥
 not_empty ps a same = let l = length-append ps (a ∷ []) in let s = ap (λ (xs : Path). length xs) same in
     omega (arith, l, s)
 

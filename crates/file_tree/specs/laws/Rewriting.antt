@@ -29,7 +29,7 @@ use Rattle.file_tree.specs.Entries.{file_of, kind_of, body_of, linear_records, c
 use Rattle.file_tree.specs.Entries.{extent_of, extent_told}
 use Rattle.file_tree.specs.Table.{table, entry_in, path_of, extents, IsUsed, IsTable}
 use Rattle.file_tree.specs.Trees.{content, tree_of, TreeStands}
-use Rattle.file_tree.specs.Changes.{IsEntryPage, KeepsRest, KeepsTree, Rewrites, with_overwritten}
+use Rattle.file_tree.specs.Changes.{IsEntryPage, KeepsRest, SameTree, Rewrites, with_overwritten}
 use Rattle.file_tree.specs.laws.Tables.{table-same, length-table}
 use Rattle.file_tree.specs.laws.Nodes.{file_in, file_at_entry, used_small}
 use Rattle.file_tree.specs.laws.Costs.{entry_extent, room_for_size}
@@ -188,7 +188,7 @@ rewritten m after e offset bytes sized stands used is within over =
 
 -- Bytes of the first free blocks are set: the tree stays.
 pub filled : (m after : List ℕ) (n : ℕ) → length m ≡ WORDS → TreeStands m → OnlyContent m (take n (free_chain m)) after
-    → KeepsTree m after
+    → SameTree m after
 filled m after n sized stands only =
     let ps = take n (free_chain m) in
     let blocks : AreBlocks ps = blocks_take n (free_chain m) (leads_blocks m _ 0 (free_chain m) stands.blocks.free) in

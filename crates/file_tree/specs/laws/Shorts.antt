@@ -70,7 +70,7 @@ nodes_each P nodes a (suc n) each =
     nodes_first P (nodes a) (filter_map nodes (range_with_len (a + 1) n)) (each a) (nodes_each P nodes (a + 1) n each)
 
 -- none of these nodes passes a test
-find_none : (test : Node → Bool) (ns : List Node) → EachNode (λ n. test n ≡ false) ns → find test ns ≡ None
+pub find_none : (test : Node → Bool) (ns : List Node) → EachNode (λ n. test n ≡ false) ns → find test ns ≡ None
 find_none test [] each = refl
 find_none test (n ∷ ns) each = ap (λ (b : Bool). if b then Some n else find test ns) each.0 ∙ find_none test ns each.1
 
@@ -81,7 +81,7 @@ unwrap_some : (x y : File) → Some x ≡ Some y → x ≡ y
 unwrap_some x y e = ap (λ (o : Option File). unwrap_or o x) e
 
 -- the one path whose node passes a test
-find_one : (test : Node → Bool) (p : Path) (f : File) (ns : List Node) → test (p, f) ≡ true → find_path p ns ≡ Some f
+pub find_one : (test : Node → Bool) (p : Path) (f : File) (ns : List Node) → test (p, f) ≡ true → find_path p ns ≡ Some f
     → EachNode (λ n. test n ≡ true → n.0 ≡ p) ns → option_map (λ n. n.0) (find test ns) ≡ Some p
 find_one test p f [] passes found each = absurd (none_some f found)
 find_one test p f (n ∷ ns) passes found each =
@@ -136,7 +136,7 @@ empty_path : (p : Path) → length p ≡ 0 → p ≡ []
 empty_path [] none = refl
 empty_path (id ∷ p) none = absurd (omega arith)
 
-first_of_both : (a b : Bool) → (a && b) ≡ true → a ≡ true
+pub first_of_both : (a b : Bool) → (a && b) ≡ true → a ≡ true
 first_of_both true b both = refl
 first_of_both false b both = absurd (true≢false (sym both))
 

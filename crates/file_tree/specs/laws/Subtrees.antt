@@ -71,6 +71,12 @@ leads_up-none t top f differ = elim (eqb_tells f top) [
   | inr other ↦ other.0
 ]
 
+-- without a step it leads to itself alone
+pub leads_up-zero : (t : List Entry) (n top f : ℕ) → n ≡ 0 → leads_up t n top f ≡ (f == top)
+unfolding leads_up
+leads_up-zero t zero top f none = refl
+leads_up-zero t (suc n) top f none = absurd (omega (arith, none))
+
 module _ (t : List Entry) (rules : IsTable t) (top : ℕ) (above : 0 < top) (used : IsUsed t top) where
   -- the path over as many steps as lead to the master file is the whole
   stable : (k n f : ℕ) → k + n ≡ 7 → ancestor t n f ≡ 0 → path_in t n f ≡ path_of t f
@@ -80,7 +86,7 @@ module _ (t : List Entry) (rules : IsTable t) (top : ℕ) (above : 0 < top) (use
       sym (path-enough t n f rules.master.parent up) ∙ stable k (suc n) f (omega (arith, sum)) more
 
   -- the master file is below no other file
-  master_out : (n f : ℕ) → f ≡ 0 → leads_up t n top f ≡ false
+  pub master_out : (n f : ℕ) → f ≡ 0 → leads_up t n top f ≡ false
   master_out zero f is = leads_up-none t top f (λ same. let z : ⊥ = omega (arith, is, same, above) in z)
   master_out (suc n) f is =
       leads_up-step t n top f (λ same. let z : ⊥ = omega (arith, is, same, above) in z)
@@ -136,3 +142,5 @@ module _ (t : List Entry) (rules : IsTable t) (top : ℕ) (above : 0 < top) (use
         true≢false (sym (starts-self (path_of t top)) ∙ ap (λ (p : Path). starts_with nat_eq p (path_of t top)) (sym is ∙ sym grown) ∙ here)))
         ∙ ap (λ (p : Path). starts_with nat_eq p (path_of t top)) (sym grown) ∙ here
   ]
+
+pub ruleset steps_up = (leads_up-here, leads_up-step, leads_up-zero)

@@ -65,7 +65,7 @@ length-mapped : (f : ℕ → Entry) (a n : ℕ) → length (map f (range_with_le
 length-mapped f a zero = refl
 length-mapped f a (suc n) = ap suc (length-mapped f (a + 1) n)
 
-index-mapped : (f : ℕ → Entry) (a n e : ℕ) → e < n
+pub index-mapped : (f : ℕ → Entry) (a n e : ℕ) → e < n
     → slice_index_or (map f (range_with_len a n)) e free_entry ≡ f (a + e)
 index-mapped f a zero e lt = absurd (omega arith)
 index-mapped f a (suc n) zero lt = let place : a ≡ a + zero = omega arith in ap f place
@@ -87,7 +87,7 @@ entry_in-table m e lt = index-mapped (λ page. entry_of (page_words m page)) 1 6
 pub entry_past : (t : List Entry) (e : ℕ) → length t ≤ e → entry_in t e ≡ free_entry
 entry_past t e past = get_or_past t e free_entry past
 
-mapped-same : (f g : ℕ → Entry) (a n : ℕ) → ((k : ℕ) → a ≤ k → k < a + n → g k ≡ f k)
+pub mapped-same : (f g : ℕ → Entry) (a n : ℕ) → ((k : ℕ) → a ≤ k → k < a + n → g k ≡ f k)
     → map g (range_with_len a n) ≡ map f (range_with_len a n)
 mapped-same f g a zero same = refl
 mapped-same f g a (suc n) same = ap₂ (λ (x : Entry) (xs : List Entry). x ∷ xs) (same a (omega arith) (omega arith))

@@ -1,0 +1,128 @@
+use Rattle.std.proofs.Common.{◌≡◌, ◌≤◌, ℕ, List, length, take, Option, None, Some, is_some, sym, ◌∙◌, ap, subst, arith, inl, inr}
+use Rattle.std.proofs.Common.{⊎_elim, true≢false}
+use Rattle.nvm_board.specs.declared.board.TheConstants.{WORDS}
+use Rattle.undo_journal.specs.Memory.{committed}
+use Rattle.fcp_template.specs.declared.fcp.Fcp.{Fcp}
+use Rattle.fcp_template.specs.Ranges.{IsCreatable}
+use Rattle.fcp_template.specs.Views.{size_of_kind}
+use Rattle.block_chain.specs.Chains.{free_chain}
+use Rattle.block_chain.specs.Changes.{OnlyContent}
+use Rattle.file_tree.specs.declared.entry.Entry.{Entry}
+use Rattle.file_tree.specs.declared.placing.Place.{Place}
+use Rattle.file_tree.specs.declared.placing.Place.TheVariants.{At}
+use Rattle.file_tree.specs.Spaces.{blocks_for}
+use Rattle.file_tree.specs.Table.{table, entry_in, path_of}
+use Rattle.file_tree.specs.Trees.{tree_of, TreeStands}
+use Rattle.file_tree.specs.Creations.{IsCreated}
+use Rattle.file_tree.specs.NewFiles.{short_of_new, first_reason, creation_refusal}
+use Rattle.file_tree.specs.laws.NewEntries.{entry_for, no_chain, short_option, size_most}
+use Rattle.file_tree.specs.laws.Rewriting.{filled}
+use Rattle.file_tree.specs.laws.Created.{FindsPlace, FillsAndAdds, FillsOrAdds}
+use Rattle.file_tree.specs.laws.Made.{is_created}
+use Rattle.file_tree.proofs.creating.create.Goals as goal
+
+-- what was told of a place
+place_at : (m : List ℕ) (df : ℕ) (fcp : Fcp) (place : Place) (e : ℕ) → place ≡ At e → FindsPlace m df fcp place
+    → FindsPlace m df fcp (At e)
+place_at m df fcp place e is found =
+    let family : Place → Type 0 = λ p. FindsPlace m df fcp p in
+    subst family is found
+
+-- a file that finds a place is not refused
+not_refused : (m : List ℕ) (df : ℕ) (fcp : Fcp) (e : ℕ) → FindsPlace m df fcp (At e)
+    → creation_refusal (tree_of m) (path_of (table m) df) fcp ≡ None
+not_refused m df fcp e found = λ i. first_reason (found.0 i) (found.1 i)
+
+none_some : {A : Type 0} (x : A) → None ≡ Some x → ⊥
+none_some {A} x e = true≢false (sym (ap (λ (o : Option A). is_some o) e))
+
+-- the short identifier of the words as they were
+short_before : (m now : List ℕ) (df n : ℕ) (fcp : Fcp) → now ≡ m
+    → short_option n ≡ short_of_new (tree_of now) (path_of (table now) df) fcp
+    → short_option n ≡ short_of_new (tree_of m) (path_of (table m) df) fcp
+short_before m now df n fcp same short =
+    short ∙ ap (λ (l : List ℕ). short_of_new (tree_of l) (path_of (table l) df) fcp) same
+
+-- the steps make the new file of the words as they were
+created : (m now after : List ℕ) (df n e k : ℕ) (fcp : Fcp) (entry : Entry) → length m ≡ WORDS → TreeStands m
+    → (entry_in (table m) df).kind ≡ 1 → IsCreatable fcp → FindsPlace m df fcp (At e)
+    → short_option n ≡ short_of_new (tree_of m) (path_of (table m) df) fcp → now ≡ m
+    → entry ≡ entry_for fcp df n no_chain → k ≡ blocks_for (size_of_kind fcp.kind) → FillsAndAdds now e entry k after
+    → IsCreated m df fcp e k after
+created m now after df n e k fcp entry sized stands dedicated creatable found short words is blocks made =
+    let by_words : List ℕ → Type 0 = λ l. FillsAndAdds l e (entry_for fcp df n no_chain) (blocks_for (size_of_kind fcp.kind)) after in
+    let by_entry : Entry → Type 0 = λ x. FillsAndAdds now e x (blocks_for (size_of_kind fcp.kind)) after in
+    let by_blocks : ℕ → Type 0 = λ j. FillsAndAdds now e entry j after in
+    let told : ℕ → Type 0 = λ j. IsCreated m df fcp e j after in
+    subst told (sym blocks)
+    (is_created m after df n e fcp sized stands dedicated creatable found.0 found.1 found.2 short
+    (subst by_words words (subst by_entry is (subst by_blocks blocks made))))
+
+pub write_file-requires-clause-few : goal.write_file-requires-clause-few
+write_file-requires-clause-few g c =
+    let most = size_most c.args.fcp.now.kind c.requires.fcp.ranges.kind in
+    omega (arith, most, c.size.ensures, c.blocks_for-blocks.ensures)
+
+pub returns-clause-idle : goal.returns-clause-idle
+returns-clause-idle g c = λ status is.
+    let m = committed c.args.store.now in
+    let found = place_at m c.args.df c.args.fcp.now _ c.in-At.entry c.in-At.is c.in_ok-entry.ensures.found in
+    absurd (none_some status (sym (not_refused m c.args.df c.args.fcp.now c.in-At.entry found) ∙ is))
+
+pub returns-in_err-write_file-clause-idle : goal.returns-in_err-write_file-clause-idle
+returns-in_err-write_file-clause-idle g c = λ status is.
+    let m = committed c.args.store.now in
+    let found = place_at m c.args.df c.args.fcp.now _ c.in-At.entry c.in-At.is c.in_ok-entry.ensures.found in
+    absurd (none_some status (sym (not_refused m c.args.df c.args.fcp.now c.in-At.entry found) ∙ is))
+
+pub returns-clause-done : goal.returns-clause-done
+returns-clause-done g c =
+    let m = committed c.args.store.now in
+    let fcp = c.args.fcp.now in
+    let read = c.find_place.ensures.reads.keeps.committed_words in
+    created m (committed c.short_of.new.store) (committed c.write_file.new.store) c.args.df c.in_ok-short.short c.in-At.entry
+    c.blocks_for-blocks.result fcp c.entry_for.result
+    c.requires.ready.usable.committed_size c.requires.tree c.requires.df c.requires.fcp
+    (place_at m c.args.df fcp _ c.in-At.entry c.in-At.is c.in_ok-entry.ensures.found)
+    (short_before m (committed c.find_place.new.store) c.args.df c.in_ok-short.short fcp read c.in_ok-short.ensures.short)
+    (c.short_of.ensures.reads.keeps.committed_words ∙ read)
+    c.entry_for.ensures (c.blocks_for-blocks.ensures ∙ ap blocks_for c.size.ensures) c.in_ok-write_file.ensures.done
+
+pub returns-clause-any_exit : goal.returns-clause-any_exit
+returns-clause-any_exit g c =
+    let m = committed c.args.store.now in
+    let fcp = c.args.fcp.now in
+    let read = c.find_place.ensures.reads.keeps.committed_words in
+    let is =
+    created m (committed c.short_of.new.store) (committed c.write_file.new.store) c.args.df c.in_ok-short.short c.in-At.entry
+    c.blocks_for-blocks.result fcp c.entry_for.result
+    c.requires.ready.usable.committed_size c.requires.tree c.requires.df c.requires.fcp
+    (place_at m c.args.df fcp _ c.in-At.entry c.in-At.is c.in_ok-entry.ensures.found)
+    (short_before m (committed c.find_place.new.store) c.args.df c.in_ok-short.short fcp read c.in_ok-short.ensures.short)
+    (c.short_of.ensures.reads.keeps.committed_words ∙ read)
+    c.entry_for.ensures (c.blocks_for-blocks.ensures ∙ ap blocks_for c.size.ensures) c.in_ok-write_file.ensures.done in
+    inr is.creates
+
+pub returns-in_err-write_file-clause-any_exit : goal.returns-in_err-write_file-clause-any_exit
+returns-in_err-write_file-clause-any_exit g c =
+    let m = committed c.args.store.now in
+    let fcp = c.args.fcp.now in
+    let sized = c.requires.ready.usable.committed_size in
+    let read = c.find_place.ensures.reads.keeps.committed_words in
+    let words = c.short_of.ensures.reads.keeps.committed_words ∙ read in
+    let after = committed c.write_file.new.store in
+    ⊎_elim
+    (λ (fills : OnlyContent (committed c.short_of.new.store)
+    (take c.blocks_for-blocks.result (free_chain (committed c.short_of.new.store))) after).
+    let only : List ℕ → Type 0 = λ l. OnlyContent l (take c.blocks_for-blocks.result (free_chain l)) after in
+    inl (filled m after c.blocks_for-blocks.result sized c.requires.tree (subst only words fills)))
+    (λ (adds : FillsAndAdds (committed c.short_of.new.store) c.in-At.entry c.entry_for.result c.blocks_for-blocks.result after).
+    let is =
+    created m (committed c.short_of.new.store) after c.args.df c.in_ok-short.short c.in-At.entry
+    c.blocks_for-blocks.result fcp c.entry_for.result
+    sized c.requires.tree c.requires.df c.requires.fcp
+    (place_at m c.args.df fcp _ c.in-At.entry c.in-At.is c.in_ok-entry.ensures.found)
+    (short_before m (committed c.find_place.new.store) c.args.df c.in_ok-short.short fcp read c.in_ok-short.ensures.short)
+    words c.entry_for.ensures (c.blocks_for-blocks.ensures ∙ ap blocks_for c.size.ensures) adds in
+    inr is.creates)
+    c.write_file.ensures.any_exit

@@ -1,0 +1,26 @@
+use Rattle.std.proofs.Common.{◌≡◌, ℕ, List, length, Option, Some, None, IfSome, ◌∙◌, ap, subst}
+use Rattle.undo_journal.specs.Memory.{committed}
+use Rattle.file_tree.specs.declared.entry.Entry.{Entry}
+use Rattle.file_tree.specs.Table.{table}
+use Rattle.file_tree.specs.laws.Tables.{length-table}
+use Rattle.file_tree.specs.laws.Refusing.{TellsNamed}
+use Rattle.file_tree.specs.laws.Selecting.{name_reached, named_is_used}
+use Rattle.file_tree.proofs.naming.find_name.Goals as goal
+
+pub entry_named-requires : goal.entry_named-requires
+entry_named-requires g c =
+    ap (λ (t : List Entry). length t) (c.as_slice.ensures.value ∙ c.in_ok-entries.ensures.table)
+    ∙ length-table (committed c.args.store.now)
+
+pub returns-clause-found : goal.returns-clause-found
+returns-clause-found g c =
+    let m = committed c.args.store.now in
+    let family : List Entry → Type 0 = λ t. TellsNamed t c.args.name.now c.entry_named.result in
+    name_reached m c.requires.tree.entries c.args.name.now c.entry_named.result
+    (subst family (c.as_slice.ensures.value ∙ c.in_ok-entries.ensures.table) c.entry_named.ensures)
+
+pub returns-clause-used : goal.returns-clause-used
+returns-clause-used g c =
+    let family : List Entry → Type 0 = λ t. TellsNamed t c.args.name.now c.entry_named.result in
+    named_is_used (table (committed c.args.store.now)) c.args.name.now c.entry_named.result
+    (subst family (c.as_slice.ensures.value ∙ c.in_ok-entries.ensures.table) c.entry_named.ensures)

@@ -1,0 +1,30 @@
+use Rattle.std.proofs.Common.{◌≡◌, ◌≢◌, ℕ, List, Option, Some, sym, ◌∙◌, ap, subst}
+use Rattle.undo_journal.specs.Memory.{committed}
+use Rattle.file_tree.specs.declared.entry.Entry.{Entry}
+use Rattle.file_tree.specs.Table.{table, entry_in, path_of, IsUsed}
+use Rattle.file_tree.specs.laws.Nodes.{used_small}
+use Rattle.file_tree.specs.laws.LookUps.{above_used}
+use Rattle.file_tree.specs.laws.Selecting.{parent_reached, parent_of_master}
+use Rattle.file_tree.proofs.naming.find_parent.Goals as goal
+
+pub returns-then-df-eq0-clause-found : goal.returns-then-df-eq0-clause-found
+returns-then-df-eq0-clause-found g c = parent_of_master (committed c.args.store.now) c.args.df c.if-df-eq0.true
+
+pub read_entry-requires-clause-within : goal.read_entry-requires-clause-within
+read_entry-requires-clause-within g c = used_small (committed c.args.store.now) c.args.df c.requires.df
+
+pub returns-clause-found : goal.returns-clause-found
+returns-clause-found g c =
+    let m = committed c.args.store.now in
+    let parent : c.in_ok-entry.entry.parent ≡ (entry_in (table m) c.args.df).parent =
+    ap (λ (x : Entry). x.parent) c.in_ok-entry.ensures.entry in
+    ap (λ (e : ℕ). Some (path_of (table m) e)) parent
+    ∙ parent_reached m c.requires.tree.entries c.args.df c.requires.df c.if-df-eq0.false
+
+pub returns-clause-used : goal.returns-clause-used
+returns-clause-used g c =
+    let m = committed c.args.store.now in
+    let parent : c.in_ok-entry.entry.parent ≡ (entry_in (table m) c.args.df).parent =
+    ap (λ (x : Entry). x.parent) c.in_ok-entry.ensures.entry in
+    let family : ℕ → Type 0 = λ e. IsUsed (table m) e in
+    subst family (sym parent) (above_used m c.requires.tree.entries c.args.df 0 c.requires.df)

@@ -1,0 +1,59 @@
+use Rattle.std.proofs.Common.{rules, ◌≡◌, ◌≤◌, ◌<◌, ◌+◌, ◌∷◌, [], ℕ, List, Option, Some, None, length, drop, slice_index, sym, ◌∙◌, ap, subst, arith}
+use Rattle.std.proofs.lemmas.List.{drop_more, drop_all}
+use Rattle.undo_journal.specs.Memory.{committed}
+use Rattle.undo_journal.specs.laws.Calls.{reads_then}
+use Rattle.file_tree.specs.Cards.{Path}
+use Rattle.file_tree.specs.Table.{table}
+use Rattle.file_tree.specs.laws.LookUps.{TellsChild, told_child}
+use Rattle.file_tree.specs.laws.Selecting.{IsOnWay, way_goes_on, way_ends, way_is_lost}
+use Rattle.file_tree.proofs.naming.find_path.Goals as goal
+
+-- what is left of the way begins with the next identifier
+next_left : (m : List ℕ) (df at k : ℕ) (path : Path) → k < length path → IsOnWay m df at path (drop k path)
+    → IsOnWay m df at path (slice_index path k ∷ drop (k + 1) path)
+next_left m df at k path lt on =
+    let family : Path → Type 0 = λ left. IsOnWay m df at path left in
+    subst family (drop_more path k 0 lt) on
+
+-- none was told of the words as they were
+told_none : (m now : List ℕ) (at id : ℕ) (o : Option ℕ) → now ≡ m → o ≡ None → TellsChild (table now) at id o
+    → TellsChild (table m) at id None
+told_none m now at id o same is told =
+    let of_words : List ℕ → Type 0 = λ l. TellsChild (table l) at id None in
+    let of_answer : Option ℕ → Type 0 = λ r. TellsChild (table now) at id r in
+    subst of_words same (subst of_answer is told)
+
+pub returns-in-None-clause-found : goal.returns-in-None-clause-found
+returns-in-None-clause-found g c =
+    let m = committed c.args.store.now in
+    let path = c.args.path.now in
+    let id = slice_index path c.loop-k.k in
+    let lt : c.loop-k.k < length path = c.loop-k-test.true in
+    way_is_lost m c.requires.tree c.args.df c.loop-k.at id path (drop (c.loop-k.k + 1) path)
+    (next_left m c.args.df c.loop-k.at c.loop-k.k path lt c.loop-k.invariant.way)
+    (told_none m (committed c.loop-k.store) c.loop-k.at id c.in_ok-child.field-0 c.loop-k.invariant.reads.keeps.committed_words
+    c.in-None.is c.in_ok-child.ensures.found)
+
+pub loop-k-preserved : goal.loop-k-preserved
+loop-k-preserved g c =
+    let m = committed c.args.store.now in
+    let path = c.args.path.now in
+    let id = slice_index path c.loop-k.k in
+    let lt : c.loop-k.k < length path = c.loop-k-test.true in
+    record {
+      ready = c.in_ok-child.ensures.ready;
+      reads = reads_then _ _ _ c.loop-k.invariant.reads c.find_child.ensures.reads;
+      way = way_goes_on m c.requires.tree.entries c.args.df c.loop-k.at id c.in-Some.child path (drop (c.loop-k.k + 1) path)
+          (next_left m c.args.df c.loop-k.at c.loop-k.k path lt c.loop-k.invariant.way)
+          (told_child m (committed c.loop-k.store) c.loop-k.at c.loop-k.at id c.in_ok-child.field-0 c.in-Some.child
+          c.loop-k.invariant.reads.keeps.committed_words (λ i. c.loop-k.at) c.in-Some.is c.in_ok-child.ensures.found);
+    }
+
+pub returns-clause-found : goal.returns-clause-found
+returns-clause-found g c =
+    let m = committed c.args.store.now in
+    let path = c.args.path.now in
+    let end : length path ≤ c.loop-k.k = omega (arith, c.loop-k-test.false) in
+    let family : Path → Type 0 = λ left. IsOnWay m c.args.df c.loop-k.at path left in
+    way_ends m c.requires.tree.entries c.args.df c.loop-k.at path
+    (subst family (drop_all c.loop-k.k path end) c.loop-k.invariant.way)

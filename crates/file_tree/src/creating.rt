@@ -1,0 +1,297 @@
+//! Creating a file.
+
+ghost use Rattle.std.specs.Prelude.{◌≡◌, ◌≢◌, ◌⊎◌, ◌<◌, ◌≤◌, ◌+◌, length, Some, IfOk, OnOk};
+ghost use Rattle.std.specs.Result.{result_err};
+ghost use Rattle.card_rules.specs.declared.status.Sw.{Sw};
+ghost use Rattle.fcp_template.specs.declared.fcp.ShortIdentifier.TheVariants.{Absent};
+ghost use Rattle.fcp_template.specs.Ranges.{IsShort, IsCreatable};
+ghost use Rattle.undo_journal.specs.Memory.{committed, current, room, IsOpen, IsReady, IsIdle, Reports};
+ghost use Rattle.undo_journal.specs.Lent.{memory_of};
+ghost use Rattle.undo_journal.specs.Spending.{WritesAtMost};
+ghost use Rattle.undo_journal.specs.Calls.{OnlyReads, Sets};
+ghost use Rattle.block_chain.specs.Chains.{HasFree, free_chain};
+ghost use Rattle.file_tree.specs.declared.layout.TheConstants.{CREATE_WRITES, MOST_FILE_BLOCKS};
+ghost use Rattle.file_tree.specs.laws.Created.{AddsFile, FillsAndAdds, FillsOrAdds};
+ghost use Rattle.file_tree.specs.Table.{table, entry_in, path_of, IsUsed};
+ghost use Rattle.file_tree.specs.Trees.{tree_of, TreeStands};
+ghost use Rattle.file_tree.specs.Changes.{SameTree};
+ghost use Rattle.file_tree.specs.Creations.{CreatesNew, TellsCreation};
+ghost use Rattle.file_tree.specs.laws.Created.{FindsPlace};
+ghost use Rattle.file_tree.specs.NewFiles.{short_for, short_of_new, creation_refusal};
+ghost use Rattle.file_tree.specs.laws.NewEntries.{entry_for, kind_number, no_chain, padded, short_option};
+ghost use Rattle.file_tree.specs.laws.NewEntries.{record_length_of_kind, existing_of_kind};
+
+use crate::entry::Entry;
+use crate::look_up::find_short;
+use crate::placing::{Place, blocks_for, place_for};
+use crate::refusing::taken;
+use crate::writing::write_entry;
+use block_chain::{fill, take};
+use card_rules::Sw;
+use fcp_template::{Fcp, FileKind, ShortIdentifier};
+use undo_journal::{Board, Store, StoreErr, Txn};
+
+/// What came of a creation.
+#[derive(Clone, Copy, Debug, PartialEq, Eq)]
+pub enum Creation {
+    /// The file of this entry is new, and has so many blocks.
+    Created { entry: u8, blocks: u16 },
+    /// The first reason why it is refused, as a status word. Nothing was changed.
+    Refused(Sw),
+}
+
+/// What each byte of a new file is.
+const BLANK: u8 = 0xFF;
+
+/// The most that a short identifier is.
+const MOST_SHORT: u8 = 30;
+
+/// The low five bits of an identifier as a short identifier, if no child has it; 0 for none.
+#[tactic(auto, using(undo_journal::specs::laws::Calls::reads_then))]
+fn short_by_default<B: Board>(store: &mut Store<B>, df: u8, identifier: u16) -> Result<u8, StoreErr>
+    requires ready { IsReady store.old }
+    requires tree { TreeStands (committed store.old) }
+    requires df { IsUsed (table (committed store.old)) df }
+    ensures short { IfOk result (λ n. short_option n
+        ≡ short_for (tree_of (committed store.old)) (path_of (table (committed store.old)) df) identifier Absent) }
+    ensures ready { OnOk result (IsReady store.new) }
+    ensures reads { OnlyReads store.old store.new }
+    ensures tells { store.new.failed ≡ result_err result }
+{
+    let low = (identifier % 32) as u8;
+    if low < 1 || low > MOST_SHORT {
+        return Ok(0);
+    }
+    let found = find_short(store, df, low)?;
+    if found.is_some() {
+        return Ok(0);
+    }
+    Ok(low)
+}
+
+/// The short identifier of a new file of a kind that has one; 0 for none.
+#[tactic(auto, using(undo_journal::specs::laws::Calls::reads_then))]
+fn short_number<B: Board>(
+    store: &mut Store<B>,
+    df: u8,
+    identifier: u16,
+    short: ShortIdentifier,
+) -> Result<u8, StoreErr>
+    requires ready { IsReady store.old }
+    requires tree { TreeStands (committed store.old) }
+    requires df { IsUsed (table (committed store.old)) df }
+    requires short { IsShort short }
+    ensures short { IfOk result (λ n. short_option n
+        ≡ short_for (tree_of (committed store.old)) (path_of (table (committed store.old)) df) identifier short) }
+    ensures ready { OnOk result (IsReady store.new) }
+    ensures reads { OnlyReads store.old store.new }
+    ensures tells { store.new.failed ≡ result_err result }
+{
+    match short {
+        ShortIdentifier::Absent => short_by_default(store, df, identifier),
+        ShortIdentifier::Empty => Ok(0),
+        ShortIdentifier::Given(number) => Ok(number),
+    }
+}
+
+/// The short identifier of a new file; 0 for none. A dedicated file has none.
+#[tactic(auto, using(undo_journal::specs::laws::Calls::reads_then))]
+fn short_of<B: Board>(store: &mut Store<B>, df: u8, fcp: &Fcp<'_>) -> Result<u8, StoreErr>
+    requires ready { IsReady store.old }
+    requires tree { TreeStands (committed store.old) }
+    requires df { IsUsed (table (committed store.old)) df }
+    requires fcp { IsCreatable fcp.now }
+    ensures short { IfOk result (λ n. short_option n
+        ≡ short_of_new (tree_of (committed store.old)) (path_of (table (committed store.old)) df) fcp.now) }
+    ensures ready { OnOk result (IsReady store.new) }
+    ensures reads { OnlyReads store.old store.new }
+    ensures tells { store.new.failed ≡ result_err result }
+{
+    match fcp.kind {
+        FileKind::Df { .. } => Ok(0),
+        FileKind::Transparent { short, .. } => short_number(store, df, fcp.identifier, short),
+        FileKind::Linear { short, .. } => short_number(store, df, fcp.identifier, short),
+        FileKind::Cyclic { short, .. } => short_number(store, df, fcp.identifier, short),
+    }
+}
+
+/// The number of a kind of file in its entry.
+fn kind_number(kind: &FileKind<'_>) -> u8
+    ensures { result ≡ kind_number kind.now }
+{
+    match kind {
+        FileKind::Df { .. } => 1,
+        FileKind::Transparent { .. } => 2,
+        FileKind::Linear { .. } => 3,
+        FileKind::Cyclic { .. } => 4,
+    }
+}
+
+/// How many bytes a record of a file has; 0 where its kind has no records.
+fn record_length(kind: &FileKind<'_>) -> u8
+    ensures { result ≡ record_length_of_kind kind.now }
+{
+    match kind {
+        FileKind::Df { .. } | FileKind::Transparent { .. } => 0,
+        FileKind::Linear { records, .. } | FileKind::Cyclic { records, .. } =>
+            records.record_length,
+    }
+}
+
+/// How many records of a new file exist; 0 where its kind has none.
+fn existing(kind: &FileKind<'_>) -> u8
+    ensures { result ≡ existing_of_kind kind.now }
+{
+    match kind {
+        FileKind::Df { .. } | FileKind::Transparent { .. } => 0,
+        FileKind::Linear { records, .. } | FileKind::Cyclic { records, .. } => records.existing,
+    }
+}
+
+/// Some bytes, with zeros behind them.
+fn padded<const N: usize>(bytes: &[u8]) -> [u8; N]
+    requires { length bytes.now ≤ N }
+    ensures { result ≡ padded N bytes.now }
+{
+    let mut all = [0; N];
+    for i in 0..bytes.len() {
+        all[i] = bytes[i];
+    }
+    all
+}
+
+/// The entry of a new file, without its blocks.
+fn entry_for(fcp: &Fcp<'_>, parent: u8, short: u8) -> Entry
+    requires { IsCreatable fcp.now }
+    ensures { result ≡ entry_for fcp.now parent short no_chain }
+{
+    let name = fcp.kind.name();
+    let rule = fcp.rule.as_bytes();
+    Entry {
+        kind: kind_number(&fcp.kind),
+        life: fcp.life_cycle.to_byte(),
+        identifier: fcp.identifier,
+        parent,
+        short,
+        name_length: name.len() as u8,
+        rule_length: rule.len() as u8,
+        rule: padded(rule),
+        name: padded(name),
+        size: fcp.kind.size(),
+        record_length: u16::from(record_length(&fcp.kind)),
+        first: 0,
+        last: 0,
+        records: u16::from(existing(&fcp.kind)),
+        start: 0,
+    }
+}
+
+/// Writes the entry of a new file, and takes its blocks, if it has some.
+fn add_file<B: Board>(
+    txn: &mut Txn<'_, B>,
+    e: u8,
+    entry: Entry,
+    blocks: u16,
+) -> Result<(), StoreErr>
+    requires ready { IsOpen (memory_of txn.old) }
+    requires within { e < 64 }
+    requires used { entry.kind ≢ 0 }
+    requires free { HasFree (current (memory_of txn.old)) }
+    requires enough { blocks ≤ length (free_chain (current (memory_of txn.old))) }
+    requires room { 13 ≤ room (memory_of txn.old) }
+    ensures done { OnOk result (AddsFile (current (memory_of txn.old)) e entry blocks (current (memory_of txn.new))) }
+    ensures ready { OnOk result (IsOpen (memory_of txn.new)) }
+    ensures sets { Sets 13 txn.old txn.new }
+    ensures tells { (memory_of txn.new).failed ≡ result_err result }
+{
+    if blocks == 0 {
+        return write_entry(txn, e, entry);
+    }
+    let chain = take(txn, blocks)?;
+    let entry = Entry {
+        first: chain.first,
+        last: chain.last,
+        ..entry
+    };
+    write_entry(txn, e, entry)
+}
+
+/// Fills the blocks of a new file, and then adds it in a transaction.
+#[tactic(auto, using(undo_journal::specs::MemoryLaws::reports_then))]
+fn write_file<B: Board>(
+    store: &mut Store<B>,
+    e: u8,
+    entry: Entry,
+    blocks: u16,
+) -> Result<(), StoreErr>
+    requires ready { IsReady store.old }
+    requires within { e < 64 }
+    requires used { entry.kind ≢ 0 }
+    requires tree { TreeStands (committed store.old) }
+    requires enough { blocks ≤ length (free_chain (committed store.old)) }
+    requires few { blocks ≤ MOST_FILE_BLOCKS }
+    ensures any_exit { FillsOrAdds (committed store.old) e entry blocks (committed store.new) }
+    ensures done { OnOk result (FillsAndAdds (committed store.old) e entry blocks (committed store.new)) }
+    ensures ready { OnOk result (IsReady store.new) }
+    ensures reports { Reports store.old store.new }
+    ensures tells { store.new.failed ≡ result_err result }
+    ensures writes { WritesAtMost CREATE_WRITES store.old.facts store.new.facts }
+{
+    fill(store, blocks, BLANK)?;
+    let mut txn = store.begin();
+    match add_file(&mut txn, e, entry, blocks) {
+        Ok(()) => txn.commit(),
+        Err(_) => txn.abandon(),
+    }
+}
+
+/// The place of a new file in a dedicated file, or the first reason why it is refused.
+#[tactic(auto, using(undo_journal::specs::laws::Calls::reads_then))]
+fn find_place<B: Board>(store: &mut Store<B>, df: u8, fcp: &Fcp<'_>) -> Result<Place, StoreErr>
+    requires ready { IsReady store.old }
+    requires tree { TreeStands (committed store.old) }
+    requires df { IsUsed (table (committed store.old)) df }
+    requires fcp { IsCreatable fcp.now }
+    ensures found { IfOk result (FindsPlace (committed store.old) df fcp.now) }
+    ensures ready { OnOk result (IsReady store.new) }
+    ensures reads { OnlyReads store.old store.new }
+    ensures tells { store.new.failed ≡ result_err result }
+{
+    match taken(store, df, fcp)? {
+        Some(status) => Ok(Place::Refused(status)),
+        None => place_for(store, df, fcp),
+    }
+}
+
+/// Creates a file in the dedicated file of an entry, as its file control parameters tell: all its bytes, or the records
+/// that exist, are FF. Its blocks are filled first; then one transaction takes them and writes its entry. Where it is
+/// refused nothing is changed, and nothing is written.
+///
+/// # Errors
+/// What the store answers: power was lost, or the device failed. The tree is then as it was, or as after the creation.
+#[tactic(auto, using(undo_journal::specs::MemoryLaws::reports_then, undo_journal::specs::laws::Calls::reads_then))]
+pub fn create<B: Board>(store: &mut Store<B>, df: u8, fcp: &Fcp<'_>) -> Result<Creation, StoreErr>
+    requires ready { IsReady store.old }
+    requires tree { TreeStands (committed store.old) }
+    requires df { (entry_in (table (committed store.old)) df).kind ≡ 1 }
+    requires fcp { IsCreatable fcp.now }
+    ensures any_exit { SameTree (committed store.old) (committed store.new)
+        ⊎ CreatesNew (committed store.old) df fcp.now (committed store.new) }
+    ensures idle { (status : Sw)
+        → creation_refusal (tree_of (committed store.old)) (path_of (table (committed store.old)) df) fcp.now ≡ Some status
+        → OnlyReads store.old store.new }
+    ensures done { IfOk result (λ creation. TellsCreation (committed store.old) df fcp.now creation (committed store.new)) }
+    ensures ready { OnOk result (IsReady store.new) }
+    ensures reports { Reports store.old store.new }
+    ensures tells { store.new.failed ≡ result_err result }
+    ensures writes { WritesAtMost CREATE_WRITES store.old.facts store.new.facts }
+{
+    let entry = match find_place(store, df, fcp)? {
+        Place::At(entry) => entry,
+        Place::Refused(status) => return Ok(Creation::Refused(status)),
+    };
+    let short = short_of(store, df, fcp)?;
+    let blocks = blocks_for(fcp.kind.size());
+    write_file(store, entry, entry_for(fcp, df, short), blocks)?;
+    Ok(Creation::Created { entry, blocks })
+}

@@ -1,0 +1,232 @@
+//! Deleting a file, with all files below it.
+
+ghost use Rattle.std.specs.Prelude.{◌≡◌, ◌≢◌, ◌⊎◌, ◌<◌, ◌≤◌, ◌+◌, ◌*◌, length, IfOk, OnOk, slice_set};
+ghost use Rattle.std.specs.List.{sum_by};
+ghost use Rattle.std.specs.Result.{result_err};
+ghost use Rattle.nvm_board.specs.declared.board.TheConstants.{WORDS};
+ghost use Rattle.undo_journal.specs.Memory.{committed, current, room, IsOpen, IsReady, IsIdle, Reports};
+ghost use Rattle.undo_journal.specs.Lent.{memory_of};
+ghost use Rattle.undo_journal.specs.Undo.{IsDataAddress};
+ghost use Rattle.undo_journal.specs.Spending.{WritesAtMost};
+ghost use Rattle.undo_journal.specs.Calls.{OnlyReads, Sets};
+ghost use Rattle.block_chain.specs.declared.layout.TheConstants.{BLOCKS};
+ghost use Rattle.block_chain.specs.Layout.{chains_of};
+ghost use Rattle.file_tree.specs.declared.layout.TheConstants.{DELETE_WRITES};
+ghost use Rattle.file_tree.specs.Spaces.{free_space};
+ghost use Rattle.file_tree.specs.Table.{table, extents, free_entries, IsUsed};
+ghost use Rattle.file_tree.specs.Trees.{tree_of, TreeStands};
+ghost use Rattle.file_tree.specs.Changes.{Deletes, with_freed};
+ghost use Rattle.file_tree.specs.laws.Removals.{IsRemoval};
+ghost use Rattle.file_tree.specs.laws.Subtrees.{leads_up};
+ghost use Rattle.file_tree.specs.laws.Parting.{going, part_below};
+ghost use Rattle.file_tree.specs.laws.Deleting.{CanGive, FreesEntries, Removes};
+
+use crate::entry::{Entry, ExtentList, FREE, Table};
+use crate::layout::{DEEPEST, ENTRIES, FIRST_ENTRY_PAGE};
+use crate::reading::read_table;
+use crate::space::FreeSpace;
+use crate::table::{count_free, extents_of, parent_of};
+use arrayvec::ArrayVec;
+use block_chain::{Chain, Extent, give_back};
+use undo_journal::{Board, PAGE_WORDS, Store, StoreErr, Txn};
+
+/// The chains of some elementary files.
+type ChainList = ArrayVec<Chain, 64>;
+
+/// An entry is another one, or stands below it: at most seven steps to parents lead to that.
+#[tactic(auto, using(crate::specs::laws::Subtrees::steps_up))]
+fn is_within(entries: &[Entry], top: u8, e: u8) -> bool
+    ensures { result ≡ leads_up entries.now 7 top e }
+{
+    let mut at = e;
+    for _step in 0..DEEPEST {
+        if at == top {
+            return true;
+        }
+        at = parent_of(entries, at);
+    }
+    at == top
+}
+
+/// An entry that goes with another one, as it is in the part that goes; else a free one.
+#[tactic(auto, using(crate::specs::laws::Tables::entry_within))]
+fn going_entry(entries: &[Entry], top: u8, e: u8) -> Entry
+    requires { e < length entries.now }
+    ensures { result ≡ going entries.now top e }
+{
+    let entry = entries[usize::from(e)];
+    if entry.kind != 0 && is_within(entries, top, e) {
+        entry
+    } else {
+        FREE
+    }
+}
+
+/// The part of a table that a file and all files below it have; free entries stand for the others.
+fn part_of(entries: &[Entry], top: u8) -> Table
+    requires { length entries.now ≡ 64 }
+    ensures { result.items ≡ part_below entries.now top }
+{
+    let mut part = Table::new();
+    for e in 0..ENTRIES as u8 {
+        part.push(going_entry(entries, top, e));
+    }
+    part
+}
+
+/// The chains of extents.
+fn chains_in(extents: &[Extent]) -> ChainList
+    requires { length extents.now ≤ 64 }
+    ensures { result.items ≡ chains_of extents.now }
+{
+    let mut chains = ChainList::new();
+    for extent in extents {
+        chains.push(extent.chain);
+    }
+    chains
+}
+
+/// How many blocks extents have together.
+fn blocks_in(extents: &[Extent]) -> u16
+    requires { sum_by (λ x. x.blocks) extents.now ≤ BLOCKS }
+    ensures { result ≡ sum_by (λ x. x.blocks) extents.now }
+{
+    let mut blocks = 0;
+    for extent in extents {
+        blocks += extent.blocks;
+    }
+    blocks
+}
+
+/// One set of a transaction.
+fn put<B: Board>(txn: &mut Txn<'_, B>, at: u16, word: u32) -> Result<(), StoreErr>
+    requires ready { IsOpen (memory_of txn.old) }
+    requires room { 0 < room (memory_of txn.old) }
+    requires place { IsDataAddress (current (memory_of txn.old)) at }
+    ensures done { OnOk result (current (memory_of txn.new) ≡ slice_set (current (memory_of txn.old)) at word) }
+    ensures ready { OnOk result (IsOpen (memory_of txn.new)) }
+    ensures sets { Sets 1 txn.old txn.new }
+    ensures tells { (memory_of txn.new).failed ≡ result_err result }
+{
+    txn.set(at, word)
+}
+
+/// Frees each entry of which a part of the table has a file.
+fn free_part<B: Board>(txn: &mut Txn<'_, B>, part: &[Entry]) -> Result<(), StoreErr>
+    requires ready { IsOpen (memory_of txn.old) }
+    requires size { length part.now ≡ 64 }
+    requires room { 64 ≤ room (memory_of txn.old) }
+    ensures done { OnOk result (FreesEntries (current (memory_of txn.old)) part.now (current (memory_of txn.new))) }
+    ensures ready { OnOk result (IsOpen (memory_of txn.new)) }
+    ensures sets { Sets 64 txn.old txn.new }
+    ensures tells { (memory_of txn.new).failed ≡ result_err result }
+{
+    for e in 0..ENTRIES {
+        if part[usize::from(e)].kind != 0 {
+            put(txn, PAGE_WORDS * (FIRST_ENTRY_PAGE + e), 0)?;
+        }
+    }
+    Ok(())
+}
+
+/// Frees the entries of a part of the table, and gives chains back.
+fn take_away<B: Board>(
+    txn: &mut Txn<'_, B>,
+    part: &[Entry],
+    chains: &[Chain],
+) -> Result<(), StoreErr>
+    requires ready { IsOpen (memory_of txn.old) }
+    requires size { length part.now ≡ 64 }
+    requires apart { CanGive (current (memory_of txn.old)) part.now chains.now }
+    requires room { 64 + (length chains.now + 1) ≤ room (memory_of txn.old) }
+    ensures done { OnOk result (Removes (current (memory_of txn.old)) part.now chains.now (current (memory_of txn.new))) }
+    ensures ready { OnOk result (IsOpen (memory_of txn.new)) }
+    ensures sets { Sets (64 + (length chains.now + 1)) txn.old txn.new }
+    ensures tells { (memory_of txn.new).failed ≡ result_err result }
+{
+    free_part(txn, part)?;
+    give_back(txn, chains)
+}
+
+/// The same, in a transaction: all of it, or nothing.
+#[tactic(auto, using(undo_journal::specs::MemoryLaws::reports_then))]
+fn remove<B: Board>(store: &mut Store<B>, part: &[Entry], chains: &[Chain]) -> Result<(), StoreErr>
+    requires ready { IsReady store.old }
+    requires size { length part.now ≡ 64 }
+    requires apart { CanGive (committed store.old) part.now chains.now }
+    requires few { length chains.now ≤ 64 }
+    ensures any_exit { (committed store.new ≡ committed store.old)
+        ⊎ Removes (committed store.old) part.now chains.now (committed store.new) }
+    ensures done { OnOk result (Removes (committed store.old) part.now chains.now (committed store.new)) }
+    ensures idle { IsIdle store.new }
+    ensures ready { OnOk result (IsReady store.new) }
+    ensures reports { Reports store.old store.new }
+    ensures tells { store.new.failed ≡ result_err result }
+    ensures writes { WritesAtMost DELETE_WRITES store.old.facts store.new.facts }
+{
+    let mut txn = store.begin();
+    match take_away(&mut txn, part, chains) {
+        Ok(()) => txn.commit(),
+        Err(_) => txn.abandon(),
+    }
+}
+
+/// What goes with a file: its entries and those of all files below it, their chains, and how much they take.
+#[derive(Drop)]
+struct Removal {
+    part: Table,
+    chains: ChainList,
+    space: FreeSpace,
+}
+
+/// What goes with the file of an entry.
+#[tactic(auto, using(undo_journal::specs::laws::Calls::reads_then))]
+fn removal_of<B: Board>(store: &mut Store<B>, e: u8) -> Result<Removal, StoreErr>
+    requires ready { IsReady store.old }
+    requires tree { TreeStands (committed store.old) }
+    requires used { IsUsed (table (committed store.old)) e }
+    requires below { 0 < e }
+    ensures removal { IfOk result (IsRemoval (committed store.old) e) }
+    ensures ready { OnOk result (IsReady store.new) }
+    ensures reads { OnlyReads store.old store.new }
+    ensures tells { store.new.failed ≡ result_err result }
+{
+    let entries = read_table(store)?;
+    let part = part_of(entries.as_slice(), e);
+    let extents = extents_of(part.as_slice());
+    let space = FreeSpace {
+        blocks: blocks_in(extents.as_slice()),
+        entries: ENTRIES - count_free(part.as_slice()),
+    };
+    let chains = chains_in(extents.as_slice());
+    Ok(Removal {
+        part,
+        chains,
+        space,
+    })
+}
+
+/// Deletes the file of an entry, with all files below it, in one transaction: their entries are free then, and their
+/// blocks. The answer is how many of both. The master file (entry 0) is not deleted.
+///
+/// # Errors
+/// What the store answers: power was lost, or the device failed. The tree is then as it was, or as after the deletion.
+#[tactic(auto, using(undo_journal::specs::MemoryLaws::reports_then, undo_journal::specs::laws::Calls::reads_spend))]
+pub fn delete<B: Board>(store: &mut Store<B>, e: u8) -> Result<FreeSpace, StoreErr>
+    requires ready { IsReady store.old }
+    requires tree { TreeStands (committed store.old) }
+    requires used { IsUsed (table (committed store.old)) e }
+    requires below { 0 < e }
+    ensures any_exit { (committed store.new ≡ committed store.old) ⊎ Deletes (committed store.old) e (committed store.new) }
+    ensures done { OnOk result (Deletes (committed store.old) e (committed store.new)) }
+    ensures space { IfOk result (λ freed.
+        free_space (tree_of (committed store.new)) ≡ with_freed (free_space (tree_of (committed store.old))) freed) }
+    ensures ready { OnOk result (IsReady store.new) }
+    ensures reports { Reports store.old store.new }
+    ensures tells { store.new.failed ≡ result_err result }
+    ensures writes { WritesAtMost DELETE_WRITES store.old.facts store.new.facts }
+{
+    let removal = removal_of(store, e)?;
+    remove(store, removal.part.as_slice(), removal.chains.as_slice())?;
+    Ok(removal.space)
+}

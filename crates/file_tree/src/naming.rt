@@ -1,0 +1,131 @@
+//! Files by their names, and along paths: what SELECT reaches but by two bytes (ISO/IEC 7816-4, 7.3.1 and 11.2.2).
+
+ghost use Rattle.std.specs.Prelude.{◌≡◌, ◌↔◌, ℕ, length, option_map, IfOk, IfSome, OnOk, IsTrue};
+ghost use Rattle.std.specs.Result.{result_err};
+ghost use Rattle.undo_journal.specs.Memory.{committed, IsReady};
+ghost use Rattle.undo_journal.specs.Calls.{OnlyReads};
+ghost use Rattle.file_tree.specs.Cards.{Path};
+ghost use Rattle.file_tree.specs.Reaching.{selected, the_parent, by_name, path_from_master, path_from_current};
+ghost use Rattle.file_tree.specs.Table.{table, path_of, IsUsed};
+ghost use Rattle.file_tree.specs.Trees.{tree_of, TreeStands};
+ghost use Rattle.file_tree.specs.laws.Refusing.{BearsName, TellsNamed};
+
+use crate::entry::Entry;
+use crate::layout::ENTRIES;
+use crate::look_up::find_child;
+use crate::reading::{read_entry, read_table};
+use undo_journal::{Board, Store, StoreErr};
+
+/// An entry is a dedicated file's with this name.
+fn bears_name(entry: &Entry, name: &[u8]) -> bool
+    ensures { IsTrue result ↔ BearsName entry.now name.now }
+{
+    entry.kind == 1 && entry.name_length != 0 && entry.name() == name
+}
+
+/// The entry of the dedicated file with this name, if there is one.
+pub(crate) fn entry_named(entries: &[Entry], name: &[u8]) -> Option<u8>
+    requires { length entries.now ≡ 64 }
+    ensures { TellsNamed entries.now name.now result }
+{
+    for e in 0..ENTRIES as u8 {
+        if bears_name(&entries[usize::from(e)], name) {
+            return Some(e);
+        }
+    }
+    None
+}
+
+/// The entry of the dedicated file of the card that has this name, whole; no file has the empty one.
+///
+/// # Errors
+/// What the store answers: power was lost, or the device failed.
+#[tactic(auto, using(undo_journal::specs::laws::Calls::reads_then))]
+pub fn find_name<B: Board>(store: &mut Store<B>, name: &[u8]) -> Result<Option<u8>, StoreErr>
+    requires ready { IsReady store.old }
+    requires tree { TreeStands (committed store.old) }
+    ensures found { IfOk result (λ found. (df : Path) → option_map (path_of (table (committed store.old))) found
+        ≡ selected (tree_of (committed store.old)) df (by_name name.now)) }
+    ensures used { IfOk result (λ found. IfSome found (IsUsed (table (committed store.old)))) }
+    ensures ready { OnOk result (IsReady store.new) }
+    ensures reads { OnlyReads store.old store.new }
+    ensures tells { store.new.failed ≡ result_err result }
+{
+    let entries = read_table(store)?;
+    Ok(entry_named(entries.as_slice(), name))
+}
+
+/// The entry of the parent of a dedicated file. The master file (entry 0) has none.
+///
+/// # Errors
+/// What the store answers: power was lost, or the device failed.
+#[tactic(auto, using(undo_journal::specs::laws::Calls::reads_then))]
+pub fn find_parent<B: Board>(store: &mut Store<B>, df: u8) -> Result<Option<u8>, StoreErr>
+    requires ready { IsReady store.old }
+    requires tree { TreeStands (committed store.old) }
+    requires df { IsUsed (table (committed store.old)) df }
+    ensures found { IfOk result (λ found. option_map (path_of (table (committed store.old))) found
+        ≡ selected (tree_of (committed store.old)) (path_of (table (committed store.old)) df) the_parent) }
+    ensures used { IfOk result (λ found. IfSome found (IsUsed (table (committed store.old)))) }
+    ensures ready { OnOk result (IsReady store.new) }
+    ensures reads { OnlyReads store.old store.new }
+    ensures tells { store.new.failed ≡ result_err result }
+{
+    if df == 0 {
+        return Ok(None);
+    }
+    let entry = read_entry(store, df)?;
+    Ok(Some(entry.parent))
+}
+
+/// The entry of the file at the end of a path from a file: each identifier is that of a child of the one before. The empty
+/// path leads to the file itself, and no path leads through an elementary file.
+///
+/// # Errors
+/// What the store answers: power was lost, or the device failed.
+#[tactic(auto, using(undo_journal::specs::laws::Calls::reads_then))]
+pub fn find_path<B: Board>(
+    store: &mut Store<B>,
+    df: u8,
+    path: &[u16],
+) -> Result<Option<u8>, StoreErr>
+    requires ready { IsReady store.old }
+    requires tree { TreeStands (committed store.old) }
+    requires df { IsUsed (table (committed store.old)) df }
+    ensures found { IfOk result (λ found. option_map (path_of (table (committed store.old))) found
+        ≡ selected (tree_of (committed store.old)) (path_of (table (committed store.old)) df) (path_from_current path.now)) }
+    ensures used { IfOk result (λ found. IfSome found (IsUsed (table (committed store.old)))) }
+    ensures ready { OnOk result (IsReady store.new) }
+    ensures reads { OnlyReads store.old store.new }
+    ensures tells { store.new.failed ≡ result_err result }
+{
+    let mut at = df;
+    for k in 0..path.len() {
+        match find_child(store, at, path[k])? {
+            Some(child) => at = child,
+            None => return Ok(None),
+        }
+    }
+    Ok(Some(at))
+}
+
+/// The same from the master file, whose identifier is not in the path.
+///
+/// # Errors
+/// What the store answers: power was lost, or the device failed.
+pub fn find_path_from_master<B: Board>(
+    store: &mut Store<B>,
+    path: &[u16],
+) -> Result<Option<u8>, StoreErr>
+    requires ready { IsReady store.old }
+    requires tree { TreeStands (committed store.old) }
+    ensures found { IfOk result (λ found. (df : Path) → option_map (path_of (table (committed store.old))) found
+        ≡ selected (tree_of (committed store.old)) df (path_from_master path.now)) }
+    ensures used { IfOk result (λ found. IfSome found (IsUsed (table (committed store.old)))) }
+    ensures ready { OnOk result (IsReady store.new) }
+    ensures reads { OnlyReads store.old store.new }
+    ensures tells { store.new.failed ≡ result_err result }
+{
+    let found = find_path(store, 0, path)?;
+    Ok(found)
+}

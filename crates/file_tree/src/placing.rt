@@ -1,0 +1,60 @@
+//! Where a new file finds a place.
+
+ghost use Rattle.std.specs.Prelude.{◌≡◌, ◌≢◌, ◌<◌, ◌≤◌, length, IfOk, OnOk};
+ghost use Rattle.std.specs.Result.{result_err};
+ghost use Rattle.undo_journal.specs.Memory.{committed, IsReady};
+ghost use Rattle.undo_journal.specs.Calls.{OnlyReads};
+ghost use Rattle.file_tree.specs.Spaces.{blocks_for};
+ghost use Rattle.file_tree.specs.Table.{table, IsUsed};
+ghost use Rattle.file_tree.specs.Trees.{TreeStands};
+ghost use Rattle.file_tree.specs.laws.Places.{TellsPlace};
+
+use crate::reading::read_table;
+use crate::refusing::{first_free, is_deepest};
+use block_chain::free_count;
+use card_rules::Sw;
+use fcp_template::Fcp;
+use undo_journal::{Board, Store, StoreErr};
+
+/// The place of a new file: an entry that no file has. Or why there is none.
+#[derive(Clone, Copy)]
+pub(crate) enum Place {
+    At(u8),
+    Refused(Sw),
+}
+
+/// How many blocks so many bytes take.
+pub(crate) fn blocks_for(size: u16) -> u16
+    ensures { result ≡ blocks_for size }
+{
+    ((u32::from(size) + 59) / 60) as u16
+}
+
+/// The place of a new file in a dedicated file, if there is one.
+#[tactic(auto, using(undo_journal::specs::laws::Calls::reads_then))]
+pub(crate) fn place_for<B: Board>(
+    store: &mut Store<B>,
+    df: u8,
+    fcp: &Fcp<'_>,
+) -> Result<Place, StoreErr>
+    requires ready { IsReady store.old }
+    requires tree { TreeStands (committed store.old) }
+    requires df { IsUsed (table (committed store.old)) df }
+    ensures place { IfOk result (TellsPlace (committed store.old) df fcp.now.kind) }
+    ensures ready { OnOk result (IsReady store.new) }
+    ensures reads { OnlyReads store.old store.new }
+    ensures tells { store.new.failed ≡ result_err result }
+{
+    let entries = read_table(store)?;
+    if is_deepest(entries.as_slice(), df) {
+        return Ok(Place::Refused(Sw::CONDITIONS_NOT_SATISFIED));
+    }
+    let Some(e) = first_free(entries.as_slice()) else {
+        return Ok(Place::Refused(Sw::NO_ROOM));
+    };
+    let free = free_count(store)?;
+    if free < blocks_for(fcp.kind.size()) {
+        return Ok(Place::Refused(Sw::NO_ROOM));
+    }
+    Ok(Place::At(e))
+}

@@ -1,0 +1,114 @@
+//! Whether a new file is refused, and why.
+
+ghost use Rattle.std.specs.Prelude.{◌≡◌, ◌≢◌, ◌↔◌, ◌<◌, ◌≤◌, ◌∷◌, [], ◌++◌, length, IfOk, OnOk, IsTrue, if◌then◌else◌, Some, None};
+ghost use Rattle.std.specs.Result.{result_err};
+ghost use Rattle.card_rules.specs.declared.status.TheConstants.Sw.{FILE_EXISTS, NAME_EXISTS, WRONG_DATA};
+ghost use Rattle.fcp_template.specs.Ranges.{IsShort, IsCreatable};
+ghost use Rattle.undo_journal.specs.Memory.{committed, IsReady};
+ghost use Rattle.undo_journal.specs.Calls.{OnlyReads};
+ghost use Rattle.file_tree.specs.Table.{table, entry_in, ancestor, path_of, IsUsed};
+ghost use Rattle.file_tree.specs.Trees.{tree_of, TreeStands};
+ghost use Rattle.file_tree.specs.NewFiles.{has_short_given, taken_refusal};
+ghost use Rattle.file_tree.specs.laws.Refusing.{TellsFreeEntry};
+
+use crate::entry::Entry;
+use crate::layout::{DEEPEST, ENTRIES};
+use crate::look_up::{find_child, find_short};
+use crate::naming::entry_named;
+use crate::reading::read_table;
+use crate::table::parent_of;
+use card_rules::Sw;
+use fcp_template::{Fcp, ShortIdentifier};
+use undo_journal::{Board, Store, StoreErr};
+
+/// A dedicated file is on the last level: six steps to parents do not lead to the master file.
+#[tactic(auto, using(crate::specs::laws::Levels::levels))]
+pub(crate) fn is_deepest(entries: &[Entry], df: u8) -> bool
+    ensures { IsTrue result ↔ (ancestor entries.now 6 df ≢ 0) }
+{
+    let mut at = df;
+    for _step in 0..DEEPEST - 1 {
+        at = parent_of(entries, at);
+    }
+    at != 0
+}
+
+/// The first entry that no file has.
+pub(crate) fn first_free(entries: &[Entry]) -> Option<u8>
+    requires { length entries.now ≡ 64 }
+    ensures { TellsFreeEntry entries.now result }
+{
+    for e in 0..ENTRIES as u8 {
+        if entries[usize::from(e)].kind == 0 {
+            return Some(e);
+        }
+    }
+    None
+}
+
+/// A child of the dedicated file has the short identifier that is given.
+#[tactic(auto, using(undo_journal::specs::laws::Calls::reads_then))]
+fn is_short_taken<B: Board>(
+    store: &mut Store<B>,
+    df: u8,
+    short: ShortIdentifier,
+) -> Result<bool, StoreErr>
+    requires ready { IsReady store.old }
+    requires tree { TreeStands (committed store.old) }
+    requires df { IsUsed (table (committed store.old)) df }
+    requires short { IsShort short }
+    ensures taken { IfOk result (λ taken. taken
+        ≡ has_short_given (tree_of (committed store.old)) (path_of (table (committed store.old)) df) short) }
+    ensures ready { OnOk result (IsReady store.new) }
+    ensures reads { OnlyReads store.old store.new }
+    ensures tells { store.new.failed ≡ result_err result }
+{
+    match short {
+        ShortIdentifier::Given(number) => {
+            let found = find_short(store, df, number)?;
+            Ok(found.is_some())
+        }
+        ShortIdentifier::Absent | ShortIdentifier::Empty => Ok(false),
+    }
+}
+
+/// The first reason why a new file is refused, of which of its names are taken: first its identifier, then its name, then
+/// its short identifier.
+fn first_taken(identifier: bool, name: bool, short: bool) -> Option<Sw>
+    ensures { result ≡ (if identifier then Some FILE_EXISTS else if name then Some NAME_EXISTS else
+        if short then Some WRONG_DATA else None) }
+{
+    if identifier {
+        Some(Sw::FILE_EXISTS)
+    } else if name {
+        Some(Sw::NAME_EXISTS)
+    } else if short {
+        Some(Sw::WRONG_DATA)
+    } else {
+        None
+    }
+}
+
+/// Why a name of a new file is taken, if one is: its identifier, its name, or its short identifier.
+#[tactic(auto, using(undo_journal::specs::laws::Calls::reads_then))]
+pub(crate) fn taken<B: Board>(
+    store: &mut Store<B>,
+    df: u8,
+    fcp: &Fcp<'_>,
+) -> Result<Option<Sw>, StoreErr>
+    requires ready { IsReady store.old }
+    requires tree { TreeStands (committed store.old) }
+    requires df { IsUsed (table (committed store.old)) df }
+    requires fcp { IsCreatable fcp.now }
+    ensures taken { IfOk result (λ status. status
+        ≡ taken_refusal (tree_of (committed store.old)) (path_of (table (committed store.old)) df) fcp.now) }
+    ensures ready { OnOk result (IsReady store.new) }
+    ensures reads { OnlyReads store.old store.new }
+    ensures tells { store.new.failed ≡ result_err result }
+{
+    let child = find_child(store, df, fcp.identifier)?;
+    let entries = read_table(store)?;
+    let named = entry_named(entries.as_slice(), fcp.kind.name());
+    let short = is_short_taken(store, df, fcp.kind.short())?;
+    Ok(first_taken(child.is_some(), named.is_some(), short))
+}
