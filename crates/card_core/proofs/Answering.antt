@@ -24,3 +24,8 @@ ok_both P Q R (Err e) f p q = tt
 pub ok_anyway : {T E : Type 0} (P : Type 0) (r : Result T E) → P → OnOk r P
 ok_anyway P (Ok x) h = h
 ok_anyway P (Err e) h = tt
+
+-- and what follows from what holds of a success
+pub on_then : {T E : Type 0} (P Q : Type 0) (r : Result T E) → (P → Q) → OnOk r P → OnOk r Q
+on_then P Q (Ok x) f h = f h
+on_then P Q (Err e) f h = tt

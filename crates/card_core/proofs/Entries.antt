@@ -1,13 +1,18 @@
 -- What the entries of a card's memory say of its files and of the session.
-use Rattle.std.proofs.Common.{◌≡◌, ◌==◌, ◌<◌, ℕ, Bool, true, false, List, [], ◌∷◌, ◌++◌, Option, Some, None, IfSome}
-use Rattle.std.proofs.Common.{option_map, refl, sym, ◌∙◌, ap, ap₂, if◌then◌else◌}
+use Rattle.std.proofs.Common.{◌≡◌, ◌≢◌, ◌==◌, ◌<◌, ℕ, Bool, true, false, List, [], ◌∷◌, ◌++◌, length, Option, Some, None}
+use Rattle.std.proofs.Common.{IfSome, option_map, refl, sym, ◌∙◌, ap, arith, ⊎_elim, if◌then◌else◌}
+use Rattle.std.proofs.lemmas.Bool.{cases_eq}
+use Rattle.nvm_board.specs.declared.board.TheConstants.{WORDS}
 use Rattle.std.specs.FinMap.{get}
+use Rattle.std.specs.Option.{option_map_or}
 use Rattle.std.specs.FinSet.{empty}
-use Rattle.card_rules.specs.declared.status.Sw.{Sw}
-use Rattle.apdu_core.specs.declared.select.Selector.{Selector}
+use Rattle.apdu_core.specs.declared.select.Returned.{Returned}
+use Rattle.apdu_core.specs.declared.select.Returned.TheVariants.{Template, Nothing}
+use Rattle.fcp_template.specs.Spelling.{fcp_text}
+use Rattle.apdu_core.specs.Selections.{Selection}
 use Rattle.apdu_core.specs.Requests.{select}
 use Rattle.file_tree.specs.declared.entry.Entry.{Entry}
-use Rattle.file_tree.specs.Cards.{Body, Tree, dedicated, elementary}
+use Rattle.file_tree.specs.Cards.{Body, File, Tree, dedicated, elementary}
 use Rattle.file_tree.specs.Entries.{file_of}
 use Rattle.file_tree.specs.Table.{table, entry_in, path_of, IsUsed}
 use Rattle.file_tree.specs.declared.space.FreeSpace.{FreeSpace}
@@ -18,13 +23,16 @@ use Rattle.file_tree.specs.laws.Paths.{parent_path, identifier_path, path_of_chi
 use Rattle.card_core.specs.declared.current.Current.{Current}
 use Rattle.apdu_core.specs.declared.binary.Target.TheVariants as target
 use Rattle.card_core.specs.Reaching.{selected_from, target_of}
-use Rattle.card_core.specs.Selecting.{selecting, selection_status}
-use Rattle.card_core.specs.Sessions.{Session}
+use Rattle.card_core.specs.Lengths.{asks_less, given, right_length}
+use Rattle.card_core.specs.laws.FoundLaws.{same-of, other-of}
+use Rattle.card_core.specs.Selecting.{selecting, selection_data, selection_status}
 use Rattle.card_core.specs.declared.layout.TheConstants.{PINS}
 use Rattle.card_core.specs.Standing.{card_of, IsCard, IsHeader, IsPinPage}
 use Rattle.card_core.specs.Steps.{step}
-use Rattle.card_core.specs.Working.{current_at, life_of, outcome, session_of, IsCurrent, IsElementary, TellsCard}
-use Rattle.card_core.proofs.SelectSteps.{select-reached}
+use Rattle.card_core.specs.Templates.{template_of}
+use Rattle.card_core.specs.Working.{current_at, data_in, life_of, outcome, session_of, template_in, IsCurrent, IsElementary, TellsCard}
+use Rattle.card_core.proofs.SelectSteps.{select-less, select-reached}
+use Rattle.card_core.proofs.Told.{parameters-are}
 
 -- the tree of a card that words stand for
 pub card-tree : (m : List ℕ) → (card_of m).tree ≡ tree_of m
@@ -62,16 +70,68 @@ module _ (m : List ℕ) (words : IsCard m) (e : ℕ) (used : IsUsed (table m) e)
   unfolding file_of
   selecting-entry x = selecting_by x (entry.kind == 1) _ _ _
 
+  -- the numbers of the current files are then those of a dedicated file, and of an elementary file in it
+  pub current-entry : IsCurrent (table m) (current_at e entry)
+  current-entry = by_kind (entry.kind == 1) refl
+    where
+      by_kind : (b : Bool) → (entry.kind == 1) ≡ b
+          → IsCurrent (table m) (if b then record { df = e; ef = None } else record { df = entry.parent; ef = Some e })
+      by_kind true is = record { df = same-of entry.kind 1 is; ef = tt }
+      by_kind false is =
+          let other = other-of entry.kind 1 is in
+          let above : 0 < e = above-master other in
+          record {
+            df = (words.tree.entries.below e above used).parent;
+            ef = record {
+              child = record { below = above; used = used; parent = refl };
+              kind = omega (arith, other, used);
+            };
+          }
+        where
+          above-master : entry.kind ≢ 1 → 0 < e
+          above-master other = ⊎_elim
+              (λ (master : e ≡ 0). absurd (other (ap (λ (n : ℕ). (entry_in (table m) n).kind) master ∙
+              words.tree.entries.master.kind)))
+              (λ (some : e ≢ 0). omega (arith, some))
+              (cases_eq e 0)
+
+  -- what SELECT finds of the file
+  data-entry : length m ≡ WORDS → (returned : Returned)
+      → selection_data returned (card_of m).tree (path_of (table m) e) ≡ data_in returned entry
+  unfolding template_of template_in
+  data-entry sized Template =
+      ap (λ (found : Option File). option_map_or (template_of (path_of (table m) e)) found []) there
+      ∙ ap fcp_text (parameters-are m sized words e used)
+  data-entry sized Nothing = refl
+
   -- SELECT of the file
-  pub select-entry : (x : Current) (selector : Selector) (expected : Option ℕ)
-      → selected_from (card_of m).tree (session_of (table m) x).current_df selector ≡ Some (path_of (table m) e)
-      → step (card_of m) (session_of (table m) x) (select selector expected)
-      ≡ outcome (card_of m) (session_of (table m) (current_at e entry)) [] (selection_status (life_of entry))
-  select-entry x selector expected place =
-      select-reached (card_of m) (session_of (table m) x) selector expected (path_of (table m) e) (file_in m e) place
-      there
-      ∙ ap₂ (λ (s : Session) (status : Sw). outcome (card_of m) s [] status) (selecting-entry x) (ap selection_status
-      life-is)
+  module _ (sized : length m ≡ WORDS) (x : Current) (selection : Selection) (returned : Returned) (expected : Option ℕ)
+      (place : selected_from (card_of m).tree (session_of (table m) x).current_df selection
+      ≡ Some (path_of (table m) e)) where
+    abbrev told : List ℕ
+    told = data_in returned entry
+
+    data-is : selection_data returned (card_of m).tree (path_of (table m) e) ≡ told
+    data-is = data-entry sized returned
+
+    -- with an Le that asks for less than there is
+    pub select-entry-less : asks_less expected told ≡ true
+        → step (card_of m) (session_of (table m) x) (select selection returned expected)
+        ≡ outcome (card_of m) (session_of (table m) x) [] (right_length told)
+    select-entry-less less =
+        select-less (card_of m) (session_of (table m) x) selection returned expected (path_of (table m) e) (file_in m e)
+        place there (ap (asks_less expected) data-is ∙ less)
+        ∙ ap (λ (found : List ℕ). outcome (card_of m) (session_of (table m) x) [] (right_length found)) data-is
+
+    pub select-entry : asks_less expected told ≡ false
+        → step (card_of m) (session_of (table m) x) (select selection returned expected)
+        ≡ outcome (card_of m) (session_of (table m) (current_at e entry)) (given expected told)
+        (selection_status (life_of entry))
+    select-entry enough =
+        let session = selecting-entry x in
+        select-reached (card_of m) (session_of (table m) x) selection returned expected (path_of (table m) e)
+        (file_in m e) place there (ap (asks_less expected) data-is ∙ enough)
+        ∙ (λ i. outcome (card_of m) (session i) (given expected (data-is i)) (selection_status (life-is i)))
 
 -- the current elementary file, by its path
 pub current-path : (m : List ℕ) → IsCard m → (x : Current) → IsCurrent (table m) x

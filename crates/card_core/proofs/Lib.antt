@@ -1,5 +1,9 @@
+pub mod Told
 pub mod SelectSteps
 pub mod BinarySteps
+pub mod FileSteps
+pub mod Deletions
+pub mod Creations
 pub mod Answering
 pub mod Entries
 pub mod Contents

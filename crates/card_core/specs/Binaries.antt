@@ -33,6 +33,7 @@ abbrev pub binary_refusals : Card → Session → Target → ℕ → Refusals
 binary_refusals c s target offset = record {
   target = record { applies = is_none (target_of c.tree s target); status = missing target } ∷ [];
   structure = record { applies = not (is_transparent (target_kind c s target)); status = WRONG_STRUCTURE } ∷ [];
+  template = [];
   limits = record { applies = nat_le (length (target_bytes c s target)) offset; status = WRONG_OFFSET } ∷ [];
 }
 

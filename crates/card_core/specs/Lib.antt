@@ -4,10 +4,14 @@ pub mod Cards
 pub mod Sessions
 pub mod Reaching
 pub mod Outcomes
+pub mod Lengths
+pub mod Templates
 pub mod Selecting
 pub mod Binaries
+pub mod Files
 pub mod Steps
 pub mod Stages
+pub mod Spending
 pub mod Standing
 pub mod Factory
 pub mod Finding

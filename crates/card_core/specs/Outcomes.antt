@@ -34,12 +34,14 @@ pub record Refusals : Type 0 where
   pub target : List Refusal
   -- its structure isn't one that the command is for
   pub structure : List Refusal
-  -- its size and its content
+  -- the template that the command brings tells of no file
+  pub template : List Refusal
+  -- names that are taken, sizes, contents, and the length of the answer
   pub limits : List Refusal
 
 -- the order in which refusals count, for all commands
 abbrev pub in_order : Refusals → List Refusal
-in_order refusals = refusals.target ++ (refusals.structure ++ refusals.limits)
+in_order refusals = refusals.target ++ (refusals.structure ++ (refusals.template ++ refusals.limits))
 
 -- the first refusal that applies
 abbrev pub first_applying : List Refusal → Option Sw

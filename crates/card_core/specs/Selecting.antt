@@ -1,16 +1,20 @@
 -- SELECT (ISO/IEC 7816-4, 11.2.2).
-use Rattle.std.specs.Prelude.{[], ◌∷◌, is_none, unwrap_or}
+use Rattle.std.specs.Prelude.{ℕ, List, [], ◌∷◌, Option, is_none, unwrap_or}
 use Rattle.card_rules.specs.declared.status.Sw.{Sw}
 use Rattle.card_rules.specs.declared.status.TheConstants.Sw.{DONE, SELECTED_DEACTIVATED, SELECTED_TERMINATED}
 use Rattle.card_rules.specs.declared.status.TheConstants.Sw.{FILE_NOT_FOUND}
 use Rattle.card_rules.specs.declared.life_cycle.LifeCycle.{LifeCycle}
 use Rattle.card_rules.specs.declared.life_cycle.LifeCycle.TheVariants.{Creation, Initialisation, Deactivated}
 use Rattle.card_rules.specs.declared.life_cycle.LifeCycle.TheVariants.{Activated, Terminated}
-use Rattle.apdu_core.specs.declared.select.Selector.{Selector}
-use Rattle.card_core.specs.Cards.{Card, Path, Kind, dedicated, elementary, file_at, identifier, parent}
-use Rattle.card_core.specs.Outcomes.{Outcome, Refusals, only_status}
+use Rattle.apdu_core.specs.declared.select.Returned.{Returned}
+use Rattle.apdu_core.specs.declared.select.Returned.TheVariants.{Template, Nothing}
+use Rattle.apdu_core.specs.Selections.{Selection}
+use Rattle.card_core.specs.Cards.{Card, Path, Kind, Tree, dedicated, elementary, file_at, identifier, parent}
+use Rattle.card_core.specs.Lengths.{given, length_refusal}
+use Rattle.card_core.specs.Outcomes.{Outcome, Refusals}
 use Rattle.card_core.specs.Reaching.{selected_from}
 use Rattle.card_core.specs.Sessions.{Session, at_dedicated_file, at_elementary_file}
+use Rattle.card_core.specs.Templates.{template_at}
 
 -- the status word of SELECT tells the selected file's own life cycle
 abbrev pub selection_status : LifeCycle → Sw
@@ -25,21 +29,37 @@ abbrev pub selecting : Session → Path → Kind → Session
 selecting s path (dedicated name) = at_dedicated_file s path
 selecting s path (elementary short body) = at_elementary_file s (parent path) (identifier path)
 
--- nothing refuses SELECT but that no file is reached
-abbrev pub select_refusals : Card → Session → Selector → Refusals
-select_refusals c s selector = record {
-  target = record { applies = is_none (selected_from c.tree s.current_df selector); status = FILE_NOT_FOUND } ∷ [];
-  structure = [];
-  limits = [];
-}
+-- the data that SELECT finds: the template of the file at a path, where it is asked for
+abbrev pub selection_data : Returned → Tree → Path → List ℕ
+selection_data Template tree path = template_at tree path
+selection_data Nothing tree path = []
 
 -- the path of the file that is reached; where none is, SELECT is refused
-abbrev pub selected_path : Card → Session → Selector → Path
-selected_path c s selector = unwrap_or (selected_from c.tree s.current_df selector) []
+abbrev pub selected_path : Card → Session → Selection → Path
+selected_path c s selection = unwrap_or (selected_from c.tree s.current_df selection) []
+
+abbrev pub selected_data : Card → Session → Selection → Returned → List ℕ
+selected_data c s selection returned = selection_data returned c.tree (selected_path c s selection)
+
+-- what refuses SELECT: no file is reached; Le asks for less than its data
+abbrev pub select_refusals : Card → Session → Selection → Returned → Option ℕ → Refusals
+select_refusals c s selection returned expected = record {
+  target = record { applies = is_none (selected_from c.tree s.current_df selection); status = FILE_NOT_FOUND } ∷ [];
+  structure = [];
+  template = [];
+  limits = length_refusal expected (selected_data c s selection returned) ∷ [];
+}
 
 -- SELECT that isn't refused: the file becomes current
-abbrev pub selected : Card → Session → Selector → Outcome
-selected c s selector =
-    let path = selected_path c s selector in
+abbrev pub selected : Card → Session → Selection → Returned → Option ℕ → Outcome
+selected c s selection returned expected =
+    let path = selected_path c s selection in
     let file = file_at c.tree path in
-    record { card = c; session = selecting s path file.kind; response = only_status (selection_status file.life) }
+    record {
+      card = c;
+      session = selecting s path file.kind;
+      response = record {
+        text = given expected (selection_data returned c.tree path);
+        status = selection_status file.life;
+      };
+    }

@@ -2,18 +2,21 @@
 use Rattle.std.specs.Prelude.{◌≡◌, ℕ, List, [], ◌∷◌, Contains, Option, Some, None, Result, Ok, Err}
 use Rattle.card_rules.specs.declared.status.Sw.{Sw}
 use Rattle.apdu_core.specs.Asked.{asked}
-use Rattle.apdu_core.specs.Requests.{Request, select, read_binary, update_binary}
+use Rattle.apdu_core.specs.Requests.{Request, select, read_binary, update_binary, create_file, delete_file}
 use Rattle.card_core.specs.Binaries.{updated_card}
 use Rattle.card_core.specs.Cards.{Card}
+use Rattle.card_core.specs.Files.{created_card, deleted_card}
 use Rattle.card_core.specs.Outcomes.{refused_by}
 use Rattle.card_core.specs.Sessions.{Session}
 use Rattle.card_core.specs.Steps.{refusals_of}
 
 -- the card after each commit of a request that isn't refused, in order
 unfoldable pub commits : Card → Session → Request → List Card
-commits c s (select selector expected) = []
+commits c s (select selection returned expected) = []
 commits c s (read_binary target offset expected) = []
 commits c s (update_binary target offset bytes) = updated_card c s target offset bytes ∷ []
+commits c s (create_file template) = created_card c s template ∷ []
+commits c s (delete_file subject) = deleted_card c s subject ∷ []
 
 -- a refusal commits nothing
 abbrev pub commits_unless : Option Sw → List Card → List Card

@@ -1,5 +1,6 @@
 -- What the code keeps of a session, and what it makes of a step. No public clause names these.
-use Rattle.std.specs.Prelude.{◌≡◌, ◌<◌, ◌≤◌, ◌==◌, ℕ, min, not, nat_lt, nat_le, if◌then◌else◌, List, Option, Some}
+use Rattle.std.specs.Prelude.{◌≡◌, ◌≢◌, ◌<◌, ◌≤◌, ◌==◌, ◌&&◌, ℕ, min, not, nat_lt, nat_le, if◌then◌else◌}
+use Rattle.std.specs.Prelude.{List, [], length, Option, Some}
 use Rattle.std.specs.Prelude.{None, option_map, unwrap_or, IfSome}
 use Rattle.std.specs.FinSet.{empty}
 use Rattle.card_rules.specs.declared.life_cycle.LifeCycle.{LifeCycle}
@@ -13,7 +14,17 @@ use Rattle.undo_journal.specs.Memory.{Memory, committed, IsReady}
 use Rattle.file_tree.specs.declared.entry.Entry.{Entry}
 use Rattle.file_tree.specs.declared.space.FreeSpace.{FreeSpace}
 use Rattle.file_tree.specs.Spaces.{free_space}
-use Rattle.file_tree.specs.Table.{table, entry_in, path_of, IsChild}
+use Rattle.file_tree.specs.Entries.{name_of, rule_of}
+use Rattle.file_tree.specs.Table.{table, entry_in, path_of, IsChild, IsFileEntry}
+use Rattle.apdu_core.specs.declared.select.Returned.{Returned}
+use Rattle.apdu_core.specs.declared.select.Returned.TheVariants.{Template, Nothing}
+use Rattle.fcp_template.specs.declared.fcp.Fcp.{Fcp}
+use Rattle.fcp_template.specs.declared.fcp.FileKind.{FileKind}
+use Rattle.fcp_template.specs.declared.fcp.FileKind.TheVariants as kinds
+use Rattle.fcp_template.specs.declared.fcp.Records.{Records}
+use Rattle.fcp_template.specs.declared.fcp.ShortIdentifier.{ShortIdentifier}
+use Rattle.fcp_template.specs.declared.fcp.ShortIdentifier.TheVariants as shorts
+use Rattle.fcp_template.specs.Spelling.{fcp_text}
 use Rattle.card_core.specs.declared.card_state.CardState.{CardState}
 use Rattle.card_core.specs.declared.card_state.CardState.TheVariants.{Working, Failed, Dark}
 use Rattle.card_core.specs.declared.current.Current.{Current}
@@ -99,6 +110,49 @@ end_status rest expected = if nat_lt rest expected then END_REACHED else DONE
 -- the life cycle of an entry's file
 abbrev pub life_of : Entry → LifeCycle
 life_of entry = unwrap_or (life_cycle_at entry.life) Activated
+
+-- a used entry, whose file a template can tell
+pub record IsToldEntry (entry : Entry) : Type 0 where
+  pub used : entry.kind ≢ 0
+  pub file : IsFileEntry entry
+
+-- what a template tells of the file of an entry
+abbrev pub name_in_entry : Entry → Option (List ℕ)
+name_in_entry entry =
+    if nat_le 1 (length (name_of entry)) && nat_le (length (name_of entry)) 16 then Some (name_of entry) else None
+
+abbrev pub short_in_entry : Entry → ShortIdentifier
+short_in_entry entry = if entry.short == 0 then shorts.Empty else shorts.Given entry.short
+
+abbrev pub records_in_entry : Entry → Records
+records_in_entry entry = record {
+  size = entry.size;
+  record_length = entry.record_length;
+  existing = entry.records;
+}
+
+abbrev pub kind_in_entry : Entry → FileKind
+kind_in_entry entry =
+    if entry.kind == 1 then kinds.Df (name_in_entry entry) else
+    if entry.kind == 2 then kinds.Transparent (short_in_entry entry) entry.size else
+    if entry.kind == 3 then kinds.Linear (short_in_entry entry) (records_in_entry entry) else
+    kinds.Cyclic (short_in_entry entry) (records_in_entry entry)
+
+abbrev pub parameters_in : Entry → Fcp
+parameters_in entry = record {
+  identifier = entry.identifier;
+  life_cycle = life_of entry;
+  rule = rule_of entry;
+  kind = kind_in_entry entry;
+}
+
+-- the template of the file of an entry, and what SELECT finds of it
+unfoldable pub template_in : Entry → List ℕ
+template_in entry = fcp_text (parameters_in entry)
+
+abbrev pub data_in : Returned → Entry → List ℕ
+data_in Template entry = template_in entry
+data_in Nothing entry = []
 
 -- what a check of a memory answers: its free space, or None exactly where it is no card's
 abbrev pub TellsCard : List ℕ → Option FreeSpace → Type 0

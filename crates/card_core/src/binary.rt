@@ -15,6 +15,7 @@ ghost use Rattle.file_tree.specs.Table.{path_of};
 ghost use Rattle.card_core.specs.Binaries.{IsUpdating, binary_refusals, missing as missing_status};
 ghost use Rattle.card_core.specs.Outcomes.{refused_by};
 ghost use Rattle.card_core.specs.Reaching.{target_of};
+ghost use Rattle.card_core.specs.Spending.{transaction_writes};
 ghost use Rattle.card_core.specs.Standing.{IsCard};
 ghost use Rattle.card_core.specs.Steps.{step};
 ghost use Rattle.card_core.specs.Working.{card_in, named_from, outcome, session_in, space_in, table_in, IsCurrent};
@@ -101,7 +102,8 @@ pub(crate) fn update_file<B: Board>(
     ensures space { OnOk result (space_in store.new ≡ space_in store.old) }
     ensures reports { Reports store.old store.new }
     ensures tells { store.new.failed ≡ result_err result }
-    ensures writes { WritesAtMost 196 store.old.facts store.new.facts }
+    ensures writes { WritesAtMost (transaction_writes (touched_words offset (length bytes.now))) store.old.facts
+        store.new.facts }
 {
     let file = match find_file(store, *current, target, offset)? {
         Ok(file) => file,
@@ -246,7 +248,8 @@ fn write_bytes<B: Board>(
     ensures ready { OnOk result (IsReady store.new) }
     ensures reports { Reports store.old store.new }
     ensures tells { store.new.failed ≡ result_err result }
-    ensures writes { WritesAtMost 196 store.old.facts store.new.facts }
+    ensures writes { WritesAtMost (transaction_writes (touched_words offset (length bytes.now))) store.old.facts
+        store.new.facts }
 {
     let mut txn = store.begin();
     match set_bytes(&mut txn, chain, offset, bytes) {

@@ -1,5 +1,8 @@
 //! Laws of the definitions, as contracts of functions that do nothing.
-ghost use Rattle.std.specs.Prelude.{◌≡◌, ℕ, List, length};
+ghost use Rattle.std.specs.Prelude.{◌≡◌, ◌≤◌, ◌+◌, ◌/◌, ℕ, List, length};
+ghost use Rattle.block_chain.specs.Changes.{touched_words};
+ghost use Rattle.card_core.specs.declared.machine.TheConstants.{COMMAND_WRITES};
+ghost use Rattle.card_core.specs.Spending.{writes_of};
 ghost use Rattle.card_core.specs.declared.layout.TheConstants.{MARK, HEADER_PAGE, STATE_WORD, FIRST_PIN_PAGE, PINS};
 ghost use Rattle.nvm_board.specs.declared.board.TheConstants.{WORDS};
 ghost use Rattle.apdu_core.specs.OfBytes.{AreBytes};
@@ -36,6 +39,14 @@ pub fn step_keeps_proper()
 pub fn answers_are_short()
     ensures { (c : Card) (s : Session) (command : List ℕ) → IsProper c → AreBytes command
         → IsAnswer (answer_bytes (carried_out c s command).response) }
+{}
+
+/// No command makes more than 700 device writes. UPDATE BINARY of n bytes, which makes three for each word that it touches and
+/// one more, touches at most n / 4 words, rounded up, and one more.
+pub fn commands_write_little()
+    ensures most { (command : List ℕ) → writes_of command ≤ COMMAND_WRITES }
+    ensures number { COMMAND_WRITES ≡ 700 }
+    ensures words { (offset n : ℕ) → touched_words offset n ≤ (n + 3) / 4 + 1 }
 {}
 
 /// The numbers of the header and of the PINs, as a reader sees them: the mark "TSC1" and the state in words 0 and 2 of page 0,

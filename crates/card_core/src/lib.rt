@@ -8,10 +8,12 @@ mod commands;
 mod current;
 mod factory;
 mod faults;
+mod files;
 pub mod laws;
 mod layout;
 mod machine;
 mod select;
+mod templates;
 
 pub use apdu_core::Answer;
 pub use card_state::CardState;

@@ -6,6 +6,7 @@ ghost use Rattle.undo_journal.specs.Undo.{gate};
 ghost use Rattle.file_tree.specs.Spaces.{free_space};
 ghost use Rattle.card_core.specs.Finding.{HasCard, FindsAgain};
 ghost use Rattle.card_core.specs.Running.{Starts, StopsBy, Steps, FailsIn, IsCutIn, card_found, memory_failure};
+ghost use Rattle.card_core.specs.Spending.{writes_of};
 ghost use Rattle.card_core.specs.Stages.{IsStage, ChangesNothing};
 ghost use Rattle.card_core.specs.Outcomes.{answer_bytes};
 
@@ -108,6 +109,7 @@ impl<B: Board> Card<B> {
     /// Carries out the bytes of a command (ISO/IEC 7816-4, clause 5), and puts its answer into the buffer, whatever that held.
     /// A refusal is an answer too. A fault of the device is answered 6581, here and from then on, until the next start; where
     /// power is lost, `PowerLost` is the result and nothing is answered, here and from then on.
+    #[tactic(auto, using(crate::specs::laws::SpendLaws::few_writes))]
     pub fn command(&mut self, command: &[u8], answer: &mut Answer) -> Result<(), PowerLost>
         // At every exit, cut or fault or neither, the card that is found is one of the command's stages.
         ensures has_card { HasCard self.new.facts.words }
@@ -124,6 +126,8 @@ impl<B: Board> Card<B> {
             ≡ []) }
         ensures unlit { OnErr result (self.new.facts.dark ≡ true) }
         ensures writes { WritesAtMost COMMAND_WRITES self.old.facts self.new.facts }
+        // Reads and refusals by form write nothing, UPDATE BINARY by the words that it touches.
+        ensures counted { WritesAtMost (writes_of command.now) self.old.facts self.new.facts }
     {
         answer.clear();
         match self.state {
@@ -134,7 +138,13 @@ impl<B: Board> Card<B> {
             }
             CardState::Dark => return Err(PowerLost),
         }
-        match carry_out(&mut self.store, &mut self.current, command, answer) {
+        match carry_out(
+            &mut self.store,
+            &mut self.current,
+            &mut self.free,
+            command,
+            answer,
+        ) {
             Ok(status) => {
                 end_answer(answer, status);
                 Ok(())

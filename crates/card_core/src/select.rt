@@ -1,61 +1,82 @@
 //! SELECT (ISO/IEC 7816-4, 11.2.2).
-ghost use Rattle.std.specs.Prelude.{◌≡◌, ℕ, [], Option, option_map, IfOk, IfSome, OnOk};
+ghost use Rattle.std.specs.Prelude.{◌≡◌, ◌≤◌, [], length, option_map, IfOk, IfSome, OnOk};
 ghost use Rattle.std.specs.Result.{result_err};
 ghost use Rattle.undo_journal.specs.Calls.{OnlyReads};
 ghost use Rattle.undo_journal.specs.Memory.{committed, IsReady};
+ghost use Rattle.apdu_core.specs.Ranges.{IsFilePath, IsSelector};
 ghost use Rattle.apdu_core.specs.Requests.{select as selection};
+ghost use Rattle.apdu_core.specs.Selections.{identifiers_in, selection_of};
 ghost use Rattle.file_tree.specs.Table.{path_of, IsUsed};
+ghost use Rattle.card_core.specs.Lengths.{asks_less, given, right_length};
 ghost use Rattle.card_core.specs.Reaching.{selected_from};
 ghost use Rattle.card_core.specs.Selecting.{selection_status};
 ghost use Rattle.card_core.specs.Standing.{IsCard};
 ghost use Rattle.card_core.specs.Steps.{step};
-ghost use Rattle.card_core.specs.Working.{card_in, life_of, outcome, session_in, table_in, IsCurrent};
+ghost use Rattle.card_core.specs.Working.{card_in, data_in, life_of, outcome, session_in, table_in, IsCurrent, IsToldEntry};
 
 use crate::current::Current;
-use apdu_core::{Selector, Sw};
+use crate::templates::{Template, life_of, template_of};
+use apdu_core::{Answer, FilePath, Returned, Selector, Sw};
+use arrayvec::ArrayVec;
 use card_rules::LifeCycle;
-use file_tree::{Entry, read_entry, select};
+use file_tree::{
+    Entry, find_name, find_parent, find_path, find_path_from_master, read_entry, select,
+};
 use undo_journal::{Board, Store, StoreErr};
 
-/// SELECT: the file that is reached becomes the current one, and the status word is the result.
+/// The most identifiers of a path.
+const PATH_ROOM: usize = 7;
+
+/// SELECT: the file that is reached becomes the current one, its template goes into `text` where it is asked for, and the
+/// status word is the result. An Le that asks for less than the template is refused.
 #[tactic(auto, using(undo_journal::specs::laws::Calls::reads_then))]
 pub(crate) fn select_file<B: Board>(
     store: &mut Store<B>,
     current: &mut Current,
-    selector: Selector,
+    selector: Selector<'_>,
+    returned: Returned,
+    expected: Option<u8>,
+    text: &mut Answer,
 ) -> Result<Sw, StoreErr>
     requires ready { IsReady store.old }
     requires card { IsCard (committed store.old) }
     requires current { IsCurrent (table_in store.old) current.old }
-    ensures step { IfOk result (λ status. (expected : Option ℕ)
-        → step (card_in store.old) (session_in store.old current.old) (selection selector expected)
-        ≡ outcome (card_in store.old) (session_in store.old current.new) [] status) }
+    requires selector { IsSelector selector }
+    requires empty { text.old.items ≡ [] }
+    ensures step { IfOk result (λ status. step (card_in store.old) (session_in store.old current.old) (selection
+        (selection_of selector.entry) returned expected)
+        ≡ outcome (card_in store.old) (session_in store.old current.new) text.new.items status) }
+    ensures room { length text.new.items ≤ 256 }
     ensures current { IsCurrent (table_in store.old) current.new }
     ensures ready { OnOk result (IsReady store.new) }
     ensures reads { OnlyReads store.old store.new }
     ensures tells { store.new.failed ≡ result_err result }
 {
-    match find_selected(store, *current, selector)? {
-        Some(e) => {
-            let entry = read_entry(store, e)?;
-            *current = Current::at(e, &entry);
-            Ok(status_of(&entry))
-        }
-        None => Ok(Sw::FILE_NOT_FOUND),
+    let Some(e) = find_selected(store, *current, selector)? else {
+        return Ok(Sw::FILE_NOT_FOUND);
+    };
+    let entry = read_entry(store, e)?;
+    let data = data_of(&entry, returned);
+    if asks_less(expected, &data) {
+        return Ok(right_length(&data));
     }
+    give(expected, &data, text);
+    *current = Current::at(e, &entry);
+    Ok(status_of(&entry))
 }
 
 /// The entry of the file that SELECT names.
 fn find_selected<B: Board>(
     store: &mut Store<B>,
     current: Current,
-    selector: Selector,
+    selector: Selector<'_>,
 ) -> Result<Option<u8>, StoreErr>
     requires ready { IsReady store.old }
     requires card { IsCard (committed store.old) }
     requires current { IsCurrent (table_in store.old) current }
+    requires selector { IsSelector selector }
     ensures found { IfOk result (λ found. selected_from (card_in store.old).tree (session_in store.old
-        current).current_df selector
+        current).current_df (selection_of selector.entry)
         ≡ option_map (path_of (table_in store.old)) found) }
     ensures used { IfOk result (λ found. IfSome found (IsUsed (table_in store.old))) }
     ensures ready { OnOk result (IsReady store.new) }
@@ -65,6 +86,63 @@ fn find_selected<B: Board>(
     match selector {
         Selector::MasterFile => Ok(Some(0)),
         Selector::Identifier(identifier) => select(store, current.df, identifier),
+        Selector::Parent => find_parent(store, current.df),
+        Selector::Name(name) => find_name(store, name),
+        Selector::PathFromMaster(path) => find_path_from_master(store, &identifiers_of(path)),
+        Selector::PathFromCurrent(path) => find_path(store, current.df, &identifiers_of(path)),
+    }
+}
+
+/// The identifiers of a path, in their order.
+fn identifiers_of(path: FilePath<'_>) -> ArrayVec<u16, PATH_ROOM>
+    requires { IsFilePath path }
+    ensures { result.items ≡ identifiers_in path.entry }
+{
+    let mut all = ArrayVec::new();
+    for index in 0..path.count() {
+        all.push(path.identifier(index));
+    }
+    all
+}
+
+/// The data that SELECT finds: the template of the file of a used entry, where it is asked for.
+fn data_of(entry: &Entry, returned: Returned) -> Template
+    requires { IsToldEntry entry.now }
+    ensures data { result.items ≡ data_in returned entry.now }
+    ensures short { length result.items ≤ 256 }
+{
+    match returned {
+        Returned::Template => template_of(entry),
+        Returned::Nothing => Template::new(),
+    }
+}
+
+/// Whether Le asks for less than what was found. Le 00 asks for all.
+fn asks_less(expected: Option<u8>, found: &[u8]) -> bool
+    ensures { result ≡ asks_less expected found.now }
+{
+    match expected {
+        Some(le) => le != 0 && usize::from(le) < found.len(),
+        None => false,
+    }
+}
+
+/// The status word that tells the length of what was found, 6CXX; 256 is told as 00.
+fn right_length(found: &[u8]) -> Sw
+    requires { length found.now ≤ 256 }
+    ensures { result ≡ right_length found.now }
+{
+    Sw(0x6C00 + (found.len() % 256) as u16)
+}
+
+/// Puts what was found into an empty buffer, if there is an Le.
+fn give(expected: Option<u8>, found: &[u8], text: &mut Answer)
+    requires empty { text.old.items ≡ [] }
+    requires short { length found.now ≤ 256 }
+    ensures { text.new.items ≡ given expected found.now }
+{
+    if expected.is_some() {
+        text.try_extend_from_slice(found).unwrap();
     }
 }
 
@@ -72,9 +150,9 @@ fn find_selected<B: Board>(
 fn status_of(entry: &Entry) -> Sw
     ensures { result ≡ selection_status (life_of entry.now) }
 {
-    match LifeCycle::from_byte(entry.life) {
-        Some(LifeCycle::Deactivated) => Sw::SELECTED_DEACTIVATED,
-        Some(LifeCycle::Terminated) => Sw::SELECTED_TERMINATED,
+    match life_of(entry) {
+        LifeCycle::Deactivated => Sw::SELECTED_DEACTIVATED,
+        LifeCycle::Terminated => Sw::SELECTED_TERMINATED,
         _ => Sw::DONE,
     }
 }

@@ -1,10 +1,11 @@
 -- The card that is found is proper.
-use Rattle.std.specs.Prelude.{◌≡◌, ◌≢◌, ◌⊎◌, ◌<◌, ◌≤◌, ◌+◌, ◌*◌, ◌-◌, ◌%◌, ◌==◌, ℕ, zero, suc, Bool, true, false}
+use Rattle.std.specs.Prelude.{◌≡◌, ◌≢◌, ◌<◌, ◌≤◌, ◌+◌, ◌*◌, ◌-◌, ◌%◌, ◌==◌, ℕ, zero, suc, Bool, true, false}
 use Rattle.std.specs.Prelude.{if◌then◌else◌, List, [], ◌∷◌, length, map, take, drop}
 use Rattle.std.specs.Prelude.{slice_index, All, Option, Some, None}
 use Rattle.std.proofs.Common.{arith, ap, subst, sym, ◌∙◌, refl, length-take, inl, inr, true≢false}
 use Rattle.std.proofs.lemmas.List.Elements.{All-nil, All-append, All-take, All-drop, All-map}
 use Rattle.std.proofs.lemmas.Bool.Decides.{eqb_tells}
+use Rattle.std.proofs.lemmas.List.FromFn.{length-map-range_with_len}
 use Rattle.std.specs.List.{flat_map, range_with_len}
 use Rattle.std.specs.Option.{option_map_or}
 use Rattle.std.specs.FinMap.{get}
@@ -15,15 +16,17 @@ use Rattle.block_chain.specs.Layout.{blocks_of}
 use Rattle.block_chain.specs.Words.{word_bytes, page_words, block_bytes}
 use Rattle.block_chain.specs.laws.Words.{word_bytes-bytes}
 use Rattle.file_tree.specs.declared.entry.Entry.{Entry}
-use Rattle.file_tree.specs.Cards.{File, Path, dedicated, elementary, transparent, linear, cyclic}
+use Rattle.file_tree.specs.Cards.{File, Path, dedicated, elementary, transparent, linear, cyclic, identifier}
 use Rattle.file_tree.specs.Entries.{free_entry, body_of, capacity_of, cyclic_records, entry_of, entry_told, extent_of}
 use Rattle.file_tree.specs.Entries.{file_of, kind_of, linear_records, name_of, slot}
-use Rattle.file_tree.specs.Table.{table, entry_in, IsFileEntry}
+use Rattle.file_tree.specs.Table.{table, entry_in, path_of, IsFileEntry, IsRecordBody, IsTransparentBody, IsUsed}
 use Rattle.file_tree.specs.Trees.{content, tree_of, TreeStands}
 use Rattle.file_tree.specs.laws.Nodes.{entry_found, used_small}
+use Rattle.file_tree.specs.laws.Paths.{identifier_path}
 use Rattle.file_tree.specs.laws.Tables.{entry_in-table, entry_of-free, entry_of-used, length-table}
 use Rattle.card_core.specs.Finding.{HasCard, found, words_found}
-use Rattle.card_core.specs.Proper.{IsProper, IsProperBody, IsProperFile, IsProperKind, IsProperName, IsRecord}
+use Rattle.card_core.specs.Proper.{AreRecords, IsProper, IsProperBody, IsProperFile, IsProperKind, IsProperName}
+use Rattle.card_core.specs.Proper.{IsProperShort, IsRecord}
 use Rattle.card_core.specs.Standing.{card_of, IsCard}
 
 abbrev byte : ℕ → Type 0
@@ -60,13 +63,18 @@ bytes-content m entry = by_extent (extent_of entry)
     by_extent None = no_bytes
     by_extent (Some extent) = bytes-blocks m (blocks_of m extent)
 
--- the bytes that an entry has for its rule and its name
+-- the bytes that an entry has for its rule and its name, and its identifier
 record HasBytes (entry : Entry) : Type 0 where
   rule : AreBytes entry.rule
   name : AreBytes entry.name
+  identifier : entry.identifier < 65536
 
 bytes-told : (words : List ℕ) → HasBytes (entry_told words)
-bytes-told words = record { rule = bytes-at words (range_with_len 2 2); name = bytes-at words (range_with_len 4 4) }
+bytes-told words = record {
+  rule = bytes-at words (range_with_len 2 2);
+  name = bytes-at words (range_with_len 4 4);
+  identifier = omega arith;
+}
 
 bytes-entry : (words : List ℕ) → (entry_of words).kind ≢ 0 → HasBytes (entry_of words)
 bytes-entry words used = elim (eqb_tells (slice_index words 0) 0) [
@@ -91,28 +99,50 @@ proper-records : (entry : Entry) (bytes : List ℕ) (place : ℕ → ℕ) (ks : 
 proper-records entry bytes place ks short all =
     All-map IsRecord (λ i. slot entry bytes (place i)) ks (λ k d lt. proper-slot entry bytes (place _) short all)
 
-proper-body : (entry : Entry) (bytes : List ℕ) (two three : Bool) → (three ≡ true → entry.record_length ≤ 255)
-    → (two ≡ false → three ≡ false → entry.record_length ≤ 255)
+-- the records of a file with room for some
+are-records : (entry : Entry) (bytes : List ℕ) (place : ℕ → ℕ) → IsRecordBody entry → AreBytes bytes
+    → AreRecords entry.record_length (capacity_of entry)
+    (map (λ i. slot entry bytes (place i)) (range_with_len 0 entry.records))
+are-records entry bytes place body all =
+    let long = length-map-range_with_len (λ i. slot entry bytes (place i)) 0 entry.records in
+    let room = body.multiple in
+    let size = body.size in
+    let few = body.records in
+    let most = body.capacity in
+    record {
+      each = proper-records entry bytes place (range_with_len 0 entry.records) body.record_length all;
+      record_length = body.record_length;
+      room = omega (arith, room, size);
+      number = omega (arith, long, few, most);
+    }
+
+proper-body : (entry : Entry) (bytes : List ℕ) (two three : Bool) → (two ≡ true → IsTransparentBody entry)
+    → (two ≡ false → IsRecordBody entry)
     → AreBytes bytes → IsProperBody (if two then transparent (take entry.size bytes) else
     if three then linear entry.record_length (capacity_of entry) (linear_records entry bytes) else
     cyclic entry.record_length (capacity_of entry) (cyclic_records entry bytes))
-proper-body entry bytes true three linear_short cyclic_short all = All-take byte entry.size bytes all
-proper-body entry bytes false true linear_short cyclic_short all = proper-records entry bytes (λ i. i) (range_with_len
-    0 entry.records) (linear_short refl) all
-proper-body entry bytes false false linear_short cyclic_short all =
-    proper-records entry bytes (λ i. (entry.start + i) % capacity_of entry) (range_with_len 0 entry.records)
-    (cyclic_short refl refl) all
+proper-body entry bytes true three of_bytes of_records all =
+    let some = length-take entry.size bytes in
+    let most = (of_bytes refl).size in
+    record { bytes = All-take byte entry.size bytes all; size = omega (arith, some, most) }
+proper-body entry bytes false true of_bytes of_records all = are-records entry bytes (λ i. i) (of_records refl) all
+proper-body entry bytes false false of_bytes of_records all =
+    are-records entry bytes (λ i. (entry.start + i) % capacity_of entry) (of_records refl) all
 
 proper-name : (none : Bool) (name : List ℕ) → AreBytes name → length name ≤ 16
     → IsProperName (if none then None else Some name)
 proper-name true name all short = tt
 proper-name false name all short = record { bytes = all; size = short }
 
+proper-short : (none : Bool) (n : ℕ) → n ≤ 30 → IsProperShort (if none then None else Some n)
+proper-short true n most = tt
+proper-short false n most = most
+
 -- what a test of two numbers tells
-same-of : (a b : ℕ) → (a == b) ≡ true → a ≡ b
+pub same-of : (a b : ℕ) → (a == b) ≡ true → a ≡ b
 same-of a b is = elim (eqb_tells a b) [ inl same ↦ same.1 | inr other ↦ absurd (true≢false (sym is ∙ other.0)) ]
 
-other-of : (a b : ℕ) → (a == b) ≡ false → a ≢ b
+pub other-of : (a b : ℕ) → (a == b) ≡ false → a ≢ b
 other-of a b is = elim (eqb_tells a b) [ inl same ↦ absurd (true≢false (sym same.0 ∙ is)) | inr other ↦ other.1 ]
 
 proper-kind : (entry : Entry) (bytes : List ℕ) → IsFileEntry entry → entry.kind ≢ 0 → HasBytes entry
@@ -126,17 +156,21 @@ proper-kind entry bytes file used has all = by_kind (entry.kind == 1) refl
         let some = length-take entry.name_length entry.name in let most = file.name.most in
         proper-name (entry.name_length == 0) (name_of entry) (All-take byte entry.name_length entry.name has.name)
         (omega (arith, some, most))
-    by_kind false is =
-        let record_body : (entry.kind ≡ 3) ⊎ (entry.kind ≡ 4)
-        → entry.record_length ≤ 255 = λ of_records. (file.body.records of_records).record_length in
-        proper-body entry bytes (entry.kind == 2) (entry.kind == 3) (λ three. record_body (inl (same-of entry.kind 3
-        three)))
-        (λ two three.
-        let most = file.kind in
-        let one = other-of entry.kind 1 is in let second = other-of entry.kind 2 two in let third = other-of
-        entry.kind 3 three in
-        record_body (inr (let z : entry.kind ≡ 4 = omega (arith, most, used, one, second, third) in z)))
-        all
+    by_kind false is = (
+      proper-short (entry.short == 0) entry.short file.short.most,
+      proper-body entry bytes (entry.kind == 2) (entry.kind == 3)
+          (λ two. file.body.transparent (same-of entry.kind 2 two)) (λ two. of_records (other-of entry.kind 1 is)
+          (other-of entry.kind 2 two)) all,
+    )
+      where
+        of_records : entry.kind ≢ 1 → entry.kind ≢ 2 → IsRecordBody entry
+        of_records one two = elim (eqb_tells entry.kind 3) [
+          | inl three ↦ file.body.records (inl three.1)
+          | inr other ↦ (
+              let most = file.kind in
+              let third = other.1 in
+              let four : entry.kind ≡ 4 = omega (arith, most, used, one, two, third) in file.body.records (inr four))
+        ]
 
 proper-entry : (entry : Entry) (bytes : List ℕ) → IsFileEntry entry → entry.kind ≢ 0 → HasBytes entry
     → AreBytes bytes → IsProperFile (file_of entry bytes)
@@ -149,6 +183,13 @@ proper-entry entry bytes file used has all =
       kind = proper-kind entry bytes file used has all;
     }
 
+-- an entry's bytes, by its page
+entry-bytes : (m : List ℕ) (e : ℕ) → IsUsed (table m) e → HasBytes (entry_in (table m) e)
+entry-bytes m e used =
+    let page = entry_in-table m e (used_small m e used) in
+    subst HasBytes (sym page) (bytes-entry (page_words m (1 + e)) (λ none. used (ap (λ (x : Entry). x.kind) page
+    ∙ none)))
+
 -- the files of a memory that stands for a tree
 proper-file : (m : List ℕ) → TreeStands m → (path : Path) (file : File) → get (tree_of m) path ≡ Some file
     → IsProperFile file
@@ -158,15 +199,25 @@ proper-file m stands path file is =
     let used = at.1 in
     let below = used_small m e used in
     let entry = entry_in (table m) e in
-    let page = entry_in-table m e below in
-    let bytes = subst HasBytes (sym page) (bytes-entry (page_words m (1 + e)) (λ none. used (ap (λ (x : Entry).
-    x.kind) page ∙ none))) in
     let rules = (stands.entries.each e free_entry (let l = length-table m in omega (arith, l, below))).used used in
-    subst IsProperFile (sym at.3) (proper-entry entry (content m entry) rules used bytes (bytes-content m entry))
+    subst IsProperFile (sym at.3) (proper-entry entry (content m entry) rules used (entry-bytes m e used)
+    (bytes-content m entry))
+
+small-identifier : (m : List ℕ) → TreeStands m → (path : Path) (file : File) → get (tree_of m) path ≡ Some file
+    → identifier path < 65536
+small-identifier m stands path file is =
+    let at = entry_found m path file is in
+    let id = identifier_path (table m) stands.entries at.0 at.1 in
+    let small = (entry-bytes m at.0 at.1).identifier in
+    subst (λ (p : Path). identifier p < 65536) at.2 (let z : identifier (path_of (table m) at.0) < 65536 = omega (
+      arith,
+      id,
+      small,
+    ) in z)
 
 pub proper-card : (m : List ℕ) → IsCard m → IsProper (card_of m)
 unfolding card_of
-proper-card m words = record { files = proper-file m words.tree }
+proper-card m words = record { files = proper-file m words.tree; identifiers = small-identifier m words.tree }
 
 pub found_is_proper : (m : List ℕ) → HasCard m → IsProper (found m)
 found_is_proper m there = proper-card (words_found m) there.words

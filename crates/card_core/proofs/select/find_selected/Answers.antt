@@ -1,11 +1,12 @@
-use Rattle.std.proofs.Common.{◌≡◌, ℕ, Option, Some, option_map, sym, ◌∙◌, ap}
+use Rattle.std.proofs.Common.{◌≡◌, ℕ, List, Option, Some, option_map, sym, ◌∙◌, ap}
+use Rattle.undo_journal.specs.Memory.{committed}
 use Rattle.apdu_core.specs.declared.select.Selector.{Selector}
+use Rattle.apdu_core.specs.Selections.{selection_of, path_from_master as whole_path, path_from_current as path_below}
 use Rattle.file_tree.specs.Cards.{Path, Tree}
-use Rattle.file_tree.specs.Reaching.{reached}
+use Rattle.file_tree.specs.Reaching.{by_name, path_from_current, path_from_master, reached, selected, the_parent}
 use Rattle.file_tree.specs.Table.{path_of}
 use Rattle.file_tree.specs.Trees.{tree_of}
 use Rattle.card_core.proofs.Answering.{ok_then}
-use Rattle.undo_journal.specs.Memory.{committed}
 use Rattle.card_core.specs.Reaching.{selected_from}
 use Rattle.card_core.specs.Standing.{card_of}
 use Rattle.card_core.specs.Working.{table_in}
@@ -16,7 +17,7 @@ pub returns-in-MasterFile-clause-found : goal.returns-in-MasterFile-clause-found
 returns-in-MasterFile-clause-found g c =
     let m = committed c.args.store.now in
     ap (λ (selector : Selector). selected_from (card_of m).tree (path_of (table_in c.args.store.now)
-    c.args.current.df) selector) c.in-MasterFile.is
+    c.args.current.df) (selection_of selector)) c.in-MasterFile.is
     ∙ sym (ap (λ (path : Path). Some path) (master-path m))
 
 pub returns-in-Identifier-clause-found : goal.returns-in-Identifier-clause-found
@@ -26,6 +27,60 @@ returns-in-Identifier-clause-found g c =
     let df = path_of t c.args.current.df in
     let id = c.in-Identifier.identifier in
     ok_then (λ (found : Option ℕ). option_map (path_of t) found ≡ reached (tree_of m) df id) _ c.select.result
-    (λ found is. ap (λ (selector : Selector). selected_from (card_of m).tree df selector) c.in-Identifier.is
+    (λ found is. ap (λ (selector : Selector). selected_from (card_of m).tree df (selection_of selector))
+    c.in-Identifier.is
     ∙ ap (λ (tree : Tree). reached tree df id) (card-tree m) ∙ sym is)
     c.select.ensures.found
+
+pub returns-in-Parent-clause-found : goal.returns-in-Parent-clause-found
+returns-in-Parent-clause-found g c =
+    let m = committed c.args.store.now in
+    let t = table_in c.args.store.now in
+    let df = path_of t c.args.current.df in
+    ok_then (λ (found : Option ℕ). option_map (path_of t) found ≡ selected (tree_of m) df the_parent) _
+    c.find_parent.result
+    (λ found is. ap (λ (selector : Selector). selected_from (card_of m).tree df (selection_of selector)) c.in-Parent.is
+    ∙ ap (λ (tree : Tree). selected tree df the_parent) (card-tree m) ∙ sym is)
+    c.find_parent.ensures.found
+
+pub returns-in-Name-clause-found : goal.returns-in-Name-clause-found
+returns-in-Name-clause-found g c =
+    let m = committed c.args.store.now in
+    let t = table_in c.args.store.now in
+    let df = path_of t c.args.current.df in
+    let name = c.in-Name.name.now in
+    ok_then (λ (found : Option ℕ). (above : Path) → option_map (path_of t) found ≡ selected (tree_of m) above
+    (by_name name)) _ c.find_name.result
+    (λ found is. ap (λ (selector : Selector). selected_from (card_of m).tree df (selection_of selector)) c.in-Name.is
+    ∙ ap (λ (tree : Tree). selected tree df (by_name name)) (card-tree m) ∙ sym (is df))
+    c.find_name.ensures.found
+
+pub returns-in-PathFromMaster-clause-found : goal.returns-in-PathFromMaster-clause-found
+returns-in-PathFromMaster-clause-found g c =
+    let m = committed c.args.store.now in
+    let t = table_in c.args.store.now in
+    let df = path_of t c.args.current.df in
+    let path = c.deref.result.now in
+    let is = c.deref.ensures.0 ∙ c.identifiers_of.ensures in
+    ok_then (λ (found : Option ℕ). (above : Path) → option_map (path_of t) found ≡ selected (tree_of m) above
+    (path_from_master path)) _ c.find_path_from_master.result
+    (λ found reaches. ap (λ (selector : Selector). selected_from (card_of m).tree df (selection_of selector))
+    c.in-PathFromMaster.is
+    ∙ ap (λ (ids : List ℕ). selected_from (card_of m).tree df (whole_path ids)) (sym is)
+    ∙ ap (λ (tree : Tree). selected tree df (path_from_master path)) (card-tree m) ∙ sym (reaches df))
+    c.find_path_from_master.ensures.found
+
+pub returns-in-PathFromCurrent-clause-found : goal.returns-in-PathFromCurrent-clause-found
+returns-in-PathFromCurrent-clause-found g c =
+    let m = committed c.args.store.now in
+    let t = table_in c.args.store.now in
+    let df = path_of t c.args.current.df in
+    let path = c.deref-in-PathFromCurrent.result.now in
+    let is = c.deref-in-PathFromCurrent.ensures.0 ∙ c.identifiers_of-in-PathFromCurrent.ensures in
+    ok_then (λ (found : Option ℕ). option_map (path_of t) found ≡ selected (tree_of m) df (path_from_current path)) _
+    c.find_path.result
+    (λ found reaches. ap (λ (selector : Selector). selected_from (card_of m).tree df (selection_of selector))
+    c.in-PathFromCurrent.is
+    ∙ ap (λ (ids : List ℕ). selected_from (card_of m).tree df (path_below ids)) (sym is)
+    ∙ ap (λ (tree : Tree). selected tree df (path_from_current path)) (card-tree m) ∙ sym reaches)
+    c.find_path.ensures.found

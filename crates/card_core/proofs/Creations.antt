@@ -1,0 +1,186 @@
+-- CREATE FILE by the dedicated file that is current.
+use Rattle.std.proofs.Common.{◌≡◌, ◌⊎◌, ◌≤◌, ◌-◌, ℕ, Bool, List, [], ◌∷◌, ◌++◌, length}
+use Rattle.std.proofs.Common.{Option, Some, None, unwrap_or, Result, Ok, Err, refl, sym, ◌∙◌, ap, arith, inl, inr}
+use Rattle.std.specs.Prelude.{cond}
+use Rattle.std.specs.Cmp.Lexicographic.{nat_list_cmp_total}
+use Rattle.std.specs.FinMap.{get, get-insert}
+use Rattle.nvm_board.specs.declared.board.TheConstants.{WORDS}
+use Rattle.card_rules.specs.declared.status.Sw.{Sw}
+use Rattle.card_rules.specs.declared.status.TheConstants.Sw.{DONE, WRONG_DATA}
+use Rattle.fcp_template.specs.declared.fault.FcpFault.{FcpFault}
+use Rattle.fcp_template.specs.declared.fcp.Fcp.{Fcp}
+use Rattle.fcp_template.specs.Function.{fcp_read}
+use Rattle.apdu_core.specs.Requests.{create_file}
+use Rattle.file_tree.specs.declared.space.FreeSpace.{FreeSpace}
+use Rattle.file_tree.specs.Changes.{SameTree, with_freed}
+use Rattle.file_tree.specs.Creations.{CreatesNew, IsCreated}
+use Rattle.file_tree.specs.NewFiles.{creation_refusal, new_file, short_of_new}
+use Rattle.file_tree.specs.Spaces.{free_space}
+use Rattle.file_tree.specs.Table.{table, entry_in, path_of}
+use Rattle.file_tree.specs.Trees.{tree_of}
+use Rattle.file_tree.specs.laws.Nodes.{file_in, get-used, same_of_one}
+use Rattle.card_core.specs.declared.current.Current.{Current as CurrentFiles}
+use Rattle.card_core.specs.Cards.{Card, File, Kind, Path, Tree, dedicated, elementary, no_file}
+use Rattle.card_core.specs.Files.{IsCreating, with_new}
+use Rattle.card_core.specs.Outcomes.{refused, only_status}
+use Rattle.card_core.specs.Selecting.{selecting}
+use Rattle.card_core.specs.Sessions.{Session}
+use Rattle.card_core.specs.Standing.{card_of, IsCard}
+use Rattle.card_core.specs.Steps.{step}
+use Rattle.card_core.specs.Working.{current_at, outcome, session_of, IsCurrent}
+use Rattle.card_core.proofs.Entries.{card-tree, current-entry, selecting-entry}
+use Rattle.card_core.proofs.FileSteps.{create-card, create-done, create-refused, create-unread, create-unrefused}
+use Rattle.card_core.proofs.Keeping.{files-stand, files-after}
+
+-- what was found of nothing that is there
+value_of : (one other : File) → Some one ≡ Some other → one ≡ other
+value_of one other is = ap (λ (o : Option File). unwrap_or o no_file) is
+
+-- what becomes current does so whatever was current before
+selecting-any : (s r : Session) (path : Path) (kind : Kind) → s.verified ≡ r.verified
+    → selecting s path kind ≡ selecting r path kind
+selecting-any s r path (dedicated name) same = λ i. record {
+  current_df = path;
+  current_ef = None;
+  pointer = None;
+  verified = same i;
+}
+selecting-any s r path (elementary short body) same = λ i. record (selecting s path (elementary short body)) {
+  verified = same i;
+}
+
+-- a template that tells of no file
+pub unread-step : (c : Card) (s : Session) (template : List ℕ) (read : Result Fcp FcpFault)
+    → fcp_read template ≡ read → ((fcp : Fcp) → read ≡ Ok fcp → ⊥)
+    → step c s (create_file template) ≡ refused c s WRONG_DATA
+unread-step c s template (Ok fcp) is never = absurd (never fcp refl)
+unread-step c s template (Err fault) is never = create-unread c s template fault is
+
+-- what is free shrinks by what a file takes
+module _ (m now after : List ℕ) (old taken : FreeSpace) (is : old ≡ free_space (card_of m).tree) (same : now ≡ m)
+    (space : free_space (tree_of now) ≡ with_freed (free_space (tree_of after)) taken) where
+  sum-is : old ≡ with_freed (free_space (card_of after).tree) taken
+  sum-is =
+      is ∙ ap free_space (card-tree m) ∙ sym (ap (λ (l : List ℕ). free_space (tree_of l)) same) ∙ space
+      ∙ sym (ap (λ (tree : Tree). with_freed (free_space tree) taken) (card-tree after))
+
+  pub taken-blocks : taken.blocks ≤ old.blocks
+  taken-blocks = let sum = ap (λ (s : FreeSpace). s.blocks) sum-is in omega (arith, sum)
+
+  pub taken-entries : taken.entries ≤ old.entries
+  taken-entries = let sum = ap (λ (s : FreeSpace). s.entries) sum-is in omega (arith, sum)
+
+  pub created-space : record { blocks = old.blocks - taken.blocks; entries = old.entries - taken.entries }
+      ≡ free_space (card_of after).tree
+  created-space =
+      let left = free_space (card_of after).tree in
+      let blocks_sum = ap (λ (s : FreeSpace). s.blocks) sum-is in
+      let entries_sum = ap (λ (s : FreeSpace). s.entries) sum-is in
+      let blocks : old.blocks - taken.blocks ≡ left.blocks = omega (arith, blocks_sum) in
+      let entries : old.entries - taken.entries ≡ left.entries = omega (arith, entries_sum) in
+      λ i. record { blocks = blocks i; entries = entries i }
+
+module _ (m : List ℕ) (sized : length m ≡ WORDS) (words : IsCard m) (x : CurrentFiles) (template : List ℕ)
+    (fcp : Fcp) (is : fcp_read template ≡ Ok fcp) where
+  abbrev c : Card
+  c = card_of m
+
+  abbrev s : Session
+  s = session_of (table m) x
+
+  abbrev df : Path
+  df = path_of (table m) x.df
+
+  -- the tree of the card is that of its memory
+  refusal-by-tree : creation_refusal c.tree df fcp ≡ creation_refusal (tree_of m) df fcp
+  refusal-by-tree = ap (λ (tree : Tree). creation_refusal tree df fcp) (card-tree m)
+
+  pub refused-step : (status : Sw) → creation_refusal (tree_of m) df fcp ≡ Some status
+      → step c s (create_file template) ≡ refused c s status
+  refused-step status refuses = create-refused c s template fcp is status (refusal-by-tree ∙ refuses)
+
+  -- blocks that were filled, and no file
+  module _ (after : List ℕ) (same : SameTree m after) where
+    filled-stands : IsCard after
+    filled-stands = files-stand m after sized same.rest words same.stands
+
+    filled-card : card_of after ≡ c
+    filled-card =
+        files-after m after sized same.rest
+        ∙ ap (λ (tree : Tree). record c { tree = tree }) (same.tree ∙ sym (card-tree m))
+
+  module _ (after : List ℕ) (creates : CreatesNew m x.df fcp after) where
+    created-stands : IsCard after
+    created-stands = files-stand m after sized creates.rest words creates.stands
+
+    card-is : card_of after ≡ with_new c df fcp
+    card-is =
+        files-after m after sized creates.rest
+        ∙ ap (λ (tree : Tree). record c { tree = tree }) creates.tree
+        ∙ sym (ap (λ (tree : Tree). with_new (record c { tree = tree }) df fcp) (card-tree m))
+
+  -- whichever of both it was
+  pub any-stands : (after : List ℕ) → SameTree m after ⊎ CreatesNew m x.df fcp after → IsCard after
+  any-stands after (inl same) = filled-stands after same
+  any-stands after (inr creates) = created-stands after creates
+
+  pub any-creating : creation_refusal (tree_of m) df fcp ≡ None → (after : List ℕ)
+      → SameTree m after ⊎ CreatesNew m x.df fcp after → IsCreating c s template (card_of after)
+  any-creating none after (inl same) = record {
+    unrefused = create-unrefused c s template fcp is (refusal-by-tree ∙ none);
+    card = inl (filled-card after same);
+  }
+  any-creating none after (inr creates) = record {
+    unrefused = create-unrefused c s template fcp is (refusal-by-tree ∙ none);
+    card = inr (card-is after creates ∙ sym (create-card c s template fcp is));
+  }
+
+  -- a creation that was cut, or not: where it is refused, as told by a refusal, only reads were made
+  pub any-stage : {R : Type 0} (refusal : Option Sw) → creation_refusal (tree_of m) df fcp ≡ refusal
+      → ((status : Sw) → refusal ≡ Some status → R) → (after : List ℕ)
+      → SameTree m after ⊎ CreatesNew m x.df fcp after → R ⊎ IsCreating c s template (card_of after)
+  any-stage (Some status) told idle after exit = inl (idle status refl)
+  any-stage None told idle after exit = inr (any-creating told after exit)
+
+  -- a file that was created
+  module _ (e blocks : ℕ) (after : List ℕ) (made : IsCreated m x.df fcp e blocks after) where
+    abbrev path : Path
+    path = df ++ fcp.identifier ∷ []
+
+    abbrev new : File
+    new = new_file fcp (short_of_new (tree_of m) df fcp)
+
+    stands : IsCard after
+    stands = created-stands after made.creates
+
+    file-there : get (tree_of after) path ≡ Some new
+    file-there =
+        ap (λ (tree : Tree). get tree path) made.creates.tree
+        ∙ get-insert nat_list_cmp_total (tree_of m) path new path
+        ∙ ap (λ (b : Bool). cond b (Some new) (get (tree_of m) path)) (same_of_one path path refl)
+
+    file-is : file_in after e ≡ new
+    file-is = value_of (file_in after e) new
+        (sym (get-used after stands.tree.entries e made.used) ∙ ap (get (tree_of after)) made.path ∙ file-there)
+
+    abbrev at_file : CurrentFiles
+    at_file = current_at e (entry_in (table after) e)
+
+    session-is : selecting s path (new_file fcp (short_of_new c.tree df fcp)).kind ≡ session_of (table after) at_file
+    session-is =
+        ap (λ (tree : Tree). selecting s path (new_file fcp (short_of_new tree df fcp)).kind) (card-tree m)
+        ∙ selecting-any s (session_of (table after) at_file) path new.kind refl
+        ∙ (λ i. selecting (session_of (table after) at_file) (sym made.path i) (sym file-is i).kind)
+        ∙ selecting-entry after stands e made.used at_file
+
+    pub created-step : step c s (create_file template)
+        ≡ outcome (card_of after) (session_of (table after) at_file) [] DONE
+    created-step =
+        create-done c s template fcp is (refusal-by-tree ∙ made.none)
+        ∙ (λ i. record { card = sym (card-is after made.creates) i; session = session-is i; response = only_status DONE })
+
+    pub created-current : IsCurrent (table after) at_file
+    created-current = current-entry after stands e made.used
+
+    pub created-is-card : IsCard after
+    created-is-card = stands

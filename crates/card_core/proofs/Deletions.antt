@@ -1,0 +1,174 @@
+-- DELETE FILE by the entry of the file that is named.
+use Rattle.std.proofs.Common.{◌≡◌, ◌⊎◌, ◌<◌, ◌≤◌, ◌+◌, ◌==◌, ◌&&◌, ℕ, Bool, true, false, nat_eq, List, [], ◌∷◌, ◌++◌, length}
+use Rattle.std.proofs.Common.{Option, Some, None, IfSome, option_map, unwrap_or, refl, sym, ◌∙◌, ap, subst, arith, inl, inr}
+use Rattle.std.proofs.lemmas.Bool.{ne_eqb}
+use Rattle.std.proofs.lemmas.List.{length-append}
+use Rattle.std.specs.FinSet.{empty}
+use Rattle.std.specs.List.{starts_with}
+use Rattle.nvm_board.specs.declared.board.TheConstants.{WORDS}
+use Rattle.card_rules.specs.declared.status.TheConstants.Sw.{DONE}
+use Rattle.apdu_core.specs.declared.files.Subject.{Subject}
+use Rattle.apdu_core.specs.declared.files.Subject.TheVariants as subjects
+use Rattle.apdu_core.specs.Requests.{delete_file}
+use Rattle.file_tree.specs.declared.entry.Entry.{Entry}
+use Rattle.file_tree.specs.declared.space.FreeSpace.{FreeSpace}
+use Rattle.file_tree.specs.Changes.{Deletes, with_freed}
+use Rattle.file_tree.specs.Spaces.{free_space}
+use Rattle.file_tree.specs.Table.{table, entry_in, path_of, IsUsed}
+use Rattle.file_tree.specs.Trees.{tree_of}
+use Rattle.file_tree.specs.laws.Paths.{parent_path, parent_used, path_of-child}
+use Rattle.card_core.specs.declared.current.Current.{Current as CurrentFiles}
+use Rattle.card_core.specs.Cards.{Card, Path, Tree, parent}
+use Rattle.card_core.specs.Files.{IsDeleting, without}
+use Rattle.card_core.specs.Outcomes.{only_status}
+use Rattle.card_core.specs.Reaching.{subject_of}
+use Rattle.card_core.specs.Sessions.{Session, at_dedicated_file}
+use Rattle.card_core.specs.Standing.{card_of, IsCard}
+use Rattle.card_core.specs.Steps.{step}
+use Rattle.card_core.specs.Working.{outcome, session_of, IsCurrent, IsElementary}
+use Rattle.card_core.proofs.Entries.{card-tree, current-path}
+use Rattle.card_core.proofs.FileSteps.{delete-card, delete-done, delete-unrefused}
+use Rattle.card_core.proofs.Keeping.{files-stand, files-after}
+
+-- the current file, by its path
+pub subject-current : (m : List ℕ) → IsCard m → (x : CurrentFiles) → IsCurrent (table m) x
+    → subject_of (card_of m).tree (session_of (table m) x) subjects.Current
+    ≡ Some (path_of (table m) (unwrap_or x.ef x.df))
+subject-current m words x current =
+    ap (λ (found : Option Path). Some (unwrap_or found (path_of (table m) x.df))) (current-path m words x current)
+    ∙ ap (λ (path : Path). Some path) (by_file x.ef)
+  where
+    by_file : (ef : Option ℕ) → unwrap_or (option_map (path_of (table m)) ef) (path_of (table m) x.df)
+        ≡ path_of (table m) (unwrap_or ef x.df)
+    by_file None = refl
+    by_file (Some e) = refl
+
+-- and it is there
+pub current-used : (t : List Entry) (x : CurrentFiles) → IsCurrent t x → IsUsed t (unwrap_or x.ef x.df)
+current-used t x current = by_file x.ef current.ef
+  where
+    by_file : (ef : Option ℕ) → IfSome ef (IsElementary t x.df) → IsUsed t (unwrap_or ef x.df)
+    by_file None file = λ none. let k = current.df in let z : ⊥ = omega (arith, k, none) in z
+    by_file (Some e) file = file.child.used
+
+and_false : (b : Bool) → (b && false) ≡ false
+and_false true = refl
+and_false false = refl
+
+-- a path does not begin with itself and an identifier more
+starts-longer : (path : Path) (id : ℕ) → starts_with nat_eq path (path ++ id ∷ []) ≡ false
+starts-longer [] id = refl
+starts-longer (first ∷ path) id =
+    ap (λ (b : Bool). nat_eq first first && b) (starts-longer path id) ∙ and_false (nat_eq first first)
+
+-- what is free grows by what was freed
+pub deleted-space : (m now after : List ℕ) (old freed : FreeSpace) → old ≡ free_space (card_of m).tree → now ≡ m
+    → free_space (tree_of after) ≡ with_freed (free_space (tree_of now)) freed
+    → with_freed old freed ≡ free_space (card_of after).tree
+deleted-space m now after old freed is same space =
+    ap (λ (space : FreeSpace). with_freed space freed)
+    (is ∙ ap free_space (card-tree m) ∙ sym (ap (λ (l : List ℕ). free_space (tree_of l)) same))
+    ∙ sym space ∙ sym (ap free_space (card-tree after))
+
+-- no more is free than there is
+pub freed-blocks : (m now after : List ℕ) (old freed : FreeSpace) → old ≡ free_space (card_of m).tree → now ≡ m
+    → free_space (tree_of after) ≡ with_freed (free_space (tree_of now)) freed → old.blocks + freed.blocks ≤ 896
+freed-blocks m now after old freed is same space =
+    let sum = ap (λ (s : FreeSpace). s.blocks) (deleted-space m now after old freed is same space) in omega (arith, sum)
+
+pub freed-entries : (m now after : List ℕ) (old freed : FreeSpace) → old ≡ free_space (card_of m).tree → now ≡ m
+    → free_space (tree_of after) ≡ with_freed (free_space (tree_of now)) freed → old.entries + freed.entries ≤ 64
+freed-entries m now after old freed is same space =
+    let sum = ap (λ (s : FreeSpace). s.entries) (deleted-space m now after old freed is same space) in omega (arith, sum)
+
+module _ (m : List ℕ) (sized : length m ≡ WORDS) (words : IsCard m) (x : CurrentFiles) (subject : Subject) (e : ℕ)
+    (above : 0 < e) (used : IsUsed (table m) e)
+    (place : subject_of (card_of m).tree (session_of (table m) x) subject ≡ Some (path_of (table m) e)) where
+  abbrev c : Card
+  c = card_of m
+
+  abbrev s : Session
+  s = session_of (table m) x
+
+  abbrev path : Path
+  path = path_of (table m) e
+
+  abbrev up : ℕ
+  up = (entry_in (table m) e).parent
+
+  abbrev at_parent : CurrentFiles
+  at_parent = record { df = up; ef = None }
+
+  path-is : path ≡ path_of (table m) up ++ (entry_in (table m) e).identifier ∷ []
+  path-is = path_of-child (table m) words.tree.entries e above used
+
+  below : (length path == 0) ≡ false
+  below =
+      let child = ap (λ (p : Path). length p) path-is in
+      let long = length-append (path_of (table m) up) ((entry_in (table m) e).identifier ∷ []) in
+      ne_eqb (length path) 0 (λ none. let z : ⊥ = omega (arith, child, long, none) in z)
+
+  -- the parent isn't below the file
+  outside : starts_with nat_eq (path_of (table m) up) path ≡ false
+  outside = ap (λ (p : Path). starts_with nat_eq (path_of (table m) up) p) path-is
+      ∙ starts-longer (path_of (table m) up) (entry_in (table m) e).identifier
+
+  module _ (after : List ℕ) (deletes : Deletes m e after) where
+    -- the parent's entry and its path stay
+    kept : (entry_in (table after) up ≡ entry_in (table m) up) × (path_of (table after) up ≡ path_of (table m) up)
+    kept = deletes.kept up (parent_used (table m) words.tree.entries e above used) outside
+
+    pub deleted-stands : IsCard after
+    deleted-stands = files-stand m after sized deletes.rest words deletes.stands
+
+    card-is : card_of after ≡ without c path
+    card-is =
+        files-after m after sized deletes.rest
+        ∙ ap (λ (tree : Tree). record c { tree = tree }) deletes.tree
+        ∙ sym (ap (λ (tree : Tree). without (record c { tree = tree }) path) (card-tree m))
+
+    pub deleted-current : IsCurrent (table after) at_parent
+    deleted-current = record {
+      df = ap (λ (y : Entry). y.kind) kept.0 ∙ (words.tree.entries.below e above used).parent;
+      ef = tt;
+    }
+
+    session-is : at_dedicated_file s (parent path) ≡ session_of (table after) at_parent
+    session-is =
+        let above_is = parent_path (table m) words.tree.entries e used ∙ sym kept.1 in
+        λ i. record { current_df = above_is i; current_ef = None; pointer = None; verified = empty }
+
+    pub deleted-step : step c s (delete_file subject)
+        ≡ outcome (card_of after) (session_of (table after) at_parent) [] DONE
+    deleted-step =
+        delete-done c s subject path place below
+        ∙ (λ i. record { card = sym card-is i; session = session-is i; response = only_status DONE })
+
+    pub deleted-is : IsDeleting c s subject (card_of after)
+    deleted-is = record {
+      unrefused = delete-unrefused c s subject path place below;
+      card = inr (card-is ∙ sym (delete-card c s subject path place below));
+    }
+
+  -- a deletion that was cut, or not: the memory before it was only read
+  module _ (now after : List ℕ) (same : now ≡ m) where
+    deletes_is : Deletes now e after → Deletes m e after
+    deletes_is deletes = subst (λ (l : List ℕ). Deletes l e after) same deletes
+
+    pub any-stands : (after ≡ now) ⊎ Deletes now e after → IsCard after
+    any-stands (inl kept) = subst IsCard (sym (kept ∙ same)) words
+    any-stands (inr deletes) = deleted-stands after (deletes_is deletes)
+
+    pub any-deleting : (after ≡ now) ⊎ Deletes now e after → IsDeleting c s subject (card_of after)
+    any-deleting (inl kept) = record {
+      unrefused = delete-unrefused c s subject path place below;
+      card = inl (ap card_of (kept ∙ same));
+    }
+    any-deleting (inr deletes) = deleted-is after (deletes_is deletes)
+
+    pub done-step : Deletes now e after → step c s (delete_file subject)
+        ≡ outcome (card_of after) (session_of (table after) at_parent) [] DONE
+    done-step deletes = deleted-step after (deletes_is deletes)
+
+    pub done-current : Deletes now e after → IsCurrent (table after) at_parent
+    done-current deletes = deleted-current after (deletes_is deletes)

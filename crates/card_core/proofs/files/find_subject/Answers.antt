@@ -1,0 +1,33 @@
+use Rattle.std.proofs.Common.{◌≡◌, ℕ, Option, Some, option_map, sym, ◌∙◌, ap}
+use Rattle.undo_journal.specs.Memory.{committed}
+use Rattle.apdu_core.specs.declared.files.Subject.{Subject}
+use Rattle.file_tree.specs.Cards.{Tree}
+use Rattle.file_tree.specs.Reaching.{reached}
+use Rattle.file_tree.specs.Table.{table, path_of}
+use Rattle.file_tree.specs.Trees.{tree_of}
+use Rattle.card_core.specs.Reaching.{subject_of}
+use Rattle.card_core.specs.Standing.{card_of}
+use Rattle.card_core.specs.Working.{session_of}
+use Rattle.card_core.proofs.Answering.{ok_then}
+use Rattle.card_core.proofs.Deletions.{subject-current}
+use Rattle.card_core.proofs.Entries.{card-tree}
+use Rattle.card_core.proofs.files.find_subject.Goals as goal
+
+pub returns-in-Current-clause-found : goal.returns-in-Current-clause-found
+returns-in-Current-clause-found g c =
+    let m = committed c.args.store.now in
+    ap (λ (subject : Subject). subject_of (card_of m).tree (session_of (table m) c.args.current) subject) c.in-Current.is
+    ∙ subject-current m c.requires.card c.args.current c.requires.current
+    ∙ ap (λ (found : Option ℕ). option_map (path_of (table m)) found) (ap (λ (e : ℕ). Some e) (sym c.unwrap_or.ensures))
+
+pub returns-in-Identifier-clause-found : goal.returns-in-Identifier-clause-found
+returns-in-Identifier-clause-found g c =
+    let m = committed c.args.store.now in
+    let t = table m in
+    let df = path_of t c.args.current.df in
+    let id = c.in-Identifier.identifier in
+    ok_then (λ (found : Option ℕ). option_map (path_of t) found ≡ reached (tree_of m) df id) _ c.select.result
+    (λ found is. ap (λ (subject : Subject). subject_of (card_of m).tree (session_of t c.args.current) subject)
+    c.in-Identifier.is
+    ∙ ap (λ (tree : Tree). reached tree df id) (card-tree m) ∙ sym is)
+    c.select.ensures.found

@@ -1,0 +1,114 @@
+-- Commands on files as such: CREATE FILE and DELETE FILE (ISO/IEC 7816-9).
+use Rattle.std.specs.Prelude.{◌≡◌, ◌⊎◌, ◌==◌, ℕ, List, [], ◌∷◌, ◌++◌, length, not, nat_eq, None, is_none, unwrap_or}
+use Rattle.std.specs.Prelude.{Bool, true, false, Result, Ok, Err}
+use Rattle.std.specs.FinMap.{insert, retain_keys}
+use Rattle.std.specs.List.{starts_with}
+use Rattle.card_rules.specs.declared.status.TheConstants.Sw.{DONE, CONDITIONS_NOT_SATISFIED, FILE_NOT_FOUND}
+use Rattle.card_rules.specs.declared.status.TheConstants.Sw.{FILE_EXISTS, NAME_EXISTS, NO_ROOM, WRONG_DATA}
+use Rattle.card_rules.specs.declared.life_cycle.LifeCycle.TheVariants.{Activated}
+use Rattle.fcp_template.specs.declared.fault.FcpFault.{FcpFault}
+use Rattle.fcp_template.specs.declared.fcp.Fcp.{Fcp}
+use Rattle.fcp_template.specs.declared.fcp.FileKind.TheVariants.{Df}
+use Rattle.fcp_template.specs.Function.{fcp_read}
+use Rattle.fcp_template.specs.Views.{name_bytes, short_of_kind}
+use Rattle.file_tree.specs.NewFiles.{has_name, has_no_room, has_short_given, new_file, short_of_new}
+use Rattle.apdu_core.specs.declared.files.Subject.{Subject}
+use Rattle.card_core.specs.Cards.{Card, Path, exists, parent}
+use Rattle.card_core.specs.Outcomes.{Outcome, Refusal, Refusals, only_status, refused_by}
+use Rattle.card_core.specs.Reaching.{subject_of}
+use Rattle.card_core.specs.Selecting.{selecting}
+use Rattle.card_core.specs.Sessions.{Session, at_dedicated_file}
+
+-- the path of the file that is named; where none is, the command is refused
+abbrev pub subject_path : Card → Session → Subject → Path
+subject_path c s subject = unwrap_or (subject_of c.tree s subject) []
+
+-- what refuses DELETE FILE: no such file; the master file, which can't be deleted
+abbrev pub delete_refusals : Card → Session → Subject → Refusals
+delete_refusals c s subject = record {
+  target = record { applies = is_none (subject_of c.tree s subject); status = FILE_NOT_FOUND }
+      ∷ record { applies = length (subject_path c s subject) == 0; status = CONDITIONS_NOT_SATISFIED } ∷ [];
+  structure = [];
+  template = [];
+  limits = [];
+}
+
+-- a card without the file at a path and all files below it: those whose paths begin with it
+abbrev pub without : Card → Path → Card
+without c path = record c { tree = retain_keys c.tree (λ other. not (starts_with nat_eq other path)) }
+
+abbrev pub deleted_card : Card → Session → Subject → Card
+deleted_card c s subject = without c (subject_path c s subject)
+
+-- DELETE FILE that isn't refused: the parent of the file becomes the current dedicated file, whatever was current
+abbrev pub file_deleted : Card → Session → Subject → Outcome
+file_deleted c s subject = record {
+  card = deleted_card c s subject;
+  session = at_dedicated_file s (parent (subject_path c s subject));
+  response = only_status DONE;
+}
+
+-- DELETE FILE that isn't refused, at whatever exit: the card is the one before it, or the one without the file
+pub record IsDeleting (c : Card) (s : Session) (subject : Subject) (d : Card) : Type 0 where
+  pub unrefused : refused_by (delete_refusals c s subject) ≡ None
+  pub card : (d ≡ c) ⊎ (d ≡ deleted_card c s subject)
+
+-- the file control parameters that a template tells; where it tells none, those of no file, and the command is refused
+abbrev pub no_parameters : Fcp
+no_parameters = record { identifier = 0; life_cycle = Activated; rule = []; kind = Df None }
+
+abbrev pub told_by : Result Fcp FcpFault → Fcp
+told_by (Ok fcp) = fcp
+told_by (Err fault) = no_parameters
+
+abbrev pub tells_none : Result Fcp FcpFault → Bool
+tells_none (Ok fcp) = false
+tells_none (Err fault) = true
+
+-- What refuses CREATE FILE in a dedicated file by the parameters of the new file: a child has its identifier; a file of
+-- the card has its name; a child has the short identifier that is given for it; it would stand on level 9; there is no
+-- file entry for it, or there are too few blocks.
+abbrev pub place_refusals : Card → Path → Fcp → List Refusal
+place_refusals c df fcp =
+    record { applies = exists c.tree (df ++ fcp.identifier ∷ []); status = FILE_EXISTS }
+    ∷ record { applies = has_name c.tree (name_bytes fcp.kind); status = NAME_EXISTS }
+    ∷ record { applies = has_short_given c.tree df (short_of_kind fcp.kind); status = WRONG_DATA }
+    ∷ record { applies = length df == 7; status = CONDITIONS_NOT_SATISFIED }
+    ∷ record { applies = has_no_room c.tree fcp.kind; status = NO_ROOM } ∷ []
+
+-- what refuses CREATE FILE: a template that tells of no file; what the file would need is taken
+abbrev pub create_refusals : Card → Session → List ℕ → Refusals
+create_refusals c s template = record {
+  target = [];
+  structure = [];
+  template = record { applies = tells_none (fcp_read template); status = WRONG_DATA } ∷ [];
+  limits = place_refusals c s.current_df (told_by (fcp_read template));
+}
+
+-- a card with a new file in a dedicated file: all its bytes, or the records that exist, are FF
+abbrev pub with_new : Card → Path → Fcp → Card
+with_new c df fcp = record c {
+  tree = insert c.tree (df ++ fcp.identifier ∷ []) (new_file fcp (short_of_new c.tree df fcp));
+}
+
+-- the new file stands in the current dedicated file
+abbrev pub created_card : Card → Session → List ℕ → Card
+created_card c s template = with_new c s.current_df (told_by (fcp_read template))
+
+-- CREATE FILE that isn't refused: the new file becomes current
+abbrev pub new_outcome : Card → Session → Fcp → Outcome
+new_outcome c s fcp =
+    let df = s.current_df in
+    record {
+      card = with_new c df fcp;
+      session = selecting s (df ++ fcp.identifier ∷ []) (new_file fcp (short_of_new c.tree df fcp)).kind;
+      response = only_status DONE;
+    }
+
+abbrev pub file_created : Card → Session → List ℕ → Outcome
+file_created c s template = new_outcome c s (told_by (fcp_read template))
+
+-- CREATE FILE that isn't refused, at whatever exit: the card is the one before it, or the one with the new file
+pub record IsCreating (c : Card) (s : Session) (template : List ℕ) (d : Card) : Type 0 where
+  pub unrefused : refused_by (create_refusals c s template) ≡ None
+  pub card : (d ≡ c) ⊎ (d ≡ created_card c s template)

@@ -1,0 +1,40 @@
+-- What commands cost at most.
+use Rattle.std.specs.Prelude.{◌≡◌, ◌≤◌, ◌+◌, ◌/◌, ℕ, zero, suc, List, length, IfOk, Result, Ok, Err}
+use Rattle.std.proofs.Common.{arith, sym, subst}
+use Rattle.nvm_board.specs.Facts.{Facts}
+use Rattle.undo_journal.specs.Spending.{WritesAtMost}
+use Rattle.card_rules.specs.declared.status.Sw.{Sw}
+use Rattle.apdu_core.specs.Asked.{asked}
+use Rattle.apdu_core.specs.Requests.{Request, select, read_binary, update_binary, create_file, delete_file}
+use Rattle.apdu_core.specs.Sizes.{IsSized}
+use Rattle.apdu_core.specs.laws.SizeLaws.{asked-sized}
+use Rattle.block_chain.specs.Changes.{touched_words}
+use Rattle.card_core.specs.declared.machine.TheConstants.{COMMAND_WRITES}
+use Rattle.card_core.specs.Spending.{most_writes, writes_asked, writes_of}
+
+-- some bytes touch a quarter as many words as they are, rounded up, and one more at most
+pub few_words : (offset n : ℕ) → touched_words offset n ≤ (n + 3) / 4 + 1
+few_words offset zero = omega arith
+few_words offset (suc n) = omega arith
+
+few-asked : (request : Request) → IsSized request → most_writes request ≤ COMMAND_WRITES
+few-asked (select selection returned expected) sized = omega arith
+few-asked (read_binary target offset expected) sized = omega arith
+few-asked (update_binary target offset bytes) sized =
+    let few = few_words offset (length bytes) in let most = sized.1 in omega (arith, few, most)
+few-asked (create_file template) sized = omega arith
+few-asked (delete_file subject) sized = omega arith
+
+-- no command costs more than the most
+pub few_writes : (command : List ℕ) → writes_of command ≤ COMMAND_WRITES
+few_writes command = among (asked command) (asked-sized command)
+  where
+    among : (wanted : Result Request Sw) → IfOk wanted IsSized → writes_asked wanted ≤ COMMAND_WRITES
+    among (Ok request) sized = few-asked request sized
+    among (Err status) sized = omega arith
+
+-- what a command costs is what it asks for
+pub spends_asked : (command : List ℕ) (request : Request) (old new : Facts) → asked command ≡ Ok request
+    → WritesAtMost (most_writes request) old new → WritesAtMost (writes_of command) old new
+spends_asked command request old new is spends =
+    subst (λ (wanted : Result Request Sw). WritesAtMost (writes_asked wanted) old new) (sym is) spends

@@ -1,0 +1,93 @@
+//! The template that tells of a file (ISO/IEC 7816-4, 7.4.3), from the file's entry.
+ghost use Rattle.std.specs.Prelude.{◌≡◌, ◌≤◌, length};
+ghost use Rattle.file_tree.specs.Table.{IsRecordBody};
+ghost use Rattle.card_core.specs.Working.{kind_in_entry, life_of, parameters_in, records_in_entry, short_in_entry};
+ghost use Rattle.card_core.specs.Working.{template_in, IsToldEntry};
+
+use arrayvec::ArrayVec;
+use card_rules::{Compact, LifeCycle};
+use fcp_template::{DfName, Fcp, FileKind, Records, ShortIdentifier, write};
+use file_tree::Entry;
+
+/// The text of a template.
+pub(crate) type Template = ArrayVec<u8, 256>;
+
+/// The template that tells of the file of a used entry.
+#[tactic(auto, unfolding(crate::specs::Working::template_in))]
+pub(crate) fn template_of(entry: &Entry) -> Template
+    requires { IsToldEntry entry.now }
+    ensures text { result.items ≡ template_in entry.now }
+    ensures short { length result.items ≤ 256 }
+{
+    let mut text = Template::new();
+    write(&parameters_of(entry), &mut text);
+    text
+}
+
+/// The file control parameters of the file of a used entry.
+fn parameters_of(entry: &Entry) -> Fcp<'_>
+    requires { IsToldEntry entry.now }
+    ensures { result ≡ parameters_in entry.now }
+{
+    Fcp {
+        identifier: entry.identifier,
+        life_cycle: life_of(entry),
+        rule: Compact::parse(entry.rule()).unwrap(),
+        kind: kind_of(entry),
+    }
+}
+
+/// The life cycle status of the file of an entry, whose byte stands for one.
+pub(crate) fn life_of(entry: &Entry) -> LifeCycle
+    ensures { result ≡ life_of entry.now }
+{
+    LifeCycle::from_byte(entry.life).unwrap_or(LifeCycle::Activated)
+}
+
+/// The kind of the file of a used entry, and what files of this kind alone have.
+fn kind_of(entry: &Entry) -> FileKind<'_>
+    requires { IsToldEntry entry.now }
+    ensures { result ≡ kind_in_entry entry.now }
+{
+    let short = short_of(entry);
+    match entry.kind {
+        1 => FileKind::Df {
+            name: DfName::new(entry.name()),
+        },
+        2 => FileKind::Transparent {
+            short,
+            size: entry.size,
+        },
+        3 => FileKind::Linear {
+            short,
+            records: records_of(entry),
+        },
+        _ => FileKind::Cyclic {
+            short,
+            records: records_of(entry),
+        },
+    }
+}
+
+/// The short identifier of the file of an entry, or that it has none.
+fn short_of(entry: &Entry) -> ShortIdentifier
+    ensures { result ≡ short_in_entry entry.now }
+{
+    if entry.short == 0 {
+        ShortIdentifier::Empty
+    } else {
+        ShortIdentifier::Given(entry.short)
+    }
+}
+
+/// The records of the file of an entry of such a file: a record is at most 255 bytes, and at most 254 exist.
+fn records_of(entry: &Entry) -> Records
+    requires { IsRecordBody entry.now }
+    ensures { result ≡ records_in_entry entry.now }
+{
+    Records {
+        size: entry.size,
+        record_length: entry.record_length as u8,
+        existing: entry.records as u8,
+    }
+}
