@@ -1,11 +1,19 @@
 pub mod CardStates
+mod CommandsGiven
+pub mod ExchangeInWorld
 pub mod ExchangeRuns
+pub mod ExchangeSteps
 pub mod FormatLemmas
+pub mod FreeTold
 pub mod HexLimits
 pub mod LineFaults
 pub mod Numbers
 pub mod PlayedTurns
 pub mod ScriptLines
+pub mod ScriptInWorld
+pub mod SoundBlocks
+pub mod SoundWorlds
+pub mod Spelled
 pub mod TreeAnswers
 pub mod Written
 mod WorldLawful

@@ -11,7 +11,7 @@ first_true : (a b : Bool) → (a && b) ≡ true → a ≡ true
 first_true true b e = refl
 first_true false b e = absurd cc
 
-command-bytes : (command : List ℕ) → is_command command ≡ true → AreBytes command
+pub command-bytes : (command : List ℕ) → is_command command ≡ true → AreBytes command
 command-bytes command sound = are_bytes-tell command (first_true (are_bytes command) _ sound)
 
 pub tree-answers : Answers tree_machine IsProperState

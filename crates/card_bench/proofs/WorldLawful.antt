@@ -187,7 +187,7 @@ module _ {M : Type 0} (machine : Machine M) (start : M) (Invariant : M → Type 
   same-watched : (events : List Event) → (watched machine start events).world ≡ comes_of machine start events
   same-watched events = same events (record { world = powered start; counts = no_counts })
 
-  good-world : (events : List Event) → Good machine start (watched machine start events).counts (comes_of machine start events)
+  pub good-world : (events : List Event) → Good machine start (watched machine start events).counts (comes_of machine start events)
   good-world events = subst (λ (w : World M). Good machine start (watched machine start events).counts w) (same-watched events) (good-watched events)
 
 -- the law, for a machine with states of any type

@@ -28,12 +28,12 @@ use Rattle.card_bench.proofs.WorldPhases.{none_yet, offers_card, offers_reader, 
 use Rattle.card_bench.proofs.WorldPhases.{Requesting, Stage, ToCard, ToReader, answer_offered, answer_taken, at_rest, kind_of, command_offered, command_taken, core}
 use Rattle.card_bench.proofs.WorldPhases.{exchange, given_up, requesting_now}
 
-none_left : (xs : List ℕ) → not (length xs == 0) ≡ false → xs ≡ []
+pub none_left : (xs : List ℕ) → not (length xs == 0) ≡ false → xs ≡ []
 none_left [] e = refl
 none_left (x ∷ xs) e = let n : length (x ∷ xs) ≡ 0 = eqb-true (length (x ∷ xs)) 0 (not-false _ e) in absurd (omega (arith, n))
 
 -- numbers, by an equation between them
-same_as : (a b : Bool) → a ≡ b → same a b ≡ true
+pub same_as : (a b : Bool) → a ≡ b → same a b ≡ true
 same_as a b e = subst (λ (c : Bool). same a c ≡ true) e (same-refl a)
 
 other_than : (a b : Bool) → a ≡ b → same a (not b) ≡ false
@@ -731,7 +731,7 @@ module _ {M : Type 0} (machine : Machine M) (start : M) (Invariant : M → Type 
   given_so c true w command e good = given c w command e good
   given_so c false w command e good = good
 
-  good-step : (v : Watched M) (event : Event) → Good machine start v.counts v.world → Good machine start (counts_after v event) (world_step machine v.world event)
+  pub good-step : (v : Watched M) (event : Event) → Good machine start v.counts v.world → Good machine start (counts_after v event) (world_step machine v.world event)
   unfolding world_step
   good-step v (send command) good = given_so v.counts (may_send v.world.reader command) v.world command refl good
   good-step v pass good = arrives v.counts v.world pass good

@@ -4,6 +4,7 @@ pub mod BenchViews
 pub mod Turns
 pub mod Plays
 pub mod Orders
+pub mod Spellings
 pub mod Faults
 pub mod Scripts
 pub mod Prints
@@ -13,7 +14,9 @@ pub mod WorldLaw
 pub mod WorldRepairs
 pub mod TreeMachine
 pub mod Exchanges
+pub mod ExchangeWorlds
 pub mod Lines
 pub mod ExchangeViews
 pub mod Performing
+pub mod ScriptWorlds
 pub mod Printouts

@@ -10,7 +10,7 @@ use Rattle.hex.specs.declared.error.FromHexError.{FromHexError}
 use Rattle.arrayvec.specs.ArrayVec.{ArrayVec}
 use Rattle.card_bench.specs.declared.order.TheConstants.{LINE_LIMIT, COMMAND_LIMIT, BLOCK_LIMIT, NUMBER_DIGITS}
 use Rattle.card_bench.specs.declared.order.Order.{Order}
-use Rattle.card_bench.specs.declared.order.Order.TheVariants.{Nothing, On, Off, Apdu, Block, Cut, Lose, Garble}
+use Rattle.card_bench.specs.declared.order.Order.TheVariants.{Nothing, On, Off, Free, Apdu, Block, Cut, Lose, Garble}
 
 -- some bytes, where they are 1 to a limit
 abbrev pub within_limit : ℕ → Result (List ℕ) FromHexError → Option (ArrayVec ℕ)
@@ -56,6 +56,7 @@ order_of line =
     if length line == 0 || slice_index line 0 == 35 then Some Nothing else
     if pointwise nat_eq line (codes "on") then Some On else
     if pointwise nat_eq line (codes "off") then Some Off else
+    if pointwise nat_eq line (codes "free") then Some Free else
     if begins line (codes "apdu ") then option_map Apdu (bytes_in (drop 5 line) COMMAND_LIMIT) else
     if begins line (codes "block ") then option_map Block (bytes_in (drop 6 line) BLOCK_LIMIT) else
     if begins line (codes "cut ") then cut_in (drop 4 line) else
@@ -68,6 +69,7 @@ abbrev pub IsSized : Order → Type 0
 IsSized Nothing = Unit {0}
 IsSized On = Unit {0}
 IsSized Off = Unit {0}
+IsSized Free = Unit {0}
 IsSized (Apdu bytes) = (1 ≤ length bytes.items) × (length bytes.items ≤ COMMAND_LIMIT)
 IsSized (Block bytes) = (1 ≤ length bytes.items) × (length bytes.items ≤ BLOCK_LIMIT)
 IsSized (Cut number mask) = (1 ≤ number) × (number ≤ 999999)

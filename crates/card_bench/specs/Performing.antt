@@ -3,13 +3,16 @@ use Rattle.std.specs.Prelude.{◌≡◌, ◌≤◌, ◌-◌, ℕ, List, Option, 
 use Rattle.nvm_board.specs.Facts.{Facts}
 use Rattle.t1_link.specs.ReaderTable.{Reader, fresh_reader}
 use Rattle.card_bench.specs.declared.order.Order.{Order}
-use Rattle.card_bench.specs.declared.order.Order.TheVariants.{Nothing, On, Off, Apdu, Block, Cut, Lose, Garble}
+use Rattle.card_bench.specs.declared.order.Order.TheVariants.{Nothing, On, Off, Free, Apdu, Block, Cut, Lose, Garble}
 use Rattle.card_bench.specs.declared.playing.Turn.TheVariants as turn
 use Rattle.card_bench.specs.declared.playing.Item.{Item}
 use Rattle.card_bench.specs.declared.playing.Item.TheVariants as item
 use Rattle.card_bench.specs.BenchStates.{BenchState, off, on, bench_facts}
 use Rattle.card_bench.specs.Exchanges.{Commands, Desk}
 use Rattle.card_bench.specs.Printouts.{Print, prints_nothing, prints_atr, prints_mute, prints_dark, prints_bytes}
+use Rattle.card_bench.specs.Printouts.{prints_free}
+use Rattle.card_core.specs.Running.{card_found}
+use Rattle.file_tree.specs.Spaces.{free_space}
 use Rattle.card_bench.specs.Turns.{GoodBlock, GoodTurn}
 
 -- what is printed of a turn
@@ -72,6 +75,11 @@ pub record PerformsCut (number mask : ℕ) (old new : Desk) (prints : Print) : T
   pub line : new.line ≡ old.line
   pub printed : prints ≡ prints_nothing
 
+-- what is printed of the free space: that of the card that is found; with power off the card doesn't answer
+abbrev pub free_shown : BenchState → Print
+free_shown (off facts) = prints_mute
+free_shown (on powered) = prints_free (free_space (card_found powered.card).tree)
+
 -- A command: with power off the card doesn't answer; with power on it goes through both ends of the link.
 abbrev pub PerformsCommand : BenchState → Desk → List ℕ → Desk → Print → Type 0
 PerformsCommand (off facts) old command new prints = (new ≡ old) × (prints ≡ prints_mute)
@@ -82,6 +90,7 @@ abbrev pub Performs : Order → Desk → Desk → Print → Type 0
 Performs Nothing old new prints = (new ≡ old) × (prints ≡ prints_nothing)
 Performs On old new prints = PerformsOn old new prints
 Performs Off old new prints = PerformsOff old new prints
+Performs Free old new prints = (new ≡ old) × (prints ≡ free_shown old.bench)
 Performs (Apdu command) old new prints = PerformsCommand old.bench old command.items new prints
 Performs (Block block) old new prints = PerformsBlock old block.items new prints
 Performs (Cut number mask) old new prints = PerformsCut number mask old new prints

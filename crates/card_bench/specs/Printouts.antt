@@ -1,10 +1,13 @@
 -- What a line of a script prints.
-use Rattle.std.specs.Prelude.{ℕ, List, [], ◌∷◌, ◌++◌, codes}
+use Rattle.std.specs.Prelude.{ℕ, List, [], ◌∷◌, ◌++◌, codes, Option, None, Some}
+use Rattle.std.specs.Fmt.{decimal}
 use Rattle.hex.specs.Hex.{encode_upper}
+use Rattle.file_tree.specs.declared.space.FreeSpace.{FreeSpace}
 use Rattle.card_bench.specs.declared.desk.Printed.{Printed}
-use Rattle.card_bench.specs.declared.desk.Printed.TheVariants.{Nothing, Atr, Mute, Dark, Lost, Bytes}
+use Rattle.card_bench.specs.declared.desk.Printed.TheVariants.{Nothing, Atr, Mute, Dark, Lost, Bytes, Free}
 
--- nothing; the answer to reset; that the card doesn't answer; that power was lost; that the link was; or bytes of the card
+-- nothing; the answer to reset; that the card doesn't answer; that power was lost; that the link was; bytes of the card; or what
+-- is free
 pub data Print : Type 0 where
   prints_nothing : Print
   prints_atr : Print
@@ -12,12 +15,14 @@ pub data Print : Type 0 where
   prints_dark : Print
   prints_lost : Print
   prints_bytes : List ℕ → Print
+  prints_free : FreeSpace → Print
 
 -- a text and its line feed
 abbrev pub ended_line : List ℕ → List ℕ
 ended_line text = text ++ 10 ∷ []
 
--- The text that is printed. Bytes are spelled in hexadecimal digits of upper case.
+-- The text that is printed. Bytes are spelled in hexadecimal digits of upper case, numbers in decimal digits; a space (32)
+-- parts blocks from entries.
 abbrev pub text_of : Print → List ℕ
 text_of prints_nothing = []
 text_of prints_atr = ended_line (codes "atr 3B808131FE458B")
@@ -25,6 +30,12 @@ text_of prints_mute = ended_line (codes "mute")
 text_of prints_dark = ended_line (codes "dark")
 text_of prints_lost = ended_line (codes "lost")
 text_of (prints_bytes bytes) = ended_line (codes "< " ++ encode_upper bytes)
+text_of (prints_free free) = ended_line (codes "free " ++ decimal free.blocks ++ 32 ∷ decimal free.entries)
+
+-- what is printed of the free space; with power off the card doesn't answer
+abbrev pub free_print : Option FreeSpace → Print
+free_print None = prints_mute
+free_print (Some free) = prints_free free
 
 -- what is printed, where the bytes stand in a buffer
 abbrev pub print_of : Printed → List ℕ → Print
@@ -34,3 +45,4 @@ print_of Mute bytes = prints_mute
 print_of Dark bytes = prints_dark
 print_of Lost bytes = prints_lost
 print_of Bytes bytes = prints_bytes bytes
+print_of (Free free) bytes = prints_free free

@@ -5,14 +5,15 @@ ghost use Rattle.std.specs.Option.{ForSome};
 ghost use Rattle.t1_link.specs.declared.reader_end.Phase.TheVariants.{Busy};
 ghost use Rattle.card_bench.specs.BenchStates.{off};
 ghost use Rattle.card_bench.specs.Orders.{IsSized};
-ghost use Rattle.card_bench.specs.Performing.{Performs, PerformsCommand, shown};
+ghost use Rattle.card_bench.specs.Performing.{Performs, PerformsCommand, free_shown, shown};
 ghost use Rattle.card_bench.specs.Plays.{IsGood, powered_item, sent_item};
-ghost use Rattle.card_bench.specs.Printouts.{print_of};
+ghost use Rattle.card_bench.specs.Printouts.{free_print, print_of};
 
 use crate::exchange::{Blocks, Ending, exchange};
 use crate::line::Line;
 use crate::order::Order;
 use crate::playing::{Bench, PowerOn, Sent};
+use card_core::FreeSpace;
 use nvm_board::{Armed, Faultless, Socket};
 use t1_link::{BlockBytes, ReaderEnd};
 
@@ -30,6 +31,8 @@ pub(crate) enum Printed {
     Lost,
     /// Bytes that the card sent, which stand in the buffer toward the reader.
     Bytes,
+    /// What is free.
+    Free(FreeSpace),
 }
 
 /// A bench, the reader's end, and the line. What is pending on the line outlives power.
@@ -96,6 +99,7 @@ impl<B: Armed + Faultless> Desk<B> {
                 self.reader = None;
                 Printed::Nothing
             }
+            Order::Free => self.tell_free(),
             Order::Apdu(command) => self.command(command),
             Order::Block(block) => {
                 self.reader = None;
@@ -114,6 +118,14 @@ impl<B: Armed + Faultless> Desk<B> {
                 Printed::Nothing
             }
         }
+    }
+
+    /// The free space, which is told of every card that works, and on a board without faults each card does.
+    fn tell_free(&self) -> Printed
+        requires good { IsGood self.now.bench }
+        ensures { (bytes : List ℕ) → print_of result bytes ≡ free_shown self.now.bench }
+    {
+        print_of_free(self.bench.free())
     }
 
     /// A command through both ends of the link, where power is on and the reader's end is there.
@@ -173,5 +185,15 @@ fn print_of_sent(sent: Sent) -> Printed
         Sent::Reply => Printed::Bytes,
         Sent::Mute => Printed::Mute,
         Sent::Dark => Printed::Dark,
+    }
+}
+
+/// What is printed of the free space.
+fn print_of_free(free: Option<FreeSpace>) -> Printed
+    ensures { (bytes : List ℕ) → print_of result bytes ≡ free_print free }
+{
+    match free {
+        Some(free) => Printed::Free(free),
+        None => Printed::Mute,
     }
 }

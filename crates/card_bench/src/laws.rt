@@ -1,10 +1,17 @@
 //! Laws of the definitions: each is a function whose contract is the law.
 
 ghost use Rattle.std.specs.Prelude.{◌≡◌, ◌+◌, ℕ, Bool, List, true, IsTrue, Ok, Err};
+ghost use Rattle.hex.specs.Hex.{lower_digits, upper_digits};
 ghost use Rattle.t1_link.specs.Blocks.{Block as BlockValue, heard};
 ghost use Rattle.t1_link.specs.declared.block.Fault.TheVariants.{WrongCheck};
+ghost use Rattle.card_bench.specs.declared.exchange.TheConstants.{LINE_BLOCKS};
 ghost use Rattle.card_bench.specs.declared.line.Line.{Line};
+ghost use Rattle.card_bench.specs.declared.order.TheConstants.{BLOCK_LIMIT, COMMAND_LIMIT, LINE_LIMIT, NUMBER_DIGITS};
+ghost use Rattle.card_bench.specs.declared.reading.TheConstants.{SCRIPT_LIMIT};
+ghost use Rattle.card_bench.specs.ExchangeWorlds.{ExchangeLaw};
 ghost use Rattle.card_bench.specs.Lines.{arriving, last_bit_turned, line_after};
+ghost use Rattle.card_bench.specs.ScriptWorlds.{PowerOnLaw, LineLaw};
+ghost use Rattle.card_bench.specs.Spellings.{SpellingLaw};
 ghost use Rattle.card_bench.specs.TreeMachine.{tree_machine, IsProperState};
 ghost use Rattle.card_bench.specs.WorldLaw.{ResynchLaw, WorldLaw};
 ghost use Rattle.card_bench.specs.WorldRepairs.{RepairLaw};
@@ -47,4 +54,34 @@ pub fn garbled_block_is_no_block()
     ensures fault { (bytes : List ℕ) (b : BlockValue) → heard bytes ≡ Ok b → heard (last_bit_turned bytes) ≡ Err WrongCheck }
     ensures world { (bytes : List ℕ) (b : BlockValue)
         → are_bytes bytes ≡ true → heard bytes ≡ Ok b → may_arrive (last_bit_turned bytes) ≡ true }
+{}
+
+/// An exchange is a run of the world: from a world in which nothing is under way, and whose ends and machine are those at the
+/// bench, the events of an exchange are that the command is sent, and then for each block that goes on the line, at most
+/// 1,000, what the pending faults make of it: it is lost, it is garbled, or it passes. How the exchange ended shows in the
+/// world that came of these events, and its ends and machine are again those at the bench; where power was lost, the block
+/// under way came to the card's end, which was to run that very command, and the card that is found is one of its stages.
+pub fn exchange_is_a_run_of_the_world()
+    ensures { ExchangeLaw }
+{}
+
+/// The commands of a script are exchanges in one world from a power-on to the next: a card that starts begins a world, with
+/// the card that is found and a fresh session; each command is an exchange in it, and the lines between leave it as it is,
+/// until power goes on or off, a block goes straight to the card's end, or no command may be sent any more.
+pub fn script_goes_on_in_a_world()
+    ensures begins { PowerOnLaw }
+    ensures goes_on { LineLaw }
+{}
+
+/// The numbers of the script's language and of the line, as a reader sees them.
+pub fn limits()
+    ensures script { (SCRIPT_LIMIT ≡ 16777216) × (LINE_LIMIT ≡ 1024) }
+    ensures orders { (COMMAND_LIMIT ≡ 261) × (BLOCK_LIMIT ≡ 300) × (NUMBER_DIGITS ≡ 6) }
+    ensures blocks { LINE_BLOCKS ≡ 1000 }
+{}
+
+/// The line that spells an order, with hexadecimal digits of either case, asks for that order.
+pub fn spellings_are_read_back()
+    ensures upper { SpellingLaw upper_digits }
+    ensures lower { SpellingLaw lower_digits }
 {}

@@ -17,6 +17,3 @@ pub use fault::RunFault;
 pub use playing::{Bench, Item, Turn};
 pub use powered::Powered;
 pub use script::run;
-
-#[cfg(test)]
-mod tests;

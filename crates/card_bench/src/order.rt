@@ -32,6 +32,8 @@ pub(crate) enum Order {
     On,
     /// Power off.
     Off,
+    /// What is free.
+    Free,
     /// A command, 1 to 261 bytes, through both ends of the link.
     Apdu(GivenBytes),
     /// A block, 1 to 300 bytes, straight to the card's end.
@@ -61,6 +63,8 @@ impl Order {
             Some(Order::On)
         } else if line == b"off".as_slice() {
             Some(Order::Off)
+        } else if line == b"free".as_slice() {
+            Some(Order::Free)
         } else if let Some(digits) = line.strip_prefix(b"apdu ") {
             Some(Order::Apdu(bytes_of(digits, COMMAND_LIMIT)?))
         } else if let Some(digits) = line.strip_prefix(b"block ") {

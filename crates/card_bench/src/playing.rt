@@ -1,13 +1,13 @@
 //! A bench that plays turns: power on, power off, and blocks straight to the card's end of the link.
 ghost use Rattle.std.specs.Prelude.{◌≡◌, ◌≤◌, ◌↔◌, length, true, IsTrue};
-ghost use Rattle.card_bench.specs.BenchStates.{off, bench_facts, BenchHasCard, IsOn, IsWell};
+ghost use Rattle.card_bench.specs.BenchStates.{off, bench_facts, BenchHasCard, IsOn, IsWell, TellsFree};
 ghost use Rattle.card_bench.specs.BenchViews.{power_state, IsKept};
 ghost use Rattle.card_bench.specs.Performing.{IsArmed};
 ghost use Rattle.card_bench.specs.Plays.{Plays, PlaysBlock, HasNoFault, IsGood, IsHeard, powered_item, sent_item};
 ghost use Rattle.card_bench.specs.Turns.{Counts, GoodBlock, GoodTurn, Runs, darks};
 
 use crate::powered::Powered;
-use card_core::StartFault;
+use card_core::{FreeSpace, StartFault};
 use core::mem::replace_with;
 use nvm_board::{Armed, Faultless, Socket, has_no_fault};
 use std::marker::Model;
@@ -173,6 +173,16 @@ impl<B: Socket> Bench<B> {
                     Sent::Dark
                 }
             },
+        }
+    }
+
+    /// The free space of the card, blocks and file entries, with power on. It is told as long as the memory didn't fail.
+    pub fn free(&self) -> Option<FreeSpace>
+        ensures { TellsFree self.now result }
+    {
+        match &self.power {
+            Power::Off(_) => None,
+            Power::On(powered) => Some(powered.free()),
         }
     }
 

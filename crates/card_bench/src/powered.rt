@@ -5,10 +5,11 @@ ghost use Rattle.undo_journal.specs.Undo.{gate};
 ghost use Rattle.card_core.specs.declared.machine.TheConstants.{COMMAND_WRITES};
 ghost use Rattle.card_core.specs.Finding.{HasCard, FindsAgain};
 ghost use Rattle.card_core.specs.Running.{Starts, StopsBy, card_found};
+ghost use Rattle.file_tree.specs.Spaces.{free_space};
 ghost use Rattle.t1_link.specs.CardTable.{link_step, fresh};
 ghost use Rattle.card_bench.specs.CardBlocks.{Replies, RepliesFailure, FailsAt, IsCutAt, IsBlockStage, IsRun, BlockChangesNothing};
 
-use card_core::{Answer, Card, CardState, PowerLost, StartFault};
+use card_core::{Answer, Card, CardState, FreeSpace, PowerLost, StartFault};
 use nvm_board::{Armed, Board, Faultless};
 use std::marker::Model;
 use t1_link::{Action, BlockBytes, CardEnd};
@@ -96,6 +97,13 @@ impl<B: Board> Powered<B> {
                 Ok(())
             }
         }
+    }
+
+    /// The free space of the card: blocks and file entries. It is told as long as the card works.
+    pub fn free(&self) -> FreeSpace
+        ensures { self.now.card.state ≡ CardState.Working → result ≡ free_space (card_found self.now.card).tree }
+    {
+        self.card.free()
     }
 
     /// The board, as it is.

@@ -1,11 +1,13 @@
 //! What a line prints.
 ghost use Rattle.std.specs.Prelude.{◌≡◌, ◌≤◌, ℕ, length, take, IfErr, OnErr, OnOk};
 ghost use Rattle.std.specs.Io.KnownBytes.{Appends};
-ghost use Rattle.card_bench.specs.Printouts.{print_of, prints_bytes, text_of};
+ghost use Rattle.card_bench.specs.Printouts.{print_of, prints_bytes, prints_free, text_of};
 
 use crate::desk::Printed;
 use crate::fault::RunFault;
 use arrayvec::ArrayVec;
+use card_core::FreeSpace;
+use itoa::Buffer;
 use std::io::Write;
 
 /// The answer to reset of the card.
@@ -43,6 +45,10 @@ pub(crate) fn print<W: Write>(
         Printed::Dark => write_line(writer, b"dark\n"),
         Printed::Lost => write_line(writer, b"lost\n"),
         Printed::Bytes => print_bytes(writer, bytes, text),
+        Printed::Free(free) => {
+            tell(free, text);
+            write_line(writer, text)
+        }
     }
 }
 
@@ -74,6 +80,22 @@ fn spell(bytes: &[u8], line: &mut PrintedText)
         line.push(DIGITS[(*byte / 16) as usize]);
         line.push(DIGITS[(*byte % 16) as usize]);
     }
+    line.push(b'\n');
+}
+
+/// Tells what is free, as the text that is printed of it.
+fn tell(free: FreeSpace, line: &mut PrintedText)
+    ensures { line.new.items ≡ text_of (prints_free free) }
+{
+    let mut blocks = Buffer::new();
+    let mut entries = Buffer::new();
+    line.clear();
+    line.try_extend_from_slice(b"free ").unwrap();
+    line.try_extend_from_slice(blocks.format(free.blocks).as_bytes())
+        .unwrap();
+    line.push(b' ');
+    line.try_extend_from_slice(entries.format(free.entries).as_bytes())
+        .unwrap();
     line.push(b'\n');
 }
 

@@ -1,0 +1,133 @@
+-- An exchange as a run of the world of both ends: the machine is the card at the bench, and each block that goes on the line has
+-- the fate that the pending faults say.
+use Rattle.std.specs.Prelude.{◌≡◌, ◌⊎◌, ◌≤◌, ◌+◌, ℕ, zero, suc, true, List, [], ◌∷◌, ◌++◌, if◌then◌else◌}
+use Rattle.t1_link.specs.declared.reader_end.Failure.{Failure}
+use Rattle.t1_link.specs.Blocks.{frame}
+use Rattle.t1_link.specs.CardTable.{link_step, runs}
+use Rattle.t1_link.specs.ReaderTable.{Reader}
+use Rattle.card_core.specs.Running.{card_found}
+use Rattle.card_core.specs.Stages.{IsStage}
+use Rattle.card_bench.specs.declared.exchange.TheConstants.{LINE_BLOCKS}
+use Rattle.card_bench.specs.declared.line.Line.{Line}
+use Rattle.card_bench.specs.BenchStates.{BenchState, off, on, bench_card, IsOff}
+use Rattle.card_bench.specs.CardBlocks.{Powered}
+use Rattle.card_bench.specs.Exchanges.{Ended, Ends, Exchanged, answered, cut_off, given_up, set_back}
+use Rattle.card_bench.specs.Lines.{is_due, last_bit_turned, line_after}
+use Rattle.card_bench.specs.TreeMachine.{IsProperState, Served, tree_machine}
+use Rattle.card_bench.specs.Worlds.{Arrival, Done, Event, Failed, Line as WorldLine, Report, Unknown, World, arrival, at_card, garble}
+use Rattle.card_bench.specs.Worlds.{is_command, lose, pass, quiet}
+use Rattle.card_bench.specs.Worlds.{send, toward_card, toward_reader, world_step}
+use Rattle.card_bench.specs.WorldLaw.{comes_of, is_under_way}
+
+-- the state of a card at the bench: the card that is found in its memory, and its session
+abbrev pub state_served : Powered → Served
+state_served powered = record { card = card_found powered.card; session = powered.card.session }
+
+-- both ends at the bench are those of this world, and its machine is the card at the bench
+pub record AreOfWorld (powered : Powered) (reader : Reader) (w : World Served) : Type 0 where
+  pub reader_is : reader ≡ w.reader
+  pub link_is : powered.link ≡ w.card
+  pub card_is : state_served powered ≡ w.machine
+
+-- With power on the ends at the bench are those of this world.
+abbrev pub StandIn : BenchState → Reader → World Served → Type 0
+StandIn (off facts) reader w = ⊥
+StandIn (on powered) reader w = AreOfWorld powered reader w
+
+-- the bytes of the block under way
+abbrev pub bytes_of_line : WorldLine → List ℕ
+bytes_of_line quiet = []
+bytes_of_line (toward_card b) = frame b
+bytes_of_line (toward_reader b) = frame b
+
+-- what becomes of a block: it is lost where that is due, garbled where only that is due, and else it arrives as it is
+abbrev pub fate : Line → List ℕ → Event
+fate pending block =
+    if is_due pending.lose 0 then lose else
+    if is_due pending.garble 0 then garble (last_bit_turned block) else
+    pass
+
+-- what becomes of so many blocks, one after another, from this world on
+unfoldable pub fates : Line → ℕ → World Served → List Event
+fates pending zero w = []
+fates pending (suc blocks) w =
+    fate pending (bytes_of_line w.line) ∷ fates (line_after 1 pending) blocks (world_step tree_machine w (fate pending (bytes_of_line w.line)))
+
+-- The course of an exchange in the world: the command, how many blocks may go on the line, the faults that are pending on it, the
+-- reports of earlier commands, and the world after each number of blocks.
+pub record Course : Type 0 where
+  pub command : List ℕ
+  pub limit : ℕ
+  pub pending : Line
+  pub earlier : List Report
+  pub after : ℕ → World Served
+
+-- the command has this report, and nothing is under way
+pub record IsReported (report : Report) (earlier : List Report) (w : World Served) : Type 0 where
+  pub reports : w.reports ≡ report ∷ earlier
+  pub line : w.line ≡ quiet
+
+-- the command has no report yet, and a block is under way
+pub record IsUnreported (earlier : List Report) (w : World Served) : Type 0 where
+  pub reports : w.reports ≡ earlier
+  pub line : is_under_way w.line ≡ true
+
+-- The block under way came to the card's end, the command was to run there, and power was lost: the card that is found is one
+-- of its stages.
+pub record IsCutIn (command : List ℕ) (came : Arrival) (w : World Served) (new : BenchState) : Type 0 where
+  pub power : IsOff new
+  pub got : List ℕ
+  pub came_there : came ≡ at_card got
+  pub runs_it : (link_step w.card got).reaction ≡ runs command
+  pub stage : IsStage w.machine.card w.machine.session command (bench_card new)
+
+-- what comes of the block that goes on the line after so many
+abbrev pub arrival_after : Course → ℕ → Arrival
+arrival_after course blocks =
+    arrival (course.after blocks).line (fate (line_after blocks course.pending) (bytes_of_line (course.after blocks).line))
+
+-- How an exchange ended when so many blocks had gone on the line: with a report; without one, as no more blocks may go on the
+-- line; or with the last of them, by which power was lost.
+abbrev pub EndsSo : Ended → Course → ℕ → Ends → Type 0
+EndsSo (answered bytes) course blocks new =
+    StandIn new.bench new.reader (course.after blocks) × IsReported (Done bytes) course.earlier (course.after blocks)
+EndsSo set_back course blocks new =
+    StandIn new.bench new.reader (course.after blocks) × IsReported Unknown course.earlier (course.after blocks)
+EndsSo given_up course blocks new =
+    StandIn new.bench new.reader (course.after blocks)
+    × (((failure : Failure) × IsReported (Failed failure) course.earlier (course.after blocks))
+    ⊎ ((blocks ≡ course.limit) × IsUnreported course.earlier (course.after blocks)))
+EndsSo cut_off course blocks new =
+    (before : ℕ) × (blocks ≡ before + 1) × IsUnreported course.earlier (course.after before)
+    × IsCutIn course.command (arrival_after course before) (course.after before) new.bench
+
+-- An exchange takes this course.
+pub record GoesAs (course : Course) (new : Ends) (ending : Ended) : Type 0 where
+  pub blocks : ℕ
+  pub most : blocks ≤ course.limit
+  pub line : new.line ≡ line_after blocks course.pending
+  pub ended : EndsSo ending course blocks new
+
+-- the events of an exchange up to a number of blocks: in a world the command is sent, and the blocks go on the line
+abbrev pub exchange_events : World Served → List ℕ → Line → ℕ → List Event
+exchange_events w command pending blocks = send command ∷ fates pending blocks (world_step tree_machine w (send command))
+
+-- The course of the exchange of a command, from the world that came of some events since power-on: it is a run of the world, and
+-- its events follow those.
+abbrev pub course_of : Served → List Event → List ℕ → Line → Course
+course_of start events command pending =
+    let w = comes_of tree_machine start events in
+    record {
+      command = command;
+      limit = LINE_BLOCKS;
+      pending = pending;
+      earlier = w.reports;
+      after = λ blocks. comes_of tree_machine start (events ++ exchange_events w command pending blocks);
+    }
+
+-- Each exchange takes that course, where nothing was under way before.
+abbrev pub ExchangeLaw : Type 0
+ExchangeLaw = (start : Served) (events : List Event) (old new : Ends) (command : List ℕ) (ending : Ended)
+    → IsProperState start → StandIn old.bench old.reader (comes_of tree_machine start events)
+    → (comes_of tree_machine start events).line ≡ quiet → is_command command ≡ true → Exchanged old command new ending
+    → GoesAs (course_of start events command old.line) new ending
