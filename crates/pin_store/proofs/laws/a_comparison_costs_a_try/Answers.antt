@@ -1,0 +1,21 @@
+use Rattle.pin_store.specs.Pins.{changed_pin, reset_pin, verified_pin}
+use Rattle.pin_store.specs.Trials.{pin_in}
+use Rattle.pin_store.specs.laws.Tries.{charge_keeps_law, end_keeps_law, verified_ends, changed_ends, reset_ends}
+use Rattle.pin_store.proofs.laws.a_comparison_costs_a_try.Goals as goal
+
+pub returns-clause-charge : goal.returns-clause-charge
+returns-clause-charge c = charge_keeps_law
+
+pub returns-clause-settle : goal.returns-clause-settle
+returns-clause-settle c = λ secret shown a b d small.
+    end_keeps_law 1 secret shown (verified_pin (pin_in b secret)) a b d (verified_ends secret (pin_in b secret) small)
+
+pub returns-clause-change : goal.returns-clause-change
+returns-clause-change c = λ secret shown new a b d small.
+    end_keeps_law 10 secret shown (changed_pin new (pin_in b secret)) a b d
+    (changed_ends secret new (pin_in b secret) small)
+
+pub returns-clause-reset : goal.returns-clause-reset
+returns-clause-reset c = λ secret shown new a b d large.
+    end_keeps_law 13 secret shown (reset_pin new (pin_in b secret)) a b d
+    (reset_ends secret new (pin_in b secret) large)

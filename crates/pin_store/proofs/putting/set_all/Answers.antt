@@ -1,0 +1,28 @@
+use Rattle.std.proofs.Common.{◌≡◌, ◌<◌, ℕ, List, [], ◌∷◌, slice_index, sym, ◌∙◌, subst, arith}
+use Rattle.nvm_board.specs.Facts.{address}
+use Rattle.nvm_board.specs.Torn.{written}
+use Rattle.undo_journal.specs.Lent.{memory_of}
+use Rattle.undo_journal.specs.Memory.{current}
+use Rattle.pin_store.specs.declared.layout.TheConstants.{PINS, TRIES, UNBLOCKING_TRIES}
+use Rattle.pin_store.specs.Pins.{owner, reset_pin}
+use Rattle.pin_store.specs.Pages.{pin_page, pin_at, SetsPin}
+use Rattle.pin_store.specs.laws.PinPages.{sets_all}
+use Rattle.pin_store.proofs.Ending.{on_then}
+use Rattle.pin_store.proofs.putting.set_all.Goals as goal
+
+pub returns-clause-done : goal.returns-clause-done
+returns-clause-done g c =
+    let m = current (memory_of c.args.txn.now) in
+    let pin = owner c.args.secret in
+    let new = c.args.new.now in
+    let first = slice_index c.words_of.result 0 in
+    let second = slice_index c.words_of.result 1 in
+    let small : pin < PINS = omega arith in
+    let words : written m c.address_of.result (c.from.result ∷ c.from-2.result ∷ first ∷ second ∷ [])
+    ≡ written m (address (pin_page pin) 0) (TRIES ∷ UNBLOCKING_TRIES ∷ first ∷ second ∷ []) =
+    λ i. written m (c.address_of.ensures i) (c.from.ensures i ∷ c.from-2.ensures i ∷ first ∷ second ∷ []) in
+    let family : List ℕ → Type 0 = λ after. SetsPin m pin (reset_pin new (pin_at m pin)) after in
+    on_then _ _ c.put_run.result
+    (λ done. subst family (sym (done ∙ words))
+    (sets_all m new pin first second c.requires.ready.current_size small c.words_of.ensures))
+    c.put_run.ensures.done

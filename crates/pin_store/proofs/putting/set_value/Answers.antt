@@ -1,0 +1,34 @@
+use Rattle.std.proofs.Common.{◌≡◌, ◌<◌, ℕ, List, [], ◌∷◌, slice_index, slice_set, sym, ◌∙◌, subst, arith, lit<}
+use Rattle.nvm_board.specs.Facts.{address}
+use Rattle.nvm_board.specs.Torn.{written}
+use Rattle.undo_journal.specs.Lent.{memory_of}
+use Rattle.undo_journal.specs.Memory.{current}
+use Rattle.undo_journal.specs.laws.Calls.{sets_then}
+use Rattle.pin_store.specs.declared.layout.TheConstants.{PINS, TRIES}
+use Rattle.pin_store.specs.Pins.{owner, changed_pin}
+use Rattle.pin_store.specs.Pages.{pin_page, pin_at, SetsPin}
+use Rattle.pin_store.specs.laws.PinPages.{sets_value}
+use Rattle.pin_store.proofs.Ending.{on_then}
+use Rattle.pin_store.proofs.putting.set_value.Goals as goal
+
+pub returns-clause-done : goal.returns-clause-done
+returns-clause-done g c =
+    let m = current (memory_of c.args.txn.now) in
+    let pin = owner c.args.secret in
+    let new = c.args.new.now in
+    let first = slice_index c.words_of.result 0 in
+    let second = slice_index c.words_of.result 1 in
+    let small : pin < PINS = omega arith in
+    let between : current (memory_of c.put_run.new.txn) ≡ slice_set m (address (pin_page pin) 0) TRIES =
+    c.in_ok-put_run.ensures.done ∙ (λ i. slice_set m (c.address_of.ensures i) (c.from.ensures i)) in
+    let words : written (current (memory_of c.put_run.new.txn)) c.address_of-2.result (first ∷ second ∷ [])
+    ≡ written (slice_set m (address (pin_page pin) 0) TRIES) (address (pin_page pin) 2) (first ∷ second ∷ []) =
+    λ i. written (between i) (c.address_of-2.ensures i) (first ∷ second ∷ []) in
+    let family : List ℕ → Type 0 = λ after. SetsPin m pin (changed_pin new (pin_at m pin)) after in
+    on_then _ _ c.put_run-2.result
+    (λ done. subst family (sym (done ∙ words))
+    (sets_value m new pin first second c.requires.ready.current_size small c.words_of.ensures))
+    c.put_run-2.ensures.done
+
+pub returns-clause-sets : goal.returns-clause-sets
+returns-clause-sets g c = sets_then 1 2 3 _ _ _ (lit< tt) c.put_run.ensures.sets c.put_run-2.ensures.sets

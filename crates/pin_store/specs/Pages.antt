@@ -1,0 +1,54 @@
+-- The PINs in the words of a memory: each has a page.
+use Rattle.std.specs.Prelude.{◌≡◌, ◌⊎◌, ◌<◌, ◌≤◌, ◌+◌, ℕ, List, ◌++◌, map, length, slice_index}
+use Rattle.std.specs.List.{range_with_len}
+use Rattle.std.specs.Int.{w32, to_be_bytes}
+use Rattle.nvm_board.specs.Facts.{address}
+use Rattle.pin_store.specs.declared.layout.TheConstants.{FIRST_PIN_PAGE, PINS, PIN_WORDS, TRIES, UNBLOCKING_TRIES}
+use Rattle.pin_store.specs.Pins.{Pin}
+
+-- the page of a PIN; PIN 1 is at 0
+abbrev pub pin_page : ℕ → ℕ
+pin_page pin = FIRST_PIN_PAGE + pin
+
+-- a word of it
+abbrev pub pin_word : List ℕ → ℕ → ℕ → ℕ
+pin_word m pin place = slice_index m (address (pin_page pin) place)
+
+-- the eight bytes of two words, the most significant byte of each word first
+abbrev pub bytes_of_words : ℕ → ℕ → List ℕ
+bytes_of_words first second = to_be_bytes w32 first ++ to_be_bytes w32 second
+
+-- the PIN of a page: tries, unblocking tries, the value in two words, the unblocking value in two
+unfoldable pub pin_at : List ℕ → ℕ → Pin
+pin_at m pin = record {
+  value = bytes_of_words (pin_word m pin 2) (pin_word m pin 3);
+  tries = pin_word m pin 0;
+  unblocking = bytes_of_words (pin_word m pin 4) (pin_word m pin 5);
+  unblocking_tries = pin_word m pin 1;
+}
+
+-- all PINs, PIN 1 first
+unfoldable pub pins_of : List ℕ → List Pin
+pins_of m = map (pin_at m) (range_with_len 0 PINS)
+
+-- a PIN has at most 3 tries, and its unblocking value at most 10
+pub record IsPinPage (m : List ℕ) (pin : ℕ) : Type 0 where
+  pub tries : pin_word m pin 0 ≤ TRIES
+  pub unblocking_tries : pin_word m pin 1 ≤ UNBLOCKING_TRIES
+
+pub record ArePinPages (m : List ℕ) : Type 0 where
+  pub each : (pin : ℕ) → pin < PINS → IsPinPage m pin
+
+-- the words that the PINs depend on stay
+pub record KeepsPins (m after : List ℕ) : Type 0 where
+  pub words : (pin place : ℕ) → pin < PINS → place < PIN_WORDS → pin_word after pin place ≡ pin_word m pin place
+
+-- the address of a word that no PIN at this place depends on
+abbrev pub IsApart : ℕ → ℕ → Type 0
+IsApart pin k = (k < address (pin_page pin) 0) ⊎ (address (pin_page pin) PIN_WORDS ≤ k)
+
+-- A PIN becomes this one, and no word apart from it changes.
+pub record SetsPin (m : List ℕ) (pin : ℕ) (now : Pin) (after : List ℕ) : Type 0 where
+  pub size : length after ≡ length m
+  pub elsewhere : (k : ℕ) → IsApart pin k → slice_index after k ≡ slice_index m k
+  pub becomes : pin_at after pin ≡ now

@@ -1,0 +1,91 @@
+-- What a charge and the ends that follow it leave of a store, and the law that binds them: a comparison costs a lasting try.
+use Rattle.std.specs.Prelude.{◌≡◌, ◌⊎◌, ◌<◌, ◌≤◌, ◌+◌, ℕ, List, slice_index, Option, Some, None, Result, Ok, Err}
+use Rattle.nvm_board.specs.Facts.{Facts, RisesAt, raised}
+use Rattle.undo_journal.specs.declared.error.StoreErr.{StoreErr}
+use Rattle.undo_journal.specs.Memory.{Memory, committed}
+use Rattle.pin_store.specs.declared.errors.PinErr.{PinErr}
+use Rattle.pin_store.specs.declared.errors.PinErr.TheVariants as pin_err
+use Rattle.pin_store.specs.declared.errors.Outcome.{Outcome}
+use Rattle.pin_store.specs.declared.errors.Outcome.TheVariants.{Matched, Wrong}
+use Rattle.pin_store.specs.Pins.{Pin, owner, kept, tries_left, full_tries, charged_pin}
+use Rattle.pin_store.specs.Pages.{pin_at, IsApart, SetsPin}
+use Rattle.pin_store.specs.declared.layout.TheConstants.{PINS}
+
+-- the PIN of a secret, as what is committed has it
+abbrev pub pin_in : Memory → ℕ → Pin
+pin_in m secret = pin_at (committed m) (owner secret)
+
+-- the failure of the store that a call tells
+abbrev pub store_failure : {T : Type 0} → Result T PinErr → Option StoreErr
+store_failure (Ok x) = None
+store_failure (Err pin_err.Blocked) = None
+store_failure (Err (pin_err.Store e)) = Some e
+
+-- a try of a secret, of which there was one, was taken away
+pub record Charges (secret : ℕ) (old new : Memory) : Type 0 where
+  pub left : 0 < tries_left secret (pin_in old secret)
+  pub charged : SetsPin (committed old) (owner secret) (charged_pin secret (pin_in old secret)) (committed new)
+
+-- at most n device writes, and at most one comparison, of this secret
+pub record ComparesOnce (n secret : ℕ) (old new : Facts) : Type 0 where
+  pub writes : new.writes ≤ old.writes + n
+  pub compares : RisesAt old.compares secret new.compares
+  pub matches : RisesAt old.matches secret new.matches
+
+-- what is kept of a secret was shown, and the match was counted
+pub record IsMatch (secret : ℕ) (shown : List ℕ) (old new : Memory) : Type 0 where
+  pub right : kept secret (pin_in old secret) ≡ shown
+  pub compared : new.facts.compares ≡ raised old.facts.compares secret
+  pub matched : new.facts.matches ≡ raised old.facts.matches secret
+
+-- the match set the PIN
+pub record SetsByMatch (secret : ℕ) (shown : List ℕ) (now : Pin) (old new : Memory) : Type 0 where
+  pub match_counted : IsMatch secret shown old new
+  pub sets : SetsPin (committed old) (owner secret) now (committed new)
+
+-- what is kept was not shown: the comparison was counted, and nothing was written; so many tries are left
+pub record IsWrong (secret : ℕ) (shown : List ℕ) (tries : ℕ) (old new : Memory) : Type 0 where
+  pub wrong : ¬ (kept secret (pin_in old secret) ≡ shown)
+  pub left : tries ≡ tries_left secret (pin_in old secret)
+  pub compared : new.facts.compares ≡ raised old.facts.compares secret
+  pub matched : new.facts.matches ≡ old.facts.matches
+  pub writes : new.facts.writes ≡ old.facts.writes
+  pub same : committed new ≡ committed old
+
+-- what a comparison leaves by its outcome, before an end sets anything
+abbrev pub Compared : ℕ → List ℕ → Memory → Memory → Outcome → Type 0
+Compared secret shown old new Matched = IsMatch secret shown old new
+Compared secret shown old new (Wrong left) = IsWrong secret shown left old new
+
+-- what an end leaves by its outcome: after a match the PIN is this one, else all is as it was
+abbrev pub Ends : ℕ → List ℕ → Pin → Memory → Memory → Outcome → Type 0
+Ends secret shown now old new Matched = SetsByMatch secret shown now old new
+Ends secret shown now old new (Wrong left) = IsWrong secret shown left old new
+
+-- A match of what was shown was counted, and all tries of it are there again.
+pub record FillsByMatch (secret : ℕ) (shown : List ℕ) (old new : Memory) : Type 0 where
+  pub match_counted : IsMatch secret shown old new
+  pub full : tries_left secret (pin_in new secret) ≡ full_tries secret
+
+-- A comparison was counted: there was a try, and it is gone, or all are there after a match.
+pub record PaysForOne (secret : ℕ) (shown : List ℕ) (old new : Memory) : Type 0 where
+  pub compared : new.facts.compares ≡ raised old.facts.compares secret
+  pub left : 0 < tries_left secret (pin_in old secret)
+  pub paid : (tries_left secret (pin_in new secret) + 1 ≡ tries_left secret (pin_in old secret))
+      ⊎ FillsByMatch secret shown old new
+
+-- The PIN law, of the store before the charge and after the end, or where either stopped. The tries of what is shown stay, or
+-- are one fewer, or all of them after a match; where a comparison was counted, it was paid for. The PIN changes but for these
+-- tries by a match alone, its unblocking value never, its unblocking tries by no command that shows its value. No word apart
+-- from the PIN changes.
+pub record KeepsPinLaw (secret : ℕ) (shown : List ℕ) (old new : Memory) : Type 0 where
+  pub tries : (tries_left secret (pin_in new secret) ≡ tries_left secret (pin_in old secret))
+      ⊎ (tries_left secret (pin_in new secret) + 1 ≡ tries_left secret (pin_in old secret))
+      ⊎ FillsByMatch secret shown old new
+  pub compares : (new.facts.compares ≡ old.facts.compares) ⊎ PaysForOne secret shown old new
+  pub matches : RisesAt old.facts.matches secret new.facts.matches
+  pub pin : (pin_in new secret ≡ pin_in old secret) ⊎ (pin_in new secret ≡ charged_pin secret (pin_in old secret))
+      ⊎ IsMatch secret shown old new
+  pub unblocking : (pin_in new secret).unblocking ≡ (pin_in old secret).unblocking
+  pub unblocking_tries : secret < PINS → (pin_in new secret).unblocking_tries ≡ (pin_in old secret).unblocking_tries
+  pub elsewhere : (k : ℕ) → IsApart (owner secret) k → slice_index (committed new) k ≡ slice_index (committed old) k

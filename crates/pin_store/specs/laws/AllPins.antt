@@ -1,0 +1,159 @@
+-- Laws of all PINs of a memory: where they stay, and where one of them is set. Crates above cite these, and open no page.
+use Rattle.std.specs.Prelude.{if◌then◌else◌, map}
+use Rattle.std.specs.List.{range_with_len}
+use Rattle.std.proofs.Common.{◌≡◌, ◌≢◌, ◌⊎◌, ◌<◌, ◌≤◌, ◌+◌, ℕ, zero, suc, Bool, true, false, List, ◌∷◌, slice_set, refl, sym}
+use Rattle.std.proofs.Common.{◌∙◌, ap, ap₂, subst, inl, inr, arith}
+use Rattle.std.proofs.lemmas.Bool.{cases_order}
+use Rattle.nvm_board.specs.Facts.{address}
+use Rattle.pin_store.specs.declared.layout.TheConstants.{PINS, PIN_WORDS}
+use Rattle.pin_store.specs.Pins.{Pin, HasFewTries, changed_pin, is_unblocking, owner, reset_pin, tries_left, verified_pin}
+use Rattle.pin_store.specs.Pins.{with_tries}
+use Rattle.pin_store.specs.Pages.{pin_page, pin_at, pins_of, IsPinPage, ArePinPages, KeepsPins, SetsPin}
+use Rattle.pin_store.specs.laws.PinPages.{pin_same, few_tries, page_of_few}
+
+-- the same PINs at successive places
+pins-same : (old new : ℕ → Pin) (a n : ℕ) → ((j : ℕ) → a ≤ j → j < a + n → new j ≡ old j)
+    → map new (range_with_len a n) ≡ map old (range_with_len a n)
+pins-same old new a zero each = refl
+pins-same old new a (suc n) each =
+    let here : new a ≡ old a = each a (omega arith) (omega arith) in
+    ap₂ (λ (pin : Pin) (rest : List Pin). pin ∷ rest) here (pins-same old new (a + 1) n (λ j low high.
+    let least : a ≤ j = omega (arith, low) in
+    let most : j < a + suc n = omega (arith, high) in
+    each j least most))
+
+-- the same but for one of them
+pins-set : (old new : ℕ → Pin) (now : Pin) (a n k : ℕ) → k < n → new (a + k) ≡ now
+    → ((j : ℕ) → a ≤ j → j < a + n → j ≢ a + k → new j ≡ old j)
+    → map new (range_with_len a n) ≡ slice_set (map old (range_with_len a n)) k now
+pins-set old new now a zero k lt is each = absurd (omega (arith, lt))
+pins-set old new now a (suc n) zero lt is each =
+    let place : a ≡ a + 0 = omega arith in
+    ap₂ (λ (pin : Pin) (rest : List Pin). pin ∷ rest) (ap new place ∙ is) (pins-same old new (a + 1) n (λ j low high.
+    let least : a ≤ j = omega (arith, low) in
+    let most : j < a + suc n = omega (arith, high) in
+    let other : j ≢ a + 0 = omega (arith, low) in
+    each j least most other))
+pins-set old new now a (suc n) (suc k) lt is each =
+    let below : k < n = omega (arith, lt) in
+    let place : a + 1 + k ≡ a + suc k = omega arith in
+    let differs : a ≢ a + suc k = omega arith in
+    let here : new a ≡ old a = each a (omega arith) (omega arith) differs in
+    ap₂ (λ (pin : Pin) (rest : List Pin). pin ∷ rest) here (pins-set old new now (a + 1) n k below (ap new place ∙ is)
+    (λ j low high differ.
+    let least : a ≤ j = omega (arith, low) in
+    let most : j < a + suc n = omega (arith, high) in
+    let other : j ≢ a + suc k = omega (arith, differ) in
+    each j least most other))
+
+-- the words of the PINs stay, and so do the PINs
+pub pins_kept : (m after : List ℕ) → KeepsPins m after → pins_of after ≡ pins_of m
+unfolding pins_of
+pins_kept m after keeps = pins-same (pin_at m) (pin_at after) 0 PINS (λ j low high.
+    pin_same m after j (λ place small. keeps.words j place high small))
+
+-- and their pages are as they may be
+pub pages_kept : (m after : List ℕ) → KeepsPins m after → ArePinPages m → ArePinPages after
+pages_kept m after keeps pages = record {
+  each = λ pin small.
+      let same = pin_same m after pin (λ place within. keeps.words pin place small within) in
+      page_of_few after pin (subst (λ (p : Pin). HasFewTries p) (sym same) (few_tries m pin (pages.each pin small)));
+}
+
+-- one PIN is set: another one stays
+pub other_pin : (m after : List ℕ) (pin other : ℕ) (now : Pin) → SetsPin m pin now after → other ≢ pin
+    → pin_at after other ≡ pin_at m other
+other_pin m after pin other now sets differ = pin_same m after other (λ place small.
+    sets.elsewhere (address (pin_page other) place) (elim (cases_order other pin) [
+      | inl same ↦ absurd (differ same)
+      | inr (inl before) ↦ let lt : address (pin_page other) place < address (pin_page pin) 0 =
+          omega (arith, before, small) in inl lt
+      | inr (inr past) ↦ let le : address (pin_page pin) PIN_WORDS ≤ address (pin_page other) place = omega (arith, past) in
+          inr le
+    ]))
+
+-- the list of PINs has the new one in the place of the old one
+pub pins_set : (m after : List ℕ) (pin : ℕ) (now : Pin) → pin < PINS → SetsPin m pin now after
+    → pins_of after ≡ slice_set (pins_of m) pin now
+unfolding pins_of
+pins_set m after pin now small sets =
+    let place : 0 + pin ≡ pin = omega arith in
+    pins-set (pin_at m) (pin_at after) now 0 PINS pin small (ap (pin_at after) place ∙ sets.becomes) (λ j low high other.
+    let differ : j ≢ pin = omega (arith, other) in
+    other_pin m after pin j now sets differ)
+
+-- and all pages are as they may be, if the new PIN is
+pub pages_set : (m after : List ℕ) (pin : ℕ) (now : Pin) → SetsPin m pin now after → HasFewTries now → ArePinPages m
+    → ArePinPages after
+pages_set m after pin now sets few pages = record {
+  each = λ other small. page_of_few after other (elim (cases_order other pin) [
+    | inl same ↦ subst (λ (k : ℕ). HasFewTries (pin_at after k)) (sym same)
+        (subst (λ (p : Pin). HasFewTries p) (sym sets.becomes) few)
+    | inr (inl before) ↦ let differ : other ≢ pin = omega (arith, before) in stays other small differ
+    | inr (inr past) ↦ let differ : other ≢ pin = omega (arith, past) in stays other small differ
+  ]);
+}
+  where
+    stays : (other : ℕ) → other < PINS → other ≢ pin → HasFewTries (pin_at after other)
+    stays other small differ =
+        subst (λ (p : Pin). HasFewTries p) (sym (other_pin m after pin other now sets differ))
+        (few_tries m other (pages.each other small))
+
+-- no change of a PIN gives it more tries than there may be
+pub with_few : (secret n : ℕ) (pin : Pin) → n ≤ tries_left secret pin → HasFewTries pin
+    → HasFewTries (with_tries secret n pin)
+with_few secret n pin fewer few = by (is_unblocking secret) fewer
+  where
+    by : (unblocking : Bool) → n ≤ (if unblocking then pin.unblocking_tries else pin.tries) → HasFewTries (record {
+      value = pin.value;
+      tries = if unblocking then pin.tries else n;
+      unblocking = pin.unblocking;
+      unblocking_tries = if unblocking then n else pin.unblocking_tries;
+    })
+    by true least = record {
+      tries = few.tries;
+      unblocking_tries = let most = few.unblocking_tries in omega (arith, most, least);
+    }
+    by false least = record {
+      tries = let most = few.tries in omega (arith, most, least);
+      unblocking_tries = few.unblocking_tries;
+    }
+
+pub verified_few : (pin : Pin) → HasFewTries pin → HasFewTries (verified_pin pin)
+verified_few pin few = record { tries = omega arith; unblocking_tries = few.unblocking_tries }
+
+pub changed_few : (new : List ℕ) (pin : Pin) → HasFewTries pin → HasFewTries (changed_pin new pin)
+changed_few new pin few = record { tries = omega arith; unblocking_tries = few.unblocking_tries }
+
+pub reset_few : (new : List ℕ) (pin : Pin) → HasFewTries (reset_pin new pin)
+reset_few new pin = record { tries = omega arith; unblocking_tries = omega arith }
+
+-- the page of a secret's PIN
+pub owner_page : (m : List ℕ) (secret : ℕ) → ArePinPages m → IsPinPage m (owner secret)
+owner_page m secret pages = let small : owner secret < PINS = omega arith in pages.each (owner secret) small
+
+pub owner_few : (m : List ℕ) (secret : ℕ) → ArePinPages m → HasFewTries (pin_at m (owner secret))
+owner_few m secret pages = few_tries m (owner secret) (owner_page m secret pages)
+
+-- what charges and ends make of a PIN leaves all pages as they may be
+pub left_pages : (m after : List ℕ) (secret n : ℕ) → n ≤ tries_left secret (pin_at m (owner secret)) → ArePinPages m
+    → SetsPin m (owner secret) (with_tries secret n (pin_at m (owner secret))) after → ArePinPages after
+left_pages m after secret n fewer pages sets =
+    pages_set m after (owner secret) _ sets (with_few secret n _ fewer (owner_few m secret pages)) pages
+
+pub verified_pages : (m after : List ℕ) (secret : ℕ) → ArePinPages m
+    → SetsPin m (owner secret) (verified_pin (pin_at m (owner secret))) after → ArePinPages after
+verified_pages m after secret pages sets =
+    pages_set m after (owner secret) _ sets (verified_few _ (owner_few m secret pages)) pages
+
+pub changed_pages : (m after new : List ℕ) (secret : ℕ) → ArePinPages m
+    → (after ≡ m) ⊎ SetsPin m (owner secret) (changed_pin new (pin_at m (owner secret))) after → ArePinPages after
+changed_pages m after new secret pages (inl same) = subst (λ (l : List ℕ). ArePinPages l) (sym same) pages
+changed_pages m after new secret pages (inr sets) =
+    pages_set m after (owner secret) _ sets (changed_few new _ (owner_few m secret pages)) pages
+
+pub reset_pages : (m after new : List ℕ) (secret : ℕ) → ArePinPages m
+    → (after ≡ m) ⊎ SetsPin m (owner secret) (reset_pin new (pin_at m (owner secret))) after → ArePinPages after
+reset_pages m after new secret pages (inl same) = subst (λ (l : List ℕ). ArePinPages l) (sym same) pages
+reset_pages m after new secret pages (inr sets) =
+    pages_set m after (owner secret) _ sets (reset_few new (pin_at m (owner secret))) pages

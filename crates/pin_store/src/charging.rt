@@ -1,0 +1,92 @@
+//! The tries of a secret, and the charge that takes one away before anything is compared.
+ghost use Rattle.std.specs.Prelude.{◌≡◌, ◌⊎◌, ◌<◌, IfOk, OnOk, IsErrOf};
+ghost use Rattle.std.specs.Result.{result_err};
+ghost use Rattle.nvm_board.specs.declared.board.TheConstants.{SECRETS};
+ghost use Rattle.undo_journal.specs.Calls.{OnlyReads};
+ghost use Rattle.undo_journal.specs.Memory.{committed, IsIdle, IsReady, Reports};
+ghost use Rattle.undo_journal.specs.Spending.{WritesAtMost};
+ghost use Rattle.pin_store.specs.declared.errors.PinErr.TheVariants.{Blocked};
+ghost use Rattle.pin_store.specs.Pins.{tries_left};
+ghost use Rattle.pin_store.specs.Pages.{ArePinPages};
+ghost use Rattle.pin_store.specs.Trials.{pin_in, store_failure, Charges};
+
+use crate::errors::PinErr;
+use crate::putting::put_left;
+use crate::words::{address_of, tries_place};
+use std::marker::Model;
+use undo_journal::{Board, Store, StoreErr};
+
+/// The receipt of a charge: a try of this secret is gone. It is spent by `settle`, `change` or `reset_counter`, which alone
+/// compare; it can't be copied or dropped.
+pub struct Charged {
+    pub(crate) secret: u8,
+}
+
+impl Model for Charged {
+    ghost use Rattle.std.specs.Prelude.{ℕ, ◌<◌};
+    ghost use Rattle.nvm_board.specs.declared.board.TheConstants.{SECRETS};
+
+    ghost Value = { ℕ };
+
+    ghost view = { λ c. c.secret };
+
+    ghost invariant = { λ c. c.secret < SECRETS };
+}
+
+impl Charged {
+    /// The secret whose try is gone: 0 to 7 the values of PIN 1 to 8, 8 to 15 their unblocking values.
+    pub fn secret(&self) -> u8
+        ensures secret { result ≡ self.now }
+        ensures in_range { result < SECRETS }
+    {
+        self.secret
+    }
+}
+
+/// How many tries are left of a secret.
+///
+/// # Errors
+/// What the store answers: power was lost, or the device failed.
+#[tactic(auto, using(crate::specs::laws::AllPins::owner_page))]
+pub fn tries<B: Board>(store: &mut Store<B>, secret: u8) -> Result<u8, StoreErr>
+    requires ready { IsReady store.old }
+    requires secret { secret < SECRETS }
+    requires pages { ArePinPages (committed store.old) }
+    ensures left { IfOk result (λ left. left ≡ tries_left secret (pin_in store.old secret)) }
+    ensures ready { OnOk result (IsReady store.new) }
+    ensures reads { OnlyReads store.old store.new }
+    ensures tells { store.new.failed ≡ result_err result }
+{
+    let word = store.read(address_of(secret, tries_place(secret)))?;
+    Ok(word as u8)
+}
+
+/// Takes a try of a secret away, lastingly, in one device write. Nothing is compared, at no exit: the counts of comparisons
+/// and of matches stay (`writes`).
+///
+/// # Errors
+/// `Blocked` exactly where no try is left (`blocked`, `done`): then nothing is written, at no exit (`kept`). Else what the
+/// store answers: power was lost, or the device failed. The try may be gone then, and no receipt is given.
+#[tactic(auto, using(undo_journal::specs::MemoryLaws::reports_then))]
+pub fn charge<B: Board>(store: &mut Store<B>, secret: u8) -> Result<Charged, PinErr>
+    requires ready { IsReady store.old }
+    requires secret { secret < SECRETS }
+    requires pages { ArePinPages (committed store.old) }
+    ensures any_exit { (committed store.new ≡ committed store.old) ⊎ Charges secret store.old store.new }
+    ensures done { IfOk result (λ charged. (charged ≡ secret) × Charges secret store.old store.new) }
+    ensures blocked { IsErrOf result Blocked → (tries_left secret (pin_in store.old secret) ≡ 0) × IsReady store.new }
+    ensures kept { tries_left secret (pin_in store.old secret) ≡ 0 → OnlyReads store.old store.new }
+    ensures pages { ArePinPages (committed store.new) }
+    ensures ready { OnOk result (IsReady store.new) }
+    ensures idle { IsIdle store.new }
+    ensures reports { Reports store.old store.new }
+    ensures tells { store.new.failed ≡ store_failure result }
+    ensures writes { WritesAtMost 1 store.old.facts store.new.facts }
+{
+    let left = tries(store, secret)?;
+    if left == 0 {
+        return Err(PinErr::Blocked);
+    }
+    put_left(store, secret, left - 1)?;
+    Ok(Charged { secret })
+}

@@ -1,0 +1,46 @@
+//! Whether the words of a memory have PINs: no more tries are left than there may be.
+ghost use Rattle.std.specs.Prelude.{◌≡◌, ◌<◌, ◌↔◌, IfOk, OnOk, IsTrue};
+ghost use Rattle.std.specs.Result.{result_err};
+ghost use Rattle.undo_journal.specs.Calls.{OnlyReads};
+ghost use Rattle.undo_journal.specs.Memory.{committed, IsReady};
+ghost use Rattle.pin_store.specs.declared.layout.TheConstants.{PINS};
+ghost use Rattle.pin_store.specs.Pages.{ArePinPages, IsPinPage};
+
+use crate::layout::{FIRST_PIN_PAGE, PINS, TRIES, UNBLOCKING_TRIES};
+use undo_journal::{Board, PAGE_WORDS, Store, StoreErr};
+
+/// A PIN's counts of tries.
+#[tactic(auto, using(undo_journal::specs::laws::Calls::reads_then))]
+fn is_pin_page<B: Board>(store: &mut Store<B>, pin: u8) -> Result<bool, StoreErr>
+    requires ready { IsReady store.old }
+    requires pin { pin < PINS }
+    ensures page { IfOk result (λ page. IsTrue page ↔ IsPinPage (committed store.old) pin) }
+    ensures ready { OnOk result (IsReady store.new) }
+    ensures reads { OnlyReads store.old store.new }
+    ensures tells { store.new.failed ≡ result_err result }
+{
+    let page = FIRST_PIN_PAGE + u16::from(pin);
+    let tries = store.read(PAGE_WORDS * page)?;
+    let unblocking_tries = store.read(PAGE_WORDS * page + 1)?;
+    Ok(tries <= u32::from(TRIES) && unblocking_tries <= u32::from(UNBLOCKING_TRIES))
+}
+
+/// Whether no PIN has more than 3 tries left, and no unblocking value more than 10. Any bytes are a value.
+///
+/// # Errors
+/// What the store answers: power was lost, or the device failed.
+#[tactic(auto, using(undo_journal::specs::laws::Calls::reads_then))]
+pub fn are_pins<B: Board>(store: &mut Store<B>) -> Result<bool, StoreErr>
+    requires ready { IsReady store.old }
+    ensures pins { IfOk result (λ pins. IsTrue pins ↔ ArePinPages (committed store.old)) }
+    ensures ready { OnOk result (IsReady store.new) }
+    ensures reads { OnlyReads store.old store.new }
+    ensures tells { store.new.failed ≡ result_err result }
+{
+    for pin in 0..PINS {
+        if !is_pin_page(store, pin)? {
+            return Ok(false);
+        }
+    }
+    Ok(true)
+}

@@ -1,0 +1,18 @@
+//! PINs over a store: a try is taken away, lastingly, before anything is compared. Only the receipt of a charge leads to
+//! a comparison, and each receipt is spent by one end.
+#![tactic(auto)]
+
+mod charging;
+mod checking;
+mod errors;
+pub mod laws;
+mod layout;
+mod putting;
+mod settling;
+mod words;
+
+pub use charging::{Charged, charge, tries};
+pub use checking::are_pins;
+pub use errors::{Outcome, PinErr};
+pub use layout::{FIRST_PIN_PAGE, PINS, TRIES, UNBLOCKING_TRIES};
+pub use settling::{change, reset_counter, settle};

@@ -1,0 +1,159 @@
+//! The ends that follow a charge: each compares once, what was charged, and sets the PIN where it was right.
+ghost use Rattle.std.specs.Prelude.{◌≡◌, ◌⊎◌, ◌<◌, ◌≤◌, IfOk, OnOk};
+ghost use Rattle.std.specs.Result.{result_err};
+ghost use Rattle.undo_journal.specs.Calls.{OnlyReads};
+ghost use Rattle.undo_journal.specs.Memory.{committed, IsIdle, IsReady, Reports};
+ghost use Rattle.nvm_board.specs.declared.board.TheConstants.{SECRETS};
+ghost use Rattle.pin_store.specs.declared.layout.TheConstants.{PINS};
+ghost use Rattle.pin_store.specs.Pins.{changed_pin, kept, reset_pin, verified_pin};
+ghost use Rattle.pin_store.specs.Pages.{ArePinPages};
+ghost use Rattle.pin_store.specs.Trials.{pin_in, Compared, ComparesOnce, Ends, SetsByMatch};
+
+use crate::charging::{Charged, tries};
+use crate::errors::Outcome;
+use crate::putting::{put_all, put_tries, put_value};
+use crate::words::{address_of, bytes_of, kept_place};
+use undo_journal::{Board, Store, StoreErr};
+
+/// VERIFY: compares the shown bytes with the value of the charged PIN. If they are equal, its tries are 3 again, in one
+/// device write; else nothing is written.
+///
+/// # Errors
+/// What the store answers: power was lost, or the device failed. The receipt is spent then, too.
+#[tactic(auto, using(undo_journal::specs::MemoryLaws::reports_then))]
+pub fn settle<B: Board>(
+    store: &mut Store<B>,
+    charged: Charged,
+    shown: &[u8; 8],
+) -> Result<Outcome, StoreErr>
+    requires ready { IsReady store.old }
+    requires secret { charged < PINS }
+    requires pages { ArePinPages (committed store.old) }
+    ensures any_exit { (committed store.new ≡ committed store.old)
+        ⊎ SetsByMatch charged shown.now (verified_pin (pin_in store.old charged)) store.old store.new }
+    ensures done { IfOk result (Ends charged shown.now (verified_pin (pin_in store.old charged)) store.old store.new) }
+    ensures pages { ArePinPages (committed store.new) }
+    ensures ready { OnOk result (IsReady store.new) }
+    ensures idle { IsIdle store.new }
+    ensures reports { Reports store.old store.new }
+    ensures tells { store.new.failed ≡ result_err result }
+    ensures spends { ComparesOnce 1 charged store.old.facts store.new.facts }
+{
+    let secret = charged.secret();
+    let outcome = compare(store, charged, shown)?;
+    if let Outcome::Matched = outcome {
+        put_tries(store, secret)?;
+    }
+    Ok(outcome)
+}
+
+/// CHANGE REFERENCE DATA: compares the shown bytes with the value of the charged PIN. If they are equal, its tries are 3
+/// again and the new value takes the place of the old one, in one transaction of ten device writes; else nothing is written.
+///
+/// # Errors
+/// What the store answers: power was lost, or the device failed. The receipt is spent then, too.
+#[tactic(auto, using(undo_journal::specs::MemoryLaws::reports_then))]
+pub fn change<B: Board>(
+    store: &mut Store<B>,
+    charged: Charged,
+    shown: &[u8; 8],
+    new: &[u8; 8],
+) -> Result<Outcome, StoreErr>
+    requires ready { IsReady store.old }
+    requires secret { charged < PINS }
+    requires pages { ArePinPages (committed store.old) }
+    ensures any_exit { (committed store.new ≡ committed store.old)
+        ⊎ SetsByMatch charged shown.now (changed_pin new.now (pin_in store.old charged)) store.old store.new }
+    ensures done { IfOk result (Ends charged shown.now (changed_pin new.now (pin_in store.old charged)) store.old store.new) }
+    ensures pages { ArePinPages (committed store.new) }
+    ensures ready { OnOk result (IsReady store.new) }
+    ensures idle { IsIdle store.new }
+    ensures reports { Reports store.old store.new }
+    ensures tells { store.new.failed ≡ result_err result }
+    ensures spends { ComparesOnce 10 charged store.old.facts store.new.facts }
+{
+    let secret = charged.secret();
+    let outcome = compare(store, charged, shown)?;
+    if let Outcome::Matched = outcome {
+        put_value(store, secret, new)?;
+    }
+    Ok(outcome)
+}
+
+/// RESET RETRY COUNTER: compares the shown bytes with the unblocking value of the charged PIN. If they are equal, the
+/// unblocking tries are 10 again, the tries 3, and the new value takes the place of the old one, in one transaction of
+/// thirteen device writes; else nothing is written.
+///
+/// # Errors
+/// What the store answers: power was lost, or the device failed. The receipt is spent then, too.
+#[tactic(auto, using(undo_journal::specs::MemoryLaws::reports_then))]
+pub fn reset_counter<B: Board>(
+    store: &mut Store<B>,
+    charged: Charged,
+    shown: &[u8; 8],
+    new: &[u8; 8],
+) -> Result<Outcome, StoreErr>
+    requires ready { IsReady store.old }
+    requires secret { PINS ≤ charged }
+    requires pages { ArePinPages (committed store.old) }
+    ensures any_exit { (committed store.new ≡ committed store.old)
+        ⊎ SetsByMatch charged shown.now (reset_pin new.now (pin_in store.old charged)) store.old store.new }
+    ensures done { IfOk result (Ends charged shown.now (reset_pin new.now (pin_in store.old charged)) store.old store.new) }
+    ensures pages { ArePinPages (committed store.new) }
+    ensures ready { OnOk result (IsReady store.new) }
+    ensures idle { IsIdle store.new }
+    ensures reports { Reports store.old store.new }
+    ensures tells { store.new.failed ≡ result_err result }
+    ensures spends { ComparesOnce 13 charged store.old.facts store.new.facts }
+{
+    let secret = charged.secret();
+    let outcome = compare(store, charged, shown)?;
+    if let Outcome::Matched = outcome {
+        put_all(store, secret, new)?;
+    }
+    Ok(outcome)
+}
+
+/// Compares the shown bytes with the kept ones of the charged secret. Nothing is written.
+#[tactic(auto, using(undo_journal::specs::MemoryLaws::reports_then))]
+fn compare<B: Board>(
+    store: &mut Store<B>,
+    charged: Charged,
+    shown: &[u8; 8],
+) -> Result<Outcome, StoreErr>
+    requires ready { IsReady store.old }
+    requires pages { ArePinPages (committed store.old) }
+    ensures done { IfOk result (Compared charged shown.now store.old store.new) }
+    ensures kept { committed store.new ≡ committed store.old }
+    ensures ready { OnOk result (IsReady store.new) }
+    ensures idle { IsIdle store.new }
+    ensures reports { Reports store.old store.new }
+    ensures tells { store.new.failed ≡ result_err result }
+    ensures spends { ComparesOnce 0 charged store.old.facts store.new.facts }
+{
+    let Charged { secret } = charged;
+    let left = tries(store, secret)?;
+    let kept = kept(store, secret)?;
+    let right = store.compare(secret, &kept, shown)?;
+    Ok(if right {
+        Outcome::Matched
+    } else {
+        Outcome::Wrong(left)
+    })
+}
+
+/// What is kept of a secret.
+#[tactic(auto, using(undo_journal::specs::laws::Calls::reads_then))]
+fn kept<B: Board>(store: &mut Store<B>, secret: u8) -> Result<[u8; 8], StoreErr>
+    requires ready { IsReady store.old }
+    requires secret { secret < SECRETS }
+    ensures kept { IfOk result (λ bytes. bytes ≡ kept secret (pin_in store.old secret)) }
+    ensures ready { OnOk result (IsReady store.new) }
+    ensures reads { OnlyReads store.old store.new }
+    ensures tells { store.new.failed ≡ result_err result }
+{
+    let place = kept_place(secret);
+    let first = store.read(address_of(secret, place))?;
+    let second = store.read(address_of(secret, place + 1))?;
+    Ok(bytes_of(first, second))
+}
