@@ -1,0 +1,121 @@
+-- The record that INCREASE stores, and what it makes of a body.
+use Rattle.std.proofs.Common.{refl, sym, ◌∙◌, ap, ap₂, arith, ⊎_elim, subst}
+use Rattle.std.proofs.lemmas.Bool.{cases_lt, le-leb, lt-leb}
+use Rattle.std.proofs.lemmas.List.{take_all}
+use Rattle.std.specs.Prelude.{◌≡◌, ◌<◌, ◌≤◌, ◌+◌, ◌%◌, ◌^◌, ℕ, zero, suc, Bool, true, false, List, ◌∷◌}
+use Rattle.std.specs.Prelude.{length, All, Option, Some, None, if◌then◌else◌, nat_le, min}
+use Rattle.card_rules.specs.declared.status.Sw.{Sw}
+use Rattle.card_rules.specs.declared.status.TheConstants.Sw.{RECORD_NOT_FOUND, MAXIMUM_REACHED}
+use Rattle.ef_body.specs.declared.cyclic.Cyclic.{Cyclic}
+use Rattle.ef_body.specs.Records.{has_record, record_of, front}
+use Rattle.ef_body.specs.Numbers.{number_of, spelled}
+use Rattle.ef_body.specs.Refusals.{raised_number, unraised}
+use Rattle.ef_body.specs.Bodies.{cyclic_records, IsCyclic}
+use Rattle.ef_body.specs.Changes.{CyclicBecomes, Increases}
+use Rattle.ef_body.specs.laws.Numbers.{number-small, spelled-number}
+use Rattle.ef_body.proofs.Becoming.{length-cyclic}
+use Rattle.ef_body.proofs.Refusing.{there, not_there}
+
+-- at most as many records as there is room for
+pub front-most : (k capacity : ℕ) (new : List ℕ) (records : List (List ℕ)) → k ≡ min (length records + 1) capacity
+    → front k new records ≡ front capacity new records
+front-most k capacity new records is = ⊎_elim
+    (λ (room : length records < capacity).
+    let all : length (new ∷ records) ≤ k = omega (arith, is, room) in
+    let more : length (new ∷ records) ≤ capacity = omega (arith, room) in
+    take_all k (new ∷ records) all ∙ sym (take_all capacity (new ∷ records) more))
+    (λ (none : capacity ≤ length records).
+    let same : k ≡ capacity = omega (arith, is, none) in ap (λ (n : ℕ). front n new records) same)
+    (cases_lt (length records) capacity)
+
+-- what refuses does not let through
+pub not_both : (refusal : Option Sw) (status : Sw) → refusal ≡ Some status → refusal ≡ None → ⊥
+not_both refusal status is none = let e : Some status ≡ None = sym is ∙ none in cc
+
+-- as many bytes as are asked for
+pub length-spelled : (size n : ℕ) → length (spelled size n) ≡ size
+unfolding spelled
+length-spelled zero n = refl
+length-spelled (suc size) n = ap (λ (k : ℕ). suc k) (length-spelled size (n % 256 ^ size))
+
+-- there is no record to raise
+pub unraised_missing : (size : ℕ) (records : List (List ℕ)) (sent : List ℕ) → has_record records 1 ≡ false
+    → unraised size records sent ≡ Some RECORD_NOT_FOUND
+unraised_missing size records sent none =
+    ap (λ (h : Bool). let status : Option Sw = if h
+    then (if nat_le (256 ^ size) (raised_number records sent) then Some MAXIMUM_REACHED else None)
+    else Some RECORD_NOT_FOUND in status) none
+
+-- there is one
+pub unraised_there : (size : ℕ) (records : List (List ℕ)) (sent : List ℕ) (high : Bool) → has_record records 1 ≡ true
+    → nat_le (256 ^ size) (raised_number records sent) ≡ high
+    → unraised size records sent ≡ (if high then Some MAXIMUM_REACHED else None)
+unraised_there size records sent high some is =
+    ap₂ (λ (h k : Bool). let status : Option Sw = if h then (if k then Some MAXIMUM_REACHED else None)
+    else Some RECORD_NOT_FOUND in status) some is
+
+-- where nothing refuses to raise record 1, there is one
+pub raised_there : (size : ℕ) (records : List (List ℕ)) (sent : List ℕ) → unraised size records sent ≡ None
+    → 1 ≤ length records
+raised_there size records sent ok = ⊎_elim
+    (λ (none : length records < 1).
+    let no = not_there records (length records) 1 refl (λ both. let z : ⊥ = omega (arith, none, both.1) in z) in
+    let e : Some RECORD_NOT_FOUND ≡ None = sym (unraised_missing size records sent no) ∙ ok in
+    absurd (let z : ⊥ = cc in z))
+    (λ (some : 1 ≤ length records). some)
+    (cases_lt (length records) 1)
+
+-- the sum, and whether it is too high
+module _ (size : ℕ) (records : List (List ℕ)) (sent old now : List ℕ) (high : Bool) (many : 1 ≤ length records)
+    (read : old ≡ record_of records 1) (long : length old ≡ size) (same : length now ≡ length old)
+    (digits : All (λ b. b < 256) now)
+    (sum : number_of now + (if high then 256 ^ length old else 0) ≡ number_of old + number_of sent) where
+  some : has_record records 1 ≡ true
+  some = there records (length records) 1 refl (omega arith) many
+
+  below : number_of now < 256 ^ size
+  below =
+      let small = number-small now digits in
+      let power : 256 ^ length now ≡ 256 ^ size = ap (λ (k : ℕ). 256 ^ k) (same ∙ long) in
+      omega (arith, small, power)
+
+  raised : number_of old + number_of sent ≡ raised_number records sent
+  raised = ap (λ (l : List ℕ). number_of l + number_of sent) read
+
+  power_old : 256 ^ length old ≡ 256 ^ size
+  power_old = ap (λ (k : ℕ). 256 ^ k) long
+
+  pub too_high : high ≡ true → unraised size records sent ≡ Some MAXIMUM_REACHED
+  too_high is =
+      let e : (if high then 256 ^ length old else 0) ≡ 256 ^ size =
+      ap (λ (b : Bool). if b then 256 ^ length old else 0) is ∙ power_old in
+      let above : 256 ^ size ≤ raised_number records sent = omega (arith, e, sum, raised) in
+      unraised_there size records sent true some (le-leb (256 ^ size) (raised_number records sent) above)
+
+  exact : high ≡ false → number_of now ≡ raised_number records sent
+  exact is =
+      let e : (if high then 256 ^ length old else 0) ≡ 0 = ap (λ (b : Bool). if b then 256 ^ length old else 0) is in
+      omega (arith, e, sum, raised)
+
+  pub not_too_high : high ≡ false → unraised size records sent ≡ None
+  not_too_high is =
+      let e = exact is in
+      let low : raised_number records sent < 256 ^ size = omega (arith, e, below) in
+      unraised_there size records sent false some (lt-leb (256 ^ size) (raised_number records sent) low)
+
+  pub is_sum : high ≡ false → now ≡ spelled size (raised_number records sent)
+  is_sum is =
+      sym (spelled-number now digits) ∙ ap₂ spelled (same ∙ long) (exact is)
+
+-- the sum becomes the newest record
+pub increases : (m n after : List ℕ) (body : Cyclic) (bytes sent : List ℕ) → n ≡ m → IsCyclic m body
+    → bytes ≡ spelled body.record_length (raised_number (cyclic_records m body) sent)
+    → CyclicBecomes n body (front body.records bytes (cyclic_records n body)) after → Increases m body sent after
+increases m n after body bytes sent same is value becomes =
+    let at : List ℕ → Type 0 = λ l. CyclicBecomes l body (front body.records bytes (cyclic_records l body)) after in
+    let here = subst at same becomes in
+    let with_number : ℕ → Type 0 = λ k. CyclicBecomes m body (front k bytes (cyclic_records m body)) after in
+    let whole = subst with_number (sym (length-cyclic m body is)) here in
+    let with_bytes : List ℕ → Type 0 = λ l. CyclicBecomes m body (front (length (cyclic_records m body)) l
+    (cyclic_records m body)) after in
+    subst with_bytes value whole

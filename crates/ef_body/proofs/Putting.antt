@@ -1,0 +1,104 @@
+-- The words of a body and of its entry, as they are after bytes of its chain were set.
+use Rattle.std.proofs.Common.{refl, sym, ◌∙◌, ap, arith, inl, inr, subst, get_or-set_same, get_or-set_other}
+use Rattle.std.proofs.Math.ListN.{length-set}
+use Rattle.std.specs.Prelude.{◌≡◌, ◌≢◌, ◌<◌, ◌≤◌, ◌+◌, ◌*◌, ◌/◌, ◌%◌, ℕ, zero, suc, List, length, slice_index}
+use Rattle.std.specs.Prelude.{slice_set}
+use Rattle.nvm_board.specs.Facts.{Facts, address}
+use Rattle.nvm_board.specs.declared.board.TheConstants.{WORDS, PAGE_WORDS}
+use Rattle.undo_journal.specs.declared.layout.TheConstants.{GATE}
+use Rattle.block_chain.specs.declared.chain.Chain.{Chain}
+use Rattle.block_chain.specs.declared.layout.TheConstants.{BLOCKS, BLOCK_WORDS}
+use Rattle.block_chain.specs.Words.{word, IsBlock}
+use Rattle.block_chain.specs.Counts.{count, IsNotIn}
+use Rattle.block_chain.specs.Chains.{chain_of, bytes_of, IsChain}
+use Rattle.undo_journal.specs.Spending.{WritesAtMost}
+use Rattle.ef_body.specs.declared.layout.TheConstants.{UPDATE_WRITES}
+use Rattle.block_chain.specs.Changes.{Overwrites, touched_words}
+use Rattle.block_chain.specs.laws.Bytes.{leads_blocks, block_in}
+use Rattle.block_chain.specs.laws.Chains.{leads_same, pages_are}
+use Rattle.block_chain.specs.laws.Footprints.{bytes_same, not_among}
+use Rattle.block_chain.specs.laws.Laying.{leads_count, pages_most}
+use Rattle.ef_body.specs.Changes.{PutsRecord}
+
+module _ (m mid : List ℕ) (c : Chain) (offset : ℕ) (bytes : List ℕ) (sized : length m ≡ WORDS)
+    (is : IsChain m c.first (chain_of m c)) (over : Overwrites m (chain_of m c) offset bytes mid) where
+  mid_sized : length mid ≡ WORDS
+  mid_sized = over.only.size ∙ sized
+
+  -- the chain stays
+  pub chain_kept : chain_of mid c ≡ chain_of m c
+  chain_kept =
+      pages_are mid BLOCKS c.first (chain_of m c)
+      (leads_same m mid c.first 0 (chain_of m c) (λ q some. over.only.others q 0 (omega arith) (inl refl)) is.leads)
+      (pages_most m BLOCKS c.first)
+
+  -- and so does each word before the gate
+  pub before_kept : (at : ℕ) → at < GATE → slice_index mid at ≡ slice_index m at
+  before_kept at low =
+      let place : address (at / PAGE_WORDS) (at % PAGE_WORDS) ≡ at = omega arith in
+      let away : IsNotIn (at / PAGE_WORDS) (chain_of m c) =
+      not_among (at / PAGE_WORDS) (λ block. let from = block.0 in let z : ⊥ = omega (arith, from, low) in z)
+      (chain_of m c) (leads_blocks m c.first 0 (chain_of m c) is.leads) in
+      ap (slice_index mid) (sym place)
+      ∙ over.only.others (at / PAGE_WORDS) (at % PAGE_WORDS) (omega arith) (inr away)
+      ∙ ap (slice_index m) place
+
+  module _ (told_at told : ℕ) (low : told_at < GATE) where
+    abbrev pub after : List ℕ
+    after = slice_set mid told_at told
+
+    elsewhere : (page place : ℕ) → address page place ≢ told_at → word after page place ≡ word mid page place
+    elsewhere page place other = get_or-set_other mid told_at (address page place) told 0 other
+
+    in_block : (page place : ℕ) → IsBlock page → word after page place ≡ word mid page place
+    in_block page place block =
+        elsewhere page place (λ same. let from = block.0 in let z : ⊥ = omega (arith, from, low, same) in z)
+
+    blocks_kept : chain_of after c ≡ chain_of m c
+    blocks_kept =
+        pages_are after BLOCKS c.first (chain_of m c)
+        (leads_same m after c.first 0 (chain_of m c)
+        (λ q some. in_block q 0 (leads_count m c.first 0 q (chain_of m c) is.leads some)
+        ∙ over.only.others q 0 (omega arith) (inl refl)) is.leads)
+        (pages_most m BLOCKS c.first)
+
+    bytes_kept : bytes_of after (chain_of m c) ≡ bytes_of mid (chain_of m c)
+    bytes_kept =
+        let blocks = leads_blocks m c.first 0 (chain_of m c) is.leads in
+        bytes_same mid after (chain_of m c) mid_sized (length-set mid told_at told ∙ mid_sized) blocks (λ j lt.
+        let within : j / BLOCK_WORDS < length (chain_of m c) = omega (arith, lt) in
+        in_block (slice_index (chain_of m c) (j / BLOCK_WORDS)) (1 + j % BLOCK_WORDS)
+        (block_in (chain_of m c) (j / BLOCK_WORDS) blocks within))
+
+    pub puts_record : PutsRecord m c offset bytes told_at told after
+    puts_record = record {
+      becomes = ap (bytes_of after) blocks_kept ∙ bytes_kept ∙ over.content;
+      tells = (let inside : told_at < length mid = omega (arith, mid_sized, low) in
+          get_or-set_same mid told_at told 0 inside);
+      blocks = blocks_kept;
+      only = record {
+        size = length-set mid told_at told ∙ over.only.size;
+        others = λ page place small away other. elsewhere page place other ∙ over.only.others page place small away;
+      };
+    }
+
+-- the same of the words that a set leaves
+pub puts : (m mid new : List ℕ) (c : Chain) (offset : ℕ) (bytes : List ℕ) (told_at told : ℕ) → length m ≡ WORDS
+    → IsChain m c.first (chain_of m c) → told_at < GATE → Overwrites m (chain_of m c) offset bytes mid
+    → new ≡ slice_set mid told_at told → PutsRecord m c offset bytes told_at told new
+puts m mid new c offset bytes told_at told sized is low over set =
+    let family : List ℕ → Type 0 = λ l. PutsRecord m c offset bytes told_at told l in
+    subst family (sym set) (puts_record m mid c offset bytes sized is over told_at told low)
+
+-- 255 bytes touch at most 65 words
+pub touched_few : (offset count : ℕ) → count ≤ 255 → touched_words offset count ≤ 65
+touched_few offset zero few = omega arith
+touched_few offset (suc n) few = omega (arith, few)
+
+pub update_spends : (offset count : ℕ) (a b : Facts) → count ≤ 255 → WritesAtMost (3 * touched_words offset count +
+    1) a b
+    → WritesAtMost UPDATE_WRITES a b
+update_spends offset count a b few spends =
+    let most = touched_few offset count few in
+    let writes = spends.writes in
+    record { writes = omega (arith, most, writes); compares = spends.compares; matches = spends.matches }

@@ -1,0 +1,75 @@
+use Rattle.std.proofs.Common.{rules, ◌≡◌, ◌≤◌, ◌<◌, ◌++◌, ◌∷◌, [], cond, Bool, List, ℕ, arith, ap, ap₂, ◌∙◌, sym}
+use Rattle.std.proofs.Common.{length, take, slice_index}
+use Rattle.std.proofs.lemmas.List.{length-take-le, take_all}
+use Rattle.std.specs.List.{filter}
+use Rattle.undo_journal.specs.Memory.{committed}
+use Rattle.undo_journal.specs.laws.Calls.{reads_same, reads_then}
+use Rattle.ef_body.specs.Records.{record_of}
+use Rattle.ef_body.specs.Searching.{stands_in, numbers_on}
+use Rattle.ef_body.specs.Bodies.{cyclic_records}
+use Rattle.ef_body.proofs.Becoming.{length-cyclic}
+use Rattle.ef_body.proofs.Finding.{steps_few, filter-next, filter-few}
+use Rattle.ef_body.proofs.search.search_records.Goals as goal
+
+pub loop-step-init : goal.loop-step-init
+loop-step-init g c = record {
+  ready = c.requires.ready;
+  reads = reads_same _;
+  so_far = c.requires.empty;
+}
+
+-- what is looked at in the step
+pub note-requires : goal.note-requires
+note-requires g c =
+    let m = committed c.args.store.now in
+    let body = c.args.body in
+    let numbers = numbers_on c.args.direction c.args.first body.records in
+    let test : ℕ → Bool = λ n. stands_in c.args.text.now (record_of (cyclic_records m body) n) in
+    let steps = c.steps_of-steps.ensures in
+    let lt : c.loop-step.step < length numbers = omega (arith, steps, c.loop-step-test.true) in
+    let most = steps_few c.args.direction c.args.first body.records c.requires.some c.requires.exists in
+    let few = filter-few test (take c.loop-step.step numbers) in
+    let taken = length-take-le c.loop-step.step numbers (omega (arith, lt)) in
+    let so_far : length c.loop-step.numbers.items ≡ length (filter test (take c.loop-step.step numbers)) =
+    ap (λ (l : List ℕ). length l) c.loop-step.invariant.so_far in
+    let top = c.number_at-number.ensures.most in
+    let number = c.requires.body.number in
+    let capacity = c.requires.body.slots.few in (
+      search rules,
+      (omega (arith, so_far, few, taken, lt, most, c.requires.room), omega (arith, top, number, capacity)),
+    )
+
+pub loop-step-preserved : goal.loop-step-preserved
+loop-step-preserved g c =
+    let m = committed c.args.store.now in
+    let body = c.args.body in
+    let numbers = numbers_on c.args.direction c.args.first body.records in
+    let test : ℕ → Bool = λ n. stands_in c.args.text.now (record_of (cyclic_records m body) n) in
+    let steps = c.steps_of-steps.ensures in
+    let lt : c.loop-step.step < length numbers = omega (arith, steps, c.loop-step-test.true) in
+    let number = c.number_at-number.ensures.number in
+    let holds : c.in_ok-holds.holds ≡ test (slice_index numbers c.loop-step.step) =
+    c.in_ok-holds.ensures.holds
+    ∙ ap (λ (l : List ℕ). stands_in c.args.text.now (record_of (cyclic_records l body) c.number_at-number.result))
+    c.loop-step.invariant.reads.keeps.committed_words ∙ ap test number in
+    let here : cond c.in_ok-holds.holds (c.number_at-number.result ∷ []) []
+    ≡ cond (test (slice_index numbers c.loop-step.step)) (slice_index numbers c.loop-step.step ∷ []) [] =
+    ap₂ (λ (b : Bool) (n : ℕ). cond b (n ∷ []) []) holds number in
+    record {
+      ready = c.in_ok-holds.ensures.ready;
+      reads = reads_then _ _ _ c.loop-step.invariant.reads c.record_holds.ensures.reads;
+      so_far = c.note.ensures ∙ ap₂ (λ (front back : List ℕ). front ++ back) c.loop-step.invariant.so_far here
+          ∙ sym (filter-next test numbers c.loop-step.step lt);
+    }
+
+pub returns-clause-numbers : goal.returns-clause-numbers
+returns-clause-numbers g c =
+    let m = committed c.args.store.now in
+    let body = c.args.body in
+    let numbers = numbers_on c.args.direction c.args.first body.records in
+    let test : ℕ → Bool = λ n. stands_in c.args.text.now (record_of (cyclic_records m body) n) in
+    let steps = c.steps_of-steps.ensures in
+    let all : length numbers ≤ c.loop-step.step = omega (arith, steps, c.loop-step-test.false) in
+    c.loop-step.invariant.so_far ∙ ap (filter test) (take_all c.loop-step.step numbers all)
+    ∙ ap (λ (n : ℕ). filter test (numbers_on c.args.direction c.args.first n)) (sym (length-cyclic m body
+    c.requires.body))

@@ -1,0 +1,59 @@
+-- What the calls on bodies make of the words of a memory.
+use Rattle.std.specs.Prelude.{◌≡◌, ◌≢◌, ◌⊎◌, ◌<◌, ◌+◌, ◌-◌, ◌%◌, ℕ, List, length, slice_index}
+use Rattle.nvm_board.specs.Facts.{address}
+use Rattle.nvm_board.specs.declared.board.TheConstants.{PAGE_WORDS}
+use Rattle.block_chain.specs.declared.chain.Chain.{Chain}
+use Rattle.block_chain.specs.Words.{word}
+use Rattle.block_chain.specs.Counts.{IsNotIn}
+use Rattle.block_chain.specs.Chains.{chain_of, chain_bytes}
+use Rattle.block_chain.specs.Changes.{OnlyContent, overwrite}
+use Rattle.ef_body.specs.declared.transparent.Transparent.{Transparent}
+use Rattle.ef_body.specs.declared.linear.Linear.{Linear}
+use Rattle.ef_body.specs.declared.cyclic.Cyclic.{Cyclic}
+use Rattle.ef_body.specs.Records.{front}
+use Rattle.ef_body.specs.Numbers.{spelled}
+use Rattle.ef_body.specs.Refusals.{raised_number}
+use Rattle.ef_body.specs.Bodies.{transparent_bytes, linear_records, cyclic_records, start_told}
+
+-- Every word stays but the words of these blocks that hold bytes, and the one at this address.
+pub record OnlyBody (m ps : List ℕ) (told_at : ℕ) (after : List ℕ) : Type 0 where
+  pub size : length after ≡ length m
+  pub others : (page place : ℕ) → place < PAGE_WORDS → (place ≡ 0) ⊎ IsNotIn page ps → address page place ≢ told_at
+      → word after page place ≡ word m page place
+
+-- A transparent body has these bytes, and all else stays.
+pub record TransparentBecomes (m : List ℕ) (body : Transparent) (bytes after : List ℕ) : Type 0 where
+  pub becomes : transparent_bytes after body ≡ bytes
+  pub blocks : chain_of after body.chain ≡ chain_of m body.chain
+  pub only : OnlyContent m (chain_of m body.chain) after
+
+-- A linear body has these records, and all else stays.
+pub record LinearBecomes (m : List ℕ) (body : Linear) (records : List (List ℕ)) (after : List ℕ) : Type 0 where
+  pub becomes : linear_records after body ≡ records
+  pub start : start_told after body.told_at ≡ 0
+  pub blocks : chain_of after body.chain ≡ chain_of m body.chain
+  pub only : OnlyBody m (chain_of m body.chain) body.told_at after
+
+-- A cyclic body has these records, of which the first lies in the slot before that of record 1 before, and all else
+-- stays.
+pub record CyclicBecomes (m : List ℕ) (body : Cyclic) (records : List (List ℕ)) (after : List ℕ) : Type 0 where
+  pub becomes : cyclic_records after body ≡ records
+  pub start : start_told after body.told_at ≡ (body.start + body.capacity - 1) % body.capacity
+  pub blocks : chain_of after body.chain ≡ chain_of m body.chain
+  pub only : OnlyBody m (chain_of m body.chain) body.told_at after
+
+-- Bytes of a chain are overwritten and the word at an address is set, and all else stays.
+pub record PutsRecord (m : List ℕ) (c : Chain) (offset : ℕ) (bytes : List ℕ) (told_at told : ℕ) (after : List ℕ)
+    : Type 0 where
+  pub becomes : chain_bytes after c ≡ overwrite (chain_bytes m c) offset bytes
+  pub tells : slice_index after told_at ≡ told
+  pub blocks : chain_of after c ≡ chain_of m c
+  pub only : OnlyBody m (chain_of m c) told_at after
+
+-- INCREASE: the sum of record 1 and the sent number, in as many bytes as a record has, becomes the newest record, and
+-- the oldest is dropped.
+abbrev pub Increases : List ℕ → Cyclic → List ℕ → List ℕ → Type 0
+Increases m body sent after =
+    let records = cyclic_records m body in
+    CyclicBecomes m body (front (length records) (spelled body.record_length (raised_number records sent)) records)
+    after

@@ -1,0 +1,249 @@
+//! Cyclic bodies: records of one length, the newest first (ETSI TS 102 221, 8.2.2.3).
+ghost use Rattle.std.specs.Prelude.{◌≡◌, ◌≤◌, ◌<◌, ◌⊎◌, ◌↔◌, ◌+◌, [], min, length, None, Some, IsTrue, OnOk};
+ghost use Rattle.std.specs.Result.{result_err};
+ghost use Rattle.undo_journal.specs.Memory.{committed, IsReady, IsIdle, Reports};
+ghost use Rattle.undo_journal.specs.Calls.{OnlyReads};
+ghost use Rattle.undo_journal.specs.Spending.{WritesAtMost};
+ghost use Rattle.ef_body.specs.declared.layout.TheConstants.{RECORD_WRITES};
+ghost use Rattle.card_rules.specs.declared.status.Sw.{Sw};
+ghost use Rattle.ef_body.specs.Records.{front, record_of};
+ghost use Rattle.ef_body.specs.Numbers.{spelled};
+ghost use Rattle.ef_body.specs.Searching.{found};
+ghost use Rattle.ef_body.specs.Refusals.{missing_record, unraised, raised_number, Decides, Fits, UnlessFailed};
+ghost use Rattle.ef_body.specs.Refusals.{IfRefused, failure};
+ghost use Rattle.ef_body.specs.Bodies.{cyclic_records, IsCyclic};
+ghost use Rattle.ef_body.specs.Changes.{CyclicBecomes, Increases};
+
+use crate::error::BodyErr;
+use crate::number::add;
+use crate::reading::read_record;
+use crate::search::{Direction, search_records};
+use crate::writing::put_front;
+use arrayvec::ArrayVec;
+use block_chain::Chain;
+use card_rules::Sw;
+use undo_journal::{Board, Store};
+
+/// A cyclic body: the chain of its blocks, the length of a record in bytes (1 to 255), how many records it has room
+/// for (1 to 254) and how many there are, the slot of record 1, and the address of the word of its entry that tells
+/// the last two.
+#[derive(Clone, Copy, Default)]
+pub struct Cyclic {
+    pub chain: Chain,
+    pub record_length: u16,
+    pub capacity: u16,
+    pub records: u16,
+    pub start: u16,
+    pub told_at: u16,
+}
+
+impl Cyclic {
+    /// Whether there is a record of this number, 1 the newest.
+    pub fn has_record(self, number: u16) -> bool
+        ensures { IsTrue result ↔ ((1 ≤ number) × (number ≤ self.records)) }
+    {
+        1 <= number && number <= self.records
+    }
+
+    /// Reads the record of a number into the buffer, in place of what stood there (READ RECORD, ISO/IEC 7816-4,
+    /// 11.4.3).
+    ///
+    /// # Errors
+    /// 6A83 where there is no such record: then the buffer is empty. What the store answers: then the buffer may hold
+    /// some of its bytes.
+    pub fn read<B: Board, const N: usize>(
+        self,
+        store: &mut Store<B>,
+        number: u16,
+        bytes: &mut ArrayVec<u8, N>,
+    ) -> Result<(), BodyErr>
+        requires ready { IsReady store.old }
+        requires body { IsCyclic (committed store.old) self }
+        requires room { self.record_length ≤ N }
+        ensures bytes { OnOk result (bytes.new.items ≡ record_of (cyclic_records (committed store.old) self) number) }
+        ensures refusal { Decides (missing_record (cyclic_records (committed store.old) self) number) (result_err
+            result) }
+        ensures refused { IfRefused (result_err result) ((bytes.new.items ≡ []) × (store.new ≡ store.old)) }
+        ensures ready { UnlessFailed (result_err result) (IsReady store.new) }
+        ensures reads { OnlyReads store.old store.new }
+        ensures tells { store.new.failed ≡ failure (result_err result) }
+    {
+        bytes.clear();
+        if !self.has_record(number) {
+            return Err(BodyErr::Refused(Sw::RECORD_NOT_FOUND));
+        }
+        read_record(self, store, number, bytes)?;
+        Ok(())
+    }
+
+    /// Puts a record in front and drops the oldest one, in one transaction: the number of records stays (UPDATE
+    /// RECORD, PREVIOUS, ETSI TS 102 221, 11.1.6).
+    ///
+    /// # Errors
+    /// 6A83 where there is no record. What the store answers: then the records are as before, or with the new one.
+    pub fn update_oldest<B: Board>(self, store: &mut Store<B>, bytes: &[u8]) -> Result<(), BodyErr>
+        requires ready { IsReady store.old }
+        requires body { IsCyclic (committed store.old) self }
+        requires size { length bytes.now ≡ self.record_length }
+        ensures any_exit { (committed store.new ≡ committed store.old)
+            ⊎ CyclicBecomes (committed store.old) self (front (length (cyclic_records (committed store.old) self))
+            bytes.now (cyclic_records (committed store.old) self)) (committed store.new) }
+        ensures done { OnOk result (CyclicBecomes (committed store.old) self (front (length (cyclic_records (committed
+            store.old) self)) bytes.now (cyclic_records (committed store.old) self)) (committed store.new)) }
+        ensures refusal { Decides (missing_record (cyclic_records (committed store.old) self) 1) (result_err result) }
+        ensures refused { IfRefused (result_err result) (store.new ≡ store.old) }
+        ensures ready { UnlessFailed (result_err result) (IsReady store.new) }
+        ensures idle { IsIdle store.new }
+        ensures reports { Reports store.old store.new }
+        ensures tells { store.new.failed ≡ failure (result_err result) }
+        ensures writes { WritesAtMost RECORD_WRITES store.old.facts store.new.facts }
+    {
+        if !self.has_record(1) {
+            return Err(BodyErr::Refused(Sw::RECORD_NOT_FOUND));
+        }
+        put_front(self, store, bytes, self.records)?;
+        Ok(())
+    }
+
+    /// Adds a record in front, in one transaction: where there is room for no more, the oldest one is dropped (APPEND
+    /// RECORD, ISO/IEC 7816-4, 11.4.6).
+    ///
+    /// # Errors
+    /// What the store answers: then the records are as before, or with the new one. It refuses nothing.
+    pub fn append<B: Board>(self, store: &mut Store<B>, bytes: &[u8]) -> Result<(), BodyErr>
+        requires ready { IsReady store.old }
+        requires body { IsCyclic (committed store.old) self }
+        requires size { length bytes.now ≡ self.record_length }
+        ensures any_exit { (committed store.new ≡ committed store.old)
+            ⊎ CyclicBecomes (committed store.old) self (front self.capacity bytes.now (cyclic_records (committed
+            store.old) self)) (committed store.new) }
+        ensures done { OnOk result (CyclicBecomes (committed store.old) self (front self.capacity bytes.now
+            (cyclic_records (committed store.old) self)) (committed store.new)) }
+        ensures refusal { Decides None (result_err result) }
+        ensures ready { UnlessFailed (result_err result) (IsReady store.new) }
+        ensures idle { IsIdle store.new }
+        ensures reports { Reports store.old store.new }
+        ensures tells { store.new.failed ≡ failure (result_err result) }
+        ensures writes { WritesAtMost RECORD_WRITES store.old.facts store.new.facts }
+    {
+        put_front(self, store, bytes, self.appended())?;
+        Ok(())
+    }
+
+    /// How many records there are with one more: as many as there is room for at most.
+    fn appended(self) -> u16
+        requires few { self.capacity ≤ 254 }
+        requires room { self.records ≤ self.capacity }
+        ensures { result ≡ min (self.records + 1) self.capacity }
+    {
+        self.capacity.min(self.records + 1)
+    }
+
+    /// Puts into the buffer, in place of what stood there, the record that INCREASE stores: the number that record 1
+    /// spells, with the sent number added, in as many bytes as a record has. Nothing is written.
+    ///
+    /// # Errors
+    /// 6A83 where there is no record, 9850 where the sum doesn't fit a record. What the store answers. In each case
+    /// the buffer may hold anything.
+    pub fn sum<B: Board, const N: usize>(
+        self,
+        store: &mut Store<B>,
+        sent: &[u8],
+        bytes: &mut ArrayVec<u8, N>,
+    ) -> Result<(), BodyErr>
+        requires ready { IsReady store.old }
+        requires body { IsCyclic (committed store.old) self }
+        requires sent { length sent.now ≤ self.record_length }
+        requires room { self.record_length ≤ N }
+        ensures bytes { OnOk result (bytes.new.items ≡ spelled self.record_length (raised_number (cyclic_records
+            (committed store.old) self) sent.now)) }
+        ensures refusal { Fits (unraised self.record_length (cyclic_records (committed store.old) self) sent.now)
+            (result_err result) }
+        ensures ready { UnlessFailed (result_err result) (IsReady store.new) }
+        ensures reads { OnlyReads store.old store.new }
+        ensures tells { store.new.failed ≡ failure (result_err result) }
+    {
+        bytes.clear();
+        if !self.has_record(1) {
+            return Err(BodyErr::Refused(Sw::RECORD_NOT_FOUND));
+        }
+        read_record(self, store, 1, bytes)?;
+        if add(bytes, sent) {
+            return Err(BodyErr::Refused(Sw::MAXIMUM_REACHED));
+        }
+        Ok(())
+    }
+
+    /// Stores the sum of record 1 and the sent number as a new record in front, in one transaction, and drops the
+    /// oldest one; the new record is put into the buffer (INCREASE, ETSI TS 102 221, 11.1.8).
+    ///
+    /// # Errors
+    /// 6A83 where there is no record, 9850 where the sum doesn't fit a record. What the store answers: then the
+    /// records are as before, or with the new one. In each case the buffer may hold anything.
+    #[tactic(auto, using(undo_journal::specs::MemoryLaws::reports_then))]
+    pub fn increase<B: Board, const N: usize>(
+        self,
+        store: &mut Store<B>,
+        sent: &[u8],
+        bytes: &mut ArrayVec<u8, N>,
+    ) -> Result<(), BodyErr>
+        requires ready { IsReady store.old }
+        requires body { IsCyclic (committed store.old) self }
+        requires sent { length sent.now ≤ self.record_length }
+        requires room { self.record_length ≤ N }
+        ensures bytes { OnOk result (bytes.new.items ≡ spelled self.record_length (raised_number (cyclic_records
+            (committed store.old) self) sent.now)) }
+        ensures any_exit { (committed store.new ≡ committed store.old)
+            ⊎ Increases (committed store.old) self sent.now (committed store.new) }
+        ensures done { OnOk result (Increases (committed store.old) self sent.now (committed store.new)) }
+        ensures refusal { Fits (unraised self.record_length (cyclic_records (committed store.old) self) sent.now)
+            (result_err result) }
+        ensures refused { (status : Sw) → unraised self.record_length (cyclic_records (committed store.old) self)
+            sent.now
+            ≡ Some status → OnlyReads store.old store.new }
+        ensures ready { UnlessFailed (result_err result) (IsReady store.new) }
+        ensures idle { IsIdle store.new }
+        ensures reports { Reports store.old store.new }
+        ensures tells { store.new.failed ≡ failure (result_err result) }
+        ensures writes { WritesAtMost RECORD_WRITES store.old.facts store.new.facts }
+    {
+        self.sum(store, sent, bytes)?;
+        put_front(self, store, bytes, self.records)?;
+        Ok(())
+    }
+
+    /// Puts the numbers of the records that hold the text into the buffer, in place of what stood there: from the
+    /// record of a number on up to the last one, or down to record 1, without wrapping around (SEARCH RECORD, ISO/IEC
+    /// 7816-4, 11.4.7).
+    ///
+    /// # Errors
+    /// 6A83 where there is no record of that number: then the buffer is empty. What the store answers: then the
+    /// buffer may hold some of the numbers.
+    pub fn search<B: Board, const N: usize>(
+        self,
+        store: &mut Store<B>,
+        direction: Direction,
+        first: u16,
+        text: &[u8],
+        numbers: &mut ArrayVec<u8, N>,
+    ) -> Result<(), BodyErr>
+        requires ready { IsReady store.old }
+        requires body { IsCyclic (committed store.old) self }
+        requires room { self.records ≤ N }
+        ensures numbers { OnOk result (numbers.new.items
+            ≡ found direction first text.now (cyclic_records (committed store.old) self)) }
+        ensures refusal { Decides (missing_record (cyclic_records (committed store.old) self) first) (result_err
+            result) }
+        ensures refused { IfRefused (result_err result) ((numbers.new.items ≡ []) × (store.new ≡ store.old)) }
+        ensures ready { UnlessFailed (result_err result) (IsReady store.new) }
+        ensures reads { OnlyReads store.old store.new }
+        ensures tells { store.new.failed ≡ failure (result_err result) }
+    {
+        numbers.clear();
+        if !self.has_record(first) {
+            return Err(BodyErr::Refused(Sw::RECORD_NOT_FOUND));
+        }
+        search_records(self, store, direction, first, text, numbers)?;
+        Ok(())
+    }
+}

@@ -1,0 +1,23 @@
+//! Why a call on a body fails.
+ghost use Rattle.std.specs.Prelude.{◌≡◌};
+ghost use Rattle.ef_body.specs.declared.error.BodyErr.TheVariants.{Store};
+
+use card_rules::Sw;
+use undo_journal::StoreErr;
+
+/// Why a call on a body fails.
+#[derive(Clone, Copy, Debug, PartialEq, Eq)]
+pub enum BodyErr {
+    /// The body refuses, with this status word. Nothing was written.
+    Refused(Sw),
+    /// The store failed.
+    Store(StoreErr),
+}
+
+impl From<StoreErr> for BodyErr {
+    ghost from_gives = { λ e r. r ≡ Store e };
+
+    fn from(e: StoreErr) -> Self {
+        BodyErr::Store(e)
+    }
+}

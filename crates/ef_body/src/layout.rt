@@ -1,0 +1,11 @@
+//! Numbers of bodies.
+
+/// The most bytes of a record.
+pub const MOST_RECORD_BYTES: usize = 255;
+
+/// Device writes at most where up to 255 bytes of a body are set in one transaction: three for each of the 65 words
+/// that they may touch, and one that makes them lasting.
+pub const UPDATE_WRITES: u16 = 196;
+
+/// Device writes at most where besides the word of the entry is set: three more.
+pub const RECORD_WRITES: u16 = UPDATE_WRITES + 3;

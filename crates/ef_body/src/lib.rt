@@ -1,0 +1,21 @@
+//! Bodies of elementary files: lists of bytes, and lists of records in number order (linear) or newest first
+//! (cyclic), in the blocks of a chain (ISO/IEC 7816-4, 7.3 and 11.3 to 11.4; ETSI TS 102 221, 8.2.2).
+#![tactic(auto)]
+
+mod cyclic;
+mod error;
+pub mod laws;
+mod layout;
+mod linear;
+mod number;
+mod reading;
+mod search;
+mod transparent;
+mod writing;
+
+pub use cyclic::Cyclic;
+pub use error::BodyErr;
+pub use layout::{MOST_RECORD_BYTES, RECORD_WRITES, UPDATE_WRITES};
+pub use linear::Linear;
+pub use search::Direction;
+pub use transparent::Transparent;

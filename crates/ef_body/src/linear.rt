@@ -1,0 +1,197 @@
+//! Linear bodies: records of one length, in number order (ETSI TS 102 221, 8.2.2.2).
+ghost use Rattle.std.specs.Prelude.{◌≡◌, ◌≤◌, ◌<◌, ◌+◌, ◌-◌, ◌*◌, ◌⊎◌, ◌↔◌, ◌++◌, ◌∷◌, [], length, slice_set, IsTrue};
+ghost use Rattle.std.specs.Prelude.{OnOk};
+ghost use Rattle.std.specs.Result.{result_err};
+ghost use Rattle.undo_journal.specs.Memory.{committed, IsReady, IsIdle, Reports};
+ghost use Rattle.undo_journal.specs.Calls.{OnlyReads};
+ghost use Rattle.undo_journal.specs.Spending.{WritesAtMost};
+ghost use Rattle.ef_body.specs.declared.layout.TheConstants.{UPDATE_WRITES, RECORD_WRITES};
+ghost use Rattle.ef_body.specs.Records.{record_of};
+ghost use Rattle.ef_body.specs.Searching.{found};
+ghost use Rattle.ef_body.specs.Refusals.{missing_record, full, Decides, UnlessFailed, IfRefused, failure};
+ghost use Rattle.ef_body.specs.Bodies.{linear_records, ring_of, IsLinear};
+ghost use Rattle.ef_body.specs.Changes.{LinearBecomes};
+
+use crate::cyclic::Cyclic;
+use crate::error::BodyErr;
+use crate::reading::read_record;
+use crate::search::{Direction, search_records};
+use crate::writing::{counts, put_bytes, put_record};
+use arrayvec::ArrayVec;
+use block_chain::Chain;
+use card_rules::Sw;
+use undo_journal::{Board, Store};
+
+/// A linear body: the chain of its blocks, the length of a record in bytes (1 to 255), how many records it has room
+/// for (1 to 254) and how many there are, and the address of the word of its entry that tells so.
+#[derive(Clone, Copy, Default)]
+pub struct Linear {
+    pub chain: Chain,
+    pub record_length: u16,
+    pub capacity: u16,
+    pub records: u16,
+    pub told_at: u16,
+}
+
+impl Linear {
+    /// Whether there is a record of this number, 1 the first.
+    pub fn has_record(self, number: u16) -> bool
+        ensures { IsTrue result ↔ ((1 ≤ number) × (number ≤ self.records)) }
+    {
+        1 <= number && number <= self.records
+    }
+
+    /// Whether there is no room for one more record.
+    pub fn is_full(self) -> bool
+        ensures { IsTrue result ↔ (self.capacity ≤ self.records) }
+    {
+        self.capacity <= self.records
+    }
+
+    /// The same body as a cyclic one, whose record 1 lies in slot 0: its slots are never followed past the last one.
+    fn ring(self) -> Cyclic
+        ensures { result ≡ ring_of self }
+    {
+        Cyclic {
+            chain: self.chain,
+            record_length: self.record_length,
+            capacity: self.capacity,
+            records: self.records,
+            start: 0,
+            told_at: self.told_at,
+        }
+    }
+
+    /// Reads the record of a number into the buffer, in place of what stood there (READ RECORD, ISO/IEC 7816-4,
+    /// 11.4.3).
+    ///
+    /// # Errors
+    /// 6A83 where there is no such record: then the buffer is empty. What the store answers: then the buffer may hold
+    /// some of its bytes.
+    pub fn read<B: Board, const N: usize>(
+        self,
+        store: &mut Store<B>,
+        number: u16,
+        bytes: &mut ArrayVec<u8, N>,
+    ) -> Result<(), BodyErr>
+        requires ready { IsReady store.old }
+        requires body { IsLinear (committed store.old) self }
+        requires room { self.record_length ≤ N }
+        ensures bytes { OnOk result (bytes.new.items ≡ record_of (linear_records (committed store.old) self) number) }
+        ensures refusal { Decides (missing_record (linear_records (committed store.old) self) number) (result_err
+            result) }
+        ensures refused { IfRefused (result_err result) ((bytes.new.items ≡ []) × (store.new ≡ store.old)) }
+        ensures ready { UnlessFailed (result_err result) (IsReady store.new) }
+        ensures reads { OnlyReads store.old store.new }
+        ensures tells { store.new.failed ≡ failure (result_err result) }
+    {
+        bytes.clear();
+        if !self.has_record(number) {
+            return Err(BodyErr::Refused(Sw::RECORD_NOT_FOUND));
+        }
+        read_record(self.ring(), store, number, bytes)?;
+        Ok(())
+    }
+
+    /// Puts a record in place of the one of a number, in one transaction (UPDATE RECORD, ISO/IEC 7816-4, 11.4.5).
+    ///
+    /// # Errors
+    /// 6A83 where there is no such record. What the store answers: then the old record stands, or the new one.
+    pub fn update<B: Board>(
+        self,
+        store: &mut Store<B>,
+        number: u16,
+        bytes: &[u8],
+    ) -> Result<(), BodyErr>
+        requires ready { IsReady store.old }
+        requires body { IsLinear (committed store.old) self }
+        requires size { length bytes.now ≡ self.record_length }
+        ensures any_exit { (committed store.new ≡ committed store.old)
+            ⊎ LinearBecomes (committed store.old) self (slice_set (linear_records (committed store.old) self)
+            (number - 1) bytes.now) (committed store.new) }
+        ensures done { OnOk result (LinearBecomes (committed store.old) self (slice_set (linear_records (committed
+            store.old) self) (number - 1) bytes.now) (committed store.new)) }
+        ensures refusal { Decides (missing_record (linear_records (committed store.old) self) number) (result_err
+            result) }
+        ensures refused { IfRefused (result_err result) (store.new ≡ store.old) }
+        ensures ready { UnlessFailed (result_err result) (IsReady store.new) }
+        ensures idle { IsIdle store.new }
+        ensures reports { Reports store.old store.new }
+        ensures tells { store.new.failed ≡ failure (result_err result) }
+        ensures writes { WritesAtMost UPDATE_WRITES store.old.facts store.new.facts }
+    {
+        if !self.has_record(number) {
+            return Err(BodyErr::Refused(Sw::RECORD_NOT_FOUND));
+        }
+        let offset = (number - 1) * self.record_length;
+        put_bytes(store, self.chain, offset, bytes)?;
+        Ok(())
+    }
+
+    /// Adds a record behind the last one, in one transaction: its bytes, and then how many there are (APPEND RECORD,
+    /// ISO/IEC 7816-4, 11.4.6).
+    ///
+    /// # Errors
+    /// 6A84 where there is no room. What the store answers: then the records are as before, or with the new one.
+    pub fn append<B: Board>(self, store: &mut Store<B>, bytes: &[u8]) -> Result<(), BodyErr>
+        requires ready { IsReady store.old }
+        requires body { IsLinear (committed store.old) self }
+        requires size { length bytes.now ≡ self.record_length }
+        ensures any_exit { (committed store.new ≡ committed store.old)
+            ⊎ LinearBecomes (committed store.old) self (linear_records (committed store.old) self ++ bytes.now ∷ [])
+            (committed store.new) }
+        ensures done { OnOk result (LinearBecomes (committed store.old) self (linear_records (committed store.old) self
+            ++ bytes.now ∷ []) (committed store.new)) }
+        ensures refusal { Decides (full self.capacity (linear_records (committed store.old) self)) (result_err
+            result) }
+        ensures refused { IfRefused (result_err result) (store.new ≡ store.old) }
+        ensures ready { UnlessFailed (result_err result) (IsReady store.new) }
+        ensures idle { IsIdle store.new }
+        ensures reports { Reports store.old store.new }
+        ensures tells { store.new.failed ≡ failure (result_err result) }
+        ensures writes { WritesAtMost RECORD_WRITES store.old.facts store.new.facts }
+    {
+        if self.is_full() {
+            return Err(BodyErr::Refused(Sw::NO_ROOM));
+        }
+        let offset = self.records * self.record_length;
+        let told = counts(self.records + 1, 0);
+        put_record(store, self.chain, offset, bytes, self.told_at, told)?;
+        Ok(())
+    }
+
+    /// Puts the numbers of the records that hold the text into the buffer, in place of what stood there: from the
+    /// record of a number on up to the last one, or down to record 1, without wrapping around (SEARCH RECORD, ISO/IEC
+    /// 7816-4, 11.4.7).
+    ///
+    /// # Errors
+    /// 6A83 where there is no record of that number: then the buffer is empty. What the store answers: then the
+    /// buffer may hold some of the numbers.
+    pub fn search<B: Board, const N: usize>(
+        self,
+        store: &mut Store<B>,
+        direction: Direction,
+        first: u16,
+        text: &[u8],
+        numbers: &mut ArrayVec<u8, N>,
+    ) -> Result<(), BodyErr>
+        requires ready { IsReady store.old }
+        requires body { IsLinear (committed store.old) self }
+        requires room { self.records ≤ N }
+        ensures numbers { OnOk result (numbers.new.items
+            ≡ found direction first text.now (linear_records (committed store.old) self)) }
+        ensures refusal { Decides (missing_record (linear_records (committed store.old) self) first) (result_err
+            result) }
+        ensures refused { IfRefused (result_err result) ((numbers.new.items ≡ []) × (store.new ≡ store.old)) }
+        ensures ready { UnlessFailed (result_err result) (IsReady store.new) }
+        ensures reads { OnlyReads store.old store.new }
+        ensures tells { store.new.failed ≡ failure (result_err result) }
+    {
+        numbers.clear();
+        if !self.has_record(first) {
+            return Err(BodyErr::Refused(Sw::RECORD_NOT_FOUND));
+        }
+        search_records(self.ring(), store, direction, first, text, numbers)?;
+        Ok(())
+    }
+}

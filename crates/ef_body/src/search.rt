@@ -1,0 +1,138 @@
+//! Records that hold a text.
+ghost use Rattle.std.specs.Prelude.{◌≡◌, ◌≤◌, ◌<◌, ◌+◌, ◌-◌, ◌++◌, ◌∷◌, [], cond, drop, nat_eq, length};
+ghost use Rattle.std.specs.Prelude.{slice_index, IfOk, OnOk};
+ghost use Rattle.std.specs.List.{starts_with};
+ghost use Rattle.std.specs.Result.{result_err};
+ghost use Rattle.undo_journal.specs.Memory.{committed, IsReady};
+ghost use Rattle.undo_journal.specs.Calls.{OnlyReads};
+ghost use Rattle.ef_body.specs.Records.{record_of};
+ghost use Rattle.ef_body.specs.Searching.{stands_in, numbers_on, found};
+ghost use Rattle.ef_body.specs.Bodies.{cyclic_records, IsCyclic};
+
+use crate::cyclic::Cyclic;
+use crate::layout::MOST_RECORD_BYTES;
+use crate::reading::read_record;
+use arrayvec::ArrayVec;
+use undo_journal::{Board, Store, StoreErr};
+
+/// Which way a search goes from the record that it begins at.
+#[derive(Clone, Copy, Debug, PartialEq, Eq)]
+pub enum Direction {
+    /// Up to the last record.
+    Forward,
+    /// Down to record 1.
+    Backward,
+}
+
+/// Whether a text begins at a place of a record.
+fn begins_at(text: &[u8], bytes: &[u8], at: usize) -> bool
+    requires { at ≤ length bytes.now }
+    ensures { result ≡ starts_with nat_eq (drop at bytes.now) text.now }
+{
+    bytes[at..].starts_with(text)
+}
+
+/// Whether a text stands anywhere in a record.
+fn stands(text: &[u8], bytes: &[u8]) -> bool
+    ensures { result ≡ stands_in text.now bytes.now }
+{
+    for at in 0..bytes.len() {
+        if begins_at(text, bytes, at) {
+            return true;
+        }
+    }
+    false
+}
+
+/// Whether a text stands in the record of a number.
+fn record_holds<B: Board>(
+    body: Cyclic,
+    store: &mut Store<B>,
+    number: u16,
+    text: &[u8],
+) -> Result<bool, StoreErr>
+    requires ready { IsReady store.old }
+    requires body { IsCyclic (committed store.old) body }
+    requires first { 1 ≤ number }
+    requires last { number ≤ body.records }
+    ensures holds { IfOk result (λ holds. holds
+        ≡ stands_in text.now (record_of (cyclic_records (committed store.old) body) number)) }
+    ensures ready { OnOk result (IsReady store.new) }
+    ensures reads { OnlyReads store.old store.new }
+    ensures tells { store.new.failed ≡ result_err result }
+{
+    let mut bytes = ArrayVec::<u8, MOST_RECORD_BYTES>::new();
+    read_record(body, store, number, &mut bytes)?;
+    Ok(stands(text, &bytes))
+}
+
+/// How many records a search looks at.
+fn steps_of(direction: Direction, first: u16, records: u16) -> u16
+    requires some { 1 ≤ first }
+    requires last { first ≤ records }
+    requires few { records ≤ 254 }
+    ensures { result ≡ length (numbers_on direction first records) }
+{
+    match direction {
+        Direction::Forward => records + 1 - first,
+        Direction::Backward => first,
+    }
+}
+
+/// The number of the record that a search looks at after so many others.
+fn number_at(direction: Direction, first: u16, records: u16, step: u16) -> u16
+    requires some { 1 ≤ first }
+    requires last { first ≤ records }
+    requires few { records ≤ 254 }
+    requires step { step < length (numbers_on direction first records) }
+    ensures number { result ≡ slice_index (numbers_on direction first records) step }
+    ensures from { 1 ≤ result }
+    ensures most { result ≤ records }
+{
+    match direction {
+        Direction::Forward => first + step,
+        Direction::Backward => first - step,
+    }
+}
+
+/// Adds a number where its record holds the text.
+fn note<const N: usize>(numbers: &mut ArrayVec<u8, N>, number: u16, holds: bool)
+    requires room { length numbers.old.items < N }
+    requires small { number < 256 }
+    ensures { numbers.new.items ≡ numbers.old.items ++ cond holds (number ∷ []) [] }
+{
+    if holds {
+        numbers.push(number as u8);
+    }
+}
+
+/// Puts the numbers of the records that hold the text into the empty buffer, from the record of a number on.
+#[tactic(auto, using(undo_journal::specs::laws::Calls::reads_then))]
+pub(crate) fn search_records<B: Board, const N: usize>(
+    body: Cyclic,
+    store: &mut Store<B>,
+    direction: Direction,
+    first: u16,
+    text: &[u8],
+    numbers: &mut ArrayVec<u8, N>,
+) -> Result<(), StoreErr>
+    requires ready { IsReady store.old }
+    requires body { IsCyclic (committed store.old) body }
+    requires some { 1 ≤ first }
+    requires exists { first ≤ body.records }
+    requires room { body.records ≤ N }
+    requires empty { numbers.old.items ≡ [] }
+    ensures numbers { OnOk result (numbers.new.items
+        ≡ found direction first text.now (cyclic_records (committed store.old) body)) }
+    ensures ready { OnOk result (IsReady store.new) }
+    ensures reads { OnlyReads store.old store.new }
+    ensures tells { store.new.failed ≡ result_err result }
+{
+    let steps = steps_of(direction, first, body.records);
+    for step in 0..steps {
+        let number = number_at(direction, first, body.records, step);
+        let holds = record_holds(body, store, number, text)?;
+        note(numbers, number, holds);
+    }
+    Ok(())
+}

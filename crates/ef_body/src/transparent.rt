@@ -1,0 +1,125 @@
+//! Transparent bodies: bytes (ISO/IEC 7816-4, 7.3.2 and 11.3).
+ghost use Rattle.std.specs.Prelude.{◌≡◌, ◌≤◌, ◌<◌, ◌+◌, ◌*◌, ◌⊎◌, ◌↔◌, [], min, length, take, drop, IsTrue, OnOk};
+ghost use Rattle.std.specs.Result.{result_err};
+ghost use Rattle.undo_journal.specs.Memory.{committed, IsReady, IsIdle, Reports};
+ghost use Rattle.undo_journal.specs.Calls.{OnlyReads};
+ghost use Rattle.undo_journal.specs.Spending.{WritesAtMost};
+ghost use Rattle.block_chain.specs.Changes.{overwrite, touched_words};
+ghost use Rattle.ef_body.specs.Refusals.{past_end, overlong, Decides, UnlessFailed, IfRefused, failure};
+ghost use Rattle.ef_body.specs.Bodies.{transparent_bytes, IsTransparent};
+ghost use Rattle.ef_body.specs.Changes.{TransparentBecomes};
+
+use crate::error::BodyErr;
+use crate::reading::read_anew;
+use crate::writing::put_bytes;
+use arrayvec::ArrayVec;
+use block_chain::Chain;
+use card_rules::Sw;
+use undo_journal::{Board, Store};
+
+/// A transparent body: the chain of its blocks, and how many bytes it has, 1 to 32,767.
+#[derive(Clone, Copy, Default)]
+pub struct Transparent {
+    pub chain: Chain,
+    pub size: u16,
+}
+
+impl Transparent {
+    /// Whether the body ends at an offset, or before it.
+    fn ends_at(self, offset: u16) -> bool
+        ensures { IsTrue result ↔ (self.size ≤ offset) }
+    {
+        self.size <= offset
+    }
+
+    /// Whether the body ends before the last of so many bytes from an offset on, at which it does not end.
+    fn ends_before(self, offset: u16, count: usize) -> bool
+        requires { offset < self.size }
+        ensures { IsTrue result ↔ (self.size < offset + count) }
+    {
+        count > usize::from(self.size - offset)
+    }
+
+    /// Reads bytes from an offset on into the buffer, in place of what stood there: as many as are asked for, or all
+    /// that are left where these are fewer (READ BINARY, ISO/IEC 7816-4, 11.3.3).
+    ///
+    /// # Errors
+    /// 6B00 where the offset is at the end of the body or past it: then the buffer is empty. What the store answers:
+    /// then the buffer may hold some of the bytes.
+    pub fn read<B: Board, const N: usize>(
+        self,
+        store: &mut Store<B>,
+        offset: u16,
+        most: u16,
+        bytes: &mut ArrayVec<u8, N>,
+    ) -> Result<(), BodyErr>
+        requires ready { IsReady store.old }
+        requires body { IsTransparent (committed store.old) self }
+        requires room { most ≤ N }
+        ensures bytes { OnOk result (bytes.new.items
+            ≡ take most (drop offset (transparent_bytes (committed store.old) self))) }
+        ensures refusal { Decides (past_end (transparent_bytes (committed store.old) self) offset) (result_err
+            result) }
+        ensures refused { IfRefused (result_err result) ((bytes.new.items ≡ []) × (store.new ≡ store.old)) }
+        ensures ready { UnlessFailed (result_err result) (IsReady store.new) }
+        ensures reads { OnlyReads store.old store.new }
+        ensures tells { store.new.failed ≡ failure (result_err result) }
+    {
+        bytes.clear();
+        if self.ends_at(offset) {
+            return Err(BodyErr::Refused(Sw::WRONG_OFFSET));
+        }
+        let count = smaller(most, self.size - offset);
+        read_anew(store, self.chain, offset, count, bytes)?;
+        Ok(())
+    }
+
+    /// Puts bytes, 255 at most, in place of those from an offset on, in one transaction (UPDATE BINARY, ISO/IEC
+    /// 7816-4, 11.3.5).
+    ///
+    /// # Errors
+    /// 6B00 where the offset is at the end of the body or past it, 6A84 where they reach past the end. What the store
+    /// answers: then all of the bytes are old, or all that were sent stand there.
+    pub fn update<B: Board>(
+        self,
+        store: &mut Store<B>,
+        offset: u16,
+        bytes: &[u8],
+    ) -> Result<(), BodyErr>
+        requires ready { IsReady store.old }
+        requires body { IsTransparent (committed store.old) self }
+        requires few { length bytes.now ≤ 255 }
+        ensures any_exit { (committed store.new ≡ committed store.old)
+            ⊎ TransparentBecomes (committed store.old) self (overwrite (transparent_bytes (committed store.old) self)
+            offset bytes.now) (committed store.new) }
+        ensures done { OnOk result (TransparentBecomes (committed store.old) self (overwrite (transparent_bytes
+            (committed
+            store.old) self) offset bytes.now) (committed store.new)) }
+        ensures refusal { Decides (overlong (transparent_bytes (committed store.old) self) offset bytes.now)
+            (result_err
+            result) }
+        ensures refused { IfRefused (result_err result) (store.new ≡ store.old) }
+        ensures ready { UnlessFailed (result_err result) (IsReady store.new) }
+        ensures idle { IsIdle store.new }
+        ensures reports { Reports store.old store.new }
+        ensures tells { store.new.failed ≡ failure (result_err result) }
+        ensures writes { WritesAtMost (3 * touched_words offset (length bytes.now) + 1) store.old.facts
+            store.new.facts }
+    {
+        if self.ends_at(offset) {
+            return Err(BodyErr::Refused(Sw::WRONG_OFFSET));
+        }
+        if self.ends_before(offset, bytes.len()) {
+            return Err(BodyErr::Refused(Sw::NO_ROOM));
+        }
+        put_bytes(store, self.chain, offset, bytes)?;
+        Ok(())
+    }
+}
+
+/// The smaller of two numbers.
+fn smaller(first: u16, second: u16) -> u16
+    ensures { result ≡ min first second }
+{
+    first.min(second)
+}

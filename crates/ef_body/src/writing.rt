@@ -1,0 +1,169 @@
+// The words of bodies that are written, each time in one transaction.
+ghost use Rattle.std.specs.Prelude.{◌≡◌, ◌⊎◌, ◌≤◌, ◌<◌, ◌+◌, ◌*◌, ◌-◌, ◌%◌, length, slice_set, OnOk};
+ghost use Rattle.std.specs.Result.{result_err};
+ghost use Rattle.undo_journal.specs.Memory.{committed, current, room, IsOpen, IsReady, IsIdle, Reports};
+ghost use Rattle.undo_journal.specs.Calls.{Sets};
+ghost use Rattle.undo_journal.specs.Lent.{memory_of};
+ghost use Rattle.undo_journal.specs.Spending.{WritesAtMost};
+ghost use Rattle.undo_journal.specs.declared.layout.TheConstants.{GATE};
+ghost use Rattle.block_chain.specs.Chains.{chain_of as blocks_of_chain, IsChain};
+ghost use Rattle.block_chain.specs.Changes.{Overwrites, touched_words};
+ghost use Rattle.block_chain.specs.declared.layout.TheConstants.{BLOCK_BYTES};
+ghost use Rattle.ef_body.specs.declared.layout.TheConstants.{RECORD_WRITES};
+ghost use Rattle.ef_body.specs.Records.{front};
+ghost use Rattle.ef_body.specs.Bodies.{counts_word, cyclic_records, IsCyclic};
+ghost use Rattle.ef_body.specs.Changes.{CyclicBecomes, PutsRecord};
+
+use crate::cyclic::Cyclic;
+use block_chain::{Chain, set_bytes};
+use undo_journal::{Board, Store, StoreErr, Txn};
+
+/// The word of an entry that tells how many records there are, and in which slot record 1 lies.
+pub(crate) fn counts(number: u16, start: u16) -> u32
+    ensures { result ≡ counts_word number start }
+{
+    0x10000 * u32::from(number) + u32::from(start)
+}
+
+/// Puts bytes in place of those of a chain from an offset on, in one transaction.
+#[tactic(auto, using(undo_journal::specs::MemoryLaws::reports_then))]
+pub(crate) fn put_bytes<B: Board>(
+    store: &mut Store<B>,
+    chain: Chain,
+    offset: u16,
+    bytes: &[u8],
+) -> Result<(), StoreErr>
+    requires ready { IsReady store.old }
+    requires chain { IsChain (committed store.old) chain.first (blocks_of_chain (committed store.old) chain) }
+    requires within { offset + length bytes.now ≤ BLOCK_BYTES * length (blocks_of_chain (committed store.old) chain) }
+    requires few { length bytes.now ≤ 255 }
+    ensures any_exit { (committed store.new ≡ committed store.old)
+        ⊎ Overwrites (committed store.old) (blocks_of_chain (committed store.old) chain) offset bytes.now (committed
+        store.new) }
+    ensures done { OnOk result (Overwrites (committed store.old) (blocks_of_chain (committed store.old) chain) offset
+        bytes.now (committed store.new)) }
+    ensures idle { IsIdle store.new }
+    ensures ready { OnOk result (IsReady store.new) }
+    ensures reports { Reports store.old store.new }
+    ensures tells { store.new.failed ≡ result_err result }
+    ensures writes { WritesAtMost (3 * touched_words offset (length bytes.now) + 1) store.old.facts store.new.facts }
+{
+    let mut txn = store.begin();
+    match set_bytes(&mut txn, chain, offset, bytes) {
+        Ok(()) => txn.commit(),
+        Err(_) => txn.abandon(),
+    }
+}
+
+/// Puts a record's bytes in place of those of a chain from an offset on, and then sets the word of the entry, in one
+/// transaction.
+#[tactic(auto, using(undo_journal::specs::MemoryLaws::reports_then))]
+pub(crate) fn put_record<B: Board>(
+    store: &mut Store<B>,
+    chain: Chain,
+    offset: u16,
+    bytes: &[u8],
+    told_at: u16,
+    told: u32,
+) -> Result<(), StoreErr>
+    requires ready { IsReady store.old }
+    requires chain { IsChain (committed store.old) chain.first (blocks_of_chain (committed store.old) chain) }
+    requires within { offset + length bytes.now ≤ BLOCK_BYTES * length (blocks_of_chain (committed store.old) chain) }
+    requires few { length bytes.now ≤ 255 }
+    requires entry { told_at < GATE }
+    ensures any_exit { (committed store.new ≡ committed store.old)
+        ⊎ PutsRecord (committed store.old) chain offset bytes.now told_at told (committed store.new) }
+    ensures done { OnOk result (PutsRecord (committed store.old) chain offset bytes.now told_at told (committed
+        store.new)) }
+    ensures idle { IsIdle store.new }
+    ensures ready { OnOk result (IsReady store.new) }
+    ensures reports { Reports store.old store.new }
+    ensures tells { store.new.failed ≡ result_err result }
+    ensures writes { WritesAtMost RECORD_WRITES store.old.facts store.new.facts }
+{
+    let mut txn = store.begin();
+    match set_record(&mut txn, chain, offset, bytes, told_at, told) {
+        Ok(()) => txn.commit(),
+        Err(_) => txn.abandon(),
+    }
+}
+
+/// Sets a record's bytes, and then the word of the entry.
+fn set_record<B: Board>(
+    txn: &mut Txn<'_, B>,
+    chain: Chain,
+    offset: u16,
+    bytes: &[u8],
+    told_at: u16,
+    told: u32,
+) -> Result<(), StoreErr>
+    requires ready { IsOpen (memory_of txn.old) }
+    requires chain { IsChain (current (memory_of txn.old)) chain.first (blocks_of_chain (current (memory_of txn.old))
+        chain) }
+    requires within { offset + length bytes.now ≤ BLOCK_BYTES * length (blocks_of_chain (current (memory_of txn.old))
+        chain) }
+    requires entry { told_at < GATE }
+    requires room { touched_words offset (length bytes.now) + 1 ≤ room (memory_of txn.old) }
+    ensures done { OnOk result (PutsRecord (current (memory_of txn.old)) chain offset bytes.now told_at told (current
+        (memory_of txn.new))) }
+    ensures ready { OnOk result (IsOpen (memory_of txn.new)) }
+    ensures sets { Sets (touched_words offset (length bytes.now) + 1) txn.old txn.new }
+    ensures tells { (memory_of txn.new).failed ≡ result_err result }
+{
+    set_bytes(txn, chain, offset, bytes)?;
+    set_word(txn, told_at, told)
+}
+
+/// One set of a transaction.
+fn set_word<B: Board>(txn: &mut Txn<'_, B>, at: u16, word: u32) -> Result<(), StoreErr>
+    requires ready { IsOpen (memory_of txn.old) }
+    requires room { 0 < room (memory_of txn.old) }
+    requires place { at < GATE }
+    ensures done { OnOk result (current (memory_of txn.new) ≡ slice_set (current (memory_of txn.old)) at word) }
+    ensures ready { OnOk result (IsOpen (memory_of txn.new)) }
+    ensures sets { Sets 1 txn.old txn.new }
+    ensures tells { (memory_of txn.new).failed ≡ result_err result }
+{
+    txn.set(at, word)
+}
+
+/// Puts a record before the others of a cyclic body, in one transaction: its bytes into the slot before that of
+/// record 1, and then, with that slot as the start, how many records there are from now on.
+pub(crate) fn put_front<B: Board>(
+    body: Cyclic,
+    store: &mut Store<B>,
+    bytes: &[u8],
+    records: u16,
+) -> Result<(), StoreErr>
+    requires ready { IsReady store.old }
+    requires body { IsCyclic (committed store.old) body }
+    requires size { length bytes.now ≡ body.record_length }
+    requires some { 1 ≤ records }
+    requires most { records ≤ body.capacity }
+    requires more { records ≤ body.records + 1 }
+    ensures any_exit { (committed store.new ≡ committed store.old)
+        ⊎ CyclicBecomes (committed store.old) body (front records bytes.now (cyclic_records (committed store.old)
+        body))
+        (committed store.new) }
+    ensures done { OnOk result (CyclicBecomes (committed store.old) body (front records bytes.now (cyclic_records
+        (committed store.old) body)) (committed store.new)) }
+    ensures idle { IsIdle store.new }
+    ensures ready { OnOk result (IsReady store.new) }
+    ensures reports { Reports store.old store.new }
+    ensures tells { store.new.failed ≡ result_err result }
+    ensures writes { WritesAtMost RECORD_WRITES store.old.facts store.new.facts }
+{
+    let start = slot_before(body.start, body.capacity);
+    let offset = start * body.record_length;
+    let told = counts(records, start);
+    put_record(store, body.chain, offset, bytes, body.told_at, told)
+}
+
+/// The slot before a slot: before the first one lies the last one.
+fn slot_before(slot: u16, capacity: u16) -> u16
+    requires slot { slot < capacity }
+    requires few { capacity ≤ 254 }
+    ensures { result ≡ (slot + capacity - 1) % capacity }
+{
+    (slot + capacity - 1) % capacity
+}
