@@ -1,7 +1,7 @@
 //! The bytes of short commands (ISO/IEC 7816-4, clause 5) as values, and each refusal in its order.
 
 use crate::digits::bytes_of;
-use apdu_core::{Command, Selector, Sw, Target};
+use apdu_core::{Command, FilePath, Returned, Selector, Subject, Sw, Target};
 use std::test::Fail;
 
 const WRONG_LENGTH: Result<Command<'static>, Sw> = Err(Sw(0x6700));
@@ -28,8 +28,28 @@ const fn update(target: Target, offset: u16, bytes: &[u8]) -> Result<Command<'_>
     })
 }
 
-const fn select(selector: Selector, expected: Option<u8>) -> Result<Command<'static>, Sw> {
-    Ok(Command::Select { selector, expected })
+const fn select(selector: Selector<'_>, expected: Option<u8>) -> Result<Command<'_>, Sw> {
+    Ok(Command::Select {
+        selector,
+        returned: Returned::Nothing,
+        expected,
+    })
+}
+
+const fn template_of(selector: Selector<'_>, expected: Option<u8>) -> Result<Command<'_>, Sw> {
+    Ok(Command::Select {
+        selector,
+        returned: Returned::Template,
+        expected,
+    })
+}
+
+const fn create(template: &[u8]) -> Result<Command<'_>, Sw> {
+    Ok(Command::CreateFile { template })
+}
+
+const fn delete(subject: Subject) -> Result<Command<'static>, Sw> {
+    Ok(Command::DeleteFile { subject })
 }
 
 #[test]
@@ -59,6 +79,33 @@ fn reads_commands(rt: HostRuntime) -> Result<(), Fail> {
         (
             "00A4000C022FE205",
             select(Selector::Identifier(0x2FE2), Some(0x05)),
+        ),
+        ("00A40004", template_of(Selector::MasterFile, None)),
+        ("00A4000400", template_of(Selector::MasterFile, Some(0x00))),
+        (
+            "00A40004022FE200",
+            template_of(Selector::Identifier(0x2FE2), Some(0x00)),
+        ),
+        // The parent; a name of 1 to 16 bytes.
+        ("00A40300", WRONG_PARAMETERS),
+        ("00A4030C023F00", WRONG_LENGTH),
+        ("00A4030C", select(Selector::Parent, None)),
+        ("00A4030400", template_of(Selector::Parent, Some(0x00))),
+        ("00A4040C", WRONG_LENGTH),
+        (
+            "00A404041100112233445566778899AABBCCDDEEFF0000",
+            WRONG_LENGTH,
+        ),
+        ("00A4040C0141", select(Selector::Name(&[0x41]), None)),
+        (
+            "00A404041000112233445566778899AABBCCDDEEFF00",
+            template_of(
+                Selector::Name(&[
+                    0x00, 0x11, 0x22, 0x33, 0x44, 0x55, 0x66, 0x77, 0x88, 0x99, 0xAA, 0xBB, 0xCC,
+                    0xDD, 0xEE, 0xFF,
+                ]),
+                Some(0x00),
+            ),
         ),
         // READ BINARY: bits 7 and 6 of P1 beside a short identifier, the numbers 0 and 31; Le must be there.
         ("00B0800001", WRONG_PARAMETERS),
@@ -92,6 +139,23 @@ fn reads_commands(rt: HostRuntime) -> Result<(), Fail> {
         ),
         ("00D68100021234", update(Target::Short(1), 0, &[0x12, 0x34])),
         ("00D69EFF0100", update(Target::Short(30), 255, &[0x00])),
+        // DELETE FILE: its parameters; no bytes or two, and no Le.
+        ("00E40001", WRONG_PARAMETERS),
+        ("00E40100022FE2", WRONG_PARAMETERS),
+        ("80E40000", UNKNOWN_INSTRUCTION),
+        ("00E4000000", WRONG_LENGTH),
+        ("00E40000012F", WRONG_LENGTH),
+        ("00E40000022FE200", WRONG_LENGTH),
+        ("00E40000032FE200", WRONG_LENGTH),
+        ("00E40000", delete(Subject::Current)),
+        ("00E40000022FE2", delete(Subject::Identifier(0x2FE2))),
+        // CREATE FILE: its parameters; 1 to 255 bytes, and no Le.
+        ("00E0000101AA", WRONG_PARAMETERS),
+        ("00E0010001AA", WRONG_PARAMETERS),
+        ("00E00000", WRONG_LENGTH),
+        ("00E0000001", WRONG_LENGTH),
+        ("00E0000001AA00", WRONG_LENGTH),
+        ("00E00000026200", create(&[0x62, 0x00])),
     ] {
         let bytes = bytes_of(rt.alloc(), digits)?;
         assert_eq!(rt; Command::parse(&bytes), want, "at {digits}");
@@ -105,6 +169,40 @@ fn reads_commands(rt: HostRuntime) -> Result<(), Fail> {
         (262, WRONG_LENGTH),
     ] {
         assert_eq!(rt; Command::parse(&longest[..size]), want, "of {size} bytes");
+    }
+    Ok(())
+}
+
+// SELECT by a path: an even number of bytes, 2 to 14, from the master file or from the current dedicated file.
+#[test]
+fn reads_paths(rt: HostRuntime) -> Result<(), Fail> {
+    for digits in [
+        "00A4080C",
+        "00A4080C017F",
+        "00A4090C037F106F",
+        "00A408041000010002000300040005000600070008",
+    ] {
+        let bytes = bytes_of(rt.alloc(), digits)?;
+        assert_eq!(rt; Command::parse(&bytes), WRONG_LENGTH, "at {digits}");
+    }
+    let Some(path) = FilePath::new(&[0x7F, 0x10, 0x6F, 0x3A]) else {
+        return Err(Fail::from("no path"));
+    };
+    assert_eq!(rt; path.count(), 2);
+    assert_eq!(rt; path.identifier(0), 0x7F10);
+    assert_eq!(rt; path.identifier(1), 0x6F3A);
+    for (digits, want) in [
+        (
+            "00A4080C047F106F3A",
+            select(Selector::PathFromMaster(path), None),
+        ),
+        (
+            "00A40904047F106F3A05",
+            template_of(Selector::PathFromCurrent(path), Some(0x05)),
+        ),
+    ] {
+        let bytes = bytes_of(rt.alloc(), digits)?;
+        assert_eq!(rt; Command::parse(&bytes), want, "at {digits}");
     }
     Ok(())
 }

@@ -1,5 +1,5 @@
-//! Tests alone, of the crates up to the card: each public call by vectors from outside, which stand in public standards or
-//! were worked out by hand. What a script prints is tested in the crate of the bench.
+//! Tests alone, of the crates up to the bench: each public call by vectors from outside, which stand in public standards or
+//! were worked out by hand, and what scripts print.
 #![tactic(auto)]
 
 #[cfg(test)]
@@ -15,6 +15,10 @@ mod journal;
 #[cfg(test)]
 mod link;
 #[cfg(test)]
+mod pins;
+#[cfg(test)]
 mod rules;
+#[cfg(test)]
+mod scripts;
 #[cfg(test)]
 mod templates;
