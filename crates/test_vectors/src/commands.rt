@@ -52,10 +52,10 @@ const fn delete(subject: Subject) -> Result<Command<'static>, Sw> {
     Ok(Command::DeleteFile { subject })
 }
 
+// Fewer than four bytes, then class, instruction, parameters.
 #[test]
-fn reads_commands(rt: HostRuntime) -> Result<(), Fail> {
+fn refuses_by_the_header(rt: HostRuntime) -> Result<(), Fail> {
     for (digits, want) in [
-        // Fewer than four bytes, then class, instruction, parameters.
         ("", WRONG_LENGTH),
         ("00A4", WRONG_LENGTH),
         ("01A400", WRONG_LENGTH),
@@ -67,6 +67,16 @@ fn reads_commands(rt: HostRuntime) -> Result<(), Fail> {
         ("00320000", UNKNOWN_INSTRUCTION),
         ("80D6000001AA", UNKNOWN_INSTRUCTION),
         ("00D7000001AA", UNKNOWN_INSTRUCTION),
+    ] {
+        let bytes = bytes_of(rt.alloc(), digits)?;
+        assert_eq!(rt; Command::parse(&bytes), want, "at {digits}");
+    }
+    Ok(())
+}
+
+#[test]
+fn reads_selections(rt: HostRuntime) -> Result<(), Fail> {
+    for (digits, want) in [
         // SELECT: its parameters, the form of its body, its length.
         ("00A40000023F00", WRONG_PARAMETERS),
         ("00A4010C0000", WRONG_PARAMETERS),
@@ -107,6 +117,16 @@ fn reads_commands(rt: HostRuntime) -> Result<(), Fail> {
                 Some(0x00),
             ),
         ),
+    ] {
+        let bytes = bytes_of(rt.alloc(), digits)?;
+        assert_eq!(rt; Command::parse(&bytes), want, "at {digits}");
+    }
+    Ok(())
+}
+
+#[test]
+fn reads_binary_commands(rt: HostRuntime) -> Result<(), Fail> {
+    for (digits, want) in [
         // READ BINARY: bits 7 and 6 of P1 beside a short identifier, the numbers 0 and 31; Le must be there.
         ("00B0800001", WRONG_PARAMETERS),
         ("00B09F0001", WRONG_PARAMETERS),
@@ -139,6 +159,16 @@ fn reads_commands(rt: HostRuntime) -> Result<(), Fail> {
         ),
         ("00D68100021234", update(Target::Short(1), 0, &[0x12, 0x34])),
         ("00D69EFF0100", update(Target::Short(30), 255, &[0x00])),
+    ] {
+        let bytes = bytes_of(rt.alloc(), digits)?;
+        assert_eq!(rt; Command::parse(&bytes), want, "at {digits}");
+    }
+    Ok(())
+}
+
+#[test]
+fn reads_commands_on_files(rt: HostRuntime) -> Result<(), Fail> {
+    for (digits, want) in [
         // DELETE FILE: its parameters; no bytes or two, and no Le.
         ("00E40001", WRONG_PARAMETERS),
         ("00E40100022FE2", WRONG_PARAMETERS),
@@ -160,7 +190,12 @@ fn reads_commands(rt: HostRuntime) -> Result<(), Fail> {
         let bytes = bytes_of(rt.alloc(), digits)?;
         assert_eq!(rt; Command::parse(&bytes), want, "at {digits}");
     }
-    // The longest update; then with an Le, and with two bytes more than Lc says.
+    Ok(())
+}
+
+// The longest update; then with an Le, and with two bytes more than Lc says.
+#[test]
+fn reads_the_longest_update(rt: HostRuntime) -> Result<(), Fail> {
     let mut longest = [0xA5; 262];
     longest[..5].copy_from_slice(&[0x00, 0xD6, 0x7F, 0xFF, 0xFF]);
     for (size, want) in [
