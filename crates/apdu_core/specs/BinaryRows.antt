@@ -1,5 +1,5 @@
 -- The rows of the commands on an elementary file of bytes (ISO/IEC 7816-4, 11.3).
-use Rattle.std.specs.Prelude.{ℕ, ◌-◌, ◌==◌, nat_le, Bool, not, ◌&&◌, ◌||◌, if◌then◌else◌, unwrap_or}
+use Rattle.std.specs.Prelude.{ℕ, ◌-◌, ◌==◌, nat_le, Bool, not, ◌&&◌, ◌||◌, if◌then◌else◌, unwrap_or, List, [], ◌∷◌}
 use Rattle.apdu_core.specs.declared.binary.Target.{Target}
 use Rattle.apdu_core.specs.declared.binary.Target.TheVariants.{Current, Short}
 use Rattle.apdu_core.specs.Numbers.{two_bytes}
@@ -42,3 +42,6 @@ update_binary_row = record {
   lengths = λ p1 p2 sent le. nat_le 1 sent && nat_le sent 255 && not le;
   meaning = λ p1 p2 body. update_binary (named_target p1) (named_offset p1 p2) body.sent;
 }
+
+abbrev pub binary_rows : List Row
+binary_rows = read_binary_row ∷ update_binary_row ∷ []

@@ -34,3 +34,6 @@ delete_file_row = record {
   lengths = λ p1 p2 sent le. ((sent == 0) || (sent == 2)) && not le;
   meaning = λ p1 p2 body. delete_file (subject_named body.sent);
 }
+
+abbrev pub file_rows : List Row
+file_rows = create_file_row ∷ delete_file_row ∷ []

@@ -9,6 +9,9 @@ pub mod Rows
 pub mod SelectRows
 pub mod BinaryRows
 pub mod FileRows
+pub mod RecordRows
+pub mod LifeCycleRows
+pub mod PinRows
 pub mod Asked
 pub mod InstructionRow
 pub mod OfBytes

@@ -11,6 +11,10 @@ header row = (row.class, row.instruction)
 abbrev pub bytes_with : (ℕ → Bool) → List ℕ
 bytes_with test = filter test (range_with_len 0 256)
 
+-- the modes, of the eight that three bits can name, that pass a test
+abbrev pub modes_with : (ℕ → Bool) → List ℕ
+modes_with test = filter test (range_with_len 0 8)
+
 -- each P1 that is allowed beside a P2
 abbrev pub first_parameters : Row → ℕ → List ℕ
 first_parameters row p2 = bytes_with (λ p1. row.parameters p1 p2)

@@ -1,3 +1,4 @@
 pub mod Identifiers
+pub mod TableLaws
 pub mod ByteLaws
 pub mod SizeLaws

@@ -6,6 +6,14 @@ ghost use Rattle.apdu_core.specs.Requests.{Gives};
 
 use crate::binary::{Target, parse_read_binary, parse_update_binary};
 use crate::files::{Subject, parse_create_file, parse_delete_file};
+use crate::life_cycles::{LifeCycleChange, parse_life_cycle_change, parse_terminate_card_usage};
+use crate::pins::{
+    Replacement, parse_change_reference_data, parse_reset_retry_counter, parse_verify,
+};
+use crate::records::{
+    Direction, RecordChoice, RecordPlace, parse_append_record, parse_increase, parse_read_record,
+    parse_search_record, parse_update_record,
+};
 use crate::select::{Returned, Selector, parse_select};
 use card_rules::Sw;
 
@@ -38,6 +46,59 @@ pub enum Command<'a> {
     DeleteFile {
         subject: Subject,
     },
+    /// READ RECORD (ISO/IEC 7816-4, 11.4.3).
+    ReadRecord {
+        target: Target,
+        choice: RecordChoice,
+        expected: u8,
+    },
+    /// UPDATE RECORD (ISO/IEC 7816-4, 11.4.5), by 1 to 255 bytes.
+    UpdateRecord {
+        target: Target,
+        choice: RecordChoice,
+        bytes: &'a [u8],
+    },
+    /// APPEND RECORD (ISO/IEC 7816-4, 11.4.6), of 1 to 255 bytes.
+    AppendRecord {
+        target: Target,
+        bytes: &'a [u8],
+    },
+    /// SEARCH RECORD (ISO/IEC 7816-4, 11.4.7), for a text of 1 to 255 bytes, from a record on.
+    SearchRecord {
+        target: Target,
+        first: RecordPlace,
+        direction: Direction,
+        text: &'a [u8],
+        expected: Option<u8>,
+    },
+    /// INCREASE (ETSI TS 102 221, 11.1.8), by a number of 1 to 255 bytes, the most significant first.
+    Increase {
+        amount: &'a [u8],
+        expected: Option<u8>,
+    },
+    /// DEACTIVATE FILE, ACTIVATE FILE, TERMINATE DF or TERMINATE EF (ISO/IEC 7816-9).
+    ChangeLifeCycle {
+        change: LifeCycleChange,
+        subject: Subject,
+    },
+    /// TERMINATE CARD USAGE (ISO/IEC 7816-9).
+    TerminateCardUsage,
+    /// VERIFY (ISO/IEC 7816-4, 11.5.6) of a PIN, 1 to 8: by the value shown, or with none to ask for the tries that are left.
+    Verify {
+        pin: u8,
+        shown: Option<&'a [u8; 8]>,
+    },
+    /// CHANGE REFERENCE DATA (ISO/IEC 7816-4, 11.5.7) of a PIN, 1 to 8.
+    ChangeReferenceData {
+        pin: u8,
+        values: Replacement<'a>,
+    },
+    /// RESET RETRY COUNTER (ISO/IEC 7816-4, 11.5.10) of a PIN, 1 to 8: by its unblocking value, or with none to ask for the
+    /// unblocking tries that are left.
+    ResetRetryCounter {
+        pin: u8,
+        values: Option<Replacement<'a>>,
+    },
 }
 
 /// An instruction that is built.
@@ -48,6 +109,16 @@ enum Instruction {
     UpdateBinary,
     CreateFile,
     DeleteFile,
+    ReadRecord,
+    UpdateRecord,
+    AppendRecord,
+    SearchRecord,
+    Increase,
+    ChangeLifeCycle(LifeCycleChange),
+    TerminateCardUsage,
+    Verify,
+    ChangeReferenceData,
+    ResetRetryCounter,
 }
 
 impl<'a> Command<'a> {
@@ -69,6 +140,16 @@ impl<'a> Command<'a> {
             Instruction::UpdateBinary => parse_update_binary(*p1, *p2, rest),
             Instruction::CreateFile => parse_create_file(*p1, *p2, rest),
             Instruction::DeleteFile => parse_delete_file(*p1, *p2, rest),
+            Instruction::ReadRecord => parse_read_record(*p1, *p2, rest),
+            Instruction::UpdateRecord => parse_update_record(*p1, *p2, rest),
+            Instruction::AppendRecord => parse_append_record(*p1, *p2, rest),
+            Instruction::SearchRecord => parse_search_record(*p1, *p2, rest),
+            Instruction::Increase => parse_increase(*p1, *p2, rest),
+            Instruction::ChangeLifeCycle(change) => parse_life_cycle_change(change, *p1, *p2, rest),
+            Instruction::TerminateCardUsage => parse_terminate_card_usage(*p1, *p2, rest),
+            Instruction::Verify => parse_verify(*p1, *p2, rest),
+            Instruction::ChangeReferenceData => parse_change_reference_data(*p1, *p2, rest),
+            Instruction::ResetRetryCounter => parse_reset_retry_counter(*p1, *p2, rest),
         }
     }
 }
@@ -80,20 +161,36 @@ impl Instruction {
     fn of(class: u8, instruction: u8) -> Option<Instruction>
         ensures { option_map row_for result ≡ row_of class instruction }
     {
-        if class != 0x00 {
-            None
-        } else if instruction == 0xA4 {
-            Some(Instruction::Select)
-        } else if instruction == 0xB0 {
-            Some(Instruction::ReadBinary)
-        } else if instruction == 0xD6 {
-            Some(Instruction::UpdateBinary)
-        } else if instruction == 0xE0 {
-            Some(Instruction::CreateFile)
-        } else if instruction == 0xE4 {
-            Some(Instruction::DeleteFile)
-        } else {
-            None
+        match class {
+            0x00 => Instruction::of_standard(instruction),
+            0x80 if instruction == 0x32 => Some(Instruction::Increase),
+            _ => None,
+        }
+    }
+
+    /// The instruction under class 00, if it is built.
+    fn of_standard(instruction: u8) -> Option<Instruction>
+        ensures { option_map row_for result ≡ row_of 0x00 instruction }
+    {
+        match instruction {
+            0x04 => Some(Instruction::ChangeLifeCycle(LifeCycleChange::Deactivate)),
+            0x20 => Some(Instruction::Verify),
+            0x24 => Some(Instruction::ChangeReferenceData),
+            0x2C => Some(Instruction::ResetRetryCounter),
+            0x44 => Some(Instruction::ChangeLifeCycle(LifeCycleChange::Activate)),
+            0xA2 => Some(Instruction::SearchRecord),
+            0xA4 => Some(Instruction::Select),
+            0xB0 => Some(Instruction::ReadBinary),
+            0xB2 => Some(Instruction::ReadRecord),
+            0xD6 => Some(Instruction::UpdateBinary),
+            0xDC => Some(Instruction::UpdateRecord),
+            0xE0 => Some(Instruction::CreateFile),
+            0xE2 => Some(Instruction::AppendRecord),
+            0xE4 => Some(Instruction::DeleteFile),
+            0xE6 => Some(Instruction::ChangeLifeCycle(LifeCycleChange::TerminateDf)),
+            0xE8 => Some(Instruction::ChangeLifeCycle(LifeCycleChange::TerminateEf)),
+            0xFE => Some(Instruction::TerminateCardUsage),
+            _ => None,
         }
     }
 }

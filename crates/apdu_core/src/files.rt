@@ -1,7 +1,7 @@
 //! Commands on files as such: CREATE FILE and DELETE FILE (ISO/IEC 7816-9).
-ghost use Rattle.std.specs.Prelude.{Some, IfOk};
+ghost use Rattle.std.specs.Prelude.{◌≡◌, ◌==◌, ◌||◌, Some, is_some, IfOk, IfSome, length};
 ghost use Rattle.apdu_core.specs.Asked.{asked_by_row};
-ghost use Rattle.apdu_core.specs.FileRows.{create_file_row, delete_file_row};
+ghost use Rattle.apdu_core.specs.FileRows.{create_file_row, delete_file_row, subject_named};
 ghost use Rattle.apdu_core.specs.Ranges.{IsInRange};
 ghost use Rattle.apdu_core.specs.Requests.{Gives};
 
@@ -17,6 +17,20 @@ pub enum Subject {
     Current,
     /// The file that SELECT would reach by this identifier from the current dedicated file.
     Identifier(u16),
+}
+
+impl Subject {
+    /// The file that the sent bytes name: none for the current one, or two for an identifier.
+    pub(crate) fn of(sent: &[u8]) -> Option<Subject>
+        ensures known { is_some result ≡ ((length sent.now == 0) || (length sent.now == 2)) }
+        ensures named { IfSome result (λ subject. subject ≡ subject_named sent.now) }
+    {
+        match sent {
+            [] => Some(Subject::Current),
+            [_, _] => Some(Subject::Identifier(BigEndian::read_u16(sent))),
+            _ => None,
+        }
+    }
 }
 
 /// Reads P1, P2 and what follows the header of CREATE FILE. Other P1 and P2 than 00 00 are 6A86; no data, or Le, are
@@ -50,10 +64,6 @@ pub(crate) fn parse_delete_file<'a>(p1: u8, p2: u8, rest: &'a [u8]) -> Result<Co
     if body.expected.is_some() {
         return Err(Sw::WRONG_LENGTH);
     }
-    let subject = match body.sent {
-        [] => Subject::Current,
-        [_, _] => Subject::Identifier(BigEndian::read_u16(body.sent)),
-        _ => return Err(Sw::WRONG_LENGTH),
-    };
+    let subject = Subject::of(body.sent).ok_or(Sw::WRONG_LENGTH)?;
     Ok(Command::DeleteFile { subject })
 }

@@ -3,15 +3,26 @@ ghost use Rattle.std.specs.Prelude.{◌≡◌, ◌+◌, ◌*◌, ◌++◌, ◌�
 ghost use Rattle.std.specs.Prelude.{MatchResult, IfOk};
 ghost use Rattle.apdu_core.specs.declared.binary.Target.TheVariants.{Current as current_file, Short as short_file};
 ghost use Rattle.apdu_core.specs.declared.files.Subject.TheVariants.{Identifier as by_identifier};
+ghost use Rattle.apdu_core.specs.declared.life_cycles.LifeCycleChange.{LifeCycleChange};
+ghost use Rattle.apdu_core.specs.declared.life_cycles.LifeCycleChange.TheVariants.{TerminateEf};
+ghost use Rattle.apdu_core.specs.declared.records.Direction.TheVariants.{Backward};
+ghost use Rattle.apdu_core.specs.declared.records.RecordChoice.TheVariants.{Previous, At};
+ghost use Rattle.apdu_core.specs.declared.records.RecordPlace.TheVariants.{CurrentRecord, Number};
 ghost use Rattle.apdu_core.specs.declared.select.Returned.TheVariants.{Template, Nothing};
 ghost use Rattle.apdu_core.specs.Asked.{asked, command_table, is_class};
 ghost use Rattle.apdu_core.specs.BinaryRows.{read_binary_row, update_binary_row};
 ghost use Rattle.apdu_core.specs.FileRows.{create_file_row, delete_file_row};
+ghost use Rattle.apdu_core.specs.RecordRows.{read_record_row, update_record_row, append_record_row, search_record_row};
+ghost use Rattle.apdu_core.specs.RecordRows.{increase_row, is_record_file, is_choice, is_direction};
+ghost use Rattle.apdu_core.specs.LifeCycleRows.{life_cycle_row, terminate_card_usage_row};
+ghost use Rattle.apdu_core.specs.PinRows.{verify_row, change_reference_data_row, reset_retry_counter_row, is_pin};
 ghost use Rattle.apdu_core.specs.SelectRows.{select_row, is_way, is_returned};
-ghost use Rattle.apdu_core.specs.Listing.{header, bytes_with, first_parameters, second_parameters, lengths_allowed};
+ghost use Rattle.apdu_core.specs.Listing.{header, bytes_with, modes_with, first_parameters, second_parameters, lengths_allowed};
 ghost use Rattle.std.specs.List.{range_with_len};
 ghost use Rattle.apdu_core.specs.OfBytes.{AreBytes, IsOfBytes, IsStatusWord};
 ghost use Rattle.apdu_core.specs.Requests.{select, read_binary, update_binary, create_file, delete_file};
+ghost use Rattle.apdu_core.specs.Requests.{read_record, update_record, append_record, search_record, increase};
+ghost use Rattle.apdu_core.specs.Requests.{change_life_cycle, terminate_card_usage, verify, change_reference_data};
 ghost use Rattle.apdu_core.specs.Selections.{identifier, parent, name, path_from_master, path_from_current};
 ghost use Rattle.apdu_core.specs.Sizes.{IsSized};
 
@@ -32,7 +43,10 @@ pub fn requests_are_sized()
 pub fn headers()
     ensures classes { bytes_with is_class ≡ 0x00 ∷ 0x80 ∷ [] }
     ensures commands { map header command_table
-        ≡ (0x00, 0xA4) ∷ (0x00, 0xB0) ∷ (0x00, 0xD6) ∷ (0x00, 0xE0) ∷ (0x00, 0xE4) ∷ [] }
+        ≡ (0x00, 0xA4) ∷ (0x00, 0xB0) ∷ (0x00, 0xD6) ∷ (0x00, 0xE0) ∷ (0x00, 0xE4)
+        ∷ (0x00, 0xB2) ∷ (0x00, 0xDC) ∷ (0x00, 0xE2) ∷ (0x00, 0xA2) ∷ (0x80, 0x32)
+        ∷ (0x00, 0x04) ∷ (0x00, 0x44) ∷ (0x00, 0xE6) ∷ (0x00, 0xE8) ∷ (0x00, 0xFE)
+        ∷ (0x00, 0x20) ∷ (0x00, 0x24) ∷ (0x00, 0x2C) ∷ [] }
 {}
 
 /// The numbers of SELECT (ISO/IEC 7816-4, 11.2.2): each P1 and P2, and how many bytes may be sent under each P1; Le may
@@ -72,6 +86,86 @@ pub fn file_numbers()
         × (second_parameters delete_file_row 0x00 ≡ 0x00 ∷ [])
         × (lengths_allowed delete_file_row 0x00 0x00 true ≡ [])
         × (lengths_allowed delete_file_row 0x00 0x00 false ≡ 0 ∷ 2 ∷ []) }
+{}
+
+/// P1 and P2 of the commands on records (ISO/IEC 7816-4, 11.4): each P2 that names a file, and the modes of READ RECORD and
+/// UPDATE RECORD under P1 00 and under another P1, and of SEARCH RECORD; APPEND RECORD has P1 00 and mode 0.
+pub fn record_parameters()
+    ensures files { bytes_with is_record_file ≡ range_with_len 0x00 0xF8 }
+    ensures modes { (modes_with (is_choice 0x00) ≡ 2 ∷ 3 ∷ 4 ∷ []) × (modes_with (is_choice 0x01) ≡ 4 ∷ [])
+        × (modes_with is_direction ≡ 4 ∷ 5 ∷ []) }
+    ensures chosen { (p1 p2 : ℕ) → (read_record_row.parameters p1 p2 ≡ (is_record_file p2 && is_choice p1 p2))
+        × (update_record_row.parameters p1 p2 ≡ (is_record_file p2 && is_choice p1 p2)) }
+    ensures searched { (p1 p2 : ℕ) → search_record_row.parameters p1 p2 ≡ (is_record_file p2 && is_direction p2) }
+    ensures appended { (first_parameters append_record_row 0x08 ≡ 0x00 ∷ [])
+        × (second_parameters append_record_row 0x00 ≡ map (λ short. 8 * short) (range_with_len 0 31)) }
+{}
+
+/// How much the commands on records send: READ RECORD nothing, with Le; UPDATE RECORD and APPEND RECORD 1 to 255 bytes, with
+/// no Le; SEARCH RECORD and INCREASE 1 to 255 bytes, and Le may stand. INCREASE has P1 and P2 00.
+pub fn record_lengths()
+    ensures read { (p1 p2 : ℕ) → (lengths_allowed read_record_row p1 p2 true ≡ 0 ∷ [])
+        × (lengths_allowed read_record_row p1 p2 false ≡ []) }
+    ensures update { (p1 p2 : ℕ) → (lengths_allowed update_record_row p1 p2 true ≡ [])
+        × (lengths_allowed update_record_row p1 p2 false ≡ range_with_len 1 255) }
+    ensures append { (p1 p2 : ℕ) → (lengths_allowed append_record_row p1 p2 true ≡ [])
+        × (lengths_allowed append_record_row p1 p2 false ≡ range_with_len 1 255) }
+    ensures search { (p1 p2 : ℕ) (le : Bool) → lengths_allowed search_record_row p1 p2 le ≡ range_with_len 1 255 }
+    ensures increase { (first_parameters increase_row 0x00 ≡ 0x00 ∷ []) × (second_parameters increase_row 0x00 ≡ 0x00 ∷ [])
+        × ((le : Bool) → lengths_allowed increase_row 0x00 0x00 le ≡ range_with_len 1 255) }
+{}
+
+/// The numbers of the commands on life cycles (ISO/IEC 7816-9): P1 and P2 are 00 and Le doesn't stand; DEACTIVATE FILE,
+/// ACTIVATE FILE, TERMINATE DF and TERMINATE EF send no byte or 2, TERMINATE CARD USAGE none.
+pub fn life_cycle_numbers()
+    ensures parameters { (change : LifeCycleChange) → (first_parameters (life_cycle_row change) 0x00 ≡ 0x00 ∷ [])
+        × (second_parameters (life_cycle_row change) 0x00 ≡ 0x00 ∷ []) }
+    ensures lengths { (change : LifeCycleChange) → (lengths_allowed (life_cycle_row change) 0x00 0x00 true ≡ [])
+        × (lengths_allowed (life_cycle_row change) 0x00 0x00 false ≡ 0 ∷ 2 ∷ []) }
+    ensures card { (first_parameters terminate_card_usage_row 0x00 ≡ 0x00 ∷ [])
+        × (second_parameters terminate_card_usage_row 0x00 ≡ 0x00 ∷ [])
+        × (lengths_allowed terminate_card_usage_row 0x00 0x00 true ≡ [])
+        × (lengths_allowed terminate_card_usage_row 0x00 0x00 false ≡ 0 ∷ []) }
+{}
+
+/// The numbers of the commands on PINs (ISO/IEC 7816-4, 11.5): P1 is 00, P2 is a PIN, 1 to 8, and Le doesn't stand; VERIFY
+/// sends no byte or 8, CHANGE REFERENCE DATA 16, RESET RETRY COUNTER none or 16.
+pub fn pin_numbers()
+    ensures parameters { (p1 p2 : ℕ) → (verify_row.parameters p1 p2 ≡ is_pin p1 p2)
+        × (change_reference_data_row.parameters p1 p2 ≡ is_pin p1 p2)
+        × (reset_retry_counter_row.parameters p1 p2 ≡ is_pin p1 p2) }
+    ensures pins { (bytes_with (is_pin 0x00) ≡ range_with_len 1 8) × (bytes_with (λ p1. is_pin p1 0x08) ≡ 0x00 ∷ []) }
+    ensures lengths { (p1 p2 : ℕ) → (lengths_allowed verify_row p1 p2 false ≡ 0 ∷ 8 ∷ [])
+        × (lengths_allowed change_reference_data_row p1 p2 false ≡ 16 ∷ [])
+        × (lengths_allowed reset_retry_counter_row p1 p2 false ≡ 0 ∷ 16 ∷ []) }
+    ensures no_le { (p1 p2 : ℕ) → (lengths_allowed verify_row p1 p2 true ≡ [])
+        × (lengths_allowed change_reference_data_row p1 p2 true ≡ [])
+        × (lengths_allowed reset_retry_counter_row p1 p2 true ≡ []) }
+{}
+
+/// What commands on records ask for, from their bytes.
+pub fn records_in_bytes()
+    ensures read { (le : ℕ) → asked (0x00 ∷ 0xB2 ∷ 0x05 ∷ 0xF4 ∷ le ∷ [])
+        ≡ Ok (read_record (short_file 30) (At (Number 5)) le) }
+    ensures update { (a : ℕ) → asked (0x00 ∷ 0xDC ∷ 0x00 ∷ 0x03 ∷ 0x01 ∷ a ∷ [])
+        ≡ Ok (update_record current_file Previous (a ∷ [])) }
+    ensures append { (a b : ℕ) → asked (0x00 ∷ 0xE2 ∷ 0x00 ∷ 0x08 ∷ 0x02 ∷ a ∷ b ∷ [])
+        ≡ Ok (append_record (short_file 1) (a ∷ b ∷ [])) }
+    ensures search { (a le : ℕ) → asked (0x00 ∷ 0xA2 ∷ 0x00 ∷ 0x05 ∷ 0x01 ∷ a ∷ le ∷ [])
+        ≡ Ok (search_record current_file CurrentRecord Backward (a ∷ []) (Some le)) }
+    ensures increase { (a le : ℕ) → asked (0x80 ∷ 0x32 ∷ 0x00 ∷ 0x00 ∷ 0x01 ∷ a ∷ le ∷ [])
+        ≡ Ok (increase (a ∷ []) (Some le)) }
+{}
+
+/// What commands on life cycles and PINs ask for, from their bytes.
+pub fn states_in_bytes()
+    ensures terminate_ef { (high low : ℕ) → asked (0x00 ∷ 0xE8 ∷ 0x00 ∷ 0x00 ∷ 0x02 ∷ high ∷ low ∷ [])
+        ≡ Ok (change_life_cycle TerminateEf (by_identifier (256 * high + low))) }
+    ensures terminate_card { asked (0x00 ∷ 0xFE ∷ 0x00 ∷ 0x00 ∷ []) ≡ Ok terminate_card_usage }
+    ensures query { asked (0x00 ∷ 0x20 ∷ 0x00 ∷ 0x08 ∷ []) ≡ Ok (verify 8 None) }
+    ensures change { (a b c d e f g h n o p q r s t u : ℕ)
+        → asked (0x00 ∷ 0x24 ∷ 0x00 ∷ 0x01 ∷ 0x10 ∷ a ∷ b ∷ c ∷ d ∷ e ∷ f ∷ g ∷ h ∷ n ∷ o ∷ p ∷ q ∷ r ∷ s ∷ t ∷ u ∷ [])
+        ≡ Ok (change_reference_data 1 (a ∷ b ∷ c ∷ d ∷ e ∷ f ∷ g ∷ h ∷ []) (n ∷ o ∷ p ∷ q ∷ r ∷ s ∷ t ∷ u ∷ [])) }
 {}
 
 /// What SELECT asks for, from its bytes: by an identifier, a path, a name, and the parent.

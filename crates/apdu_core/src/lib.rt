@@ -6,7 +6,10 @@ mod commands;
 mod files;
 mod form;
 pub mod laws;
+mod life_cycles;
 mod path;
+mod pins;
+mod records;
 mod select;
 
 use arrayvec::ArrayVec;
@@ -14,7 +17,10 @@ pub use binary::Target;
 pub use card_rules::Sw;
 pub use commands::Command;
 pub use files::Subject;
+pub use life_cycles::LifeCycleChange;
 pub use path::FilePath;
+pub use pins::Replacement;
+pub use records::{Direction, RecordChoice, RecordPlace};
 pub use select::{Returned, Selector};
 
 /// The data and the status word of an answer: 2 to 258 bytes.

@@ -1,7 +1,7 @@
 -- A command of bytes asks for a request of bytes, or is refused by a status word of two bytes.
 use Rattle.std.specs.Prelude.{◌≡◌, ◌<◌, ◌==◌, ◌+◌, ℕ, zero, suc, Bool, true, false, ◌&&◌, nat_lt, List, [], ◌∷◌}
-use Rattle.std.specs.Prelude.{length, take, slice_index}
-use Rattle.std.specs.Prelude.{find, Option, Some, None, is_some, unwrap_or, Result, Ok, Err, MatchResult, IfSome}
+use Rattle.std.specs.Prelude.{length, take, drop, slice_index}
+use Rattle.std.specs.Prelude.{Option, Some, None, is_some, unwrap_or, Result, Ok, Err, MatchResult, IfSome}
 use Rattle.std.specs.Prelude.{if◌then◌else◌}
 use Rattle.std.specs.List.{list_all}
 use Rattle.std.proofs.lemmas.Bool.{ltb-true, and_parts}
@@ -15,6 +15,13 @@ use Rattle.apdu_core.specs.Asked.{asked, asked_by_body, asked_by_row, command_ta
 use Rattle.apdu_core.specs.Numbers.{two_bytes}
 use Rattle.apdu_core.specs.Selections.{identifiers, parent, name, path_from_master, path_from_current}
 use Rattle.apdu_core.specs.SelectRows.{by_identifier, named_file}
+use Rattle.apdu_core.specs.BinaryRows.{binary_rows}
+use Rattle.apdu_core.specs.FileRows.{file_rows}
+use Rattle.apdu_core.specs.RecordRows.{record_rows}
+use Rattle.apdu_core.specs.LifeCycleRows.{life_cycle_rows}
+use Rattle.apdu_core.specs.PinRows.{pin_rows}
+use Rattle.apdu_core.specs.laws.TableLaws.{EachRow, each_group, each_found}
+use Rattle.apdu_core.specs.PinRows.{shown_value, shown_values}
 use Rattle.apdu_core.specs.OfBytes.{AreBytes, AreIdentifiers, IsNamedByBytes, IsOfBytes, IsStatusWord}
 
 -- a body of bytes
@@ -80,17 +87,6 @@ row-asked (Some row) p1 p2 bytes meant all =
     (row.parameters p1 p2) (asked_by_body row p1 p2 (body_of bytes)) (Err WRONG_PARAMETERS)
     (body-asked row p1 p2 (body_of bytes) meant (body-of_bytes bytes all)) (lit< tt)
 
--- a row that is found among some of which each has the property has it
-abbrev AreRowsOfBytes : List Row → Type 0
-AreRowsOfBytes [] = Unit {0}
-AreRowsOfBytes (row ∷ rows) = IsRowOfBytes row × AreRowsOfBytes rows
-
-find-of_bytes : (test : Row → Bool) (rows : List Row) → AreRowsOfBytes rows → IfSome (find test rows) IsRowOfBytes
-find-of_bytes test [] all = tt
-find-of_bytes test (row ∷ rows) all =
-    either-if (λ (found : Option Row). IfSome found IsRowOfBytes) (test row) (Some row) _ all.0 (find-of_bytes test
-    rows all.1)
-
 -- two bytes are below 65,536
 two_bytes-below : (high low : ℕ) → high < 256 → low < 256 → two_bytes high low < 65536
 two_bytes-below high low h l = omega (arith, h, l)
@@ -121,24 +117,67 @@ named_file-of_bytes p1 sent all =
     (either-if IsNamedByBytes (p1 == 0x08) (path_from_master (identifiers sent)) (path_from_current (identifiers sent))
     path path)))
 
--- the rows of the table, one by one
-table-of_bytes : AreRowsOfBytes command_table
-table-of_bytes = (
-  λ p1 p2 body sent. (named_file-of_bytes p1 body.sent sent.sent, sent.expected),
+bytes-drop : (n : ℕ) (bytes : List ℕ) → AreBytes bytes → AreBytes (drop n bytes)
+bytes-drop zero bytes all = all
+bytes-drop (suc n) [] all = all
+bytes-drop (suc n) (byte ∷ bytes) all = bytes-drop n bytes (bytes-rest byte bytes all)
+
+shown_value-of_bytes : (sent : List ℕ) → AreBytes sent → IfSome (shown_value sent) AreBytes
+shown_value-of_bytes [] all = tt
+shown_value-of_bytes (byte ∷ bytes) all = all
+
+shown_values-of_bytes : (sent : List ℕ) → AreBytes sent
+    → IfSome (shown_values sent) (λ values. AreBytes values.0 × AreBytes values.1)
+shown_values-of_bytes [] all = tt
+shown_values-of_bytes (byte ∷ bytes) all = (bytes-take 8 (byte ∷ bytes) all, bytes-drop 8 (byte ∷ bytes) all)
+
+binaries-of_bytes : EachRow IsRowOfBytes binary_rows
+binaries-of_bytes = (λ p1 p2 body sent. sent.expected, (λ p1 p2 body sent. sent.sent, tt))
+
+files-of_bytes : EachRow IsRowOfBytes file_rows
+files-of_bytes = (λ p1 p2 body sent. sent.sent, (λ p1 p2 body sent. tt, tt))
+
+pins-of_bytes : EachRow IsRowOfBytes pin_rows
+pins-of_bytes = (
+  λ p1 p2 body sent. shown_value-of_bytes body.sent sent.sent,
   (
-    λ p1 p2 body sent. sent.expected,
+    λ p1 p2 body sent. (bytes-take 8 body.sent sent.sent, bytes-drop 8 body.sent sent.sent),
+    (λ p1 p2 body sent. shown_values-of_bytes body.sent sent.sent, tt),
+  ),
+)
+
+records-of_bytes : EachRow IsRowOfBytes record_rows
+records-of_bytes = (
+  λ p1 p2 body sent. sent.expected,
+  (
+    λ p1 p2 body sent. sent.sent,
     (
       λ p1 p2 body sent. sent.sent,
+      (λ p1 p2 body sent. (sent.sent, sent.expected), (λ p1 p2 body sent. (sent.sent, sent.expected), tt)),
+    ),
+  ),
+)
+
+life_cycles-of_bytes : EachRow IsRowOfBytes life_cycle_rows
+life_cycles-of_bytes = (
+  λ p1 p2 body sent. tt,
+  (
+    λ p1 p2 body sent. tt,
+    (
+      λ p1 p2 body sent. tt,
       (
-        λ p1 p2 body sent. sent.sent,
-        (
-          λ p1 p2 body sent. tt,
-          tt,
-        ),
+        λ p1 p2 body sent. tt,
+        (λ p1 p2 body sent. tt, tt),
       ),
     ),
   ),
 )
+
+-- the rows of the table, group by group
+table-of_bytes : EachRow IsRowOfBytes command_table
+table-of_bytes =
+    each_group IsRowOfBytes (λ p1 p2 body sent. (named_file-of_bytes p1 body.sent sent.sent, sent.expected))
+    binaries-of_bytes files-of_bytes records-of_bytes life_cycles-of_bytes pins-of_bytes
 
 pub asked-of_bytes : (command : List ℕ) → AreBytes command → MatchResult (asked command) IsOfBytes IsStatusWord
 asked-of_bytes [] all = lit< tt
@@ -149,7 +188,7 @@ asked-of_bytes (class ∷ instruction ∷ p1 ∷ p2 ∷ bytes) all =
     let rest : AreBytes bytes =
     bytes-rest p2 bytes (bytes-rest p1 (p2 ∷ bytes) (bytes-rest instruction (p1 ∷ p2 ∷ bytes) (bytes-rest class
     (instruction ∷ p1 ∷ p2 ∷ bytes) all))) in
-    let row = find-of_bytes (λ row. (row.class == class) && (row.instruction == instruction)) command_table
+    let row = each_found IsRowOfBytes (λ row. (row.class == class) && (row.instruction == instruction)) command_table
     table-of_bytes in
     either-if (λ (asked : Result Request Sw). MatchResult asked IsOfBytes IsStatusWord)
     (is_class class) (asked_by_row (row_of class instruction) p1 p2 bytes) (Err UNKNOWN_CLASS)

@@ -1,0 +1,66 @@
+//! Commands on life cycles (ISO/IEC 7816-9).
+ghost use Rattle.std.specs.Prelude.{Some, IfOk};
+ghost use Rattle.apdu_core.specs.Asked.{asked_by_row};
+ghost use Rattle.apdu_core.specs.LifeCycleRows.{life_cycle_row, terminate_card_usage_row};
+ghost use Rattle.apdu_core.specs.Ranges.{IsInRange};
+ghost use Rattle.apdu_core.specs.Requests.{Gives};
+
+use crate::commands::Command;
+use crate::files::Subject;
+use crate::form::CommandBody;
+use card_rules::Sw;
+
+/// What a command does to the life cycle of a file.
+#[derive(Clone, Copy, Debug, PartialEq, Eq)]
+pub enum LifeCycleChange {
+    /// DEACTIVATE FILE.
+    Deactivate,
+    /// ACTIVATE FILE.
+    Activate,
+    /// TERMINATE DF.
+    TerminateDf,
+    /// TERMINATE EF.
+    TerminateEf,
+}
+
+/// Reads P1, P2 and what follows the header of a command that changes a life cycle. Other P1 and P2 than 00 00 are 6A86,
+/// other lengths than 0 and 2 are 6700, and so is Le.
+pub(crate) fn parse_life_cycle_change<'a>(
+    change: LifeCycleChange,
+    p1: u8,
+    p2: u8,
+    rest: &'a [u8],
+) -> Result<Command<'a>, Sw>
+    ensures asked { Gives result (asked_by_row (Some (life_cycle_row change)) p1 p2 rest.now) }
+    ensures ranges { IfOk result IsInRange }
+{
+    if p1 != 0x00 || p2 != 0x00 {
+        return Err(Sw::WRONG_PARAMETERS);
+    }
+    let body = CommandBody::parse(rest).ok_or(Sw::WRONG_LENGTH)?;
+    if body.expected.is_some() {
+        return Err(Sw::WRONG_LENGTH);
+    }
+    let subject = Subject::of(body.sent).ok_or(Sw::WRONG_LENGTH)?;
+    Ok(Command::ChangeLifeCycle { change, subject })
+}
+
+/// Reads P1, P2 and what follows the header of TERMINATE CARD USAGE. Other P1 and P2 than 00 00 are 6A86; data, or Le, are
+/// 6700.
+pub(crate) fn parse_terminate_card_usage<'a>(
+    p1: u8,
+    p2: u8,
+    rest: &'a [u8],
+) -> Result<Command<'a>, Sw>
+    ensures asked { Gives result (asked_by_row (Some terminate_card_usage_row) p1 p2 rest.now) }
+    ensures ranges { IfOk result IsInRange }
+{
+    if p1 != 0x00 || p2 != 0x00 {
+        return Err(Sw::WRONG_PARAMETERS);
+    }
+    let body = CommandBody::parse(rest).ok_or(Sw::WRONG_LENGTH)?;
+    match body.expected {
+        None if body.sent.is_empty() => Ok(Command::TerminateCardUsage),
+        _ => Err(Sw::WRONG_LENGTH),
+    }
+}

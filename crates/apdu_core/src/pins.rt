@@ -1,0 +1,114 @@
+//! Commands on PINs (ISO/IEC 7816-4, 11.5).
+ghost use Rattle.std.specs.Prelude.{◌≡◌, ◌==◌, Some, is_some, IfOk, IfSome, length, take, drop};
+ghost use Rattle.apdu_core.specs.Asked.{asked_by_row};
+ghost use Rattle.apdu_core.specs.PinRows.{verify_row, change_reference_data_row, reset_retry_counter_row, is_pin};
+ghost use Rattle.apdu_core.specs.Ranges.{IsInRange};
+ghost use Rattle.apdu_core.specs.Requests.{Gives};
+
+use crate::commands::Command;
+use crate::form::CommandBody;
+use card_rules::Sw;
+
+/// A value that is shown, and the new value of the PIN.
+#[derive(Clone, Copy, Debug, PartialEq, Eq)]
+pub struct Replacement<'a> {
+    pub shown: &'a [u8; 8],
+    pub new: &'a [u8; 8],
+}
+
+impl<'a> Replacement<'a> {
+    /// The two values in these bytes, if they are 16.
+    fn of(sent: &'a [u8]) -> Option<Replacement<'a>>
+        ensures known { is_some result ≡ (length sent.now == 16) }
+        ensures shown { IfSome result (λ values. values.shown.now ≡ take 8 sent.now) }
+        ensures new { IfSome result (λ values. values.new.now ≡ drop 8 sent.now) }
+    {
+        let (shown, rest) = sent.split_first_chunk::<8>()?;
+        let new = rest.as_array::<8>()?;
+        Some(Replacement { shown, new })
+    }
+}
+
+/// Whether P1 and P2 name a PIN: 00, and 01 to 08.
+fn names_pin(p1: u8, p2: u8) -> bool
+    ensures { result ≡ is_pin p1 p2 }
+{
+    p1 == 0x00 && (1..=8).contains(&p2)
+}
+
+/// Reads P1, P2 and what follows the header of VERIFY (ISO/IEC 7816-4, 11.5.6). P1 and P2 that name no PIN are 6A86, other
+/// lengths than 0 and 8 are 6700, and so is Le.
+pub(crate) fn parse_verify<'a>(p1: u8, p2: u8, rest: &'a [u8]) -> Result<Command<'a>, Sw>
+    ensures asked { Gives result (asked_by_row (Some verify_row) p1 p2 rest.now) }
+    ensures ranges { IfOk result IsInRange }
+{
+    if !names_pin(p1, p2) {
+        return Err(Sw::WRONG_PARAMETERS);
+    }
+    let body = CommandBody::parse(rest).ok_or(Sw::WRONG_LENGTH)?;
+    if body.expected.is_some() {
+        return Err(Sw::WRONG_LENGTH);
+    }
+    if body.sent.is_empty() {
+        return Ok(Command::Verify {
+            pin: p2,
+            shown: None,
+        });
+    }
+    let shown = body.sent.as_array::<8>().ok_or(Sw::WRONG_LENGTH)?;
+    Ok(Command::Verify {
+        pin: p2,
+        shown: Some(shown),
+    })
+}
+
+/// Reads P1, P2 and what follows the header of CHANGE REFERENCE DATA (ISO/IEC 7816-4, 11.5.7). P1 and P2 that name no PIN
+/// are 6A86, another length than 16 is 6700, and so is Le.
+pub(crate) fn parse_change_reference_data<'a>(
+    p1: u8,
+    p2: u8,
+    rest: &'a [u8],
+) -> Result<Command<'a>, Sw>
+    ensures asked { Gives result (asked_by_row (Some change_reference_data_row) p1 p2 rest.now) }
+    ensures ranges { IfOk result IsInRange }
+{
+    if !names_pin(p1, p2) {
+        return Err(Sw::WRONG_PARAMETERS);
+    }
+    let body = CommandBody::parse(rest).ok_or(Sw::WRONG_LENGTH)?;
+    if body.expected.is_some() {
+        return Err(Sw::WRONG_LENGTH);
+    }
+    let values = Replacement::of(body.sent).ok_or(Sw::WRONG_LENGTH)?;
+    Ok(Command::ChangeReferenceData { pin: p2, values })
+}
+
+/// Reads P1, P2 and what follows the header of RESET RETRY COUNTER (ISO/IEC 7816-4, 11.5.10). P1 and P2 that name no PIN are
+/// 6A86, other lengths than 0 and 16 are 6700, and so is Le.
+pub(crate) fn parse_reset_retry_counter<'a>(
+    p1: u8,
+    p2: u8,
+    rest: &'a [u8],
+) -> Result<Command<'a>, Sw>
+    ensures asked { Gives result (asked_by_row (Some reset_retry_counter_row) p1 p2 rest.now) }
+    ensures ranges { IfOk result IsInRange }
+{
+    if !names_pin(p1, p2) {
+        return Err(Sw::WRONG_PARAMETERS);
+    }
+    let body = CommandBody::parse(rest).ok_or(Sw::WRONG_LENGTH)?;
+    if body.expected.is_some() {
+        return Err(Sw::WRONG_LENGTH);
+    }
+    if body.sent.is_empty() {
+        return Ok(Command::ResetRetryCounter {
+            pin: p2,
+            values: None,
+        });
+    }
+    let values = Replacement::of(body.sent).ok_or(Sw::WRONG_LENGTH)?;
+    Ok(Command::ResetRetryCounter {
+        pin: p2,
+        values: Some(values),
+    })
+}
