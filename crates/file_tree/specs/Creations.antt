@@ -1,13 +1,12 @@
 -- What creating a file answers, and makes of the tree.
-use Rattle.std.specs.Prelude.{◌≡◌, ◌⊎◌, ℕ, List, [], ◌∷◌, ◌++◌, Option, None, Some}
+use Rattle.std.specs.Prelude.{◌≡◌, ℕ, List, [], ◌∷◌, ◌++◌, None, Some}
 use Rattle.fcp_template.specs.declared.fcp.Fcp.{Fcp}
 use Rattle.file_tree.specs.declared.creating.Creation.{Creation}
 use Rattle.file_tree.specs.declared.creating.Creation.TheVariants.{Created, Refused}
-use Rattle.file_tree.specs.declared.space.FreeSpace.{FreeSpace}
 use Rattle.file_tree.specs.Spaces.{free_space}
 use Rattle.file_tree.specs.Table.{table, path_of, IsUsed}
 use Rattle.file_tree.specs.Trees.{tree_of}
-use Rattle.file_tree.specs.Changes.{SameTree, Creates, with_freed}
+use Rattle.file_tree.specs.Changes.{Creates, with_freed}
 use Rattle.file_tree.specs.NewFiles.{new_file, short_of_new, creation_refusal}
 
 -- A file more stands in a dedicated file, new as its file control parameters tell.

@@ -3,6 +3,7 @@
 pub mod Cards
 pub mod Reaching
 pub mod Spaces
+pub mod States
 pub mod Entries
 pub mod Table
 pub mod Trees

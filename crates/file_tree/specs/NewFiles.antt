@@ -1,9 +1,7 @@
 -- The file that file control parameters tell, when it is new, and when it is refused (ISO/IEC 7816-9, CREATE FILE).
-use Rattle.std.specs.Prelude.{◌≡◌, ◌==◌, ◌≤◌, ◌<◌, ◌&&◌, ◌||◌, ◌/◌, ◌%◌, ◌+◌, ℕ, Bool, false, nat_le, nat_lt, nat_eq, if◌then◌else◌}
-use Rattle.std.specs.Prelude.{List, [], ◌∷◌, ◌++◌, length, replicate, find, Option, None, Some, is_some, is_none, option_map}
-use Rattle.std.specs.Ordering.{nat_cmp, eq_by_cmp}
-use Rattle.std.specs.Cmp.Lexicographic.{slice_cmp}
-use Rattle.std.specs.FinMap.{insert, entries}
+use Rattle.std.specs.Prelude.{◌==◌, ◌&&◌, ◌||◌, ◌/◌, ◌%◌, ℕ, Bool, false, nat_le, nat_lt, if◌then◌else◌}
+use Rattle.std.specs.Prelude.{List, [], ◌∷◌, ◌++◌, length, replicate, find, Option, None, Some, is_some, is_none}
+use Rattle.std.specs.FinMap.{entries}
 use Rattle.card_rules.specs.declared.status.Sw.{Sw}
 use Rattle.card_rules.specs.declared.status.TheConstants.Sw.{FILE_EXISTS, NAME_EXISTS, WRONG_DATA, NO_ROOM}
 use Rattle.card_rules.specs.declared.status.TheConstants.Sw.{CONDITIONS_NOT_SATISFIED}
@@ -14,7 +12,6 @@ use Rattle.fcp_template.specs.declared.fcp.Records.{Records}
 use Rattle.fcp_template.specs.declared.fcp.ShortIdentifier.{ShortIdentifier}
 use Rattle.fcp_template.specs.declared.fcp.ShortIdentifier.TheVariants.{Absent, Empty, Given}
 use Rattle.fcp_template.specs.Views.{short_of_kind, size_of_kind, name_bytes}
-use Rattle.file_tree.specs.declared.space.FreeSpace.{FreeSpace}
 use Rattle.file_tree.specs.Cards.{transparent, linear, cyclic, dedicated, elementary, Kind, File, Path, Tree, exists}
 use Rattle.file_tree.specs.Reaching.{is_named, child_by_short}
 use Rattle.file_tree.specs.Spaces.{blocks_for, free_space}

@@ -6,7 +6,7 @@ use Rattle.std.specs.Option.{option_map_or}
 use Rattle.std.specs.Ordering.{nat_cmp, eq_by_cmp}
 use Rattle.std.specs.Cmp.Lexicographic.{slice_cmp}
 use Rattle.std.specs.FinMap.{entries}
-use Rattle.file_tree.specs.Cards.{Path, Tree, File, Kind, dedicated, elementary, Body, master_file, parent, identifier}
+use Rattle.file_tree.specs.Cards.{Path, Tree, File, Kind, dedicated, elementary, master_file, parent, identifier}
 use Rattle.file_tree.specs.Cards.{exists, file_at, is_dedicated, short_of}
 
 -- a path that a name may lead to, and whether it does

@@ -27,3 +27,5 @@ pub mod Places
 pub mod Created
 pub mod Made
 pub mod Selecting
+pub mod Barring
+pub mod Living

@@ -99,7 +99,7 @@ fn blocks_in(extents: &[Extent]) -> u16
 }
 
 /// One set of a transaction.
-fn put<B: Board>(txn: &mut Txn<'_, B>, at: u16, word: u32) -> Result<(), StoreErr>
+pub(crate) fn put<B: Board>(txn: &mut Txn<'_, B>, at: u16, word: u32) -> Result<(), StoreErr>
     requires ready { IsOpen (memory_of txn.old) }
     requires room { 0 < room (memory_of txn.old) }
     requires place { IsDataAddress (current (memory_of txn.old)) at }

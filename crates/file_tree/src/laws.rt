@@ -6,6 +6,7 @@ ghost use Rattle.nvm_board.specs.declared.board.TheConstants.{WORDS};
 ghost use Rattle.block_chain.specs.Chains.{free_chain};
 ghost use Rattle.file_tree.specs.declared.layout.TheConstants.{FIRST_ENTRY_PAGE, ENTRIES, DEEPEST, MASTER_FILE};
 ghost use Rattle.file_tree.specs.declared.layout.TheConstants.{MOST_FILE_BLOCKS, CREATE_WRITES, DELETE_WRITES};
+ghost use Rattle.file_tree.specs.declared.layout.TheConstants.{STATE_WORD, CARD_TERMINATED};
 ghost use Rattle.file_tree.specs.Cards.{Path, IsTree, master_file, exists, file_at, is_dedicated};
 ghost use Rattle.file_tree.specs.Reaching.{IsReserved};
 ghost use Rattle.file_tree.specs.Spaces.{free_space};
@@ -16,12 +17,14 @@ ghost use Rattle.file_tree.specs.laws.Nodes.{file_in};
 
 /// Entry 0 is on page 1, there are 64 entries, no file is more than seven steps below the master file, and this has the
 /// identifier 3F00. The largest file has 547 blocks; a creation makes at most 587 device writes, a deletion 388.
+/// Word 2 of the header is 1 where the card is terminated.
 pub fn layout()
     ensures first { FIRST_ENTRY_PAGE ≡ 1 }
     ensures entries { ENTRIES ≡ 64 }
     ensures deepest { DEEPEST ≡ 7 }
     ensures master { (MASTER_FILE ≡ 0x3F00) × (master_file ≡ 0x3F00) }
     ensures writes { (MOST_FILE_BLOCKS ≡ 547) × (CREATE_WRITES ≡ 587) × (DELETE_WRITES ≡ 388) }
+    ensures state { (STATE_WORD ≡ 2) × (CARD_TERMINATED ≡ 1) }
 {}
 
 /// The tree has each used entry's file at its path.

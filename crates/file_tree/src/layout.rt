@@ -22,3 +22,9 @@ pub(crate) const MOST_FILE_BLOCKS: u16 = 547;
 /// The most device writes of a creation: one for each block that is filled, three for each word of the entry, for the last
 /// block's link and for the header's word of free blocks, and one for the commit.
 pub(crate) const CREATE_WRITES: u16 = MOST_FILE_BLOCKS + 3 * (11 + 2) + 1;
+
+/// The header's word that holds the state of the card: 0 in use, 1 terminated.
+pub const STATE_WORD: u16 = 2;
+
+/// The state of a card whose use has ended.
+pub const CARD_TERMINATED: u32 = 1;

@@ -59,7 +59,7 @@ fn four_bytes(first: u8, second: u8, third: u8, fourth: u8) -> u32
 }
 
 /// Two bytes, and behind them two more.
-fn two_bytes(first: u8, second: u8, low: u16) -> u32
+pub(crate) fn two_bytes(first: u8, second: u8, low: u16) -> u32
     ensures { result ≡ 16777216 * first + 65536 * second + low }
 {
     0x100_0000 * u32::from(first) + 0x1_0000 * u32::from(second) + u32::from(low)

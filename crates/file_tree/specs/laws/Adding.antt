@@ -1,15 +1,14 @@
 -- What an entry more, of a new file in a dedicated file, makes of the table.
-use Rattle.std.specs.Prelude.{◌≡◌, ◌≢◌, ◌==◌, ◌⊎◌, ◌<◌, ◌≤◌, ◌+◌, ℕ, zero, suc, Bool, if◌then◌else◌, List, [], ◌∷◌, ◌++◌}
-use Rattle.std.specs.Prelude.{length, slice_index_or, All}
-use Rattle.std.proofs.Common.{refl, sym, ◌∙◌, ap, ap₂, subst, arith, inl, inr, ⊎_elim}
-use Rattle.std.proofs.lemmas.Bool.{cases_lt}
+use Rattle.std.specs.Prelude.{◌≡◌, ◌≢◌, ◌==◌, ◌<◌, ℕ, zero, suc, if◌then◌else◌, List, [], ◌∷◌, ◌++◌}
+use Rattle.std.specs.Prelude.{length}
+use Rattle.std.proofs.Common.{refl, sym, ◌∙◌, ap, subst, arith, inl, inr}
 use Rattle.std.proofs.lemmas.Bool.Decides.{eqb_tells}
 use Rattle.file_tree.specs.declared.entry.Entry.{Entry}
 use Rattle.file_tree.specs.Cards.{Path, master_file}
 use Rattle.file_tree.specs.Entries.{free_entry, name_of}
 use Rattle.file_tree.specs.Table.{entry_in, ancestor, path_in, path_of, IsUsed, IsChild}
 use Rattle.file_tree.specs.Table.{IsEntry, IsFileEntry, IsMasterFile, IsTable}
-use Rattle.file_tree.specs.laws.Tables.{entry_within, entry_past}
+use Rattle.file_tree.specs.laws.Tables.{entry_within}
 use Rattle.file_tree.specs.laws.Levels.{ancestor-step}
 use Rattle.file_tree.specs.laws.Paths.{parent_used, path_of-child}
 

@@ -1,9 +1,8 @@
 -- Where nothing refuses a new file, its entry may stand in the table.
-use Rattle.std.specs.Prelude.{◌≡◌, ◌≢◌, ◌==◌, ◌⊎◌, ◌<◌, ◌≤◌, ◌+◌, ◌%◌, ◌&&◌, ◌||◌, ℕ, zero, suc, Bool, true, false, if◌then◌else◌}
-use Rattle.std.specs.Prelude.{List, [], ◌∷◌, ◌++◌, length, take, nat_le, nat_lt, Option, None, Some, is_some, is_none, option_map, unwrap_or}
-use Rattle.std.proofs.Common.{refl, sym, ◌∙◌, ap, ap₂, subst, arith, inl, inr, ⊎_elim, true≢false}
+use Rattle.std.specs.Prelude.{◌≡◌, ◌≢◌, ◌<◌, ◌≤◌, ◌&&◌, ℕ, Bool, true, false, if◌then◌else◌}
+use Rattle.std.specs.Prelude.{List, [], ◌∷◌, ◌++◌, length, take, nat_le, Option, None, Some, is_some, is_none, unwrap_or}
+use Rattle.std.proofs.Common.{refl, sym, ◌∙◌, ap, arith, inl, inr, true≢false}
 use Rattle.std.proofs.lemmas.Bool.Decides.{eqb_tells, leb_tells}
-use Rattle.std.proofs.lemmas.List.{length-take-le}
 use Rattle.card_rules.specs.declared.status.Sw.{Sw}
 use Rattle.card_rules.specs.declared.status.TheConstants.Sw.{FILE_EXISTS, NAME_EXISTS, WRONG_DATA}
 use Rattle.fcp_template.specs.declared.fcp.Fcp.{Fcp}
@@ -11,21 +10,20 @@ use Rattle.fcp_template.specs.declared.fcp.FileKind.{FileKind}
 use Rattle.fcp_template.specs.declared.fcp.FileKind.TheVariants as kinds
 use Rattle.fcp_template.specs.declared.fcp.ShortIdentifier.{ShortIdentifier}
 use Rattle.fcp_template.specs.declared.fcp.ShortIdentifier.TheVariants.{Absent, Empty, Given}
-use Rattle.fcp_template.specs.Ranges.{IsShort, IsKind, IsInRange, IsCreatable}
+use Rattle.fcp_template.specs.Ranges.{IsShort, IsKind, IsCreatable}
 use Rattle.fcp_template.specs.Views.{name_bytes, short_of_kind}
 use Rattle.block_chain.specs.declared.chain.Chain.{Chain}
-use Rattle.file_tree.specs.declared.entry.Entry.{Entry}
-use Rattle.file_tree.specs.Cards.{Path, Tree, exists, master_file}
+use Rattle.file_tree.specs.Cards.{Path, Tree, exists}
 use Rattle.file_tree.specs.Entries.{free_entry, name_of}
 use Rattle.file_tree.specs.Reaching.{child_by_short}
-use Rattle.file_tree.specs.Table.{table, entry_in, ancestor, path_of, IsUsed, IsChild, IsTable}
+use Rattle.file_tree.specs.Table.{table, entry_in, ancestor, path_of, IsUsed, IsTable}
 use Rattle.file_tree.specs.Trees.{tree_of}
 use Rattle.file_tree.specs.NewFiles.{short_for, short_of_new, low_bits, has_name, has_short_given, taken_refusal}
 use Rattle.file_tree.specs.laws.Tables.{length-table}
 use Rattle.file_tree.specs.laws.Nodes.{used_small}
 use Rattle.file_tree.specs.laws.Shorts.{short_named}
 use Rattle.file_tree.specs.laws.Adding.{MayStand}
-use Rattle.file_tree.specs.laws.NewEntries.{entry_for, kind_number, padded, take_padded, short_option, new_entry}
+use Rattle.file_tree.specs.laws.NewEntries.{entry_for, kind_number, take_padded, short_option, new_entry}
 use Rattle.file_tree.specs.laws.Refusing.{BearsName, child_told, name_told}
 
 -- nothing is taken: each test failed

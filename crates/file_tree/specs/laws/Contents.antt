@@ -1,15 +1,14 @@
 -- The blocks and the bytes of entries: those of two entries are apart.
-use Rattle.std.specs.Prelude.{◌≡◌, ◌<◌, ◌≤◌, ◌+◌, ℕ, zero, suc, List, [], ◌∷◌, ◌++◌, length, Option, None, Some, is_some}
-use Rattle.std.specs.Prelude.{unwrap_or}
+use Rattle.std.specs.Prelude.{◌≡◌, ◌<◌, ◌≤◌, ◌+◌, ℕ, zero, suc, List, [], ◌∷◌, length, Option, None, Some}
 use Rattle.std.specs.List.{cons_option}
 use Rattle.std.specs.Option.{option_map_or}
-use Rattle.std.proofs.Common.{refl, sym, ◌∙◌, ap, arith, true≢false}
+use Rattle.std.proofs.Common.{◌∙◌, ap, arith}
 use Rattle.block_chain.specs.declared.chain.Extent.{Extent}
 use Rattle.block_chain.specs.Counts.{count}
 use Rattle.block_chain.specs.Chains.{bytes_of}
 use Rattle.block_chain.specs.Layout.{blocks_of, laid_out}
 use Rattle.block_chain.specs.laws.Counts.{count-append, count-nil}
-use Rattle.block_chain.specs.laws.Laying.{laid_out-nil, laid_out-cons}
+use Rattle.block_chain.specs.laws.Laying.{laid_out-cons}
 use Rattle.file_tree.specs.declared.entry.Entry.{Entry}
 use Rattle.file_tree.specs.Entries.{extent_of, extent_told}
 use Rattle.file_tree.specs.Table.{entry_in, extents}

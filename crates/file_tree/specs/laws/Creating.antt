@@ -1,13 +1,12 @@
 -- What an entry more makes of the tree, once its blocks are laid out: one file more, and all others stay.
-use Rattle.std.specs.Prelude.{◌≡◌, ◌≢◌, ◌⊎◌, ◌<◌, ◌≤◌, ◌+◌, ◌-◌, ℕ, zero, suc, List, [], ◌∷◌, ◌++◌, map, length, take, drop, slice_index, slice_index_or}
+use Rattle.std.specs.Prelude.{◌≡◌, ◌≢◌, ◌⊎◌, ◌<◌, ◌≤◌, ◌+◌, ◌-◌, ℕ, zero, suc, List, [], ◌∷◌, ◌++◌, map, length, take, drop}
 use Rattle.std.specs.Prelude.{Option, None, Some, All, Bool, ◌==◌, if◌then◌else◌}
 use Rattle.std.specs.List.{range_with_len, cons_option}
 use Rattle.std.specs.FinMap.{insert}
-use Rattle.std.proofs.Common.{refl, sym, ◌∙◌, ap, ap₂, subst, arith, inl, inr, ⊎_elim, append-nil}
+use Rattle.std.proofs.Common.{refl, sym, ◌∙◌, ap, subst, arith, inl, inr, ⊎_elim}
 use Rattle.std.proofs.lemmas.Bool.{cases_lt}
 use Rattle.std.proofs.lemmas.Bool.Decides.{eqb_tells}
 use Rattle.std.proofs.lemmas.List.Elements.{filter_map-append}
-use Rattle.nvm_board.specs.Facts.{address}
 use Rattle.nvm_board.specs.declared.board.TheConstants.{WORDS, PAGE_WORDS}
 use Rattle.block_chain.specs.declared.layout.TheConstants.{HEADER_PAGE, FREE_HEAD_WORD}
 use Rattle.block_chain.specs.declared.chain.Extent.{Extent}
@@ -20,13 +19,11 @@ use Rattle.block_chain.specs.laws.Footprints.{page_words_same, not_among, laid_e
 use Rattle.block_chain.specs.laws.Bytes.{leads_blocks}
 use Rattle.block_chain.specs.laws.Relaying.{laid_taken, taken_bytes}
 use Rattle.file_tree.specs.declared.entry.Entry.{Entry}
-use Rattle.file_tree.specs.declared.layout.TheConstants.{FIRST_ENTRY_PAGE, ENTRIES}
-use Rattle.file_tree.specs.Cards.{Path, File, Tree, master_file}
-use Rattle.file_tree.specs.Entries.{free_entry, entry_of, file_of, extent_of, extent_told}
+use Rattle.file_tree.specs.Entries.{entry_of, file_of, extent_of, extent_told}
 use Rattle.file_tree.specs.Spaces.{blocks_for}
 use Rattle.file_tree.specs.Table.{table, entry_in, path_of, extents, free_entries, IsUsed, IsTable}
 use Rattle.file_tree.specs.Trees.{content, tree_of, TreeStands}
-use Rattle.file_tree.specs.Changes.{IsEntryPage, KeepsRest, Creates}
+use Rattle.file_tree.specs.Changes.{Creates}
 use Rattle.file_tree.specs.laws.Tables.{length-table, entry_in-table, entry_past, mapped-same}
 use Rattle.file_tree.specs.laws.Nodes.{file_in, used_small}
 use Rattle.file_tree.specs.laws.Costs.{extent_of-none, extent_of-some, all_extents}

@@ -1,11 +1,9 @@
 -- What freeing the entries of a file and of all below it, and giving their blocks back, makes of the tree.
 use Rattle.std.specs.Prelude.{◌≡◌, ◌≢◌, ◌==◌, ◌⊎◌, ◌<◌, ◌≤◌, ◌+◌, ◌-◌, ◌&&◌, ℕ, zero, suc, Bool, true, false, not, cond}
-use Rattle.std.specs.Prelude.{if◌then◌else◌, List, [], ◌∷◌, ◌++◌, map, length, slice_index, slice_index_or, slice_set, nat_eq, Option, None, Some, is_some, All}
+use Rattle.std.specs.Prelude.{if◌then◌else◌, List, [], ◌∷◌, ◌++◌, map, length, slice_set, nat_eq, Option, None, Some, is_some, All}
 use Rattle.std.specs.List.{range_with_len, starts_with, sum_by}
-use Rattle.std.specs.Ordering.{nat_cmp}
-use Rattle.std.specs.Cmp.Lexicographic.{slice_cmp}
 use Rattle.std.specs.FinMap.{get, retain_keys, get-retain_keys, slice_cmp-IsAntisymmetric, nat_cmp-IsAntisymmetric}
-use Rattle.std.proofs.Common.{refl, sym, ◌∙◌, ap, ap₂, subst, arith, inl, inr, ⊎_elim, true≢false, Ordering, Equal}
+use Rattle.std.proofs.Common.{refl, sym, ◌∙◌, ap, subst, arith, inl, inr, ⊎_elim, true≢false}
 use Rattle.std.proofs.lemmas.Bool.{cases_lt}
 use Rattle.std.proofs.lemmas.Bool.Decides.{eqb_tells}
 use Rattle.std.proofs.lemmas.List.{length-append}
@@ -15,7 +13,7 @@ use Rattle.nvm_board.specs.declared.board.TheConstants.{WORDS, PAGE_WORDS}
 use Rattle.block_chain.specs.declared.layout.TheConstants.{HEADER_PAGE, FREE_HEAD_WORD}
 use Rattle.block_chain.specs.declared.chain.Chain.{Chain}
 use Rattle.block_chain.specs.declared.chain.Extent.{Extent}
-use Rattle.block_chain.specs.Counts.{count, IsNotIn}
+use Rattle.block_chain.specs.Counts.{count}
 use Rattle.block_chain.specs.Words.{word, page_words, IsBlock}
 use Rattle.block_chain.specs.Chains.{bytes_of, free_chain, laid, HasFree, AreApart}
 use Rattle.block_chain.specs.Changes.{GivesBack, KeepsBlocks}
@@ -28,17 +26,17 @@ use Rattle.block_chain.specs.laws.Relaying.{given_free, given_bytes, given_laid}
 use Rattle.file_tree.specs.declared.entry.Entry.{Entry}
 use Rattle.file_tree.specs.declared.space.FreeSpace.{FreeSpace}
 use Rattle.file_tree.specs.declared.layout.TheConstants.{FIRST_ENTRY_PAGE, ENTRIES}
-use Rattle.file_tree.specs.Cards.{Path, File, Tree}
+use Rattle.file_tree.specs.Cards.{Path, File}
 use Rattle.file_tree.specs.Spaces.{free_space}
-use Rattle.file_tree.specs.Entries.{free_entry, entry_of, file_of, name_of, extent_of, extent_told}
+use Rattle.file_tree.specs.Entries.{free_entry, entry_of, file_of, name_of, extent_told}
 use Rattle.file_tree.specs.Table.{table, entry_in, ancestor, path_in, path_of, extents, free_entries, IsUsed, IsChild}
-use Rattle.file_tree.specs.Table.{IsEntry, IsFileEntry, IsBelowMaster, IsMasterFile, IsTable}
+use Rattle.file_tree.specs.Table.{IsEntry, IsMasterFile, IsTable}
 use Rattle.file_tree.specs.Trees.{content, tree_of, TreeStands}
-use Rattle.file_tree.specs.Changes.{IsEntryPage, KeepsRest, Deletes, with_freed}
-use Rattle.file_tree.specs.laws.Tables.{length-table, entry_in-table, entry_of-free, entry_past, entry_within, index-mapped, mapped-same, table-same}
-use Rattle.file_tree.specs.laws.Paths.{path-zero, path-below, parent_used, reaches_master}
+use Rattle.file_tree.specs.Changes.{KeepsRest, Deletes, with_freed}
+use Rattle.file_tree.specs.laws.Tables.{length-table, entry_in-table, entry_of-free, entry_past, entry_within, index-mapped, table-same}
+use Rattle.file_tree.specs.laws.Paths.{parent_used}
 use Rattle.file_tree.specs.laws.Nodes.{file_in, used_small, get-used, entry_found}
-use Rattle.file_tree.specs.laws.Costs.{space_counted, laid_blocks, all_extents, extent_of-none, extent_of-some}
+use Rattle.file_tree.specs.laws.Costs.{space_counted, laid_blocks, all_extents, extent_of-some}
 use Rattle.file_tree.specs.laws.Contents.{content-none, content-some}
 use Rattle.file_tree.specs.laws.Changing.{HasEntry, same_tree}
 use Rattle.file_tree.specs.laws.Subtrees.{leads_up, within_path, parent_out, master_out}

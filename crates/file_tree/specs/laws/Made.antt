@@ -1,7 +1,7 @@
 -- What a creation makes of the tree, from its steps.
-use Rattle.std.specs.Prelude.{◌≡◌, ◌≢◌, ◌⊎◌, ◌<◌, ◌≤◌, ◌+◌, ◌*◌, ℕ, List, [], ◌∷◌, ◌++◌, length, take, drop, replicate, Option, None, Some}
+use Rattle.std.specs.Prelude.{◌≡◌, ◌≤◌, ◌+◌, ◌*◌, ℕ, List, [], ◌∷◌, ◌++◌, length, take, replicate, Option, None}
 use Rattle.std.specs.FinMap.{insert}
-use Rattle.std.proofs.Common.{refl, sym, ◌∙◌, ap, ap₂, subst, arith, inl, inr, ⊎_elim}
+use Rattle.std.proofs.Common.{refl, sym, ◌∙◌, ap, subst, arith, ⊎_elim}
 use Rattle.std.proofs.lemmas.List.{length-drop}
 use Rattle.nvm_board.specs.declared.board.TheConstants.{WORDS}
 use Rattle.card_rules.specs.declared.status.Sw.{Sw}
@@ -11,16 +11,15 @@ use Rattle.fcp_template.specs.Views.{size_of_kind}
 use Rattle.block_chain.specs.declared.layout.TheConstants.{BLOCK_BYTES}
 use Rattle.block_chain.specs.declared.chain.Chain.{Chain}
 use Rattle.block_chain.specs.Chains.{free_chain, bytes_of}
-use Rattle.block_chain.specs.Changes.{Takes}
 use Rattle.file_tree.specs.declared.entry.Entry.{Entry}
 use Rattle.file_tree.specs.declared.space.FreeSpace.{FreeSpace}
-use Rattle.file_tree.specs.Cards.{Path, File, Tree}
-use Rattle.file_tree.specs.Spaces.{blocks_for, free_space}
-use Rattle.file_tree.specs.Entries.{file_of, extent_told}
+use Rattle.file_tree.specs.Cards.{File}
+use Rattle.file_tree.specs.Spaces.{blocks_for}
+use Rattle.file_tree.specs.Entries.{file_of}
 use Rattle.file_tree.specs.Table.{table, entry_in, path_of, free_entries, IsUsed}
 use Rattle.file_tree.specs.Trees.{tree_of, TreeStands}
-use Rattle.file_tree.specs.Changes.{SameTree, KeepsRest, Creates, with_freed}
-use Rattle.file_tree.specs.NewFiles.{blank, new_file, short_of_new, first_reason, taken_refusal, place_refusal, creation_refusal}
+use Rattle.file_tree.specs.Changes.{SameTree, Creates, with_freed}
+use Rattle.file_tree.specs.NewFiles.{blank, new_file, short_of_new, first_reason, taken_refusal, place_refusal}
 use Rattle.file_tree.specs.Creations.{CreatesNew, IsCreated}
 use Rattle.file_tree.specs.laws.Costs.{space_counted}
 use Rattle.file_tree.specs.laws.Rewriting.{filled}
@@ -30,7 +29,7 @@ use Rattle.file_tree.specs.laws.EntryWords.{WritesEntry}
 use Rattle.file_tree.specs.laws.Creating.{df_created, df_path, df_free, df_entries, ef_created, ef_path, ef_free, ef_entries}
 use Rattle.file_tree.specs.laws.Allowed.{none_taken, may_stand}
 use Rattle.file_tree.specs.laws.Places.{IsPlace}
-use Rattle.file_tree.specs.laws.Created.{with_chain, TakesAndWrites, AddsFile, FillsAndAdds}
+use Rattle.file_tree.specs.laws.Created.{TakesAndWrites, FillsAndAdds}
 
 -- after a change that the tree does not see
 creates_after : (m mid after : List ℕ) (df identifier : ℕ) (file : File) → SameTree m mid → Creates mid df identifier file after

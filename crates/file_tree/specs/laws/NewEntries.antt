@@ -1,12 +1,12 @@
 -- The entry of a new file: that it is a file's entry, its words, and that its file is new.
-use Rattle.std.specs.Prelude.{◌≡◌, ◌≢◌, ◌==◌, ◌⊎◌, ◌<◌, ◌≤◌, ◌+◌, ◌-◌, ◌*◌, ◌/◌, ◌%◌, ℕ, zero, suc, Bool, true, false, if◌then◌else◌}
-use Rattle.std.specs.Prelude.{List, [], ◌∷◌, ◌++◌, length, map, take, drop, replicate, slice_index, slice_range, Option, None, Some, unwrap_or}
-use Rattle.std.specs.Prelude.{All, IsTrue, IsSome}
+use Rattle.std.specs.Prelude.{◌≡◌, ◌==◌, ◌⊎◌, ◌<◌, ◌≤◌, ◌+◌, ◌-◌, ◌*◌, ◌%◌, ℕ, zero, suc, Bool, true, if◌then◌else◌}
+use Rattle.std.specs.Prelude.{List, ◌∷◌, ◌++◌, length, map, take, drop, replicate, Option, None, Some, unwrap_or}
+use Rattle.std.specs.Prelude.{IsTrue, IsSome}
 use Rattle.std.specs.List.{range_with_len}
 use Rattle.std.proofs.Common.{refl, sym, ◌∙◌, ap, ap₂, subst, arith, inl, inr, ⊎_elim}
-use Rattle.std.proofs.lemmas.List.{take-replicate, drop-replicate, length-append, length-replicate, take-append-le}
+use Rattle.std.proofs.lemmas.List.{take-replicate, drop-replicate}
 use Rattle.std.proofs.lemmas.Bool.Decides.{eqb_tells}
-use Rattle.std.proofs.Math.Seq.{take-append_seam, take-length}
+use Rattle.std.proofs.Math.Seq.{take-append_seam}
 use Rattle.std.proofs.Math.Nat.{div-mul-le_self, div-add-mod, mod-eq_of_lt, mul_comm}
 use Rattle.card_rules.specs.LifeCycle.{life_cycle_at, life_cycle_byte}
 use Rattle.card_rules.specs.Rule.{is_rule}
@@ -18,17 +18,15 @@ use Rattle.fcp_template.specs.declared.fcp.FileKind.{FileKind}
 use Rattle.fcp_template.specs.declared.fcp.FileKind.TheVariants as kinds
 use Rattle.fcp_template.specs.declared.fcp.Records.{Records}
 use Rattle.fcp_template.specs.declared.fcp.ShortIdentifier.{ShortIdentifier}
-use Rattle.fcp_template.specs.Ranges.{IsSize, IsRecords, IsKind, IsInRange, IsCreatable}
+use Rattle.fcp_template.specs.Ranges.{IsRecords, IsKind, IsCreatable}
 use Rattle.fcp_template.specs.Views.{size_of_kind, name_bytes}
 use Rattle.block_chain.specs.declared.chain.Chain.{Chain}
-use Rattle.block_chain.specs.Words.{word_bytes}
 use Rattle.file_tree.specs.declared.entry.Entry.{Entry}
-use Rattle.file_tree.specs.Cards.{transparent, linear, cyclic, dedicated, elementary, Kind, File, master_file}
-use Rattle.file_tree.specs.Entries.{entry_told, file_of, kind_of, body_of, slot, linear_records, cyclic_records, capacity_of, rule_of, name_of}
+use Rattle.file_tree.specs.Cards.{transparent, linear, cyclic, dedicated, elementary}
+use Rattle.file_tree.specs.Entries.{file_of, slot, linear_records, cyclic_records, capacity_of}
 use Rattle.file_tree.specs.Spaces.{blocks_for}
-use Rattle.file_tree.specs.Table.{IsFileEntry, IsTransparentBody, IsRecordBody, HasBody, HasRule, HasName, HasShort}
-use Rattle.file_tree.specs.NewFiles.{blank, new_file, new_kind, new_records, capacity}
-use Rattle.file_tree.specs.laws.Rewriting.{file_of-transparent}
+use Rattle.file_tree.specs.Table.{IsFileEntry, IsRecordBody, HasBody, HasName}
+use Rattle.file_tree.specs.NewFiles.{blank, new_file, capacity}
 
 -- so many bytes, with zeros behind those that are there
 abbrev pub padded : ℕ → List ℕ → List ℕ

@@ -1,8 +1,8 @@
 -- A table in two parts: the entries of a file and of all below it go, the others stay. In each part a free entry stands
 -- where the other part has one.
-use Rattle.std.specs.Prelude.{◌≡◌, ◌≢◌, ◌==◌, ◌⊎◌, ◌<◌, ◌≤◌, ◌+◌, ◌-◌, ◌*◌, ◌/◌, ◌&&◌, ℕ, zero, suc, Bool, true, false, not, cond}
+use Rattle.std.specs.Prelude.{◌≡◌, ◌≢◌, ◌==◌, ◌⊎◌, ◌<◌, ◌≤◌, ◌+◌, ◌-◌, ◌*◌, ◌&&◌, ℕ, zero, suc, Bool, true, false, not, cond}
 use Rattle.std.specs.Prelude.{if◌then◌else◌, List, [], ◌∷◌, map, length, slice_index_or, Option, None, Some, All}
-use Rattle.std.specs.List.{range_with_len, cons_option, count_by, sum_by}
+use Rattle.std.specs.List.{range_with_len, cons_option, sum_by}
 use Rattle.std.proofs.Common.{refl, sym, ◌∙◌, ap, ap₂, subst, arith, inl, inr, ⊎_elim}
 use Rattle.std.proofs.lemmas.List.Sums.{sum_by-append}
 use Rattle.std.proofs.lemmas.Bool.{cases_lt}
@@ -13,7 +13,7 @@ use Rattle.block_chain.specs.laws.Extents.{split_none, split_given, split_kept}
 use Rattle.file_tree.specs.declared.entry.Entry.{Entry}
 use Rattle.file_tree.specs.Spaces.{blocks_for}
 use Rattle.file_tree.specs.Entries.{free_entry, extent_of, extent_told, capacity_of}
-use Rattle.file_tree.specs.Table.{entry_in, extents, free_entries, IsEntry, IsFileEntry}
+use Rattle.file_tree.specs.Table.{entry_in, extents, free_entries, IsEntry}
 use Rattle.file_tree.specs.laws.Costs.{extent_of-none, extent_of-some}
 use Rattle.file_tree.specs.laws.Subtrees.{leads_up}
 

@@ -1,11 +1,10 @@
 -- Whether there is a place for a new file, and which.
 use Rattle.std.specs.Prelude.{◌≡◌, ◌≢◌, ◌==◌, ◌<◌, ◌≤◌, ◌||◌, ℕ, Bool, true, false, if◌then◌else◌, nat_lt}
-use Rattle.std.specs.Prelude.{List, length, Option, None, Some}
-use Rattle.std.proofs.Common.{refl, sym, ◌∙◌, ap, ap₂, arith, inl, inr, true≢false}
+use Rattle.std.specs.Prelude.{List, length, None, Some}
+use Rattle.std.proofs.Common.{refl, sym, ◌∙◌, ap, arith, inl, inr, true≢false}
 use Rattle.std.proofs.lemmas.Bool.Decides.{eqb_tells}
 use Rattle.std.proofs.lemmas.Bool.{lt-ltb, le-ltb}
 use Rattle.nvm_board.specs.declared.board.TheConstants.{WORDS}
-use Rattle.card_rules.specs.declared.status.Sw.{Sw}
 use Rattle.card_rules.specs.declared.status.TheConstants.Sw.{NO_ROOM, CONDITIONS_NOT_SATISFIED}
 use Rattle.fcp_template.specs.declared.fcp.FileKind.{FileKind}
 use Rattle.fcp_template.specs.Views.{size_of_kind}
@@ -17,7 +16,7 @@ use Rattle.file_tree.specs.Cards.{Path, Tree}
 use Rattle.file_tree.specs.Spaces.{blocks_for, free_space}
 use Rattle.file_tree.specs.Table.{table, entry_in, ancestor, path_of, free_entries, IsUsed}
 use Rattle.file_tree.specs.Trees.{tree_of, TreeStands}
-use Rattle.file_tree.specs.NewFiles.{place_refusal, has_no_room}
+use Rattle.file_tree.specs.NewFiles.{place_refusal}
 use Rattle.file_tree.specs.laws.Tables.{length-table}
 use Rattle.file_tree.specs.laws.Costs.{space_counted}
 use Rattle.file_tree.specs.laws.Parting.{none_free, some_free}

@@ -1,28 +1,25 @@
 -- What look-ups before a new file tell of the tree: whether it is refused.
-use Rattle.std.specs.Prelude.{◌≡◌, ◌≢◌, ◌==◌, ◌⊎◌, ◌<◌, ◌≤◌, ◌+◌, ◌&&◌, ℕ, zero, suc, Bool, true, false, cond, if◌then◌else◌}
-use Rattle.std.specs.Prelude.{List, [], ◌∷◌, ◌++◌, length, slice_index, Option, None, Some, is_some, option_map, unwrap_or}
+use Rattle.std.specs.Prelude.{◌≡◌, ◌≢◌, ◌==◌, ◌<◌, ◌≤◌, ◌+◌, ◌&&◌, ℕ, zero, suc, Bool, true, false, if◌then◌else◌}
+use Rattle.std.specs.Prelude.{List, [], ◌∷◌, ◌++◌, length, slice_index, Option, None, Some, is_some, option_map}
 use Rattle.std.specs.List.{find, range_with_len, filter_map}
-use Rattle.std.specs.Ordering.{nat_cmp}
-use Rattle.std.specs.Cmp.Lexicographic.{slice_cmp, nat_list_cmp_total}
 use Rattle.std.specs.FinMap.{entries, get-entries}
-use Rattle.std.proofs.Common.{refl, sym, ◌∙◌, ap, ap₂, subst, arith, inl, inr, true≢false}
+use Rattle.std.proofs.Common.{refl, sym, ◌∙◌, ap, arith, inl, inr, true≢false}
 use Rattle.std.proofs.lemmas.List.{length-append, length-take-le}
 use Rattle.std.proofs.lemmas.Bool.Decides.{eqb_tells}
 use Rattle.block_chain.specs.Words.{page_words}
 use Rattle.file_tree.specs.declared.entry.Entry.{Entry}
-use Rattle.file_tree.specs.Cards.{Path, File, Kind, Body, dedicated, elementary, exists}
+use Rattle.file_tree.specs.Cards.{Path, File, Body, dedicated, elementary, exists}
 use Rattle.file_tree.specs.Entries.{free_entry, entry_told, entry_of, file_of, name_of}
-use Rattle.file_tree.specs.Table.{table, entry_in, ancestor, path_in, path_of, IsUsed, IsChild, IsTable}
+use Rattle.file_tree.specs.Table.{table, entry_in, ancestor, path_in, path_of, IsUsed, IsTable}
 use Rattle.file_tree.specs.Trees.{content, node, tree_of}
 use Rattle.file_tree.specs.Reaching.{is_named}
 use Rattle.file_tree.specs.NewFiles.{has_name}
 use Rattle.file_tree.specs.laws.Tables.{length-table, entry_in-table}
-use Rattle.file_tree.specs.laws.Levels.{ancestor-none, ancestor-step}
-use Rattle.file_tree.specs.laws.Paths.{path-zero, path-below, path-enough, parent_used, reaches_master, child_of_path, path_of_child}
-use Rattle.file_tree.specs.laws.Nodes.{Node, find_path, same_path, one_of_same, same_of_one, file_in, used_small, node_tells}
+use Rattle.file_tree.specs.laws.Paths.{path-zero, path-below, path-enough, child_of_path, path_of_child}
+use Rattle.file_tree.specs.laws.Nodes.{Node, same_path, one_of_same, same_of_one, file_in, used_small, node_tells}
 use Rattle.file_tree.specs.laws.Nodes.{get-used, exists-used, exists-none}
 use Rattle.file_tree.specs.laws.LookUps.{TellsChild}
-use Rattle.file_tree.specs.laws.Shorts.{EachNode, entries_each, nodes_each, find_none, find_one}
+use Rattle.file_tree.specs.laws.Shorts.{entries_each, nodes_each, find_none, find_one}
 
 -- an entry is a dedicated file's with this name
 pub record BearsName (x : Entry) (text : List ℕ) : Type 0 where

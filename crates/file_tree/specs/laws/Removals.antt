@@ -1,5 +1,5 @@
 -- What a deletion frees, as it is found before it, and what it makes of the tree.
-use Rattle.std.specs.Prelude.{◌≡◌, ◌⊎◌, ◌==◌, ◌&&◌, ◌<◌, ◌≤◌, ◌+◌, ◌-◌, ℕ, Bool, true, false, not, if◌then◌else◌, List, map, length}
+use Rattle.std.specs.Prelude.{◌≡◌, ◌&&◌, ◌<◌, ◌≤◌, ◌+◌, ◌-◌, ℕ, Bool, true, false, not, if◌then◌else◌, List, map, length}
 use Rattle.std.specs.Prelude.{All}
 use Rattle.std.specs.List.{range_with_len, sum_by}
 use Rattle.std.proofs.Common.{refl, sym, ◌∙◌, ap, subst, arith, inl, inr, true≢false}
@@ -8,7 +8,6 @@ use Rattle.std.proofs.lemmas.Bool.Decides.{eqb_tells}
 use Rattle.nvm_board.specs.declared.board.TheConstants.{WORDS}
 use Rattle.block_chain.specs.declared.layout.TheConstants.{BLOCKS}
 use Rattle.block_chain.specs.declared.chain.Chain.{Chain}
-use Rattle.block_chain.specs.declared.chain.Extent.{Extent}
 use Rattle.block_chain.specs.Chains.{free_chain}
 use Rattle.block_chain.specs.Layout.{laid_out, chains_of, IsExtent, AreSplit}
 use Rattle.file_tree.specs.declared.entry.Entry.{Entry}

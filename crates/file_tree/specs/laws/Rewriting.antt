@@ -1,35 +1,32 @@
 -- What writing bytes of blocks makes of the tree: bytes of one file, and of free blocks.
-use Rattle.std.specs.Prelude.{◌≡◌, ◌≢◌, ◌⊎◌, ◌<◌, ◌≤◌, ◌+◌, ◌==◌, ℕ, Bool, true, false, if◌then◌else◌, List, [], length, take}
-use Rattle.std.specs.Prelude.{slice_index, Option, None, Some, unwrap_or}
+use Rattle.std.specs.Prelude.{◌≡◌, ◌≢◌, ◌<◌, ◌≤◌, ◌+◌, ◌==◌, ℕ, if◌then◌else◌, List, length, take}
+use Rattle.std.specs.Prelude.{None, Some, unwrap_or}
 use Rattle.std.proofs.Common.{refl, sym, ◌∙◌, ap, ap₂, subst, arith, inl, inr, ⊎_elim, get_or-take}
 use Rattle.std.proofs.lemmas.Bool.{cases_lt}
-use Rattle.std.proofs.lemmas.Bool.Decides.{eqb_tells}
 use Rattle.std.proofs.lemmas.List.{length-take-le}
 use Rattle.std.proofs.lemmas.Grind.{same_number_lists}
 use Rattle.std.specs.FinMap.{insert}
-use Rattle.nvm_board.specs.Facts.{address}
 use Rattle.nvm_board.specs.declared.board.TheConstants.{WORDS, PAGE_WORDS}
 use Rattle.card_rules.specs.LifeCycle.{life_cycle_at}
 use Rattle.card_rules.specs.declared.life_cycle.LifeCycle.TheVariants.{Activated}
-use Rattle.block_chain.specs.declared.layout.TheConstants.{HEADER_PAGE, FREE_HEAD_WORD, BLOCK_BYTES}
 use Rattle.block_chain.specs.declared.chain.Extent.{Extent}
 use Rattle.block_chain.specs.Counts.{count, IsNotIn}
-use Rattle.block_chain.specs.Words.{word, page_words, IsBlock}
+use Rattle.block_chain.specs.Words.{word, IsBlock}
 use Rattle.block_chain.specs.Chains.{free_chain, bytes_of}
 use Rattle.block_chain.specs.Changes.{OnlyContent, Overwrites, overwrite}
 use Rattle.block_chain.specs.Parts.{byte_over}
-use Rattle.block_chain.specs.Layout.{blocks_of, laid_out, IsExtent, AreLaid, SameBytes}
+use Rattle.block_chain.specs.Layout.{blocks_of, laid_out, IsExtent, AreLaid}
 use Rattle.block_chain.specs.laws.Counts.{count-append, count-split}
 use Rattle.block_chain.specs.laws.Bytes.{AreBlocks, leads_blocks, blocks_take}
 use Rattle.block_chain.specs.laws.Overwriting.{length-overwrite, index-overwrite}
 use Rattle.block_chain.specs.laws.Footprints.{page_words_same, not_among, no_header, laid_kept, extent_kept, extent_bytes}
 use Rattle.file_tree.specs.declared.entry.Entry.{Entry}
-use Rattle.file_tree.specs.Cards.{transparent, linear, cyclic, dedicated, elementary, File, Path, file_at, with_bytes}
-use Rattle.file_tree.specs.Entries.{file_of, kind_of, body_of, linear_records, cyclic_records, capacity_of, rule_of, name_of}
-use Rattle.file_tree.specs.Entries.{extent_of, extent_told}
+use Rattle.file_tree.specs.Cards.{transparent, linear, cyclic, dedicated, elementary, File}
+use Rattle.file_tree.specs.Entries.{file_of, linear_records, cyclic_records, capacity_of, rule_of, name_of}
+use Rattle.file_tree.specs.Entries.{extent_told}
 use Rattle.file_tree.specs.Table.{table, entry_in, path_of, extents, IsUsed, IsTable}
 use Rattle.file_tree.specs.Trees.{content, tree_of, TreeStands}
-use Rattle.file_tree.specs.Changes.{IsEntryPage, KeepsRest, SameTree, Rewrites, with_overwritten}
+use Rattle.file_tree.specs.Changes.{KeepsRest, SameTree, Rewrites, with_overwritten}
 use Rattle.file_tree.specs.laws.Tables.{table-same, length-table}
 use Rattle.file_tree.specs.laws.Nodes.{file_in, file_at_entry, used_small}
 use Rattle.file_tree.specs.laws.Costs.{entry_extent, room_for_size}

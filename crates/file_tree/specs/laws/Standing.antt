@@ -1,7 +1,6 @@
 -- A memory that stands for a tree: its files are those of a card, and each file is what its entry says.
 use Rattle.std.specs.Prelude.{◌≡◌, ◌≢◌, ◌==◌, ◌<◌, ◌≤◌, ℕ, Bool, true, false, ◌&&◌, if◌then◌else◌, List, [], take}
 use Rattle.std.specs.Prelude.{Option, None, Some, is_some, unwrap_or, IsTrue}
-use Rattle.std.specs.Option.{option_map_or}
 use Rattle.std.specs.FinMap.{get}
 use Rattle.std.proofs.Common.{refl, sym, ◌∙◌, ap, ap₂, arith, inl, inr, true≢false}
 use Rattle.std.proofs.lemmas.Bool.Decides.{eqb_tells}
@@ -9,7 +8,7 @@ use Rattle.card_rules.specs.LifeCycle.{life_cycle_at}
 use Rattle.card_rules.specs.declared.life_cycle.LifeCycle.{LifeCycle}
 use Rattle.card_rules.specs.declared.life_cycle.LifeCycle.TheVariants.{Activated}
 use Rattle.block_chain.specs.declared.chain.Extent.{Extent}
-use Rattle.block_chain.specs.Chains.{IsChain, bytes_of, chain}
+use Rattle.block_chain.specs.Chains.{IsChain, chain}
 use Rattle.block_chain.specs.Layout.{blocks_of}
 use Rattle.block_chain.specs.laws.Extents.{laid_chains}
 use Rattle.file_tree.specs.declared.entry.Entry.{Entry}

@@ -1,4 +1,4 @@
-use Rattle.std.proofs.Common.{◌+◌, ◌≤◌, arith}
+use Rattle.std.proofs.Common.{arith}
 use Rattle.undo_journal.specs.laws.Calls.{sets_then}
 use Rattle.file_tree.proofs.creating.add_file.Goals as goal
 

@@ -1,4 +1,4 @@
-use Rattle.std.proofs.Common.{◌≡◌, ◌≤◌, ℕ, List, length, take, Option, None, Some, is_some, sym, ◌∙◌, ap, subst, arith, inl, inr}
+use Rattle.std.proofs.Common.{◌≡◌, ℕ, List, length, take, Option, None, Some, is_some, sym, ◌∙◌, ap, subst, arith, inl, inr}
 use Rattle.std.proofs.Common.{⊎_elim, true≢false}
 use Rattle.nvm_board.specs.declared.board.TheConstants.{WORDS}
 use Rattle.undo_journal.specs.Memory.{committed}
@@ -17,7 +17,7 @@ use Rattle.file_tree.specs.Creations.{IsCreated}
 use Rattle.file_tree.specs.NewFiles.{short_of_new, first_reason, creation_refusal}
 use Rattle.file_tree.specs.laws.NewEntries.{entry_for, no_chain, short_option, size_most}
 use Rattle.file_tree.specs.laws.Rewriting.{filled}
-use Rattle.file_tree.specs.laws.Created.{FindsPlace, FillsAndAdds, FillsOrAdds}
+use Rattle.file_tree.specs.laws.Created.{FindsPlace, FillsAndAdds}
 use Rattle.file_tree.specs.laws.Made.{is_created}
 use Rattle.file_tree.proofs.creating.create.Goals as goal
 

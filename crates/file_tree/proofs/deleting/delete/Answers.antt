@@ -1,7 +1,6 @@
-use Rattle.std.proofs.Common.{◌≡◌, ◌⊎◌, ◌+◌, ℕ, List, length, sym, ◌∙◌, ap, subst, arith, inl, inr, ⊎_elim}
+use Rattle.std.proofs.Common.{◌≡◌, ℕ, List, length, sym, ◌∙◌, ap, subst, inl, inr, ⊎_elim}
 use Rattle.undo_journal.specs.Memory.{committed}
 use Rattle.file_tree.specs.declared.entry.Entry.{Entry}
-use Rattle.file_tree.specs.Changes.{Deletes}
 use Rattle.file_tree.specs.laws.Parting.{length-part}
 use Rattle.file_tree.specs.Table.{table}
 use Rattle.file_tree.specs.laws.Deleting.{CanGive, Removes}
@@ -36,7 +35,9 @@ returns-in_err-remove-clause-any_exit g c =
     let family : List ℕ → Type 0 = λ l. Removes l c.as_slice.result.now c.as_slice-2.result.now (committed c.remove.new.store) in
     ⊎_elim
     (λ (kept : committed c.remove.new.store ≡ committed c.removal_of.new.store). inl (kept ∙ read))
-    (λ (removes : family (committed c.removal_of.new.store)). inr (removed_deletes m c.args.e sized c.requires.tree c.requires.below c.requires.used _ _ part chains _ (subst family read removes)))
+    (λ (removes : family (committed c.removal_of.new.store)).
+    inr (removed_deletes m c.args.e sized c.requires.tree c.requires.below c.requires.used _ _ part chains _
+    (subst family read removes)))
     c.remove.ensures.any_exit
 
 pub returns-clause-done : goal.returns-clause-done
@@ -70,4 +71,5 @@ returns-clause-space g c =
     let sized = c.requires.ready.usable.committed_size in
     let read = c.removal_of.ensures.reads.keeps.committed_words in
     let family : List ℕ → Type 0 = λ l. Removes l c.as_slice.result.now c.as_slice-2.result.now (committed c.remove.new.store) in
-    removed_space m c.args.e sized c.requires.tree c.requires.below c.requires.used _ _ part chains _ (subst family read c.in_ok-remove.ensures.done) c.in_ok-removal.removal.space removal.blocks removal.entries
+    removed_space m c.args.e sized c.requires.tree c.requires.below c.requires.used _ _ part chains _
+    (subst family read c.in_ok-remove.ensures.done) c.in_ok-removal.removal.space removal.blocks removal.entries

@@ -1,4 +1,4 @@
-use Rattle.std.proofs.Common.{rules, ◌≡◌, ◌≢◌, ◌+◌, ◌*◌, ◌<◌, ◌≤◌, ℕ, List, length, slice_set, sym, ◌∙◌, ap, ap₂, subst, arith}
+use Rattle.std.proofs.Common.{◌≡◌, ◌≢◌, ◌+◌, ◌*◌, ◌<◌, ℕ, List, length, slice_set, sym, ◌∙◌, ap, subst, arith}
 use Rattle.nvm_board.specs.Facts.{address}
 use Rattle.undo_journal.specs.Memory.{current, IsOpen}
 use Rattle.undo_journal.specs.Lent.{memory_of}
@@ -45,6 +45,7 @@ loop-e-preserved g c =
           record {
             ready = subst (λ t. IsOpen (memory_of t)) (sym w.txn-is) c.loop-e.invariant.ready;
             sets = subst (λ t. Sets (e + 1) c.args.txn.now t) (sym w.txn-is) (sets_weaker _ _ _ _ (omega arith) c.loop-e.invariant.sets);
-            so_far = subst (λ t. FreesUpTo m part (e + 1) (current (memory_of t))) (sym w.txn-is) (frees_skip m now part e c.requires.ready.current_size c.loop-e-test.true before none);
+            so_far = subst (λ t. FreesUpTo m part (e + 1) (current (memory_of t))) (sym w.txn-is)
+                (frees_skip m now part e c.requires.ready.current_size c.loop-e-test.true before none);
           }
     ]

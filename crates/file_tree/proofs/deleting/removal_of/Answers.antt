@@ -1,4 +1,4 @@
-use Rattle.std.proofs.Common.{◌≡◌, ◌+◌, ◌-◌, ◌≤◌, ℕ, List, length, sym, ◌∙◌, ap, subst, arith}
+use Rattle.std.proofs.Common.{◌≤◌, List, length, sym, ◌∙◌, ap, subst, arith}
 use Rattle.std.specs.List.{sum_by}
 use Rattle.undo_journal.specs.Memory.{committed}
 use Rattle.block_chain.specs.declared.layout.TheConstants.{BLOCKS}
@@ -8,7 +8,7 @@ use Rattle.file_tree.specs.declared.entry.Entry.{Entry}
 use Rattle.file_tree.specs.Table.{table, extents, free_entries}
 use Rattle.file_tree.specs.laws.Tables.{length-table}
 use Rattle.file_tree.specs.laws.Parting.{part_below, length-part, most_free}
-use Rattle.file_tree.specs.laws.Removals.{IsRemoval, part_blocks}
+use Rattle.file_tree.specs.laws.Removals.{part_blocks}
 use Rattle.file_tree.proofs.deleting.removal_of.Goals as goal
 
 pub part_of-part-requires : goal.part_of-part-requires

@@ -1,4 +1,4 @@
-use Rattle.std.proofs.Common.{◌≡◌, ◌<◌, ℕ}
+use Rattle.std.proofs.Common.{◌<◌, ℕ}
 use Rattle.file_tree.specs.laws.Refusing.{IsNamed}
 use Rattle.file_tree.proofs.naming.entry_named.Given as goal
 

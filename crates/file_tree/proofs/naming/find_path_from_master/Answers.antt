@@ -1,7 +1,5 @@
-use Rattle.std.proofs.Common.{◌≡◌, ℕ, List, ◌∙◌}
+use Rattle.std.proofs.Common.{◌∙◌}
 use Rattle.undo_journal.specs.Memory.{committed}
-use Rattle.file_tree.specs.Table.{table}
-use Rattle.file_tree.specs.laws.Paths.{master_used}
 use Rattle.file_tree.specs.laws.Selecting.{path_below_master}
 use Rattle.file_tree.proofs.naming.find_path_from_master.Goals as goal
 

@@ -1,4 +1,4 @@
-use Rattle.std.proofs.Common.{◌≡◌, ◌<◌, ◌/◌, ◌%◌, ◌*◌, ◌+◌, ◌∷◌, [], List, ℕ, arith}
+use Rattle.std.proofs.Common.{◌≡◌, ◌/◌, ◌%◌, ◌∷◌, [], arith}
 use Rattle.file_tree.proofs.writing.four_bytes.Goals as goal
 
 pub returns : goal.returns

@@ -1,4 +1,4 @@
-use Rattle.std.proofs.Common.{◌≡◌, ◌≤◌, ◌+◌, length, take, drop, slice_index, List, ℕ, ◌∙◌, sym, arith}
+use Rattle.std.proofs.Common.{◌∙◌, sym}
 use Rattle.file_tree.specs.laws.EntryWords.{four_of}
 use Rattle.file_tree.proofs.writing.word_at.Goals as goal
 

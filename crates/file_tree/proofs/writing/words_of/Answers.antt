@@ -1,6 +1,5 @@
-use Rattle.std.proofs.Common.{rules, ◌≡◌, ◌<◌, ◌/◌, ◌%◌, ◌*◌, ◌+◌, ◌∷◌, ◌++◌, [], length, slice_index, List, ℕ, take, drop, sym, ◌∙◌, ap, arith}
-use Rattle.block_chain.specs.Words.{word_bytes}
-use Rattle.file_tree.specs.Entries.{high, low, byte_of, entry_told}
+use Rattle.std.proofs.Common.{rules, ◌≡◌, ◌++◌, [], length, slice_index, ◌∙◌, arith}
+use Rattle.file_tree.specs.Entries.{high, low, byte_of}
 use Rattle.file_tree.specs.laws.EntryWords.{eight_of, sixteen_of}
 use Rattle.file_tree.proofs.writing.words_of.Goals as goal
 
@@ -15,7 +14,8 @@ returns c =
     let identifier : low w0 ≡ entry.identifier = omega (arith, c.two_bytes.ensures) in
     let w1 = c.four_bytes.ensures in
     let rule = (λ i. c.word_at.ensures i ++ (c.word_at-2.ensures i ++ [])) ∙ eight_of entry.rule long in
-    let name = (λ i. c.word_at-3.ensures i ++ (c.word_at-4.ensures i ++ (c.word_at-5.ensures i ++ (c.word_at-6.ensures i ++ [])))) ∙ sixteen_of entry.name long_name in
+    let name = (λ i. c.word_at-3.ensures i ++ (c.word_at-4.ensures i ++ (c.word_at-5.ensures i
+    ++ (c.word_at-6.ensures i ++ [])))) ∙ sixteen_of entry.name long_name in
     let size : high c.halves.result ≡ entry.size = omega (arith, c.halves.ensures) in
     let record_length : low c.halves.result ≡ entry.record_length = omega (arith, c.halves.ensures) in
     let first : high c.halves-2.result ≡ entry.first = omega (arith, c.halves-2.ensures) in

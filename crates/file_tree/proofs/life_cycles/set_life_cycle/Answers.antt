@@ -1,0 +1,89 @@
+use Rattle.std.proofs.Common.{◌≡◌, ◌+◌, ℕ, List, slice_set, sym, ◌∙◌, ap, subst, inl, inr, ⊎_elim}
+use Rattle.nvm_board.specs.Facts.{address}
+use Rattle.undo_journal.specs.Memory.{committed}
+use Rattle.nvm_board.specs.declared.board.TheConstants.{WORDS}
+use Rattle.card_rules.specs.LifeCycle.{life_cycle_byte}
+use Rattle.card_rules.specs.declared.life_cycle.LifeCycle.{LifeCycle}
+use Rattle.std.proofs.Common.{length}
+use Rattle.file_tree.specs.declared.entry.Entry.{Entry}
+use Rattle.file_tree.specs.declared.layout.TheConstants.{FIRST_ENTRY_PAGE}
+use Rattle.file_tree.specs.States.{ChangesLife, life_at}
+use Rattle.file_tree.specs.Table.{table, entry_in, path_of, IsUsed}
+use Rattle.file_tree.specs.Trees.{tree_of, TreeStands}
+use Rattle.file_tree.specs.laws.Nodes.{used_small}
+use Rattle.file_tree.specs.laws.Living.{TellsLife, life_written, life_changed, life_stays, byte_of_state}
+use Rattle.file_tree.proofs.life_cycles.set_life_cycle.Goals as goal
+
+-- the word that is written changes the state of the words as they were
+changed : (m now after : List ℕ) (e w life : ℕ) (state : LifeCycle) (entry : Entry) → length m ≡ WORDS → TreeStands m
+    → IsUsed (table m) e → now ≡ m → entry ≡ entry_in (table m) e → life ≡ life_cycle_byte state → TellsLife entry life w
+    → after ≡ slice_set now (address (FIRST_ENTRY_PAGE + e) 0) w → ChangesLife m e state after
+changed m now after e w life state entry sized stands used words is byte tells done =
+    let by_entry : Entry → Type 0 = λ x. TellsLife x life w in
+    let by_life : ℕ → Type 0 = λ l. TellsLife (entry_in (table m) e) l w in
+    let by_words : List ℕ → Type 0 = λ l. ChangesLife m e state l in
+    let told : TellsLife (entry_in (table m) e) (life_cycle_byte state) w = subst by_life byte (subst by_entry is tells) in
+    subst by_words (sym (done ∙ ap (λ (l : List ℕ). slice_set l (address (FIRST_ENTRY_PAGE + e) 0) w) words))
+    (life_changed m (slice_set m (address (FIRST_ENTRY_PAGE + e) 0) w) e state sized stands used
+    (life_written m e w (life_cycle_byte state) sized (used_small m e used) used told))
+
+pub returns-then-entry-life-clause-done : goal.returns-then-entry-life-clause-done
+returns-then-entry-life-clause-done g c =
+    let m = committed c.args.store.now in
+    let by_words : List ℕ → Type 0 = λ l. ChangesLife m c.args.e c.args.state l in
+    subst by_words (sym c.read_entry.ensures.reads.keeps.committed_words)
+    (life_stays m c.requires.tree c.args.e c.args.state c.requires.used
+    (ap (λ (x : Entry). x.life) (sym c.in_ok-entry.ensures.entry) ∙ c.if-entry-life.true ∙ c.to_byte-life.ensures.value))
+
+pub read_entry-requires-clause-within : goal.read_entry-requires-clause-within
+read_entry-requires-clause-within g c = used_small (committed c.args.store.now) c.args.e c.requires.used
+
+pub write_life-requires-clause-within : goal.write_life-requires-clause-within
+write_life-requires-clause-within g c = used_small (committed c.args.store.now) c.args.e c.requires.used
+
+pub returns-clause-done : goal.returns-clause-done
+returns-clause-done g c =
+    let m = committed c.args.store.now in
+    changed m (committed c.read_entry.new.store) (committed c.write_life.new.store) c.args.e c.life_word.result c.to_byte-life.result
+    c.args.state c.in_ok-entry.entry c.requires.ready.usable.committed_size c.requires.tree c.requires.used
+    c.read_entry.ensures.reads.keeps.committed_words c.in_ok-entry.ensures.entry c.to_byte-life.ensures.value c.life_word.ensures
+    c.in_ok-write_life.ensures.done
+
+pub returns-clause-any_exit : goal.returns-clause-any_exit
+returns-clause-any_exit g c =
+    let m = committed c.args.store.now in
+    inr (changed m (committed c.read_entry.new.store) (committed c.write_life.new.store) c.args.e c.life_word.result c.to_byte-life.result
+    c.args.state c.in_ok-entry.entry c.requires.ready.usable.committed_size c.requires.tree c.requires.used
+    c.read_entry.ensures.reads.keeps.committed_words c.in_ok-entry.ensures.entry c.to_byte-life.ensures.value c.life_word.ensures
+    c.in_ok-write_life.ensures.done)
+
+pub returns-in_err-write_life-clause-any_exit : goal.returns-in_err-write_life-clause-any_exit
+returns-in_err-write_life-clause-any_exit g c =
+    let m = committed c.args.store.now in
+    ⊎_elim
+    (λ (same : committed c.write_life.new.store ≡ committed c.read_entry.new.store).
+    inl (same ∙ c.read_entry.ensures.reads.keeps.committed_words))
+    (λ (set : committed c.write_life.new.store
+    ≡ slice_set (committed c.read_entry.new.store) (address (FIRST_ENTRY_PAGE + c.args.e) 0) c.life_word.result).
+    inr (changed m (committed c.read_entry.new.store) (committed c.write_life.new.store) c.args.e c.life_word.result c.to_byte-life.result
+    c.args.state c.in_ok-entry.entry c.requires.ready.usable.committed_size c.requires.tree c.requires.used
+    c.read_entry.ensures.reads.keeps.committed_words c.in_ok-entry.ensures.entry c.to_byte-life.ensures.value c.life_word.ensures
+    set))
+    c.write_life.ensures.any_exit
+
+-- a file that is in the state has its byte
+has_byte : (m : List ℕ) (e : ℕ) (state : LifeCycle) (entry : Entry) (life : ℕ) → TreeStands m → IsUsed (table m) e
+    → entry ≡ entry_in (table m) e → life ≡ life_cycle_byte state
+    → life_at (tree_of m) (path_of (table m) e) ≡ state → entry.life ≡ life
+has_byte m e state entry life stands used is byte here =
+    ap (λ (x : Entry). x.life) is ∙ byte_of_state m e state stands used here ∙ sym byte
+
+pub returns-clause-stays : goal.returns-clause-stays
+returns-clause-stays g c = λ here. absurd (c.if-entry-life.false
+    (has_byte (committed c.args.store.now) c.args.e c.args.state c.in_ok-entry.entry c.to_byte-life.result c.requires.tree
+    c.requires.used c.in_ok-entry.ensures.entry c.to_byte-life.ensures.value here))
+
+pub returns-in_err-write_life-clause-stays : goal.returns-in_err-write_life-clause-stays
+returns-in_err-write_life-clause-stays g c = λ here. absurd (c.if-entry-life.false
+    (has_byte (committed c.args.store.now) c.args.e c.args.state c.in_ok-entry.entry c.to_byte-life.result c.requires.tree
+    c.requires.used c.in_ok-entry.ensures.entry c.to_byte-life.ensures.value here))

@@ -1,0 +1,275 @@
+//! Life cycles of files (ISO/IEC 7816-9; ISO/IEC 7816-4, 7.4.10): which files are barred, and a file in another state.
+
+ghost use Rattle.std.specs.Prelude.{◌≡◌, ◌≢◌, ◌⊎◌, ◌||◌, ◌<◌, ◌+◌, ℕ, length, slice_set, None, IsTrue, if◌then◌else◌, IfOk, OnOk};
+ghost use Rattle.std.specs.Result.{result_err};
+ghost use Rattle.card_rules.specs.LifeCycle.{state_after};
+ghost use Rattle.card_rules.specs.Rule.{allows, is_rule};
+ghost use Rattle.nvm_board.specs.Facts.{address};
+ghost use Rattle.undo_journal.specs.Memory.{committed, IsReady, IsIdle, Reports};
+ghost use Rattle.undo_journal.specs.Undo.{IsDataAddress};
+ghost use Rattle.undo_journal.specs.Spending.{WritesAtMost};
+ghost use Rattle.undo_journal.specs.Calls.{OnlyReads};
+ghost use Rattle.file_tree.specs.declared.layout.TheConstants.{FIRST_ENTRY_PAGE};
+ghost use Rattle.file_tree.specs.Entries.{rule_of};
+ghost use Rattle.file_tree.specs.States.{bars, is_allowed, is_barred, life_at, next_life, with_card_terminated, ChangesLife};
+ghost use Rattle.file_tree.specs.Table.{table, entry_in, path_of, IsUsed};
+ghost use Rattle.file_tree.specs.Trees.{tree_of, TreeStands};
+ghost use Rattle.file_tree.specs.laws.Barring.{barred_up, life_told};
+ghost use Rattle.file_tree.specs.laws.Living.{TellsLife};
+
+use crate::deleting::put;
+use crate::entry::Entry;
+use crate::layout::{CARD_TERMINATED, DEEPEST, FIRST_ENTRY_PAGE, STATE_WORD};
+use crate::reading::{read_entry, read_table};
+use crate::table::parent_of;
+use crate::writing::two_bytes;
+use block_chain::HEADER_PAGE;
+use card_rules::{AccessBit, Compact, LifeCycle, LifeCycleCommand, Verified};
+use undo_journal::{Board, PAGE_WORDS, Store, StoreErr};
+
+/// A file in this state bars itself and all files below it.
+fn bars(life: LifeCycle) -> bool
+    ensures { result ≡ bars life }
+{
+    match life {
+        LifeCycle::Deactivated | LifeCycle::Terminated => true,
+        LifeCycle::Creation | LifeCycle::Initialisation | LifeCycle::Activated => false,
+    }
+}
+
+/// The state that an entry tells.
+fn life_of(entry: &Entry) -> LifeCycle
+    ensures { result ≡ life_told entry.now }
+{
+    match LifeCycle::from_byte(entry.life) {
+        Some(life) => life,
+        None => LifeCycle::Activated,
+    }
+}
+
+/// The state that the entry of a number tells; past the table that of a free entry.
+#[tactic(auto, using(crate::specs::laws::Tables::entry_past, crate::specs::laws::Tables::entry_within))]
+fn life_in(entries: &[Entry], e: u8) -> LifeCycle
+    ensures { result ≡ life_told (entry_in entries.now e) }
+{
+    match entries.get(usize::from(e)) {
+        Some(entry) => life_of(entry),
+        None => LifeCycle::Activated,
+    }
+}
+
+/// A file above that of an entry is deactivated or terminated.
+fn is_below_barred(entries: &[Entry], e: u8) -> bool
+    ensures { result ≡ barred_up entries.now 7 e }
+{
+    let mut at = e;
+    for _step in 0..DEEPEST {
+        if at == 0 {
+            return false;
+        }
+        at = parent_of(entries, at);
+        if bars(life_in(entries, at)) {
+            return true;
+        }
+    }
+    false
+}
+
+/// The file of an entry, or one above it, is deactivated or terminated.
+fn is_barred_in(entries: &[Entry], e: u8) -> bool
+    ensures { result ≡ (bars (life_told (entry_in entries.now e)) || barred_up entries.now 7 e) }
+{
+    bars(life_in(entries, e)) || is_below_barred(entries, e)
+}
+
+/// The state of an entry's file after a command, or None where it is refused.
+fn next_in(entries: &[Entry], e: u8, command: LifeCycleCommand) -> Option<LifeCycle>
+    ensures { result ≡ (if barred_up entries.now 7 e then None else
+        state_after command (life_told (entry_in entries.now e))) }
+{
+    if is_below_barred(entries, e) {
+        None
+    } else {
+        LifeCycle::next_state(command, life_in(entries, e))
+    }
+}
+
+/// The file of an entry is barred: it, or a file above it, is deactivated or terminated.
+///
+/// # Errors
+/// What the store answers: power was lost, or the device failed.
+#[tactic(auto, using(undo_journal::specs::laws::Calls::reads_then))]
+pub fn is_barred<B: Board>(store: &mut Store<B>, e: u8) -> Result<bool, StoreErr>
+    requires ready { IsReady store.old }
+    requires tree { TreeStands (committed store.old) }
+    requires used { IsUsed (table (committed store.old)) e }
+    ensures barred { IfOk result (λ barred. barred
+        ≡ is_barred (tree_of (committed store.old)) (path_of (table (committed store.old)) e)) }
+    ensures ready { OnOk result (IsReady store.new) }
+    ensures reads { OnlyReads store.old store.new }
+    ensures tells { store.new.failed ≡ result_err result }
+{
+    let entries = read_table(store)?;
+    Ok(is_barred_in(entries.as_slice(), e))
+}
+
+/// The state of an entry's file after a life cycle command. None where it is refused, as its conditions of use aren't
+/// satisfied: a file above is deactivated or terminated, or the state found does not allow it.
+///
+/// # Errors
+/// What the store answers: power was lost, or the device failed.
+#[tactic(auto, using(undo_journal::specs::laws::Calls::reads_then))]
+pub fn next_life_cycle<B: Board>(
+    store: &mut Store<B>,
+    e: u8,
+    command: LifeCycleCommand,
+) -> Result<Option<LifeCycle>, StoreErr>
+    requires ready { IsReady store.old }
+    requires tree { TreeStands (committed store.old) }
+    requires used { IsUsed (table (committed store.old)) e }
+    ensures next { IfOk result (λ next. next
+        ≡ next_life (tree_of (committed store.old)) (path_of (table (committed store.old)) e) command) }
+    ensures ready { OnOk result (IsReady store.new) }
+    ensures reads { OnlyReads store.old store.new }
+    ensures tells { store.new.failed ≡ result_err result }
+{
+    let entries = read_table(store)?;
+    Ok(next_in(entries.as_slice(), e, command))
+}
+
+/// The first word of an entry in another state.
+fn life_word(entry: &Entry, life: u8) -> u32
+    ensures { TellsLife entry.now life result }
+{
+    two_bytes(entry.kind, life, entry.identifier)
+}
+
+/// Writes a word, in a transaction.
+#[tactic(auto, using(undo_journal::specs::MemoryLaws::reports_then))]
+fn write_word<B: Board>(store: &mut Store<B>, at: u16, word: u32) -> Result<(), StoreErr>
+    requires ready { IsReady store.old }
+    requires place { IsDataAddress (committed store.old) at }
+    ensures any_exit { (committed store.new ≡ committed store.old)
+        ⊎ (committed store.new ≡ slice_set (committed store.old) at word) }
+    ensures done { OnOk result (committed store.new ≡ slice_set (committed store.old) at word) }
+    ensures ready { OnOk result (IsReady store.new) }
+    ensures reports { Reports store.old store.new }
+    ensures tells { store.new.failed ≡ result_err result }
+    ensures writes { WritesAtMost 4 store.old.facts store.new.facts }
+{
+    let mut txn = store.begin();
+    match put(&mut txn, at, word) {
+        Ok(()) => txn.commit(),
+        Err(_) => txn.abandon(),
+    }
+}
+
+/// Writes the first word of an entry, in a transaction.
+fn write_life<B: Board>(store: &mut Store<B>, e: u8, word: u32) -> Result<(), StoreErr>
+    requires ready { IsReady store.old }
+    requires within { e < 64 }
+    ensures any_exit { (committed store.new ≡ committed store.old)
+        ⊎ (committed store.new ≡ slice_set (committed store.old) (address (FIRST_ENTRY_PAGE + e) 0) word) }
+    ensures done { OnOk result
+        (committed store.new ≡ slice_set (committed store.old) (address (FIRST_ENTRY_PAGE + e) 0) word) }
+    ensures ready { OnOk result (IsReady store.new) }
+    ensures reports { Reports store.old store.new }
+    ensures tells { store.new.failed ≡ result_err result }
+    ensures writes { WritesAtMost 4 store.old.facts store.new.facts }
+{
+    write_word(store, PAGE_WORDS * (FIRST_ENTRY_PAGE + u16::from(e)), word)?;
+    Ok(())
+}
+
+/// Brings the file of an entry into a state: ACTIVATE, DEACTIVATE and TERMINATE, once nothing refuses them. Where the file
+/// is in this state nothing is written.
+///
+/// # Errors
+/// What the store answers: power was lost, or the device failed. The file is then in the state that it was in, or in the
+/// new one.
+#[tactic(auto, using(undo_journal::specs::MemoryLaws::reports_then, undo_journal::specs::laws::Calls::reads_then))]
+pub fn set_life_cycle<B: Board>(
+    store: &mut Store<B>,
+    e: u8,
+    state: LifeCycle,
+) -> Result<(), StoreErr>
+    requires ready { IsReady store.old }
+    requires tree { TreeStands (committed store.old) }
+    requires used { IsUsed (table (committed store.old)) e }
+    ensures any_exit { (committed store.new ≡ committed store.old)
+        ⊎ ChangesLife (committed store.old) e state (committed store.new) }
+    ensures done { OnOk result (ChangesLife (committed store.old) e state (committed store.new)) }
+    ensures stays { life_at (tree_of (committed store.old)) (path_of (table (committed store.old)) e) ≡ state
+        → OnlyReads store.old store.new }
+    ensures ready { OnOk result (IsReady store.new) }
+    ensures reports { Reports store.old store.new }
+    ensures tells { store.new.failed ≡ result_err result }
+    ensures writes { WritesAtMost 4 store.old.facts store.new.facts }
+{
+    let entry = read_entry(store, e)?;
+    let life = state.to_byte();
+    if entry.life == life {
+        return Ok(());
+    }
+    write_life(store, e, life_word(&entry, life))?;
+    Ok(())
+}
+
+/// Whether the rule that an entry has allows what the bit stands for, in the state that it tells.
+fn allows_in(entry: &Entry, bit: AccessBit, verified: &Verified) -> bool
+    requires { IsTrue (is_rule (rule_of entry.now)) }
+    ensures { result ≡ allows (rule_of entry.now) bit (life_told entry.now) verified.now }
+{
+    match Compact::parse(entry.rule()) {
+        Some(rule) => rule.allows(bit, life_of(entry), verified),
+        None => false,
+    }
+}
+
+/// Whether the access rule of an entry's file allows what the bit stands for, where these PINs are verified (ISO/IEC
+/// 7816-4, 9.3.3).
+///
+/// # Errors
+/// What the store answers: power was lost, or the device failed.
+#[tactic(auto, using(undo_journal::specs::laws::Calls::reads_then))]
+pub fn is_allowed<B: Board>(
+    store: &mut Store<B>,
+    e: u8,
+    bit: AccessBit,
+    verified: &Verified,
+) -> Result<bool, StoreErr>
+    requires ready { IsReady store.old }
+    requires tree { TreeStands (committed store.old) }
+    requires used { IsUsed (table (committed store.old)) e }
+    ensures allowed { IfOk result (λ allowed. allowed ≡ is_allowed (tree_of (committed store.old))
+        (path_of (table (committed store.old)) e) bit verified.now) }
+    ensures ready { OnOk result (IsReady store.new) }
+    ensures reads { OnlyReads store.old store.new }
+    ensures tells { store.new.failed ≡ result_err result }
+{
+    let entry = read_entry(store, e)?;
+    Ok(allows_in(&entry, bit, verified))
+}
+
+/// Ends the use of the card: the state of the card in the header is "terminated". No other word changes. A card whose use
+/// has ended already is to take no such command: the word would be written again.
+///
+/// # Errors
+/// What the store answers: power was lost, or the device failed. The state is then as it was, or "terminated".
+pub fn terminate_card<B: Board>(store: &mut Store<B>) -> Result<(), StoreErr>
+    requires ready { IsReady store.old }
+    ensures any_exit { (committed store.new ≡ committed store.old)
+        ⊎ (committed store.new ≡ with_card_terminated (committed store.old)) }
+    ensures done { OnOk result (committed store.new ≡ with_card_terminated (committed store.old)) }
+    ensures ready { OnOk result (IsReady store.new) }
+    ensures reports { Reports store.old store.new }
+    ensures tells { store.new.failed ≡ result_err result }
+    ensures writes { WritesAtMost 4 store.old.facts store.new.facts }
+{
+    write_word(
+        store,
+        PAGE_WORDS * HEADER_PAGE + STATE_WORD,
+        CARD_TERMINATED,
+    )?;
+    Ok(())
+}
