@@ -1,6 +1,6 @@
 -- CREATE FILE by the dedicated file that is current.
-use Rattle.std.proofs.Common.{◌≡◌, ◌⊎◌, ◌≤◌, ◌-◌, ℕ, Bool, List, [], ◌∷◌, ◌++◌, length}
-use Rattle.std.proofs.Common.{Option, Some, None, unwrap_or, Result, Ok, Err, refl, sym, ◌∙◌, ap, arith, inl, inr}
+use Rattle.std.proofs.Common.{◌≡◌, ◌⊎◌, ◌≤◌, ◌-◌, ℕ, Bool, true, false, List, [], ◌∷◌, ◌++◌, length}
+use Rattle.std.proofs.Common.{Option, Some, None, unwrap_or, Result, Ok, Err, refl, sym, ◌∙◌, ap, arith, inl, inr, ⊎_elim}
 use Rattle.std.specs.Prelude.{cond}
 use Rattle.std.specs.Cmp.Lexicographic.{nat_list_cmp_total}
 use Rattle.std.specs.FinMap.{get, get-insert}
@@ -9,6 +9,8 @@ use Rattle.card_rules.specs.declared.status.Sw.{Sw}
 use Rattle.card_rules.specs.declared.status.TheConstants.Sw.{DONE, WRONG_DATA}
 use Rattle.fcp_template.specs.declared.fault.FcpFault.{FcpFault}
 use Rattle.fcp_template.specs.declared.fcp.Fcp.{Fcp}
+use Rattle.fcp_template.specs.declared.fcp.FileKind.{FileKind}
+use Rattle.fcp_template.specs.declared.fcp.FileKind.TheVariants.{Df, Transparent, Linear, Cyclic}
 use Rattle.fcp_template.specs.Function.{fcp_read}
 use Rattle.apdu_core.specs.Requests.{create_file}
 use Rattle.file_tree.specs.declared.space.FreeSpace.{FreeSpace}
@@ -16,20 +18,25 @@ use Rattle.file_tree.specs.Changes.{SameTree, with_freed}
 use Rattle.file_tree.specs.Creations.{CreatesNew, IsCreated}
 use Rattle.file_tree.specs.NewFiles.{creation_refusal, new_file, short_of_new}
 use Rattle.file_tree.specs.Spaces.{free_space}
+use Rattle.file_tree.specs.States.{is_barred}
 use Rattle.file_tree.specs.Table.{table, entry_in, path_of}
 use Rattle.file_tree.specs.Trees.{tree_of}
 use Rattle.file_tree.specs.laws.Nodes.{file_in, get-used, same_of_one}
 use Rattle.card_core.specs.declared.current.Current.{Current as CurrentFiles}
 use Rattle.card_core.specs.Cards.{Card, File, Kind, Path, Tree, dedicated, elementary, no_file}
-use Rattle.card_core.specs.Files.{IsCreating, with_new}
+use Rattle.card_core.specs.FileGuards.{permits_kind, permits_of}
+use Rattle.card_core.specs.Files.{creation_bit, with_new}
+use Rattle.card_core.specs.Guards.{allowed}
 use Rattle.card_core.specs.Outcomes.{refused, only_status}
 use Rattle.card_core.specs.Selecting.{selecting}
 use Rattle.card_core.specs.Sessions.{Session}
 use Rattle.card_core.specs.Standing.{card_of, IsCard}
-use Rattle.card_core.specs.Steps.{step}
+use Rattle.card_core.specs.Served.{IsDoing}
+use Rattle.card_core.specs.Steps.{served}
 use Rattle.card_core.specs.Working.{current_at, outcome, session_of, IsCurrent}
 use Rattle.card_core.proofs.Entries.{card-tree, current-entry, selecting-entry}
-use Rattle.card_core.proofs.FileSteps.{create-card, create-done, create-refused, create-unread, create-unrefused}
+use Rattle.card_core.proofs.Doing.{doing-one}
+use Rattle.card_core.proofs.FileSteps.{create-commits, create-done, create-refused, create-unread, create-unrefused}
 use Rattle.card_core.proofs.Keeping.{files-stand, files-after}
 
 -- what was found of nothing that is there
@@ -50,11 +57,19 @@ selecting-any s r path (elementary short body) same = λ i. record (selecting s 
 }
 
 -- a template that tells of no file
-pub unread-step : (c : Card) (s : Session) (template : List ℕ) (read : Result Fcp FcpFault)
-    → fcp_read template ≡ read → ((fcp : Fcp) → read ≡ Ok fcp → ⊥)
-    → step c s (create_file template) ≡ refused c s WRONG_DATA
-unread-step c s template (Ok fcp) is never = absurd (never fcp refl)
-unread-step c s template (Err fault) is never = create-unread c s template fault is
+pub unread-step : (c : Card) (s : Session) (template : List ℕ) → is_barred c.tree s.current_df ≡ false
+    → (read : Result Fcp FcpFault) → fcp_read template ≡ read → ((fcp : Fcp) → read ≡ Ok fcp → ⊥)
+    → served c s (create_file template) ≡ refused c s WRONG_DATA
+unread-step c s template unbarred (Ok fcp) is never = absurd (never fcp refl)
+unread-step c s template unbarred (Err fault) is never = create-unread c s template unbarred fault is
+
+-- what the rule of a dedicated file allows, by the kind of the new file
+pub permits-is : (c : Card) (s : Session) (kind : FileKind)
+    → permits_kind (permits_of c s) kind ≡ allowed c s s.current_df (creation_bit kind)
+permits-is c s (Df name) = refl
+permits-is c s (Transparent short size) = refl
+permits-is c s (Linear short records) = refl
+permits-is c s (Cyclic short records) = refl
 
 -- what is free shrinks by what a file takes
 module _ (m now after : List ℕ) (old taken : FreeSpace) (is : old ≡ free_space (card_of m).tree) (same : now ≡ m)
@@ -81,7 +96,8 @@ module _ (m now after : List ℕ) (old taken : FreeSpace) (is : old ≡ free_spa
       λ i. record { blocks = blocks i; entries = entries i }
 
 module _ (m : List ℕ) (sized : length m ≡ WORDS) (words : IsCard m) (x : CurrentFiles) (template : List ℕ)
-    (fcp : Fcp) (is : fcp_read template ≡ Ok fcp) where
+    (fcp : Fcp) (is : fcp_read template ≡ Ok fcp) (unbarred : is_barred (card_of m).tree (path_of (table m) x.df) ≡ false)
+    (permitted : allowed (card_of m) (session_of (table m) x) (path_of (table m) x.df) (creation_bit fcp.kind) ≡ true) where
   abbrev c : Card
   c = card_of m
 
@@ -96,8 +112,8 @@ module _ (m : List ℕ) (sized : length m ≡ WORDS) (words : IsCard m) (x : Cur
   refusal-by-tree = ap (λ (tree : Tree). creation_refusal tree df fcp) (card-tree m)
 
   pub refused-step : (status : Sw) → creation_refusal (tree_of m) df fcp ≡ Some status
-      → step c s (create_file template) ≡ refused c s status
-  refused-step status refuses = create-refused c s template fcp is status (refusal-by-tree ∙ refuses)
+      → served c s (create_file template) ≡ refused c s status
+  refused-step status refuses = create-refused c s template unbarred fcp is permitted status (refusal-by-tree ∙ refuses)
 
   -- blocks that were filled, and no file
   module _ (after : List ℕ) (same : SameTree m after) where
@@ -125,20 +141,18 @@ module _ (m : List ℕ) (sized : length m ≡ WORDS) (words : IsCard m) (x : Cur
   any-stands after (inr creates) = created-stands after creates
 
   pub any-creating : creation_refusal (tree_of m) df fcp ≡ None → (after : List ℕ)
-      → SameTree m after ⊎ CreatesNew m x.df fcp after → IsCreating c s template (card_of after)
-  any-creating none after (inl same) = record {
-    unrefused = create-unrefused c s template fcp is (refusal-by-tree ∙ none);
-    card = inl (filled-card after same);
-  }
-  any-creating none after (inr creates) = record {
-    unrefused = create-unrefused c s template fcp is (refusal-by-tree ∙ none);
-    card = inr (card-is after creates ∙ sym (create-card c s template fcp is));
-  }
+      → SameTree m after ⊎ CreatesNew m x.df fcp after → IsDoing c s (create_file template) (card_of after)
+  any-creating none after left =
+      doing-one c s (create_file template) (with_new c df fcp) (card_of after)
+      (create-unrefused c s template unbarred fcp is permitted (refusal-by-tree ∙ none))
+      (create-commits c s template unbarred fcp is permitted)
+      (⊎_elim (λ (same : SameTree m after). inl (filled-card after same))
+      (λ (creates : CreatesNew m x.df fcp after). inr (card-is after creates)) left)
 
   -- a creation that was cut, or not: where it is refused, as told by a refusal, only reads were made
   pub any-stage : {R : Type 0} (refusal : Option Sw) → creation_refusal (tree_of m) df fcp ≡ refusal
       → ((status : Sw) → refusal ≡ Some status → R) → (after : List ℕ)
-      → SameTree m after ⊎ CreatesNew m x.df fcp after → R ⊎ IsCreating c s template (card_of after)
+      → SameTree m after ⊎ CreatesNew m x.df fcp after → R ⊎ IsDoing c s (create_file template) (card_of after)
   any-stage (Some status) told idle after exit = inl (idle status refl)
   any-stage None told idle after exit = inr (any-creating told after exit)
 
@@ -164,7 +178,7 @@ module _ (m : List ℕ) (sized : length m ≡ WORDS) (words : IsCard m) (x : Cur
         (sym (get-used after stands.tree.entries e made.used) ∙ ap (get (tree_of after)) made.path ∙ file-there)
 
     abbrev at_file : CurrentFiles
-    at_file = current_at e (entry_in (table after) e)
+    at_file = current_at x e (entry_in (table after) e)
 
     session-is : selecting s path (new_file fcp (short_of_new c.tree df fcp)).kind ≡ session_of (table after) at_file
     session-is =
@@ -173,14 +187,14 @@ module _ (m : List ℕ) (sized : length m ≡ WORDS) (words : IsCard m) (x : Cur
         ∙ (λ i. selecting (session_of (table after) at_file) (sym made.path i) (sym file-is i).kind)
         ∙ selecting-entry after stands e made.used at_file
 
-    pub created-step : step c s (create_file template)
+    pub created-step : served c s (create_file template)
         ≡ outcome (card_of after) (session_of (table after) at_file) [] DONE
     created-step =
-        create-done c s template fcp is (refusal-by-tree ∙ made.none)
+        create-done c s template unbarred fcp is permitted (refusal-by-tree ∙ made.none)
         ∙ (λ i. record { card = sym (card-is after made.creates) i; session = session-is i; response = only_status DONE })
 
-    pub created-current : IsCurrent (table after) at_file
-    created-current = current-entry after stands e made.used
+    pub created-current : length x.verified ≡ 8 → IsCurrent (table after) at_file
+    created-current marks = current-entry after stands e made.used x marks
 
     pub created-is-card : IsCard after
     created-is-card = stands

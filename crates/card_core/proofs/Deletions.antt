@@ -1,11 +1,11 @@
 -- DELETE FILE by the entry of the file that is named.
-use Rattle.std.proofs.Common.{◌≡◌, ◌⊎◌, ◌<◌, ◌≤◌, ◌+◌, ◌==◌, ◌&&◌, ℕ, Bool, true, false, nat_eq, List, [], ◌∷◌, ◌++◌, length}
-use Rattle.std.proofs.Common.{Option, Some, None, IfSome, option_map, unwrap_or, refl, sym, ◌∙◌, ap, subst, arith, inl, inr}
+use Rattle.std.proofs.Common.{◌≡◌, ◌⊎◌, ◌<◌, ◌≤◌, ◌+◌, ◌==◌, ◌&&◌, ◌||◌, ℕ, Bool, true, false, nat_eq, List, [], ◌∷◌, ◌++◌, length}
+use Rattle.std.proofs.Common.{Option, Some, None, IfSome, option_map, unwrap_or, refl, sym, ◌∙◌, ap, subst, arith, inl, inr, ⊎_elim}
 use Rattle.std.proofs.lemmas.Bool.{ne_eqb}
 use Rattle.std.proofs.lemmas.List.{length-append}
-use Rattle.std.specs.FinSet.{empty}
 use Rattle.std.specs.List.{starts_with}
 use Rattle.nvm_board.specs.declared.board.TheConstants.{WORDS}
+use Rattle.card_rules.specs.declared.status.Sw.{Sw}
 use Rattle.card_rules.specs.declared.status.TheConstants.Sw.{DONE}
 use Rattle.apdu_core.specs.declared.files.Subject.{Subject}
 use Rattle.apdu_core.specs.declared.files.Subject.TheVariants as subjects
@@ -14,20 +14,27 @@ use Rattle.file_tree.specs.declared.entry.Entry.{Entry}
 use Rattle.file_tree.specs.declared.space.FreeSpace.{FreeSpace}
 use Rattle.file_tree.specs.Changes.{Deletes, with_freed}
 use Rattle.file_tree.specs.Spaces.{free_space}
+use Rattle.file_tree.specs.States.{has_barred_above, is_barred}
+use Rattle.card_rules.specs.declared.access_mode.AccessBit.TheVariants.{DeleteChild, DeleteSelf}
 use Rattle.file_tree.specs.Table.{table, entry_in, path_of, IsUsed}
 use Rattle.file_tree.specs.Trees.{tree_of}
 use Rattle.file_tree.specs.laws.Paths.{parent_path, parent_used, path_of-child}
 use Rattle.card_core.specs.declared.current.Current.{Current as CurrentFiles}
 use Rattle.card_core.specs.Cards.{Card, Path, Tree, parent}
-use Rattle.card_core.specs.Files.{IsDeleting, without}
-use Rattle.card_core.specs.Outcomes.{only_status}
+use Rattle.card_core.specs.FileGuards.{IsDeletable}
+use Rattle.card_core.specs.Files.{delete_refusals, without}
+use Rattle.card_core.specs.Guards.{allowed}
+use Rattle.card_core.specs.Outcomes.{only_status, refused_by}
 use Rattle.card_core.specs.Reaching.{subject_of}
-use Rattle.card_core.specs.Sessions.{Session, at_dedicated_file}
+use Rattle.card_core.specs.Sessions.{Session, at_dedicated_file, marked}
 use Rattle.card_core.specs.Standing.{card_of, IsCard}
-use Rattle.card_core.specs.Steps.{step}
-use Rattle.card_core.specs.Working.{outcome, session_of, IsCurrent, IsElementary}
+use Rattle.card_core.specs.Served.{IsDoing}
+use Rattle.card_core.specs.Steps.{served}
+use Rattle.card_core.specs.Working.{file_refusal, outcome, session_of, IsCurrent, IsElementary}
 use Rattle.card_core.proofs.Entries.{card-tree, current-path}
-use Rattle.card_core.proofs.FileSteps.{delete-card, delete-done, delete-unrefused}
+use Rattle.card_core.proofs.Above.{above-barred}
+use Rattle.card_core.proofs.Doing.{doing-one}
+use Rattle.card_core.proofs.FileSteps.{delete-by-file, delete-commits, delete-done, delete-unrefused}
 use Rattle.card_core.proofs.Keeping.{files-stand, files-after}
 
 -- the current file, by its path
@@ -81,6 +88,14 @@ pub freed-entries : (m now after : List ℕ) (old freed : FreeSpace) → old ≡
 freed-entries m now after old freed is same space =
     let sum = ap (λ (s : FreeSpace). s.entries) (deleted-space m now after old freed is same space) in omega (arith, sum)
 
+-- what refuses the deletion of a file by its parent, and by the rules of both
+abbrev pub deletion_verdict : List ℕ → CurrentFiles → ℕ → ℕ → Option Sw
+deletion_verdict m x e up =
+    let c = card_of m in
+    let s = session_of (table m) x in
+    file_refusal (is_barred c.tree (path_of (table m) up)) true
+    (allowed c s (path_of (table m) e) DeleteSelf || allowed c s (path_of (table m) up) DeleteChild)
+
 module _ (m : List ℕ) (sized : length m ≡ WORDS) (words : IsCard m) (x : CurrentFiles) (subject : Subject) (e : ℕ)
     (above : 0 < e) (used : IsUsed (table m) e)
     (place : subject_of (card_of m).tree (session_of (table m) x) subject ≡ Some (path_of (table m) e)) where
@@ -97,7 +112,7 @@ module _ (m : List ℕ) (sized : length m ≡ WORDS) (words : IsCard m) (x : Cur
   up = (entry_in (table m) e).parent
 
   abbrev at_parent : CurrentFiles
-  at_parent = record { df = up; ef = None }
+  at_parent = record x { df = up; ef = None; pointer = None }
 
   path-is : path ≡ path_of (table m) up ++ (entry_in (table m) e).identifier ∷ []
   path-is = path_of-child (table m) words.tree.entries e above used
@@ -107,6 +122,18 @@ module _ (m : List ℕ) (sized : length m ≡ WORDS) (words : IsCard m) (x : Cur
       let child = ap (λ (p : Path). length p) path-is in
       let long = length-append (path_of (table m) up) ((entry_in (table m) e).identifier ∷ []) in
       ne_eqb (length path) 0 (λ none. let z : ⊥ = omega (arith, child, long, none) in z)
+
+  pub file-verdict : refused_by (delete_refusals c s subject) ≡ deletion_verdict m x e up
+  file-verdict =
+      let barred = ap (has_barred_above c.tree) path-is
+      ∙ above-barred c.tree (path_of (table m) up) (entry_in (table m) e).identifier in
+      let at = parent_path (table m) words.tree.entries e used in
+      delete-by-file c s subject path place below
+      ∙ (λ i. file_refusal (barred i) true (allowed c s path DeleteSelf || allowed c s (at i) DeleteChild))
+
+  pub deletable : refused_by (delete_refusals c s subject) ≡ None → (entry : Entry) → entry ≡ entry_in (table m) e
+      → IsDeletable m x subject e entry
+  deletable none entry is = record { entry_is = is; place = place; used = used; below = above; unrefused = none }
 
   -- the parent isn't below the file
   outside : starts_with nat_eq (path_of (table m) up) path ≡ false
@@ -127,28 +154,23 @@ module _ (m : List ℕ) (sized : length m ≡ WORDS) (words : IsCard m) (x : Cur
         ∙ ap (λ (tree : Tree). record c { tree = tree }) deletes.tree
         ∙ sym (ap (λ (tree : Tree). without (record c { tree = tree }) path) (card-tree m))
 
-    pub deleted-current : IsCurrent (table after) at_parent
-    deleted-current = record {
+    pub deleted-current : length x.verified ≡ 8 → IsCurrent (table after) at_parent
+    deleted-current marks = record {
       df = ap (λ (y : Entry). y.kind) kept.0 ∙ (words.tree.entries.below e above used).parent;
       ef = tt;
+      marks = marks;
     }
 
     session-is : at_dedicated_file s (parent path) ≡ session_of (table after) at_parent
     session-is =
         let above_is = parent_path (table m) words.tree.entries e used ∙ sym kept.1 in
-        λ i. record { current_df = above_is i; current_ef = None; pointer = None; verified = empty }
+        λ i. record { current_df = above_is i; current_ef = None; pointer = None; verified = marked x.verified }
 
-    pub deleted-step : step c s (delete_file subject)
+    pub deleted-step : refused_by (delete_refusals c s subject) ≡ None → served c s (delete_file subject)
         ≡ outcome (card_of after) (session_of (table after) at_parent) [] DONE
-    deleted-step =
-        delete-done c s subject path place below
+    deleted-step none =
+        delete-done c s subject path place none
         ∙ (λ i. record { card = sym card-is i; session = session-is i; response = only_status DONE })
-
-    pub deleted-is : IsDeleting c s subject (card_of after)
-    deleted-is = record {
-      unrefused = delete-unrefused c s subject path place below;
-      card = inr (card-is ∙ sym (delete-card c s subject path place below));
-    }
 
   -- a deletion that was cut, or not: the memory before it was only read
   module _ (now after : List ℕ) (same : now ≡ m) where
@@ -159,16 +181,17 @@ module _ (m : List ℕ) (sized : length m ≡ WORDS) (words : IsCard m) (x : Cur
     any-stands (inl kept) = subst IsCard (sym (kept ∙ same)) words
     any-stands (inr deletes) = deleted-stands after (deletes_is deletes)
 
-    pub any-deleting : (after ≡ now) ⊎ Deletes now e after → IsDeleting c s subject (card_of after)
-    any-deleting (inl kept) = record {
-      unrefused = delete-unrefused c s subject path place below;
-      card = inl (ap card_of (kept ∙ same));
-    }
-    any-deleting (inr deletes) = deleted-is after (deletes_is deletes)
+    pub any-deleting : refused_by (delete_refusals c s subject) ≡ None → (after ≡ now) ⊎ Deletes now e after
+        → IsDoing c s (delete_file subject) (card_of after)
+    any-deleting none left =
+        doing-one c s (delete_file subject) (without c path) (card_of after) (delete-unrefused c s subject path place none)
+        (delete-commits c s subject path place)
+        (⊎_elim (λ (kept : after ≡ now). inl (ap card_of (kept ∙ same)))
+        (λ (deletes : Deletes now e after). inr (card-is after (deletes_is deletes))) left)
 
-    pub done-step : Deletes now e after → step c s (delete_file subject)
-        ≡ outcome (card_of after) (session_of (table after) at_parent) [] DONE
-    done-step deletes = deleted-step after (deletes_is deletes)
+    pub done-step : refused_by (delete_refusals c s subject) ≡ None → Deletes now e after
+        → served c s (delete_file subject) ≡ outcome (card_of after) (session_of (table after) at_parent) [] DONE
+    done-step none deletes = deleted-step after (deletes_is deletes) none
 
-    pub done-current : Deletes now e after → IsCurrent (table after) at_parent
-    done-current deletes = deleted-current after (deletes_is deletes)
+    pub done-current : length x.verified ≡ 8 → Deletes now e after → IsCurrent (table after) at_parent
+    done-current marks deletes = deleted-current after (deletes_is deletes) marks

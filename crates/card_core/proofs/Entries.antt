@@ -5,7 +5,6 @@ use Rattle.std.proofs.lemmas.Bool.{cases_eq}
 use Rattle.nvm_board.specs.declared.board.TheConstants.{WORDS}
 use Rattle.std.specs.FinMap.{get}
 use Rattle.std.specs.Option.{option_map_or}
-use Rattle.std.specs.FinSet.{empty}
 use Rattle.apdu_core.specs.declared.select.Returned.{Returned}
 use Rattle.apdu_core.specs.declared.select.Returned.TheVariants.{Template, Nothing}
 use Rattle.fcp_template.specs.Spelling.{fcp_text}
@@ -26,9 +25,10 @@ use Rattle.card_core.specs.Reaching.{selected_from, target_of}
 use Rattle.card_core.specs.Lengths.{asks_less, given, right_length}
 use Rattle.card_core.specs.laws.FoundLaws.{same-of, other-of}
 use Rattle.card_core.specs.Selecting.{selecting, selection_data, selection_status}
-use Rattle.card_core.specs.declared.layout.TheConstants.{PINS}
-use Rattle.card_core.specs.Standing.{card_of, IsCard, IsHeader, IsPinPage}
-use Rattle.card_core.specs.Steps.{step}
+use Rattle.pin_store.specs.Pages.{ArePinPages}
+use Rattle.card_core.specs.Sessions.{marked}
+use Rattle.card_core.specs.Standing.{card_of, IsCard, IsHeader}
+use Rattle.card_core.specs.Steps.{served}
 use Rattle.card_core.specs.Templates.{template_of}
 use Rattle.card_core.specs.Working.{current_at, data_in, life_of, outcome, session_of, template_in, IsCurrent, IsElementary, TellsCard}
 use Rattle.card_core.proofs.SelectSteps.{select-less, select-reached}
@@ -58,25 +58,33 @@ module _ (m : List ℕ) (words : IsCard m) (e : ℕ) (used : IsUsed (table m) e)
   -- the session in which the file has become current
   selecting_by : (x : Current) (b : Bool) (name : Option (List ℕ)) (short : Option ℕ) (body : Body)
       → selecting (session_of (table m) x) (path_of (table m) e) (if b then dedicated name else elementary short body)
-      ≡ session_of (table m) (if b then record { df = e; ef = None } else record { df = entry.parent; ef = Some e })
+      ≡ session_of (table m) (record x {
+        df = if b then e else entry.parent;
+        ef = if b then None else Some e;
+        pointer = None;
+      })
   selecting_by x true name short body = refl
   selecting_by x false name short body =
       let above = parent_path (table m) words.tree.entries e used in
       let id = identifier_path (table m) words.tree.entries e used in
-      λ i. record { current_df = above i; current_ef = Some (id i); pointer = None; verified = empty }
+      λ i. record { current_df = above i; current_ef = Some (id i); pointer = None; verified = marked x.verified }
 
   pub selecting-entry : (x : Current) → selecting (session_of (table m) x) (path_of (table m) e) (file_in m e).kind
-      ≡ session_of (table m) (current_at e entry)
+      ≡ session_of (table m) (current_at x e entry)
   unfolding file_of
   selecting-entry x = selecting_by x (entry.kind == 1) _ _ _
 
   -- the numbers of the current files are then those of a dedicated file, and of an elementary file in it
-  pub current-entry : IsCurrent (table m) (current_at e entry)
-  current-entry = by_kind (entry.kind == 1) refl
+  pub current-entry : (x : Current) → length x.verified ≡ 8 → IsCurrent (table m) (current_at x e entry)
+  current-entry x marks = by_kind (entry.kind == 1) refl
     where
       by_kind : (b : Bool) → (entry.kind == 1) ≡ b
-          → IsCurrent (table m) (if b then record { df = e; ef = None } else record { df = entry.parent; ef = Some e })
-      by_kind true is = record { df = same-of entry.kind 1 is; ef = tt }
+          → IsCurrent (table m) (record x {
+            df = if b then e else entry.parent;
+            ef = if b then None else Some e;
+            pointer = None;
+          })
+      by_kind true is = record { df = same-of entry.kind 1 is; ef = tt; marks = marks }
       by_kind false is =
           let other = other-of entry.kind 1 is in
           let above : 0 < e = above-master other in
@@ -86,6 +94,7 @@ module _ (m : List ℕ) (words : IsCard m) (e : ℕ) (used : IsUsed (table m) e)
               child = record { below = above; used = used; parent = refl };
               kind = omega (arith, other, used);
             };
+            marks = marks;
           }
         where
           above-master : entry.kind ≢ 1 → 0 < e
@@ -116,7 +125,7 @@ module _ (m : List ℕ) (words : IsCard m) (e : ℕ) (used : IsUsed (table m) e)
 
     -- with an Le that asks for less than there is
     pub select-entry-less : asks_less expected told ≡ true
-        → step (card_of m) (session_of (table m) x) (select selection returned expected)
+        → served (card_of m) (session_of (table m) x) (select selection returned expected)
         ≡ outcome (card_of m) (session_of (table m) x) [] (right_length told)
     select-entry-less less =
         select-less (card_of m) (session_of (table m) x) selection returned expected (path_of (table m) e) (file_in m e)
@@ -124,8 +133,8 @@ module _ (m : List ℕ) (words : IsCard m) (e : ℕ) (used : IsUsed (table m) e)
         ∙ ap (λ (found : List ℕ). outcome (card_of m) (session_of (table m) x) [] (right_length found)) data-is
 
     pub select-entry : asks_less expected told ≡ false
-        → step (card_of m) (session_of (table m) x) (select selection returned expected)
-        ≡ outcome (card_of m) (session_of (table m) (current_at e entry)) (given expected told)
+        → served (card_of m) (session_of (table m) x) (select selection returned expected)
+        ≡ outcome (card_of m) (session_of (table m) (current_at x e entry)) (given expected told)
         (selection_status (life_of entry))
     select-entry enough =
         let session = selecting-entry x in
@@ -147,8 +156,8 @@ current-path m words x current = by_file x.ef current.ef
         file.child))
 
 -- what the parts of the check of a memory say together
-pub tells_card : (m : List ℕ) (free : Option FreeSpace) → IsHeader m → ((pin : ℕ) → pin < PINS → IsPinPage m pin)
-    → TellsSpace m free → TellsCard m free
+pub tells_card : (m : List ℕ) (free : Option FreeSpace) → IsHeader m → ArePinPages m → TellsSpace m free
+    → TellsCard m free
 tells_card m None header pins tells = λ words. tells words.tree
 tells_card m (Some free) header pins tells =
     (record { header = header; tree = tells.0; pins = pins }, tells.1 ∙ sym (ap free_space (card-tree m)))

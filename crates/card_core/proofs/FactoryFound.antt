@@ -11,7 +11,8 @@ use Rattle.block_chain.specs.Words.{word}
 use Rattle.file_tree.specs.Trees.{tree_of}
 use Rattle.file_tree.specs.laws.Footprints.{KeepsTree, tree_kept}
 use Rattle.card_core.specs.Cards.{Card}
-use Rattle.card_core.specs.Standing.{StandsFor, card_of, pin_page}
+use Rattle.pin_store.specs.Pages.{pin_page, KeepsPins}
+use Rattle.card_core.specs.Standing.{StandsFor, card_of}
 use Rattle.card_core.specs.Finding.{words_found, Finds}
 use Rattle.card_core.proofs.Keeping.{card-stands, card-after}
 
@@ -66,16 +67,16 @@ module _ (m : List ℕ) (sized : length m ≡ WORDS) (shut : gate m ≡ 0) where
       let tree = tree_kept m (words_found m) sized tree_found stands.words.tree in
       let mark = page_found 0 0 (inl (lit< tt)) (lit< tt) (lit< tt) in
       let state = page_found 0 2 (inl (lit< tt)) (lit< tt) (lit< tt) in
-      let pins : (pin place : ℕ) → pin < 8 → place < 16
-      → word (words_found m) (pin_page pin) place ≡ word m (pin_page pin) place =
-      (λ pin place lt small. page_found (pin_page pin) place (inl (omega (arith, lt)))
-      (omega (arith, lt)) small) in
+      let pins : KeepsPins m (words_found m) = record {
+        words = λ pin place lt small. page_found (pin_page pin) place (inl (omega (arith, lt))) (omega (arith, lt))
+            (omega (arith, small));
+      } in
       record {
         there = record {
           journal = record { room = omega (arith, shut); places = places };
-          words = card-stands m (words_found m) sized size_found mark state pins stands.words tree.0;
+          words = card-stands m (words_found m) mark state pins stands.words tree.0;
         };
-        card = card-after m (words_found m) sized size_found mark state pins
+        card = card-after m (words_found m) mark state pins
             ∙ (λ i. record (card_of m) { tree = tree.2 i }) ∙ with_tree m ∙ stands.card;
       }
     where

@@ -25,9 +25,10 @@ use Rattle.file_tree.specs.laws.Paths.{path-zero}
 use Rattle.file_tree.specs.laws.Nodes.{Node, file_in, node-used, node-free}
 use Rattle.file_tree.specs.laws.Costs.{space_counted}
 use Rattle.file_tree.specs.laws.Contents.{content-some}
-use Rattle.card_core.specs.declared.layout.TheConstants.{PINS}
+use Rattle.pin_store.specs.declared.layout.TheConstants.{PINS}
+use Rattle.pin_store.specs.Pages.{bytes_of_words, pin_at, pin_page, pins_of, ArePinPages}
 use Rattle.card_core.specs.Cards.{Pin}
-use Rattle.card_core.specs.Standing.{IsCard, IsPinPage, card_of, pin_at, pin_page}
+use Rattle.card_core.specs.Standing.{IsCard, card_of}
 use Rattle.card_core.specs.Factory.{factory_page, factory_block, factory_pin_page, factory_pin}
 use Rattle.card_core.specs.Factory.{factory_card, factory_tree, factory_space, master_of_factory, file_of_factory}
 use Rattle.card_core.specs.Factory.{IsFactory}
@@ -133,10 +134,12 @@ module _ (m : List ℕ) (factory : IsFactory m) where
       sym (index-page_words m (pin_page pin) k small)
       ∙ ap (λ (words : List ℕ). slice_index words k) (pin_words pin lt)
 
-  pins : (pin : ℕ) → pin < PINS → IsPinPage m pin
-  pins pin lt = record {
-    tries = let is = pin_word pin 0 lt (lit< tt) in omega (arith, is);
-    unblocking_tries = let is = pin_word pin 1 lt (lit< tt) in omega (arith, is);
+  pins : ArePinPages m
+  pins = record {
+    each = λ pin lt. record {
+      tries = let is = pin_word pin 0 lt (lit< tt) in omega (arith, is);
+      unblocking_tries = let is = pin_word pin 1 lt (lit< tt) in omega (arith, is);
+    };
   }
 
   pub gate-factory : gate m ≡ 0
@@ -154,14 +157,18 @@ module _ (m : List ℕ) (factory : IsFactory m) where
   }
 
   pin-is : (pin : ℕ) → pin < PINS → pin_at m pin ≡ factory_pin
+  unfolding pin_at
   pin-is pin lt =
-      let words = pin_words pin lt in
       let tries = pin_word pin 0 lt (lit< tt) in
       let unblocking_tries = pin_word pin 1 lt (lit< tt) in
+      let first = pin_word pin 2 lt (lit< tt) in
+      let second = pin_word pin 3 lt (lit< tt) in
+      let third = pin_word pin 4 lt (lit< tt) in
+      let fourth = pin_word pin 5 lt (lit< tt) in
       λ i. record {
-        value = flat_map word_bytes (slice_range (words i) 2 4);
+        value = bytes_of_words (first i) (second i);
         tries = tries i;
-        unblocking = flat_map word_bytes (slice_range (words i) 4 6);
+        unblocking = bytes_of_words (third i) (fourth i);
         unblocking_tries = unblocking_tries i;
       }
 
@@ -171,7 +178,7 @@ module _ (m : List ℕ) (factory : IsFactory m) where
       (pins_from (a + 1) n (omega (arith, le)))
 
   pub card-factory : card_of m ≡ factory_card
-  unfolding card_of
+  unfolding card_of pins_of
   card-factory =
       let state : (word m 0 2 == 0) ≡ true = ap (λ (w : ℕ). w == 0) (place 0 2 (lit< tt) (lit< tt)) in
       let all = pins_from 0 8 (lit≤ tt) in

@@ -1,8 +1,8 @@
 -- What DELETE FILE and CREATE FILE do, on any card.
-use Rattle.std.proofs.Common.{◌≡◌, ◌==◌, ℕ, Bool, true, false, List, [], ◌∷◌, ◌++◌, length, Option, Some, None, is_none}
+use Rattle.std.proofs.Common.{◌≡◌, ◌==◌, ◌||◌, ℕ, Bool, true, false, not, List, [], ◌∷◌, ◌++◌, length, Option, Some, None, is_none}
 use Rattle.std.proofs.Common.{unwrap_or, Result, Ok, Err, if◌then◌else◌, ◌∙◌, ap, refl}
 use Rattle.card_rules.specs.declared.status.Sw.{Sw}
-use Rattle.card_rules.specs.declared.status.TheConstants.Sw.{CONDITIONS_NOT_SATISFIED, DONE, FILE_NOT_FOUND}
+use Rattle.card_rules.specs.declared.status.TheConstants.Sw.{ACCESS_DENIED, CONDITIONS_NOT_SATISFIED, DONE, FILE_NOT_FOUND}
 use Rattle.card_rules.specs.declared.status.TheConstants.Sw.{FILE_EXISTS, NAME_EXISTS, NO_ROOM, WRONG_DATA}
 use Rattle.fcp_template.specs.declared.fault.FcpFault.{FcpFault}
 use Rattle.fcp_template.specs.declared.fcp.Fcp.{Fcp}
@@ -12,54 +12,75 @@ use Rattle.apdu_core.specs.declared.files.Subject.{Subject}
 use Rattle.apdu_core.specs.Requests.{create_file, delete_file}
 use Rattle.file_tree.specs.NewFiles.{creation_refusal, first_reason, has_name, has_no_room, has_short_given}
 use Rattle.card_core.specs.Cards.{Card, Path, exists, parent}
-use Rattle.card_core.specs.Files.{create_refusals, created_card, delete_refusals, deleted_card, file_created}
-use Rattle.card_core.specs.Files.{file_deleted, new_outcome, place_refusals, tells_none, told_by, with_new, without}
-use Rattle.card_core.specs.Outcomes.{first_applying, refused, refused_by, only_status, unless_refused}
+use Rattle.card_core.specs.Files.{create_refusals, created_card, creation_bit, delete_refusals, deleted_card}
+use Rattle.card_core.specs.Files.{new_outcome, place_refusals, tells_none, told_by, with_new, without}
+use Rattle.card_core.specs.Outcomes.{first_applying, refused, refused_by, only_status}
 use Rattle.card_core.specs.Reaching.{subject_of}
 use Rattle.card_core.specs.Sessions.{Session, at_dedicated_file}
-use Rattle.card_core.specs.Steps.{step, refusals_of, effect}
+use Rattle.card_core.specs.Stages.{commits}
+use Rattle.card_core.specs.Steps.{served, refusals_of, effect}
+use Rattle.card_core.specs.Working.{file_refusal}
+use Rattle.card_core.proofs.Guarding.{served-done, served-refused}
+use Rattle.card_core.specs.Guards.{allowed}
+use Rattle.file_tree.specs.States.{has_barred_above, is_barred}
+use Rattle.card_rules.specs.declared.access_mode.AccessBit.TheVariants.{DeleteChild, DeleteSelf}
 
 module _ (c : Card) (s : Session) (subject : Subject) where
-  -- the refusals by their tests: no file, and the master file
-  abbrev verdict : Bool → Bool → Option Sw
-  verdict none master = if none then Some FILE_NOT_FOUND else if master then Some CONDITIONS_NOT_SATISFIED else None
+  -- the refusals by their tests: no file, the master file, and then what the file calls for
+  abbrev verdict : Bool → Bool → Option Sw → Option Sw
+  verdict none master rest =
+      if none then Some FILE_NOT_FOUND else if master then Some CONDITIONS_NOT_SATISFIED else rest
 
-  abbrev is_master : Option Path → Bool
-  is_master found = length (unwrap_or found []) == 0
+  -- the refusals by a path: a file above it is barred, and its rule or that of its parent doesn't allow it
+  abbrev by_file : Path → Option Sw
+  by_file path = file_refusal (has_barred_above c.tree path) true
+      (allowed c s path DeleteSelf || allowed c s (parent path) DeleteChild)
 
   by_place : (found : Option Path) → subject_of c.tree s subject ≡ found
-      → step c s (delete_file subject)
-      ≡ unless_refused c s (verdict (is_none found) (is_master found)) (file_deleted c s subject)
-  unfolding step refusals_of effect
-  by_place found place =
-      ap (λ (f : Option Path). unless_refused c s (verdict (is_none f) (is_master f)) (file_deleted c s subject)) place
+      → refused_by (delete_refusals c s subject)
+      ≡ verdict (is_none found) (length (unwrap_or found []) == 0) (by_file (unwrap_or found []))
+  by_place found place = ap (λ (f : Option Path). verdict (is_none f) (length (unwrap_or f []) == 0)
+      (by_file (unwrap_or f []))) place
 
-  -- a file that isn't found
-  pub delete-missed : subject_of c.tree s subject ≡ None → step c s (delete_file subject) ≡ refused c s FILE_NOT_FOUND
+  -- a file that isn't found, and the master file
+  pub delete-missed : subject_of c.tree s subject ≡ None → refused_by (delete_refusals c s subject) ≡ Some FILE_NOT_FOUND
   delete-missed place = by_place None place
 
-  -- the master file
   pub delete-master : subject_of c.tree s subject ≡ Some []
-      → step c s (delete_file subject) ≡ refused c s CONDITIONS_NOT_SATISFIED
+      → refused_by (delete_refusals c s subject) ≡ Some CONDITIONS_NOT_SATISFIED
   delete-master place = by_place (Some []) place
 
+  -- a refusal
+  pub delete-refused : (status : Sw) → refused_by (delete_refusals c s subject) ≡ Some status
+      → served c s (delete_file subject) ≡ refused c s status
+  unfolding refusals_of
+  delete-refused status is = served-refused c s (delete_file subject) status is
+
   -- another file
-  module _ (path : Path) (place : subject_of c.tree s subject ≡ Some path) (below : (length path == 0) ≡ false) where
+  module _ (path : Path) (place : subject_of c.tree s subject ≡ Some path) where
+    pub delete-by-file : (length path == 0) ≡ false → refused_by (delete_refusals c s subject) ≡ by_file path
+    delete-by-file below = by_place (Some path) place ∙ ap (λ (b : Bool). verdict false b (by_file path)) below
+
     path-is : unwrap_or (subject_of c.tree s subject) [] ≡ path
     path-is = ap (λ (f : Option Path). unwrap_or f []) place
 
-    pub delete-unrefused : refused_by (delete_refusals c s subject) ≡ None
-    delete-unrefused =
-        ap (λ (f : Option Path). verdict (is_none f) (is_master f)) place ∙ ap (λ (b : Bool). verdict false b) below
-
-    pub delete-card : deleted_card c s subject ≡ without c path
+    delete-card : deleted_card c s subject ≡ without c path
     delete-card = ap (λ (p : Path). without c p) path-is
 
-    pub delete-done : step c s (delete_file subject)
+    pub delete-commits : commits c s (delete_file subject) ≡ without c path ∷ []
+    unfolding commits
+    delete-commits = ap (λ (d : Card). d ∷ []) delete-card
+
+    pub delete-unrefused : refused_by (delete_refusals c s subject) ≡ None
+        → refused_by (refusals_of c s (delete_file subject)) ≡ None
+    unfolding refusals_of
+    delete-unrefused none = none
+
+    pub delete-done : refused_by (delete_refusals c s subject) ≡ None → served c s (delete_file subject)
         ≡ record { card = without c path; session = at_dedicated_file s (parent path); response = only_status DONE }
-    delete-done =
-        by_place (Some path) place
-        ∙ ap (λ (b : Bool). unless_refused c s (verdict false b) (file_deleted c s subject)) below
+    unfolding effect
+    delete-done none =
+        served-done c s (delete_file subject) (delete-unrefused none)
         ∙ (λ i. record {
           card = delete-card i;
           session = at_dedicated_file s (parent (path-is i));
@@ -81,43 +102,79 @@ five false false false false true = refl
 five false false false false false = refl
 
 module _ (c : Card) (s : Session) (template : List ℕ) where
-  -- the refusal by what the template reads as
-  abbrev by_reading : Result Fcp FcpFault → Option Sw
-  by_reading read =
-      if tells_none read then Some WRONG_DATA else first_applying (place_refusals c s.current_df (told_by read))
+  -- the refusals by their tests: the dedicated file is barred, the template tells of no file, the rule doesn't allow it
+  abbrev by_guards : Bool → Bool → Bool → Option Sw → Option Sw
+  by_guards barred none permitted rest =
+      if barred then Some CONDITIONS_NOT_SATISFIED else
+      if none then Some WRONG_DATA else
+      if not permitted then Some ACCESS_DENIED else rest
 
-  -- a template that tells of no file
-  pub create-unread : (fault : FcpFault) → fcp_read template ≡ Err fault
-      → step c s (create_file template) ≡ refused c s WRONG_DATA
-  unfolding step refusals_of effect
-  create-unread fault is = ap (λ (read : Result Fcp FcpFault). unless_refused c s (by_reading read) (new_outcome c s
-      (told_by read))) is
+  -- and by what the template reads as
+  abbrev by_reading : Bool → Result Fcp FcpFault → Option Sw
+  by_reading barred read = by_guards barred (tells_none read)
+      (allowed c s s.current_df (creation_bit (told_by read).kind))
+      (first_applying (place_refusals c s.current_df (told_by read)))
 
-  -- a template that tells of one
-  module _ (fcp : Fcp) (is : fcp_read template ≡ Ok fcp) where
-    refusal-is : refused_by (create_refusals c s template) ≡ creation_refusal c.tree s.current_df fcp
-    refusal-is =
-        ap by_reading is
-        ∙ five (exists c.tree (s.current_df ++ fcp.identifier ∷ [])) (has_name c.tree (name_bytes fcp.kind))
-        (has_short_given c.tree s.current_df (short_of_kind fcp.kind)) (length s.current_df == 7)
-        (has_no_room c.tree fcp.kind)
+  create-verdict : (barred : Bool) → is_barred c.tree s.current_df ≡ barred → (read : Result Fcp FcpFault)
+      → fcp_read template ≡ read → refused_by (create_refusals c s template) ≡ by_reading barred read
+  create-verdict barred bars read is = λ i. by_reading (bars i) (is i)
 
-    pub create-refused : (status : Sw) → creation_refusal c.tree s.current_df fcp ≡ Some status
-        → step c s (create_file template) ≡ refused c s status
-    unfolding step refusals_of effect
-    create-refused status refuses = ap (λ (refusal : Option Sw). unless_refused c s refusal (file_created c s
-        template)) (refusal-is ∙ refuses)
+  create-refusal : (status : Sw) → refused_by (create_refusals c s template) ≡ Some status
+      → served c s (create_file template) ≡ refused c s status
+  unfolding refusals_of
+  create-refusal status is = served-refused c s (create_file template) status is
 
-    pub create-unrefused : creation_refusal c.tree s.current_df fcp ≡ None
-        → refused_by (create_refusals c s template) ≡ None
-    create-unrefused none = refusal-is ∙ none
+  -- a dedicated file that is barred
+  pub create-barred : is_barred c.tree s.current_df ≡ true
+      → served c s (create_file template) ≡ refused c s CONDITIONS_NOT_SATISFIED
+  create-barred bars = create-refusal CONDITIONS_NOT_SATISFIED (create-verdict true bars (fcp_read template) refl)
 
-    pub create-card : created_card c s template ≡ with_new c s.current_df fcp
-    create-card = ap (λ (read : Result Fcp FcpFault). with_new c s.current_df (told_by read)) is
+  module _ (unbarred : is_barred c.tree s.current_df ≡ false) where
+    -- a template that tells of no file
+    pub create-unread : (fault : FcpFault) → fcp_read template ≡ Err fault
+        → served c s (create_file template) ≡ refused c s WRONG_DATA
+    create-unread fault is = create-refusal WRONG_DATA (create-verdict false unbarred (Err fault) is)
 
-    pub create-done : creation_refusal c.tree s.current_df fcp ≡ None
-        → step c s (create_file template) ≡ new_outcome c s fcp
-    unfolding step refusals_of effect
-    create-done none =
-        ap (λ (refusal : Option Sw). unless_refused c s refusal (file_created c s template)) (create-unrefused none)
-        ∙ ap (λ (read : Result Fcp FcpFault). new_outcome c s (told_by read)) is
+    -- a template that tells of one
+    module _ (fcp : Fcp) (is : fcp_read template ≡ Ok fcp) where
+      by_rule : (permitted : Bool) → allowed c s s.current_df (creation_bit fcp.kind) ≡ permitted
+          → refused_by (create_refusals c s template)
+          ≡ by_guards false false permitted (first_applying (place_refusals c s.current_df fcp))
+      by_rule permitted told =
+          create-verdict false unbarred (Ok fcp) is
+          ∙ ap (λ (b : Bool). by_guards false false b (first_applying (place_refusals c s.current_df fcp))) told
+
+      pub create-denied : allowed c s s.current_df (creation_bit fcp.kind) ≡ false
+          → served c s (create_file template) ≡ refused c s ACCESS_DENIED
+      create-denied denied = create-refusal ACCESS_DENIED (by_rule false denied)
+
+      module _ (permitted : allowed c s s.current_df (creation_bit fcp.kind) ≡ true) where
+        refusal-is : refused_by (create_refusals c s template) ≡ creation_refusal c.tree s.current_df fcp
+        refusal-is =
+            by_rule true permitted
+            ∙ five (exists c.tree (s.current_df ++ fcp.identifier ∷ [])) (has_name c.tree (name_bytes fcp.kind))
+            (has_short_given c.tree s.current_df (short_of_kind fcp.kind)) (length s.current_df == 7)
+            (has_no_room c.tree fcp.kind)
+
+        pub create-refused : (status : Sw) → creation_refusal c.tree s.current_df fcp ≡ Some status
+            → served c s (create_file template) ≡ refused c s status
+        create-refused status refuses = create-refusal status (refusal-is ∙ refuses)
+
+        pub create-unrefused : creation_refusal c.tree s.current_df fcp ≡ None
+            → refused_by (refusals_of c s (create_file template)) ≡ None
+        unfolding refusals_of
+        create-unrefused none = refusal-is ∙ none
+
+        create-card : created_card c s template ≡ with_new c s.current_df fcp
+        create-card = ap (λ (read : Result Fcp FcpFault). with_new c s.current_df (told_by read)) is
+
+        pub create-commits : commits c s (create_file template) ≡ with_new c s.current_df fcp ∷ []
+        unfolding commits
+        create-commits = ap (λ (d : Card). d ∷ []) create-card
+
+        pub create-done : creation_refusal c.tree s.current_df fcp ≡ None
+            → served c s (create_file template) ≡ new_outcome c s fcp
+        unfolding effect
+        create-done none =
+            served-done c s (create_file template) (create-unrefused none)
+            ∙ ap (λ (read : Result Fcp FcpFault). new_outcome c s (told_by read)) is

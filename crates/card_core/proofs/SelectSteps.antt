@@ -14,7 +14,7 @@ use Rattle.card_core.specs.Reaching.{selected_from}
 use Rattle.card_core.specs.Selecting.{select_refusals, selected, selected_data, selected_path, selecting, selection_data}
 use Rattle.card_core.specs.Selecting.{selection_status}
 use Rattle.card_core.specs.Sessions.{Session}
-use Rattle.card_core.specs.Steps.{step, refusals_of, effect}
+use Rattle.card_core.specs.Steps.{served, refusals_of, effect}
 
 module _ (c : Card) (s : Session) (selection : Selection) (returned : Returned) (expected : Option ℕ) where
   -- the refusal by its tests: no file, and an Le that asks for less than what is found
@@ -23,8 +23,8 @@ module _ (c : Card) (s : Session) (selection : Selection) (returned : Returned) 
 
   -- a file that isn't reached
   pub select-missed : selected_from c.tree s.current_df selection ≡ None
-      → step c s (select selection returned expected) ≡ refused c s FILE_NOT_FOUND
-  unfolding step refusals_of effect
+      → served c s (select selection returned expected) ≡ refused c s FILE_NOT_FOUND
+  unfolding served refusals_of effect
   select-missed place =
       let found = selected_data c s selection returned in
       ap (λ (o : Option Path). unless_refused c s (verdict (is_none o) (asks_less expected found) found)
@@ -51,14 +51,14 @@ module _ (c : Card) (s : Session) (selection : Selection) (returned : Returned) 
 
     -- with an Le that asks for less than there is
     pub select-less : asks_less expected (selection_data returned c.tree path) ≡ true
-        → step c s (select selection returned expected)
+        → served c s (select selection returned expected)
         ≡ refused c s (right_length (selection_data returned c.tree path))
-    unfolding step refusals_of effect
+    unfolding served refusals_of effect
     select-less is = ap (λ (refusal : Option Sw). unless_refused c s refusal (selected c s selection returned
         expected)) (by_length true is)
 
     pub select-reached : asks_less expected (selection_data returned c.tree path) ≡ false
-        → step c s (select selection returned expected)
+        → served c s (select selection returned expected)
         ≡ record {
           card = c;
           session = selecting s path file.kind;
@@ -67,7 +67,7 @@ module _ (c : Card) (s : Session) (selection : Selection) (returned : Returned) 
             status = selection_status file.life;
           };
         }
-    unfolding step refusals_of effect
+    unfolding served refusals_of effect
     select-reached is =
         ap (λ (refusal : Option Sw). unless_refused c s refusal (selected c s selection returned expected))
         (by_length false is)

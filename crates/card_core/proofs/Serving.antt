@@ -1,16 +1,15 @@
 -- READ BINARY and UPDATE BINARY by the entry of the file that is named.
-use Rattle.std.proofs.Common.{◌≡◌, ◌≢◌, ◌⊎◌, ◌<◌, ◌≤◌, ◌+◌, ◌-◌, ◌*◌, ◌==◌, ℕ, min, Bool, true, false, not, nat_le}
+use Rattle.std.proofs.Common.{◌≡◌, ◌≢◌, ◌⊎◌, ◌<◌, ◌≤◌, ◌+◌, ◌-◌, ◌*◌, ◌==◌, ℕ, min, Bool, true, false, nat_le}
 use Rattle.std.proofs.Common.{nat_lt, List, [], ◌++◌, length, length-take, take, drop}
-use Rattle.std.proofs.Common.{Option, Some, None, is_some, refl, sym, ◌∙◌, ap, ap₂, subst, arith, if◌then◌else◌, inl}
-use Rattle.std.proofs.Common.{inr, ⊎_elim, true≢false}
-use Rattle.std.proofs.lemmas.Bool.{lt-ltb, le-ltb, lt-leb, ne_eqb, cases_eq}
-use Rattle.std.proofs.lemmas.Bool.Decides.{eqb_tells, leb_tells}
+use Rattle.std.proofs.Common.{Some, None, refl, sym, ◌∙◌, ap, ap₂, subst, arith, if◌then◌else◌, inl}
+use Rattle.std.proofs.Common.{inr, ⊎_elim}
+use Rattle.std.proofs.lemmas.Bool.{lt-ltb, le-ltb, le-leb, lt-leb, ne_eqb, cases_eq}
 use Rattle.std.specs.FinMap.{insert}
 use Rattle.std.proofs.Math.Nat.{min-le_left, min-le_right}
-use Rattle.std.specs.FinSet.{empty}
 use Rattle.nvm_board.specs.declared.board.TheConstants.{WORDS}
-use Rattle.card_rules.specs.declared.status.Sw.{Sw}
-use Rattle.card_rules.specs.declared.status.TheConstants.Sw.{DONE, NO_ROOM, WRONG_OFFSET, WRONG_STRUCTURE}
+use Rattle.card_rules.specs.declared.status.TheConstants.Sw.{DONE, NO_ROOM, WRONG_OFFSET}
+use Rattle.card_rules.specs.declared.access_mode.AccessBit.{AccessBit}
+use Rattle.card_rules.specs.declared.access_mode.AccessBit.TheVariants.{Read, Update}
 use Rattle.apdu_core.specs.declared.binary.Target.{Target}
 use Rattle.apdu_core.specs.declared.binary.Target.TheVariants.{Current, Short}
 use Rattle.apdu_core.specs.Requests.{read_binary, update_binary}
@@ -29,23 +28,35 @@ use Rattle.file_tree.specs.laws.Nodes.{file_in, file_at_entry, used_small}
 use Rattle.file_tree.specs.laws.Paths.{parent_path, identifier_path}
 use Rattle.file_tree.specs.laws.Rewriting.{rewritten}
 use Rattle.card_core.specs.declared.current.Current.{Current as CurrentFiles}
-use Rattle.card_core.specs.Binaries.{binary_refusals, update_refusals, updated_card, naming, read_response, IsUpdating}
+use Rattle.card_core.specs.declared.named.Need.{Need}
+use Rattle.card_core.specs.declared.named.Structure.TheVariants.{Bytes}
+use Rattle.card_core.specs.Binaries.{read_response}
+use Rattle.card_core.specs.Elementary.{file_refusals, naming}
 use Rattle.card_core.specs.Cards.{Card, with_content}
 use Rattle.card_core.specs.Outcomes.{Response, refused, refused_by, only_status}
 use Rattle.card_core.specs.Reaching.{target_of}
-use Rattle.card_core.specs.Sessions.{Session}
+use Rattle.card_core.specs.Sessions.{Session, marked}
+use Rattle.card_core.specs.laws.FoundLaws.{same-of}
+use Rattle.card_core.specs.Served.{IsDoing}
 use Rattle.card_core.specs.Standing.{card_of, IsCard}
-use Rattle.card_core.specs.Steps.{step}
-use Rattle.card_core.specs.Working.{end_status, entry_refusal, named_from, outcome, read_count, session_of, IsCurrent}
-use Rattle.card_core.specs.Working.{IsElementary, IsFound}
-use Rattle.card_core.proofs.BinarySteps.{refused-named, read-within, update-long, update-within, update-unrefused}
-use Rattle.card_core.proofs.BinarySteps.{update-card}
-use Rattle.card_core.proofs.Contents.{transparent-is, records-is, content-is, room-is, chain-is, fits-chain}
+use Rattle.card_core.specs.Steps.{served}
+use Rattle.card_core.specs.Working.{end_status, named_from, outcome, read_count, session_of, IsCurrent, IsElementary}
+use Rattle.card_core.specs.Working.{IsNamed}
+use Rattle.card_core.proofs.BinarySteps.{read-past, read-within, update-commits, update-long, update-past}
+use Rattle.card_core.proofs.BinarySteps.{update-unrefused, update-within}
+use Rattle.card_core.proofs.Doing.{doing-one}
+use Rattle.card_core.proofs.Contents.{transparent-is, content-is, room-is, chain-is, fits-chain}
 use Rattle.card_core.proofs.Contents.{length-content, response-is}
 use Rattle.card_core.proofs.Entries.{card-tree, there}
 use Rattle.card_core.proofs.Keeping.{files-stand, files-after}
 
--- the session after a binary command that named the file of an entry
+-- the current files after a command on contents that named the file of an entry
+pub named-current : (m : List ℕ) (x : CurrentFiles) (e : ℕ) → IsElementary (table m) x.df e → (target : Target)
+    → IsCurrent (table m) x → IsCurrent (table m) (named_from x target e)
+named-current m x e file Current current = current
+named-current m x e file (Short n) current = record { df = current.df; ef = file; marks = current.marks }
+
+-- the session after a command on contents that named the file of an entry
 pub naming-entry : (m : List ℕ) (words : IsCard m) (x : CurrentFiles) (target : Target) (e : ℕ)
     → IsElementary (table m) x.df e
     → naming (session_of (table m) x) target (path_of (table m) e) ≡ session_of (table m) (named_from x target e)
@@ -53,7 +64,7 @@ naming-entry m words x Current e file = refl
 naming-entry m words x (Short n) e file =
     let above = parent_path (table m) words.tree.entries e file.child.used ∙ ap (path_of (table m)) file.child.parent in
     let id = identifier_path (table m) words.tree.entries e file.child.used in
-    λ i. record { current_df = above i; current_ef = Some (id i); pointer = None; verified = empty }
+    λ i. record { current_df = above i; current_ef = Some (id i); pointer = None; verified = marked x.verified }
 
 module _ (m : List ℕ) (sized : length m ≡ WORDS) (words : IsCard m) (x : CurrentFiles) (target : Target) (e : ℕ)
     (file : IsElementary (table m) x.df e) (place : target_of (card_of m).tree (session_of (table m) x) target
@@ -79,27 +90,6 @@ module _ (m : List ℕ) (sized : length m ≡ WORDS) (words : IsCard m) (x : Cur
   below : e < 64
   below = used_small m e used
 
-  -- what refuses by the entry
-  pub refusal-is : (offset : ℕ) → refused_by (binary_refusals c s target offset) ≡ entry_refusal entry offset
-  refusal-is offset =
-      refused-named c s target path f place (there m words e used) offset
-      ∙ ⊎_elim
-      (λ (bytes : entry.kind ≡ 2).
-      let right : not (is_transparent f.kind) ≡ false = ap (λ (k : Kind). not (is_transparent k)) (transparent-is m e
-      bytes) in
-      let test : not (entry.kind == 2) ≡ false = ap (λ (k : ℕ). not (k == 2)) bytes in
-      let size = length-content m e sized words below file.kind bytes in
-      (λ i. by (right i) (nat_le (size i) offset)) ∙ sym (λ i. by (test i) (nat_le entry.size offset)))
-      (λ (records : entry.kind ≢ 2).
-      let wrong : not (is_transparent f.kind) ≡ true = ap not (records-is m e file.kind records) in
-      let test : not (entry.kind == 2) ≡ true = ap not (ne_eqb entry.kind 2 records) in
-      (λ i. by (wrong i) (nat_le (length (bytes_in f.kind)) offset))
-      ∙ sym (λ i. by (test i) (nat_le entry.size offset)))
-      (cases_eq entry.kind 2)
-    where
-      by : Bool → Bool → Option Sw
-      by wrong past = if wrong then Some WRONG_STRUCTURE else if past then Some WRONG_OFFSET else None
-
   module _ (bytes_kind : entry.kind ≡ 2) (offset : ℕ) (within : offset < entry.size) where
     transparent : is_transparent f.kind ≡ true
     transparent = ap is_transparent (transparent-is m e bytes_kind)
@@ -111,11 +101,12 @@ module _ (m : List ℕ) (sized : length m ≡ WORDS) (words : IsCard m) (x : Cur
     inside = lt-leb (length (bytes_in f.kind)) offset (omega (arith, size-is, within))
 
     -- READ BINARY
-    pub reads : (expected : ℕ) → step c s (read_binary target offset expected)
+    pub reads : (expected : ℕ) → refused_by (file_refusals c s target is_transparent Read) ≡ None
+        → served c s (read_binary target offset expected)
         ≡ outcome c (session_of (table m) (named_from x target e))
         (take (read_count (entry.size - offset) expected) (drop offset (bytes_of m (chain m entry.first))))
         (end_status (entry.size - offset) expected)
-    reads expected =
+    reads expected free =
         let bytes = content m entry in
         let is = content-is m e sized words below file.kind in
         let fits = room-is m e sized words below file.kind in
@@ -127,7 +118,7 @@ module _ (m : List ℕ) (sized : length m ≡ WORDS) (words : IsCard m) (x : Cur
         } =
         ap (λ (k : Kind). read_response (drop offset (bytes_in k)) expected) (transparent-is m e bytes_kind)
         ∙ response-is bytes entry.size offset expected fits within in
-        read-within c s target path f place (there m words e used) transparent offset expected inside
+        read-within c s target offset path f place (there m words e used) expected free inside
         ∙ ap₂ (λ (session : Session) (r : Response). record { card = c; session = session; response = r })
         (naming-entry m words x target e file) response
         ∙ ap (λ (b : List ℕ). outcome c (session_of (table m) (named_from x target e)) (take (read_count (entry.size -
@@ -135,19 +126,18 @@ module _ (m : List ℕ) (sized : length m ≡ WORDS) (words : IsCard m) (x : Cur
         (end_status (entry.size - offset) expected)) is
 
     -- UPDATE BINARY that would end past the end
-    pub updates-long : (bytes : List ℕ) → entry.size - offset < length bytes
-        → step c s (update_binary target offset bytes) ≡ refused c s NO_ROOM
-    updates-long bytes many =
-        update-long c s target path f place (there m words e used) transparent offset bytes inside
+    pub updates-long : (bytes : List ℕ) → refused_by (file_refusals c s target is_transparent Update) ≡ None
+        → entry.size - offset < length bytes
+        → served c s (update_binary target offset bytes) ≡ refused c s NO_ROOM
+    updates-long bytes free many =
+        update-long c s target offset path f place (there m words e used) bytes free inside
         (lt-ltb (length (bytes_in f.kind)) (offset + length bytes) (omega (arith, size-is, within, many)))
 
     -- UPDATE BINARY
-    module _ (bytes : List ℕ) (few : length bytes ≤ entry.size - offset) where
+    module _ (bytes : List ℕ) (free : refused_by (file_refusals c s target is_transparent Update) ≡ None)
+        (few : length bytes ≤ entry.size - offset) where
       fits : nat_lt (length (bytes_in f.kind)) (offset + length bytes) ≡ false
       fits = le-ltb (length (bytes_in f.kind)) (offset + length bytes) (omega (arith, size-is, within, few))
-
-      pub unrefused : refused_by (update_refusals c s target offset bytes) ≡ None
-      unrefused = update-unrefused c s target path f place (there m words e used) transparent offset bytes inside fits
 
       module _ (after : List ℕ) (over : Overwrites m (chain m entry.first) offset bytes after) where
         rewrites : Rewrites m e offset bytes after
@@ -182,52 +172,40 @@ module _ (m : List ℕ) (sized : length m ≡ WORDS) (words : IsCard m) (x : Cur
             ∙ sym (ap (λ (tree : Tree). with_content (record c { tree = tree }) path (overwrite (bytes_in f.kind)
             offset bytes)) (card-tree m))
 
-        pub updated-is : card_of after ≡ updated_card c s target offset bytes
-        updated-is = card-is ∙ sym (update-card c s target path f place (there m words e used) transparent offset
-            bytes inside fits)
-
-        pub updates : step c s (update_binary target offset bytes)
+        pub updates : served c s (update_binary target offset bytes)
             ≡ outcome (card_of after) (session_of (table after) (named_from x target e)) [] DONE
         updates =
-            update-within c s target path f place (there m words e used) transparent offset bytes inside fits
+            update-within c s target offset path f place (there m words e used) bytes free inside fits
             ∙ (λ i. record {
               card = sym card-is i;
               session = naming-entry m words x target e file i;
-              response =
-                  only_status DONE;
+              response = only_status DONE;
             })
             ∙ ap (λ (t : List Entry). outcome (card_of after) (session_of t (named_from x target e)) [] DONE) (sym
             table-after)
 
--- an entry that nothing refuses
-pub unrefused-entry : (entry : Entry) (offset : ℕ) → entry_refusal entry offset ≡ None → (entry.kind
-    ≡ 2) × (offset < entry.size)
-unrefused-entry entry offset none = elim (eqb_tells entry.kind 2) [
-  | inl same ↦ elim (leb_tells entry.size offset) [
-    | inl past ↦ absurd (refuses (sym (λ i. by (not (same.0 i)) (past.0 i)) ∙ none))
-    | inr inside ↦ (same.1, let z = inside.1 in omega (arith, z))
-  ]
-  | inr other ↦ absurd (refuses (sym (λ i. by (not (other.0 i)) (nat_le entry.size offset)) ∙ none))
-]
-  where
-    by : Bool → Bool → Option Sw
-    by wrong past = if wrong then Some WRONG_STRUCTURE else if past then Some WRONG_OFFSET else None
+      -- the card before it, or with the bytes in it
+      pub updating : (after : List ℕ) → (after ≡ m) ⊎ Overwrites m (chain m entry.first) offset bytes after
+          → IsDoing c s (update_binary target offset bytes) (card_of after)
+      updating after left =
+          doing-one c s (update_binary target offset bytes) (with_content c path (overwrite (bytes_in f.kind) offset bytes))
+          (card_of after) (update-unrefused c s target offset path f place (there m words e used) bytes free inside fits)
+          (update-commits c s target offset path f place (there m words e used) bytes free inside fits)
+          (⊎_elim (λ (kept : after ≡ m). inl (ap card_of kept))
+          (λ (over : Overwrites m (chain m entry.first) offset bytes after). inr (card-is after over)) left)
 
-    refuses : {status : Sw} → Some status ≡ None → ⊥
-    refuses is = true≢false (ap (λ (o : Option Sw). is_some o) is)
+-- what a file of bytes is needed for
+abbrev pub bytes_for : AccessBit → Need
+bytes_for bit = record { structure = Bytes; bit = bit }
 
 -- what is found serves reads and writes: its chain leads over blocks, with room for its bytes
-module _ (m : List ℕ) (sized : length m ≡ WORDS) (words : IsCard m) (x : CurrentFiles) (target : Target) (offset e :
-    ℕ) (entry : Entry)
-    (found : IsFound m x target offset e entry) where
+module _ (m : List ℕ) (sized : length m ≡ WORDS) (words : IsCard m) (x : CurrentFiles) (target : Target) (bit : AccessBit)
+    (e : ℕ) (entry : Entry) (found : IsNamed m x target (bytes_for bit) e entry) where
   abbrev told : Entry
   told = entry_in (table m) e
 
-  pub found-kind : told.kind ≡ 2
-  found-kind = ap (λ (y : Entry). y.kind) (sym found.entry_is) ∙ found.transparent
-
-  pub found-within : offset < told.size
-  found-within = subst (λ (y : Entry). offset < y.size) found.entry_is found.within
+  found-kind : told.kind ≡ 2
+  found-kind = ap (λ (y : Entry). y.kind) (sym found.entry_is) ∙ same-of entry.kind 2 found.structure
 
   found-small : e < 64
   found-small = used_small m e found.file.child.used
@@ -240,97 +218,113 @@ module _ (m : List ℕ) (sized : length m ≡ WORDS) (words : IsCard m) (x : Cur
   found-fits = subst (λ (y : Entry). y.size ≤ 60 * length (chain m y.first)) (sym found.entry_is) (fits-chain m e
       sized words found-small found.file.kind)
 
-  pub found-read : (expected : ℕ) → step (card_of m) (session_of (table m) x) (read_binary target offset expected)
+  -- an offset past the end
+  pub found-past : (offset : ℕ) → entry.size ≤ offset
+      → nat_le (length (bytes_in (file_in m e).kind)) offset ≡ true
+  found-past offset past =
+      let size = length-content m e sized words found-small found.file.kind found-kind in
+      let same = ap (λ (y : Entry). y.size) found.entry_is in
+      le-leb (length (bytes_in (file_in m e).kind)) offset (omega (arith, size, same, past))
+
+  module _ (offset : ℕ) (within : offset < entry.size) where
+    told-within : offset < told.size
+    told-within = subst (λ (y : Entry). offset < y.size) found.entry_is within
+
+    few-told : (bytes : List ℕ) → length bytes ≤ entry.size - offset → length bytes ≤ told.size - offset
+    few-told bytes few = subst (λ (y : Entry). length bytes ≤ y.size - offset) found.entry_is few
+
+-- READ BINARY of what is found
+module _ (m : List ℕ) (sized : length m ≡ WORDS) (words : IsCard m) (x : CurrentFiles) (target : Target)
+    (e : ℕ) (entry : Entry) (found : IsNamed m x target (bytes_for Read) e entry) (offset expected : ℕ) where
+  pub found-read-past : entry.size ≤ offset
+      → served (card_of m) (session_of (table m) x) (read_binary target offset expected)
+      ≡ refused (card_of m) (session_of (table m) x) WRONG_OFFSET
+  found-read-past past =
+      read-past (card_of m) (session_of (table m) x) target offset (path_of (table m) e) (file_in m e) found.place
+      (there m words e found.file.child.used) expected found.unrefused
+      (found-past m sized words x target Read e entry found offset past)
+
+  pub found-read : offset < entry.size
+      → served (card_of m) (session_of (table m) x) (read_binary target offset expected)
       ≡ outcome (card_of m) (session_of (table m) (named_from x target e))
       (take (read_count (entry.size - offset) expected) (drop offset (bytes_of m (chain m entry.first)))) (end_status
       (entry.size - offset) expected)
-  found-read expected =
-      reads m sized words x target e found.file found.place found-kind offset found-within expected
+  found-read within =
+      reads m sized words x target e found.file found.place (found-kind m sized words x target Read e entry found) offset
+      (told-within m sized words x target Read e entry found offset within) expected found.unrefused
       ∙ ap (λ (y : Entry). outcome (card_of m) (session_of (table m) (named_from x target e))
       (take (read_count (y.size - offset) expected) (drop offset (bytes_of m (chain m y.first)))) (end_status (y.size
       - offset) expected)) (sym found.entry_is)
 
-  pub found-long : (bytes : List ℕ) → entry.size - offset < length bytes
-      → step (card_of m) (session_of (table m) x) (update_binary target offset bytes)
-      ≡ refused (card_of m) (session_of (table m) x) NO_ROOM
-  found-long bytes many =
-      updates-long m sized words x target e found.file found.place found-kind offset found-within bytes
-      (subst (λ (y : Entry). y.size - offset < length bytes) found.entry_is many)
+-- UPDATE BINARY of what is found
+module _ (m : List ℕ) (sized : length m ≡ WORDS) (words : IsCard m) (x : CurrentFiles) (target : Target)
+    (e : ℕ) (entry : Entry) (found : IsNamed m x target (bytes_for Update) e entry) (offset : ℕ) (bytes : List ℕ) where
+  pub found-update-past : entry.size ≤ offset
+      → served (card_of m) (session_of (table m) x) (update_binary target offset bytes)
+      ≡ refused (card_of m) (session_of (table m) x) WRONG_OFFSET
+  found-update-past past =
+      update-past (card_of m) (session_of (table m) x) target offset (path_of (table m) e) (file_in m e) found.place
+      (there m words e found.file.child.used) bytes found.unrefused
+      (found-past m sized words x target Update e entry found offset past)
 
-  few-told : (bytes : List ℕ) → length bytes ≤ entry.size - offset → length bytes ≤ told.size - offset
-  few-told bytes few = subst (λ (y : Entry). length bytes ≤ y.size - offset) found.entry_is few
+  module _ (within : offset < entry.size) where
+    in_told : offset < (entry_in (table m) e).size
+    in_told = told-within m sized words x target Update e entry found offset within
 
-  module _ (bytes : List ℕ) (few : length bytes ≤ entry.size - offset) (after : List ℕ) (over : Overwrites m (chain m
-      entry.first) offset bytes after) where
-    few_told : length bytes ≤ told.size - offset
-    few_told = few-told bytes few
+    of_bytes : (entry_in (table m) e).kind ≡ 2
+    of_bytes = found-kind m sized words x target Update e entry found
 
-    over_told : Overwrites m (chain m told.first) offset bytes after
-    over_told = subst (λ (y : Entry). Overwrites m (chain m y.first) offset bytes after) found.entry_is over
+    pub found-long : entry.size - offset < length bytes
+        → served (card_of m) (session_of (table m) x) (update_binary target offset bytes)
+        ≡ refused (card_of m) (session_of (table m) x) NO_ROOM
+    found-long many =
+        updates-long m sized words x target e found.file found.place of_bytes offset in_told bytes found.unrefused
+        (subst (λ (y : Entry). y.size - offset < length bytes) found.entry_is many)
 
-    pub found-stands : IsCard after
-    found-stands = stands-after m sized words x target e found.file found.place found-kind offset found-within bytes
-        few_told after over_told
+    -- a write that was cut, or not: the memory before it was only read
+    module _ (few : length bytes ≤ entry.size - offset) (now after : List ℕ) (k : Chain) (same : now ≡ m)
+        (is : k ≡ record { first = entry.first; last = entry.last }) where
+      few_told : length bytes ≤ (entry_in (table m) e).size - offset
+      few_told = few-told m sized words x target Update e entry found offset within bytes few
 
-    pub found-table : table after ≡ table m
-    found-table = table-after m sized words x target e found.file found.place found-kind offset found-within bytes
-        few_told after over_told
+      over_is : Overwrites now (chain now k.first) offset bytes after
+          → Overwrites m (chain m (entry_in (table m) e).first) offset bytes after
+      over_is over =
+          subst (λ (y : Entry). Overwrites m (chain m y.first) offset bytes after) found.entry_is
+          (subst (λ (l : List ℕ). Overwrites l (chain l entry.first) offset bytes after) same
+          (subst (λ (j : Chain). Overwrites now (chain now j.first) offset bytes after) is over))
 
-    pub found-update : step (card_of m) (session_of (table m) x) (update_binary target offset bytes)
-        ≡ outcome (card_of after) (session_of (table after) (named_from x target e)) [] DONE
-    found-update = updates m sized words x target e found.file found.place found-kind offset found-within bytes
-        few_told after over_told
+      pub written-stands : (after ≡ now) ⊎ Overwrites now (chain now k.first) offset bytes after → IsCard after
+      written-stands (inl kept) = subst IsCard (sym (kept ∙ same)) words
+      written-stands (inr over) = stands-after m sized words x target e found.file found.place of_bytes offset in_told
+          bytes found.unrefused few_told after (over_is over)
 
-    pub found-updating : IsUpdating (card_of m) (session_of (table m) x) target offset bytes (card_of after)
-    found-updating = record {
-      unrefused = unrefused m sized words x target e found.file found.place found-kind offset found-within bytes
-          few_told;
-      card = inr (updated-is m sized words x target e found.file found.place found-kind offset found-within bytes
-          few_told after over_told);
-    }
+      pub written-updating : (after ≡ now) ⊎ Overwrites now (chain now k.first) offset bytes after
+          → IsDoing (card_of m) (session_of (table m) x) (update_binary target offset bytes) (card_of after)
+      written-updating left =
+          updating m sized words x target e found.file found.place of_bytes offset in_told bytes found.unrefused few_told
+          after
+          (⊎_elim (λ (kept : after ≡ now). inl (kept ∙ same))
+          (λ (over : Overwrites now (chain now k.first) offset bytes after). inr (over_is over)) left)
 
-  -- a write that was cut, or not: the memory before it was only read
-  module _ (bytes : List ℕ) (few : length bytes ≤ entry.size - offset) (now after : List ℕ) (k : Chain) (same : now ≡ m)
-      (is : k ≡ record { first = entry.first; last = entry.last }) where
-    over_is : Overwrites now (chain now k.first) offset bytes after
-        → Overwrites m (chain m entry.first) offset bytes after
-    over_is over =
-        subst (λ (l : List ℕ). Overwrites l (chain l entry.first) offset bytes after) same
-        (subst (λ (j : Chain). Overwrites now (chain now j.first) offset bytes after) is over)
+      pub written-update : Overwrites now (chain now k.first) offset bytes after
+          → served (card_of m) (session_of (table m) x) (update_binary target offset bytes)
+          ≡ outcome (card_of after) (session_of (table after) (named_from x target e)) [] DONE
+      written-update over = updates m sized words x target e found.file found.place of_bytes offset in_told bytes
+          found.unrefused few_told after (over_is over)
 
-    pub written-stands : (after ≡ now) ⊎ Overwrites now (chain now k.first) offset bytes after → IsCard after
-    written-stands (inl kept) = subst IsCard (sym (kept ∙ same)) words
-    written-stands (inr over) = found-stands bytes few after (over_is over)
+      pub written-space : Overwrites now (chain now k.first) offset bytes after → free_space (card_of after).tree
+          ≡ free_space (card_of m).tree
+      written-space over = space-after m sized words x target e found.file found.place of_bytes offset in_told bytes
+          found.unrefused few_told after (over_is over)
 
-    pub written-updating : (after ≡ now) ⊎ Overwrites now (chain now k.first) offset bytes after
-        → IsUpdating (card_of m) (session_of (table m) x) target offset bytes (card_of after)
-    written-updating (inl kept) = record {
-      unrefused = unrefused m sized words x target e found.file found.place found-kind offset found-within bytes
-          (few-told bytes few);
-      card = inl (ap card_of (kept ∙ same));
-    }
-    written-updating (inr over) = found-updating bytes few after (over_is over)
-
-    pub written-update : Overwrites now (chain now k.first) offset bytes after
-        → step (card_of m) (session_of (table m) x) (update_binary target offset bytes)
-        ≡ outcome (card_of after) (session_of (table after) (named_from x target e)) [] DONE
-    written-update over = found-update bytes few after (over_is over)
-
-    pub written-space : Overwrites now (chain now k.first) offset bytes after → free_space (card_of after).tree
-        ≡ free_space (card_of m).tree
-    written-space over =
-        space-after m sized words x target e found.file found.place found-kind offset found-within bytes (few-told
-        bytes few) after
-        (over_told bytes few after (over_is over))
-
-    pub written-current : IsCurrent (table m) x → Overwrites now (chain now k.first) offset bytes after
-        → IsCurrent (table after) (named_from x target e)
-    written-current current over = subst (λ (t : List Entry). IsCurrent t (named_from x target e)) (sym (found-table
-        bytes few after (over_is over))) (named-current current target)
-      where
-        named-current : IsCurrent (table m) x → (t : Target) → IsCurrent (table m) (named_from x t e)
-        named-current current Current = current
-        named-current current (Short n) = record { df = current.df; ef = found.file }
+      pub written-current : IsCurrent (table m) x → Overwrites now (chain now k.first) offset bytes after
+          → IsCurrent (table after) (named_from x target e)
+      written-current current over =
+          subst (λ (t : List Entry). IsCurrent t (named_from x target e))
+          (sym (table-after m sized words x target e found.file found.place of_bytes offset in_told bytes found.unrefused
+          few_told after (over_is over)))
+          (named-current m x e found.file target current)
 
 -- so many bytes as are read are left, and fit an answer
 pub count-least : (left expected : ℕ) → expected < 256 → read_count left expected ≤ left

@@ -1,56 +1,36 @@
 -- READ BINARY and UPDATE BINARY: the bytes of a transparent file (ISO/IEC 7816-4, 11.3).
-use Rattle.std.specs.Prelude.{◌≡◌, ◌⊎◌, ℕ, ◌+◌, ◌==◌, not, nat_lt, nat_le, List, [], ◌∷◌, ◌++◌, length, take, drop}
-use Rattle.std.specs.Prelude.{None, is_none, unwrap_or, if◌then◌else◌}
-use Rattle.card_rules.specs.declared.status.Sw.{Sw}
-use Rattle.card_rules.specs.declared.status.TheConstants.Sw.{DONE, END_REACHED, WRONG_STRUCTURE, NO_CURRENT_EF}
-use Rattle.card_rules.specs.declared.status.TheConstants.Sw.{FILE_NOT_FOUND, NO_ROOM, WRONG_OFFSET}
+use Rattle.std.specs.Prelude.{ℕ, ◌+◌, ◌==◌, nat_lt, nat_le, List, [], ◌∷◌, length, take, drop}
+use Rattle.std.specs.Prelude.{if◌then◌else◌}
+use Rattle.card_rules.specs.declared.access_mode.AccessBit.TheVariants.{Read, Update}
+use Rattle.card_rules.specs.declared.status.TheConstants.Sw.{DONE, END_REACHED, NO_ROOM, WRONG_OFFSET}
 use Rattle.apdu_core.specs.declared.binary.Target.{Target}
-use Rattle.apdu_core.specs.declared.binary.Target.TheVariants.{Current, Short}
-use Rattle.card_core.specs.Cards.{Card, Path, Kind, file_at, identifier, parent, is_transparent, bytes_of, overwrite}
-use Rattle.card_core.specs.Cards.{with_content}
-use Rattle.card_core.specs.Outcomes.{Outcome, Refusals, Response, only_status, refused_by}
-use Rattle.card_core.specs.Reaching.{target_of}
-use Rattle.card_core.specs.Sessions.{Session, at_elementary_file}
+use Rattle.card_core.specs.Cards.{Card, is_transparent, bytes_of, overwrite, with_content}
+use Rattle.card_core.specs.Elementary.{file_refusals, naming, target_kind, target_path, with_limits}
+use Rattle.card_core.specs.Outcomes.{Outcome, Refusal, Refusals, Response, only_status}
+use Rattle.card_core.specs.Sessions.{Session}
 
--- the path of the file that is named; where none is, the command is refused
-abbrev pub target_path : Card → Session → Target → Path
-target_path c s target = unwrap_or (target_of c.tree s target) []
-
--- what that file is, and the bytes that it holds
-abbrev pub target_kind : Card → Session → Target → Kind
-target_kind c s target = (file_at c.tree (target_path c s target)).kind
-
+-- the bytes that the file that is named holds
 abbrev pub target_bytes : Card → Session → Target → List ℕ
 target_bytes c s target = bytes_of (target_kind c s target)
 
--- where no elementary file is named
-abbrev pub missing : Target → Sw
-missing Current = NO_CURRENT_EF
-missing (Short n) = FILE_NOT_FOUND
+-- an offset at the end of the bytes or past it; bytes from an offset on that reach past the end
+abbrev pub is_past : Card → Session → Target → ℕ → Refusal
+is_past c s target offset = record { applies = nat_le (length (target_bytes c s target)) offset; status = WRONG_OFFSET }
 
--- what refuses both commands alike: no such file; a file that isn't of bytes; an offset at its end or past it
-abbrev pub binary_refusals : Card → Session → Target → ℕ → Refusals
-binary_refusals c s target offset = record {
-  target = record { applies = is_none (target_of c.tree s target); status = missing target } ∷ [];
-  structure = record { applies = not (is_transparent (target_kind c s target)); status = WRONG_STRUCTURE } ∷ [];
-  template = [];
-  limits = record { applies = nat_le (length (target_bytes c s target)) offset; status = WRONG_OFFSET } ∷ [];
+abbrev pub is_too_long : Card → Session → Target → ℕ → List ℕ → Refusal
+is_too_long c s target offset bytes = record {
+  applies = nat_lt (length (target_bytes c s target)) (offset + length bytes);
+  status = NO_ROOM;
 }
 
--- what refuses UPDATE BINARY: besides, bytes that reach past the end
+-- what refuses READ BINARY and UPDATE BINARY
+abbrev pub read_refusals : Card → Session → Target → ℕ → Refusals
+read_refusals c s target offset = with_limits (file_refusals c s target is_transparent Read) (is_past c s target offset ∷ [])
+
 abbrev pub update_refusals : Card → Session → Target → ℕ → List ℕ → Refusals
 update_refusals c s target offset bytes =
-    let alike = binary_refusals c s target offset in
-    record alike {
-      limits = alike.limits
-          ++ record { applies = nat_lt (length (target_bytes c s target)) (offset + length bytes); status = NO_ROOM }
-          ∷ [];
-    }
-
--- the elementary file that a short identifier names becomes current anew
-abbrev pub naming : Session → Target → Path → Session
-naming s Current path = s
-naming s (Short n) path = at_elementary_file s (parent path) (identifier path)
+    with_limits (file_refusals c s target is_transparent Update)
+    (is_past c s target offset ∷ is_too_long c s target offset bytes ∷ [])
 
 -- Of the bytes from the offset on, Le 00 asks for all, at most 256; a larger Le than there are bytes gives them all.
 abbrev pub read_response : List ℕ → ℕ → Response
@@ -79,8 +59,3 @@ binary_updated c s target offset bytes = record {
   session = naming s target (target_path c s target);
   response = only_status DONE;
 }
-
--- UPDATE BINARY that isn't refused, at whatever exit: the card is the one before it, or the one with the bytes in it
-pub record IsUpdating (c : Card) (s : Session) (target : Target) (offset : ℕ) (bytes : List ℕ) (d : Card) : Type 0 where
-  pub unrefused : refused_by (update_refusals c s target offset bytes) ≡ None
-  pub card : (d ≡ c) ⊎ (d ≡ updated_card c s target offset bytes)

@@ -1,20 +1,24 @@
 -- Commands on files as such: CREATE FILE and DELETE FILE (ISO/IEC 7816-9).
-use Rattle.std.specs.Prelude.{◌≡◌, ◌⊎◌, ◌==◌, ℕ, List, [], ◌∷◌, ◌++◌, length, not, nat_eq, None, is_none, unwrap_or}
+use Rattle.std.specs.Prelude.{◌==◌, ◌||◌, ℕ, List, [], ◌∷◌, ◌++◌, length, not, nat_eq, None, is_none, unwrap_or}
 use Rattle.std.specs.Prelude.{Bool, true, false, Result, Ok, Err}
 use Rattle.std.specs.FinMap.{insert, retain_keys}
 use Rattle.std.specs.List.{starts_with}
+use Rattle.card_rules.specs.declared.access_mode.AccessBit.{AccessBit}
+use Rattle.card_rules.specs.declared.access_mode.AccessBit.TheVariants.{CreateDf, CreateEf, DeleteChild, DeleteSelf}
 use Rattle.card_rules.specs.declared.status.TheConstants.Sw.{DONE, CONDITIONS_NOT_SATISFIED, FILE_NOT_FOUND}
 use Rattle.card_rules.specs.declared.status.TheConstants.Sw.{FILE_EXISTS, NAME_EXISTS, NO_ROOM, WRONG_DATA}
 use Rattle.card_rules.specs.declared.life_cycle.LifeCycle.TheVariants.{Activated}
 use Rattle.fcp_template.specs.declared.fault.FcpFault.{FcpFault}
 use Rattle.fcp_template.specs.declared.fcp.Fcp.{Fcp}
-use Rattle.fcp_template.specs.declared.fcp.FileKind.TheVariants.{Df}
+use Rattle.fcp_template.specs.declared.fcp.FileKind.{FileKind}
+use Rattle.fcp_template.specs.declared.fcp.FileKind.TheVariants.{Df, Transparent, Linear, Cyclic}
 use Rattle.fcp_template.specs.Function.{fcp_read}
 use Rattle.fcp_template.specs.Views.{name_bytes, short_of_kind}
 use Rattle.file_tree.specs.NewFiles.{has_name, has_no_room, has_short_given, new_file, short_of_new}
 use Rattle.apdu_core.specs.declared.files.Subject.{Subject}
 use Rattle.card_core.specs.Cards.{Card, Path, exists, parent}
-use Rattle.card_core.specs.Outcomes.{Outcome, Refusal, Refusals, only_status, refused_by}
+use Rattle.card_core.specs.Guards.{allowed, barred_above, barred_file, denied, unless_allowed}
+use Rattle.card_core.specs.Outcomes.{Outcome, Refusal, Refusals, only_status}
 use Rattle.card_core.specs.Reaching.{subject_of}
 use Rattle.card_core.specs.Selecting.{selecting}
 use Rattle.card_core.specs.Sessions.{Session, at_dedicated_file}
@@ -23,13 +27,17 @@ use Rattle.card_core.specs.Sessions.{Session, at_dedicated_file}
 abbrev pub subject_path : Card → Session → Subject → Path
 subject_path c s subject = unwrap_or (subject_of c.tree s subject) []
 
--- what refuses DELETE FILE: no such file; the master file, which can't be deleted
+-- What refuses DELETE FILE: no such file; the master file, which can't be deleted; a file above it is deactivated or terminated,
+-- while the file itself may be; neither its own rule allows it nor, for the files in it, that of its parent.
 abbrev pub delete_refusals : Card → Session → Subject → Refusals
 delete_refusals c s subject = record {
   target = record { applies = is_none (subject_of c.tree s subject); status = FILE_NOT_FOUND }
       ∷ record { applies = length (subject_path c s subject) == 0; status = CONDITIONS_NOT_SATISFIED } ∷ [];
+  life_cycle = barred_above c (subject_path c s subject) ∷ [];
   structure = [];
   template = [];
+  access = unless_allowed (allowed c s (subject_path c s subject) DeleteSelf
+      || allowed c s (parent (subject_path c s subject)) DeleteChild) ∷ [];
   limits = [];
 }
 
@@ -47,11 +55,6 @@ file_deleted c s subject = record {
   session = at_dedicated_file s (parent (subject_path c s subject));
   response = only_status DONE;
 }
-
--- DELETE FILE that isn't refused, at whatever exit: the card is the one before it, or the one without the file
-pub record IsDeleting (c : Card) (s : Session) (subject : Subject) (d : Card) : Type 0 where
-  pub unrefused : refused_by (delete_refusals c s subject) ≡ None
-  pub card : (d ≡ c) ⊎ (d ≡ deleted_card c s subject)
 
 -- the file control parameters that a template tells; where it tells none, those of no file, and the command is refused
 abbrev pub no_parameters : Fcp
@@ -76,12 +79,22 @@ place_refusals c df fcp =
     ∷ record { applies = length df == 7; status = CONDITIONS_NOT_SATISFIED }
     ∷ record { applies = has_no_room c.tree fcp.kind; status = NO_ROOM } ∷ []
 
--- what refuses CREATE FILE: a template that tells of no file; what the file would need is taken
+-- what the rule of a dedicated file must allow for a file of a kind to be created in it
+abbrev pub creation_bit : FileKind → AccessBit
+creation_bit (Df name) = CreateDf
+creation_bit (Transparent short size) = CreateEf
+creation_bit (Linear short records) = CreateEf
+creation_bit (Cyclic short records) = CreateEf
+
+-- What refuses CREATE FILE: the current dedicated file is barred; a template that tells of no file; the rule of the current
+-- dedicated file doesn't allow a file of this kind in it; what the file would need is taken.
 abbrev pub create_refusals : Card → Session → List ℕ → Refusals
 create_refusals c s template = record {
   target = [];
+  life_cycle = barred_file c s.current_df ∷ [];
   structure = [];
   template = record { applies = tells_none (fcp_read template); status = WRONG_DATA } ∷ [];
+  access = denied c s s.current_df (creation_bit (told_by (fcp_read template)).kind) ∷ [];
   limits = place_refusals c s.current_df (told_by (fcp_read template));
 }
 
@@ -107,8 +120,3 @@ new_outcome c s fcp =
 
 abbrev pub file_created : Card → Session → List ℕ → Outcome
 file_created c s template = new_outcome c s (told_by (fcp_read template))
-
--- CREATE FILE that isn't refused, at whatever exit: the card is the one before it, or the one with the new file
-pub record IsCreating (c : Card) (s : Session) (template : List ℕ) (d : Card) : Type 0 where
-  pub unrefused : refused_by (create_refusals c s template) ≡ None
-  pub card : (d ≡ c) ⊎ (d ≡ created_card c s template)

@@ -7,11 +7,18 @@ pub mod Outcomes
 pub mod Lengths
 pub mod Templates
 pub mod Selecting
+pub mod Guards
+pub mod Elementary
 pub mod Binaries
 pub mod Files
+pub mod Records
+pub mod Increasing
+pub mod LifeCycles
+pub mod Pins
 pub mod Steps
 pub mod Stages
 pub mod Spending
+pub mod Comparing
 pub mod Standing
 pub mod Factory
 pub mod Finding
@@ -19,4 +26,7 @@ pub mod Running
 pub mod StartFaults
 pub mod Proper
 pub mod Working
+pub mod Changing
+pub mod Served
+pub mod FileGuards
 pub mod laws

@@ -32,16 +32,22 @@ pub record Refusal : Type 0 where
 pub record Refusals : Type 0 where
   -- the file that the command is about isn't there
   pub target : List Refusal
+  -- the file, or one above it, is in a state of its life cycle that doesn't allow the command
+  pub life_cycle : List Refusal
   -- its structure isn't one that the command is for
   pub structure : List Refusal
   -- the template that the command brings tells of no file
   pub template : List Refusal
+  -- the access rule of the file doesn't allow the command
+  pub access : List Refusal
   -- names that are taken, sizes, contents, and the length of the answer
   pub limits : List Refusal
 
 -- the order in which refusals count, for all commands
 abbrev pub in_order : Refusals → List Refusal
-in_order refusals = refusals.target ++ (refusals.structure ++ (refusals.template ++ refusals.limits))
+in_order refusals =
+    refusals.target
+    ++ (refusals.life_cycle ++ (refusals.structure ++ (refusals.template ++ (refusals.access ++ refusals.limits))))
 
 -- the first refusal that applies
 abbrev pub first_applying : List Refusal → Option Sw

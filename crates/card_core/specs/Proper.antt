@@ -2,6 +2,7 @@
 use Rattle.std.specs.Prelude.{◌≡◌, ◌<◌, ◌≤◌, ◌*◌, ℕ, List, length, All, Option, Some, None}
 use Rattle.std.specs.FinMap.{get}
 use Rattle.apdu_core.specs.OfBytes.{AreBytes}
+use Rattle.pin_store.specs.Pins.{HasFewTries}
 use Rattle.card_core.specs.Cards.{Body, Card, File, Kind, Path, transparent, linear, cyclic, dedicated, elementary}
 use Rattle.card_core.specs.Cards.{identifier}
 
@@ -15,12 +16,13 @@ pub record IsContent (content : List ℕ) : Type 0 where
   pub bytes : AreBytes content
   pub size : length content ≤ 32767
 
--- records of one length, and room for at most 32,767 bytes of them
-pub record AreRecords (long capacity : ℕ) (records : List (List ℕ)) : Type 0 where
+-- Records of one length: at most as many as there is room for, which is at most 254, and at most 32,767 bytes.
+pub record AreRecords (long most : ℕ) (records : List (List ℕ)) : Type 0 where
   pub each : All IsRecord records
   pub record_length : long ≤ 255
-  pub room : capacity * long ≤ 32767
-  pub number : length records ≤ 255
+  pub room : most * long ≤ 32767
+  pub capacity : most ≤ 254
+  pub number : length records ≤ most
 
 -- what an elementary file holds
 abbrev pub IsProperBody : Body → Type 0
@@ -52,10 +54,11 @@ pub record IsProperFile (file : File) : Type 0 where
   pub rule_size : length file.rule ≤ 8
   pub kind : IsProperKind file.kind
 
--- an identifier is two bytes
+-- an identifier is two bytes, and no PIN has more tries left than there may be
 pub record IsProper (c : Card) : Type 0 where
   pub files : (path : Path) (file : File) → get c.tree path ≡ Some file → IsProperFile file
   pub identifiers : (path : Path) (file : File) → get c.tree path ≡ Some file → identifier path < 65536
+  pub pins : All HasFewTries c.pins
 
 -- An answer is 2 to 258 bytes: at most 256 of data, and SW1 and SW2.
 pub record IsAnswer (answer : List ℕ) : Type 0 where

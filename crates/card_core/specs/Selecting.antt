@@ -41,12 +41,14 @@ selected_path c s selection = unwrap_or (selected_from c.tree s.current_df selec
 abbrev pub selected_data : Card → Session → Selection → Returned → List ℕ
 selected_data c s selection returned = selection_data returned c.tree (selected_path c s selection)
 
--- what refuses SELECT: no file is reached; Le asks for less than its data
+-- What refuses SELECT: no file is reached; Le asks for less than its data. Neither life cycles nor access rules bar it.
 abbrev pub select_refusals : Card → Session → Selection → Returned → Option ℕ → Refusals
 select_refusals c s selection returned expected = record {
   target = record { applies = is_none (selected_from c.tree s.current_df selection); status = FILE_NOT_FOUND } ∷ [];
+  life_cycle = [];
   structure = [];
   template = [];
+  access = [];
   limits = length_refusal expected (selected_data c s selection returned) ∷ [];
 }
 

@@ -1,8 +1,10 @@
 -- What the card keeps in working memory from power-on to power-off (ISO/IEC 7816-4, 7.1; ETSI TS 102 221, 8.4).
-use Rattle.std.specs.Prelude.{ℕ, [], Option, Some, None, refl}
+use Rattle.std.specs.Prelude.{ℕ, Bool, List, [], map, Option, Some, None, refl}
 use Rattle.std.specs.Ordering.{nat_cmp}
 use Rattle.std.specs.Coded.{Coded, code_by, coded×, coded_ℕ, coded_list, coded_option}
-use Rattle.std.specs.FinSet.{FinSet, empty, code}
+use Rattle.std.specs.FinSet.{FinSet, contains, empty, from_list, code}
+use Rattle.std.specs.List.{filter, range_with_len}
+use Rattle.card_rules.specs.Pins.{has_pin}
 use Rattle.card_core.specs.Cards.{Path}
 
 -- The current dedicated file; the identifier of the current elementary file, a child of it, if there is one; the
@@ -12,6 +14,14 @@ pub record Session : Type 0 where
   pub current_ef : Option ℕ
   pub pointer : Option ℕ
   pub verified : FinSet nat_cmp
+
+-- a mark for each of PIN 1 to 8, in this order: whether it is verified
+abbrev pub marks_of : FinSet nat_cmp → List Bool
+marks_of verified = map (λ n. contains verified n) (range_with_len 1 8)
+
+-- the numbers that are marked, of 1 to 8
+abbrev pub marked : List Bool → FinSet nat_cmp
+marked marks = from_list (filter (has_pin marks) (range_with_len 1 8))
 
 -- a session is stored as the tuple of its parts
 abbrev pub session_code : Coded Session

@@ -1,8 +1,12 @@
 -- How many device writes a command makes at most, by what it asks for.
 use Rattle.std.specs.Prelude.{ℕ, ◌+◌, ◌*◌, List, length, Result, Ok, Err}
+use Rattle.std.specs.Option.{option_map_or}
 use Rattle.card_rules.specs.declared.status.Sw.{Sw}
 use Rattle.apdu_core.specs.Asked.{asked}
 use Rattle.apdu_core.specs.Requests.{Request, select, read_binary, update_binary, create_file, delete_file}
+use Rattle.apdu_core.specs.Requests.{read_record, update_record, append_record, search_record, increase}
+use Rattle.apdu_core.specs.Requests.{change_life_cycle, terminate_card_usage, verify, change_reference_data}
+use Rattle.apdu_core.specs.Requests.{reset_retry_counter}
 use Rattle.block_chain.specs.Changes.{touched_words}
 
 -- Each word that is set costs three writes: its pair in the journal, the gate, the word; a commit costs one.
@@ -18,6 +22,25 @@ creation_writes = 547 + transaction_writes 13
 abbrev pub deletion_writes : ℕ
 deletion_writes = transaction_writes 129
 
+-- A record of 255 bytes touches 65 words at most, and one word of the entry tells of the records.
+abbrev pub record_writes : ℕ
+record_writes = transaction_writes 66
+
+-- one word: the first of an entry, or that of the card's state
+abbrev pub life_writes : ℕ
+life_writes = transaction_writes 1
+
+-- A charge is one write by itself. After a match VERIFY sets the tries by another one, CHANGE REFERENCE DATA sets three words in a
+-- transaction, and RESET RETRY COUNTER four.
+abbrev pub verify_writes : ℕ
+verify_writes = 1 + 1
+
+abbrev pub change_writes : ℕ
+change_writes = 1 + transaction_writes 3
+
+abbrev pub reset_writes : ℕ
+reset_writes = 1 + transaction_writes 4
+
 -- UPDATE BINARY sets each word that it touches once: of n bytes at most n / 4, rounded up, and one more
 abbrev pub most_writes : Request → ℕ
 most_writes (select selection returned expected) = 0
@@ -25,6 +48,16 @@ most_writes (read_binary target offset expected) = 0
 most_writes (update_binary target offset bytes) = transaction_writes (touched_words offset (length bytes))
 most_writes (create_file template) = creation_writes
 most_writes (delete_file subject) = deletion_writes
+most_writes (read_record target choice expected) = 0
+most_writes (update_record target choice bytes) = record_writes
+most_writes (append_record target bytes) = record_writes
+most_writes (search_record target first direction text expected) = 0
+most_writes (increase sent expected) = record_writes
+most_writes (change_life_cycle change subject) = life_writes
+most_writes terminate_card_usage = life_writes
+most_writes (verify pin shown) = option_map_or (λ value. verify_writes) shown 0
+most_writes (change_reference_data pin shown new) = change_writes
+most_writes (reset_retry_counter pin values) = option_map_or (λ values. reset_writes) values 0
 
 -- a command that its form refuses makes none
 abbrev pub writes_asked : Result Request Sw → ℕ

@@ -1,37 +1,59 @@
 -- What the code keeps of a session, and what it makes of a step. No public clause names these.
-use Rattle.std.specs.Prelude.{◌≡◌, ◌≢◌, ◌<◌, ◌≤◌, ◌==◌, ◌&&◌, ℕ, min, not, nat_lt, nat_le, if◌then◌else◌}
-use Rattle.std.specs.Prelude.{List, [], length, Option, Some}
+use Rattle.std.specs.Prelude.{◌≡◌, ◌≢◌, ◌<◌, ◌≤◌, ◌+◌, ◌*◌, ◌==◌, ◌&&◌, ℕ, Bool, true, false, min, not, nat_lt}
+use Rattle.std.specs.Prelude.{nat_le, if◌then◌else◌}
+use Rattle.std.specs.Prelude.{◌||◌, ◌-◌, ◌++◌, ◌∷◌, slice_set, IsTrue, List, [], length, Option, Some}
 use Rattle.std.specs.Prelude.{None, option_map, unwrap_or, IfSome}
-use Rattle.std.specs.FinSet.{empty}
 use Rattle.card_rules.specs.declared.life_cycle.LifeCycle.{LifeCycle}
 use Rattle.card_rules.specs.declared.life_cycle.LifeCycle.TheVariants.{Activated}
 use Rattle.apdu_core.specs.declared.binary.Target.{Target}
 use Rattle.apdu_core.specs.declared.binary.Target.TheVariants as target
 use Rattle.card_rules.specs.declared.status.Sw.{Sw}
-use Rattle.card_rules.specs.declared.status.TheConstants.Sw.{DONE, END_REACHED, WRONG_OFFSET, WRONG_STRUCTURE}
+use Rattle.card_rules.specs.declared.status.TheConstants.Sw.{ACCESS_DENIED, CONDITIONS_NOT_SATISFIED, DONE, END_REACHED}
+use Rattle.card_rules.specs.declared.status.TheConstants.Sw.{WRONG_STRUCTURE}
 use Rattle.card_rules.specs.LifeCycle.{life_cycle_at}
+use Rattle.card_rules.specs.Pins.{no_pins, with_pin, without_pin}
+use Rattle.pin_store.specs.declared.errors.Outcome.{Outcome as AttemptEnd}
+use Rattle.pin_store.specs.declared.errors.Outcome.TheVariants.{Matched, Wrong}
 use Rattle.undo_journal.specs.Memory.{Memory, committed, IsReady}
 use Rattle.file_tree.specs.declared.entry.Entry.{Entry}
 use Rattle.file_tree.specs.declared.space.FreeSpace.{FreeSpace}
 use Rattle.file_tree.specs.Spaces.{free_space}
-use Rattle.file_tree.specs.Entries.{name_of, rule_of}
+use Rattle.file_tree.specs.Entries.{capacity_of, name_of, rule_of}
+use Rattle.file_tree.specs.declared.layout.TheConstants.{FIRST_ENTRY_PAGE}
+use Rattle.nvm_board.specs.declared.board.TheConstants.{PAGE_WORDS}
+use Rattle.apdu_core.specs.declared.records.RecordChoice.{RecordChoice}
+use Rattle.apdu_core.specs.declared.records.RecordChoice.TheVariants.{Next, Previous, At}
+use Rattle.ef_body.specs.declared.linear.Linear.{Linear as LinearBody}
+use Rattle.ef_body.specs.declared.cyclic.Cyclic.{Cyclic as CyclicBody}
+use Rattle.ef_body.specs.Bodies.{cyclic_records, linear_records, IsCyclic, IsLinear}
+use Rattle.ef_body.specs.Changes.{CyclicBecomes, LinearBecomes}
+use Rattle.ef_body.specs.Records.{front}
+use Rattle.ef_body.specs.Refusals.{full}
+use Rattle.card_core.specs.declared.record_body.RecordBody.{RecordBody}
+use Rattle.card_core.specs.declared.record_body.RecordBody.TheVariants as bodies
+use Rattle.card_core.specs.Records.{has_records, is_cyclic, is_linear, next_record, place_number, previous_record}
 use Rattle.file_tree.specs.Table.{table, entry_in, path_of, IsChild, IsFileEntry}
 use Rattle.apdu_core.specs.declared.select.Returned.{Returned}
 use Rattle.apdu_core.specs.declared.select.Returned.TheVariants.{Template, Nothing}
 use Rattle.fcp_template.specs.declared.fcp.Fcp.{Fcp}
 use Rattle.fcp_template.specs.declared.fcp.FileKind.{FileKind}
 use Rattle.fcp_template.specs.declared.fcp.FileKind.TheVariants as kinds
-use Rattle.fcp_template.specs.declared.fcp.Records.{Records}
+use Rattle.fcp_template.specs.declared.fcp.Records.{Records as RecordsTold}
 use Rattle.fcp_template.specs.declared.fcp.ShortIdentifier.{ShortIdentifier}
 use Rattle.fcp_template.specs.declared.fcp.ShortIdentifier.TheVariants as shorts
 use Rattle.fcp_template.specs.Spelling.{fcp_text}
 use Rattle.card_core.specs.declared.card_state.CardState.{CardState}
 use Rattle.card_core.specs.declared.card_state.CardState.TheVariants.{Working, Failed, Dark}
 use Rattle.card_core.specs.declared.current.Current.{Current}
-use Rattle.card_core.specs.Cards.{Card}
-use Rattle.card_core.specs.Outcomes.{Outcome}
+use Rattle.card_core.specs.declared.named.Need.{Need}
+use Rattle.card_core.specs.declared.named.Structure.{Structure}
+use Rattle.card_core.specs.declared.named.Structure.TheVariants.{Bytes, Records, Linear, Cyclic}
+use Rattle.card_core.specs.Cards.{Card, Kind, is_transparent}
+use Rattle.card_core.specs.Elementary.{file_refusals}
+use Rattle.card_core.specs.Outcomes.{Outcome, refused_by}
+use Rattle.card_core.specs.Pins.{tries_told}
 use Rattle.card_core.specs.Reaching.{target_of}
-use Rattle.card_core.specs.Sessions.{Session, fresh_session}
+use Rattle.card_core.specs.Sessions.{Session, fresh_session, marked}
 use Rattle.card_core.specs.Standing.{card_of, IsCard}
 
 -- an elementary file that is a child of a dedicated file
@@ -39,18 +61,24 @@ pub record IsElementary (t : List Entry) (df e : ℕ) : Type 0 where
   pub child : IsChild t df e
   pub kind : 2 ≤ (entry_in t e).kind
 
--- the numbers of the current files are those of a dedicated file, and of an elementary file in it, if there is one
+-- the numbers of the current files are those of a dedicated file, and of an elementary file in it, if there is one; and there is
+-- a mark for each PIN
 pub record IsCurrent (t : List Entry) (x : Current) : Type 0 where
   pub df : (entry_in t x.df).kind ≡ 1
   pub ef : IfSome x.ef (IsElementary t x.df)
+  pub marks : length x.verified ≡ 8
 
--- the session that these numbers stand for: no command sets a record pointer or verifies a PIN as yet
+-- the PINs that are verified, each of PIN 1 to 8 marked
+abbrev pub verified_in : Current → List Bool
+verified_in x = x.verified
+
+-- the session that these numbers stand for
 abbrev pub session_of : List Entry → Current → Session
 session_of t x = record {
   current_df = path_of t x.df;
   current_ef = option_map (λ e. (entry_in t e).identifier) x.ef;
-  pointer = None;
-  verified = empty;
+  pointer = x.pointer;
+  verified = marked x.verified;
 }
 
 -- a card that doesn't work has no session: it is told as that of power-on
@@ -78,27 +106,60 @@ pub record IsKept (m : Memory) (x : Current) (free : FreeSpace) : Type 0 where
   pub current : IsCurrent (table_in m) x
   pub space : free ≡ space_in m
 
--- the current files after an entry's file became current
-abbrev pub current_at : ℕ → Entry → Current
-current_at e entry = if entry.kind == 1 then record { df = e; ef = None } else record { df = entry.parent; ef = Some e }
+-- the master file is current, and no PIN is verified
+abbrev pub fresh_current : Current
+fresh_current = record { df = 0; ef = None; pointer = None; verified = no_pins }
+
+-- the current files after an entry's file became current; the PINs that are verified stay
+abbrev pub current_at : Current → ℕ → Entry → Current
+current_at x e entry = record x {
+  df = if entry.kind == 1 then e else entry.parent;
+  ef = if entry.kind == 1 then None else Some e;
+  pointer = None;
+}
 
 -- and after a binary command that named an elementary file
 abbrev pub named_from : Current → Target → ℕ → Current
 named_from x target.Current e = x
-named_from x (target.Short n) e = record { df = x.df; ef = Some e }
+named_from x (target.Short n) e = record x { ef = Some e; pointer = None }
 
--- what refuses a binary command by the entry of the elementary file that it names
-abbrev pub entry_refusal : Entry → ℕ → Option Sw
-entry_refusal entry offset =
-    if not (entry.kind == 2) then Some WRONG_STRUCTURE else if nat_le entry.size offset then Some WRONG_OFFSET else None
+-- and after a command on records, which leaves the record pointer so
+abbrev pub pointing_from : Current → Target → ℕ → Option ℕ → Current
+pointing_from x target e pointer = record (named_from x target e) { pointer = pointer }
 
--- A transparent file that a binary command names has this entry, and the offset lies within it.
-pub record IsFound (m : List ℕ) (x : Current) (target : Target) (offset e : ℕ) (entry : Entry) : Type 0 where
+-- the record pointer that it begins with
+abbrev pub pointer_from : Current → Target → Option ℕ
+pointer_from x target.Current = x.pointer
+pointer_from x (target.Short n) = None
+
+-- the structures that a command is for
+abbrev pub fits : Structure → Kind → Bool
+fits Bytes kind = is_transparent kind
+fits Records kind = has_records kind
+fits Linear kind = is_linear kind
+fits Cyclic kind = is_cyclic kind
+
+-- and by the kind of an entry
+abbrev pub fits_kind : Structure → ℕ → Bool
+fits_kind Bytes kind = kind == 2
+fits_kind Records kind = kind == 3 || kind == 4
+fits_kind Linear kind = kind == 3
+fits_kind Cyclic kind = kind == 4
+
+-- the refusal of a command by its file: whether it is barred, of a structure that the command is for, and allowed by its rule
+abbrev pub file_refusal : Bool → Bool → Bool → Option Sw
+file_refusal barred fit permitted =
+    if barred then Some CONDITIONS_NOT_SATISFIED else
+    if not fit then Some WRONG_STRUCTURE else
+    if not permitted then Some ACCESS_DENIED else None
+
+-- A file that a command on contents names, and that doesn't refuse it, has this entry.
+pub record IsNamed (m : List ℕ) (x : Current) (target : Target) (need : Need) (e : ℕ) (entry : Entry) : Type 0 where
   pub entry_is : entry ≡ entry_in (table m) e
   pub place : target_of (card_of m).tree (session_of (table m) x) target ≡ Some (path_of (table m) e)
   pub file : IsElementary (table m) x.df e
-  pub transparent : entry.kind ≡ 2
-  pub within : offset < entry.size
+  pub unrefused : refused_by (file_refusals (card_of m) (session_of (table m) x) target (fits need.structure) need.bit) ≡ None
+  pub structure : IsTrue (fits_kind need.structure entry.kind)
 
 -- how many of the bytes that are left are read for an Le byte, and the status word that tells it
 abbrev pub read_count : ℕ → ℕ → ℕ
@@ -110,6 +171,118 @@ end_status rest expected = if nat_lt rest expected then END_REACHED else DONE
 -- the life cycle of an entry's file
 abbrev pub life_of : Entry → LifeCycle
 life_of entry = unwrap_or (life_cycle_at entry.life) Activated
+
+-- the address of the word of an entry that tells of its records
+abbrev pub told_address : ℕ → ℕ
+told_address e = PAGE_WORDS * (FIRST_ENTRY_PAGE + e) + 10
+
+-- the body of records that an entry tells of, if it tells of one
+abbrev pub linear_in : ℕ → Entry → LinearBody
+linear_in e entry = record {
+  chain = record { first = entry.first; last = entry.last };
+  record_length = entry.record_length;
+  capacity = capacity_of entry;
+  records = entry.records;
+  told_at = told_address e;
+}
+
+abbrev pub cyclic_in : ℕ → Entry → CyclicBody
+cyclic_in e entry = record {
+  chain = record { first = entry.first; last = entry.last };
+  record_length = entry.record_length;
+  capacity = capacity_of entry;
+  records = entry.records;
+  start = entry.start;
+  told_at = told_address e;
+}
+
+abbrev pub body_in : ℕ → Entry → Option RecordBody
+body_in e entry =
+    if entry.kind == 3 then Some (bodies.Linear (linear_in e entry)) else
+    if entry.kind == 4 then Some (bodies.Cyclic (cyclic_in e entry)) else None
+
+-- what the code knows of a body of records
+abbrev pub count_in : RecordBody → ℕ
+count_in (bodies.Linear body) = body.records
+count_in (bodies.Cyclic body) = body.records
+
+abbrev pub length_in : RecordBody → ℕ
+length_in (bodies.Linear body) = body.record_length
+length_in (bodies.Cyclic body) = body.record_length
+
+abbrev pub wraps_in : RecordBody → Bool
+wraps_in (bodies.Linear body) = false
+wraps_in (bodies.Cyclic body) = true
+
+abbrev pub chosen_in : RecordBody → Option ℕ → RecordChoice → ℕ
+chosen_in body pointer Next = next_record (wraps_in body) (count_in body) pointer
+chosen_in body pointer Previous = previous_record (wraps_in body) (count_in body) pointer
+chosen_in body pointer (At place) = place_number place pointer
+
+-- the record whose place is taken, and the number of one that was added
+abbrev pub number_replaced_in : RecordBody → Option ℕ → RecordChoice → ℕ
+number_replaced_in body pointer choice = if wraps_in body then 1 else chosen_in body pointer choice
+
+abbrev pub number_added_in : RecordBody → ℕ
+number_added_in body = if wraps_in body then 1 else count_in body + 1
+
+-- there is a record of this number; how many there is room for; there is no room for one more
+abbrev pub has_in : RecordBody → ℕ → Bool
+has_in body number = nat_le 1 number && nat_le number (count_in body)
+
+abbrev pub room_in : RecordBody → ℕ
+room_in (bodies.Linear body) = body.capacity
+room_in (bodies.Cyclic body) = body.capacity
+
+abbrev pub is_full_in : RecordBody → Bool
+is_full_in (bodies.Linear body) = nat_le body.capacity body.records
+is_full_in (bodies.Cyclic body) = false
+
+-- its records, and when the memory tells of it
+abbrev pub records_at : List ℕ → RecordBody → List (List ℕ)
+records_at m (bodies.Linear body) = linear_records m body
+records_at m (bodies.Cyclic body) = cyclic_records m body
+
+abbrev pub IsBodyIn : List ℕ → RecordBody → Type 0
+IsBodyIn m (bodies.Linear body) = IsLinear m body
+IsBodyIn m (bodies.Cyclic body) = IsCyclic m body
+
+-- the record that must be there if one is to be replaced: of a cyclic body any, so record 1
+abbrev pub looked_at : RecordBody → ℕ → ℕ
+looked_at (bodies.Linear body) number = number
+looked_at (bodies.Cyclic body) number = 1
+
+-- its records with one replaced, and with one more
+abbrev pub replaced_in : List ℕ → RecordBody → ℕ → List ℕ → List (List ℕ)
+replaced_in m (bodies.Linear body) number bytes = slice_set (linear_records m body) (number - 1) bytes
+replaced_in m (bodies.Cyclic body) number bytes =
+    front (length (cyclic_records m body)) bytes (cyclic_records m body)
+
+abbrev pub appended_in : List ℕ → RecordBody → List ℕ → List (List ℕ)
+appended_in m (bodies.Linear body) bytes = linear_records m body ++ bytes ∷ []
+appended_in m (bodies.Cyclic body) bytes = front body.capacity bytes (cyclic_records m body)
+
+-- what refuses one more
+abbrev pub full_in : List ℕ → RecordBody → Option Sw
+full_in m (bodies.Linear body) = full body.capacity (linear_records m body)
+full_in m (bodies.Cyclic body) = None
+
+-- it has these records, and all else stays
+abbrev pub BodyBecomes : List ℕ → RecordBody → List (List ℕ) → List ℕ → Type 0
+BodyBecomes m (bodies.Linear body) records after = LinearBecomes m body records after
+BodyBecomes m (bodies.Cyclic body) records after = CyclicBecomes m body records after
+
+-- A file of records that a command names has an entry which tells of this body.
+pub record IsRecordFile (m : List ℕ) (x : Current) (target : Target) (need : Need) (e : ℕ) (body : RecordBody)
+    : Type 0 where
+  pub named : IsNamed m x target need e (entry_in (table m) e)
+  pub body_is : body_in e (entry_in (table m) e) ≡ Some body
+
+-- the structure that UPDATE RECORD is for, by its choice
+abbrev pub structure_replaced : RecordChoice → Structure
+structure_replaced Next = Linear
+structure_replaced Previous = Records
+structure_replaced (At place) = Linear
 
 -- a used entry, whose file a template can tell
 pub record IsToldEntry (entry : Entry) : Type 0 where
@@ -124,7 +297,7 @@ name_in_entry entry =
 abbrev pub short_in_entry : Entry → ShortIdentifier
 short_in_entry entry = if entry.short == 0 then shorts.Empty else shorts.Given entry.short
 
-abbrev pub records_in_entry : Entry → Records
+abbrev pub records_in_entry : Entry → RecordsTold
 records_in_entry entry = record {
   size = entry.size;
   record_length = entry.record_length;
@@ -162,3 +335,13 @@ TellsCard m (Some free) = IsCard m × (free ≡ free_space (card_of m).tree)
 -- the outcome that leaves this session, and answers this data and status word
 abbrev pub outcome : Card → Session → List ℕ → Sw → Outcome
 outcome c s text status = record { card = c; session = s; response = record { text = text; status = status } }
+
+-- PINs: the current files and the verified PINs after a value of a PIN was shown, and the status word
+abbrev pub tried_from : Current → ℕ → Bool → AttemptEnd → Current
+tried_from x n unverifies Matched = record x { verified = with_pin x.verified n }
+tried_from x n true (Wrong left) = record x { verified = without_pin x.verified n }
+tried_from x n false (Wrong left) = x
+
+abbrev pub end_of_attempt : AttemptEnd → Sw
+end_of_attempt Matched = DONE
+end_of_attempt (Wrong left) = tries_told left

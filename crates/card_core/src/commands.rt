@@ -1,25 +1,29 @@
 //! A command on a card: one step of the tree machine.
-ghost use Rattle.std.specs.Prelude.{◌≡◌, ◌≤◌, [], length, IfOk, OnOk};
+ghost use Rattle.std.specs.Prelude.{◌≡◌, ◌==◌, [], not, IfOk, OnOk};
 ghost use Rattle.std.specs.Result.{result_err};
 ghost use Rattle.undo_journal.specs.Calls.{OnlyReads};
-ghost use Rattle.undo_journal.specs.Memory.{committed, IsReady, Reports};
-ghost use Rattle.undo_journal.specs.Spending.{WritesAtMost};
-ghost use Rattle.card_core.specs.Spending.{writes_of};
-ghost use Rattle.card_core.specs.Stages.{IsStage, ChangesNothing};
+ghost use Rattle.undo_journal.specs.Memory.{committed, IsReady};
+ghost use Rattle.apdu_core.specs.Ranges.{IsInRange};
+ghost use Rattle.apdu_core.specs.Requests.{request_of};
+ghost use Rattle.card_core.specs.Served.{CarriesOut, Serves};
 ghost use Rattle.card_core.specs.Standing.{IsCard};
-ghost use Rattle.card_core.specs.Steps.{carried_out};
-ghost use Rattle.card_core.specs.Working.{card_in, outcome, session_in, space_in, table_in, IsCurrent};
+ghost use Rattle.card_core.specs.Working.{card_in, space_in, table_in, IsCurrent};
 
 use crate::binary::{read_file, update_file};
 use crate::current::Current;
 use crate::files::{create_file, delete_file};
+use crate::increasing::increase;
+use crate::layout::{HEADER_PAGE, STATE_WORD};
+use crate::life_cycles::{change_life_cycle, terminate_card_usage};
+use crate::pins::{change_reference_data, reset_retry_counter, verify};
+use crate::records::{append_record, read_record, search_record, update_record};
 use crate::select::select_file;
 use apdu_core::{Answer, Command, Sw};
 use file_tree::FreeSpace;
-use undo_journal::{Board, Store, StoreErr};
+use undo_journal::{Board, PAGE_WORDS, Store, StoreErr};
 
 /// Carries out the bytes of a command: the data goes into `text`, the free space is kept, and the status word is the result.
-#[tactic(auto, using(crate::specs::laws::StageLaws::stage_first))]
+/// What the form of the command calls for comes first, and then whether the use of the card has ended.
 pub(crate) fn carry_out<B: Board>(
     store: &mut Store<B>,
     current: &mut Current,
@@ -32,44 +36,98 @@ pub(crate) fn carry_out<B: Board>(
     requires current { IsCurrent (table_in store.old) current.old }
     requires space { free.old ≡ space_in store.old }
     requires empty { text.old.items ≡ [] }
-    ensures step { IfOk result (λ status. carried_out (card_in store.old) (session_in store.old current.old) command.now
-        ≡ outcome (card_in store.new) (session_in store.new current.new) text.new.items status) }
-    ensures room { length text.new.items ≤ 256 }
-    ensures stage { IsStage (card_in store.old) (session_in store.old current.old) command.now (card_in store.new) }
-    ensures idle { ChangesNothing (card_in store.old) (session_in store.old current.old) command.now
-        → OnlyReads store.old store.new }
-    ensures card { IsCard (committed store.new) }
-    ensures current { OnOk result (IsCurrent (table_in store.new) current.new) }
+    ensures carries { CarriesOut command.now store.old current.old store.new current.new text.new.items result }
     ensures space { OnOk result (free.new ≡ space_in store.new) }
-    ensures ready { OnOk result (IsReady store.new) }
-    ensures reports { Reports store.old store.new }
-    ensures tells { store.new.failed ≡ result_err result }
-    ensures writes { WritesAtMost (writes_of command.now) store.old.facts store.new.facts }
 {
-    match Command::parse(command) {
-        Err(refusal) => Ok(refusal),
-        Ok(
-            Command::Select {
-                selector,
-                returned,
-                expected,
-            },
-        ) => select_file(store, current, selector, returned, expected, text),
-        Ok(
-            Command::ReadBinary {
-                target,
-                offset,
-                expected,
-            },
-        ) => read_file(store, current, target, offset, expected, text),
-        Ok(
-            Command::UpdateBinary {
-                target,
-                offset,
-                bytes,
-            },
-        ) => update_file(store, current, target, offset, bytes),
-        Ok(Command::CreateFile { template }) => create_file(store, current, free, template),
-        Ok(Command::DeleteFile { subject }) => delete_file(store, current, free, subject),
+    let command = match Command::parse(command) {
+        Ok(command) => command,
+        Err(refusal) => return Ok(refusal),
+    };
+    if !is_in_use(store)? {
+        return Ok(Sw::CONDITIONS_NOT_SATISFIED);
+    }
+    serve(store, current, free, command, text)
+}
+
+/// The use of the card has not ended.
+fn is_in_use<B: Board>(store: &mut Store<B>) -> Result<bool, StoreErr>
+    requires ready { IsReady store.old }
+    ensures in_use { IfOk result (λ in_use. in_use ≡ (card_in store.old).in_use) }
+    ensures ready { OnOk result (IsReady store.new) }
+    ensures reads { OnlyReads store.old store.new }
+    ensures tells { store.new.failed ≡ result_err result }
+{
+    let state = store.read(PAGE_WORDS * HEADER_PAGE + STATE_WORD)?;
+    Ok(state == 0)
+}
+
+/// Carries out a command on a card that is in use.
+#[tactic(auto, using(crate::proofs::Serves::space_kept))]
+fn serve<B: Board>(
+    store: &mut Store<B>,
+    current: &mut Current,
+    free: &mut FreeSpace,
+    command: Command<'_>,
+    text: &mut Answer,
+) -> Result<Sw, StoreErr>
+    requires ready { IsReady store.old }
+    requires card { IsCard (committed store.old) }
+    requires current { IsCurrent (table_in store.old) current.old }
+    requires space { free.old ≡ space_in store.old }
+    requires empty { text.old.items ≡ [] }
+    requires in_range { IsInRange command }
+    ensures serves { Serves (request_of command.entry) store.old current.old store.new current.new text.new.items result }
+    ensures space { OnOk result (free.new ≡ space_in store.new) }
+{
+    match command {
+        Command::Select {
+            selector,
+            returned,
+            expected,
+        } => select_file(store, current, selector, returned, expected, text),
+        Command::ReadBinary {
+            target,
+            offset,
+            expected,
+        } => read_file(store, current, target, offset, expected, text),
+        Command::UpdateBinary {
+            target,
+            offset,
+            bytes,
+        } => update_file(store, current, target, offset, bytes),
+        Command::CreateFile { template } => create_file(store, current, free, template),
+        Command::DeleteFile { subject } => delete_file(store, current, free, subject),
+        Command::ReadRecord {
+            target,
+            choice,
+            expected,
+        } => read_record(store, current, target, choice, expected, text),
+        Command::UpdateRecord {
+            target,
+            choice,
+            bytes,
+        } => update_record(store, current, target, choice, bytes),
+        Command::AppendRecord { target, bytes } => append_record(store, current, target, bytes),
+        Command::SearchRecord {
+            target,
+            first,
+            direction,
+            text: sought,
+            expected,
+        } => search_record(
+            store, current, target, first, direction, sought, expected, text,
+        ),
+        Command::Increase { amount, expected } => increase(store, current, amount, expected, text),
+        Command::ChangeLifeCycle { change, subject } => change_life_cycle(
+            store, current, change, subject,
+        ),
+        Command::TerminateCardUsage => terminate_card_usage(store, current),
+        Command::Verify { pin, shown } => verify(store, current, pin, shown),
+        Command::ChangeReferenceData { pin, values } => change_reference_data(
+            store, current, pin, values,
+        ),
+        Command::ResetRetryCounter { pin, values } => reset_retry_counter(
+            store, current, pin, values,
+        ),
     }
 }

@@ -1,33 +1,75 @@
-//! The current files of a session (ISO/IEC 7816-4, 7.3.1), by the numbers of their entries.
+//! The current files of a session (ISO/IEC 7816-4, 7.3.1), by the numbers of their entries, and the PINs that are verified in it.
 ghost use Rattle.std.specs.Prelude.{◌≡◌};
-ghost use Rattle.card_core.specs.Working.{current_at, named_from};
+ghost use Rattle.card_rules.specs.Pins.{IsPinNumber};
+ghost use Rattle.card_core.specs.Working.{current_at, fresh_current, named_from, pointer_from, pointing_from, tried_from};
+ghost use Rattle.card_core.specs.Working.{verified_in};
 
 use apdu_core::Target;
+use card_rules::{PinNumber, Verified};
 use file_tree::Entry;
+use pin_store::Outcome;
 
-/// The current dedicated file, and the current elementary file in it, if there is one.
+/// The current dedicated file, the current elementary file in it, if there is one, and the PINs that are verified.
 #[derive(Clone, Copy)]
 pub(crate) struct Current {
     pub df: u8,
     pub ef: Option<u8>,
+    /// The number of the current record, if one is current.
+    pub pointer: Option<u8>,
+    /// The PINs that are verified.
+    pub verified: Verified,
 }
 
 impl Current {
-    /// The master file is current, as after power-on.
-    pub const MASTER_FILE: Current = Current { df: 0, ef: None };
+    /// The master file is current, and no PIN is verified, as after power-on.
+    pub fn fresh() -> Current
+        ensures { result ≡ fresh_current }
+    {
+        Current {
+            df: 0,
+            ef: None,
+            pointer: None,
+            verified: Verified::new(),
+        }
+    }
+
+    /// The PINs that are verified.
+    pub fn verified(&self) -> Verified
+        ensures { result ≡ verified_in self.now }
+    {
+        self.verified
+    }
 
     /// The file of an entry has become current: a dedicated file alone, an elementary file with its parent.
-    pub fn at(e: u8, entry: &Entry) -> Current
-        ensures { result ≡ current_at e entry.now }
+    pub fn at(self, e: u8, entry: &Entry) -> Current
+        ensures { result ≡ current_at self e entry.now }
     {
-        if entry.kind == 1 {
-            Current { df: e, ef: None }
+        let (df, ef) = if entry.kind == 1 {
+            (e, None)
         } else {
-            Current {
-                df: entry.parent,
-                ef: Some(e),
-            }
+            (entry.parent, Some(e))
+        };
+        Current {
+            df,
+            ef,
+            pointer: None,
+            ..self
         }
+    }
+
+    /// A value of a PIN was shown: the PIN is verified where it was right; where it was wrong, a command that shows the value of the
+    /// PIN itself takes it out of the verified ones.
+    pub fn after_attempt(self, pin: u8, unverifies: bool, outcome: Outcome) -> Current
+        requires { IsPinNumber pin }
+        ensures { result ≡ tried_from self pin unverifies outcome }
+    {
+        let mut verified = self.verified;
+        match (PinNumber::new(pin), outcome) {
+            (Some(pin), Outcome::Matched) => verified.insert(pin),
+            (Some(pin), Outcome::Wrong(_)) if unverifies => verified.remove(pin),
+            _ => {}
+        }
+        Current { verified, ..self }
     }
 
     /// The elementary file that a binary command named is current: one that a short identifier names becomes so.
@@ -37,9 +79,31 @@ impl Current {
         match target {
             Target::Current => self,
             Target::Short(_) => Current {
-                df: self.df,
                 ef: Some(e),
+                pointer: None,
+                ..self
             },
+        }
+    }
+
+    /// The record pointer that a command on records begins with: a file that a short identifier names becomes current anew,
+    /// and then its pointer is unset.
+    pub fn pointer_at(self, target: Target) -> Option<u8>
+        ensures { result ≡ pointer_from self target }
+    {
+        match target {
+            Target::Current => self.pointer,
+            Target::Short(_) => None,
+        }
+    }
+
+    /// The elementary file that a command on records named is current, and the pointer stands so.
+    pub fn pointing(self, target: Target, e: u8, pointer: Option<u8>) -> Current
+        ensures { result ≡ pointing_from self target e pointer }
+    {
+        Current {
+            pointer,
+            ..self.naming(target, e)
         }
     }
 }

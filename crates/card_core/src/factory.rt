@@ -11,9 +11,10 @@ ghost use Rattle.card_core.specs.Factory.{factory_page as factory_page_of};
 ghost use Rattle.card_core.specs.Finding.{Finds, found};
 ghost use Rattle.card_core.specs.Standing.{StandsFor};
 
-use crate::layout::{FIRST_PIN_PAGE, HEADER_PAGE, MARK, PINS};
+use crate::layout::{HEADER_PAGE, MARK};
 use block_chain::FIRST_BLOCK_PAGE;
 use file_tree::FIRST_ENTRY_PAGE;
+use pin_store::{FIRST_PIN_PAGE, PINS};
 use undo_journal::{Board, DeviceErr, PAGE_WORDS, PAGES};
 
 type PageWords = [u32; PAGE_WORDS as usize];
@@ -56,7 +57,7 @@ fn factory_page(page: u16) -> PageWords
         MASTER_ENTRY
     } else if page == FIRST_ENTRY_PAGE + 1 {
         FILE_ENTRY
-    } else if FIRST_PIN_PAGE <= page && page < FIRST_PIN_PAGE + PINS {
+    } else if FIRST_PIN_PAGE <= page && page < FIRST_PIN_PAGE + u16::from(PINS) {
         PIN_PAGE
     } else if page < FIRST_BLOCK_PAGE {
         [0; PAGE_WORDS as usize]

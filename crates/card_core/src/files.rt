@@ -1,22 +1,27 @@
 //! Commands on files as such: CREATE FILE and DELETE FILE (ISO/IEC 7816-9).
-ghost use Rattle.std.specs.Prelude.{◌≡◌, ◌⊎◌, [], option_map, IfOk, IfSome, OnOk};
+ghost use Rattle.std.specs.Prelude.{◌≡◌, ◌||◌, [], true, option_map, Some, IfOk, IfSome, OnOk, MatchResult};
 ghost use Rattle.std.specs.Result.{result_err};
 ghost use Rattle.undo_journal.specs.Calls.{OnlyReads};
-ghost use Rattle.undo_journal.specs.Memory.{committed, IsReady, Reports};
-ghost use Rattle.undo_journal.specs.Spending.{WritesAtMost};
+ghost use Rattle.undo_journal.specs.Memory.{committed, IsReady};
 ghost use Rattle.apdu_core.specs.Requests.{create_file as creation, delete_file as deletion};
+ghost use Rattle.card_rules.specs.declared.access_mode.AccessBit.TheVariants.{DeleteChild, DeleteSelf};
+ghost use Rattle.file_tree.specs.States.{is_barred as is_barred_at};
 ghost use Rattle.file_tree.specs.Table.{path_of, IsUsed};
-ghost use Rattle.card_core.specs.Spending.{creation_writes, deletion_writes};
-ghost use Rattle.card_core.specs.Files.{IsCreating, IsDeleting};
+ghost use Rattle.card_core.specs.FileGuards.{permits_kind, permits_of, IsDeletable};
+ghost use Rattle.card_core.specs.Files.{delete_refusals};
+ghost use Rattle.card_core.specs.Guards.{allowed};
+ghost use Rattle.card_core.specs.Outcomes.{refused_by};
 ghost use Rattle.card_core.specs.Reaching.{subject_of};
 ghost use Rattle.card_core.specs.Standing.{IsCard};
-ghost use Rattle.card_core.specs.Steps.{step};
-ghost use Rattle.card_core.specs.Working.{card_in, outcome, session_in, space_in, table_in, IsCurrent};
+ghost use Rattle.card_core.specs.Served.{Serves};
+ghost use Rattle.card_core.specs.Working.{card_in, file_refusal, session_in, space_in, table_in, IsCurrent};
 
 use crate::current::Current;
+use crate::named::{Named, refusal_by};
 use apdu_core::{Subject, Sw};
-use fcp_template::parse;
-use file_tree::{Creation, FreeSpace, create, delete, read_entry, select};
+use card_rules::AccessBit;
+use fcp_template::{FileKind, parse};
+use file_tree::{Creation, FreeSpace, create, delete, is_allowed, is_barred, read_entry, select};
 use undo_journal::{Board, Store, StoreErr};
 
 /// CREATE FILE: the file that the template tells stands in the current dedicated file then, and is current. Its blocks are
@@ -33,22 +38,19 @@ pub(crate) fn create_file<B: Board>(
     requires card { IsCard (committed store.old) }
     requires current { IsCurrent (table_in store.old) current.old }
     requires space { free.old ≡ space_in store.old }
-    ensures step { IfOk result (λ status. step (card_in store.old) (session_in store.old current.old) (creation
-        template.now)
-        ≡ outcome (card_in store.new) (session_in store.new current.new) [] status) }
-    ensures stage { OnlyReads store.old store.new
-        ⊎ IsCreating (card_in store.old) (session_in store.old current.old) template.now (card_in store.new) }
-    ensures card { IsCard (committed store.new) }
-    ensures current { OnOk result (IsCurrent (table_in store.new) current.new) }
+    ensures serves { Serves (creation template.now) store.old current.old store.new current.new [] result }
     ensures space { OnOk result (free.new ≡ space_in store.new) }
-    ensures ready { OnOk result (IsReady store.new) }
-    ensures reports { Reports store.old store.new }
-    ensures tells { store.new.failed ≡ result_err result }
-    ensures writes { WritesAtMost creation_writes store.old.facts store.new.facts }
 {
+    let permits = permits_in(store, current)?;
+    if permits.barred {
+        return Ok(Sw::CONDITIONS_NOT_SATISFIED);
+    }
     let Ok(fcp) = parse(template) else {
         return Ok(Sw::WRONG_DATA);
     };
+    if !permits.allows(&fcp.kind) {
+        return Ok(Sw::ACCESS_DENIED);
+    }
     let (number, blocks) = match create(store, current.df, &fcp)? {
         Creation::Created { entry, blocks } => (entry, blocks),
         Creation::Refused(refusal) => return Ok(refusal),
@@ -58,8 +60,50 @@ pub(crate) fn create_file<B: Board>(
         blocks: free.blocks - blocks,
         entries: free.entries - 1,
     };
-    *current = Current::at(number, &entry);
+    *current = current.at(number, &entry);
     Ok(Sw::DONE)
+}
+
+/// What the current dedicated file allows: whether it is barred, and whether its rule allows files of either kind in it.
+#[derive(Clone, Copy)]
+struct Permits {
+    barred: bool,
+    dedicated: bool,
+    elementary: bool,
+}
+
+impl Permits {
+    /// A file of a kind is allowed.
+    fn allows(self, kind: &FileKind<'_>) -> bool
+        ensures { result ≡ permits_kind self kind.now }
+    {
+        match kind {
+            FileKind::Df { .. } => self.dedicated,
+            FileKind::Transparent { .. } | FileKind::Linear { .. } | FileKind::Cyclic { .. } =>
+                self.elementary,
+        }
+    }
+}
+
+/// What the current dedicated file allows.
+#[tactic(auto, using(undo_journal::specs::laws::Calls::reads_then))]
+fn permits_in<B: Board>(store: &mut Store<B>, current: &Current) -> Result<Permits, StoreErr>
+    requires ready { IsReady store.old }
+    requires card { IsCard (committed store.old) }
+    requires current { IsCurrent (table_in store.old) current.now }
+    ensures permits { IfOk result (λ permits. permits ≡ permits_of (card_in store.old) (session_in store.old current.now)) }
+    ensures ready { OnOk result (IsReady store.new) }
+    ensures reads { OnlyReads store.old store.new }
+    ensures tells { store.new.failed ≡ result_err result }
+{
+    let barred = is_barred(store, current.df)?;
+    let dedicated = is_allowed(store, current.df, AccessBit::CreateDf, &current.verified())?;
+    let elementary = is_allowed(store, current.df, AccessBit::CreateEf, &current.verified())?;
+    Ok(Permits {
+        barred,
+        dedicated,
+        elementary,
+    })
 }
 
 /// DELETE FILE: the file goes with all files below it, in one transaction, all or none. Its parent becomes the current
@@ -75,49 +119,98 @@ pub(crate) fn delete_file<B: Board>(
     requires card { IsCard (committed store.old) }
     requires current { IsCurrent (table_in store.old) current.old }
     requires space { free.old ≡ space_in store.old }
-    ensures step { IfOk result (λ status. step (card_in store.old) (session_in store.old current.old) (deletion subject)
-        ≡ outcome (card_in store.new) (session_in store.new current.new) [] status) }
-    ensures stage { OnlyReads store.old store.new
-        ⊎ IsDeleting (card_in store.old) (session_in store.old current.old) subject (card_in store.new) }
-    ensures card { IsCard (committed store.new) }
-    ensures current { OnOk result (IsCurrent (table_in store.new) current.new) }
+    ensures serves { Serves (deletion subject) store.old current.old store.new current.new [] result }
     ensures space { OnOk result (free.new ≡ space_in store.new) }
-    ensures ready { OnOk result (IsReady store.new) }
-    ensures reports { Reports store.old store.new }
-    ensures tells { store.new.failed ≡ result_err result }
-    ensures writes { WritesAtMost deletion_writes store.old.facts store.new.facts }
 {
-    let number = match find_subject(store, *current, subject)? {
-        Some(number) => number,
-        None => return Ok(Sw::FILE_NOT_FOUND),
+    let file = match find_deletable(store, current, subject)? {
+        Ok(file) => file,
+        Err(refusal) => return Ok(refusal),
     };
-    if number == 0 {
-        return Ok(Sw::CONDITIONS_NOT_SATISFIED);
-    }
-    let entry = read_entry(store, number)?;
-    let freed = delete(store, number)?;
+    let freed = delete(store, file.number)?;
     *free = FreeSpace {
         blocks: free.blocks + freed.blocks,
         entries: free.entries + freed.entries,
     };
     *current = Current {
-        df: entry.parent,
+        df: file.entry.parent,
         ef: None,
+        pointer: None,
+        ..*current
     };
     Ok(Sw::DONE)
+}
+
+/// The file that DELETE FILE names, or else the refusal: there is none; it is the master file; a file above it is barred;
+/// neither its own rule nor that of its parent allows it.
+#[tactic(auto, using(undo_journal::specs::laws::Calls::reads_then))]
+fn find_deletable<B: Board>(
+    store: &mut Store<B>,
+    current: &Current,
+    subject: Subject,
+) -> Result<Result<Named, Sw>, StoreErr>
+    requires ready { IsReady store.old }
+    requires card { IsCard (committed store.old) }
+    requires current { IsCurrent (table_in store.old) current.now }
+    ensures found { IfOk result (λ answer. MatchResult answer
+        (λ file. IsDeletable (committed store.old) current.now subject file.number file.entry)
+        (λ refusal. refused_by (delete_refusals (card_in store.old) (session_in store.old current.now) subject)
+        ≡ Some refusal)) }
+    ensures ready { OnOk result (IsReady store.new) }
+    ensures reads { OnlyReads store.old store.new }
+    ensures tells { store.new.failed ≡ result_err result }
+{
+    let Some(number) = find_subject(store, current, subject)? else {
+        return Ok(Err(Sw::FILE_NOT_FOUND));
+    };
+    if number == 0 {
+        return Ok(Err(Sw::CONDITIONS_NOT_SATISFIED));
+    }
+    let entry = read_entry(store, number)?;
+    match deletion_refusal(store, current, number, entry.parent)? {
+        Some(refusal) => Ok(Err(refusal)),
+        None => Ok(Ok(Named { number, entry })),
+    }
+}
+
+/// What refuses DELETE FILE by a file and its parent: the parent, or a file above it, is barred; the rule of neither allows it.
+#[tactic(auto, using(undo_journal::specs::laws::Calls::reads_then))]
+fn deletion_refusal<B: Board>(
+    store: &mut Store<B>,
+    current: &Current,
+    number: u8,
+    parent: u8,
+) -> Result<Option<Sw>, StoreErr>
+    requires ready { IsReady store.old }
+    requires card { IsCard (committed store.old) }
+    requires current { IsCurrent (table_in store.old) current.now }
+    requires used { IsUsed (table_in store.old) number }
+    requires above { IsUsed (table_in store.old) parent }
+    ensures found { IfOk result (λ refusal. refusal ≡ file_refusal
+        (is_barred_at (card_in store.old).tree (path_of (table_in store.old) parent)) true
+        (allowed (card_in store.old) (session_in store.old current.now) (path_of (table_in store.old) number) DeleteSelf
+        || allowed (card_in store.old) (session_in store.old current.now) (path_of (table_in store.old) parent)
+        DeleteChild)) }
+    ensures ready { OnOk result (IsReady store.new) }
+    ensures reads { OnlyReads store.old store.new }
+    ensures tells { store.new.failed ≡ result_err result }
+{
+    let barred = is_barred(store, parent)?;
+    let own = is_allowed(store, number, AccessBit::DeleteSelf, &current.verified())?;
+    let by_parent = is_allowed(store, parent, AccessBit::DeleteChild, &current.verified())?;
+    Ok(refusal_by(barred, true, own || by_parent))
 }
 
 /// The entry of the file that a command on files is about.
 #[tactic(auto, using(undo_journal::specs::laws::Calls::reads_then))]
 fn find_subject<B: Board>(
     store: &mut Store<B>,
-    current: Current,
+    current: &Current,
     subject: Subject,
 ) -> Result<Option<u8>, StoreErr>
     requires ready { IsReady store.old }
     requires card { IsCard (committed store.old) }
-    requires current { IsCurrent (table_in store.old) current }
-    ensures found { IfOk result (λ found. subject_of (card_in store.old).tree (session_in store.old current) subject
+    requires current { IsCurrent (table_in store.old) current.now }
+    ensures found { IfOk result (λ found. subject_of (card_in store.old).tree (session_in store.old current.now) subject
         ≡ option_map (path_of (table_in store.old)) found) }
     ensures used { IfOk result (λ found. IfSome found (IsUsed (table_in store.old))) }
     ensures ready { OnOk result (IsReady store.new) }

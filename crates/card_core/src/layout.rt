@@ -1,4 +1,4 @@
-//! Where the header and the PINs lie in the memory: pages of 16 words. File entries and blocks are file_tree's and
+//! Where the header lies in the memory: pages of 16 words. File entries, PINs and blocks are file_tree's, pin_store's and
 //! block_chain's, and the gate's page and the journal's pages are the store's.
 
 /// The header: the mark, the first free block, the card state.
@@ -9,9 +9,3 @@ pub(crate) const MARK: u32 = 0x5453_4331;
 
 /// The header's word that holds the card state: 0 in use, 1 terminated.
 pub(crate) const STATE_WORD: u16 = 2;
-
-/// The page of PIN 1, which those of the other PINs follow.
-pub(crate) const FIRST_PIN_PAGE: u16 = 65;
-
-/// PINs.
-pub(crate) const PINS: u16 = 8;

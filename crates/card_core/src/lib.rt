@@ -9,9 +9,15 @@ mod current;
 mod factory;
 mod faults;
 mod files;
+mod increasing;
 pub mod laws;
 mod layout;
+mod life_cycles;
 mod machine;
+mod named;
+mod pins;
+mod record_body;
+mod records;
 mod select;
 mod templates;
 

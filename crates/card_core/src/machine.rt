@@ -1,9 +1,11 @@
 //! A started card and its commands.
-ghost use Rattle.std.specs.Prelude.{◌≡◌, ◌⊎◌, ◌≤◌, ◌-◌, Some, true, false, [], length, IsOk, IsErr, OnOk, OnErr, IfOk};
+ghost use Rattle.std.specs.Prelude.{◌≡◌, ◌⊎◌, ◌≤◌, ◌+◌, ◌-◌, Some, true, false, [], length, IsOk, IsErr, OnOk, OnErr, IfOk};
 ghost use Rattle.std.specs.Prelude.{IfErr};
 ghost use Rattle.undo_journal.specs.Spending.{WritesAtMost, KeepsBoard, start_writes};
 ghost use Rattle.undo_journal.specs.Undo.{gate};
 ghost use Rattle.file_tree.specs.Spaces.{free_space};
+ghost use Rattle.apdu_core.specs.Asked.{asked};
+ghost use Rattle.card_core.specs.Comparing.{comparisons, ComparesAsked};
 ghost use Rattle.card_core.specs.Finding.{HasCard, FindsAgain};
 ghost use Rattle.card_core.specs.Running.{Starts, StopsBy, Steps, FailsIn, IsCutIn, card_found, memory_failure};
 ghost use Rattle.card_core.specs.Spending.{writes_of};
@@ -80,7 +82,7 @@ impl<B: Board> Card<B> {
         match find_card(&mut store) {
             Ok(Some(free)) => Ok(Card {
                 store,
-                current: Current::MASTER_FILE,
+                current: Current::fresh(),
                 free,
                 state: CardState::Working,
             }),
@@ -125,9 +127,12 @@ impl<B: Board> Card<B> {
         ensures dark { self.old.state ≡ CardState.Dark → IsErr result × (self.new ≡ self.old) × (answer.new.items
             ≡ []) }
         ensures unlit { OnErr result (self.new.facts.dark ≡ true) }
-        ensures writes { WritesAtMost COMMAND_WRITES self.old.facts self.new.facts }
+        ensures writes { self.new.facts.writes ≤ self.old.facts.writes + COMMAND_WRITES }
         // Reads and refusals by form write nothing, UPDATE BINARY by the words that it touches.
-        ensures counted { WritesAtMost (writes_of command.now) self.old.facts self.new.facts }
+        ensures counted { self.new.facts.writes ≤ self.old.facts.writes + writes_of command.now }
+        // A comparison costs a lasting try, and no command but those on PINs that carry data makes one.
+        ensures compares { ComparesAsked (asked command.now) (card_found self.old) (comparisons self.old.facts)
+            (card_found self.new) (comparisons self.new.facts) }
     {
         answer.clear();
         match self.state {

@@ -11,8 +11,8 @@ ghost use Rattle.card_core.specs.Lengths.{asks_less, given, right_length};
 ghost use Rattle.card_core.specs.Reaching.{selected_from};
 ghost use Rattle.card_core.specs.Selecting.{selection_status};
 ghost use Rattle.card_core.specs.Standing.{IsCard};
-ghost use Rattle.card_core.specs.Steps.{step};
-ghost use Rattle.card_core.specs.Working.{card_in, data_in, life_of, outcome, session_in, table_in, IsCurrent, IsToldEntry};
+ghost use Rattle.card_core.specs.Served.{Serves};
+ghost use Rattle.card_core.specs.Working.{card_in, data_in, life_of, session_in, space_in, table_in, IsCurrent, IsToldEntry};
 
 use crate::current::Current;
 use crate::templates::{Template, life_of, template_of};
@@ -43,14 +43,8 @@ pub(crate) fn select_file<B: Board>(
     requires current { IsCurrent (table_in store.old) current.old }
     requires selector { IsSelector selector }
     requires empty { text.old.items ≡ [] }
-    ensures step { IfOk result (λ status. step (card_in store.old) (session_in store.old current.old) (selection
-        (selection_of selector.entry) returned expected)
-        ≡ outcome (card_in store.old) (session_in store.old current.new) text.new.items status) }
-    ensures room { length text.new.items ≤ 256 }
-    ensures current { IsCurrent (table_in store.old) current.new }
-    ensures ready { OnOk result (IsReady store.new) }
-    ensures reads { OnlyReads store.old store.new }
-    ensures tells { store.new.failed ≡ result_err result }
+    ensures serves { Serves (selection (selection_of selector.entry) returned expected) store.old current.old store.new current.new text.new.items result }
+    ensures space { OnOk result (space_in store.new ≡ space_in store.old) }
 {
     let Some(e) = find_selected(store, *current, selector)? else {
         return Ok(Sw::FILE_NOT_FOUND);
@@ -61,7 +55,7 @@ pub(crate) fn select_file<B: Board>(
         return Ok(right_length(&data));
     }
     give(expected, &data, text);
-    *current = Current::at(e, &entry);
+    *current = current.at(e, &entry);
     Ok(status_of(&entry))
 }
 
@@ -118,7 +112,7 @@ fn data_of(entry: &Entry, returned: Returned) -> Template
 }
 
 /// Whether Le asks for less than what was found. Le 00 asks for all.
-fn asks_less(expected: Option<u8>, found: &[u8]) -> bool
+pub(crate) fn asks_less(expected: Option<u8>, found: &[u8]) -> bool
     ensures { result ≡ asks_less expected found.now }
 {
     match expected {
@@ -128,7 +122,7 @@ fn asks_less(expected: Option<u8>, found: &[u8]) -> bool
 }
 
 /// The status word that tells the length of what was found, 6CXX; 256 is told as 00.
-fn right_length(found: &[u8]) -> Sw
+pub(crate) fn right_length(found: &[u8]) -> Sw
     requires { length found.now ≤ 256 }
     ensures { result ≡ right_length found.now }
 {
@@ -136,7 +130,7 @@ fn right_length(found: &[u8]) -> Sw
 }
 
 /// Puts what was found into an empty buffer, if there is an Le.
-fn give(expected: Option<u8>, found: &[u8], text: &mut Answer)
+pub(crate) fn give(expected: Option<u8>, found: &[u8], text: &mut Answer)
     requires empty { text.old.items ≡ [] }
     requires short { length found.now ≤ 256 }
     ensures { text.new.items ≡ given expected found.now }

@@ -1,11 +1,11 @@
 -- The card that is found is proper.
 use Rattle.std.specs.Prelude.{◌≡◌, ◌≢◌, ◌<◌, ◌≤◌, ◌+◌, ◌*◌, ◌-◌, ◌%◌, ◌==◌, ℕ, zero, suc, Bool, true, false}
 use Rattle.std.specs.Prelude.{if◌then◌else◌, List, [], ◌∷◌, length, map, take, drop}
-use Rattle.std.specs.Prelude.{slice_index, All, Option, Some, None}
+use Rattle.std.specs.Prelude.{get_or, slice_index, All, Option, Some, None}
 use Rattle.std.proofs.Common.{arith, ap, subst, sym, ◌∙◌, refl, length-take, inl, inr, true≢false}
 use Rattle.std.proofs.lemmas.List.Elements.{All-nil, All-append, All-take, All-drop, All-map}
 use Rattle.std.proofs.lemmas.Bool.Decides.{eqb_tells}
-use Rattle.std.proofs.lemmas.List.FromFn.{length-map-range_with_len}
+use Rattle.std.proofs.lemmas.List.FromFn.{get_or-range_with_len, length-map-range_with_len, length-range_with_len}
 use Rattle.std.specs.List.{flat_map, range_with_len}
 use Rattle.std.specs.Option.{option_map_or}
 use Rattle.std.specs.FinMap.{get}
@@ -24,6 +24,10 @@ use Rattle.file_tree.specs.Trees.{content, tree_of, TreeStands}
 use Rattle.file_tree.specs.laws.Nodes.{entry_found, used_small}
 use Rattle.file_tree.specs.laws.Paths.{identifier_path}
 use Rattle.file_tree.specs.laws.Tables.{entry_in-table, entry_of-free, entry_of-used, length-table}
+use Rattle.pin_store.specs.declared.layout.TheConstants.{PINS}
+use Rattle.pin_store.specs.Pages.{pin_at, pins_of, ArePinPages}
+use Rattle.pin_store.specs.Pins.{HasFewTries}
+use Rattle.pin_store.specs.laws.PinPages.{few_tries}
 use Rattle.card_core.specs.Finding.{HasCard, found, words_found}
 use Rattle.card_core.specs.Proper.{AreRecords, IsProper, IsProperBody, IsProperFile, IsProperKind, IsProperName}
 use Rattle.card_core.specs.Proper.{IsProperShort, IsRecord}
@@ -108,12 +112,12 @@ are-records entry bytes place body all =
     let room = body.multiple in
     let size = body.size in
     let few = body.records in
-    let most = body.capacity in
     record {
       each = proper-records entry bytes place (range_with_len 0 entry.records) body.record_length all;
       record_length = body.record_length;
       room = omega (arith, room, size);
-      number = omega (arith, long, few, most);
+      capacity = body.capacity;
+      number = omega (arith, long, few);
     }
 
 proper-body : (entry : Entry) (bytes : List ℕ) (two three : Bool) → (two ≡ true → IsTransparentBody entry)
@@ -215,9 +219,24 @@ small-identifier m stands path file is =
       small,
     ) in z)
 
+-- the PINs of a memory
+proper-pins : (m : List ℕ) → ArePinPages m → All HasFewTries (pins_of m)
+unfolding pins_of
+proper-pins m pages =
+    let long = length-range_with_len 0 PINS in
+    All-map HasFewTries (pin_at m) (range_with_len 0 PINS) (λ k d lt.
+    let below : k < PINS = omega (arith, lt, long) in
+    let place = get_or-range_with_len 0 PINS k d below in
+    let small : get_or (range_with_len 0 PINS) k d < PINS = omega (arith, place, below) in
+    few_tries m (get_or (range_with_len 0 PINS) k d) (pages.each (get_or (range_with_len 0 PINS) k d) small))
+
 pub proper-card : (m : List ℕ) → IsCard m → IsProper (card_of m)
 unfolding card_of
-proper-card m words = record { files = proper-file m words.tree; identifiers = small-identifier m words.tree }
+proper-card m words = record {
+  files = proper-file m words.tree;
+  identifiers = small-identifier m words.tree;
+  pins = proper-pins m words.pins;
+}
 
 pub found_is_proper : (m : List ℕ) → HasCard m → IsProper (found m)
 found_is_proper m there = proper-card (words_found m) there.words

@@ -1,11 +1,14 @@
 -- What commands cost at most.
-use Rattle.std.specs.Prelude.{◌≡◌, ◌≤◌, ◌+◌, ◌/◌, ℕ, zero, suc, List, length, IfOk, Result, Ok, Err}
+use Rattle.std.specs.Prelude.{◌≡◌, ◌≤◌, ◌+◌, ◌/◌, ℕ, zero, suc, List, length, Some, None, IfOk, Result, Ok, Err}
 use Rattle.std.proofs.Common.{arith, sym, subst}
 use Rattle.nvm_board.specs.Facts.{Facts}
 use Rattle.undo_journal.specs.Spending.{WritesAtMost}
 use Rattle.card_rules.specs.declared.status.Sw.{Sw}
 use Rattle.apdu_core.specs.Asked.{asked}
 use Rattle.apdu_core.specs.Requests.{Request, select, read_binary, update_binary, create_file, delete_file}
+use Rattle.apdu_core.specs.Requests.{read_record, update_record, append_record, search_record, increase}
+use Rattle.apdu_core.specs.Requests.{change_life_cycle, terminate_card_usage, verify, change_reference_data}
+use Rattle.apdu_core.specs.Requests.{reset_retry_counter}
 use Rattle.apdu_core.specs.Sizes.{IsSized}
 use Rattle.apdu_core.specs.laws.SizeLaws.{asked-sized}
 use Rattle.block_chain.specs.Changes.{touched_words}
@@ -24,6 +27,18 @@ few-asked (update_binary target offset bytes) sized =
     let few = few_words offset (length bytes) in let most = sized.1 in omega (arith, few, most)
 few-asked (create_file template) sized = omega arith
 few-asked (delete_file subject) sized = omega arith
+few-asked (read_record target choice expected) sized = omega arith
+few-asked (update_record target choice bytes) sized = omega arith
+few-asked (append_record target bytes) sized = omega arith
+few-asked (search_record target first direction text expected) sized = omega arith
+few-asked (increase sent expected) sized = omega arith
+few-asked (change_life_cycle change subject) sized = omega arith
+few-asked terminate_card_usage sized = omega arith
+few-asked (verify pin None) sized = omega arith
+few-asked (verify pin (Some shown)) sized = omega arith
+few-asked (change_reference_data pin shown new) sized = omega arith
+few-asked (reset_retry_counter pin None) sized = omega arith
+few-asked (reset_retry_counter pin (Some values)) sized = omega arith
 
 -- no command costs more than the most
 pub few_writes : (command : List ℕ) → writes_of command ≤ COMMAND_WRITES

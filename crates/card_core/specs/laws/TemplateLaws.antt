@@ -147,7 +147,8 @@ small-size (Some size) =
 pub record AreSmall (records : Records) : Type 0 where
   pub record_length : records.record_length ≤ 255
   pub room : records.size / records.record_length * records.record_length ≤ 32767
-  pub number : records.existing ≤ 255
+  pub capacity : records.size / records.record_length ≤ 254
+  pub number : records.existing ≤ records.size / records.record_length
 
 small-records : (record_length : ℕ) (existing : Option ℕ) (size : ℕ) → size ≤ 32767
     → IfSome (records_of record_length existing size) AreSmall
@@ -169,13 +170,12 @@ small-records record_length existing size most =
     let all_four = both (first && second && third) fourth all_five.0 in
     let all_three = both (first && second) third all_four.0 in
     let both_first = both first second all_three.0 in
-    let few = leb-true number capacity all_six.1 in
-    let room = leb-true capacity 254 all_five.1 in
     let whole = div-mul-le_self size record_length in
     record {
       record_length = leb-true record_length 255 both_first.1;
       room = omega (arith, whole, most);
-      number = omega (arith, few, room);
+      capacity = leb-true capacity 254 all_five.1;
+      number = leb-true number capacity all_six.1;
     })
     tt
 
@@ -327,6 +327,7 @@ proper-records records small =
       });
       record_length = short;
       room = small.room;
+      capacity = small.capacity;
       number = omega (arith, some, few);
     }
 

@@ -60,21 +60,23 @@ part-plain : (first : ℕ) → first < 256 → IsPart (first ∷ 0x21 ∷ []) 5
 part-plain first small = part-more (first ∷ 0x21 ∷ []) 2 5 (lit≤ tt)
     (part-cons first (0x21 ∷ []) 1 small (part-cons 0x21 [] 0 (lit< tt) part-none))
 
-part-records : (first record_length number : ℕ) → first < 256 → record_length ≤ 255 → number ≤ 255
-    → IsPart (first ∷ 0x21 ∷ two_bytes record_length ++ number ∷ []) 5
-part-records first record_length number small short few =
+part-records : (first record_length capacity number : ℕ) → first < 256 → record_length ≤ 255 → capacity ≤ 254
+    → number ≤ capacity → IsPart (first ∷ 0x21 ∷ two_bytes record_length ++ number ∷ []) 5
+part-records first record_length capacity number small short most few =
     part-cons first (0x21 ∷ two_bytes record_length ++ number ∷ []) 4 small
     (part-cons 0x21 (two_bytes record_length ++ number ∷ []) 3 (lit< tt)
     (part-append (two_bytes record_length) (number ∷ []) 2 1 (part-two record_length (omega (arith, short)))
-    (part-cons number [] 0 (omega (arith, few)) part-none)))
+    (part-cons number [] 0 (omega (arith, most, few)) part-none)))
 
 part-descriptor : (kind : Kind) → IsProperKind kind → IsPart (descriptor_value (kind_told kind)) 5
 part-descriptor (dedicated name) proper = part-plain 0x78 (lit< tt)
 part-descriptor (elementary short (transparent bytes)) proper = part-plain 0x41 (lit< tt)
 part-descriptor (elementary short (linear record_length capacity records)) proper =
-    part-records 0x42 record_length (length records) (lit< tt) proper.1.record_length proper.1.number
+    part-records 0x42 record_length capacity (length records) (lit< tt) proper.1.record_length proper.1.capacity
+    proper.1.number
 part-descriptor (elementary short (cyclic record_length capacity records)) proper =
-    part-records 0x46 record_length (length records) (lit< tt) proper.1.record_length proper.1.number
+    part-records 0x46 record_length capacity (length records) (lit< tt) proper.1.record_length proper.1.capacity
+    proper.1.number
 
 -- 84, 88 and 80, and what follows them
 part-short : (short : Option ℕ) → IsProperShort short → IsPart (short_value (short_told short)) 1

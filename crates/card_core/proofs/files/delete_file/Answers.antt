@@ -1,130 +1,95 @@
-use Rattle.std.proofs.Common.{◌≡◌, ◌<◌, ℕ, List, [], Option, Some, None, IfSome, option_map, sym, ◌∙◌, ap, subst, arith, inr}
+use Rattle.std.proofs.Common.{[], Result, Ok, None, sym, ◌∙◌, subst, arith, inr}
+use Rattle.undo_journal.specs.declared.error.StoreErr.{StoreErr}
 use Rattle.undo_journal.specs.Memory.{committed}
-use Rattle.card_rules.specs.declared.status.TheConstants.Sw.{FILE_NOT_FOUND, CONDITIONS_NOT_SATISFIED, DONE}
+use Rattle.undo_journal.specs.laws.Memory.{reports_then}
+use Rattle.card_rules.specs.declared.status.Sw.{Sw}
+use Rattle.card_rules.specs.declared.status.TheConstants.Sw.{DONE}
+use Rattle.apdu_core.specs.Requests.{delete_file}
 use Rattle.file_tree.specs.declared.entry.Entry.{Entry}
-use Rattle.file_tree.specs.Cards.{Path}
-use Rattle.file_tree.specs.Table.{table, entry_in, path_of, IsUsed}
-use Rattle.file_tree.specs.laws.Nodes.{used_small}
-use Rattle.file_tree.specs.laws.Paths.{path-zero}
-use Rattle.card_core.specs.Standing.{card_of}
-use Rattle.card_core.specs.Working.{outcome, session_of, IsCurrent}
+use Rattle.card_core.specs.Served.{Serves}
+use Rattle.card_core.specs.Working.{card_in, session_in}
+use Rattle.card_core.proofs.Answering.{said_ok, said_err}
 use Rattle.card_core.proofs.Deletions.{any-deleting, any-stands, deleted-space, done-current, done-step}
-use Rattle.card_core.proofs.FileSteps.{delete-master, delete-missed}
+use Rattle.card_core.proofs.FileSteps.{delete-refused}
+use Rattle.card_core.proofs.Serves.{compared-none, declined, reads-compared, stopped, torn, written}
+use Rattle.card_core.proofs.Stopping.{err-is}
 use Rattle.card_core.proofs.files.delete_file.Goals as goal
 
-pub returns-in-None-clause-step : goal.returns-in-None-clause-step
-returns-in-None-clause-step g c =
-    let m = committed c.args.store.now in
-    let t = table m in
+pub returns-in_err-file-clause-serves : goal.returns-in_err-file-clause-serves
+returns-in_err-file-clause-serves g c =
+    let old = c.args.store.now in
     let x = c.args.current.now in
-    delete-missed (card_of m) (session_of t x) c.args.subject
-    (c.in_ok-number.ensures.found ∙ ap (λ (o : Option ℕ). option_map (path_of t) o) c.in-None.is)
-    ∙ ap (λ (l : List ℕ). outcome (card_of l) (session_of (table l) x) [] FILE_NOT_FOUND) (sym
-    c.find_subject.ensures.reads.keeps.committed_words)
+    subst (λ (r : Result Sw StoreErr). Serves (delete_file c.args.subject) old x c.find_deletable.new.store x [] r)
+    (sym (err-is _ _ c.from_residual.ensures.1))
+    (stopped (delete_file c.args.subject) old x c.find_deletable.new.store c.requires.card x [] c.in_err-file.field-0.0
+    c.find_deletable.ensures.reads c.in_err-file.ensures.tells (omega arith))
 
-pub returns-then-number-eq0-clause-step : goal.returns-then-number-eq0-clause-step
-returns-then-number-eq0-clause-step g c =
-    let m = committed c.args.store.now in
-    let t = table m in
+pub returns-in-Err-clause-serves : goal.returns-in-Err-clause-serves
+returns-in-Err-clause-serves g c =
+    let old = c.args.store.now in
     let x = c.args.current.now in
-    let master : c.in-Some.number ≡ 0 = omega arith in
-    delete-master (card_of m) (session_of t x) c.args.subject
-    (c.in_ok-number.ensures.found ∙ ap (λ (o : Option ℕ). option_map (path_of t) o) c.in-Some.is
-    ∙ ap (λ (p : Path). Some p) (path-zero t 7 c.in-Some.number master))
-    ∙ ap (λ (l : List ℕ). outcome (card_of l) (session_of (table l) x) [] CONDITIONS_NOT_SATISFIED) (sym
-    c.find_subject.ensures.reads.keeps.committed_words)
+    let refused = said_err _ _ c.in_ok-file.field-0 c.in-Err.refusal c.in-Err.is c.in_ok-file.ensures.found in
+    declined (delete_file c.args.subject) old x c.find_deletable.new.store c.requires.card c.in-Err.refusal
+    c.find_deletable.ensures.reads c.in_ok-file.ensures.ready c.requires.current
+    (delete-refused (card_in old) (session_in old x) c.args.subject c.in-Err.refusal refused)
 
-pub read_entry-requires-clause-within : goal.read_entry-requires-clause-within
-read_entry-requires-clause-within g c =
-    let m = committed c.args.store.now in
-    used_small m c.in-Some.number
-    (subst (λ (o : Option ℕ). IfSome o (IsUsed (table m))) c.in-Some.is c.in_ok-number.ensures.used)
+pub returns-in_err-freed-clause-serves : goal.returns-in_err-freed-clause-serves
+returns-in_err-freed-clause-serves g c =
+    let old = c.args.store.now in
+    let m = committed old in
+    let sized = c.requires.ready.usable.committed_size in
+    let x = c.args.current.now in
+    let mid = c.find_deletable.new.store in
+    let new = c.delete.new.store in
+    let found = said_ok _ _ c.in_ok-file.field-0 c.in-Ok.file c.in-Ok.is c.in_ok-file.ensures.found in
+    let same = c.find_deletable.ensures.reads.keeps.committed_words in
+    let reads = c.find_deletable.ensures.reads in
+    let request = delete_file c.args.subject in
+    let stage = any-deleting m sized c.requires.card x c.args.subject c.in-Ok.file.number found.below found.used
+    found.place (committed mid) (committed new) same found.unrefused c.delete.ensures.any_exit in
+    let card = any-stands m sized c.requires.card x c.args.subject c.in-Ok.file.number found.below found.used
+    found.place (committed mid) (committed new) same c.delete.ensures.any_exit in
+    let reports = reports_then old mid new reads.reports c.delete.ensures.reports in
+    let spends = c.delete.ensures.writes.writes in
+    let spent = reads.board.writes in
+    let compares = compared-none _ mid.facts new.facts c.delete.ensures.writes ∙ reads-compared old mid reads in
+    subst (λ (r : Result Sw StoreErr). Serves request old x new x [] r)
+    (sym (err-is _ _ c.from_residual-in_err-freed.ensures.1))
+    (torn request old x new x [] c.in_err-freed.field-0.0 (inr stage) card reports c.in_err-freed.ensures.tells
+    (omega arith) (omega (arith, spends, spent)) compares)
 
-pub returns-in_err-freed-clause-stage : goal.returns-in_err-freed-clause-stage
-returns-in_err-freed-clause-stage g c =
-    let m = committed c.args.store.now in
-    let now = committed c.read_entry.new.store in
-    let same = c.read_entry.ensures.reads.keeps.committed_words ∙ c.find_subject.ensures.reads.keeps.committed_words in
-    let used = subst (λ (o : Option ℕ). IfSome o (IsUsed (table m))) c.in-Some.is c.in_ok-number.ensures.used in
-    let place = c.in_ok-number.ensures.found ∙ ap (λ (o : Option ℕ). option_map (path_of (table m)) o) c.in-Some.is in
-    let above : 0 < c.in-Some.number = omega arith in
-    inr (any-deleting m c.requires.ready.usable.committed_size c.requires.card c.args.current.now c.args.subject
-    c.in-Some.number above used place now (committed c.delete.new.store) same
-    c.delete.ensures.any_exit)
-
-pub returns-in_err-freed-clause-card : goal.returns-in_err-freed-clause-card
-returns-in_err-freed-clause-card g c =
-    let m = committed c.args.store.now in
-    let now = committed c.read_entry.new.store in
-    let same = c.read_entry.ensures.reads.keeps.committed_words ∙ c.find_subject.ensures.reads.keeps.committed_words in
-    let used = subst (λ (o : Option ℕ). IfSome o (IsUsed (table m))) c.in-Some.is c.in_ok-number.ensures.used in
-    let place = c.in_ok-number.ensures.found ∙ ap (λ (o : Option ℕ). option_map (path_of (table m)) o) c.in-Some.is in
-    let above : 0 < c.in-Some.number = omega arith in
-    any-stands m c.requires.ready.usable.committed_size c.requires.card c.args.current.now c.args.subject
-    c.in-Some.number above used place now (committed c.delete.new.store) same
-    c.delete.ensures.any_exit
-
-pub returns-clause-step : goal.returns-clause-step
-returns-clause-step g c =
-    let m = committed c.args.store.now in
-    let now = committed c.read_entry.new.store in
-    let same = c.read_entry.ensures.reads.keeps.committed_words ∙ c.find_subject.ensures.reads.keeps.committed_words in
-    let used = subst (λ (o : Option ℕ). IfSome o (IsUsed (table m))) c.in-Some.is c.in_ok-number.ensures.used in
-    let place = c.in_ok-number.ensures.found ∙ ap (λ (o : Option ℕ). option_map (path_of (table m)) o) c.in-Some.is in
-    let entry : c.in_ok-entry.entry ≡ entry_in (table m) c.in-Some.number =
-    c.in_ok-entry.ensures.entry ∙ ap (λ (l : List ℕ). entry_in (table l) c.in-Some.number)
-    c.find_subject.ensures.reads.keeps.committed_words in
-    let above : 0 < c.in-Some.number = omega arith in
-    let after = committed c.delete.new.store in
-    done-step m c.requires.ready.usable.committed_size c.requires.card c.args.current.now c.args.subject
-    c.in-Some.number above used place now after same c.in_ok-freed.ensures.done
-    ∙ ap (λ (y : Entry). outcome (card_of after) (session_of (table after) (record { df = y.parent; ef = None })) []
-    DONE) (sym entry)
-
-pub returns-clause-stage : goal.returns-clause-stage
-returns-clause-stage g c =
-    let m = committed c.args.store.now in
-    let now = committed c.read_entry.new.store in
-    let same = c.read_entry.ensures.reads.keeps.committed_words ∙ c.find_subject.ensures.reads.keeps.committed_words in
-    let used = subst (λ (o : Option ℕ). IfSome o (IsUsed (table m))) c.in-Some.is c.in_ok-number.ensures.used in
-    let place = c.in_ok-number.ensures.found ∙ ap (λ (o : Option ℕ). option_map (path_of (table m)) o) c.in-Some.is in
-    let above : 0 < c.in-Some.number = omega arith in
-    inr (any-deleting m c.requires.ready.usable.committed_size c.requires.card c.args.current.now c.args.subject
-    c.in-Some.number above used place now (committed c.delete.new.store) same
-    c.delete.ensures.any_exit)
-
-pub returns-clause-card : goal.returns-clause-card
-returns-clause-card g c =
-    let m = committed c.args.store.now in
-    let now = committed c.read_entry.new.store in
-    let same = c.read_entry.ensures.reads.keeps.committed_words ∙ c.find_subject.ensures.reads.keeps.committed_words in
-    let used = subst (λ (o : Option ℕ). IfSome o (IsUsed (table m))) c.in-Some.is c.in_ok-number.ensures.used in
-    let place = c.in_ok-number.ensures.found ∙ ap (λ (o : Option ℕ). option_map (path_of (table m)) o) c.in-Some.is in
-    let above : 0 < c.in-Some.number = omega arith in
-    any-stands m c.requires.ready.usable.committed_size c.requires.card c.args.current.now c.args.subject
-    c.in-Some.number above used place now (committed c.delete.new.store) same
-    c.delete.ensures.any_exit
-
-pub returns-clause-current : goal.returns-clause-current
-returns-clause-current g c =
-    let m = committed c.args.store.now in
-    let now = committed c.read_entry.new.store in
-    let same = c.read_entry.ensures.reads.keeps.committed_words ∙ c.find_subject.ensures.reads.keeps.committed_words in
-    let used = subst (λ (o : Option ℕ). IfSome o (IsUsed (table m))) c.in-Some.is c.in_ok-number.ensures.used in
-    let place = c.in_ok-number.ensures.found ∙ ap (λ (o : Option ℕ). option_map (path_of (table m)) o) c.in-Some.is in
-    let entry : c.in_ok-entry.entry ≡ entry_in (table m) c.in-Some.number =
-    c.in_ok-entry.ensures.entry ∙ ap (λ (l : List ℕ). entry_in (table l) c.in-Some.number)
-    c.find_subject.ensures.reads.keeps.committed_words in
-    let above : 0 < c.in-Some.number = omega arith in
-    let after = committed c.delete.new.store in
-    subst (λ (y : Entry). IsCurrent (table after) (record { df = y.parent; ef = None })) (sym entry)
-    (done-current m c.requires.ready.usable.committed_size c.requires.card c.args.current.now c.args.subject
-    c.in-Some.number above used place now after same c.in_ok-freed.ensures.done)
+pub returns-clause-serves : goal.returns-clause-serves
+returns-clause-serves g c =
+    let old = c.args.store.now in
+    let m = committed old in
+    let sized = c.requires.ready.usable.committed_size in
+    let x = c.args.current.now in
+    let mid = c.find_deletable.new.store in
+    let new = c.delete.new.store in
+    let found = said_ok _ _ c.in_ok-file.field-0 c.in-Ok.file c.in-Ok.is c.in_ok-file.ensures.found in
+    let same = c.find_deletable.ensures.reads.keeps.committed_words in
+    let reads = c.find_deletable.ensures.reads in
+    let request = delete_file c.args.subject in
+    let stage = any-deleting m sized c.requires.card x c.args.subject c.in-Ok.file.number found.below found.used
+    found.place (committed mid) (committed new) same found.unrefused c.delete.ensures.any_exit in
+    let card = any-stands m sized c.requires.card x c.args.subject c.in-Ok.file.number found.below found.used
+    found.place (committed mid) (committed new) same c.delete.ensures.any_exit in
+    let reports = reports_then old mid new reads.reports c.delete.ensures.reports in
+    let spends = c.delete.ensures.writes.writes in
+    let spent = reads.board.writes in
+    let compares = compared-none _ mid.facts new.facts c.delete.ensures.writes ∙ reads-compared old mid reads in
+    let done = done-step m sized c.requires.card x c.args.subject c.in-Ok.file.number found.below found.used
+    found.place (committed mid) (committed new) same found.unrefused c.in_ok-freed.ensures.done in
+    let current = done-current m sized c.requires.card x c.args.subject c.in-Ok.file.number found.below found.used
+    found.place (committed mid) (committed new) same c.requires.current.marks
+    c.in_ok-freed.ensures.done in
+    subst (λ (y : Entry). Serves request old x new (record x { df = y.parent; ef = None; pointer = None }) [] (Ok DONE))
+    (sym found.entry_is)
+    (written request old x new _ [] DONE (inr stage) card reports c.in_ok-freed.ensures.ready current (omega arith)
+    (omega (arith, spends, spent)) compares done)
 
 pub returns-clause-space : goal.returns-clause-space
 returns-clause-space g c =
     let m = committed c.args.store.now in
-    let now = committed c.read_entry.new.store in
-    let same = c.read_entry.ensures.reads.keeps.committed_words ∙ c.find_subject.ensures.reads.keeps.committed_words in
-    deleted-space m now (committed c.delete.new.store) c.args.free.now c.in_ok-freed.freed
-    c.requires.space same c.in_ok-freed.ensures.space
+    deleted-space m (committed c.find_deletable.new.store) (committed c.delete.new.store) c.args.free.now
+    c.in_ok-freed.freed c.requires.space c.find_deletable.ensures.reads.keeps.committed_words c.in_ok-freed.ensures.space

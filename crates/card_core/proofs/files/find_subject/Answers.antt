@@ -16,18 +16,18 @@ use Rattle.card_core.proofs.files.find_subject.Goals as goal
 pub returns-in-Current-clause-found : goal.returns-in-Current-clause-found
 returns-in-Current-clause-found g c =
     let m = committed c.args.store.now in
-    ap (λ (subject : Subject). subject_of (card_of m).tree (session_of (table m) c.args.current) subject) c.in-Current.is
-    ∙ subject-current m c.requires.card c.args.current c.requires.current
+    ap (λ (subject : Subject). subject_of (card_of m).tree (session_of (table m) c.args.current.now) subject) c.in-Current.is
+    ∙ subject-current m c.requires.card c.args.current.now c.requires.current
     ∙ ap (λ (found : Option ℕ). option_map (path_of (table m)) found) (ap (λ (e : ℕ). Some e) (sym c.unwrap_or.ensures))
 
 pub returns-in-Identifier-clause-found : goal.returns-in-Identifier-clause-found
 returns-in-Identifier-clause-found g c =
     let m = committed c.args.store.now in
     let t = table m in
-    let df = path_of t c.args.current.df in
+    let df = path_of t c.args.current.now.df in
     let id = c.in-Identifier.identifier in
     ok_then (λ (found : Option ℕ). option_map (path_of t) found ≡ reached (tree_of m) df id) _ c.select.result
-    (λ found is. ap (λ (subject : Subject). subject_of (card_of m).tree (session_of t c.args.current) subject)
+    (λ found is. ap (λ (subject : Subject). subject_of (card_of m).tree (session_of t c.args.current.now) subject)
     c.in-Identifier.is
     ∙ ap (λ (tree : Tree). reached tree df id) (card-tree m) ∙ sym is)
     c.select.ensures.found

@@ -1,27 +1,69 @@
-use Rattle.std.proofs.Common.{◌≡◌, ℕ, List, Option, IfSome, option_map, subst, sym, ◌∙◌, ap}
+use Rattle.std.proofs.Common.{◌≡◌, ◌≤◌, ℕ, List, [], length, Option, None, Some, Result, Ok, IfSome, option_map, subst, sym, ◌∙◌, ap, arith}
 use Rattle.undo_journal.specs.Memory.{committed}
+use Rattle.undo_journal.specs.laws.Calls.{reads_then}
+use Rattle.undo_journal.specs.declared.error.StoreErr.{StoreErr}
+use Rattle.card_rules.specs.declared.status.Sw.{Sw}
+use Rattle.card_rules.specs.declared.status.TheConstants.Sw.{FILE_NOT_FOUND}
 use Rattle.file_tree.specs.declared.entry.Entry.{Entry}
 use Rattle.file_tree.specs.Table.{table, entry_in, path_of, IsUsed}
 use Rattle.file_tree.specs.laws.Nodes.{used_small}
+use Rattle.apdu_core.specs.Requests.{select}
 use Rattle.apdu_core.specs.Selections.{selection_of}
 use Rattle.card_core.specs.declared.current.Current.{Current}
 use Rattle.card_core.specs.Lengths.{asks_less, given, right_length}
 use Rattle.card_core.specs.Selecting.{selection_status}
+use Rattle.card_core.specs.Served.{Serves}
 use Rattle.card_core.specs.Standing.{card_of}
 use Rattle.card_core.specs.Working.{current_at, data_in, life_of, outcome, session_of, IsCurrent, IsToldEntry}
 use Rattle.card_core.proofs.Entries.{current-entry, select-entry, select-entry-less}
 use Rattle.card_core.proofs.SelectSteps.{select-missed}
+use Rattle.card_core.proofs.Serves.{answered, declined, stopped}
+use Rattle.card_core.proofs.Stopping.{err-is}
 use Rattle.card_core.proofs.Told.{told-entry}
 use Rattle.card_core.proofs.select.select_file.Goals as goal
 
-pub returns-in_default-clause-step : goal.returns-in_default-clause-step
-returns-in_default-clause-step g c =
-    let m = committed c.args.store.now in
+-- what is given is no longer than what was found
+given-short : (expected : Option ℕ) (found : List ℕ) → length found ≤ 256 → length (given expected found) ≤ 256
+given-short None found short = omega arith
+given-short (Some le) found short = short
+
+pub returns-in_err-e-clause-serves : goal.returns-in_err-e-clause-serves
+returns-in_err-e-clause-serves g c =
+    let old = c.args.store.now in
+    let x = c.args.current.now in
+    let request = select (selection_of c.args.selector) c.args.returned c.args.expected in
+    let none : length c.args.text.now.items ≡ 0 = ap (λ (l : List ℕ). length l) c.requires.empty in
+    subst (λ (r : Result Sw StoreErr). Serves request old x c.find_selected.new.store x c.args.text.now.items r)
+    (sym (err-is _ _ c.from_residual.ensures.1))
+    (stopped request old x c.find_selected.new.store c.requires.card x c.args.text.now.items c.in_err-e.field-0.0
+    c.find_selected.ensures.reads c.in_err-e.ensures.tells (omega (arith, none)))
+
+pub returns-in_default-clause-serves : goal.returns-in_default-clause-serves
+returns-in_default-clause-serves g c =
+    let old = c.args.store.now in
+    let x = c.args.current.now in
+    let m = committed old in
     let t = table m in
-    let s = session_of t c.args.current.now in
-    select-missed (card_of m) s (selection_of c.args.selector) c.args.returned c.args.expected
-    (c.in_ok-e.ensures.found ∙ ap (λ (o : Option ℕ). option_map (path_of t) o) c.in_default.is)
-    ∙ ap (λ (text : List ℕ). outcome (card_of m) s text (record { 0 = 27266 })) (sym c.requires.empty)
+    let s = session_of t x in
+    let request = select (selection_of c.args.selector) c.args.returned c.args.expected in
+    subst (λ (l : List ℕ). Serves request old x c.find_selected.new.store x l (Ok FILE_NOT_FOUND)) (sym c.requires.empty)
+    (declined request old x c.find_selected.new.store c.requires.card FILE_NOT_FOUND c.find_selected.ensures.reads
+    c.in_ok-e.ensures.ready c.requires.current
+    (select-missed (card_of m) s (selection_of c.args.selector) c.args.returned c.args.expected
+    (c.in_ok-e.ensures.found ∙ ap (λ (o : Option ℕ). option_map (path_of t) o) c.in_default.is)))
+
+pub returns-in_err-entry-clause-serves : goal.returns-in_err-entry-clause-serves
+returns-in_err-entry-clause-serves g c =
+    let old = c.args.store.now in
+    let x = c.args.current.now in
+    let request = select (selection_of c.args.selector) c.args.returned c.args.expected in
+    let none : length c.args.text.now.items ≡ 0 = ap (λ (l : List ℕ). length l) c.requires.empty in
+    subst (λ (r : Result Sw StoreErr). Serves request old x c.read_entry.new.store x c.args.text.now.items r)
+    (sym (err-is _ _ c.from_residual-in_err-entry.ensures.1))
+    (stopped request old x c.read_entry.new.store c.requires.card x c.args.text.now.items c.in_err-entry.field-0.0
+    (reads_then old c.find_selected.new.store c.read_entry.new.store c.find_selected.ensures.reads
+    c.read_entry.ensures.reads)
+    c.in_err-entry.ensures.tells (omega (arith, none)))
 
 pub read_entry-requires-clause-within : goal.read_entry-requires-clause-within
 read_entry-requires-clause-within g c =
@@ -38,13 +80,17 @@ data_of-data-requires g c =
     c.find_selected.ensures.reads.keeps.committed_words in
     subst IsToldEntry (sym entry) (told-entry m c.requires.ready.usable.committed_size c.requires.card e used)
 
-pub returns-then-asks_less-clause-step : goal.returns-then-asks_less-clause-step
-returns-then-asks_less-clause-step g c =
-    let m = committed c.args.store.now in
+pub returns-then-asks_less-clause-serves : goal.returns-then-asks_less-clause-serves
+returns-then-asks_less-clause-serves g c =
+    let old = c.args.store.now in
+    let m = committed old in
     let t = table m in
     let e = c.in-Some.e in
     let x = c.args.current.now in
     let expected = c.args.expected in
+    let request = select (selection_of c.args.selector) c.args.returned expected in
+    let reads = reads_then old c.find_selected.new.store c.read_entry.new.store c.find_selected.ensures.reads
+    c.read_entry.ensures.reads in
     let used = subst (λ (o : Option ℕ). IfSome o (IsUsed t)) c.in-Some.is c.in_ok-e.ensures.used in
     let place = c.in_ok-e.ensures.found ∙ ap (λ (o : Option ℕ). option_map (path_of t) o) c.in-Some.is in
     let entry : c.in_ok-entry.entry ≡ entry_in t e =
@@ -56,17 +102,24 @@ returns-then-asks_less-clause-step g c =
     let named = c.deref-then-asks_less.ensures.0 ∙ told in
     let less = ap (asks_less expected) (sym tested) ∙ sym c.asks_less.ensures ∙ c.if-asks_less.true in
     let status = ap right_length (sym named) ∙ sym c.right_length.ensures in
-    select-entry-less m c.requires.card e used c.requires.ready.usable.committed_size x (selection_of c.args.selector)
+    subst (λ (l : List ℕ). Serves request old x c.read_entry.new.store x l (Ok c.right_length.result)) (sym c.requires.empty)
+    (declined request old x c.read_entry.new.store c.requires.card c.right_length.result reads c.in_ok-entry.ensures.ready
+    c.requires.current
+    (select-entry-less m c.requires.card e used c.requires.ready.usable.committed_size x (selection_of c.args.selector)
     c.args.returned expected place less
-    ∙ (λ i. outcome (card_of m) (session_of t x) (sym c.requires.empty i) (status i))
+    ∙ ap (λ (sw : Sw). outcome (card_of m) (session_of t x) [] sw) status))
 
-pub returns-clause-step : goal.returns-clause-step
-returns-clause-step g c =
-    let m = committed c.args.store.now in
+pub returns-clause-serves : goal.returns-clause-serves
+returns-clause-serves g c =
+    let old = c.args.store.now in
+    let m = committed old in
     let t = table m in
     let e = c.in-Some.e in
     let x = c.args.current.now in
     let expected = c.args.expected in
+    let request = select (selection_of c.args.selector) c.args.returned expected in
+    let reads = reads_then old c.find_selected.new.store c.read_entry.new.store c.find_selected.ensures.reads
+    c.read_entry.ensures.reads in
     let used = subst (λ (o : Option ℕ). IfSome o (IsUsed t)) c.in-Some.is c.in_ok-e.ensures.used in
     let place = c.in_ok-e.ensures.found ∙ ap (λ (o : Option ℕ). option_map (path_of t) o) c.in-Some.is in
     let entry : c.in_ok-entry.entry ≡ entry_in t e =
@@ -77,21 +130,18 @@ returns-clause-step g c =
     let tested = c.deref.ensures.0 ∙ told in
     let named = c.deref-2.ensures.0 ∙ told in
     let enough = ap (asks_less expected) (sym tested) ∙ sym c.asks_less.ensures ∙ c.if-asks_less.false in
-    let current = sym (c.at.ensures ∙ ap (λ (y : Entry). current_at e y) entry) in
+    let at = c.at.ensures ∙ ap (λ (y : Entry). current_at x e y) entry in
+    let current = sym at in
     let text = sym (c.give.ensures ∙ ap (given expected) named) in
     let status = sym (c.status_of.ensures ∙ ap (λ (y : Entry). selection_status (life_of y)) entry) in
-    select-entry m c.requires.card e used c.requires.ready.usable.committed_size x (selection_of c.args.selector)
+    let short = c.data_of-data.ensures.short in
+    let size = ap (λ (l : List ℕ). length l) told in
+    let few : length (data_in c.args.returned (entry_in t e)) ≤ 256 = omega (arith, short, size) in
+    let room = given-short expected (data_in c.args.returned (entry_in t e)) few in
+    answered request old x c.read_entry.new.store c.requires.card c.at.result c.give.new.text.items c.status_of.result
+    reads c.in_ok-entry.ensures.ready
+    (subst (λ (y : Current). IsCurrent t y) current (current-entry m c.requires.card e used x c.requires.current.marks))
+    (subst (λ (l : List ℕ). length l ≤ 256) text room)
+    (select-entry m c.requires.card e used c.requires.ready.usable.committed_size x (selection_of c.args.selector)
     c.args.returned expected place enough
-    ∙ (λ i. outcome (card_of m) (session_of t (current i)) (text i) (status i))
-
-pub returns-clause-current : goal.returns-clause-current
-returns-clause-current g c =
-    let m = committed c.args.store.now in
-    let t = table m in
-    let e = c.in-Some.e in
-    let used = subst (λ (o : Option ℕ). IfSome o (IsUsed t)) c.in-Some.is c.in_ok-e.ensures.used in
-    let entry : c.in_ok-entry.entry ≡ entry_in t e =
-    c.in_ok-entry.ensures.entry ∙ ap (λ (l : List ℕ). entry_in (table l) e)
-    c.find_selected.ensures.reads.keeps.committed_words in
-    subst (λ (y : Current). IsCurrent t y) (sym (c.at.ensures ∙ ap (λ (y : Entry). current_at e y) entry))
-    (current-entry m c.requires.card e used)
+    ∙ (λ i. outcome (card_of m) (session_of t (current i)) (text i) (status i)))

@@ -1,9 +1,9 @@
-use Rattle.std.proofs.Common.{Option, None, refl, sym, subst, ◌∙◌}
-use Rattle.std.specs.FinSet.{empty}
+use Rattle.std.proofs.Common.{Option, None, refl, sym, subst, ◌∙◌, ap}
+use Rattle.card_core.proofs.Verified.{marked-none}
 use Rattle.undo_journal.specs.Memory.{committed}
 use Rattle.file_tree.specs.declared.space.FreeSpace.{FreeSpace}
 use Rattle.card_core.specs.Standing.{IsCard}
-use Rattle.card_core.specs.Working.{TellsCard}
+use Rattle.card_core.specs.Working.{session_of, table_in, TellsCard}
 use Rattle.card_core.proofs.Entries.{master-path}
 use Rattle.nvm_board.specs.Facts.{Facts}
 use Rattle.card_core.specs.Running.{StopsBy}
@@ -36,6 +36,7 @@ returns-in-Ok-Some-clause-started g c =
         cuts = same.cuts ∙ steady.cuts;
         due = same.due ∙ steady.due;
       };
-      session = λ i. record { current_df = path i; current_ef = None; pointer = None; verified = empty };
+      session = ap (session_of (table_in c.find_card.new.store)) c.fresh.ensures
+          ∙ (λ i. record { current_df = path i; current_ef = None; pointer = None; verified = marked-none i });
       state = refl;
     }

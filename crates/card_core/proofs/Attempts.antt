@@ -1,0 +1,493 @@
+-- An attempt, by the kinds of its exits: a charge that stopped; no try that is left; a comparison that stopped, or what became of
+-- the PIN; and what was shown wrong, or right.
+use Rattle.std.proofs.Common.{◌≡◌, ◌≢◌, ◌⊎◌, ◌<◌, ◌≤◌, ◌+◌, ◌-◌, ◌==◌, ℕ, Bool, true, false, List, [], ◌∷◌, length, Contains}
+use Rattle.std.proofs.Common.{slice_index, slice_set, Option, Some, None, Ok, Err, if◌then◌else◌, refl, sym, ◌∙◌, ap, subst, arith, inl, inr}
+use Rattle.std.proofs.Common.{⊎_elim}
+use Rattle.std.proofs.lemmas.Bool.{cases_eq, ne_eqb, eq-eqb}
+use Rattle.std.proofs.Math.ListN.{length-set}
+use Rattle.std.specs.Cmp.Lexicographic.{bytes_decides, pointwise}
+use Rattle.std.specs.Prelude.{nat_eq, IfOk, MatchOption, OnOk, Result}
+use Rattle.std.specs.Result.{result_err, IsErrAnd}
+use Rattle.std.specs.FinSet.{FinSet}
+use Rattle.std.specs.Ordering.{nat_cmp}
+use Rattle.nvm_board.specs.declared.board.TheConstants.{WORDS}
+use Rattle.card_rules.specs.declared.status.Sw.{Sw}
+use Rattle.card_rules.specs.declared.status.TheConstants.Sw.{DONE, METHOD_BLOCKED}
+use Rattle.card_rules.specs.Pins.{IsPinNumber, with_pin, without_pin}
+use Rattle.undo_journal.specs.declared.error.StoreErr.{StoreErr}
+use Rattle.undo_journal.specs.Calls.{OnlyReads}
+use Rattle.undo_journal.specs.Memory.{Memory, committed, IsReady, Reports}
+use Rattle.undo_journal.specs.Spending.{WritesAtMost}
+use Rattle.undo_journal.specs.laws.Memory.{reports_then}
+use Rattle.file_tree.specs.declared.entry.Entry.{Entry}
+use Rattle.file_tree.specs.Spaces.{free_space}
+use Rattle.apdu_core.specs.Requests.{Request, change_reference_data, reset_retry_counter, verify}
+use Rattle.pin_store.specs.declared.errors.Outcome.{Outcome as AttemptEnd}
+use Rattle.pin_store.specs.declared.errors.Outcome.TheVariants.{Matched, Wrong}
+use Rattle.pin_store.specs.Pages.{pin_at, ArePinPages, IsApart, SetsPin}
+use Rattle.pin_store.specs.Pins.{charged_pin, kept, owner, tries_left, Pin}
+use Rattle.pin_store.specs.Trials.{pin_in, Charges, ComparesOnce, Ends, IsWrong, KeepsPinLaw, SetsByMatch}
+use Rattle.pin_store.specs.laws.Tries.{charge_keeps_law, end_keeps_law, IsEnd}
+use Rattle.card_core.specs.declared.current.Current.{Current}
+use Rattle.card_core.specs.Cards.{Card}
+use Rattle.card_core.specs.Comparing.{attempt_of, comparisons, ComparesBy, ComparesShown, CostsATry}
+use Rattle.card_core.specs.Outcomes.{refused, refused_by, unless_refused}
+use Rattle.card_core.specs.Pins.{Attempt, attempt_commits, attempt_refusals, attempted, attempted_as, charged_card, is_right}
+use Rattle.card_core.specs.Pins.{changing, no_refusals, pin_of, resetting, settled_card, told_tries, tries_of, tries_told}
+use Rattle.card_core.specs.Pins.{unblocking_of, unverified, value_of, verifying, with_pin_of}
+use Rattle.card_core.specs.Served.{IsDoing, Serves}
+use Rattle.card_core.specs.Sessions.{Session, marked}
+use Rattle.card_core.specs.Spending.{most_writes}
+use Rattle.card_core.specs.Stages.{commits}
+use Rattle.card_core.specs.Standing.{card_of, IsCard}
+use Rattle.card_core.specs.Steps.{effect, refusals_of, served}
+use Rattle.card_core.specs.Working.{card_in, end_of_attempt, outcome, session_in, session_of, table_in, tried_from, IsCurrent}
+use Rattle.card_core.proofs.Comparisons.{costs-told}
+use Rattle.card_core.proofs.Guarding.{served-done, served-refused}
+use Rattle.card_core.proofs.PinCards.{pin-is, pin-set, pin-space, pin-stands, pin-table}
+use Rattle.card_core.proofs.Serves.{declined, stopped, torn, written}
+use Rattle.card_core.proofs.Stopping.{err-is}
+use Rattle.card_core.proofs.Verified.{marked-with, marked-without}
+
+-- a request that shows a secret of a PIN, and what comes of it
+pub record IsAttempt (request : Request) (a : Attempt) : Type 0 where
+  pub refuses : (c : Card) (s : Session) → refusals_of c s request ≡ attempt_refusals c a
+  pub does : (c : Card) (s : Session) → effect c s request ≡ attempted c s a
+  pub passes : (c : Card) (s : Session) → commits c s request ≡ attempt_commits c a
+  pub shows : attempt_of request ≡ Some a
+  pub number : IsPinNumber a.pin
+  pub owned : owner a.secret ≡ a.pin - 1
+
+-- whether what is shown is right
+right-is : (xs ys : List ℕ) → xs ≡ ys → pointwise nat_eq xs ys ≡ true
+right-is xs ys same = (bytes_decides xs ys).1 same
+
+wrong-is : (xs ys : List ℕ) → ¬ (xs ≡ ys) → pointwise nat_eq xs ys ≡ false
+wrong-is xs ys other = by (pointwise nat_eq xs ys) (λ is. other ((bytes_decides xs ys).0 is))
+  where
+    by : (b : Bool) → (b ≡ true → ⊥) → b ≡ false
+    by true never = absurd (never refl)
+    by false never = refl
+
+module _ (request : Request) (a : Attempt) (asks : IsAttempt request a) (old : Memory) (x : Current)
+    (sized : length (committed old) ≡ WORDS) (card : IsCard (committed old)) (current : IsCurrent (table_in old) x) where
+  abbrev c : Card
+  c = card_in old
+
+  abbrev s : Session
+  s = session_in old x
+
+  abbrev k : ℕ
+  k = a.pin - 1
+
+  abbrev was : Pin
+  was = pin_in old a.secret
+
+  pin-in : (m : Memory) → pin_in m a.secret ≡ pin_of (card_in m) a.pin
+  pin-in m = ap (pin_at (committed m)) asks.owned ∙ sym (pin-is (committed m) a.pin asks.number)
+
+  refusal-by : (b : Bool) → (tries_of c a.pin a.secret == 0) ≡ b
+      → refused_by (refusals_of c s request) ≡ (if b then Some METHOD_BLOCKED else None)
+  refusal-by b is = ap refused_by (asks.refuses c s) ∙ ap (λ (t : Bool). if t then Some METHOD_BLOCKED else None) is
+
+  tries-in : tries_left a.secret was ≡ tries_of c a.pin a.secret
+  tries-in = ap (tries_left a.secret) (pin-in old)
+
+  refused-blocked : tries_left a.secret was ≡ 0 → refused_by (refusals_of c s request) ≡ Some METHOD_BLOCKED
+  refused-blocked none = refusal-by true (eq-eqb (tries_of c a.pin a.secret) 0 (sym tries-in ∙ none))
+
+  unrefused : 0 < tries_left a.secret was → refused_by (refusals_of c s request) ≡ None
+  unrefused some = refusal-by false (ne_eqb (tries_of c a.pin a.secret) 0 (λ none.
+      let left = tries-in in let z : ⊥ = omega (arith, left, none, some) in z))
+
+  -- no try is left
+  pub exit-blocked : (new : Memory) → tries_left a.secret was ≡ 0 → OnlyReads old new → IsReady new
+      → Serves request old x new x [] (Ok METHOD_BLOCKED)
+  exit-blocked new none reads ready = declined request old x new card METHOD_BLOCKED reads ready current
+      (served-refused c s request METHOD_BLOCKED (refused-blocked none))
+
+  -- a PIN that is set, by its number
+  set-by : (m n : Memory) (now : Pin → Pin) → SetsPin (committed m) (owner a.secret) (now (pin_in m a.secret)) (committed n)
+      → SetsPin (committed m) k (now (pin_of (card_in m) a.pin)) (committed n)
+  set-by m n now sets =
+      subst (λ (j : ℕ). SetsPin (committed m) j (now (pin_of (card_in m) a.pin)) (committed n)) asks.owned
+      (subst (λ (p : Pin). SetsPin (committed m) (owner a.secret) (now p) (committed n)) (pin-in m) sets)
+
+  -- What the law of PINs tells of the card: at any exit.
+  module _ (new : Memory) (size : length (committed new) ≡ length (committed old)) (pages : ArePinPages (committed new))
+      (law : KeepsPinLaw a.secret a.shown old new) where
+    sets-any : SetsPin (committed old) k (pin_at (committed new) k) (committed new)
+    sets-any = record {
+      size = size;
+      elsewhere = subst (λ (j : ℕ). (w : ℕ) → IsApart j w → slice_index (committed new) w ≡ slice_index (committed old) w)
+          asks.owned law.elsewhere;
+      becomes = refl;
+    }
+
+    card-any : card_in new ≡ with_pin_of c a.pin (pin_at (committed new) k)
+    card-any = pin-set (committed old) (committed new) sized card a.pin asks.number _ sets-any
+
+    pub exit-card : IsCard (committed new)
+    exit-card = pin-stands (committed old) (committed new) sized card a.pin asks.number _ sets-any pages
+
+    pub exit-table : table_in new ≡ table_in old
+    exit-table = pin-table (committed old) (committed new) sized card a.pin asks.number _ sets-any
+
+    pub exit-space : free_space (card_in new).tree ≡ free_space (card_in old).tree
+    exit-space = pin-space (committed old) (committed new) sized card a.pin asks.number _ sets-any
+
+    exit-compares : (tries_left a.secret was ≡ 0 → (committed new ≡ committed old) × (comparisons new.facts ≡ comparisons old.facts))
+        → ComparesBy request c (comparisons old.facts) (card_in new) (comparisons new.facts)
+    exit-compares blocked = subst (λ (o : Option Attempt). ComparesShown o c (comparisons old.facts) (card_in new) (comparisons
+        new.facts)) (sym asks.shows) (record {
+          costs = subst (λ (p : Pin). CostsATry a.secret a.shown p (pin_of (card_in new) a.pin) (comparisons old.facts)
+              (comparisons new.facts)) (pin-in old)
+              (subst (λ (p : Pin). CostsATry a.secret a.shown was p (comparisons old.facts) (comparisons new.facts))
+              (pin-in new) (costs-told a.secret a.shown old new law (λ none.
+              (ap (λ (l : List ℕ). pin_at l (owner a.secret)) (blocked none).0, (blocked none).1))));
+          others = ap (λ (d : Card). d.pins) card-any
+              ∙ ap (slice_set c.pins k) (sym (pin-is (committed new) a.pin asks.number));
+        })
+
+  -- the cards that the request passes
+  passed : (d : Card) → Contains (c ∷ attempt_commits c a) d → Contains (c ∷ commits c s request) d
+  passed d among = subst (λ (cards : List Card). Contains (c ∷ cards) d) (sym (asks.passes c s)) among
+
+  lasting : commits c s request ≢ []
+  lasting none =
+      let long : length (attempt_commits c a) ≡ 0 = ap length (sym (asks.passes c s) ∙ none) in
+      let z : ⊥ = omega (arith, long) in z
+
+  doing : (d : Card) → 0 < tries_left a.secret was → Contains (c ∷ attempt_commits c a) d → IsDoing c s request d
+  doing d some among = record { unrefused = unrefused some; lasts = lasting; card = passed d among }
+
+  -- the charge
+  charged-card : (b : Memory) → Charges a.secret old b → card_in b ≡ charged_card c a
+  charged-card b charges =
+      pin-set (committed old) (committed b) sized card a.pin asks.number _ (set-by old b (charged_pin a.secret) charges.charged)
+
+  charged-size : (b : Memory) → (committed b ≡ committed old) ⊎ Charges a.secret old b
+      → length (committed b) ≡ length (committed old)
+  charged-size b (inl same) = ap length same
+  charged-size b (inr charges) = charges.charged.size
+
+  charged-stage : (b : Memory) → (committed b ≡ committed old) ⊎ Charges a.secret old b → Contains (c ∷ attempt_commits c a) (card_in b)
+  charged-stage b (inl same) = (0, omega arith, sym (ap card_of same))
+  charged-stage b (inr charges) = (1, omega arith, sym (charged-card b charges))
+
+  -- where no try was left, only reads were made
+  idle : {R : Type 0} (new : Memory) → (tries_left a.secret was ≡ 0 → OnlyReads old new) → (0 < tries_left a.secret was → R)
+      → OnlyReads old new ⊎ R
+  idle new kept some = ⊎_elim (λ none. inl (kept none))
+      (λ other. let left : 0 < tries_left a.secret was = omega (arith, other) in inr (some left))
+      (cases_eq (tries_left a.secret was) 0)
+
+  reads-told : (new : Memory) → OnlyReads old new → (committed new ≡ committed old) × (comparisons new.facts ≡ comparisons old.facts)
+  reads-told new reads = (
+    reads.keeps.committed_words,
+    λ i. record { compares = reads.board.compares i; matches = reads.board.matches i },
+  )
+
+  -- the charge stopped
+  pub exit-charge : (b : Memory) (e : StoreErr) → (committed b ≡ committed old) ⊎ Charges a.secret old b
+      → (tries_left a.secret was ≡ 0 → OnlyReads old b) → ArePinPages (committed b) → Reports old b → b.failed ≡ Some e
+      → WritesAtMost 1 old.facts b.facts → b.facts.writes ≤ old.facts.writes + most_writes request
+      → Serves request old x b x [] (Err e)
+  exit-charge b e exit kept pages reports failed spends writes =
+      let law = charge_keeps_law a.secret a.shown old b exit spends in
+      let size = charged-size b exit in
+      torn request old x b x [] e
+      (idle b kept (λ some. doing (card_in b) some (charged-stage b exit)))
+      (exit-card b size pages law) reports failed (omega arith) writes
+      (exit-compares b size pages law (λ none. reads-told b (kept none)))
+
+  -- after the charge
+  module _ (b : Memory) (charges : Charges a.secret old b) (card-b : IsCard (committed b)) where
+    size-b : length (committed b) ≡ WORDS
+    size-b = charges.charged.size ∙ sized
+
+    never : {R : Type 0} → tries_left a.secret was ≡ 0 → R
+    never none = let some = charges.left in absurd (omega (arith, some, none))
+
+    -- the PIN is set
+    settled-is : (e : Memory) → SetsPin (committed b) (owner a.secret) (a.becomes (pin_in b a.secret)) (committed e)
+        → card_in e ≡ settled_card c a
+    settled-is e sets =
+        pin-set (committed b) (committed e) size-b card-b a.pin asks.number _ (set-by b e a.becomes sets)
+        ∙ ap (λ (d : Card). with_pin_of d a.pin (a.becomes (pin_of d a.pin))) (charged-card b charges)
+
+    -- the secret that is kept stays
+    kept-stays : kept a.secret (pin_in b a.secret) ≡ kept a.secret (pin_of c a.pin)
+    kept-stays = ap (kept a.secret) (charges.charged.becomes ∙ ap (charged_pin a.secret) (pin-in old))
+
+    right : kept a.secret (pin_in b a.secret) ≡ a.shown → is_right c a ≡ true
+    right is = right-is (kept a.secret (pin_of c a.pin)) a.shown (sym kept-stays ∙ is)
+
+    wrong : ¬ (kept a.secret (pin_in b a.secret) ≡ a.shown) → is_right c a ≡ false
+    wrong other = wrong-is (kept a.secret (pin_of c a.pin)) a.shown (λ is. other (kept-stays ∙ is))
+
+    -- the cards that it passes
+    settled-stage : (e : Memory) → SetsByMatch a.secret a.shown (a.becomes (pin_in b a.secret)) b e
+        → Contains (c ∷ attempt_commits c a) (card_in e)
+    settled-stage e set = subst
+        (λ (t : Bool). Contains (c ∷ charged_card c a ∷ (if t then settled_card c a ∷ [] else [])) (card_in e))
+        (sym (right set.match_counted.right)) (2, omega arith, sym (settled-is e set.sets))
+
+    ended-stage : (e : Memory)
+        → (committed e ≡ committed b) ⊎ SetsByMatch a.secret a.shown (a.becomes (pin_in b a.secret)) b e
+        → Contains (c ∷ attempt_commits c a) (card_in e)
+    ended-stage e (inl same) = (1, omega arith, sym (ap card_of same ∙ charged-card b charges))
+    ended-stage e (inr set) = settled-stage e set
+
+    ended-size : (e : Memory)
+        → (committed e ≡ committed b) ⊎ SetsByMatch a.secret a.shown (a.becomes (pin_in b a.secret)) b e
+        → length (committed e) ≡ length (committed old)
+    ended-size e (inl same) = ap length same ∙ charges.charged.size
+    ended-size e (inr set) = set.sets.size ∙ charges.charged.size
+
+    -- an end, whatever it was
+    module _ (e : Memory) (n : ℕ) (ends : IsEnd a.secret (pin_in b a.secret) (a.becomes (pin_in b a.secret)))
+        (costs : WritesAtMost 1 old.facts b.facts) (spends : ComparesOnce n a.secret b.facts e.facts)
+        (pages : ArePinPages (committed e)) (reports : Reports old e)
+        (writes : e.facts.writes ≤ old.facts.writes + most_writes request)
+        (exit : (committed e ≡ committed b) ⊎ SetsByMatch a.secret a.shown (a.becomes (pin_in b a.secret)) b e) where
+      law-end : KeepsPinLaw a.secret a.shown old e
+      law-end = end_keeps_law n a.secret a.shown _ old b e ends charges costs exit spends
+
+      stage-end : OnlyReads old e ⊎ IsDoing c s request (card_in e)
+      stage-end = inr (doing (card_in e) charges.left (ended-stage e exit))
+
+      compares-end : ComparesBy request c (comparisons old.facts) (card_in e) (comparisons e.facts)
+      compares-end = exit-compares e (ended-size e exit) pages law-end never
+
+      pub end-space : free_space (card_in e).tree ≡ free_space (card_in old).tree
+      end-space = exit-space e (ended-size e exit) pages law-end
+
+      -- the end stopped
+      pub exit-end : (err : StoreErr) → e.failed ≡ Some err → Serves request old x e x [] (Err err)
+      exit-end err failed = torn request old x e x [] err stage-end (exit-card e (ended-size e exit) pages law-end) reports
+          failed (omega arith) writes compares-end
+
+      abbrev y : AttemptEnd → Current
+      y end = tried_from x a.pin a.unverifies end
+
+      current-end : (end : AttemptEnd) → IsCurrent (table_in e) (y end)
+      current-end end = subst (λ (t : List Entry). IsCurrent t (y end))
+          (sym (exit-table e (ended-size e exit) pages law-end)) (tried-current a.unverifies end)
+        where
+          tried-current : (unverifies : Bool) (end : AttemptEnd) → IsCurrent (table_in old) (tried_from x a.pin unverifies end)
+          tried-current unverifies Matched = record {
+            df = current.df;
+            ef = current.ef;
+            marks = length-set x.verified (a.pin - 1) true ∙ current.marks;
+          }
+          tried-current true (Wrong left) = record {
+            df = current.df;
+            ef = current.ef;
+            marks = length-set x.verified (a.pin - 1) false ∙ current.marks;
+          }
+          tried-current false (Wrong left) = current
+
+      -- the step
+      step-by : (t : Bool) → is_right c a ≡ t → served c s request ≡ attempted_as c s a t
+      step-by t is = served-done c s request (unrefused charges.left) ∙ asks.does c s ∙ ap (attempted_as c s a) is
+
+      session-set : (set : FinSet nat_cmp) (marks : List Bool) → marked marks ≡ set
+          → record s { verified = set } ≡ session_in e (record x { verified = marks })
+      session-set set marks is =
+          let t = sym (exit-table e (ended-size e exit) pages law-end) in
+          ap (λ (v : FinSet nat_cmp). record s { verified = v }) (sym is)
+          ∙ ap (λ (t : List Entry). session_of t (record x { verified = marks })) t
+
+      step-matched : SetsByMatch a.secret a.shown (a.becomes (pin_in b a.secret)) b e
+          → served c s request ≡ outcome (card_in e) (session_in e (y Matched)) [] DONE
+      step-matched set =
+          let session = session-set _ (with_pin x.verified a.pin) (marked-with x.verified a.pin current.marks asks.number) in
+          let card-is = sym (settled-is e set.sets) in
+          step-by true (right set.match_counted.right)
+          ∙ (λ i. outcome (card-is i) (session i) [] DONE)
+
+      step-wrong : (left : ℕ) → IsWrong a.secret a.shown left b e
+          → served c s request ≡ outcome (card_in e) (session_in e (y (Wrong left))) [] (tries_told left)
+      step-wrong left is =
+          let card-is = sym (ap card_of is.same ∙ charged-card b charges) in
+          let told = ap (λ (d : Card). tries_of d a.pin a.secret) (sym (charged-card b charges))
+          ∙ sym (ap (tries_left a.secret) (pin-in b)) ∙ sym is.left in
+          let session = session-wrong a.unverifies in
+          step-by false (wrong is.wrong)
+          ∙ (λ i. outcome (card-is i) (session i) [] (tries_told (told i)))
+        where
+          session-wrong : (unverifies : Bool)
+              → unverified s a unverifies ≡ session_in e (tried_from x a.pin unverifies (Wrong left))
+          session-wrong true =
+              session-set _ (without_pin x.verified a.pin) (marked-without x.verified a.pin current.marks asks.number)
+          session-wrong false =
+              ap (λ (t : List Entry). session_of t x) (sym (exit-table e (ended-size e exit) pages law-end))
+
+      step-end : (end : AttemptEnd) → Ends a.secret a.shown (a.becomes (pin_in b a.secret)) b e end
+          → served c s request ≡ outcome (card_in e) (session_in e (y end)) [] (end_of_attempt end)
+      step-end Matched set = step-matched set
+      step-end (Wrong left) is = step-wrong left is
+
+      -- the end was made
+      pub exit-done : (end : AttemptEnd) → Ends a.secret a.shown (a.becomes (pin_in b a.secret)) b e end → IsReady e
+          → Serves request old x e (y end) [] (Ok (end_of_attempt end))
+      exit-done end done ready =
+          written request old x e (y end) [] (end_of_attempt end) stage-end (exit-card e (ended-size e exit) pages law-end)
+          reports ready (current-end end) (omega arith) writes compares-end (step-end end done)
+
+-- The exits as the calls tell them: of so many writes after the charge.
+module _ (request : Request) (a : Attempt) (asks : IsAttempt request a) (n : ℕ) (most : most_writes request ≡ 1 + n)
+    (old : Memory) (x : Current) (ready : IsReady old) (card : IsCard (committed old)) (current : IsCurrent (table_in old) x)
+  where
+    abbrev sized : length (committed old) ≡ WORDS
+    sized = ready.usable.committed_size
+
+    -- the charge stopped
+    pub charge-torn : (b : Memory) (r : Result Sw StoreErr) (err : StoreErr) → IsErrAnd r (λ f. f ≡ err)
+        → (committed b ≡ committed old) ⊎ Charges a.secret old b
+        → (tries_left a.secret (pin_in old a.secret) ≡ 0 → OnlyReads old b) → ArePinPages (committed b) → Reports old b
+        → b.failed ≡ Some err → WritesAtMost 1 old.facts b.facts → Serves request old x b x [] r
+    charge-torn b r err is exit kept pages reports failed spends =
+        let once = spends.writes in
+        let writes : b.facts.writes ≤ old.facts.writes + most_writes request = omega (arith, once, most) in
+        subst (λ (result : Result Sw StoreErr). Serves request old x b x [] result) (sym (err-is r err is))
+        (exit-charge request a asks old x sized card current b err exit kept pages reports failed spends writes)
+
+    -- no try was left
+    pub charge-blocked : (b : Memory) (taken : Option ℕ) → taken ≡ None
+        → MatchOption taken (tries_left a.secret (pin_in old a.secret) ≡ 0) (λ k. (k ≡ a.secret) × Charges a.secret old b)
+        → (tries_left a.secret (pin_in old a.secret) ≡ 0 → OnlyReads old b) → IsReady b
+        → Serves request old x b x [] (Ok METHOD_BLOCKED)
+    charge-blocked b taken is done kept is-ready =
+        let none = subst (λ (o : Option ℕ). MatchOption o (tries_left a.secret (pin_in old a.secret) ≡ 0)
+        (λ k. (k ≡ a.secret) × Charges a.secret old b)) is done in
+        exit-blocked request a asks old x sized card current b none (kept none) is-ready
+
+    -- a try was taken, and then an end came
+    module _ (b e : Memory) (taken : Option ℕ) (k : ℕ) (is : taken ≡ Some k)
+        (done : MatchOption taken (tries_left a.secret (pin_in old a.secret) ≡ 0) (λ k. (k ≡ a.secret) × Charges a.secret old b))
+        (pages-b : ArePinPages (committed b)) (costs : WritesAtMost 1 old.facts b.facts) (reports-b : Reports old b)
+        (ends : (p : Pin) → IsEnd a.secret p (a.becomes p))
+        (exit : (committed e ≡ committed b) ⊎ SetsByMatch k a.shown (a.becomes (pin_in b k)) b e)
+        (spends : ComparesOnce n k b.facts e.facts) (pages : ArePinPages (committed e)) (reports : Reports b e) where
+      got : (k ≡ a.secret) × Charges a.secret old b
+      got = subst (λ (o : Option ℕ). MatchOption o (tries_left a.secret (pin_in old a.secret) ≡ 0)
+          (λ k. (k ≡ a.secret) × Charges a.secret old b)) is done
+
+      card-b : IsCard (committed b)
+      card-b = exit-card request a asks old x sized card current b got.1.charged.size pages-b
+          (charge_keeps_law a.secret a.shown old b (inr got.1) costs)
+
+      exit-told : (committed e ≡ committed b) ⊎ SetsByMatch a.secret a.shown (a.becomes (pin_in b a.secret)) b e
+      exit-told = subst (λ (k : ℕ). (committed e ≡ committed b) ⊎ SetsByMatch k a.shown (a.becomes (pin_in b k)) b e) got.0
+          exit
+
+      spends-told : ComparesOnce n a.secret b.facts e.facts
+      spends-told = subst (λ (k : ℕ). ComparesOnce n k b.facts e.facts) got.0 spends
+
+      writes : e.facts.writes ≤ old.facts.writes + most_writes request
+      writes = let once = costs.writes in let more = spends.writes in omega (arith, once, more, most)
+
+      pub end-torn : (r : Result Sw StoreErr) (err : StoreErr) → IsErrAnd r (λ f. f ≡ err) → e.failed ≡ Some err
+          → Serves request old x e x [] r
+      end-torn r err error failed =
+          subst (λ (result : Result Sw StoreErr). Serves request old x e x [] result) (sym (err-is r err error))
+          (exit-end request a asks old x sized card current b got.1 card-b e n (ends _) costs spends-told pages
+          (reports_then old b e reports-b reports) writes exit-told err failed)
+
+      pub end-made : (end : AttemptEnd) → Ends k a.shown (a.becomes (pin_in b k)) b e end → IsReady e
+          → (y : Current) → y ≡ tried_from x a.pin a.unverifies end → (status : Sw) → status ≡ end_of_attempt end
+          → Serves request old x e y [] (Ok status)
+      end-made end ended is-ready y at status told =
+          let made = exit-done request a asks old x sized card current b got.1 card-b e n (ends _) costs spends-told pages
+          (reports_then old b e reports-b reports) writes exit-told end
+          (subst (λ (k : ℕ). Ends k a.shown (a.becomes (pin_in b k)) b e end) got.0 ended) is-ready in
+          subst (λ (z : Current). Serves request old x e z [] (Ok status)) (sym at)
+          (subst (λ (w : Sw). Serves request old x e (tried_from x a.pin a.unverifies end) [] (Ok w)) (sym told) made)
+
+      pub made-space : free_space (card_in e).tree ≡ free_space (card_in old).tree
+      made-space = end-space request a asks old x sized card current b got.1 card-b e n (ends _) costs spends-told pages
+          (reports_then old b e reports-b reports) writes exit-told
+
+-- the three requests
+module _ (n : ℕ) (number : IsPinNumber n) where
+  value-owned : owner (value_of n) ≡ n - 1
+  value-owned =
+      let first = number.first in
+      let last = number.last in
+      omega (arith, first, last)
+
+  unblocking-owned : owner (unblocking_of n) ≡ n - 1
+  unblocking-owned =
+      let first = number.first in
+      let last = number.last in
+      omega (arith, first, last)
+
+  pub verifies : (shown : List ℕ) → IsAttempt (verify n (Some shown)) (verifying n shown)
+  unfolding refusals_of effect commits
+  verifies shown = record {
+    refuses = λ c s. refl;
+    does = λ c s. refl;
+    passes = λ c s. refl;
+    shows = refl;
+    number = number;
+    owned = value-owned;
+  }
+
+  pub changes : (shown new : List ℕ) → IsAttempt (change_reference_data n shown new) (changing n shown new)
+  unfolding refusals_of effect commits
+  changes shown new = record {
+    refuses = λ c s. refl;
+    does = λ c s. refl;
+    passes = λ c s. refl;
+    shows = refl;
+    number = number;
+    owned = value-owned;
+  }
+
+  pub resets : (shown new : List ℕ) → IsAttempt (reset_retry_counter n (Some (shown, new))) (resetting n shown new)
+  unfolding refusals_of effect commits
+  resets shown new = record {
+    refuses = λ c s. refl;
+    does = λ c s. refl;
+    passes = λ c s. refl;
+    shows = refl;
+    number = number;
+    owned = unblocking-owned;
+  }
+
+-- The requests that ask for the tries that are left.
+pub record IsQuestion (request : Request) (n secret : ℕ) : Type 0 where
+  pub refuses : (c : Card) (s : Session) → refusals_of c s request ≡ no_refusals
+  pub does : (c : Card) (s : Session) → effect c s request ≡ told_tries c s n secret
+  pub number : IsPinNumber n
+  pub owned : owner secret ≡ n - 1
+
+module _ (n : ℕ) (number : IsPinNumber n) where
+  pub asks-value : IsQuestion (verify n None) n (value_of n)
+  unfolding refusals_of effect
+  asks-value = record { refuses = λ c s. refl; does = λ c s. refl; number = number; owned = value-owned n number }
+
+  pub asks-unblocking : IsQuestion (reset_retry_counter n None) n (unblocking_of n)
+  unfolding refusals_of effect
+  asks-unblocking = record { refuses = λ c s. refl; does = λ c s. refl; number = number; owned = unblocking-owned n number }
+
+module _ (request : Request) (n secret : ℕ) (asks : IsQuestion request n secret) (old : Memory) (x : Current)
+    (card : IsCard (committed old)) (current : IsCurrent (table_in old) x) (new : Memory) (reads : OnlyReads old new) where
+  tries-are : tries_left secret (pin_in old secret) ≡ tries_of (card_in old) n secret
+  tries-are = ap (tries_left secret) (ap (pin_at (committed old)) asks.owned ∙ sym (pin-is (committed old) n asks.number))
+
+  answer-is : (status : Sw) → status ≡ tries_told (tries_left secret (pin_in old secret))
+      → served (card_in old) (session_in old x) request ≡ refused (card_in old) (session_in old x) status
+  answer-is status told =
+      served-done (card_in old) (session_in old x) request (ap refused_by (asks.refuses (card_in old) (session_in old x)))
+      ∙ asks.does (card_in old) (session_in old x)
+      ∙ ap (refused (card_in old) (session_in old x)) (sym (told ∙ ap tries_told tries-are))
+
+  pub question-answered : (r : Result Sw StoreErr)
+      → IfOk r (λ status. status ≡ tries_told (tries_left secret (pin_in old secret))) → OnOk r (IsReady new)
+      → new.failed ≡ result_err r → Serves request old x new x [] r
+  question-answered (Ok status) told ready tells =
+      declined request old x new card status reads ready current (answer-is status told)
+  question-answered (Err e) told ready tells = stopped request old x new card x [] e reads tells (omega arith)

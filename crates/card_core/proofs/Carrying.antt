@@ -1,0 +1,164 @@
+-- From what a call leaves of the request that was asked for to what it leaves of the bytes of a command.
+use Rattle.std.proofs.Common.{◌≡◌, ◌≢◌, ◌⊎◌, ◌+◌, ◌≤◌, ◌==◌, ℕ, Bool, true, false, List, [], ◌∷◌, length, Contains, Option, None, Some}
+use Rattle.std.proofs.Common.{Result, Ok, Err, IfOk, OnOk, if◌then◌else◌, sym, ◌∙◌, ap, subst, arith, inl, inr, ⊎_elim, refl}
+use Rattle.std.specs.Result.{result_err}
+use Rattle.card_rules.specs.declared.status.Sw.{Sw}
+use Rattle.card_rules.specs.declared.status.TheConstants.Sw.{CONDITIONS_NOT_SATISFIED}
+use Rattle.undo_journal.specs.declared.error.StoreErr.{StoreErr}
+use Rattle.undo_journal.specs.Calls.{OnlyReads}
+use Rattle.undo_journal.specs.laws.Calls.{reads_same, reads_then}
+use Rattle.undo_journal.specs.laws.Memory.{reports_then}
+use Rattle.undo_journal.specs.Memory.{Memory, committed, IsReady, Reports}
+use Rattle.block_chain.specs.Words.{word}
+use Rattle.file_tree.specs.Table.{table}
+use Rattle.apdu_core.specs.Asked.{asked}
+use Rattle.apdu_core.specs.Requests.{Request}
+use Rattle.card_core.specs.declared.current.Current.{Current}
+use Rattle.card_core.specs.declared.layout.TheConstants.{HEADER_PAGE, STATE_WORD}
+use Rattle.card_core.specs.Cards.{Card}
+use Rattle.card_core.specs.Comparing.{comparisons, Comparisons, ComparesAsked, ComparesBy}
+use Rattle.card_core.specs.Outcomes.{Outcome, refused, refused_by}
+use Rattle.card_core.specs.Served.{CarriesOut, IsDoing, Serves}
+use Rattle.card_core.specs.Sessions.{Session}
+use Rattle.card_core.specs.Spending.{most_writes, writes_asked, writes_of}
+use Rattle.card_core.specs.Stages.{commits, commits_asked, commits_served, commits_unless, stages, ChangesNothing, IsStage}
+use Rattle.card_core.specs.Standing.{IsCard, card_of}
+use Rattle.card_core.specs.Steps.{carried_out, outcome_of, refusals_of, served, step}
+use Rattle.card_core.specs.Working.{card_in, outcome, session_in, session_of, table_in, IsCurrent}
+use Rattle.card_core.specs.laws.StageLaws.{doing_lasts, stage_doing, stage_first}
+use Rattle.card_core.proofs.Serves.{reads-compared, reads-nothing}
+
+-- whether a card is in use, by its header
+pub in-use-is : (m : List ℕ) → (card_of m).in_use ≡ (word m HEADER_PAGE STATE_WORD == 0)
+unfolding card_of
+in-use-is m = refl
+
+-- Reads before a call that carries out a request change nothing of what it leaves.
+module _ (request : Request) (old mid new : Memory) (x y : Current) (text : List ℕ) (result : Result Sw StoreErr)
+    (reads : OnlyReads old mid) where
+  pub serves-after : Serves request mid x new y text result → Serves request old x new y text result
+  serves-after serves =
+      let same = reads.keeps.committed_words in
+      record {
+        step = subst (λ (l : List ℕ). IfOk result (λ status. served (card_of l) (session_of (table l) x) request
+            ≡ outcome (card_in new) (session_in new y) text status)) same serves.step;
+        room = serves.room;
+        stage = ⊎_elim (λ more. inl (reads_then old mid new reads more))
+            (λ doing. inr (subst (λ (l : List ℕ). IsDoing (card_of l) (session_of (table l) x) request (card_in new)) same
+            doing))
+            serves.stage;
+        ready = serves.ready;
+        current = serves.current;
+        card = serves.card;
+        reports = reports_then old mid new reads.reports serves.reports;
+        tells = serves.tells;
+        writes = omega (arith, reads.board.writes, serves.writes);
+        compares = subst (λ (k : Comparisons). ComparesBy request (card_in old) k (card_in new) (comparisons new.facts))
+            (reads-compared old mid reads)
+            (subst (λ (l : List ℕ). ComparesBy request (card_of l) (comparisons mid.facts) (card_in new) (comparisons
+            new.facts)) same serves.compares);
+      }
+
+module _ (bytes : List ℕ) (old new : Memory) (x y : Current) (text : List ℕ) (result : Result Sw StoreErr) where
+  abbrev c : Card
+  c = card_in old
+
+  abbrev s : Session
+  s = session_in old x
+
+  -- the step of a card in use
+  step-in-use : (request : Request) → c.in_use ≡ true → step c s request ≡ served c s request
+  unfolding step
+  step-in-use request in_use =
+      ap (λ (b : Bool). if b then served c s request else refused c s CONDITIONS_NOT_SATISFIED) in_use
+
+  -- and of one whose use has ended
+  pub step-ended : (request : Request) → c.in_use ≡ false → step c s request ≡ refused c s CONDITIONS_NOT_SATISFIED
+  unfolding step
+  step-ended request ended =
+      ap (λ (b : Bool). if b then served c s request else refused c s CONDITIONS_NOT_SATISFIED) ended
+
+  -- A call that carries out what was asked for, of a card in use, carries out the command.
+  pub carried : (request : Request) → asked bytes ≡ Ok request → c.in_use ≡ true
+      → Serves request old x new y text result → CarriesOut bytes old x new y text result
+  carried request is in_use serves = record {
+    step = by_result result serves.step;
+    room = serves.room;
+    stage = ⊎_elim (λ reads. stage_first c s bytes (card_in new) (ap card_of reads.keeps.committed_words))
+        (λ doing. stage_doing c s bytes request is in_use (card_in new) doing) serves.stage;
+    idle = λ nothing. ⊎_elim (λ reads. reads)
+        (λ doing. absurd (doing_lasts c s bytes request is in_use (card_in new) doing nothing)) serves.stage;
+    ready = serves.ready;
+    current = serves.current;
+    card = serves.card;
+    reports = serves.reports;
+    tells = serves.tells;
+    writes = subst (λ (wanted : Result Request Sw). new.facts.writes ≤ old.facts.writes + writes_asked wanted) (sym is)
+        serves.writes;
+    compares = subst (λ (wanted : Result Request Sw). ComparesAsked wanted c (comparisons old.facts) (card_in new)
+        (comparisons new.facts)) (sym is) serves.compares;
+  }
+    where
+      by_result : (r : Result Sw StoreErr)
+          → IfOk r (λ status. served c s request ≡ outcome (card_in new) (session_in new y) text status)
+          → IfOk r (λ status. carried_out c s bytes ≡ outcome (card_in new) (session_in new y) text status)
+      by_result (Ok status) done =
+          ap (λ (wanted : Result Request Sw). outcome_of c s wanted) is ∙ step-in-use request in_use ∙ done
+      by_result (Err e) done = tt
+
+  -- after reads alone, whatever was asked for, nothing was compared
+  asked-nothing : (wanted : Result Request Sw) → OnlyReads old new
+      → ComparesAsked wanted c (comparisons old.facts) (card_in new) (comparisons new.facts)
+  asked-nothing (Ok request) reads = reads-nothing request old x new reads
+  asked-nothing (Err status) reads = reads-compared old new reads
+
+  -- A call that only read carries out the command, if its answer is the step's.
+  looked : OnlyReads old new → IsCard (committed old)
+      → IfOk result (λ status. carried_out c s bytes ≡ outcome (card_in new) (session_in new y) text status)
+      → length text ≤ 256 → OnOk result (IsReady new) → OnOk result (IsCurrent (table_in new) y)
+      → new.failed ≡ result_err result → CarriesOut bytes old x new y text result
+  looked reads card is room ready current tells = record {
+    step = is;
+    room = room;
+    stage = stage_first c s bytes (card_in new) (ap card_of reads.keeps.committed_words);
+    idle = λ nothing. reads;
+    ready = ready;
+    current = current;
+    card = subst IsCard (sym reads.keeps.committed_words) card;
+    reports = reads.reports;
+    tells = tells;
+    writes = omega (arith, reads.board.writes);
+    compares = asked-nothing (asked bytes) reads;
+  }
+
+module _ (bytes : List ℕ) (old new : Memory) (x : Current) (card : IsCard (committed old))
+    (current : IsCurrent (table_in old) x) where
+  -- a refusal after reads
+  turned-down : (status : Sw) → carried_out (card_in old) (session_in old x) bytes
+      ≡ refused (card_in old) (session_in old x) status → OnlyReads old new → IsReady new
+      → CarriesOut bytes old x new x [] (Ok status)
+  turned-down status is reads ready =
+      let same = sym reads.keeps.committed_words in
+      looked bytes old new x x [] (Ok status) reads card
+      (is ∙ ap (λ (l : List ℕ). outcome (card_of l) (session_of (table l) x) [] status) same) (omega arith) ready
+      (subst (λ (l : List ℕ). IsCurrent (table l) x) same current) ready.usable.works
+
+  -- the form of the command refuses it
+  pub refused-by-form : (status : Sw) → asked bytes ≡ Err status → OnlyReads old new → IsReady new
+      → CarriesOut bytes old x new x [] (Ok status)
+  refused-by-form status is reads ready =
+      turned-down status (ap (λ (wanted : Result Request Sw). outcome_of (card_in old) (session_in old x) wanted) is) reads
+      ready
+
+  -- the use of the card has ended
+  pub use-ended : (request : Request) → asked bytes ≡ Ok request → (card_in old).in_use ≡ false → OnlyReads old new
+      → IsReady new → CarriesOut bytes old x new x [] (Ok CONDITIONS_NOT_SATISFIED)
+  use-ended request is ended reads ready =
+      turned-down CONDITIONS_NOT_SATISFIED
+      (ap (λ (wanted : Result Request Sw). outcome_of (card_in old) (session_in old x) wanted) is
+      ∙ step-ended bytes old new x x [] (Ok CONDITIONS_NOT_SATISFIED) request ended) reads ready
+
+  -- the store failed in a read
+  pub failed-reading : (y : Current) (e : StoreErr) → OnlyReads old new → new.failed ≡ Some e
+      → CarriesOut bytes old x new y [] (Err e)
+  failed-reading y e reads failed = looked bytes old new x y [] (Err e) reads card tt (omega arith) tt tt failed

@@ -1,0 +1,191 @@
+-- The end of the use of a card: what it does to the memory, and what a call that ends it leaves.
+use Rattle.std.proofs.Common.{◌≡◌, ◌≢◌, ◌⊎◌, ◌==◌, ℕ, Bool, true, false, not, List, [], length, Some, None, refl}
+use Rattle.std.proofs.Common.{Result, Ok, Err, if◌then◌else◌, sym, ◌∙◌, ap, subst, arith, inl, inr, ⊎_elim, true≢false}
+use Rattle.std.proofs.lemmas.List.{get_or-set_other, get_or-set_same, length-set}
+use Rattle.std.specs.Result.{result_err, IsErr}
+use Rattle.nvm_board.specs.Facts.{address}
+use Rattle.nvm_board.specs.declared.board.TheConstants.{WORDS}
+use Rattle.card_rules.specs.declared.access_mode.AccessBit.TheVariants.{Terminate}
+use Rattle.card_rules.specs.declared.status.Sw.{Sw}
+use Rattle.card_rules.specs.declared.status.TheConstants.Sw.{ACCESS_DENIED, DONE}
+use Rattle.undo_journal.specs.declared.error.StoreErr.{StoreErr}
+use Rattle.undo_journal.specs.Calls.{OnlyReads}
+use Rattle.undo_journal.specs.laws.Memory.{reports_then}
+use Rattle.undo_journal.specs.Memory.{Memory, committed, IsReady, Reports}
+use Rattle.undo_journal.specs.Spending.{WritesAtMost}
+use Rattle.block_chain.specs.declared.layout.TheConstants.{FREE_HEAD_WORD}
+use Rattle.block_chain.specs.Chains.{free_chain}
+use Rattle.block_chain.specs.Words.{word}
+use Rattle.apdu_core.specs.Requests.{terminate_card_usage}
+use Rattle.file_tree.specs.Spaces.{free_space}
+use Rattle.file_tree.specs.States.{is_allowed, with_card_terminated}
+use Rattle.file_tree.specs.Table.{table, path_of}
+use Rattle.file_tree.specs.Trees.{tree_of, TreeStands}
+use Rattle.file_tree.specs.laws.Footprints.{tree_kept, KeepsTree}
+use Rattle.file_tree.specs.declared.entry.Entry.{Entry}
+use Rattle.pin_store.specs.Pages.{pin_page, KeepsPins}
+use Rattle.pin_store.specs.laws.AllPins.{pages_kept, pins_kept}
+use Rattle.card_core.specs.declared.current.Current.{Current}
+use Rattle.card_core.specs.declared.layout.TheConstants.{HEADER_PAGE, STATE_WORD}
+use Rattle.card_core.specs.Cards.{Card}
+use Rattle.card_core.specs.Comparing.{comparisons, ComparesNothing}
+use Rattle.card_core.specs.Guards.{allowed}
+use Rattle.card_core.specs.LifeCycles.{card_terminated, terminate_card_refusals, terminated_card}
+use Rattle.card_core.specs.Outcomes.{refused, refused_by}
+use Rattle.card_core.specs.Served.{IsDoing, Serves}
+use Rattle.card_core.specs.Sessions.{Session}
+use Rattle.card_core.specs.Stages.{commits}
+use Rattle.card_core.specs.Standing.{card_of, IsCard}
+use Rattle.card_core.specs.Steps.{effect, refusals_of, served}
+use Rattle.card_core.specs.Working.{card_in, outcome, session_in, session_of, space_in, table_in, verified_in, IsCurrent}
+use Rattle.card_core.proofs.Doing.{doing-one}
+use Rattle.card_core.proofs.Entries.{card-tree, master-path}
+use Rattle.card_core.proofs.Guarding.{served-done, served-refused}
+use Rattle.card_core.proofs.Serves.{compared-none, reads-compared, torn, written}
+use Rattle.card_core.proofs.Verified.{marks-are}
+
+module _ (m : List ℕ) (sized : length m ≡ WORDS) (words : IsCard m) where
+  abbrev ended : List ℕ
+  ended = with_card_terminated m
+
+  elsewhere : (page place : ℕ) → address page place ≢ 2 → word ended page place ≡ word m page place
+  elsewhere page place differs = get_or-set_other m 2 (address page place) 1 0 differs
+
+  state-is : word ended HEADER_PAGE STATE_WORD ≡ 1
+  state-is = get_or-set_same m 2 1 0 (omega (arith, sized))
+
+  keeps : KeepsTree m ended
+  keeps = record {
+    entries = λ page place from below small.
+        elsewhere page place (λ is. let z : ⊥ = omega (arith, is, from) in z);
+    blocks = record {
+      size = length-set m 2 1;
+      words = λ page place block small.
+          elsewhere page place (λ is. let first = block.0 in let z : ⊥ = omega (arith, is, first) in z);
+      head = elsewhere HEADER_PAGE FREE_HEAD_WORD (λ is. let z : ⊥ = omega (arith, is) in z);
+    };
+  }
+
+  pins : KeepsPins m ended
+  pins = record {
+    words = λ pin place lt few. elsewhere (pin_page pin) place (λ is. let z : ⊥ = omega (arith, is) in z);
+  }
+
+  kept : TreeStands ended × (table ended ≡ table m) × (tree_of ended ≡ tree_of m) × (free_chain ended ≡ free_chain m)
+  kept = tree_kept m ended sized keeps words.tree
+
+  pub ended-stands : IsCard ended
+  ended-stands = record {
+    header = record {
+      mark = elsewhere HEADER_PAGE 0 (λ is. let z : ⊥ = omega (arith, is) in z) ∙ words.header.mark;
+      state = let state = state-is in omega (arith, state);
+    };
+    tree = kept.0;
+    pins = pages_kept m ended pins words.pins;
+  }
+
+  pub ended-card : card_of ended ≡ terminated_card (card_of m)
+  unfolding card_of
+  ended-card =
+      let state = state-is in
+      let tree = kept.2 in
+      λ i. record { tree = tree i; pins = pins_kept m ended pins i; in_use = state i == 0 }
+
+  pub ended-table : table ended ≡ table m
+  ended-table = kept.1
+
+-- what the rule of the master file says, as the code asks it
+module _ (m : List ℕ) (x : Current) (current : IsCurrent (table m) x) (marks : List Bool) (are : marks ≡ verified_in x)
+    (permitted : Bool) (is : permitted ≡ is_allowed (tree_of m) (path_of (table m) 0) Terminate marks) where
+  abbrev c : Card
+  c = card_of m
+
+  abbrev s : Session
+  s = session_of (table m) x
+
+  allowed-is : allowed c s [] Terminate ≡ permitted
+  allowed-is =
+      let tree = card-tree m in
+      let told = marks-are (table m) x current.marks ∙ sym are in
+      let path = master-path m in
+      (λ i. is_allowed (tree i) (sym path i) Terminate (told i)) ∙ sym is
+
+  refusal-is : refused_by (terminate_card_refusals c s) ≡ (if not permitted then Some ACCESS_DENIED else None)
+  refusal-is = ap (λ (b : Bool). if not b then Some ACCESS_DENIED else None) allowed-is
+
+  pub end-refused : permitted ≡ false → served c s terminate_card_usage ≡ refused c s ACCESS_DENIED
+  unfolding refusals_of
+  end-refused denied = served-refused c s terminate_card_usage ACCESS_DENIED
+      (refusal-is ∙ ap (λ (b : Bool). if not b then Some ACCESS_DENIED else None) denied)
+
+  unrefused : permitted ≡ true → refused_by (refusals_of c s terminate_card_usage) ≡ None
+  unfolding refusals_of
+  unrefused granted = refusal-is ∙ ap (λ (b : Bool). if not b then Some ACCESS_DENIED else None) granted
+
+  pub end-done : permitted ≡ true → served c s terminate_card_usage ≡ card_terminated c s
+  unfolding effect
+  end-done granted = served-done c s terminate_card_usage (unrefused granted)
+
+  pub end-doing : permitted ≡ true → (d : Card) → (d ≡ c) ⊎ (d ≡ terminated_card c) → IsDoing c s terminate_card_usage d
+  unfolding commits
+  end-doing granted d left = doing-one c s terminate_card_usage (terminated_card c) d (unrefused granted) refl left
+
+-- A call that ends the use, where the rule allows it: first it only reads, and then it writes.
+module _ (old mid new : Memory) (ready : IsReady old) (words : IsCard (committed old)) (x : Current)
+    (current : IsCurrent (table_in old) x) (marks : List Bool) (are : marks ≡ verified_in x)
+    (is : true ≡ is_allowed (tree_of (committed old)) (path_of (table_in old) 0) Terminate marks) (reads : OnlyReads old mid)
+    (any_exit : (committed new ≡ committed mid) ⊎ (committed new ≡ with_card_terminated (committed mid)))
+    (reports : Reports mid new) (spends : WritesAtMost 4 mid.facts new.facts) where
+  abbrev at_end : List ℕ
+  at_end = with_card_terminated (committed old)
+
+  size : length (committed old) ≡ WORDS
+  size = ready.usable.committed_size
+
+  same : committed mid ≡ committed old
+  same = reads.keeps.committed_words
+
+  end-is : committed new ≡ with_card_terminated (committed mid) → committed new ≡ at_end
+  end-is done = done ∙ ap with_card_terminated same
+
+  stands : IsCard (committed new)
+  stands = ⊎_elim (λ stays. subst IsCard (sym (stays ∙ same)) words)
+      (λ done. subst IsCard (sym (end-is done)) (ended-stands (committed old) size words)) any_exit
+
+  doing : IsDoing (card_in old) (session_in old x) terminate_card_usage (card_in new)
+  doing = end-doing (committed old) x current marks are true is refl (card_in new) (⊎_elim
+      (λ (stays : committed new ≡ committed mid). inl (ap card_of (stays ∙ same)))
+      (λ (done : committed new ≡ with_card_terminated (committed mid)).
+      inr (ap card_of (end-is done) ∙ ended-card (committed old) size words))
+      any_exit)
+
+  compares : ComparesNothing (comparisons old.facts) (comparisons new.facts)
+  compares = compared-none 4 mid.facts new.facts spends ∙ reads-compared old mid reads
+
+  all-reports : Reports old new
+  all-reports = reports_then old mid new reads.reports reports
+
+  -- it stopped, before or after its commit
+  pub end-torn : (result : Result Sw StoreErr) → IsErr result → new.failed ≡ result_err result
+      → Serves terminate_card_usage old x new x [] result
+  end-torn (Err error) stopped failed = torn terminate_card_usage old x new x [] error (inr doing) stands all-reports failed
+      (omega arith) (omega (arith, spends.writes, reads.board.writes)) compares
+  end-torn (Ok status) stopped failed = absurd (true≢false (sym stopped))
+
+  -- it was made
+  module _ (done : committed new ≡ with_card_terminated (committed mid)) where
+    table-is : table_in new ≡ table_in old
+    table-is = ap table (end-is done) ∙ ended-table (committed old) size words
+
+    card-is : card_in new ≡ terminated_card (card_in old)
+    card-is = ap card_of (end-is done) ∙ ended-card (committed old) size words
+
+    pub end-made : IsReady new → Serves terminate_card_usage old x new x [] (Ok DONE)
+    end-made ready_now = written terminate_card_usage old x new x [] DONE (inr doing) stands all-reports ready_now
+        (subst (λ (t : List Entry). IsCurrent t x) (sym table-is) current) (omega arith)
+        (omega (arith, spends.writes, reads.board.writes)) compares
+        (end-done (committed old) x current marks are true is refl
+        ∙ (λ i. outcome (sym card-is i) (session_of (sym table-is i) x) [] DONE))
+
+    pub end-space : space_in new ≡ space_in old
+    end-space = ap (λ (c : Card). free_space c.tree) card-is

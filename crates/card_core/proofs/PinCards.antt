@@ -1,0 +1,95 @@
+-- A PIN is set in a memory that stands for a card.
+use Rattle.std.proofs.Common.{◌≡◌, ◌⊎◌, ◌<◌, ◌≤◌, ◌+◌, ◌-◌, ◌==◌, ℕ, List, length, ◌∙◌, ap, arith, inl, inr, lit<}
+use Rattle.std.proofs.Common.{slice_index_or}
+use Rattle.std.proofs.lemmas.List.FromFn.{get_or-map-range_with_len, length-map-range_with_len}
+use Rattle.nvm_board.specs.Facts.{address}
+use Rattle.nvm_board.specs.declared.board.TheConstants.{WORDS}
+use Rattle.block_chain.specs.Words.{word}
+use Rattle.file_tree.specs.Spaces.{free_space}
+use Rattle.file_tree.specs.Table.{table}
+use Rattle.file_tree.specs.laws.Footprints.{KeepsTree, tree_kept}
+use Rattle.card_rules.specs.Pins.{IsPinNumber}
+use Rattle.pin_store.specs.Pages.{pin_at, pin_page, pins_of, ArePinPages, SetsPin}
+use Rattle.pin_store.specs.declared.layout.TheConstants.{PINS, PIN_WORDS}
+use Rattle.pin_store.specs.laws.AllPins.{pins_set}
+use Rattle.card_core.specs.Cards.{Card, Pin}
+use Rattle.card_core.specs.Pins.{no_pin, pin_of, with_pin_of}
+use Rattle.card_core.specs.Standing.{card_of, IsCard}
+
+-- PIN n of the card is the one of its page
+pin-placed : (m : List ℕ) (k : ℕ) → k < PINS → slice_index_or (pins_of m) k no_pin ≡ pin_at m k
+unfolding pins_of
+pin-placed m k small = let place : 0 + k ≡ k = omega arith in get_or-map-range_with_len (pin_at m) 0 PINS k k no_pin small place
+
+pub pin-is : (m : List ℕ) (n : ℕ) → IsPinNumber n → pin_of (card_of m) n ≡ pin_at m (n - 1)
+unfolding card_of
+pin-is m n number =
+    let first = number.first in
+    let last = number.last in
+    pin-placed m (n - 1) (omega (arith, first, last))
+
+length-pins : (m : List ℕ) → length (pins_of m) ≡ 8
+unfolding pins_of
+length-pins m = length-map-range_with_len (pin_at m) 0 8
+
+pub eight-pins : (m : List ℕ) → length (card_of m).pins ≡ 8
+unfolding card_of
+eight-pins m = length-pins m
+
+module _ (m after : List ℕ) (sized : length m ≡ WORDS) (words : IsCard m) (n : ℕ) (number : IsPinNumber n) (now : Pin)
+    (sets : SetsPin m (n - 1) now after) where
+  small : n - 1 < PINS
+  small =
+      let first = number.first in
+      let last = number.last in
+      omega (arith, first, last)
+
+  -- no word of another page changes
+  word-kept : (page place : ℕ) → (page < 65) ⊎ (128 ≤ page) → place < 16 → word after page place ≡ word m page place
+  word-kept page place (inl low) few =
+      let lt : address page place < address (pin_page (n - 1)) 0 = omega (arith, low, few) in
+      sets.elsewhere (address page place) (inl lt)
+  word-kept page place (inr high) few =
+      let within = small in
+      let le : address (pin_page (n - 1)) PIN_WORDS ≤ address page place = omega (arith, high, within) in
+      sets.elsewhere (address page place) (inr le)
+
+  tree-words : KeepsTree m after
+  tree-words = record {
+    entries = λ page place from below few. word-kept page place (inl below) few;
+    blocks = record {
+      size = sets.size;
+      words = λ page place block few. word-kept page place (inr block.0) few;
+      head = word-kept 0 1 (inl (lit< tt)) (lit< tt);
+    };
+  }
+
+  state : word after 0 2 ≡ word m 0 2
+  state = word-kept 0 2 (inl (lit< tt)) (lit< tt)
+
+  -- the card has the PIN, and nothing else of it changes
+  pub pin-set : card_of after ≡ with_pin_of (card_of m) n now
+  unfolding card_of
+  pin-set =
+      let kept = tree_kept m after sized tree-words words.tree in
+      λ i. record {
+        tree = kept.2 i;
+        pins = pins_set m after (n - 1) now small sets i;
+        in_use = state i == 0;
+      }
+
+  pub pin-stands : ArePinPages after → IsCard after
+  pin-stands pages = record {
+    header = record {
+      mark = word-kept 0 0 (inl (lit< tt)) (lit< tt) ∙ words.header.mark;
+      state = let was = words.header.state in let is = state in omega (arith, is, was);
+    };
+    tree = (tree_kept m after sized tree-words words.tree).0;
+    pins = pages;
+  }
+
+  pub pin-table : table after ≡ table m
+  pin-table = (tree_kept m after sized tree-words words.tree).1
+
+  pub pin-space : free_space (card_of after).tree ≡ free_space (card_of m).tree
+  pin-space = ap (λ (c : Card). free_space c.tree) pin-set

@@ -1,0 +1,257 @@
+-- The commands on records that only look, by the entry of the file that is named.
+use Rattle.std.proofs.Common.{◌≡◌, ◌==◌, ◌&&◌, ℕ, Bool, true, false, not, nat_le, List, [], ◌∷◌, length, Option, Some, None, Ok}
+use Rattle.std.proofs.Common.{if◌then◌else◌, refl, sym, ◌∙◌, ap, subst}
+use Rattle.std.specs.FinSet.{empty}
+use Rattle.nvm_board.specs.declared.board.TheConstants.{WORDS}
+use Rattle.card_rules.specs.declared.access_mode.AccessBit.TheVariants.{Read}
+use Rattle.card_rules.specs.declared.status.Sw.{Sw}
+use Rattle.card_rules.specs.declared.status.TheConstants.Sw.{DONE, RECORD_NOT_FOUND}
+use Rattle.apdu_core.specs.declared.binary.Target.{Target}
+use Rattle.apdu_core.specs.declared.binary.Target.TheVariants.{Current, Short}
+use Rattle.apdu_core.specs.declared.records.Direction.{Direction}
+use Rattle.apdu_core.specs.declared.records.RecordChoice.{RecordChoice}
+use Rattle.apdu_core.specs.declared.records.RecordChoice.TheVariants.{Next, Previous, At}
+use Rattle.apdu_core.specs.declared.records.RecordPlace.{RecordPlace}
+use Rattle.apdu_core.specs.Requests.{Request, read_record, search_record}
+use Rattle.undo_journal.specs.Calls.{OnlyReads}
+use Rattle.undo_journal.specs.Memory.{Memory, committed, IsReady}
+use Rattle.card_core.specs.Served.{Serves}
+use Rattle.card_core.specs.Working.{card_in, session_in, table_in}
+use Rattle.ef_body.specs.Records.{has_record, record_of}
+use Rattle.ef_body.specs.Searching.{found as found_in}
+use Rattle.file_tree.specs.Table.{table, path_of, IsUsed}
+use Rattle.file_tree.specs.laws.Nodes.{file_in}
+use Rattle.card_core.specs.declared.current.Current.{Current as CurrentFiles}
+use Rattle.card_core.specs.declared.named.Need.{Need}
+use Rattle.card_core.specs.declared.record_body.RecordBody.{RecordBody}
+use Rattle.card_core.specs.Cards.{Card, Kind, Path}
+use Rattle.card_core.specs.Elementary.{file_refusals, target_kind, target_path}
+use Rattle.card_core.specs.Lengths.{asks_less, given, length_refusal, right_length}
+use Rattle.card_core.specs.Outcomes.{refused, refused_by, Refusal}
+use Rattle.card_core.specs.Records.{has_records, next_record, place_number, pointer_after, pointer_at, pointer_found}
+use Rattle.card_core.specs.Records.{matches, no_record}
+use Rattle.card_core.specs.Records.{pointing, previous_record, records_of, search_status, searching, target_number}
+use Rattle.card_core.specs.Sessions.{Session}
+use Rattle.card_core.specs.Standing.{card_of, IsCard}
+use Rattle.card_core.specs.Steps.{effect, refusals_of, served}
+use Rattle.card_core.specs.Working.{chosen_in, has_in, outcome, pointer_from, pointing_from, records_at, session_of}
+use Rattle.card_core.specs.Working.{IsCurrent, IsRecordFile}
+use Rattle.card_core.proofs.RecordBodies.{body-agrees, Agree}
+use Rattle.card_core.proofs.Entries.{there}
+use Rattle.card_core.proofs.Guarding.{guarded-free, guarded-refused, named-kind, named-path, served-done, served-refused}
+use Rattle.card_core.proofs.Serves.{declined}
+use Rattle.card_core.proofs.Serving.{named-current, naming-entry}
+
+-- what refuses besides the file
+abbrev pub read_limits : Card → Session → Target → RecordChoice → ℕ → List Refusal
+read_limits c s target choice expected =
+    let text = record_of (records_of (target_kind c s target)) (target_number c s target choice) in
+    no_record c s target (target_number c s target choice)
+    ∷ record { applies = not (expected == 0) && not (expected == length text); status = right_length text } ∷ []
+
+abbrev pub search_limits : Card → Session → Target → RecordPlace → Direction → List ℕ → Option ℕ → List Refusal
+search_limits c s target first direction sought expected =
+    no_record c s target (place_number first (pointer_at s target))
+    ∷ length_refusal expected (matches c s target first direction sought) ∷ []
+
+-- what the file refuses
+module _ (c : Card) (s : Session) (target : Target) (status : Sw)
+    (is : refused_by (file_refusals c s target has_records Read) ≡ Some status) where
+  pub read-refused : (choice : RecordChoice) (expected : ℕ)
+      → served c s (read_record target choice expected) ≡ refused c s status
+  unfolding refusals_of
+  read-refused choice expected = served-refused c s (read_record target choice expected) status
+      (guarded-refused c s target has_records Read status is (read_limits c s target choice expected))
+
+  pub search-refused : (first : RecordPlace) (direction : Direction) (sought : List ℕ) (expected : Option ℕ)
+      → served c s (search_record target first direction sought expected) ≡ refused c s status
+  unfolding refusals_of
+  search-refused first direction sought expected =
+      served-refused c s (search_record target first direction sought expected) status
+      (guarded-refused c s target has_records Read status is (search_limits c s target first direction sought expected))
+
+-- a refusal after reads leaves an empty buffer empty
+pub declined-empty : (request : Request) (old : Memory) (x : CurrentFiles) (new : Memory) (text : List ℕ) → text ≡ []
+    → IsCard (committed old) → (status : Sw) → OnlyReads old new → IsReady new → IsCurrent (table_in old) x
+    → served (card_in old) (session_in old x) request ≡ refused (card_in old) (session_in old x) status
+    → Serves request old x new x text (Ok status)
+declined-empty request old x new text empty card status reads ready current is =
+    subst (λ (l : List ℕ). Serves request old x new x l (Ok status)) (sym empty)
+    (declined request old x new card status reads ready current is)
+
+module _ (m : List ℕ) (sized : length m ≡ WORDS) (words : IsCard m) (x : CurrentFiles) (target : Target) (need : Need)
+    (e : ℕ) (body : RecordBody) (found : IsRecordFile m x target need e body) where
+  abbrev c : Card
+  c = card_of m
+
+  abbrev s : Session
+  s = session_of (table m) x
+
+  abbrev kind : Kind
+  kind = target_kind c s target
+
+  used : IsUsed (table m) e
+  used = found.named.file.child.used
+
+  pub path-is : target_path c s target ≡ path_of (table m) e
+  path-is = named-path c s target has_records Read (path_of (table m) e) (file_in m e) found.named.place
+      (there m words e used)
+
+  pub kind-is : kind ≡ (file_in m e).kind
+  kind-is = named-kind c s target has_records Read (path_of (table m) e) (file_in m e) found.named.place
+      (there m words e used)
+
+  pub agree : Agree m kind body
+  agree = subst (λ (k : Kind). Agree m k body) (sym kind-is) (body-agrees m sized words e used body found.body_is)
+
+  -- whether there is a record
+  pub has-is : (n : ℕ) → has_record (records_of kind) n ≡ has_in body n
+  has-is n = ap (λ (l : ℕ). nat_le 1 n && nat_le n l) agree.number
+
+  -- the pointer that a command begins with
+  pub pointer-is : pointer_at s target ≡ pointer_from x target
+  pointer-is = by_target target
+    where
+      by_target : (t : Target) → pointer_at s t ≡ pointer_from x t
+      by_target Current = refl
+      by_target (Short n) = refl
+
+  -- the record that is chosen
+  pub chosen-is : (choice : RecordChoice) → target_number c s target choice ≡ chosen_in body (pointer_from x target) choice
+  chosen-is Next =
+      let pointer = pointer-is in
+      let order = agree.order in
+      let count = agree.number in λ i. next_record (order i) (count i) (pointer i)
+  chosen-is Previous =
+      let pointer = pointer-is in
+      let order = agree.order in
+      let count = agree.number in λ i. previous_record (order i) (count i) (pointer i)
+  chosen-is (At place) = ap (place_number place) pointer-is
+
+  -- the session that a command leaves, and the current files
+  pub session-is : (p : Option ℕ) → pointing s target (target_path c s target) p
+      ≡ session_of (table m) (pointing_from x target e p)
+  session-is p =
+      ap (λ (path : Path). pointing s target path p) path-is
+      ∙ ap (λ (t : Session). record t { pointer = p }) (naming-entry m words x target e found.named.file)
+
+  pub current-is : IsCurrent (table m) x → (p : Option ℕ) → IsCurrent (table m) (pointing_from x target e p)
+  current-is current p =
+      let named = named-current m x e found.named.file target current in
+      record { df = named.df; ef = named.ef; marks = named.marks }
+
+  module _ (unrefused : refused_by (file_refusals c s target has_records Read) ≡ None) where
+    -- READ RECORD
+    module _ (choice : RecordChoice) (expected : ℕ) where
+      abbrev number : ℕ
+      number = chosen_in body (pointer_from x target) choice
+
+      abbrev text : List ℕ
+      text = record_of (records_at m body) number
+
+      -- Le is neither 00 nor a record's length
+      abbrev is_other : List ℕ → Bool
+      is_other t = not (expected == 0) && not (expected == length t)
+
+      abbrev read_verdict : Bool → List ℕ → Option Sw
+      read_verdict has t = if not has then Some RECORD_NOT_FOUND else if is_other t then Some (right_length t) else None
+
+      text-is : record_of (records_of kind) (target_number c s target choice) ≡ text
+      text-is = let records = agree.records in let n = chosen-is choice in λ i. record_of (records i) (n i)
+
+      read-is : refused_by (refusals_of c s (read_record target choice expected)) ≡ read_verdict (has_in body number) text
+      unfolding refusals_of
+      read-is =
+          let has : has_record (records_of kind) (target_number c s target choice) ≡ has_in body number =
+          ap (has_record (records_of kind)) (chosen-is choice) ∙ has-is number in
+          let t = text-is in
+          guarded-free c s target has_records Read unrefused (read_limits c s target choice expected)
+          ∙ (λ i. read_verdict (has i) (t i))
+
+      pub read-gone : has_in body number ≡ false
+          → served c s (read_record target choice expected) ≡ refused c s RECORD_NOT_FOUND
+      read-gone gone = served-refused c s (read_record target choice expected) RECORD_NOT_FOUND
+          (read-is ∙ ap (λ (b : Bool). read_verdict b text) gone)
+
+      pub read-other : has_in body number ≡ true → is_other text ≡ true
+          → served c s (read_record target choice expected) ≡ refused c s (right_length text)
+      read-other has other = served-refused c s (read_record target choice expected) (right_length text)
+          (read-is ∙ ap (λ (b : Bool). read_verdict b text) has
+          ∙ ap (λ (b : Bool). if b then Some (right_length text) else None) other)
+
+      pub read-whole : has_in body number ≡ true → is_other text ≡ false
+          → served c s (read_record target choice expected)
+          ≡ outcome c (session_of (table m) (pointing_from x target e (pointer_after (pointer_from x target) choice
+          number))) text DONE
+      unfolding effect
+      read-whole has whole =
+          let t = text-is in
+          let pointer : pointer_after (pointer_at s target) choice (target_number c s target choice)
+          ≡ pointer_after (pointer_from x target) choice number =
+          (let p = pointer-is in let n = chosen-is choice in λ i. pointer_after (p i) choice (n i)) in
+          let session = ap (pointing s target (target_path c s target)) pointer
+          ∙ session-is (pointer_after (pointer_from x target) choice number) in
+          served-done c s (read_record target choice expected)
+          (read-is ∙ ap (λ (b : Bool). read_verdict b text) has
+          ∙ ap (λ (b : Bool). if b then Some (right_length text) else None) whole)
+          ∙ (λ i. outcome c (session i) (t i) DONE)
+
+    -- SEARCH RECORD
+    module _ (first : RecordPlace) (direction : Direction) (sought : List ℕ) (expected : Option ℕ) where
+      abbrev start : ℕ
+      start = place_number first (pointer_from x target)
+
+      abbrev numbers : List ℕ
+      numbers = found_in (searching direction) start sought (records_at m body)
+
+      abbrev search_verdict : Bool → List ℕ → Option Sw
+      search_verdict has ns =
+          if not has then Some RECORD_NOT_FOUND else if asks_less expected ns then Some (right_length ns) else None
+
+      start-is : place_number first (pointer_at s target) ≡ start
+      start-is = ap (place_number first) pointer-is
+
+      numbers-are : found_in (searching direction) (place_number first (pointer_at s target)) sought (records_of kind)
+          ≡ numbers
+      numbers-are = let records = agree.records in let n = start-is in λ i.
+          found_in (searching direction) (n i) sought (records i)
+
+      search-is : refused_by (refusals_of c s (search_record target first direction sought expected))
+          ≡ search_verdict (has_in body start) numbers
+      unfolding refusals_of
+      search-is =
+          let has : has_record (records_of kind) (place_number first (pointer_at s target)) ≡ has_in body start =
+          ap (has_record (records_of kind)) start-is ∙ has-is start in
+          let ns = numbers-are in
+          guarded-free c s target has_records Read unrefused
+          (search_limits c s target first direction sought expected)
+          ∙ (λ i. search_verdict (has i) (ns i))
+
+      pub search-gone : has_in body start ≡ false
+          → served c s (search_record target first direction sought expected) ≡ refused c s RECORD_NOT_FOUND
+      search-gone gone = served-refused c s (search_record target first direction sought expected) RECORD_NOT_FOUND
+          (search-is ∙ ap (λ (b : Bool). search_verdict b numbers) gone)
+
+      pub search-less : has_in body start ≡ true → asks_less expected numbers ≡ true
+          → served c s (search_record target first direction sought expected) ≡ refused c s (right_length numbers)
+      search-less has less =
+          served-refused c s (search_record target first direction sought expected) (right_length numbers)
+          (search-is ∙ ap (λ (b : Bool). search_verdict b numbers) has
+          ∙ ap (λ (b : Bool). if b then Some (right_length numbers) else None) less)
+
+      pub search-whole : has_in body start ≡ true → asks_less expected numbers ≡ false
+          → served c s (search_record target first direction sought expected)
+          ≡ outcome c (session_of (table m) (pointing_from x target e (pointer_found (pointer_from x target) numbers)))
+          (given expected numbers) (search_status numbers)
+      unfolding effect
+      search-whole has enough =
+          let ns = numbers-are in
+          let pointer : pointer_found (pointer_at s target) (found_in (searching direction) (place_number first
+          (pointer_at s target)) sought (records_of kind)) ≡ pointer_found (pointer_from x target) numbers =
+          (let p = pointer-is in λ i. pointer_found (p i) (ns i)) in
+          let session = ap (pointing s target (target_path c s target)) pointer
+          ∙ session-is (pointer_found (pointer_from x target) numbers) in
+          served-done c s (search_record target first direction sought expected)
+          (search-is ∙ ap (λ (b : Bool). search_verdict b numbers) has
+          ∙ ap (λ (b : Bool). if b then Some (right_length numbers) else None) enough)
+          ∙ (λ i. outcome c (session i) (given expected (ns i)) (search_status (ns i)))

@@ -1,0 +1,132 @@
+-- What a call that carries out a request leaves, by the kinds of its exits.
+use Rattle.std.proofs.Common.{◌≡◌, ◌⊎◌, ◌+◌, ◌≤◌, ℕ, List, [], length, Some, Result, Ok, Err, OnOk, sym, ◌∙◌, ap, subst, arith, inl}
+use Rattle.card_rules.specs.declared.status.Sw.{Sw}
+use Rattle.undo_journal.specs.declared.error.StoreErr.{StoreErr}
+use Rattle.undo_journal.specs.Calls.{OnlyReads}
+use Rattle.undo_journal.specs.Memory.{Memory, committed, IsReady, Reports}
+use Rattle.undo_journal.specs.Spending.{WritesAtMost}
+use Rattle.nvm_board.specs.Facts.{Facts}
+use Rattle.file_tree.specs.declared.space.FreeSpace.{FreeSpace}
+use Rattle.file_tree.specs.Table.{table}
+use Rattle.apdu_core.specs.Requests.{Request}
+use Rattle.card_core.specs.declared.current.Current.{Current}
+use Rattle.card_core.specs.Cards.{Card}
+use Rattle.card_core.specs.Comparing.{comparisons, Comparisons, ComparesBy, ComparesNothing}
+use Rattle.card_core.specs.Outcomes.{refused}
+use Rattle.card_core.specs.Served.{IsDoing, Serves}
+use Rattle.card_core.specs.Spending.{most_writes}
+use Rattle.card_core.specs.Standing.{IsCard, card_of}
+use Rattle.card_core.specs.Steps.{served}
+use Rattle.card_core.specs.laws.CompareLaws.{compares-none}
+use Rattle.card_core.specs.Working.{card_in, outcome, session_in, session_of, table_in, IsCurrent}
+
+-- at most so many writes and no comparison
+pub compared-none : (n : ℕ) (old new : Facts) → WritesAtMost n old new
+    → ComparesNothing (comparisons old) (comparisons new)
+compared-none n old new spends =
+    let compares = spends.compares in
+    let matches = spends.matches in λ i. record { compares = compares i; matches = matches i }
+
+-- nor do reads
+pub reads-compared : (old new : Memory) → OnlyReads old new → ComparesNothing (comparisons old.facts) (comparisons new.facts)
+reads-compared old new reads =
+    let compares = reads.board.compares in
+    let matches = reads.board.matches in λ i. record { compares = compares i; matches = matches i }
+
+module _ (request : Request) (old : Memory) (x : Current) (new : Memory) where
+  -- after reads alone nothing was compared
+  pub reads-nothing : OnlyReads old new
+      → ComparesBy request (card_in old) (comparisons old.facts) (card_in new) (comparisons new.facts)
+  reads-nothing reads =
+      compares-none request (card_in old) (comparisons old.facts) (card_in new) (comparisons new.facts)
+      (ap card_of reads.keeps.committed_words) (reads-compared old new reads)
+
+  -- an error after reads
+  pub stopped : IsCard (committed old) → (y : Current) (text : List ℕ) (e : StoreErr) → OnlyReads old new
+      → new.failed ≡ Some e → length text ≤ 256 → Serves request old x new y text (Err e)
+  stopped card y text e reads failed room = record {
+    step = tt;
+    room = room;
+    stage = inl reads;
+    ready = tt;
+    current = tt;
+    card = subst IsCard (sym reads.keeps.committed_words) card;
+    reports = reads.reports;
+    tells = failed;
+    writes = omega (arith, reads.board.writes);
+    compares = reads-nothing reads;
+  }
+
+  -- an answer after reads, which leaves the card
+  pub answered : IsCard (committed old) → (y : Current) (text : List ℕ) (status : Sw) → OnlyReads old new → IsReady new
+      → IsCurrent (table_in old) y → length text ≤ 256
+      → served (card_in old) (session_in old x) request ≡ outcome (card_in old) (session_in old y) text status
+      → Serves request old x new y text (Ok status)
+  answered card y text status reads ready current room is =
+      let same = sym reads.keeps.committed_words in
+      record {
+        step = is ∙ ap (λ (l : List ℕ). outcome (card_of l) (session_of (table l) y) text status) same;
+        room = room;
+        stage = inl reads;
+        ready = ready;
+        current = subst (λ (l : List ℕ). IsCurrent (table l) y) same current;
+        card = subst IsCard same card;
+        reports = reads.reports;
+        tells = ready.usable.works;
+        writes = omega (arith, reads.board.writes);
+        compares = reads-nothing reads;
+      }
+
+  -- a refusal after reads
+  pub declined : IsCard (committed old) → (status : Sw) → OnlyReads old new → IsReady new → IsCurrent (table_in old) x
+      → served (card_in old) (session_in old x) request ≡ refused (card_in old) (session_in old x) status
+      → Serves request old x new x [] (Ok status)
+  declined card status reads ready current is =
+      answered card x [] status reads ready current (omega arith) is
+
+  -- a write that stopped, before or after its commit
+  pub torn : (y : Current) (text : List ℕ) (e : StoreErr)
+      → OnlyReads old new ⊎ IsDoing (card_in old) (session_in old x) request (card_in new) → IsCard (committed new)
+      → Reports old new → new.failed ≡ Some e → length text ≤ 256
+      → new.facts.writes ≤ old.facts.writes + most_writes request
+      → ComparesBy request (card_in old) (comparisons old.facts) (card_in new) (comparisons new.facts)
+      → Serves request old x new y text (Err e)
+  torn y text e stage card reports failed room writes compares = record {
+    step = tt;
+    room = room;
+    stage = stage;
+    ready = tt;
+    current = tt;
+    card = card;
+    reports = reports;
+    tells = failed;
+    writes = writes;
+    compares = compares;
+  }
+
+  -- a write that was made
+  pub written : (y : Current) (text : List ℕ) (status : Sw)
+      → OnlyReads old new ⊎ IsDoing (card_in old) (session_in old x) request (card_in new) → IsCard (committed new)
+      → Reports old new → IsReady new → IsCurrent (table_in new) y → length text ≤ 256
+      → new.facts.writes ≤ old.facts.writes + most_writes request
+      → ComparesBy request (card_in old) (comparisons old.facts) (card_in new) (comparisons new.facts)
+      → served (card_in old) (session_in old x) request ≡ outcome (card_in new) (session_in new y) text status
+      → Serves request old x new y text (Ok status)
+  written y text status stage card reports ready current room writes compares is = record {
+    step = is;
+    room = room;
+    stage = stage;
+    ready = ready;
+    current = current;
+    card = card;
+    reports = reports;
+    tells = ready.usable.works;
+    writes = writes;
+    compares = compares;
+  }
+
+-- the count of what is free stays right where no space is taken or given back
+pub space_kept : (free before after : FreeSpace) (result : Result Sw StoreErr) → free ≡ before
+    → OnOk result (after ≡ before) → OnOk result (free ≡ after)
+space_kept free before after (Ok status) counted same = counted ∙ sym same
+space_kept free before after (Err e) counted same = tt

@@ -1,0 +1,52 @@
+use Rattle.std.proofs.Common.{◌≡◌, ◌||◌, Bool, true, sym, ◌∙◌, ap}
+use Rattle.undo_journal.specs.Memory.{committed}
+use Rattle.undo_journal.specs.laws.Calls.{reads_then}
+use Rattle.card_rules.specs.declared.access_mode.AccessBit.TheVariants.{DeleteChild, DeleteSelf}
+use Rattle.file_tree.specs.Cards.{Tree}
+use Rattle.file_tree.specs.States.{is_allowed, is_barred}
+use Rattle.file_tree.specs.Table.{table, path_of}
+use Rattle.file_tree.specs.Trees.{tree_of}
+use Rattle.card_core.specs.Guards.{allowed}
+use Rattle.card_core.specs.Sessions.{marks_of}
+use Rattle.card_core.specs.Standing.{card_of}
+use Rattle.card_core.specs.Working.{file_refusal, session_of}
+use Rattle.card_core.proofs.Entries.{card-tree}
+use Rattle.card_core.proofs.Verified.{marks-are}
+use Rattle.card_core.proofs.files.deletion_refusal.Goals.{then-own, else-own}
+use Rattle.card_core.proofs.files.deletion_refusal.Goals as goal
+
+pub returns-in_err-by_parent-clause-reads : goal.returns-in_err-by_parent-clause-reads
+returns-in_err-by_parent-clause-reads g c =
+    reads_then c.args.store.now c.is_barred.new.store c.is_allowed-2.new.store c.is_barred.ensures.reads
+    (reads_then c.is_barred.new.store c.is_allowed.new.store c.is_allowed-2.new.store c.is_allowed.ensures.reads
+    c.is_allowed-2.ensures.reads)
+
+pub returns-clause-found : goal.returns-clause-found
+returns-clause-found g c =
+    let m = committed c.args.store.now in
+    let t = table m in
+    let x = c.args.current.now in
+    let marks = marks-are t x c.requires.current.marks in
+    let same = c.is_barred.ensures.reads.keeps.committed_words in
+    let still = c.is_allowed.ensures.reads.keeps.committed_words ∙ same in
+    let shown = c.verified.ensures ∙ sym marks in
+    let shown_again = c.verified-2.ensures ∙ sym marks in
+    let barred : c.in_ok-barred.barred ≡ is_barred (card_of m).tree (path_of t c.args.parent) =
+    c.in_ok-barred.ensures.barred ∙ sym (ap (λ (tree : Tree). is_barred tree (path_of t c.args.parent)) (card-tree m)) in
+    let own : c.in_ok-own.own ≡ allowed (card_of m) (session_of t x) (path_of t c.args.number) DeleteSelf =
+    c.in_ok-own.ensures.allowed
+    ∙ (λ i. is_allowed (tree_of (same i)) (path_of (table (same i)) c.args.number) DeleteSelf (shown i))
+    ∙ sym (ap (λ (tree : Tree). is_allowed tree (path_of t c.args.number) DeleteSelf (marks_of (session_of t x).verified))
+    (card-tree m)) in
+    let by_parent : c.in_ok-by_parent.by_parent
+    ≡ allowed (card_of m) (session_of t x) (path_of t c.args.parent) DeleteChild =
+    c.in_ok-by_parent.ensures.allowed
+    ∙ (λ i. is_allowed (tree_of (still i)) (path_of (table (still i)) c.args.parent) DeleteChild (shown_again i))
+    ∙ sym (ap (λ (tree : Tree). is_allowed tree (path_of t c.args.parent) DeleteChild (marks_of (session_of t x).verified))
+    (card-tree m)) in
+    let both : c.if-own.refusal_by ≡ (c.in_ok-own.own || c.in_ok-by_parent.by_parent) = elim c.if-own.branch [
+      | then-own w ↦ w.refusal_by-is ∙ w.if-own.true ∙ sym (ap (λ (b : Bool). b || c.in_ok-by_parent.by_parent) w.if-own.true)
+      | else-own w ↦ w.refusal_by-is ∙ sym (ap (λ (b : Bool). b || c.in_ok-by_parent.by_parent) w.if-own.false)
+    ] in
+    c.refusal_by.ensures ∙ (λ i. file_refusal (barred i) true (both i))
+    ∙ (λ i. file_refusal (is_barred (card_of m).tree (path_of t c.args.parent)) true (own i || by_parent i))

@@ -1,0 +1,98 @@
+use Rattle.std.proofs.Common.{◌≡◌, ◌<◌, ℕ, List, Option, Some, IfSome, option_map, sym, ◌∙◌, ap, subst, arith}
+use Rattle.undo_journal.specs.Memory.{committed}
+use Rattle.undo_journal.specs.laws.Calls.{reads_then}
+use Rattle.file_tree.specs.Cards.{Path}
+use Rattle.file_tree.specs.declared.entry.Entry.{Entry}
+use Rattle.file_tree.specs.Table.{table, entry_in, path_of, IsUsed}
+use Rattle.file_tree.specs.laws.Nodes.{used_small}
+use Rattle.file_tree.specs.laws.Paths.{parent_used, path-zero}
+use Rattle.card_core.specs.Standing.{card_of}
+use Rattle.card_core.specs.Working.{session_of}
+use Rattle.card_core.proofs.Deletions.{deletable, deletion_verdict, file-verdict}
+use Rattle.card_core.proofs.FileSteps.{delete-master}
+use Rattle.card_core.proofs.files.find_deletable.Goals as goal
+
+pub returns-then-number-eq0-clause-found : goal.returns-then-number-eq0-clause-found
+returns-then-number-eq0-clause-found g c =
+    let m = committed c.args.store.now in
+    let t = table m in
+    let master : c.in-Some.number ≡ 0 = omega arith in
+    delete-master (card_of m) (session_of t c.args.current.now) c.args.subject
+    (c.in_ok-number.ensures.found ∙ ap (λ (o : Option ℕ). option_map (path_of t) o) c.in-Some.is
+    ∙ ap (λ (p : Path). Some p) (path-zero t 7 c.in-Some.number master))
+
+pub read_entry-requires-clause-within : goal.read_entry-requires-clause-within
+read_entry-requires-clause-within g c =
+    let m = committed c.args.store.now in
+    used_small m c.in-Some.number
+    (subst (λ (o : Option ℕ). IfSome o (IsUsed (table m))) c.in-Some.is c.in_ok-number.ensures.used)
+
+pub returns-in_err-refusal-clause-reads : goal.returns-in_err-refusal-clause-reads
+returns-in_err-refusal-clause-reads g c =
+    reads_then c.args.store.now c.find_subject.new.store c.deletion_refusal.new.store c.find_subject.ensures.reads
+    (reads_then c.find_subject.new.store c.read_entry.new.store c.deletion_refusal.new.store c.read_entry.ensures.reads
+    c.deletion_refusal.ensures.reads)
+
+pub returns-in-Some-2-clause-reads : goal.returns-in-Some-2-clause-reads
+returns-in-Some-2-clause-reads g c =
+    reads_then c.args.store.now c.find_subject.new.store c.deletion_refusal.new.store c.find_subject.ensures.reads
+    (reads_then c.find_subject.new.store c.read_entry.new.store c.deletion_refusal.new.store c.read_entry.ensures.reads
+    c.deletion_refusal.ensures.reads)
+
+pub returns-in-None-clause-reads : goal.returns-in-None-clause-reads
+returns-in-None-clause-reads g c =
+    reads_then c.args.store.now c.find_subject.new.store c.deletion_refusal.new.store c.find_subject.ensures.reads
+    (reads_then c.find_subject.new.store c.read_entry.new.store c.deletion_refusal.new.store c.read_entry.ensures.reads
+    c.deletion_refusal.ensures.reads)
+
+pub deletion_refusal-requires-clause-above : goal.deletion_refusal-requires-clause-above
+deletion_refusal-requires-clause-above g c =
+    let m = committed c.args.store.now in
+    let e = c.in-Some.number in
+    let used = subst (λ (o : Option ℕ). IfSome o (IsUsed (table m))) c.in-Some.is c.in_ok-number.ensures.used in
+    let same = c.read_entry.ensures.reads.keeps.committed_words ∙ c.find_subject.ensures.reads.keeps.committed_words in
+    let entry : c.in_ok-entry.entry ≡ entry_in (table m) e =
+    c.in_ok-entry.ensures.entry ∙ ap (λ (l : List ℕ). entry_in (table l) e)
+    c.find_subject.ensures.reads.keeps.committed_words in
+    let below : 0 < e = omega arith in
+    subst (λ (l : List ℕ). IsUsed (table l) c.in_ok-entry.entry.parent) (sym same)
+    (subst (λ (y : Entry). IsUsed (table m) y.parent) (sym entry)
+    (parent_used (table m) c.requires.card.tree.entries e below used))
+
+pub returns-in-Some-2-clause-found : goal.returns-in-Some-2-clause-found
+returns-in-Some-2-clause-found g c =
+    let m = committed c.args.store.now in
+    let t = table m in
+    let x = c.args.current.now in
+    let e = c.in-Some.number in
+    let used = subst (λ (o : Option ℕ). IfSome o (IsUsed t)) c.in-Some.is c.in_ok-number.ensures.used in
+    let place = c.in_ok-number.ensures.found ∙ ap (λ (o : Option ℕ). option_map (path_of t) o) c.in-Some.is in
+    let same = c.read_entry.ensures.reads.keeps.committed_words ∙ c.find_subject.ensures.reads.keeps.committed_words in
+    let entry : c.in_ok-entry.entry ≡ entry_in t e =
+    c.in_ok-entry.ensures.entry ∙ ap (λ (l : List ℕ). entry_in (table l) e)
+    c.find_subject.ensures.reads.keeps.committed_words in
+    let below : 0 < e = omega arith in
+    file-verdict m c.requires.ready.usable.committed_size c.requires.card x c.args.subject e below used place
+    ∙ ap (λ (y : Entry). deletion_verdict m x e y.parent) (sym entry)
+    ∙ ap (λ (l : List ℕ). deletion_verdict l x e c.in_ok-entry.entry.parent) (sym same)
+    ∙ sym c.in_ok-refusal.ensures.found ∙ c.in-Some-2.is
+
+pub returns-in-None-clause-found : goal.returns-in-None-clause-found
+returns-in-None-clause-found g c =
+    let m = committed c.args.store.now in
+    let t = table m in
+    let x = c.args.current.now in
+    let e = c.in-Some.number in
+    let used = subst (λ (o : Option ℕ). IfSome o (IsUsed t)) c.in-Some.is c.in_ok-number.ensures.used in
+    let place = c.in_ok-number.ensures.found ∙ ap (λ (o : Option ℕ). option_map (path_of t) o) c.in-Some.is in
+    let same = c.read_entry.ensures.reads.keeps.committed_words ∙ c.find_subject.ensures.reads.keeps.committed_words in
+    let entry : c.in_ok-entry.entry ≡ entry_in t e =
+    c.in_ok-entry.ensures.entry ∙ ap (λ (l : List ℕ). entry_in (table l) e)
+    c.find_subject.ensures.reads.keeps.committed_words in
+    let below : 0 < e = omega arith in
+    deletable m c.requires.ready.usable.committed_size c.requires.card x c.args.subject e below used place
+    (file-verdict m c.requires.ready.usable.committed_size c.requires.card x c.args.subject e below used place
+    ∙ ap (λ (y : Entry). deletion_verdict m x e y.parent) (sym entry)
+    ∙ ap (λ (l : List ℕ). deletion_verdict l x e c.in_ok-entry.entry.parent) (sym same)
+    ∙ sym c.in_ok-refusal.ensures.found ∙ c.in-None.is)
+    c.in_ok-entry.entry entry

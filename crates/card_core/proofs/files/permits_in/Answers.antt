@@ -1,0 +1,45 @@
+use Rattle.std.proofs.Common.{◌≡◌, sym, ◌∙◌, ap}
+use Rattle.undo_journal.specs.Memory.{committed}
+use Rattle.undo_journal.specs.laws.Calls.{reads_then}
+use Rattle.card_rules.specs.declared.access_mode.AccessBit.TheVariants.{CreateDf, CreateEf}
+use Rattle.file_tree.specs.Cards.{Tree}
+use Rattle.file_tree.specs.States.{is_allowed, is_barred}
+use Rattle.file_tree.specs.Table.{table, path_of}
+use Rattle.file_tree.specs.Trees.{tree_of}
+use Rattle.card_core.specs.Guards.{allowed}
+use Rattle.card_core.specs.Sessions.{marks_of}
+use Rattle.card_core.specs.Standing.{card_of}
+use Rattle.card_core.specs.Working.{session_of}
+use Rattle.card_core.proofs.Entries.{card-tree}
+use Rattle.card_core.proofs.Verified.{marks-are}
+use Rattle.card_core.proofs.files.permits_in.Goals as goal
+
+pub returns-in_err-elementary-clause-reads : goal.returns-in_err-elementary-clause-reads
+returns-in_err-elementary-clause-reads g c =
+    reads_then c.args.store.now c.is_barred.new.store c.is_allowed-2.new.store c.is_barred.ensures.reads
+    (reads_then c.is_barred.new.store c.is_allowed.new.store c.is_allowed-2.new.store c.is_allowed.ensures.reads
+    c.is_allowed-2.ensures.reads)
+
+pub returns-clause-permits : goal.returns-clause-permits
+returns-clause-permits g c =
+    let m = committed c.args.store.now in
+    let t = table m in
+    let x = c.args.current.now in
+    let marks = marks-are t x c.requires.current.marks in
+    let same = c.is_barred.ensures.reads.keeps.committed_words in
+    let still = c.is_allowed.ensures.reads.keeps.committed_words ∙ same in
+    let shown = c.verified.ensures ∙ sym marks in
+    let shown_again = c.verified-2.ensures ∙ sym marks in
+    let barred : c.in_ok-barred.barred ≡ is_barred (card_of m).tree (path_of t x.df) =
+    c.in_ok-barred.ensures.barred ∙ sym (ap (λ (tree : Tree). is_barred tree (path_of t x.df)) (card-tree m)) in
+    let dedicated : c.in_ok-dedicated.dedicated ≡ allowed (card_of m) (session_of t x) (path_of t x.df) CreateDf =
+    c.in_ok-dedicated.ensures.allowed
+    ∙ (λ i. is_allowed (tree_of (same i)) (path_of (table (same i)) x.df) CreateDf (shown i))
+    ∙ sym (ap (λ (tree : Tree). is_allowed tree (path_of t x.df) CreateDf (marks_of (session_of t x).verified))
+    (card-tree m)) in
+    let elementary : c.in_ok-elementary.elementary ≡ allowed (card_of m) (session_of t x) (path_of t x.df) CreateEf =
+    c.in_ok-elementary.ensures.allowed
+    ∙ (λ i. is_allowed (tree_of (still i)) (path_of (table (still i)) x.df) CreateEf (shown_again i))
+    ∙ sym (ap (λ (tree : Tree). is_allowed tree (path_of t x.df) CreateEf (marks_of (session_of t x).verified))
+    (card-tree m)) in
+    λ i. record { barred = barred i; dedicated = dedicated i; elementary = elementary i }

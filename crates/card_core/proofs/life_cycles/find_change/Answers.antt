@@ -1,0 +1,24 @@
+use Rattle.std.proofs.Common.{◌≡◌, ℕ, List, Option, IfSome, option_map, Result, ◌∙◌, ap, subst}
+use Rattle.card_rules.specs.declared.status.Sw.{Sw}
+use Rattle.undo_journal.specs.Memory.{committed}
+use Rattle.file_tree.specs.Table.{table, path_of, IsUsed}
+use Rattle.card_core.specs.declared.life_cycles.Changed.{Changed}
+use Rattle.card_core.specs.Changing.{change_at}
+use Rattle.card_core.proofs.Answering.{ok_then}
+use Rattle.card_core.proofs.Living.{found-is}
+use Rattle.card_core.proofs.life_cycles.find_change.Goals as goal
+
+pub returns-clause-found : goal.returns-clause-found
+returns-clause-found g c =
+    let m = committed c.args.store.now in
+    let x = c.args.current.now in
+    let e = c.in-Some.number in
+    let same = c.find_changed.ensures.reads.keeps.committed_words in
+    let place =
+    c.in_ok-number.ensures.found ∙ ap (λ (found : Option ℕ). option_map (path_of (table m)) found) c.in-Some.is in
+    let used = subst (λ (found : Option ℕ). IfSome found (IsUsed (table m))) c.in-Some.is c.in_ok-number.ensures.used in
+    ok_then (λ (answer : Result Changed Sw). answer ≡ change_at (committed c.find_changed.new.store) x c.args.change e) _
+    c.read_change.result
+    (λ answer is. found-is m c.requires.card x c.requires.current c.args.change c.args.subject e used place answer
+    (is ∙ ap (λ (l : List ℕ). change_at l x c.args.change e) same))
+    c.read_change.ensures.found

@@ -1,0 +1,69 @@
+use Rattle.std.proofs.Common.{◌≡◌, ℕ, List, Option, IfSome, option_map, sym, ◌∙◌, ap, subst}
+use Rattle.undo_journal.specs.Memory.{committed}
+use Rattle.undo_journal.specs.laws.Calls.{reads_then}
+use Rattle.file_tree.specs.declared.entry.Entry.{Entry}
+use Rattle.file_tree.specs.States.{is_barred}
+use Rattle.file_tree.specs.Table.{table, entry_in, path_of}
+use Rattle.file_tree.specs.laws.Nodes.{used_small}
+use Rattle.card_core.specs.Guards.{allowed}
+use Rattle.card_core.specs.Standing.{card_of}
+use Rattle.card_core.specs.Working.{file_refusal, fits_kind, session_of, IsElementary}
+use Rattle.card_core.proofs.NamedEntries.{entry-named, entry-refusal}
+use Rattle.card_core.proofs.named.find_file.Goals as goal
+
+pub read_entry-requires-clause-within : goal.read_entry-requires-clause-within
+read_entry-requires-clause-within g c =
+    let t = table (committed c.args.store.now) in
+    let file = subst (λ (o : Option ℕ). IfSome o (IsElementary t c.args.current.now.df)) c.in-Some.is
+    c.in_ok-number.ensures.child in
+    used_small (committed c.args.store.now) c.in-Some.number file.child.used
+
+pub returns-in_err-refusal-clause-reads : goal.returns-in_err-refusal-clause-reads
+returns-in_err-refusal-clause-reads g c =
+    reads_then c.args.store.now c.find_target.new.store c.refusal_of.new.store c.find_target.ensures.reads
+    (reads_then c.find_target.new.store c.read_entry.new.store c.refusal_of.new.store c.read_entry.ensures.reads
+    c.refusal_of.ensures.reads)
+
+pub returns-in-Some-2-clause-found : goal.returns-in-Some-2-clause-found
+returns-in-Some-2-clause-found g c =
+    let m = committed c.args.store.now in
+    let t = table m in
+    let e = c.in-Some.number in
+    let file = subst (λ (o : Option ℕ). IfSome o (IsElementary t c.args.current.now.df)) c.in-Some.is
+    c.in_ok-number.ensures.child in
+    let place = c.in_ok-number.ensures.found ∙ ap (λ (o : Option ℕ). option_map (path_of t) o) c.in-Some.is in
+    let same = c.read_entry.ensures.reads.keeps.committed_words ∙ c.find_target.ensures.reads.keeps.committed_words in
+    let entry : c.in_ok-entry.entry ≡ entry_in t e =
+    c.in_ok-entry.ensures.entry ∙ ap (λ (l : List ℕ). entry_in (table l) e)
+    c.find_target.ensures.reads.keeps.committed_words in
+    entry-refusal m c.requires.ready.usable.committed_size c.requires.card c.args.current.now c.args.target c.args.need e
+    file place
+    ∙ ap (λ (y : Entry). file_refusal (is_barred (card_of m).tree (path_of t e)) (fits_kind c.args.need.structure y.kind)
+    (allowed (card_of m) (session_of t c.args.current.now) (path_of t e) c.args.need.bit)) (sym entry)
+    ∙ ap (λ (l : List ℕ). file_refusal (is_barred (card_of l).tree (path_of (table l) e))
+    (fits_kind c.args.need.structure c.in_ok-entry.entry.kind)
+    (allowed (card_of l) (session_of (table l) c.args.current.now) (path_of (table l) e) c.args.need.bit)) (sym same)
+    ∙ sym c.in_ok-refusal.ensures.found ∙ c.in-Some-2.is
+
+pub returns-in-None-clause-found : goal.returns-in-None-clause-found
+returns-in-None-clause-found g c =
+    let m = committed c.args.store.now in
+    let t = table m in
+    let e = c.in-Some.number in
+    let file = subst (λ (o : Option ℕ). IfSome o (IsElementary t c.args.current.now.df)) c.in-Some.is
+    c.in_ok-number.ensures.child in
+    let place = c.in_ok-number.ensures.found ∙ ap (λ (o : Option ℕ). option_map (path_of t) o) c.in-Some.is in
+    let same = c.read_entry.ensures.reads.keeps.committed_words ∙ c.find_target.ensures.reads.keeps.committed_words in
+    let entry : c.in_ok-entry.entry ≡ entry_in t e =
+    c.in_ok-entry.ensures.entry ∙ ap (λ (l : List ℕ). entry_in (table l) e)
+    c.find_target.ensures.reads.keeps.committed_words in
+    let none = entry-refusal m c.requires.ready.usable.committed_size c.requires.card c.args.current.now c.args.target
+    c.args.need e file place
+    ∙ ap (λ (y : Entry). file_refusal (is_barred (card_of m).tree (path_of t e)) (fits_kind c.args.need.structure y.kind)
+    (allowed (card_of m) (session_of t c.args.current.now) (path_of t e) c.args.need.bit)) (sym entry)
+    ∙ ap (λ (l : List ℕ). file_refusal (is_barred (card_of l).tree (path_of (table l) e))
+    (fits_kind c.args.need.structure c.in_ok-entry.entry.kind)
+    (allowed (card_of l) (session_of (table l) c.args.current.now) (path_of (table l) e) c.args.need.bit)) (sym same)
+    ∙ sym c.in_ok-refusal.ensures.found ∙ c.in-None.is in
+    entry-named m c.requires.ready.usable.committed_size c.requires.card c.args.current.now c.args.target c.args.need e file
+    place none c.in_ok-entry.entry entry

@@ -1,0 +1,29 @@
+use Rattle.std.proofs.Common.{◌≡◌, sym, ◌∙◌, ap}
+use Rattle.undo_journal.specs.Memory.{committed}
+use Rattle.file_tree.specs.Cards.{Tree}
+use Rattle.file_tree.specs.States.{is_allowed, is_barred}
+use Rattle.file_tree.specs.Table.{table, path_of}
+use Rattle.file_tree.specs.Trees.{tree_of}
+use Rattle.card_core.specs.Guards.{allowed}
+use Rattle.card_core.specs.Sessions.{marks_of}
+use Rattle.card_core.specs.Standing.{card_of}
+use Rattle.card_core.specs.Working.{file_refusal, session_of}
+use Rattle.card_core.proofs.Entries.{card-tree}
+use Rattle.card_core.proofs.Verified.{marks-are}
+use Rattle.card_core.proofs.named.refusal_of.Goals as goal
+
+pub returns-clause-found : goal.returns-clause-found
+returns-clause-found g c =
+    let m = committed c.args.store.now in
+    let t = table m in
+    let path = path_of t c.args.number in
+    let bit = c.args.need.bit in
+    let barred : c.in_ok-barred.barred ≡ is_barred (card_of m).tree path =
+    c.in_ok-barred.ensures.barred ∙ sym (ap (λ (tree : Tree). is_barred tree path) (card-tree m)) in
+    let same = c.is_barred.ensures.reads.keeps.committed_words in
+    let marks = c.verified.ensures ∙ sym (marks-are t c.args.current.now c.requires.current.marks) in
+    let permitted : c.in_ok-allowed.allowed ≡ allowed (card_of m) (session_of t c.args.current.now) path bit =
+    c.in_ok-allowed.ensures.allowed
+    ∙ (λ i. is_allowed (tree_of (same i)) (path_of (table (same i)) c.args.number) bit (marks i))
+    ∙ sym (ap (λ (tree : Tree). is_allowed tree path bit (marks_of (session_of t c.args.current.now).verified)) (card-tree m)) in
+    c.refusal_by.ensures ∙ (λ i. file_refusal (barred i) (c.fits.ensures i) (permitted i))

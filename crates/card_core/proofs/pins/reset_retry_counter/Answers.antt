@@ -1,0 +1,15 @@
+use Rattle.std.proofs.Common.{◌+◌, ◌-◌, ℕ, List, [], Option, option_map, sym, ap, subst}
+use Rattle.apdu_core.specs.Requests.{reset_retry_counter}
+use Rattle.apdu_core.specs.declared.pins.Replacement.{Replacement}
+use Rattle.card_core.specs.Served.{Serves}
+use Rattle.card_core.proofs.Attempts.{asks-unblocking, question-answered}
+use Rattle.card_core.proofs.pins.reset_retry_counter.Goals as goal
+
+pub returns-in-None-clause-serves : goal.returns-in-None-clause-serves
+returns-in-None-clause-serves g c =
+    let none = ap (option_map (λ (values : Replacement). (values.shown.now, values.new.now))) c.in-None.is in
+    subst (λ (values : Option (List ℕ × List ℕ)). Serves (reset_retry_counter c.args.pin values) c.args.store.now
+    c.args.current.now c.tell_tries.new.store c.args.current.now [] c.tell_tries.result) (sym none)
+    (question-answered _ c.args.pin (8 + (c.args.pin - 1)) (asks-unblocking c.args.pin c.requires.pin) c.args.store.now
+    c.args.current.now c.requires.card c.requires.current c.tell_tries.new.store c.tell_tries.ensures.reads
+    c.tell_tries.result c.tell_tries.ensures.told c.tell_tries.ensures.ready c.tell_tries.ensures.tells)

@@ -1,0 +1,47 @@
+use Rattle.std.proofs.Common.{◌≤◌, ◌+◌, ◌-◌, refl, arith}
+use Rattle.pin_store.specs.laws.Tries.{reset_ends}
+use Rattle.card_core.proofs.Attempts.{charge-blocked, charge-torn, end-made, end-torn, made-space, resets}
+use Rattle.card_core.proofs.pins.reset_value.Goals as goal
+
+pub returns-in_err-charged-clause-serves : goal.returns-in_err-charged-clause-serves
+returns-in_err-charged-clause-serves g c =
+    charge-torn _ _ (resets c.args.pin c.requires.pin c.args.values.shown.now c.args.values.new.now) 13 refl c.args.store.now c.args.current.now
+    c.requires.ready c.requires.card c.requires.current c.take_try.new.store c.from_residual.result
+    c.in_err-charged.field-0.0 c.from_residual.ensures.1 c.take_try.ensures.any_exit c.take_try.ensures.kept
+    c.take_try.ensures.pages c.take_try.ensures.reports c.in_err-charged.ensures.tells c.take_try.ensures.writes
+
+pub returns-in-None-clause-serves : goal.returns-in-None-clause-serves
+returns-in-None-clause-serves g c =
+    charge-blocked _ _ (resets c.args.pin c.requires.pin c.args.values.shown.now c.args.values.new.now) 13 refl c.args.store.now c.args.current.now
+    c.requires.ready c.requires.card c.requires.current c.take_try.new.store c.in_ok-charged.field-0 c.in-None.is
+    c.in_ok-charged.ensures.done c.take_try.ensures.kept c.in_ok-charged.ensures.ready
+
+pub returns-in_err-outcome-clause-serves : goal.returns-in_err-outcome-clause-serves
+returns-in_err-outcome-clause-serves g c =
+    let large : 8 ≤ 8 + (c.args.pin - 1) = omega arith in
+    end-torn _ _ (resets c.args.pin c.requires.pin c.args.values.shown.now c.args.values.new.now) 13 refl c.args.store.now c.args.current.now
+    c.requires.ready c.requires.card c.requires.current c.take_try.new.store c.reset_counter.new.store c.in_ok-charged.field-0
+    c.in-Some.charged c.in-Some.is c.in_ok-charged.ensures.done c.take_try.ensures.pages c.take_try.ensures.writes
+    c.take_try.ensures.reports (λ p. reset_ends (8 + (c.args.pin - 1)) c.args.values.new.now p large) c.reset_counter.ensures.any_exit
+    c.reset_counter.ensures.spends c.reset_counter.ensures.pages c.reset_counter.ensures.reports c.from_residual-in_err-outcome.result
+    c.in_err-outcome.field-0.0 c.from_residual-in_err-outcome.ensures.1 c.in_err-outcome.ensures.tells
+
+pub returns-clause-serves : goal.returns-clause-serves
+returns-clause-serves g c =
+    let large : 8 ≤ 8 + (c.args.pin - 1) = omega arith in
+    end-made _ _ (resets c.args.pin c.requires.pin c.args.values.shown.now c.args.values.new.now) 13 refl c.args.store.now c.args.current.now
+    c.requires.ready c.requires.card c.requires.current c.take_try.new.store c.reset_counter.new.store c.in_ok-charged.field-0
+    c.in-Some.charged c.in-Some.is c.in_ok-charged.ensures.done c.take_try.ensures.pages c.take_try.ensures.writes
+    c.take_try.ensures.reports (λ p. reset_ends (8 + (c.args.pin - 1)) c.args.values.new.now p large) c.reset_counter.ensures.any_exit
+    c.reset_counter.ensures.spends c.reset_counter.ensures.pages c.reset_counter.ensures.reports c.in_ok-outcome.outcome
+    c.in_ok-outcome.ensures.done c.in_ok-outcome.ensures.ready c.after_attempt.result c.after_attempt.ensures
+    c.status_of.result c.status_of.ensures
+
+pub returns-clause-space : goal.returns-clause-space
+returns-clause-space g c =
+    let large : 8 ≤ 8 + (c.args.pin - 1) = omega arith in
+    made-space _ _ (resets c.args.pin c.requires.pin c.args.values.shown.now c.args.values.new.now) 13 refl c.args.store.now c.args.current.now
+    c.requires.ready c.requires.card c.requires.current c.take_try.new.store c.reset_counter.new.store c.in_ok-charged.field-0
+    c.in-Some.charged c.in-Some.is c.in_ok-charged.ensures.done c.take_try.ensures.pages c.take_try.ensures.writes
+    c.take_try.ensures.reports (λ p. reset_ends (8 + (c.args.pin - 1)) c.args.values.new.now p large) c.reset_counter.ensures.any_exit
+    c.reset_counter.ensures.spends c.reset_counter.ensures.pages c.reset_counter.ensures.reports

@@ -1,0 +1,16 @@
+use Rattle.undo_journal.specs.Memory.{committed}
+use Rattle.card_core.specs.Working.{looked_at}
+use Rattle.card_core.proofs.RecordBodies.{decides-none, none-missing, ok-then}
+use Rattle.card_core.proofs.record_body.RecordBody.update.Goals as goal
+
+pub unrefused-requires : goal.unrefused-requires
+unrefused-requires g c =
+    decides-none _ _ (none-missing (committed c.args.store.now) c.args.self c.requires.body (looked_at c.args.self c.args.number) c.requires.record)
+    c.try_update.ensures.refusal
+
+pub returns-clause-done : goal.returns-clause-done
+returns-clause-done g c =
+    ok-then _ c.try_update.result c.unrefused.result
+    (decides-none _ _ (none-missing (committed c.args.store.now) c.args.self c.requires.body (looked_at c.args.self c.args.number) c.requires.record)
+    c.try_update.ensures.refusal)
+    c.unrefused.ensures c.try_update.ensures.done

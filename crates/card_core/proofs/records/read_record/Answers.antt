@@ -1,0 +1,139 @@
+use Rattle.std.proofs.Common.{◌≡◌, ℕ, List, Result, length, sym, not, ◌==◌, ◌&&◌, ◌∙◌, ap, subst, arith}
+use Rattle.card_rules.specs.declared.status.Sw.{Sw}
+use Rattle.card_rules.specs.declared.status.TheConstants.Sw.{DONE, RECORD_NOT_FOUND}
+use Rattle.undo_journal.specs.declared.error.StoreErr.{StoreErr}
+use Rattle.undo_journal.specs.Memory.{committed}
+use Rattle.undo_journal.specs.laws.Calls.{reads_then}
+use Rattle.apdu_core.specs.Requests.{read_record}
+use Rattle.ef_body.specs.Records.{record_of}
+use Rattle.card_core.specs.declared.current.Current.{Current}
+use Rattle.card_core.specs.Lengths.{right_length}
+use Rattle.card_core.specs.Records.{pointer_after}
+use Rattle.card_core.specs.Served.{Serves}
+use Rattle.card_core.specs.Working.{card_in, chosen_in, has_in, outcome, pointer_from, pointing_from, records_at, session_in, table_in}
+use Rattle.card_core.specs.Working.{IsBodyIn, IsCurrent}
+use Rattle.card_core.specs.Outcomes.{refused}
+use Rattle.card_core.proofs.Answering.{said_ok, said_err}
+use Rattle.card_core.proofs.RecordBodies.{has-few}
+use Rattle.card_core.proofs.Recording.{agree, current-is, declined-empty, read-gone, read-other, read-refused, read-whole}
+use Rattle.card_core.proofs.Serves.{answered, stopped}
+use Rattle.card_core.proofs.Stopping.{err-is}
+use Rattle.card_core.proofs.records.read_record.Goals as goal
+
+pub returns-in-Err-clause-serves : goal.returns-in-Err-clause-serves
+returns-in-Err-clause-serves g c =
+    let old = c.args.store.now in
+    let x = c.args.current.now in
+    let refused = said_err _ _ c.in_ok-file.field-0 c.in-Err.refusal c.in-Err.is c.in_ok-file.ensures.found in
+    declined-empty (read_record c.args.target c.args.choice c.args.expected) old x c.find_records.new.store
+    c.args.text.now.items c.requires.empty c.requires.card c.in-Err.refusal c.find_records.ensures.reads
+    c.in_ok-file.ensures.ready c.requires.current
+    (read-refused (card_in old) (session_in old x) c.args.target c.in-Err.refusal refused c.args.choice c.args.expected)
+
+pub returns-then-not-has_record-clause-serves : goal.returns-then-not-has_record-clause-serves
+returns-then-not-has_record-clause-serves g c =
+    let old = c.args.store.now in
+    let x = c.args.current.now in
+    let body = c.in-Ok.file.body in
+    let found = said_ok _ _ c.in_ok-file.field-0 c.in-Ok.file c.in-Ok.is c.in_ok-file.ensures.found in
+    let number : c.chosen-number.result ≡ chosen_in body (pointer_from x c.args.target) c.args.choice =
+    c.chosen-number.ensures ∙ ap (λ p. chosen_in body p c.args.choice) c.pointer_at-pointer.ensures in
+    let gone = sym (ap (has_in body) number) ∙ sym c.has_record.ensures ∙ c.if-not-has_record.true in
+    declined-empty (read_record c.args.target c.args.choice c.args.expected) old x c.find_records.new.store
+    c.args.text.now.items c.requires.empty c.requires.card RECORD_NOT_FOUND c.find_records.ensures.reads
+    c.in_ok-file.ensures.ready c.requires.current
+    (read-gone (committed old) c.requires.ready.usable.committed_size c.requires.card x c.args.target _
+    c.in-Ok.file.number body found found.named.unrefused c.args.choice c.args.expected gone)
+
+pub read-requires-clause-body : goal.read-requires-clause-body
+read-requires-clause-body g c =
+    let old = c.args.store.now in
+    let body = c.in-Ok.file.body in
+    let found = said_ok _ _ c.in_ok-file.field-0 c.in-Ok.file c.in-Ok.is c.in_ok-file.ensures.found in
+    subst (λ (l : List ℕ). IsBodyIn l body) (sym c.find_records.ensures.reads.keeps.committed_words)
+    (agree (committed old) c.requires.ready.usable.committed_size c.requires.card c.args.current.now c.args.target _
+    c.in-Ok.file.number body found).stands
+
+pub returns-in_err-read-clause-serves : goal.returns-in_err-read-clause-serves
+returns-in_err-read-clause-serves g c =
+    let old = c.args.store.now in
+    let x = c.args.current.now in
+    let none : length c.args.text.now.items ≡ 0 = ap (λ (l : List ℕ). length l) c.requires.empty in
+    subst (λ (r : Result Sw StoreErr). Serves (read_record c.args.target c.args.choice c.args.expected) old x
+    c.read.new.store x c.args.text.now.items r) (sym (err-is _ _ c.from_residual-in_err-read.ensures.1))
+    (stopped (read_record c.args.target c.args.choice c.args.expected) old x c.read.new.store c.requires.card x
+    c.args.text.now.items c.in_err-read.field-0.0
+    (reads_then old c.find_records.new.store c.read.new.store c.find_records.ensures.reads c.read.ensures.reads)
+    c.in_err-read.ensures.tells (omega (arith, none)))
+
+pub returns-then-is_other_length-clause-serves : goal.returns-then-is_other_length-clause-serves
+returns-then-is_other_length-clause-serves g c =
+    let old = c.args.store.now in
+    let x = c.args.current.now in
+    let body = c.in-Ok.file.body in
+    let same = c.find_records.ensures.reads.keeps.committed_words in
+    let found = said_ok _ _ c.in_ok-file.field-0 c.in-Ok.file c.in-Ok.is c.in_ok-file.ensures.found in
+    let number : c.chosen-number.result ≡ chosen_in body (pointer_from x c.args.target) c.args.choice =
+    c.chosen-number.ensures ∙ ap (λ p. chosen_in body p c.args.choice) c.pointer_at-pointer.ensures in
+    let has = sym (ap (has_in body) number) ∙ sym c.has_record.ensures ∙ c.if-not-has_record.false in
+    let text : c.read.new.bytes.items ≡ record_of (records_at (committed old) body) (chosen_in body (pointer_from x
+    c.args.target) c.args.choice) =
+    c.in_ok-read.ensures.bytes ∙ (λ i. record_of (records_at (same i) body) (number i)) in
+    let other = ap (λ (l : List ℕ). not (c.args.expected == 0) && not (c.args.expected == length l)) (sym text)
+    ∙ sym c.is_other_length.ensures ∙ c.if-is_other_length.true in
+    let status = ap right_length (sym (c.deref.ensures.0 ∙ text)) ∙ sym c.right_length.ensures in
+    declined-empty (read_record c.args.target c.args.choice c.args.expected) old x c.read.new.store
+    c.args.text.now.items c.requires.empty c.requires.card c.right_length.result
+    (reads_then old c.find_records.new.store c.read.new.store c.find_records.ensures.reads c.read.ensures.reads)
+    c.in_ok-read.ensures.ready c.requires.current
+    (read-other (committed old) c.requires.ready.usable.committed_size c.requires.card x c.args.target _
+    c.in-Ok.file.number body found found.named.unrefused c.args.choice c.args.expected has other
+    ∙ ap (refused (card_in old) (session_in old x)) status)
+
+pub pointer_after-requires : goal.pointer_after-requires
+pointer_after-requires g c =
+    let old = c.args.store.now in
+    let body = c.in-Ok.file.body in
+    let found = said_ok _ _ c.in_ok-file.field-0 c.in-Ok.file c.in-Ok.is c.in_ok-file.ensures.found in
+    let stands = (agree (committed old) c.requires.ready.usable.committed_size c.requires.card c.args.current.now
+    c.args.target _ c.in-Ok.file.number body found).stands in
+    let few = has-few (committed old) body stands c.chosen-number.result (sym c.has_record.ensures
+    ∙ c.if-not-has_record.false) in
+    omega (arith, few)
+
+pub returns-clause-serves : goal.returns-clause-serves
+returns-clause-serves g c =
+    let old = c.args.store.now in
+    let x = c.args.current.now in
+    let body = c.in-Ok.file.body in
+    let e = c.in-Ok.file.number in
+    let sized = c.requires.ready.usable.committed_size in
+    let same = c.find_records.ensures.reads.keeps.committed_words in
+    let found = said_ok _ _ c.in_ok-file.field-0 c.in-Ok.file c.in-Ok.is c.in_ok-file.ensures.found in
+    let number : c.chosen-number.result ≡ chosen_in body (pointer_from x c.args.target) c.args.choice =
+    c.chosen-number.ensures ∙ ap (λ p. chosen_in body p c.args.choice) c.pointer_at-pointer.ensures in
+    let has = sym (ap (has_in body) number) ∙ sym c.has_record.ensures ∙ c.if-not-has_record.false in
+    let text : c.read.new.bytes.items ≡ record_of (records_at (committed old) body) (chosen_in body (pointer_from x
+    c.args.target) c.args.choice) =
+    c.in_ok-read.ensures.bytes ∙ (λ i. record_of (records_at (same i) body) (number i)) in
+    let whole = ap (λ (l : List ℕ). not (c.args.expected == 0) && not (c.args.expected == length l)) (sym text)
+    ∙ sym c.is_other_length.ensures ∙ c.if-is_other_length.false in
+    let pointer : c.pointer_after.result ≡ pointer_after (pointer_from x c.args.target) c.args.choice (chosen_in body
+    (pointer_from x c.args.target) c.args.choice) =
+    c.pointer_after.ensures ∙ (λ i. pointer_after (c.pointer_at-pointer.ensures i) c.args.choice (number i)) in
+    let y_is : c.pointing.result ≡ pointing_from x c.args.target e (pointer_after (pointer_from x c.args.target)
+    c.args.choice (chosen_in body (pointer_from x c.args.target) c.args.choice)) =
+    c.pointing.ensures ∙ ap (pointing_from x c.args.target e) pointer in
+    let given_is = c.hand.ensures.given ∙ text in
+    let current = current-is (committed old) sized c.requires.card x c.args.target _ e body found c.requires.current
+    (pointer_after (pointer_from x c.args.target) c.args.choice (chosen_in body (pointer_from x c.args.target)
+    c.args.choice)) in
+    answered (read_record c.args.target c.args.choice c.args.expected) old x c.read.new.store c.requires.card
+    c.pointing.result c.hand.new.text.items DONE
+    (reads_then old c.find_records.new.store c.read.new.store c.find_records.ensures.reads c.read.ensures.reads)
+    c.in_ok-read.ensures.ready
+    (subst (λ (y : Current). IsCurrent (table_in old) y) (sym y_is) current)
+    c.hand.ensures.room
+    (read-whole (committed old) sized c.requires.card x c.args.target _ e body found found.named.unrefused
+    c.args.choice c.args.expected has whole
+    ∙ (λ i. outcome (card_in old) (session_in old (sym y_is i)) (sym given_is i) DONE))

@@ -1,0 +1,53 @@
+-- Commands on life cycles: proper cards stay proper.
+use Rattle.std.specs.Prelude.{◌≡◌, ◌<◌, true, None}
+use Rattle.std.proofs.Common.{refl, lit<}
+use Rattle.std.proofs.lemmas.Bool.{not-false}
+use Rattle.card_rules.specs.declared.access_mode.AccessBit.{AccessBit}
+use Rattle.card_rules.specs.declared.life_cycle.LifeCycle.{LifeCycle}
+use Rattle.card_rules.specs.declared.status.TheConstants.Sw.{DONE}
+use Rattle.card_rules.specs.Rule.{allows}
+use Rattle.apdu_core.specs.declared.files.Subject.{Subject}
+use Rattle.apdu_core.specs.declared.life_cycles.LifeCycleChange.{LifeCycleChange}
+use Rattle.file_tree.specs.States.{with_life}
+use Rattle.card_core.specs.Cards.{Card, File, Path, file_at, identifier}
+use Rattle.card_core.specs.Guards.{allowed}
+use Rattle.card_core.specs.LifeCycles.{card_terminated, change_bit, change_refusals, changed_life, changed_path, life_changed}
+use Rattle.card_core.specs.LifeCycles.{with_life_at}
+use Rattle.card_core.specs.Outcomes.{refused_by}
+use Rattle.card_core.specs.Proper.{IsProper}
+use Rattle.card_core.specs.Sessions.{Session, marks_of}
+use Rattle.card_core.specs.laws.ProperLaws.{IsFine, proper-file_at, proper-insert, short-status}
+use Rattle.card_core.specs.laws.ProperLaws.{there-identifier, unrefused-each}
+
+-- a state of a life cycle tells nothing that an answer is long by
+proper-with_life_at : (c : Card) (path : Path) (life : LifeCycle) → identifier path < 65536 → IsProper c
+    → IsProper (with_life_at c path life)
+proper-with_life_at c path life small proper =
+    let was = proper-file_at c path proper in
+    proper-insert c path (with_life (file_at c.tree path) life) small proper
+    (record { rule = was.rule; rule_size = was.rule_size; kind = was.kind })
+
+module _ (c : Card) (s : Session) (proper : IsProper c) where
+  -- where a rule allows something there is a file, whose identifier is two bytes
+  allowed-identifier : (path : Path) (bit : AccessBit) → allowed c s path bit ≡ true → identifier path < 65536
+  allowed-identifier path bit is =
+      there-identifier c path (λ (file : File). allows file.rule bit file.life (marks_of s.verified)) proper refl is
+
+  pub fine-life_changed : (change : LifeCycleChange) (subject : Subject)
+      → refused_by (change_refusals c s change subject) ≡ None → IsFine (life_changed c s change subject)
+  fine-life_changed change subject unrefused =
+      let path = changed_path c s change subject in
+      -- there is one; its state allows it; it is of the kind; its rule allows it
+      let known = unrefused-each (change_refusals c s change subject) unrefused in
+      let may = not-false (allowed c s path (change_bit change)) known.1.1.1.0 in
+      record {
+        card = proper-with_life_at c path (changed_life c s change subject)
+            (allowed-identifier path (change_bit change) may) proper;
+        response = short-status DONE (lit< tt);
+      }
+
+  pub fine-card_terminated : IsFine (card_terminated c s)
+  fine-card_terminated = record {
+    card = record { files = proper.files; identifiers = proper.identifiers; pins = proper.pins };
+    response = short-status DONE (lit< tt);
+  }

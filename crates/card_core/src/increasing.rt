@@ -1,0 +1,140 @@
+//! INCREASE (ETSI TS 102 221, 11.1.8).
+ghost use Rattle.std.specs.Prelude.{◌≡◌, ◌≤◌, ◌+◌, ◌++◌, ◌||◌, ◌⊎◌, nat_lt, [], length, None, IfOk, OnOk};
+ghost use Rattle.std.specs.Result.{result_err};
+ghost use Rattle.undo_journal.specs.Calls.{OnlyReads};
+ghost use Rattle.undo_journal.specs.Memory.{committed, IsReady, Reports};
+ghost use Rattle.undo_journal.specs.Spending.{WritesAtMost};
+ghost use Rattle.apdu_core.specs.Requests.{increase as increasing};
+ghost use Rattle.ef_body.specs.declared.layout.TheConstants.{RECORD_WRITES};
+ghost use Rattle.ef_body.specs.Bodies.{cyclic_records, IsCyclic};
+ghost use Rattle.ef_body.specs.Changes.{Increases};
+ghost use Rattle.ef_body.specs.Numbers.{spelled};
+ghost use Rattle.ef_body.specs.Refusals.{raised_number, unraised};
+ghost use Rattle.card_core.specs.Served.{Serves};
+ghost use Rattle.card_core.specs.Standing.{IsCard};
+ghost use Rattle.card_core.specs.Working.{space_in, table_in, IsCurrent};
+
+use crate::current::Current;
+use crate::named::{Need, Structure};
+use crate::record_body::{RecordBytes, unrefused};
+use crate::records::{find_records, hand};
+use crate::select::{asks_less, right_length};
+use apdu_core::{Answer, Sw, Target};
+use card_rules::AccessBit;
+use ef_body::{BodyErr, Cyclic};
+use undo_journal::{Board, Store, StoreErr};
+
+/// What INCREASE needs of its file.
+const INCREASING: Need = Need {
+    structure: Structure::Cyclic,
+    bit: AccessBit::Update,
+};
+
+/// INCREASE: the sum of the newest record of the current cyclic file and the sent number is the new record 1, which is the
+/// current one then. The new record, and then what was sent, go into `text`, and the status word is the result.
+pub(crate) fn increase<B: Board>(
+    store: &mut Store<B>,
+    current: &mut Current,
+    amount: &[u8],
+    expected: Option<u8>,
+    text: &mut Answer,
+) -> Result<Sw, StoreErr>
+    requires ready { IsReady store.old }
+    requires card { IsCard (committed store.old) }
+    requires current { IsCurrent (table_in store.old) current.old }
+    requires few { length amount.now ≤ 255 }
+    requires empty { text.old.items ≡ [] }
+    ensures serves { Serves (increasing amount.now expected) store.old current.old store.new current.new text.new.items result }
+    ensures space { OnOk result (space_in store.new ≡ space_in store.old) }
+{
+    let file = match find_records(store, current, Target::Current, INCREASING)? {
+        Ok(file) => file,
+        Err(refusal) => return Ok(refusal),
+    };
+    let body = file.body.cyclic();
+    if is_too_long(body, amount) {
+        return Ok(Sw::WRONG_LENGTH);
+    }
+    let mut sum = RecordBytes::new();
+    let refused = raised(body, store, amount, &mut sum)?;
+    match refused {
+        Some(refusal) => return Ok(refusal),
+        None => {}
+    }
+    let found = answer_of(&sum, amount);
+    if asks_less(expected, &found) {
+        return Ok(right_length(&found));
+    }
+    put_sum(body, store, amount, &mut sum)?;
+    hand(expected, &found, text);
+    *current = current.pointing(Target::Current, file.number, Some(1));
+    Ok(Sw::DONE)
+}
+
+/// Puts the new record into the buffer, in place of what stood there, or answers what refuses it.
+fn raised<B: Board>(
+    body: Cyclic,
+    store: &mut Store<B>,
+    amount: &[u8],
+    sum: &mut RecordBytes,
+) -> Result<Option<Sw>, StoreErr>
+    requires ready { IsReady store.old }
+    requires body { IsCyclic (committed store.old) body }
+    requires sent { length amount.now ≤ body.record_length }
+    ensures refusal { IfOk result (λ refusal. unraised body.record_length (cyclic_records (committed store.old) body)
+        amount.now ≡ refusal) }
+    ensures bytes { IfOk result (λ refusal. refusal ≡ None → sum.new.items
+        ≡ spelled body.record_length (raised_number (cyclic_records (committed store.old) body) amount.now)) }
+    ensures ready { OnOk result (IsReady store.new) }
+    ensures reads { OnlyReads store.old store.new }
+    ensures tells { store.new.failed ≡ result_err result }
+{
+    match body.sum(store, amount, sum) {
+        Ok(()) => Ok(None),
+        Err(BodyErr::Refused(refusal)) => Ok(Some(refusal)),
+        Err(BodyErr::Store(e)) => Err(e),
+    }
+}
+
+/// Stores the new record in front, where nothing refuses it, and drops the oldest, in one transaction.
+fn put_sum<B: Board>(
+    body: Cyclic,
+    store: &mut Store<B>,
+    amount: &[u8],
+    sum: &mut RecordBytes,
+) -> Result<(), StoreErr>
+    requires ready { IsReady store.old }
+    requires body { IsCyclic (committed store.old) body }
+    requires sent { length amount.now ≤ body.record_length }
+    requires free { unraised body.record_length (cyclic_records (committed store.old) body) amount.now ≡ None }
+    ensures any_exit { (committed store.new ≡ committed store.old)
+        ⊎ Increases (committed store.old) body amount.now (committed store.new) }
+    ensures done { OnOk result (Increases (committed store.old) body amount.now (committed store.new)) }
+    ensures ready { OnOk result (IsReady store.new) }
+    ensures reports { Reports store.old store.new }
+    ensures tells { store.new.failed ≡ result_err result }
+    ensures writes { WritesAtMost RECORD_WRITES store.old.facts store.new.facts }
+{
+    unrefused(body.increase(store, amount, sum))
+}
+
+/// What INCREASE answers: the new record, and then what was sent.
+fn answer_of(sum: &[u8], amount: &[u8]) -> RecordBytes
+    requires { length sum.now + length amount.now ≤ 256 }
+    ensures { result.items ≡ sum.now ++ amount.now }
+{
+    let mut found = RecordBytes::new();
+    found.try_extend_from_slice(sum).unwrap();
+    found.try_extend_from_slice(amount).unwrap();
+    found
+}
+
+/// More bytes than a record has, or an answer of more than 256 bytes.
+fn is_too_long(body: Cyclic, amount: &[u8]) -> bool
+    requires { length amount.now ≤ 255 }
+    ensures { result ≡ (nat_lt body.record_length (length amount.now)
+        || nat_lt 256 (body.record_length + length amount.now)) }
+{
+    let long = usize::from(body.record_length);
+    long < amount.len() || 256 < long + amount.len()
+}

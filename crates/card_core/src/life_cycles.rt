@@ -1,0 +1,230 @@
+//! Commands on life cycles: ACTIVATE FILE, DEACTIVATE FILE, TERMINATE DF, TERMINATE EF and TERMINATE CARD USAGE
+//! (ISO/IEC 7816-9).
+ghost use Rattle.std.specs.Prelude.{◌≡◌, [], Some, option_map, IfOk, IfSome, OnOk, MatchResult};
+ghost use Rattle.std.specs.Result.{result_err};
+ghost use Rattle.undo_journal.specs.Calls.{OnlyReads};
+ghost use Rattle.undo_journal.specs.Memory.{committed, IsReady};
+ghost use Rattle.apdu_core.specs.Requests.{change_life_cycle as changing, terminate_card_usage as terminating};
+ghost use Rattle.file_tree.specs.Table.{path_of, IsUsed};
+ghost use Rattle.card_core.specs.Changing.{change_at, changed_by, current_changed, is_for_kind, IsChanged};
+ghost use Rattle.card_core.specs.LifeCycles.{change_bit, change_refusals, changed_file, command_of, no_subject};
+ghost use Rattle.card_core.specs.Outcomes.{refused_by};
+ghost use Rattle.card_core.specs.Served.{Serves};
+ghost use Rattle.card_core.specs.Standing.{IsCard};
+ghost use Rattle.card_core.specs.Working.{card_in, session_in, space_in, table_in, IsCurrent};
+
+use crate::current::Current;
+use apdu_core::{LifeCycleChange, Subject, Sw};
+use card_rules::{AccessBit, LifeCycle, LifeCycleCommand};
+use file_tree::{
+    Entry, is_allowed, next_life_cycle, read_entry, select, set_life_cycle, terminate_card,
+};
+use undo_journal::{Board, Store, StoreErr};
+
+/// A file whose life cycle a command changes: the number of its entry, the entry, and the state after the change.
+#[derive(Clone, Copy)]
+pub(crate) struct Changed {
+    pub number: u8,
+    pub entry: Entry,
+    pub life: LifeCycle,
+}
+
+/// ACTIVATE FILE, DEACTIVATE FILE, TERMINATE DF and TERMINATE EF: the file is in the state that the command brings it into, by
+/// one transaction, and it becomes current anew. Where it is in this state already nothing is written. The status word is the
+/// result.
+pub(crate) fn change_life_cycle<B: Board>(
+    store: &mut Store<B>,
+    current: &mut Current,
+    change: LifeCycleChange,
+    subject: Subject,
+) -> Result<Sw, StoreErr>
+    requires ready { IsReady store.old }
+    requires card { IsCard (committed store.old) }
+    requires current { IsCurrent (table_in store.old) current.old }
+    ensures serves { Serves (changing change subject) store.old current.old store.new current.new [] result }
+    ensures space { OnOk result (space_in store.new ≡ space_in store.old) }
+{
+    let changed = match find_change(store, current, change, subject)? {
+        Ok(changed) => changed,
+        Err(refusal) => return Ok(refusal),
+    };
+    set_life_cycle(store, changed.number, changed.life)?;
+    *current = current.at(changed.number, &changed.entry);
+    Ok(Sw::DONE)
+}
+
+/// TERMINATE CARD USAGE: the use of the card ends, by one transaction, where the rule of the master file allows it. The status
+/// word is the result.
+pub(crate) fn terminate_card_usage<B: Board>(
+    store: &mut Store<B>,
+    current: &mut Current,
+) -> Result<Sw, StoreErr>
+    requires ready { IsReady store.old }
+    requires card { IsCard (committed store.old) }
+    requires current { IsCurrent (table_in store.old) current.old }
+    ensures serves { Serves (terminating) store.old current.old store.new current.new [] result }
+    ensures space { OnOk result (space_in store.new ≡ space_in store.old) }
+{
+    if !is_allowed(store, 0, AccessBit::Terminate, &current.verified())? {
+        return Ok(Sw::ACCESS_DENIED);
+    }
+    terminate_card(store)?;
+    Ok(Sw::DONE)
+}
+
+/// The file whose life cycle a command changes, or else the refusal: there is no such file; a file above it is deactivated or
+/// terminated, or its own state doesn't allow the change; it isn't of the kind that the command is for; its rule doesn't allow
+/// the change.
+#[tactic(auto, using(undo_journal::specs::laws::Calls::reads_then))]
+fn find_change<B: Board>(
+    store: &mut Store<B>,
+    current: &Current,
+    change: LifeCycleChange,
+    subject: Subject,
+) -> Result<Result<Changed, Sw>, StoreErr>
+    requires ready { IsReady store.old }
+    requires card { IsCard (committed store.old) }
+    requires current { IsCurrent (table_in store.old) current.now }
+    ensures found { IfOk result (λ answer. MatchResult answer
+        (λ changed. IsChanged (committed store.old) current.now change subject changed)
+        (λ refusal. refused_by (change_refusals (card_in store.old) (session_in store.old current.now) change subject)
+        ≡ Some refusal)) }
+    ensures ready { OnOk result (IsReady store.new) }
+    ensures reads { OnlyReads store.old store.new }
+    ensures tells { store.new.failed ≡ result_err result }
+{
+    let Some(number) = find_changed(store, current, change, subject)? else {
+        return Ok(Err(no_subject(subject)));
+    };
+    read_change(store, current, change, number)
+}
+
+/// What a command on life cycles finds of the file of a used entry: the change, or the refusal by its life cycle, its kind or
+/// its rule.
+#[tactic(auto, using(undo_journal::specs::laws::Calls::reads_then))]
+fn read_change<B: Board>(
+    store: &mut Store<B>,
+    current: &Current,
+    change: LifeCycleChange,
+    number: u8,
+) -> Result<Result<Changed, Sw>, StoreErr>
+    requires ready { IsReady store.old }
+    requires card { IsCard (committed store.old) }
+    requires used { IsUsed (table_in store.old) number }
+    ensures found { IfOk result (λ answer. answer ≡ change_at (committed store.old) current.now change number) }
+    ensures ready { OnOk result (IsReady store.new) }
+    ensures reads { OnlyReads store.old store.new }
+    ensures tells { store.new.failed ≡ result_err result }
+{
+    let next = next_life_cycle(store, number, command_of(change))?;
+    let allowed = is_allowed(store, number, bit_of(change), &current.verified())?;
+    let entry = read_entry(store, number)?;
+    Ok(changed_by(change, number, entry, next, allowed))
+}
+
+/// The change, or what refuses it: no state after it; a file of another kind; a rule that doesn't allow it.
+fn changed_by(
+    change: LifeCycleChange,
+    number: u8,
+    entry: Entry,
+    next: Option<LifeCycle>,
+    allowed: bool,
+) -> Result<Changed, Sw>
+    ensures { result ≡ changed_by change number entry next allowed }
+{
+    let Some(life) = next else {
+        return Err(Sw::CONDITIONS_NOT_SATISFIED);
+    };
+    if !is_for(change, entry.kind) {
+        return Err(Sw::WRONG_STRUCTURE);
+    }
+    if !allowed {
+        return Err(Sw::ACCESS_DENIED);
+    }
+    Ok(Changed {
+        number,
+        entry,
+        life,
+    })
+}
+
+/// The entry of the file that a command on life cycles is about.
+#[tactic(auto, using(undo_journal::specs::laws::Calls::reads_then))]
+fn find_changed<B: Board>(
+    store: &mut Store<B>,
+    current: &Current,
+    change: LifeCycleChange,
+    subject: Subject,
+) -> Result<Option<u8>, StoreErr>
+    requires ready { IsReady store.old }
+    requires card { IsCard (committed store.old) }
+    requires current { IsCurrent (table_in store.old) current.now }
+    ensures found { IfOk result (λ found. changed_file (card_in store.old).tree (session_in store.old current.now) change subject
+        ≡ option_map (path_of (table_in store.old)) found) }
+    ensures used { IfOk result (λ found. IfSome found (IsUsed (table_in store.old))) }
+    ensures ready { OnOk result (IsReady store.new) }
+    ensures reads { OnlyReads store.old store.new }
+    ensures tells { store.new.failed ≡ result_err result }
+{
+    match subject {
+        Subject::Current => Ok(current_changed(current, change)),
+        Subject::Identifier(identifier) => select(store, current.df, identifier),
+    }
+}
+
+/// The entry of the file that a command is about where it names none.
+fn current_changed(current: &Current, change: LifeCycleChange) -> Option<u8>
+    ensures { result ≡ current_changed current.now change }
+{
+    match change {
+        LifeCycleChange::Activate | LifeCycleChange::Deactivate => {
+            Some(current.ef.unwrap_or(current.df))
+        }
+        LifeCycleChange::TerminateDf => Some(current.df),
+        LifeCycleChange::TerminateEf => current.ef,
+    }
+}
+
+/// The status word where there is no file that a command is about.
+fn no_subject(subject: Subject) -> Sw
+    ensures { result ≡ no_subject subject }
+{
+    match subject {
+        Subject::Current => Sw::NO_CURRENT_EF,
+        Subject::Identifier(_) => Sw::FILE_NOT_FOUND,
+    }
+}
+
+/// The row of the table of states that a command has.
+fn command_of(change: LifeCycleChange) -> LifeCycleCommand
+    ensures { result ≡ command_of change }
+{
+    match change {
+        LifeCycleChange::Activate => LifeCycleCommand::Activate,
+        LifeCycleChange::Deactivate => LifeCycleCommand::Deactivate,
+        LifeCycleChange::TerminateDf | LifeCycleChange::TerminateEf => LifeCycleCommand::Terminate,
+    }
+}
+
+/// What the file's rule must allow.
+fn bit_of(change: LifeCycleChange) -> AccessBit
+    ensures { result ≡ change_bit change }
+{
+    match change {
+        LifeCycleChange::Activate => AccessBit::Activate,
+        LifeCycleChange::Deactivate => AccessBit::Deactivate,
+        LifeCycleChange::TerminateDf | LifeCycleChange::TerminateEf => AccessBit::Terminate,
+    }
+}
+
+/// A command is for entries of this kind: TERMINATE DF for dedicated files, TERMINATE EF for elementary files, the others for
+/// all.
+fn is_for(change: LifeCycleChange, kind: u8) -> bool
+    ensures { result ≡ is_for_kind change kind }
+{
+    match change {
+        LifeCycleChange::Activate | LifeCycleChange::Deactivate => true,
+        LifeCycleChange::TerminateDf => kind == 1,
+        LifeCycleChange::TerminateEf => kind != 1,
+    }
+}

@@ -1,0 +1,165 @@
+//! The elementary file whose contents a command is for (ISO/IEC 7816-4, 7.3.1), and what refuses the command by that file.
+ghost use Rattle.std.specs.Prelude.{◌≡◌, Some, option_map, IfOk, IfSome, OnOk, MatchResult};
+ghost use Rattle.std.specs.Result.{result_err};
+ghost use Rattle.undo_journal.specs.Calls.{OnlyReads};
+ghost use Rattle.undo_journal.specs.Memory.{committed, IsReady};
+ghost use Rattle.apdu_core.specs.Ranges.{IsTarget};
+ghost use Rattle.file_tree.specs.States.{is_barred as is_barred_at};
+ghost use Rattle.file_tree.specs.Table.{path_of, IsUsed};
+ghost use Rattle.card_core.specs.Elementary.{file_refusals, missing as missing_status};
+ghost use Rattle.card_core.specs.Guards.{allowed};
+ghost use Rattle.card_core.specs.Outcomes.{refused_by};
+ghost use Rattle.card_core.specs.Reaching.{target_of};
+ghost use Rattle.card_core.specs.Standing.{IsCard};
+ghost use Rattle.card_core.specs.Working.{card_in, file_refusal, fits, fits_kind, session_in, table_in, IsCurrent, IsElementary, IsNamed};
+
+use crate::current::Current;
+use apdu_core::{Sw, Target};
+use card_rules::AccessBit;
+use file_tree::{Entry, find_short, is_allowed, is_barred, read_entry};
+use undo_journal::{Board, Store, StoreErr};
+
+/// The structures that a command is for.
+#[derive(Clone, Copy, PartialEq, Eq)]
+pub(crate) enum Structure {
+    /// Bytes.
+    Bytes,
+    /// Records, in whatever order.
+    Records,
+    /// Records in the order of their numbers.
+    Linear,
+    /// Records, the newest first.
+    Cyclic,
+}
+
+/// What a command needs of the file whose contents it is for: a structure, and what the rule of the file must allow.
+#[derive(Clone, Copy)]
+pub(crate) struct Need {
+    pub structure: Structure,
+    pub bit: AccessBit,
+}
+
+/// An elementary file: the number of its entry, and the entry.
+#[derive(Clone, Copy)]
+pub(crate) struct Named {
+    pub number: u8,
+    pub entry: Entry,
+}
+
+/// The file that a command on contents names, or else the refusal: none is named; it is barred; its structure isn't one that the
+/// command is for; its rule doesn't allow the command.
+#[tactic(auto, using(undo_journal::specs::laws::Calls::reads_then))]
+pub(crate) fn find_file<B: Board>(
+    store: &mut Store<B>,
+    current: &Current,
+    target: Target,
+    need: Need,
+) -> Result<Result<Named, Sw>, StoreErr>
+    requires ready { IsReady store.old }
+    requires card { IsCard (committed store.old) }
+    requires current { IsCurrent (table_in store.old) current.now }
+    requires target { IsTarget target }
+    ensures found { IfOk result (λ answer. MatchResult answer
+        (λ file. IsNamed (committed store.old) current.now target need file.number file.entry)
+        (λ refusal. refused_by (file_refusals (card_in store.old) (session_in store.old current.now) target
+        (fits need.structure) need.bit) ≡ Some refusal)) }
+    ensures ready { OnOk result (IsReady store.new) }
+    ensures reads { OnlyReads store.old store.new }
+    ensures tells { store.new.failed ≡ result_err result }
+{
+    let Some(number) = find_target(store, current, target)? else {
+        return Ok(Err(missing(target)));
+    };
+    let entry = read_entry(store, number)?;
+    match refusal_of(store, &current, number, entry.kind, need)? {
+        Some(refusal) => Ok(Err(refusal)),
+        None => Ok(Ok(Named { number, entry })),
+    }
+}
+
+/// What refuses a command by the file that it names, of an entry of this kind.
+#[tactic(auto, using(undo_journal::specs::laws::Calls::reads_then))]
+fn refusal_of<B: Board>(
+    store: &mut Store<B>,
+    current: &Current,
+    number: u8,
+    kind: u8,
+    need: Need,
+) -> Result<Option<Sw>, StoreErr>
+    requires ready { IsReady store.old }
+    requires card { IsCard (committed store.old) }
+    requires current { IsCurrent (table_in store.old) current.now }
+    requires used { IsUsed (table_in store.old) number }
+    ensures found { IfOk result (λ refusal. refusal ≡ file_refusal
+        (is_barred_at (card_in store.old).tree (path_of (table_in store.old) number)) (fits_kind need.structure kind)
+        (allowed (card_in store.old) (session_in store.old current.now) (path_of (table_in store.old) number) need.bit)) }
+    ensures ready { OnOk result (IsReady store.new) }
+    ensures reads { OnlyReads store.old store.new }
+    ensures tells { store.new.failed ≡ result_err result }
+{
+    let barred = is_barred(store, number)?;
+    let allowed = is_allowed(store, number, need.bit, &current.verified())?;
+    Ok(refusal_by(barred, need.structure.fits(kind), allowed))
+}
+
+/// The refusal of a command whose file may be barred, of a structure that the command is for, and allowed by its rule.
+pub(crate) fn refusal_by(barred: bool, fits: bool, allowed: bool) -> Option<Sw>
+    ensures { result ≡ file_refusal barred fits allowed }
+{
+    if barred {
+        Some(Sw::CONDITIONS_NOT_SATISFIED)
+    } else if !fits {
+        Some(Sw::WRONG_STRUCTURE)
+    } else if !allowed {
+        Some(Sw::ACCESS_DENIED)
+    } else {
+        None
+    }
+}
+
+impl Structure {
+    /// A file of an entry of this kind has this structure.
+    fn fits(self, kind: u8) -> bool
+        ensures { result ≡ fits_kind self kind }
+    {
+        match self {
+            Structure::Bytes => kind == 2,
+            Structure::Records => kind == 3 || kind == 4,
+            Structure::Linear => kind == 3,
+            Structure::Cyclic => kind == 4,
+        }
+    }
+}
+
+/// The entry of the elementary file that a command names.
+pub(crate) fn find_target<B: Board>(
+    store: &mut Store<B>,
+    current: &Current,
+    target: Target,
+) -> Result<Option<u8>, StoreErr>
+    requires ready { IsReady store.old }
+    requires card { IsCard (committed store.old) }
+    requires current { IsCurrent (table_in store.old) current.now }
+    requires target { IsTarget target }
+    ensures found { IfOk result (λ found. target_of (card_in store.old).tree (session_in store.old current.now) target
+        ≡ option_map (path_of (table_in store.old)) found) }
+    ensures child { IfOk result (λ found. IfSome found (IsElementary (table_in store.old) current.now.df)) }
+    ensures ready { OnOk result (IsReady store.new) }
+    ensures reads { OnlyReads store.old store.new }
+    ensures tells { store.new.failed ≡ result_err result }
+{
+    match target {
+        Target::Current => Ok(current.ef),
+        Target::Short(short) => find_short(store, current.df, short),
+    }
+}
+
+/// The status word where no elementary file is named.
+pub(crate) fn missing(target: Target) -> Sw
+    ensures { result ≡ missing_status target }
+{
+    match target {
+        Target::Current => Sw::NO_CURRENT_EF,
+        Target::Short(_) => Sw::FILE_NOT_FOUND,
+    }
+}

@@ -1,0 +1,284 @@
+//! READ, UPDATE, APPEND and SEARCH RECORD (ISO/IEC 7816-4, 11.4).
+ghost use Rattle.std.specs.Prelude.{◌≡◌, ◌≢◌, ◌≤◌, ◌==◌, ◌&&◌, not, [], length, Some, IfOk, OnOk, MatchResult};
+ghost use Rattle.std.specs.Result.{result_err};
+ghost use Rattle.undo_journal.specs.Calls.{OnlyReads};
+ghost use Rattle.undo_journal.specs.Memory.{committed, IsReady};
+ghost use Rattle.apdu_core.specs.Ranges.{IsTarget};
+ghost use Rattle.apdu_core.specs.Requests.{append_record as appending, read_record as reading, search_record as searching};
+ghost use Rattle.card_rules.specs.declared.access_mode.AccessBit.TheVariants as AccessBit;
+ghost use Rattle.card_core.specs.declared.named.Structure.TheVariants as Structure;
+ghost use Rattle.card_core.specs.Outcomes.{refused_by};
+ghost use Rattle.apdu_core.specs.Requests.{update_record as updating};
+ghost use Rattle.card_core.specs.Elementary.{file_refusals};
+ghost use Rattle.card_core.specs.Standing.{IsCard};
+ghost use Rattle.card_core.specs.Served.{Serves};
+ghost use Rattle.card_core.specs.Working.{card_in, fits, session_in, space_in, table_in, IsCurrent, IsRecordFile};
+ghost use Rattle.card_core.specs.Lengths.{given};
+ghost use Rattle.card_core.specs.Records.{pointer_found, search_status, searching as searching_way};
+ghost use Rattle.card_core.specs.Working.{structure_replaced};
+
+use crate::current::Current;
+use crate::named::{Need, Structure, find_file};
+use crate::record_body::{RecordBody, RecordBytes, place_number, pointer_after};
+use crate::select::{asks_less, give, right_length};
+use apdu_core::{Answer, Direction as Way, RecordChoice, RecordPlace, Sw, Target};
+use card_rules::AccessBit;
+use ef_body::Direction;
+use undo_journal::{Board, Store, StoreErr};
+
+/// What READ RECORD and SEARCH RECORD need of their file, and what APPEND RECORD needs.
+const READING: Need = Need {
+    structure: Structure::Records,
+    bit: AccessBit::Read,
+};
+
+const APPENDING: Need = Need {
+    structure: Structure::Records,
+    bit: AccessBit::Append,
+};
+
+/// What UPDATE RECORD needs of its file: of a cyclic one it replaces the record before record 1 alone.
+fn replacing(choice: RecordChoice) -> Need
+    ensures structure { result.structure ≡ structure_replaced choice }
+    ensures bit { result.bit ≡ AccessBit.Update }
+{
+    let structure = match choice {
+        RecordChoice::Previous => Structure::Records,
+        RecordChoice::Next | RecordChoice::At(_) => Structure::Linear,
+    };
+    Need {
+        structure,
+        bit: AccessBit::Update,
+    }
+}
+
+/// An elementary file of records: the number of its entry, and its body.
+#[derive(Clone, Copy)]
+pub(crate) struct RecordFile {
+    pub number: u8,
+    pub body: RecordBody,
+}
+
+/// The way of a search, as bodies know it.
+fn way_of(direction: Way) -> Direction
+    ensures { result ≡ searching_way direction }
+{
+    match direction {
+        Way::Forward => Direction::Forward,
+        Way::Backward => Direction::Backward,
+    }
+}
+
+/// The file that a command on records names, or else what refuses the command by its file.
+pub(crate) fn find_records<B: Board>(
+    store: &mut Store<B>,
+    current: &Current,
+    target: Target,
+    need: Need,
+) -> Result<Result<RecordFile, Sw>, StoreErr>
+    requires ready { IsReady store.old }
+    requires card { IsCard (committed store.old) }
+    requires current { IsCurrent (table_in store.old) current.now }
+    requires target { IsTarget target }
+    requires records { need.structure ≢ Structure.Bytes }
+    ensures found { IfOk result (λ answer. MatchResult answer
+        (λ file. IsRecordFile (committed store.old) current.now target need file.number file.body)
+        (λ refusal. refused_by (file_refusals (card_in store.old) (session_in store.old current.now) target
+        (fits need.structure) need.bit) ≡ Some refusal)) }
+    ensures ready { OnOk result (IsReady store.new) }
+    ensures reads { OnlyReads store.old store.new }
+    ensures tells { store.new.failed ≡ result_err result }
+{
+    match find_file(store, current, target, need)? {
+        Ok(file) => {
+            let body = RecordBody::of(file.number, &file.entry);
+            Ok(Ok(RecordFile {
+                number: file.number,
+                body,
+            }))
+        }
+        Err(refusal) => Ok(Err(refusal)),
+    }
+}
+
+/// READ RECORD: the record goes into `text`, and the status word is the result. Le is 00 or the length of a record.
+pub(crate) fn read_record<B: Board>(
+    store: &mut Store<B>,
+    current: &mut Current,
+    target: Target,
+    choice: RecordChoice,
+    expected: u8,
+    text: &mut Answer,
+) -> Result<Sw, StoreErr>
+    requires ready { IsReady store.old }
+    requires card { IsCard (committed store.old) }
+    requires current { IsCurrent (table_in store.old) current.old }
+    requires target { IsTarget target }
+    requires empty { text.old.items ≡ [] }
+    ensures serves { Serves (reading target choice expected) store.old current.old store.new current.new text.new.items result }
+    ensures space { OnOk result (space_in store.new ≡ space_in store.old) }
+{
+    let file = match find_records(store, current, target, READING)? {
+        Ok(file) => file,
+        Err(refusal) => return Ok(refusal),
+    };
+    let pointer = current.pointer_at(target);
+    let number = file.body.chosen(pointer, choice);
+    if !file.body.has_record(number) {
+        return Ok(Sw::RECORD_NOT_FOUND);
+    }
+    let mut bytes = RecordBytes::new();
+    file.body.read(store, number, &mut bytes)?;
+    if is_other_length(expected, &bytes) {
+        return Ok(right_length(&bytes));
+    }
+    hand(Some(expected), &bytes, text);
+    *current = current.pointing(target, file.number, pointer_after(pointer, choice, number));
+    Ok(Sw::DONE)
+}
+
+/// UPDATE RECORD: the bytes take the place of a record, in one transaction. Of a cyclic file the oldest record alone can be
+/// replaced (mode previous), and the new one becomes record 1 and the current one.
+pub(crate) fn update_record<B: Board>(
+    store: &mut Store<B>,
+    current: &mut Current,
+    target: Target,
+    choice: RecordChoice,
+    bytes: &[u8],
+) -> Result<Sw, StoreErr>
+    requires ready { IsReady store.old }
+    requires card { IsCard (committed store.old) }
+    requires current { IsCurrent (table_in store.old) current.old }
+    requires target { IsTarget target }
+    requires some { 1 ≤ length bytes.now }
+    requires few { length bytes.now ≤ 255 }
+    ensures serves { Serves (updating target choice bytes.now) store.old current.old store.new current.new [] result }
+    ensures space { OnOk result (space_in store.new ≡ space_in store.old) }
+{
+    let file = match find_records(store, current, target, replacing(choice))? {
+        Ok(file) => file,
+        Err(refusal) => return Ok(refusal),
+    };
+    let pointer = current.pointer_at(target);
+    let number = file.body.replaced(pointer, choice);
+    if !file.body.has_record(number) {
+        return Ok(Sw::RECORD_NOT_FOUND);
+    }
+    if !file.body.takes(bytes) {
+        return Ok(Sw::WRONG_LENGTH);
+    }
+    file.body.update(store, number, bytes)?;
+    let after = file.body.pointer_replaced(pointer, choice, number);
+    *current = current.pointing(target, file.number, after);
+    Ok(Sw::DONE)
+}
+
+/// APPEND RECORD: the bytes are a new record, the last of a linear file, the first of a cyclic one, in one transaction. It
+/// becomes the current record.
+pub(crate) fn append_record<B: Board>(
+    store: &mut Store<B>,
+    current: &mut Current,
+    target: Target,
+    bytes: &[u8],
+) -> Result<Sw, StoreErr>
+    requires ready { IsReady store.old }
+    requires card { IsCard (committed store.old) }
+    requires current { IsCurrent (table_in store.old) current.old }
+    requires target { IsTarget target }
+    requires some { 1 ≤ length bytes.now }
+    requires few { length bytes.now ≤ 255 }
+    ensures serves { Serves (appending target bytes.now) store.old current.old store.new current.new [] result }
+    ensures space { OnOk result (space_in store.new ≡ space_in store.old) }
+{
+    let file = match find_records(store, current, target, APPENDING)? {
+        Ok(file) => file,
+        Err(refusal) => return Ok(refusal),
+    };
+    if file.body.is_full() {
+        return Ok(Sw::NO_ROOM);
+    }
+    if !file.body.takes(bytes) {
+        return Ok(Sw::WRONG_LENGTH);
+    }
+    file.body.append(store, bytes)?;
+    let number = file.body.added();
+    *current = current.pointing(target, file.number, Some(number));
+    Ok(Sw::DONE)
+}
+
+/// SEARCH RECORD: the numbers of the records that hold the text go into `answer`, and the first of them becomes the current
+/// record. The status word is the result.
+pub(crate) fn search_record<B: Board>(
+    store: &mut Store<B>,
+    current: &mut Current,
+    target: Target,
+    first: RecordPlace,
+    direction: Way,
+    text: &[u8],
+    expected: Option<u8>,
+    answer: &mut Answer,
+) -> Result<Sw, StoreErr>
+    requires ready { IsReady store.old }
+    requires card { IsCard (committed store.old) }
+    requires current { IsCurrent (table_in store.old) current.old }
+    requires target { IsTarget target }
+    requires few { length text.now ≤ 255 }
+    requires empty { answer.old.items ≡ [] }
+    ensures serves { Serves (searching target first direction text.now expected) store.old current.old store.new current.new answer.new.items result }
+    ensures space { OnOk result (space_in store.new ≡ space_in store.old) }
+{
+    let file = match find_records(store, current, target, READING)? {
+        Ok(file) => file,
+        Err(refusal) => return Ok(refusal),
+    };
+    let pointer = current.pointer_at(target);
+    let number = place_number(first, pointer);
+    if !file.body.has_record(number) {
+        return Ok(Sw::RECORD_NOT_FOUND);
+    }
+    let mut numbers = RecordBytes::new();
+    file.body
+        .search(store, way_of(direction), number, text, &mut numbers)?;
+    if asks_less(expected, &numbers) {
+        return Ok(right_length(&numbers));
+    }
+    hand(expected, &numbers, answer);
+    *current = current.pointing(target, file.number, first_of(&numbers, pointer));
+    Ok(status_of(&numbers))
+}
+
+/// Whether Le is neither 00 nor the length of a record.
+fn is_other_length(expected: u8, bytes: &RecordBytes) -> bool
+    ensures { result ≡ (not (expected == 0) && not (expected == length bytes.now.items)) }
+{
+    expected != 0 && usize::from(expected) != bytes.len()
+}
+
+/// Puts what was found into an empty buffer, if there is an Le.
+pub(crate) fn hand(expected: Option<u8>, found: &RecordBytes, text: &mut Answer)
+    requires empty { text.old.items ≡ [] }
+    ensures given { text.new.items ≡ given expected found.now.items }
+    ensures room { length text.new.items ≤ 256 }
+{
+    give(expected, found, text);
+}
+
+/// The record pointer after a search that found these: at the first of them, or where it was.
+fn first_of(numbers: &RecordBytes, pointer: Option<u8>) -> Option<u8>
+    ensures { result ≡ pointer_found pointer numbers.now.items }
+{
+    match numbers.first() {
+        Some(number) => Some(*number),
+        None => pointer,
+    }
+}
+
+/// The status word of a search that found these.
+fn status_of(numbers: &RecordBytes) -> Sw
+    ensures { result ≡ search_status numbers.now.items }
+{
+    match numbers.first() {
+        Some(_) => Sw::DONE,
+        None => Sw::END_REACHED,
+    }
+}
