@@ -2,6 +2,8 @@
 use Rattle.std.specs.Prelude.{◌≡◌, ℕ, List, []}
 use Rattle.nvm_board.specs.Facts.{Steady, GoesDark, Fails}
 use Rattle.t1_link.specs.CardTable.{Link, link_step, Taken, Reaction, replies, runs, answers, bytes_of}
+use Rattle.apdu_core.specs.Asked.{asked}
+use Rattle.card_core.specs.Comparing.{comparisons, ComparesAsked, ComparesNothing}
 use Rattle.card_core.specs.declared.card_state.CardState.TheVariants.{Working, Failed, Dark}
 use Rattle.card_core.specs.Cards.{Card}
 use Rattle.card_core.specs.Sessions.{Session, fresh_session}
@@ -51,6 +53,13 @@ IsBlockStage old (runs command) card = IsStage (card_found old.card) old.card.se
 abbrev pub BlockChangesNothing : Powered → Reaction → Type 0
 BlockChangesNothing old (replies block) = Unit {0}
 BlockChangesNothing old (runs command) = ChangesNothing (card_found old.card) old.card.session command
+
+-- what a block compares: what the command that it runs calls for, and else nothing
+abbrev pub BlockCompares : Powered → Reaction → Powered → Type 0
+BlockCompares old (replies block) new = ComparesNothing (comparisons old.card.facts) (comparisons new.card.facts)
+BlockCompares old (runs command) new =
+    ComparesAsked (asked command) (card_found old.card) (comparisons old.card.facts) (card_found new.card)
+    (comparisons new.card.facts)
 
 -- The reply is the link's, over one step of the tree machine where a command is to run: card, session and link go on as
 -- these do, and the board had neither cut nor fault.

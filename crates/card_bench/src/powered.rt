@@ -1,5 +1,5 @@
 //! A card behind its end of the link.
-ghost use Rattle.std.specs.Prelude.{◌≡◌, ◌≢◌, ◌⊎◌, ◌-◌, ◌≤◌, Some, true, [], IsOk, IsErr, OnOk, OnErr, IfOk, IfErr};
+ghost use Rattle.std.specs.Prelude.{◌≡◌, ◌≢◌, ◌⊎◌, ◌+◌, ◌-◌, ◌≤◌, Some, true, [], IsOk, IsErr, OnOk, OnErr, IfOk, IfErr};
 ghost use Rattle.undo_journal.specs.Spending.{KeepsBoard, WritesAtMost, start_writes};
 ghost use Rattle.undo_journal.specs.Undo.{gate};
 ghost use Rattle.card_core.specs.declared.machine.TheConstants.{COMMAND_WRITES};
@@ -8,6 +8,7 @@ ghost use Rattle.card_core.specs.Running.{Starts, StopsBy, card_found};
 ghost use Rattle.file_tree.specs.Spaces.{free_space};
 ghost use Rattle.t1_link.specs.CardTable.{link_step, fresh};
 ghost use Rattle.card_bench.specs.CardBlocks.{Replies, RepliesFailure, FailsAt, IsCutAt, IsBlockStage, IsRun, BlockChangesNothing};
+ghost use Rattle.card_bench.specs.CardBlocks.{BlockCompares};
 
 use card_core::{Answer, Card, CardState, FreeSpace, PowerLost, StartFault};
 use nvm_board::{Armed, Board, Faultless};
@@ -83,7 +84,9 @@ impl<B: Board> Powered<B> {
         // and each of its counts.
         ensures unrun { IsRun (link_step self.old.link got.now).reaction ⊎ (self.new.card ≡ self.old.card) }
         ensures idle { BlockChangesNothing self.old (link_step self.old.link got.now).reaction → KeepsBoard self.old.card.facts self.new.card.facts }
-        ensures writes { WritesAtMost COMMAND_WRITES self.old.card.facts self.new.card.facts }
+        ensures writes { self.new.card.facts.writes ≤ self.old.card.facts.writes + COMMAND_WRITES }
+        // A comparison costs a lasting try, and none is made but by a command on PINs that carries data.
+        ensures compares { BlockCompares self.old (link_step self.old.link got.now).reaction self.new }
     {
         out.clear();
         if let CardState::Dark = self.card.state() {
