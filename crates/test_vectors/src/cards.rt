@@ -8,16 +8,18 @@ use std::alloc::Global;
 use std::process::Abort;
 use std::test::Fail;
 
-fn start<B: Board + Drop>(board: B) -> Result<Card<B>, Fail> {
+/// A card that starts.
+pub fn start<B: Board + Drop>(board: B) -> Result<Card<B>, Fail> {
     Ok(Card::start(board).map_err(|(_, fault)| fault)?)
 }
 
-fn formatted<B: Board + Drop>(board: B) -> Result<B, Fail> {
+/// A board with the factory's memory.
+pub fn formatted<B: Board + Drop>(board: B) -> Result<B, Fail> {
     Ok(format(board).map_err(|(_, error)| error)?)
 }
 
-// Commands and their answers, in hexadecimal digits, in turn.
-fn assert_answers<B: Board>(
+/// Commands and their answers, in hexadecimal digits, in turn.
+pub fn assert_answers<B: Board>(
     rt: &impl Abort,
     alloc: Global,
     card: &mut Card<B>,
@@ -64,18 +66,22 @@ const SESSIONS: [&[(&str, &str)]; 8] = [
         ("00B0820001", "989000"),
         ("00B0000101", "109000"),
     ],
-    // UPDATE BINARY: the last byte; past the end; at the end; within three words.
+    // UPDATE BINARY, which the factory's file doesn't allow: the last byte; past the end; at the end; within three words.
     &[
-        ("00A4000C022FE2", "9000"),
+        ("00D682000101", "6982"),
+        (
+            "00E000001962178202412183026F058801288002000A8A01058C03030000",
+            "9000",
+        ),
         ("00D600090101", "9000"),
         ("00D60009020102", "6A84"),
         ("00D6000A0101", "6B00"),
-        ("00B0000800", "54019000"),
+        ("00B0000800", "FF019000"),
         ("00D600090176", "9000"),
         ("00D60001080102030405060708", "9000"),
-        ("00B000000A", "980102030405060708769000"),
+        ("00B000000A", "FF0102030405060708769000"),
     ],
-    &[("00D6820402AABB", "9000"), ("00B0000304", "03AABB069000")],
+    &[("00D6850402AABB", "9000"), ("00B0000304", "03AABB069000")],
     // CREATE FILE of each kind, each file current then, and its template: transparent, cyclic, linear with one record and
     // cyclic with none.
     &[
@@ -320,23 +326,26 @@ struct Cut {
 // The masks of a torn write of at most two words: none is new, all are, each alone.
 const MASKS: [u16; 4] = [0x0000, 0xFFFF, 0x0001, 0x0002];
 
-// UPDATE BINARY of eight bytes of the file from byte 1 on, which lie in three words: three device writes each, and the
-// commit. It is known by what READ BINARY then answers.
-const UPDATE: &str = "00D68201080102030405060708";
+// A file of ten bytes, and an UPDATE BINARY of eight of them from byte 1 on, which lie in three words: three device writes
+// each, and the commit. It is known by what READ BINARY then answers.
+const CREATE: &str = "00E000001962178202412183026F018801088002000A8A01058C03030000";
+
+const UPDATE: &str = "00D68101080102030405060708";
 
 const UPDATE_WRITES: u32 = 10;
 
-const READ: &str = "00B082000A";
+const READ: &str = "00B081000A";
 
-const BEFORE: &str = "981032547698103254769000";
+const BEFORE: &str = "FFFFFFFFFFFFFFFFFFFF9000";
 
-const AFTER: &str = "980102030405060708769000";
+const AFTER: &str = "FF0102030405060708FF9000";
 
 // The lit board after an update that is cut. From then on the card answers nothing.
 fn board_after(rt: &impl Abort, alloc: Global, cut: Cut) -> Result<CutBoard, Fail>
     requires { 1 ≤ cut.write }
 {
     let mut card = start(formatted(CutBoard::new(alloc)?)?)?;
+    assert_answers(rt, alloc, &mut card, &[(CREATE, "9000")])?;
     card.arm(cut.write, cut.mask);
     let mut answer = Answer::new();
     let update = bytes_of(alloc, UPDATE)?;

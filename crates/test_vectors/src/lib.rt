@@ -5,6 +5,10 @@
 #[cfg(test)]
 mod boards;
 #[cfg(test)]
+mod bodies;
+#[cfg(test)]
+mod card_commands;
+#[cfg(test)]
 mod cards;
 #[cfg(test)]
 mod commands;
@@ -16,6 +20,12 @@ mod journal;
 mod link;
 #[cfg(test)]
 mod pins;
+#[cfg(test)]
+mod record_commands;
+#[cfg(test)]
+mod refusals;
+#[cfg(test)]
+mod rows;
 #[cfg(test)]
 mod rules;
 #[cfg(test)]

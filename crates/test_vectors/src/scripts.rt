@@ -30,7 +30,7 @@ fn outcome_of(alloc: Global, script: &[u8]) -> Outcome {
 }
 
 /// Runs a script, and compares what it prints and how it ends.
-fn check<R: Abort + AllocGlobal>(rt: &R, script: &[u8], printed: &[u8], status: u8) {
+pub fn check<R: Abort + AllocGlobal>(rt: &R, script: &[u8], printed: &[u8], status: u8) {
     let outcome = outcome_of(rt.alloc(), script);
     assert_eq!(rt; outcome.printed.as_slice(), printed);
     assert_eq!(rt; outcome.status, status);
@@ -50,50 +50,8 @@ fn first_path(rt: HostRuntime) {
 fn updates_at_the_end_of_the_file(rt: HostRuntime) {
     check(
         &rt,
-        b"on\napdu 00A4000C022FE2\napdu 00D600090101\napdu 00D60009020102\napdu 00D6000A0101\napdu 00B0000801\n",
-        b"atr 3B808131FE458B\n< 9000\n< 9000\n< 6A84\n< 6B00\n< 549000\n",
-        0,
-    );
-}
-
-// An update of one word makes four device writes: the pair, the gate, the word, and the gate again, which is the commit.
-#[test]
-fn update_is_cut_at_its_word(rt: HostRuntime) {
-    check(
-        &rt,
-        b"on\napdu 00A4000C022FE2\ncut 3 0001\napdu 00D600000401020304\napdu 00B0000004\non\napdu 00A4000C022FE2\napdu 00B0000004\n",
-        b"atr 3B808131FE458B\n< 9000\ndark\nmute\natr 3B808131FE458B\n< 9000\n< 981032549000\n",
-        0,
-    );
-}
-
-#[test]
-fn update_is_cut_before_its_commit(rt: HostRuntime) {
-    check(
-        &rt,
-        b"on\napdu 00A4000C022FE2\ncut 4 0000\napdu 00D600000401020304\napdu 00B0000004\non\napdu 00A4000C022FE2\napdu 00B0000004\n",
-        b"atr 3B808131FE458B\n< 9000\ndark\nmute\natr 3B808131FE458B\n< 9000\n< 981032549000\n",
-        0,
-    );
-}
-
-#[test]
-fn update_is_cut_after_its_commit(rt: HostRuntime) {
-    check(
-        &rt,
-        b"on\napdu 00A4000C022FE2\ncut 4 0001\napdu 00D600000401020304\napdu 00B0000004\non\napdu 00A4000C022FE2\napdu 00B0000004\n",
-        b"atr 3B808131FE458B\n< 9000\ndark\nmute\natr 3B808131FE458B\n< 9000\n< 010203049000\n",
-        0,
-    );
-}
-
-// An update of two words is cut at its second word; the next two starts are cut while they take it back.
-#[test]
-fn starts_are_cut_too(rt: HostRuntime) {
-    check(
-        &rt,
-        b"on\napdu 00A4000C022FE2\ncut 6 0001\napdu 00D60000080102030405060708\ncut 2 0000\non\ncut 3 0000\non\non\napdu 00A4000C022FE2\napdu 00B0000008\n",
-        b"atr 3B808131FE458B\n< 9000\ndark\ndark\ndark\natr 3B808131FE458B\n< 9000\n< 98103254769810329000\n",
+        b"on\napdu 00E000001962178202412183026F018801088002000A8A01058C03030000\napdu 00D600090101\napdu 00D60009020102\napdu 00D6000A0101\napdu 00B0000802\n",
+        b"atr 3B808131FE458B\n< 9000\n< 9000\n< 6A84\n< 6B00\n< FF019000\n",
         0,
     );
 }
@@ -641,7 +599,7 @@ fn narrow_writers(rt: HostRuntime) {
 fn block_is_cut(rt: HostRuntime) {
     check(
         &rt,
-        b"on\nblock 00000700A4000C022FE260\ncut 1 0000\nblock 00400600D6000001AA3B\napdu 00A4000C022FE2\non\napdu 00A4000C022FE2\n",
+        b"on\nblock 00001E00E000001962178202412183026F018801088002000A8A01058C0303000096\ncut 1 0000\nblock 00400600D6000001AA3B\napdu 00A4000C022FE2\non\napdu 00A4000C022FE2\n",
         b"atr 3B808131FE458B\n< 000002900092\ndark\nmute\natr 3B808131FE458B\n< 9000\n",
         0,
     );
