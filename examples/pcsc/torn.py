@@ -1,5 +1,6 @@
-# An update is torn, and the reader sees the card go. When it is back the bytes are the old ones, and the update succeeds.
-# Run over: tools/pcsc --cut 3 0001
+# An update is torn, and the reader sees the card go. When it is back the bytes are the old ones, and the update succeeds. The
+# file asks for PIN 1: to verify it makes two device writes, so that the third one of the update is the fifth.
+# Run over: tools/pcsc --cut 5 0001
 import time
 from smartcard.Exceptions import CardConnectionException, NoCardException
 from smartcard.System import readers
@@ -26,6 +27,7 @@ def insert():
 card = insert()
 ask(card, "00A4000C022FE2")
 ask(card, "00B000000A")
+ask(card, "002000010831323334FFFFFFFF")
 try:
     ask(card, "00D600000401020304")
 except CardConnectionException as error:
@@ -34,5 +36,7 @@ del card
 time.sleep(3)
 card = insert()
 ask(card, "00B082000A")
+ask(card, "00D68200040A0B0C0D")
+ask(card, "002000010831323334FFFFFFFF")
 ask(card, "00D68200040A0B0C0D")
 ask(card, "00B082000A")
