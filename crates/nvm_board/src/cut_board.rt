@@ -2,6 +2,7 @@
 ghost use Rattle.std.specs.Prelude.{◌≡◌, IfOk};
 ghost use Rattle.nvm_board.specs.Facts.{new_board};
 
+use crate::arming::{firing, nearer};
 use crate::board::{Arm, Armed, Board, DeviceErr, Faultless, Socket, WornOut};
 use crate::ram_board::RamBoard;
 use std::alloc::{AllocError, Global};
@@ -73,23 +74,13 @@ impl Board for CutBoard {
         ensures matches { (cut_facts self.new).matches ≡ (cut_facts self.old).matches }
         ensures arm { ArmAfter (address page first) words.now (cut_facts self.old) (cut_facts self.new) result }
     {
-        if self.ram.is_dark() {
-            return Err(DeviceErr::PowerLost);
-        }
-        let Some(arm) = self.arm else {
-            self.ram.write(page, first, words)?;
-            return Ok(());
-        };
-        if arm.whole_writes == 0 {
+        if let Some(mask) = firing(self.arm, self.ram.is_dark()) {
             self.arm = None;
-            self.ram.tear(page, first, words, arm.mask);
+            self.ram.tear(page, first, words, mask);
             return Err(DeviceErr::PowerLost);
         }
         self.ram.write(page, first, words)?;
-        self.arm = Some(Arm {
-            whole_writes: arm.whole_writes - 1,
-            mask: arm.mask,
-        });
+        self.arm = nearer(self.arm);
         Ok(())
     }
 

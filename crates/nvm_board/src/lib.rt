@@ -2,6 +2,7 @@
 //! comparer of secrets that counts. Boards in working memory stand for it.
 #![tactic(auto)]
 
+mod arming;
 mod board;
 mod cut_board;
 pub mod laws;

@@ -1,0 +1,35 @@
+//! When a cut that is set comes.
+ghost use Rattle.std.specs.Prelude.{◌≡◌, ◌+◌, ℕ, false, is_some, Some, None, IfSome};
+
+use crate::board::Arm;
+
+/// The mask of the cut, where the board is lit and its next write is the torn one.
+pub(crate) fn firing(arm: Option<Arm>, is_dark: bool) -> Option<u16>
+    ensures fires { IfSome result (λ mask. (is_dark ≡ false) × (arm ≡ Some record { whole_writes = 0; mask = mask })) }
+    ensures spared { result ≡ None → is_dark ≡ false → (mask : ℕ)
+        → ¬ (arm ≡ Some record { whole_writes = 0; mask = mask }) }
+{
+    let Some(arm) = arm else {
+        return None;
+    };
+    if is_dark || arm.whole_writes > 0 {
+        return None;
+    }
+    Some(arm.mask)
+}
+
+/// What is still to come of a cut after a whole write.
+pub(crate) fn nearer(arm: Option<Arm>) -> Option<Arm>
+    ensures none { arm ≡ None → result ≡ None }
+    ensures due { is_some result ≡ is_some arm }
+    ensures before { (left mask : ℕ) → arm ≡ Some record { whole_writes = left + 1; mask = mask }
+        → result ≡ Some record { whole_writes = left; mask = mask } }
+{
+    let Some(arm) = arm else {
+        return None;
+    };
+    Some(Arm {
+        whole_writes: arm.whole_writes.saturating_sub(1),
+        mask: arm.mask,
+    })
+}
