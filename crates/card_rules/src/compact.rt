@@ -12,7 +12,7 @@ use bitflags::Flags;
 use std::marker::Model;
 
 /// What a condition byte of a rule asks for.
-#[derive(Clone, Copy, Debug, PartialEq, Eq)]
+#[derive(Clone, Copy)]
 enum Condition {
     Always,
     Never,

@@ -6,7 +6,7 @@ ghost use Rattle.card_rules.specs.Pins.{IsPinNumber, no_pins, has_pin, with_pin,
 use std::marker::Model;
 
 /// The number of a PIN, 1 to 8.
-#[derive(Clone, Copy, Debug, PartialEq, Eq, Hash)]
+#[derive(Clone, Copy, Debug, PartialEq, Eq)]
 pub struct PinNumber {
     number: u8,
 }

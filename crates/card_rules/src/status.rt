@@ -3,7 +3,7 @@
 ghost use Rattle.std.specs.Prelude.{◌≡◌, ◌/◌, ◌%◌, ◌∷◌, []};
 
 /// The status word that ends each answer (ISO/IEC 7816-4, 5.1.3): SW1 is its upper byte, SW2 its lower.
-#[derive(Clone, Copy, Debug, PartialEq, Eq, Hash)]
+#[derive(Clone, Copy, Debug, PartialEq, Eq)]
 pub struct Sw(pub u16);
 
 impl Sw {
