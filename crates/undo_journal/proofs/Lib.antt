@@ -3,3 +3,4 @@ pub mod Saving
 pub mod Restore
 pub mod Standing
 pub mod Lasting
+pub mod Telling

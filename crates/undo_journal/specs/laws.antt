@@ -4,3 +4,4 @@ pub mod Undo
 pub mod Words
 pub mod Memory
 pub mod Calls
+pub mod Transactions

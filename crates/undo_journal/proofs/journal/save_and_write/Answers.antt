@@ -1,6 +1,7 @@
-use Rattle.std.proofs.Common.{sym}
+use Rattle.std.proofs.Common.{refl, sym}
 use Rattle.undo_journal.proofs.Saving.{pair-torn, pair-sound, gate-torn, gate-sound, word-torn, word-current}
 use Rattle.undo_journal.proofs.Saving.{word-sound}
+use Rattle.undo_journal.proofs.Telling.{answered_err, answered_after, steady_then}
 use Rattle.undo_journal.proofs.journal.save_and_write.Goals as goal
 
 pub returns-in_err-write_pair-clause-kept : goal.returns-in_err-write_pair-clause-kept
@@ -72,3 +73,25 @@ returns-clause-sound g c =
     word-sound _ _ _ _ _ read.words read.word r.sound r.counts r.room r.place (g.met.B.Board.sized _) _
     c.in_ok-write_pair.ensures.done
     _ c.in_ok-write_gate.ensures.done c.args.word _ c.in_ok-write_word.ensures.torn
+
+pub returns-in_err-earlier-clause-light : goal.returns-in_err-earlier-clause-light
+returns-in_err-earlier-clause-light g c =
+    answered_err _ _ _ _ c.from_residual.ensures.1 c.in_err-earlier.ensures.light
+
+pub returns-in_err-write_pair-clause-light : goal.returns-in_err-write_pair-clause-light
+returns-in_err-write_pair-clause-light g c =
+    answered_err _ _ _ _ c.from_residual-in_err-write_pair.ensures.1
+    (answered_after _ _ _ _ (c.in_ok-earlier.ensures.light.ok refl) c.in_err-write_pair.ensures.light)
+
+pub returns-in_err-write_gate-clause-light : goal.returns-in_err-write_gate-clause-light
+returns-in_err-write_gate-clause-light g c =
+    let paired = steady_then _ _ _ (c.in_ok-earlier.ensures.light.ok refl) (c.in_ok-write_pair.ensures.light.ok refl) in
+    answered_err _ _ _ _ c.from_residual-in_err-write_gate.ensures.1
+    (answered_after _ _ _ _ paired c.in_err-write_gate.ensures.light)
+
+pub returns-in_err-write_word-clause-light : goal.returns-in_err-write_word-clause-light
+returns-in_err-write_word-clause-light g c =
+    let paired = steady_then _ _ _ (c.in_ok-earlier.ensures.light.ok refl) (c.in_ok-write_pair.ensures.light.ok refl) in
+    let counted = steady_then _ _ _ paired (c.in_ok-write_gate.ensures.light.ok refl) in
+    answered_err _ _ _ _ c.from_residual-in_err-write_word.ensures.1
+    (answered_after _ _ _ _ counted c.in_err-write_word.ensures.light)

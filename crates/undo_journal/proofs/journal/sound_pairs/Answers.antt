@@ -1,6 +1,7 @@
-use Rattle.std.proofs.Common.{◌≡◌, ◌≤◌, true, false, sym, arith}
+use Rattle.std.proofs.Common.{◌≡◌, ◌≤◌, true, false, refl, sym, arith}
 use Rattle.undo_journal.specs.declared.layout.TheConstants.{PAIRS}
 use Rattle.undo_journal.proofs.Saving.{sound-named, named-sound}
+use Rattle.undo_journal.proofs.Telling.{answered_err, answered_after, answered_ok, steady_then}
 use Rattle.undo_journal.proofs.journal.sound_pairs.Goals as goal
 
 pub returns-then-sound-clause-sound : goal.returns-then-sound-clause-sound
@@ -18,3 +19,24 @@ returns-else-sound-clause-sound g c =
     c.in_ok-sound.ensures.named.1 (named-sound _ _ c.in_ok-count.count read.words read.word sound) in
     let bad : c.in_ok-sound.sound ≡ false = c.if-sound.false in
     cc
+
+pub returns-in_err-count-clause-light : goal.returns-in_err-count-clause-light
+returns-in_err-count-clause-light g c =
+    answered_err _ _ _ _ c.from_residual.ensures.1 c.in_err-count.ensures.light
+
+pub returns-in_err-sound-clause-light : goal.returns-in_err-sound-clause-light
+returns-in_err-sound-clause-light g c =
+    answered_err _ _ _ _ c.from_residual-in_err-sound.ensures.1
+    (answered_after _ _ _ _ (c.in_ok-count.ensures.light.ok refl) c.in_err-sound.ensures.light)
+
+pub returns-then-count-from-clause-light : goal.returns-then-count-from-clause-light
+returns-then-count-from-clause-light g c =
+    answered_ok _ _ _ (c.in_ok-count.ensures.light.ok refl)
+
+pub returns-then-sound-clause-light : goal.returns-then-sound-clause-light
+returns-then-sound-clause-light g c =
+    answered_ok _ _ _ (steady_then _ _ _ (c.in_ok-count.ensures.light.ok refl) (c.in_ok-sound.ensures.light.ok refl))
+
+pub returns-else-sound-clause-light : goal.returns-else-sound-clause-light
+returns-else-sound-clause-light g c =
+    answered_ok _ _ _ (steady_then _ _ _ (c.in_ok-count.ensures.light.ok refl) (c.in_ok-sound.ensures.light.ok refl))

@@ -1,11 +1,12 @@
-use Rattle.std.proofs.Common.{◌<◌, List, ℕ, length, refl, ap, ◌∙◌, inr, arith, rules}
+use Rattle.std.proofs.Common.{◌<◌, List, ℕ, length, refl, ap, ◌∙◌, inr, arith}
 use Rattle.std.proofs.Math.Logic.{⊎_map}
 use Rattle.undo_journal.specs.declared.layout.TheConstants.{GATE}
-use Rattle.undo_journal.specs.Undo.{gate, undo, data_words, IsSound}
+use Rattle.undo_journal.specs.Undo.{gate, undo, data_words}
 use Rattle.undo_journal.specs.Memory.{committed, current}
 use Rattle.undo_journal.proofs.Saving.{gate-shut}
 use Rattle.undo_journal.proofs.Standing.{ready-from, true-shut}
 use Rattle.undo_journal.proofs.Lasting.{gate-commits, commit-sound}
+use Rattle.undo_journal.proofs.Telling.{reports_ok, reports_err, reports_unused, true-failed}
 use Rattle.undo_journal.proofs.store.Store.commit.Goals as goal
 
 pub invariant_of-self-in-Ok : goal.invariant_of-self-in-Ok
@@ -44,18 +45,24 @@ returns-in-Err-clause-any_exit g c =
     (λ new. (gate-commits words _ within new ∙ ap current c.self.view_is, ap gate new ∙ gate-shut words within))
     c.in-Err.ensures.torn
 
+pub returns-in-Some-clause-reports : goal.returns-in-Some-clause-reports
+returns-in-Some-clause-reports g c = reports_unused _ _ 0 c.self.view_is
+
 pub returns-in-Ok-clause-reports : goal.returns-in-Ok-clause-reports
 returns-in-Ok-clause-reports g c =
     let words = (g.B.Board.facts c.self.inside.board).words in
     let within : GATE < length words = omega (arith, g.met.B.Board.sized c.self.inside.board) in
-    let sound : IsSound (g.B.Board.facts c.write_gate.new.board).words =
-    commit-sound words _ within (c.self.invariant.works c.in_default.is).sound c.in-Ok.ensures.torn in
-    search rules
+    reports_ok _ _ _ c.self.view_is c.self.invariant c.in_default.is c.in_default.is (c.in-Ok.ensures.light.ok refl)
+    (commit-sound words _ within (c.self.invariant.works c.in_default.is).sound c.in-Ok.ensures.torn)
 
 pub returns-in-Err-clause-reports : goal.returns-in-Err-clause-reports
 returns-in-Err-clause-reports g c =
     let words = (g.B.Board.facts c.self.inside.board).words in
     let within : GATE < length words = omega (arith, g.met.B.Board.sized c.self.inside.board) in
-    let sound : IsSound (g.B.Board.facts c.write_gate.new.board).words =
-    commit-sound words _ within (c.self.invariant.works c.in_default.is).sound c.in-Err.ensures.torn in
-    search rules
+    reports_err _ _ _ c.self.view_is c.self.invariant c.in_default.is _ _ c.fail.ensures.failed c.fail.ensures.error
+    c.in-Err.ensures.light (commit-sound words _ within (c.self.invariant.works c.in_default.is).sound c.in-Err.ensures.torn)
+
+pub invariant_of-self-in-Err : goal.invariant_of-self-in-Err
+invariant_of-self-in-Err g c =
+    true-failed _ _ _ c.self.view_is c.self.invariant c.in_default.is _ _ c.fail.ensures.failed c.fail.ensures.error
+    c.in-Err.ensures.light

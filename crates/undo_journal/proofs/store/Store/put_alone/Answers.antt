@@ -1,7 +1,9 @@
-use Rattle.std.proofs.Common.{refl, inr, arith, rules}
-use Rattle.undo_journal.specs.Undo.{IsDataAddress, IsSound}
+use Rattle.std.proofs.Common.{refl, inr, arith}
+use Rattle.undo_journal.specs.Undo.{IsDataAddress}
 use Rattle.undo_journal.proofs.Standing.{ready-from, true-shut}
 use Rattle.undo_journal.proofs.Lasting.{unused-within, place-within, one-gate, one-sound, one-torn, one-written}
+use Rattle.undo_journal.specs.laws.Memory.{reports_same}
+use Rattle.undo_journal.proofs.Telling.{reports_ok, reports_err, true-failed}
 use Rattle.undo_journal.proofs.store.Store.put_alone.Goals as goal
 
 pub write_word-requires : goal.write_word-requires
@@ -38,16 +40,22 @@ pub returns-in-Err-clause-any_exit : goal.returns-in-Err-clause-any_exit
 returns-in-Err-clause-any_exit g c = one-torn _ _ c.self.view_is c.self.invariant c.in_default.is c.requires.idle
     c.args.at c.args.word c.requires.place _ c.in-Err.ensures.torn
 
+pub returns-in-Some-clause-reports : goal.returns-in-Some-clause-reports
+returns-in-Some-clause-reports g c = reports_same _
+
 pub returns-in-Ok-clause-reports : goal.returns-in-Ok-clause-reports
 returns-in-Ok-clause-reports g c =
-    let sound : IsSound (g.B.Board.facts c.write_word.new.board).words =
-    one-sound _ _ c.self.view_is c.self.invariant c.in_default.is c.requires.idle c.args.at c.args.word c.requires.place
-    _ c.in-Ok.ensures.torn in
-    search rules
+    reports_ok _ _ _ c.self.view_is c.self.invariant c.in_default.is c.in_default.is (c.in-Ok.ensures.light.ok refl)
+    (one-sound _ _ c.self.view_is c.self.invariant c.in_default.is c.requires.idle
+    c.args.at c.args.word c.requires.place _ c.in-Ok.ensures.torn)
 
 pub returns-in-Err-clause-reports : goal.returns-in-Err-clause-reports
 returns-in-Err-clause-reports g c =
-    let sound : IsSound (g.B.Board.facts c.write_word.new.board).words =
-    one-sound _ _ c.self.view_is c.self.invariant c.in_default.is c.requires.idle c.args.at c.args.word c.requires.place
-    _ c.in-Err.ensures.torn in
-    search rules
+    reports_err _ _ _ c.self.view_is c.self.invariant c.in_default.is _ _ c.fail.ensures.failed c.fail.ensures.error
+    c.in-Err.ensures.light (one-sound _ _ c.self.view_is c.self.invariant c.in_default.is c.requires.idle
+    c.args.at c.args.word c.requires.place _ c.in-Err.ensures.torn)
+
+pub invariant_of-self-in-Err : goal.invariant_of-self-in-Err
+invariant_of-self-in-Err g c =
+    true-failed _ _ _ c.self.view_is c.self.invariant c.in_default.is _ _ c.fail.ensures.failed c.fail.ensures.error
+    c.in-Err.ensures.light

@@ -1,8 +1,11 @@
-use Rattle.std.proofs.Common.{slice_index, refl, sym, ap, ◌∙◌, arith}
-use Rattle.undo_journal.specs.Undo.{gate, IsDataAddress}
+use Rattle.std.proofs.Common.{slice_index, ℕ, List, refl, sym, ap, ◌∙◌, subst, arith}
+use Rattle.undo_journal.specs.Undo.{gate, IsDataAddress, IsSound}
 use Rattle.undo_journal.specs.laws.Undo.{data_words-outside}
 use Rattle.undo_journal.specs.Memory.{Memory, current}
 use Rattle.undo_journal.proofs.Standing.{board-place, open-from, ready-from}
+use Rattle.undo_journal.specs.laws.Calls.{reads_same}
+use Rattle.undo_journal.specs.laws.Memory.{reports_same}
+use Rattle.undo_journal.proofs.Telling.{reports_ok, reports_err, reads_board, true-kept, true-failed}
 use Rattle.undo_journal.proofs.store.Store.read.Goals as goal
 
 pub read-requires : goal.read-requires
@@ -30,3 +33,47 @@ returns-in-Ok-clause-ready g c = λ idle.
     let shut = ap gate c.in-Ok.ensures.words ∙ (c.self.invariant.works c.in_default.is).counts ∙ unused in
     ready-from _ c.in_default.is (c.in-Ok.ensures.light.ok refl).lit (g.met.B.Board.sized _) (g.met.B.Board.words_fit _)
     shut unused
+
+pub returns-in-Some-clause-reports : goal.returns-in-Some-clause-reports
+returns-in-Some-clause-reports g c = reports_same _
+
+pub returns-in-Some-clause-reads : goal.returns-in-Some-clause-reads
+returns-in-Some-clause-reads g c = reads_same _
+
+pub returns-in-Ok-clause-reports : goal.returns-in-Ok-clause-reports
+returns-in-Ok-clause-reports g c =
+    let held = c.self.invariant.works c.in_default.is in
+    let family : List ℕ → Type 0 = λ l. IsSound l in
+    reports_ok _ _ _ c.self.view_is c.self.invariant c.in_default.is c.in_default.is (c.in-Ok.ensures.light.ok refl)
+    (subst family (sym c.in-Ok.ensures.words) held.sound)
+
+pub returns-in-Ok-clause-reads : goal.returns-in-Ok-clause-reads
+returns-in-Ok-clause-reads g c =
+    let kept = c.in-Ok.ensures in
+    reads_board _ _ _ c.self.view_is c.self.invariant c.in_default.is
+    (record { words = kept.words; writes = kept.writes; compares = kept.compares; matches = kept.matches }) refl
+    (returns-in-Ok-clause-reports g c)
+
+pub returns-in-Err-clause-reports : goal.returns-in-Err-clause-reports
+returns-in-Err-clause-reports g c =
+    let held = c.self.invariant.works c.in_default.is in
+    let family : List ℕ → Type 0 = λ l. IsSound l in
+    reports_err _ _ _ c.self.view_is c.self.invariant c.in_default.is _ _ c.fail.ensures.failed c.fail.ensures.error
+    c.in-Err.ensures.light (subst family (sym c.in-Err.ensures.words) held.sound)
+
+pub returns-in-Err-clause-reads : goal.returns-in-Err-clause-reads
+returns-in-Err-clause-reads g c =
+    let kept = c.in-Err.ensures in
+    reads_board _ _ _ c.self.view_is c.self.invariant c.in_default.is
+    (record { words = kept.words; writes = kept.writes; compares = kept.compares; matches = kept.matches }) refl
+    (returns-in-Err-clause-reports g c)
+
+pub invariant_of-self : goal.invariant_of-self
+invariant_of-self g c =
+    true-kept _ _ _ c.self.view_is c.self.invariant c.in_default.is c.in_default.is c.in-Ok.ensures.words refl
+    (c.in-Ok.ensures.light.ok refl).lit
+
+pub invariant_of-self-in-Err : goal.invariant_of-self-in-Err
+invariant_of-self-in-Err g c =
+    true-failed _ _ _ c.self.view_is c.self.invariant c.in_default.is _ _ c.fail.ensures.failed c.fail.ensures.error
+    c.in-Err.ensures.light

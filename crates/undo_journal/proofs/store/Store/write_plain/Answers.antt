@@ -1,10 +1,11 @@
-use Rattle.std.proofs.Common.{length, refl, ap, arith, rules}
+use Rattle.std.proofs.Common.{length, refl, ap, arith}
 use Rattle.nvm_board.specs.Facts.{address}
 use Rattle.nvm_board.specs.laws.Torn.{Torn-none}
-use Rattle.undo_journal.specs.Undo.{IsSound}
 use Rattle.undo_journal.specs.Memory.{Memory}
 use Rattle.undo_journal.proofs.Standing.{board-run, ready-from, true-shut}
 use Rattle.undo_journal.proofs.Lasting.{unused-within, run-gate, run-sound, run-torn, run-written}
+use Rattle.undo_journal.specs.laws.Memory.{reports_same}
+use Rattle.undo_journal.proofs.Telling.{reports_ok, reports_err, true-failed}
 use Rattle.undo_journal.proofs.store.Store.write_plain.Goals as goal
 
 pub returns-in-Some-clause-any_exit : goal.returns-in-Some-clause-any_exit
@@ -44,16 +45,22 @@ pub returns-in-Err-clause-any_exit : goal.returns-in-Err-clause-any_exit
 returns-in-Err-clause-any_exit g c = run-torn _ _ c.self.view_is c.self.invariant c.in_default.is c.requires.idle
     (address c.args.page c.args.first) c.args.words.now c.requires.place _ c.requires.some c.in-Err.ensures.torn
 
+pub returns-in-Some-clause-reports : goal.returns-in-Some-clause-reports
+returns-in-Some-clause-reports g c = reports_same _
+
 pub returns-in-Ok-clause-reports : goal.returns-in-Ok-clause-reports
 returns-in-Ok-clause-reports g c =
-    let sound : IsSound (g.B.Board.facts c.write.new.self).words =
-    run-sound _ _ c.self.view_is c.self.invariant c.in_default.is c.requires.idle (address c.args.page c.args.first)
-    c.args.words.now c.requires.place _ c.in-Ok.ensures.torn in
-    search rules
+    reports_ok _ _ _ c.self.view_is c.self.invariant c.in_default.is c.in_default.is (c.in-Ok.ensures.light.ok refl)
+    (run-sound _ _ c.self.view_is c.self.invariant c.in_default.is c.requires.idle
+    (address c.args.page c.args.first) c.args.words.now c.requires.place _ c.in-Ok.ensures.torn)
 
 pub returns-in-Err-clause-reports : goal.returns-in-Err-clause-reports
 returns-in-Err-clause-reports g c =
-    let sound : IsSound (g.B.Board.facts c.write.new.self).words =
-    run-sound _ _ c.self.view_is c.self.invariant c.in_default.is c.requires.idle (address c.args.page c.args.first)
-    c.args.words.now c.requires.place _ c.in-Err.ensures.torn in
-    search rules
+    reports_err _ _ _ c.self.view_is c.self.invariant c.in_default.is _ _ c.fail.ensures.failed c.fail.ensures.error
+    c.in-Err.ensures.light (run-sound _ _ c.self.view_is c.self.invariant c.in_default.is c.requires.idle
+    (address c.args.page c.args.first) c.args.words.now c.requires.place _ c.in-Err.ensures.torn)
+
+pub invariant_of-self-in-Err : goal.invariant_of-self-in-Err
+invariant_of-self-in-Err g c =
+    true-failed _ _ _ c.self.view_is c.self.invariant c.in_default.is _ _ c.fail.ensures.failed c.fail.ensures.error
+    c.in-Err.ensures.light

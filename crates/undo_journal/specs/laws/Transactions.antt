@@ -1,0 +1,54 @@
+-- Laws of a transaction that is begun on a ready store and spent: `a` is the store before it, `b` as it is begun, `t` after the
+-- work, `c` as commit or abandon leaves it, and `x` the store afterwards.
+use Rattle.std.specs.Prelude.{Option, Some, Result, Ok, Err, OnOk, is_some}
+use Rattle.std.specs.Result.{result_err}
+use Rattle.std.proofs.Common.{◌≡◌, ◌≤◌, ◌+◌, ℕ, List, refl, sym, ◌∙◌, ap, subst, true≢false, arith}
+use Rattle.nvm_board.specs.Facts.{Facts}
+use Rattle.undo_journal.specs.Memory.{Memory, committed, current, IsReady, Reports}
+use Rattle.undo_journal.specs.Spending.{WritesAtMost}
+use Rattle.undo_journal.specs.laws.Memory.{reports_then}
+
+-- it begins with the words that are committed
+pub begun : (a b : Memory) → b ≡ a → IsReady a → committed a ≡ current b
+begun a b same ready = ready.same ∙ sym (ap (λ (m : Memory). current m) same)
+
+-- what the work made of the current words is made of the committed ones
+pub commits : (P : List ℕ → List ℕ → Type 0) (a b : Memory) (worked after : List ℕ) → b ≡ a → IsReady a
+    → P (current b) worked → after ≡ worked → P (committed a) after
+commits P a b worked after same ready made is =
+    let by_words : List ℕ → Type 0 = λ m. P m after in
+    let by_after : List ℕ → Type 0 = λ l. P (current b) l in
+    subst by_words (sym (begun a b same ready)) (subst by_after (sym is) made)
+
+-- what is committed stays
+pub stays : (a b t c x : Memory) → b ≡ a → x ≡ c → committed t ≡ committed b → committed c ≡ committed t
+    → committed x ≡ committed a
+stays a b t c x same last kept still =
+    ap (λ (m : Memory). committed m) last ∙ still ∙ kept ∙ ap (λ (m : Memory). committed m) same
+
+-- how all its calls report
+pub reports_ended : (a b t c x : Memory) → b ≡ a → x ≡ c → Reports b t → Reports t c → Reports a x
+reports_ended a b t c x same last first rest =
+    subst (λ (m : Memory). Reports a m) (sym last)
+    (reports_then a t c (subst (λ (m : Memory). Reports m t) same first) rest)
+
+-- what all its calls spend
+pub writes_ended : (i n k : ℕ) (a b t c x : Memory) → i + n ≤ k → b ≡ a → x ≡ c → WritesAtMost i b.facts t.facts
+    → WritesAtMost n t.facts c.facts → WritesAtMost k a.facts x.facts
+writes_ended i n k a b t c x fits same last first rest =
+    subst (λ (m : Memory). WritesAtMost k m.facts x.facts) same
+    (subst (λ (m : Memory). WritesAtMost k b.facts m.facts) (sym last) (record {
+      writes = omega (arith, fits, first.writes, rest.writes);
+      compares = rest.compares ∙ first.compares;
+      matches = rest.matches ∙ first.matches;
+    }))
+
+-- a board that stays costs nothing
+pub stays_spends : (f g : Facts) → g ≡ f → WritesAtMost 0 f g
+stays_spends f g same =
+    subst (λ (h : Facts). WritesAtMost 0 f h) (sym same) (record { writes = omega arith; compares = refl; matches = refl })
+
+-- of a success nothing is said where there was an error
+pub on_error : {T E : Type 0} (P : Type 0) (r : Result T E) (e : E) → result_err r ≡ Some e → OnOk r P
+on_error {T} {E} P (Ok v) e is = absurd (true≢false (sym (ap (λ (o : Option E). is_some o) is)))
+on_error {T} {E} P (Err f) e is = tt
