@@ -9,6 +9,7 @@ use Rattle.block_chain.specs.laws.Bytes.{leads_blocks}
 use Rattle.block_chain.specs.laws.Chains.{head_small, leads_first}
 use Rattle.block_chain.specs.laws.Filling.{AreFilled, filled_more, first_filled}
 use Rattle.block_chain.proofs.Fills.{block_to_fill, only_filled, next_to_fill, next_small}
+use Rattle.block_chain.proofs.Exits.{none_ok, error_tells}
 use Rattle.block_chain.proofs.bytes.fill.Goals as goal
 
 pub read_head-requires-clause-small : goal.read_head-requires-clause-small
@@ -108,3 +109,32 @@ returns-clause-done g c =
     first_filled (committed c.loop-i.store) ps c.args.n c.args.byte c.loop-i.invariant.ready.usable.committed_size
     (leads_blocks m _ 0 ps c.requires.free.leads) c.requires.enough (omega arith)
     (subst family all c.loop-i.invariant.filled)
+
+pub returns-in_err-page-clause-done : goal.returns-in_err-page-clause-done
+returns-in_err-page-clause-done g c = none_ok _ _ _ c.from_residual.ensures.1
+
+pub returns-in_err-page-clause-ready : goal.returns-in_err-page-clause-ready
+returns-in_err-page-clause-ready g c = none_ok _ _ _ c.from_residual.ensures.1
+
+pub returns-in_err-page-clause-tells : goal.returns-in_err-page-clause-tells
+returns-in_err-page-clause-tells g c = error_tells _ _ _ c.from_residual.ensures.1 c.in_err-page.ensures.tells
+
+pub returns-in_err-fill_block-clause-done : goal.returns-in_err-fill_block-clause-done
+returns-in_err-fill_block-clause-done g c = none_ok _ _ _ c.from_residual-in_err-fill_block.ensures.1
+
+pub returns-in_err-fill_block-clause-ready : goal.returns-in_err-fill_block-clause-ready
+returns-in_err-fill_block-clause-ready g c = none_ok _ _ _ c.from_residual-in_err-fill_block.ensures.1
+
+pub returns-in_err-fill_block-clause-tells : goal.returns-in_err-fill_block-clause-tells
+returns-in_err-fill_block-clause-tells g c =
+    error_tells _ _ _ c.from_residual-in_err-fill_block.ensures.1 c.in_err-fill_block.ensures.tells
+
+pub returns-in_err-page-2-clause-done : goal.returns-in_err-page-2-clause-done
+returns-in_err-page-2-clause-done g c = none_ok _ _ _ c.from_residual-in_err-page-2.ensures.1
+
+pub returns-in_err-page-2-clause-ready : goal.returns-in_err-page-2-clause-ready
+returns-in_err-page-2-clause-ready g c = none_ok _ _ _ c.from_residual-in_err-page-2.ensures.1
+
+pub returns-in_err-page-2-clause-tells : goal.returns-in_err-page-2-clause-tells
+returns-in_err-page-2-clause-tells g c =
+    error_tells _ _ _ c.from_residual-in_err-page-2.ensures.1 c.in_err-page-2.ensures.tells

@@ -6,6 +6,7 @@ use Rattle.undo_journal.specs.Lent.{memory_of}
 use Rattle.undo_journal.specs.laws.Calls.{reads_sets, sets_then}
 use Rattle.block_chain.specs.Parts.{byte_over}
 use Rattle.block_chain.specs.Words.{word, word_bytes}
+use Rattle.block_chain.proofs.Exits.{none_ok, error_tells}
 use Rattle.block_chain.proofs.bytes.put_word.Goals as goal
 use Rattle.nvm_board.specs.declared.board.TheConstants.{PAGE_WORDS}
 use Rattle.block_chain.specs.declared.layout.TheConstants.{BLOCK_WORDS}
@@ -43,3 +44,12 @@ returns-clause-done g c =
           ∙ ap (λ (w : ℕ). byte_over c.args.offset c.args.bytes.now (4 * k + place)
           (slice_index (word_bytes w) place)) was;
     }) c.put.ensures.done
+
+pub returns-in_err-word-clause-done : goal.returns-in_err-word-clause-done
+returns-in_err-word-clause-done g c = none_ok _ _ _ c.from_residual.ensures.1
+
+pub returns-in_err-word-clause-ready : goal.returns-in_err-word-clause-ready
+returns-in_err-word-clause-ready g c = none_ok _ _ _ c.from_residual.ensures.1
+
+pub returns-in_err-word-clause-tells : goal.returns-in_err-word-clause-tells
+returns-in_err-word-clause-tells g c = error_tells _ _ _ c.from_residual.ensures.1 c.in_err-word.ensures.tells

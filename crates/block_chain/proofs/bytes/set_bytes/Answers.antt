@@ -8,6 +8,7 @@ use Rattle.block_chain.specs.Chains.{chain_of}
 use Rattle.block_chain.specs.laws.Bytes.{leads_blocks}
 use Rattle.block_chain.specs.laws.Overwriting.{IsPut, overwrites_none, touched, put_none, put_all}
 use Rattle.block_chain.proofs.Puts.{word_block, word_small, word_fits, word_put, link_put, link_small}
+use Rattle.block_chain.proofs.Exits.{none_ok, error_tells}
 use Rattle.block_chain.proofs.bytes.set_bytes.Goals as goal
 
 pub loop-k-init : goal.loop-k-init
@@ -162,3 +163,32 @@ returns-then-is_empty-clause-done g c =
     let m = current (memory_of c.args.txn.now) in
     let none : length c.args.bytes.now ≡ 0 = search rules in
     overwrites_none m (chain_of m c.args.chain) c.args.offset c.args.bytes.now none
+
+pub returns-in_err-page-clause-done : goal.returns-in_err-page-clause-done
+returns-in_err-page-clause-done g c = none_ok _ _ _ c.from_residual.ensures.1
+
+pub returns-in_err-page-clause-ready : goal.returns-in_err-page-clause-ready
+returns-in_err-page-clause-ready g c = none_ok _ _ _ c.from_residual.ensures.1
+
+pub returns-in_err-page-clause-tells : goal.returns-in_err-page-clause-tells
+returns-in_err-page-clause-tells g c = error_tells _ _ _ c.from_residual.ensures.1 c.in_err-page.ensures.tells
+
+pub returns-in_err-put_word-clause-done : goal.returns-in_err-put_word-clause-done
+returns-in_err-put_word-clause-done g c = none_ok _ _ _ c.from_residual-in_err-put_word.ensures.1
+
+pub returns-in_err-put_word-clause-ready : goal.returns-in_err-put_word-clause-ready
+returns-in_err-put_word-clause-ready g c = none_ok _ _ _ c.from_residual-in_err-put_word.ensures.1
+
+pub returns-in_err-put_word-clause-tells : goal.returns-in_err-put_word-clause-tells
+returns-in_err-put_word-clause-tells g c =
+    error_tells _ _ _ c.from_residual-in_err-put_word.ensures.1 c.in_err-put_word.ensures.tells
+
+pub returns-in_err-page-2-clause-done : goal.returns-in_err-page-2-clause-done
+returns-in_err-page-2-clause-done g c = none_ok _ _ _ c.from_residual-in_err-page-2.ensures.1
+
+pub returns-in_err-page-2-clause-ready : goal.returns-in_err-page-2-clause-ready
+returns-in_err-page-2-clause-ready g c = none_ok _ _ _ c.from_residual-in_err-page-2.ensures.1
+
+pub returns-in_err-page-2-clause-tells : goal.returns-in_err-page-2-clause-tells
+returns-in_err-page-2-clause-tells g c =
+    error_tells _ _ _ c.from_residual-in_err-page-2.ensures.1 c.in_err-page-2.ensures.tells

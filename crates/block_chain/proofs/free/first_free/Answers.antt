@@ -5,6 +5,7 @@ use Rattle.undo_journal.specs.laws.Calls.{txn_reads_then}
 use Rattle.block_chain.specs.Chains.{chain, free_chain}
 use Rattle.block_chain.specs.Words.{link}
 use Rattle.block_chain.specs.laws.Chains.{at_block, head_small}
+use Rattle.block_chain.proofs.Exits.{none_ok, error_tells}
 use Rattle.block_chain.proofs.free.first_free.Goals as goal
 
 pub head-requires-clause-small : goal.head-requires-clause-small
@@ -51,4 +52,40 @@ returns-clause-found g c =
 
 pub returns-in_err-rest-clause-reads : goal.returns-in_err-rest-clause-reads
 returns-in_err-rest-clause-reads g c =
+    txn_reads_then _ _ _ (txn_reads_then _ _ _ c.head.ensures.reads c.walk.ensures.reads) c.next.ensures.reads
+
+pub returns-in_err-first-clause-found : goal.returns-in_err-first-clause-found
+returns-in_err-first-clause-found g c = none_ok _ _ _ c.from_residual.ensures.1
+
+pub returns-in_err-first-clause-ready : goal.returns-in_err-first-clause-ready
+returns-in_err-first-clause-ready g c = none_ok _ _ _ c.from_residual.ensures.1
+
+pub returns-in_err-first-clause-tells : goal.returns-in_err-first-clause-tells
+returns-in_err-first-clause-tells g c = error_tells _ _ _ c.from_residual.ensures.1 c.in_err-first.ensures.tells
+
+pub returns-in_err-last-clause-found : goal.returns-in_err-last-clause-found
+returns-in_err-last-clause-found g c = none_ok _ _ _ c.from_residual-in_err-last.ensures.1
+
+pub returns-in_err-last-clause-ready : goal.returns-in_err-last-clause-ready
+returns-in_err-last-clause-ready g c = none_ok _ _ _ c.from_residual-in_err-last.ensures.1
+
+pub returns-in_err-last-clause-tells : goal.returns-in_err-last-clause-tells
+returns-in_err-last-clause-tells g c =
+    error_tells _ _ _ c.from_residual-in_err-last.ensures.1 c.in_err-last.ensures.tells
+
+pub returns-in_err-rest-clause-found : goal.returns-in_err-rest-clause-found
+returns-in_err-rest-clause-found g c = none_ok _ _ _ c.from_residual-in_err-rest.ensures.1
+
+pub returns-in_err-rest-clause-ready : goal.returns-in_err-rest-clause-ready
+returns-in_err-rest-clause-ready g c = none_ok _ _ _ c.from_residual-in_err-rest.ensures.1
+
+pub returns-in_err-rest-clause-tells : goal.returns-in_err-rest-clause-tells
+returns-in_err-rest-clause-tells g c =
+    error_tells _ _ _ c.from_residual-in_err-rest.ensures.1 c.in_err-rest.ensures.tells
+
+pub returns-in_err-last-clause-reads : goal.returns-in_err-last-clause-reads
+returns-in_err-last-clause-reads g c = txn_reads_then _ _ _ c.head.ensures.reads c.walk.ensures.reads
+
+pub returns-clause-reads : goal.returns-clause-reads
+returns-clause-reads g c =
     txn_reads_then _ _ _ (txn_reads_then _ _ _ c.head.ensures.reads c.walk.ensures.reads) c.next.ensures.reads

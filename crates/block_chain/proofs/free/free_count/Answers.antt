@@ -2,7 +2,8 @@ use Rattle.std.proofs.Common.{◌≡◌, ◌≢◌, slice_index, ◌∙◌, arit
 use Rattle.undo_journal.specs.Memory.{committed}
 use Rattle.undo_journal.specs.laws.Calls.{reads_then}
 use Rattle.block_chain.specs.Chains.{free_chain}
-use Rattle.block_chain.specs.laws.Chains.{at_some, head_small, leads_ended}
+use Rattle.block_chain.specs.laws.Chains.{at_some, head_small, leads_ended, leads_first}
+use Rattle.block_chain.proofs.Exits.{none_ok, error_tells}
 use Rattle.block_chain.proofs.free.free_count.Goals as goal
 
 pub read_head-requires-clause-small : goal.read_head-requires-clause-small
@@ -48,3 +49,39 @@ returns-clause-count g c =
 
 pub returns-in_err-page-2-clause-reads : goal.returns-in_err-page-2-clause-reads
 returns-in_err-page-2-clause-reads g c = reads_then _ _ _ c.loop-page.invariant.reads c.read_link.ensures.reads
+
+pub returns-in_err-page-clause-count : goal.returns-in_err-page-clause-count
+returns-in_err-page-clause-count g c = none_ok _ _ _ c.from_residual.ensures.1
+
+pub returns-in_err-page-clause-ready : goal.returns-in_err-page-clause-ready
+returns-in_err-page-clause-ready g c = none_ok _ _ _ c.from_residual.ensures.1
+
+pub returns-in_err-page-clause-tells : goal.returns-in_err-page-clause-tells
+returns-in_err-page-clause-tells g c = error_tells _ _ _ c.from_residual.ensures.1 c.in_err-page.ensures.tells
+
+pub returns-in_err-page-2-clause-count : goal.returns-in_err-page-2-clause-count
+returns-in_err-page-2-clause-count g c = none_ok _ _ _ c.from_residual-in_err-page-2.ensures.1
+
+pub returns-in_err-page-2-clause-ready : goal.returns-in_err-page-2-clause-ready
+returns-in_err-page-2-clause-ready g c = none_ok _ _ _ c.from_residual-in_err-page-2.ensures.1
+
+pub returns-in_err-page-2-clause-tells : goal.returns-in_err-page-2-clause-tells
+returns-in_err-page-2-clause-tells g c =
+    error_tells _ _ _ c.from_residual-in_err-page-2.ensures.1 c.in_err-page-2.ensures.tells
+
+pub loop-page-init : goal.loop-page-init
+loop-page-init g c = record {
+  ready = c.in_ok-page.ensures.ready;
+  reads = c.read_head.ensures.reads;
+  within = omega arith;
+  place = c.in_ok-page.ensures.page ∙ leads_first _ _ _ c.requires.free.leads;
+}
+
+pub loop-page-smaller : goal.loop-page-smaller
+loop-page-smaller g c =
+    let m = committed c.args.store.now in
+    let some : c.loop-page.page ≢ 0 = omega (arith, c.loop-page-test.true) in
+    let here = at_some m (committed c.loop-page.store) _
+    (free_chain m) c.loop-page.count c.loop-page.page c.loop-page.invariant.reads.keeps.committed_words
+    c.requires.free.leads c.loop-page.invariant.place some in
+    omega (arith, here.within)

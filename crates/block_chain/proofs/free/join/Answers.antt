@@ -10,6 +10,7 @@ use Rattle.block_chain.specs.Parts.{first_of, joined}
 use Rattle.block_chain.specs.declared.chain.Chain.{Chain}
 use Rattle.block_chain.specs.laws.Chains.{head_small}
 use Rattle.block_chain.specs.laws.Joining.{joined-nil, joined-cons, length-joined, whole_block}
+use Rattle.block_chain.proofs.Exits.{none_ok, error_tells}
 use Rattle.block_chain.proofs.free.join.Goals as goal
 use Rattle.nvm_board.specs.declared.board.TheConstants.{PAGE_WORDS}
 
@@ -77,3 +78,27 @@ loop-left-preserved g c =
           ∙ (λ i. slice_set (c.loop-left.invariant.words i) (at i) (page i))
           ∙ sym (ap (joined m) more ∙ joined-cons m _ _);
     }
+
+pub returns-in_err-page-clause-page : goal.returns-in_err-page-clause-page
+returns-in_err-page-clause-page g c = none_ok _ _ _ c.from_residual.ensures.1
+
+pub returns-in_err-page-clause-done : goal.returns-in_err-page-clause-done
+returns-in_err-page-clause-done g c = none_ok _ _ _ c.from_residual.ensures.1
+
+pub returns-in_err-page-clause-ready : goal.returns-in_err-page-clause-ready
+returns-in_err-page-clause-ready g c = none_ok _ _ _ c.from_residual.ensures.1
+
+pub returns-in_err-page-clause-tells : goal.returns-in_err-page-clause-tells
+returns-in_err-page-clause-tells g c = error_tells _ _ _ c.from_residual.ensures.1 c.in_err-page.ensures.tells
+
+pub returns-in_err-put-clause-page : goal.returns-in_err-put-clause-page
+returns-in_err-put-clause-page g c = none_ok _ _ _ c.from_residual-in_err-put.ensures.1
+
+pub returns-in_err-put-clause-done : goal.returns-in_err-put-clause-done
+returns-in_err-put-clause-done g c = none_ok _ _ _ c.from_residual-in_err-put.ensures.1
+
+pub returns-in_err-put-clause-ready : goal.returns-in_err-put-clause-ready
+returns-in_err-put-clause-ready g c = none_ok _ _ _ c.from_residual-in_err-put.ensures.1
+
+pub returns-in_err-put-clause-tells : goal.returns-in_err-put-clause-tells
+returns-in_err-put-clause-tells g c = error_tells _ _ _ c.from_residual-in_err-put.ensures.1 c.in_err-put.ensures.tells

@@ -6,6 +6,7 @@ use Rattle.undo_journal.specs.laws.Calls.{sets_then, reads_sets}
 use Rattle.block_chain.specs.Changes.{Takes}
 use Rattle.block_chain.specs.declared.layout.TheConstants.{HEADER_PAGE}
 use Rattle.block_chain.proofs.Taking.{takes}
+use Rattle.block_chain.proofs.Exits.{none_ok, error_tells}
 use Rattle.block_chain.proofs.free.take.Goals as goal
 use Rattle.nvm_board.specs.declared.board.TheConstants.{PAGE_WORDS}
 use Rattle.block_chain.specs.declared.layout.TheConstants.{FREE_HEAD_WORD}
@@ -43,3 +44,31 @@ returns-clause-done g c =
     subst family (sym after)
     (takes m c.args.n chain.last rest c.requires.ready.current_size c.requires.free c.requires.some c.requires.enough
     found.last found.after chain found.first refl)
+
+pub returns-in_err-chain-clause-done : goal.returns-in_err-chain-clause-done
+returns-in_err-chain-clause-done g c = none_ok _ _ _ c.from_residual.ensures.1
+
+pub returns-in_err-chain-clause-ready : goal.returns-in_err-chain-clause-ready
+returns-in_err-chain-clause-ready g c = none_ok _ _ _ c.from_residual.ensures.1
+
+pub returns-in_err-chain-clause-tells : goal.returns-in_err-chain-clause-tells
+returns-in_err-chain-clause-tells g c = error_tells _ _ _ c.from_residual.ensures.1 c.in_err-chain.ensures.tells
+
+pub returns-in_err-put-clause-done : goal.returns-in_err-put-clause-done
+returns-in_err-put-clause-done g c = none_ok _ _ _ c.from_residual-in_err-put.ensures.1
+
+pub returns-in_err-put-clause-ready : goal.returns-in_err-put-clause-ready
+returns-in_err-put-clause-ready g c = none_ok _ _ _ c.from_residual-in_err-put.ensures.1
+
+pub returns-in_err-put-clause-tells : goal.returns-in_err-put-clause-tells
+returns-in_err-put-clause-tells g c = error_tells _ _ _ c.from_residual-in_err-put.ensures.1 c.in_err-put.ensures.tells
+
+pub returns-in_err-put-2-clause-done : goal.returns-in_err-put-2-clause-done
+returns-in_err-put-2-clause-done g c = none_ok _ _ _ c.from_residual-in_err-put-2.ensures.1
+
+pub returns-in_err-put-2-clause-ready : goal.returns-in_err-put-2-clause-ready
+returns-in_err-put-2-clause-ready g c = none_ok _ _ _ c.from_residual-in_err-put-2.ensures.1
+
+pub returns-in_err-put-2-clause-tells : goal.returns-in_err-put-2-clause-tells
+returns-in_err-put-2-clause-tells g c =
+    error_tells _ _ _ c.from_residual-in_err-put-2.ensures.1 c.in_err-put-2.ensures.tells

@@ -1,11 +1,13 @@
 use Rattle.std.proofs.Common.{◌≡◌, ◌+◌, ◌/◌, ◌%◌, ◌<◌, ℕ, List, length, slice_index, sym, ◌∙◌, ap, ap₂, subst}
 use Rattle.std.proofs.Common.{arith}
 use Rattle.undo_journal.specs.Memory.{committed}
+use Rattle.undo_journal.specs.laws.Calls.{reads_then}
 use Rattle.block_chain.specs.declared.layout.TheConstants.{BLOCK_BYTES, BLOCK_WORDS}
 use Rattle.block_chain.specs.Words.{word, word_bytes, IsBlock}
 use Rattle.block_chain.specs.Chains.{chain_of}
 use Rattle.block_chain.specs.laws.Chains.{leads_block}
 use Rattle.block_chain.specs.laws.Bytes.{content_word, leads_blocks, index-bytes_of}
+use Rattle.block_chain.proofs.Exits.{none_ok, error_tells}
 use Rattle.block_chain.proofs.reading.byte_at.Goals as goal
 
 pub read_word-requires-clause-block : goal.read_word-requires-clause-block
@@ -33,3 +35,28 @@ returns-clause-byte g c =
     ∙ ap (λ (w : ℕ). slice_index (word_bytes w) (offset % 4)) read
     ∙ sym (index-bytes_of m ps offset c.requires.ready.usable.committed_size
     (leads_blocks m _ 0 ps c.requires.leads) c.requires.within)
+
+pub returns-in_err-page-clause-byte : goal.returns-in_err-page-clause-byte
+returns-in_err-page-clause-byte g c = none_ok _ _ _ c.from_residual.ensures.1
+
+pub returns-in_err-page-clause-ready : goal.returns-in_err-page-clause-ready
+returns-in_err-page-clause-ready g c = none_ok _ _ _ c.from_residual.ensures.1
+
+pub returns-in_err-page-clause-tells : goal.returns-in_err-page-clause-tells
+returns-in_err-page-clause-tells g c = error_tells _ _ _ c.from_residual.ensures.1 c.in_err-page.ensures.tells
+
+pub returns-in_err-word-clause-byte : goal.returns-in_err-word-clause-byte
+returns-in_err-word-clause-byte g c = none_ok _ _ _ c.from_residual-in_err-word.ensures.1
+
+pub returns-in_err-word-clause-ready : goal.returns-in_err-word-clause-ready
+returns-in_err-word-clause-ready g c = none_ok _ _ _ c.from_residual-in_err-word.ensures.1
+
+pub returns-in_err-word-clause-tells : goal.returns-in_err-word-clause-tells
+returns-in_err-word-clause-tells g c =
+    error_tells _ _ _ c.from_residual-in_err-word.ensures.1 c.in_err-word.ensures.tells
+
+pub returns-in_err-word-clause-reads : goal.returns-in_err-word-clause-reads
+returns-in_err-word-clause-reads g c = reads_then _ _ _ c.block_at.ensures.reads c.read_word.ensures.reads
+
+pub returns-clause-reads : goal.returns-clause-reads
+returns-clause-reads g c = reads_then _ _ _ c.block_at.ensures.reads c.read_word.ensures.reads

@@ -7,6 +7,7 @@ use Rattle.block_chain.specs.Chains.{chain_of}
 use Rattle.block_chain.specs.laws.Laying.{pages_most}
 use Rattle.undo_journal.specs.laws.Calls.{reads_then}
 use Rattle.block_chain.proofs.Runs.{block_here, appended, some_bytes}
+use Rattle.block_chain.proofs.Exits.{none_ok, error_tells}
 use Rattle.block_chain.proofs.reading.read_bytes.Goals as goal
 
 pub overflow_add-end : goal.overflow_add-end
@@ -170,3 +171,42 @@ returns-in_err-word-clause-reads g c = reads_then _ _ _ c.loop-at.invariant.read
 pub returns-in_err-page-2-clause-reads : goal.returns-in_err-page-2-clause-reads
 returns-in_err-page-2-clause-reads g c =
     reads_then _ _ _ (reads_then _ _ _ c.loop-at.invariant.reads c.read_word.ensures.reads) c.read_link.ensures.reads
+
+pub returns-in_err-page-clause-done : goal.returns-in_err-page-clause-done
+returns-in_err-page-clause-done g c = none_ok _ _ _ c.from_residual.ensures.1
+
+pub returns-in_err-page-clause-ready : goal.returns-in_err-page-clause-ready
+returns-in_err-page-clause-ready g c = none_ok _ _ _ c.from_residual.ensures.1
+
+pub returns-in_err-page-clause-tells : goal.returns-in_err-page-clause-tells
+returns-in_err-page-clause-tells g c = error_tells _ _ _ c.from_residual.ensures.1 c.in_err-page.ensures.tells
+
+pub returns-in_err-word-clause-done : goal.returns-in_err-word-clause-done
+returns-in_err-word-clause-done g c = none_ok _ _ _ c.from_residual-in_err-word.ensures.1
+
+pub returns-in_err-word-clause-ready : goal.returns-in_err-word-clause-ready
+returns-in_err-word-clause-ready g c = none_ok _ _ _ c.from_residual-in_err-word.ensures.1
+
+pub returns-in_err-word-clause-tells : goal.returns-in_err-word-clause-tells
+returns-in_err-word-clause-tells g c =
+    error_tells _ _ _ c.from_residual-in_err-word.ensures.1 c.in_err-word.ensures.tells
+
+pub returns-in_err-page-2-clause-done : goal.returns-in_err-page-2-clause-done
+returns-in_err-page-2-clause-done g c = none_ok _ _ _ c.from_residual-in_err-page-2.ensures.1
+
+pub returns-in_err-page-2-clause-ready : goal.returns-in_err-page-2-clause-ready
+returns-in_err-page-2-clause-ready g c = none_ok _ _ _ c.from_residual-in_err-page-2.ensures.1
+
+pub returns-in_err-page-2-clause-tells : goal.returns-in_err-page-2-clause-tells
+returns-in_err-page-2-clause-tells g c =
+    error_tells _ _ _ c.from_residual-in_err-page-2.ensures.1 c.in_err-page-2.ensures.tells
+
+pub loop-at-init : goal.loop-at-init
+loop-at-init g c = record {
+  from = omega arith;
+  within = omega arith;
+  ready = c.in_ok-page.ensures.ready;
+  reads = c.block_at.ensures.reads;
+  page = c.in_ok-page.ensures.page;
+  so_far = search rules;
+}

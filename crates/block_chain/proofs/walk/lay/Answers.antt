@@ -14,6 +14,7 @@ use Rattle.block_chain.specs.laws.Laying.{AreLaidSoFar, laid_free, laid_more, la
 use Rattle.block_chain.specs.laws.Laying.{laid_short}
 use Rattle.block_chain.specs.laws.Laying.{pages_most}
 use Rattle.block_chain.proofs.walk.lay.Given.{Over}
+use Rattle.block_chain.proofs.Exits.{none_ok, error_tells}
 use Rattle.block_chain.proofs.walk.lay.Goals as goal
 use Rattle.block_chain.proofs.walk.lay.Goals.{then-not-is_extent-via-then-not-is_extent}
 use Rattle.block_chain.proofs.walk.lay.Goals.{then-not-is_extent-via-else-not-is_extent+then-walked-blocks}
@@ -64,7 +65,7 @@ loop-i-init g c =
     let most = pages_most m BLOCKS (slice_index m FREE_HEAD) in
     record {
       ready = search rules;
-      reads = search (rules, reads_then);
+      reads = reads_then _ _ _ c.read.ensures.reads c.walk_over.ensures.reads;
       most = (let b = w.blocks in omega (arith, b, most));
       free = w.blocks;
       so_far = laid_free m c.args.extents.now
@@ -173,3 +174,45 @@ returns-then-not-is_extent-clause-found g c = λ laid.
 
 pub returns-in_err-walked-2-clause-reads : goal.returns-in_err-walked-2-clause-reads
 returns-in_err-walked-2-clause-reads g c = reads_then _ _ _ c.loop-i.invariant.reads c.walk_over-in-loop-i.ensures.reads
+
+pub returns-in_err-head-clause-found : goal.returns-in_err-head-clause-found
+returns-in_err-head-clause-found g c = none_ok _ _ _ c.from_residual.ensures.1
+
+pub returns-in_err-head-clause-ready : goal.returns-in_err-head-clause-ready
+returns-in_err-head-clause-ready g c = none_ok _ _ _ c.from_residual.ensures.1
+
+pub returns-in_err-head-clause-tells : goal.returns-in_err-head-clause-tells
+returns-in_err-head-clause-tells g c = error_tells _ _ _ c.from_residual.ensures.1 c.in_err-head.ensures.tells
+
+pub returns-in_err-walked-clause-found : goal.returns-in_err-walked-clause-found
+returns-in_err-walked-clause-found g c = none_ok _ _ _ c.from_residual-in_err-walked.ensures.1
+
+pub returns-in_err-walked-clause-ready : goal.returns-in_err-walked-clause-ready
+returns-in_err-walked-clause-ready g c = none_ok _ _ _ c.from_residual-in_err-walked.ensures.1
+
+pub returns-in_err-walked-clause-tells : goal.returns-in_err-walked-clause-tells
+returns-in_err-walked-clause-tells g c =
+    error_tells _ _ _ c.from_residual-in_err-walked.ensures.1 c.in_err-walked.ensures.tells
+
+pub returns-in_err-walked-2-clause-found : goal.returns-in_err-walked-2-clause-found
+returns-in_err-walked-2-clause-found g c = none_ok _ _ _ c.from_residual-in_err-walked-2.ensures.1
+
+pub returns-in_err-walked-2-clause-ready : goal.returns-in_err-walked-2-clause-ready
+returns-in_err-walked-2-clause-ready g c = none_ok _ _ _ c.from_residual-in_err-walked-2.ensures.1
+
+pub returns-in_err-walked-2-clause-tells : goal.returns-in_err-walked-2-clause-tells
+returns-in_err-walked-2-clause-tells g c =
+    error_tells _ _ _ c.from_residual-in_err-walked-2.ensures.1 c.in_err-walked-2.ensures.tells
+
+pub returns-in_err-walked-clause-reads : goal.returns-in_err-walked-clause-reads
+returns-in_err-walked-clause-reads g c = reads_then _ _ _ c.read.ensures.reads c.walk_over.ensures.reads
+
+pub returns-in-None-clause-reads : goal.returns-in-None-clause-reads
+returns-in-None-clause-reads g c = reads_then _ _ _ c.read.ensures.reads c.walk_over.ensures.reads
+
+pub returns-in-None-2-clause-reads : goal.returns-in-None-2-clause-reads
+returns-in-None-2-clause-reads g c = reads_then _ _ _ c.loop-i.invariant.reads c.walk_over-in-loop-i.ensures.reads
+
+pub returns-then-not-is_extent-clause-reads : goal.returns-then-not-is_extent-clause-reads
+returns-then-not-is_extent-clause-reads g c =
+    reads_then _ _ _ c.loop-i.invariant.reads c.walk_over-in-loop-i.ensures.reads
