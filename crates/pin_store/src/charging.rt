@@ -67,7 +67,6 @@ pub fn tries<B: Board>(store: &mut Store<B>, secret: u8) -> Result<u8, StoreErr>
 /// # Errors
 /// `Blocked` exactly where no try is left (`blocked`, `done`): then nothing is written, at no exit (`kept`). Else what the
 /// store answers: power was lost, or the device failed. The try may be gone then, and no receipt is given.
-#[tactic(auto, using(undo_journal::specs::MemoryLaws::reports_then))]
 pub fn charge<B: Board>(store: &mut Store<B>, secret: u8) -> Result<Charged, PinErr>
     requires ready { IsReady store.old }
     requires secret { secret < SECRETS }

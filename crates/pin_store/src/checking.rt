@@ -10,7 +10,6 @@ use crate::layout::{FIRST_PIN_PAGE, PINS, TRIES, UNBLOCKING_TRIES};
 use undo_journal::{Board, PAGE_WORDS, Store, StoreErr};
 
 /// A PIN's counts of tries.
-#[tactic(auto, using(undo_journal::specs::laws::Calls::reads_then))]
 fn is_pin_page<B: Board>(store: &mut Store<B>, pin: u8) -> Result<bool, StoreErr>
     requires ready { IsReady store.old }
     requires pin { pin < PINS }
@@ -29,7 +28,6 @@ fn is_pin_page<B: Board>(store: &mut Store<B>, pin: u8) -> Result<bool, StoreErr
 ///
 /// # Errors
 /// What the store answers: power was lost, or the device failed.
-#[tactic(auto, using(undo_journal::specs::laws::Calls::reads_then))]
 pub fn are_pins<B: Board>(store: &mut Store<B>) -> Result<bool, StoreErr>
     requires ready { IsReady store.old }
     ensures pins { IfOk result (λ pins. IsTrue pins ↔ ArePinPages (committed store.old)) }

@@ -101,7 +101,6 @@ pub(crate) fn put_tries<B: Board>(store: &mut Store<B>, secret: u8) -> Result<()
 }
 
 /// Sets the tries of a PIN to 3, and its value, in one transaction.
-#[tactic(auto, using(undo_journal::specs::MemoryLaws::reports_then))]
 pub(crate) fn put_value<B: Board>(
     store: &mut Store<B>,
     secret: u8,
@@ -126,7 +125,6 @@ pub(crate) fn put_value<B: Board>(
 }
 
 /// Sets the tries of a PIN to 3, its unblocking tries to 10, and its value, in one transaction.
-#[tactic(auto, using(undo_journal::specs::MemoryLaws::reports_then))]
 pub(crate) fn put_all<B: Board>(
     store: &mut Store<B>,
     secret: u8,

@@ -20,7 +20,6 @@ use undo_journal::{Board, Store, StoreErr};
 ///
 /// # Errors
 /// What the store answers: power was lost, or the device failed. The receipt is spent then, too.
-#[tactic(auto, using(undo_journal::specs::MemoryLaws::reports_then))]
 pub fn settle<B: Board>(
     store: &mut Store<B>,
     charged: Charged,
@@ -52,7 +51,6 @@ pub fn settle<B: Board>(
 ///
 /// # Errors
 /// What the store answers: power was lost, or the device failed. The receipt is spent then, too.
-#[tactic(auto, using(undo_journal::specs::MemoryLaws::reports_then))]
 pub fn change<B: Board>(
     store: &mut Store<B>,
     charged: Charged,
@@ -86,7 +84,6 @@ pub fn change<B: Board>(
 ///
 /// # Errors
 /// What the store answers: power was lost, or the device failed. The receipt is spent then, too.
-#[tactic(auto, using(undo_journal::specs::MemoryLaws::reports_then))]
 pub fn reset_counter<B: Board>(
     store: &mut Store<B>,
     charged: Charged,
@@ -115,7 +112,6 @@ pub fn reset_counter<B: Board>(
 }
 
 /// Compares the shown bytes with the kept ones of the charged secret. Nothing is written.
-#[tactic(auto, using(undo_journal::specs::MemoryLaws::reports_then))]
 fn compare<B: Board>(
     store: &mut Store<B>,
     charged: Charged,
@@ -143,7 +139,6 @@ fn compare<B: Board>(
 }
 
 /// What is kept of a secret.
-#[tactic(auto, using(undo_journal::specs::laws::Calls::reads_then))]
 fn kept<B: Board>(store: &mut Store<B>, secret: u8) -> Result<[u8; 8], StoreErr>
     requires ready { IsReady store.old }
     requires secret { secret < SECRETS }

@@ -11,6 +11,9 @@ use Rattle.pin_store.proofs.Ending.{on_then}
 use Rattle.pin_store.proofs.putting.put_left.Given.{Over}
 use Rattle.pin_store.proofs.putting.put_left.Goals as goal
 
+pub returns-clause-writes : goal.returns-clause-writes
+returns-clause-writes g c = c.put_alone.ensures.writes
+
 set : (g : Over) (c : goal.After-put_alone g) (after : List ℕ)
     → after ≡ slice_set (committed c.args.store.now) c.address_of.result c.from.result
     → SetsPin (committed c.args.store.now) (owner c.args.secret)
@@ -43,3 +46,6 @@ returns-clause-pages g c =
     (λ (done : after ≡ slice_set m c.address_of.result c.from.result).
     left_pages m after c.args.secret c.args.left c.requires.fewer c.requires.pages (set g c after done))
     c.put_alone.ensures.any_exit
+
+pub returns-clause-reports : goal.returns-clause-reports
+returns-clause-reports g c = c.put_alone.ensures.reports

@@ -1,17 +1,71 @@
-use Rattle.std.proofs.Common.{List, ℕ, sym, subst}
-use Rattle.undo_journal.specs.Memory.{committed}
-use Rattle.pin_store.specs.Pages.{ArePinPages}
+use Rattle.std.proofs.Common.{inl}
+use Rattle.undo_journal.specs.laws.Memory.{reports_then}
+use Rattle.pin_store.specs.Pins.{changed_pin}
+use Rattle.pin_store.specs.Trials.{pin_in}
 use Rattle.pin_store.specs.laws.AllPins.{changed_pages}
+use Rattle.pin_store.proofs.Settled.{pages_stay, compares_more, compares_then, match_told, matched_sets}
+use Rattle.pin_store.proofs.Settled.{matched_sets_or_not, end_told}
 use Rattle.pin_store.proofs.settling.change.Goals as goal
+
+pub returns-in_err-outcome-clause-any_exit : goal.returns-in_err-outcome-clause-any_exit
+returns-in_err-outcome-clause-any_exit g c = inl c.compare.ensures.kept
+
+pub returns-in_err-outcome-clause-pages : goal.returns-in_err-outcome-clause-pages
+returns-in_err-outcome-clause-pages g c = pages_stay _ _ c.compare.ensures.kept c.requires.pages
+
+pub returns-in_err-outcome-clause-spends : goal.returns-in_err-outcome-clause-spends
+returns-in_err-outcome-clause-spends g c = compares_more 10 _ _ _ c.compare.ensures.spends
+
+pub returns-in_err-put_value-clause-any_exit : goal.returns-in_err-put_value-clause-any_exit
+returns-in_err-put_value-clause-any_exit g c =
+    matched_sets_or_not 10 c.args.charged c.secret-secret.result c.args.shown.now (changed_pin c.args.new.now) _ _ _
+    c.secret-secret.ensures.secret (match_told c.args.charged c.args.shown.now c.args.store.now c.compare.new.store
+    c.in_ok-outcome.outcome c.in-Matched.is c.in_ok-outcome.ensures.done) c.compare.ensures.kept c.put_value.ensures.writes
+    c.put_value.ensures.any_exit
 
 pub returns-in_err-put_value-clause-pages : goal.returns-in_err-put_value-clause-pages
 returns-in_err-put_value-clause-pages g c =
-    let m = committed c.compare.new.store in
-    let kept : ArePinPages m = subst (λ (l : List ℕ). ArePinPages l) (sym c.compare.ensures.kept) c.requires.pages in
-    changed_pages m _ c.args.new.now c.secret-secret.result kept c.put_value.ensures.any_exit
+    changed_pages _ _ c.args.new.now c.secret-secret.result (pages_stay _ _ c.compare.ensures.kept c.requires.pages)
+    c.put_value.ensures.any_exit
+
+pub returns-in_err-put_value-clause-reports : goal.returns-in_err-put_value-clause-reports
+returns-in_err-put_value-clause-reports g c = reports_then _ _ _ c.compare.ensures.reports c.put_value.ensures.reports
+
+pub returns-in_err-put_value-clause-spends : goal.returns-in_err-put_value-clause-spends
+returns-in_err-put_value-clause-spends g c = compares_then 10 _ _ _ _ c.compare.ensures.spends c.put_value.ensures.writes
+
+pub returns-in_ok-put_value-clause-any_exit : goal.returns-in_ok-put_value-clause-any_exit
+returns-in_ok-put_value-clause-any_exit g c =
+    matched_sets_or_not 10 c.args.charged c.secret-secret.result c.args.shown.now (changed_pin c.args.new.now) _ _ _
+    c.secret-secret.ensures.secret (match_told c.args.charged c.args.shown.now c.args.store.now c.compare.new.store
+    c.in_ok-outcome.outcome c.in-Matched.is c.in_ok-outcome.ensures.done) c.compare.ensures.kept c.put_value.ensures.writes
+    c.put_value.ensures.any_exit
+
+pub returns-in_ok-put_value-clause-done : goal.returns-in_ok-put_value-clause-done
+returns-in_ok-put_value-clause-done g c =
+    end_told c.args.charged c.args.shown.now ((changed_pin c.args.new.now) (pin_in c.args.store.now c.args.charged)) c.args.store.now
+    c.put_value.new.store c.in_ok-outcome.outcome c.in-Matched.is
+    (matched_sets 10 c.args.charged c.secret-secret.result c.args.shown.now (changed_pin c.args.new.now) _ _ _
+    c.secret-secret.ensures.secret (match_told c.args.charged c.args.shown.now c.args.store.now c.compare.new.store
+    c.in_ok-outcome.outcome c.in-Matched.is c.in_ok-outcome.ensures.done) c.compare.ensures.kept c.put_value.ensures.writes
+    c.in_ok-put_value.ensures.done)
 
 pub returns-in_ok-put_value-clause-pages : goal.returns-in_ok-put_value-clause-pages
 returns-in_ok-put_value-clause-pages g c =
-    let m = committed c.compare.new.store in
-    let kept : ArePinPages m = subst (λ (l : List ℕ). ArePinPages l) (sym c.compare.ensures.kept) c.requires.pages in
-    changed_pages m _ c.args.new.now c.secret-secret.result kept c.put_value.ensures.any_exit
+    changed_pages _ _ c.args.new.now c.secret-secret.result (pages_stay _ _ c.compare.ensures.kept c.requires.pages)
+    c.put_value.ensures.any_exit
+
+pub returns-in_ok-put_value-clause-reports : goal.returns-in_ok-put_value-clause-reports
+returns-in_ok-put_value-clause-reports g c = reports_then _ _ _ c.compare.ensures.reports c.put_value.ensures.reports
+
+pub returns-in_ok-put_value-clause-spends : goal.returns-in_ok-put_value-clause-spends
+returns-in_ok-put_value-clause-spends g c = compares_then 10 _ _ _ _ c.compare.ensures.spends c.put_value.ensures.writes
+
+pub returns-in_default-clause-any_exit : goal.returns-in_default-clause-any_exit
+returns-in_default-clause-any_exit g c = inl c.compare.ensures.kept
+
+pub returns-in_default-clause-pages : goal.returns-in_default-clause-pages
+returns-in_default-clause-pages g c = pages_stay _ _ c.compare.ensures.kept c.requires.pages
+
+pub returns-in_default-clause-spends : goal.returns-in_default-clause-spends
+returns-in_default-clause-spends g c = compares_more 10 _ _ _ c.compare.ensures.spends

@@ -1,0 +1,151 @@
+-- What the calls of a charge, and of an end, leave together: reads, a comparison, and then writes that set the PIN.
+use Rattle.std.specs.Prelude.{◌-◌}
+use Rattle.std.proofs.Common.{◌≡◌, ◌⊎◌, ◌<◌, ◌≤◌, ◌+◌, ℕ, List, refl, sym, ◌∙◌, ap, subst, inl, inr, arith}
+use Rattle.std.proofs.Math.Logic.{⊎_map}
+use Rattle.nvm_board.specs.Facts.{Facts, RisesAt, raised}
+use Rattle.undo_journal.specs.Calls.{OnlyReads}
+use Rattle.undo_journal.specs.Memory.{Memory, committed}
+use Rattle.undo_journal.specs.Spending.{WritesAtMost}
+use Rattle.pin_store.specs.Pins.{Pin, kept, owner, tries_left, with_tries}
+use Rattle.pin_store.specs.Pages.{pin_at, ArePinPages, SetsPin}
+use Rattle.pin_store.specs.Trials.{pin_in, Charges, Compared, ComparesOnce, Ends, IsMatch, IsWrong, SetsByMatch}
+use Rattle.pin_store.specs.declared.errors.Outcome.{Outcome}
+use Rattle.pin_store.specs.declared.errors.Outcome.TheVariants.{Matched}
+
+-- where what is committed stays, the pages of PINs do
+pub pages_stay : (m after : List ℕ) → after ≡ m → ArePinPages m → ArePinPages after
+pages_stay m after same pages = subst (λ (l : List ℕ). ArePinPages l) (sym same) pages
+
+-- writes after reads
+pub writes_after : (n : ℕ) (a b c : Memory) → OnlyReads a b → WritesAtMost n b.facts c.facts
+    → WritesAtMost n a.facts c.facts
+writes_after n a b c reads rest = record {
+  writes = omega (arith, reads.board.writes, rest.writes);
+  compares = rest.compares ∙ reads.board.compares;
+  matches = rest.matches ∙ reads.board.matches;
+}
+
+-- the tries were read, there was one, and one fewer was set
+pub charges : (secret left : ℕ) (a b c : Memory) → OnlyReads a b → left ≡ tries_left secret (pin_in a secret) → 0 < left
+    → SetsPin (committed b) (owner secret) (with_tries secret (left - 1) (pin_in b secret)) (committed c)
+    → Charges secret a c
+charges secret left a b c reads told some sets =
+    let by_left : ℕ → Type 0 = λ n. SetsPin (committed b) (owner secret) (with_tries secret (n - 1) (pin_in b secret))
+    (committed c) in
+    let by_words : List ℕ → Type 0 = λ m. SetsPin m (owner secret)
+    (with_tries secret (tries_left secret (pin_in a secret) - 1) (pin_at m (owner secret))) (committed c) in
+    record {
+      left = subst (λ (n : ℕ). 0 < n) told some;
+      charged = subst by_words reads.keeps.committed_words (subst by_left told sets);
+    }
+
+-- or nothing was
+pub charges_or_not : (secret left : ℕ) (a b c : Memory) → OnlyReads a b → left ≡ tries_left secret (pin_in a secret)
+    → 0 < left
+    → (committed c ≡ committed b) ⊎ SetsPin (committed b) (owner secret) (with_tries secret (left - 1) (pin_in b secret))
+    (committed c)
+    → (committed c ≡ committed a) ⊎ Charges secret a c
+charges_or_not secret left a b c reads told some either =
+    ⊎_map (λ stays. stays ∙ reads.keeps.committed_words) (λ sets. charges secret left a b c reads told some sets) either
+
+-- reads, and no comparison
+pub compares_none : (secret : ℕ) (a b : Memory) → OnlyReads a b → ComparesOnce 0 secret a.facts b.facts
+compares_none secret a b reads = record {
+  writes = omega (arith, reads.board.writes);
+  compares = inl reads.board.compares;
+  matches = inl reads.board.matches;
+}
+
+-- a comparison after reads
+pub compares_after : (secret named : ℕ) (a b c : Memory) → named ≡ secret → OnlyReads a b
+    → c.facts.writes ≡ b.facts.writes → RisesAt b.facts.compares named c.facts.compares
+    → RisesAt b.facts.matches named c.facts.matches → ComparesOnce 0 secret a.facts c.facts
+compares_after secret named a b c is reads writes compared matched =
+    let family : ℕ → Type 0 = λ s. ComparesOnce 0 s a.facts c.facts in
+    subst family is (record {
+      writes = omega (arith, writes, reads.board.writes);
+      compares = subst (λ (l : List ℕ). RisesAt l named c.facts.compares) reads.board.compares compared;
+      matches = subst (λ (l : List ℕ). RisesAt l named c.facts.matches) reads.board.matches matched;
+    })
+
+-- what was read is what was shown
+pub is_match : (secret named : ℕ) (shown bytes : List ℕ) (a b c : Memory) → named ≡ secret → OnlyReads a b
+    → bytes ≡ kept named (pin_in a named) → bytes ≡ shown → c.facts.compares ≡ raised b.facts.compares named
+    → c.facts.matches ≡ raised b.facts.matches named → IsMatch secret shown a c
+is_match secret named shown bytes a b c is reads read same compared matched =
+    let family : ℕ → Type 0 = λ s. IsMatch s shown a c in
+    subst family is (record {
+      right = sym read ∙ same;
+      compared = compared ∙ ap (λ (l : List ℕ). raised l named) reads.board.compares;
+      matched = matched ∙ ap (λ (l : List ℕ). raised l named) reads.board.matches;
+    })
+
+-- or it isn't
+pub is_wrong : (secret named left : ℕ) (shown bytes : List ℕ) (a b c : Memory) → named ≡ secret → OnlyReads a b
+    → bytes ≡ kept named (pin_in a named) → ¬ (bytes ≡ shown) → left ≡ tries_left named (pin_in a named)
+    → c.facts.compares ≡ raised b.facts.compares named → c.facts.matches ≡ b.facts.matches
+    → c.facts.writes ≡ b.facts.writes → committed c ≡ committed b → IsWrong secret shown left a c
+is_wrong secret named left shown bytes a b c is reads read differs told compared matched writes same =
+    let family : ℕ → Type 0 = λ s. IsWrong s shown left a c in
+    subst family is (record {
+      wrong = λ right. differs (read ∙ right);
+      left = told;
+      compared = compared ∙ ap (λ (l : List ℕ). raised l named) reads.board.compares;
+      matched = matched ∙ reads.board.matches;
+      writes = writes ∙ reads.board.writes;
+      same = same ∙ reads.keeps.committed_words;
+    })
+
+-- writes after a comparison
+pub compares_then : (n secret : ℕ) (a b c : Facts) → ComparesOnce 0 secret a b → WritesAtMost n b c
+    → ComparesOnce n secret a c
+compares_then n secret a b c first rest = record {
+  writes = omega (arith, first.writes, rest.writes);
+  compares = ⊎_map (λ stay. rest.compares ∙ stay) (λ rise. rest.compares ∙ rise) first.compares;
+  matches = ⊎_map (λ stay. rest.matches ∙ stay) (λ rise. rest.matches ∙ rise) first.matches;
+}
+
+-- a comparison without writes is one with at most so many
+pub compares_more : (n secret : ℕ) (a b : Facts) → ComparesOnce 0 secret a b → ComparesOnce n secret a b
+compares_more n secret a b once = record {
+  writes = omega (arith, once.writes);
+  compares = once.compares;
+  matches = once.matches;
+}
+
+-- after a match a PIN is set, that of the secret under whichever name
+pub matched_sets : (n secret named : ℕ) (shown : List ℕ) (change : Pin → Pin) (a b c : Memory) → named ≡ secret
+    → IsMatch secret shown a b → committed b ≡ committed a → WritesAtMost n b.facts c.facts
+    → SetsPin (committed b) (owner named) (change (pin_in b named)) (committed c)
+    → SetsByMatch secret shown (change (pin_in a secret)) a c
+matched_sets n secret named shown change a b c is matched same rest sets =
+    let by_name : ℕ → Type 0 = λ s. SetsPin (committed b) (owner s) (change (pin_at (committed b) (owner s)))
+    (committed c) in
+    let by_words : List ℕ → Type 0 = λ m. SetsPin m (owner secret) (change (pin_at m (owner secret))) (committed c) in
+    record {
+      match_counted = record {
+        right = matched.right;
+        compared = rest.compares ∙ matched.compared;
+        matched = rest.matches ∙ matched.matched;
+      };
+      sets = subst by_words same (subst by_name is sets);
+    }
+
+-- or it stays
+pub matched_sets_or_not : (n secret named : ℕ) (shown : List ℕ) (change : Pin → Pin) (a b c : Memory) → named ≡ secret
+    → IsMatch secret shown a b → committed b ≡ committed a → WritesAtMost n b.facts c.facts
+    → (committed c ≡ committed b) ⊎ SetsPin (committed b) (owner named) (change (pin_in b named)) (committed c)
+    → (committed c ≡ committed a) ⊎ SetsByMatch secret shown (change (pin_in a secret)) a c
+matched_sets_or_not n secret named shown change a b c is matched same rest either =
+    ⊎_map (λ stays. stays ∙ same) (λ sets. matched_sets n secret named shown change a b c is matched same rest sets)
+    either
+
+-- what a comparison leaves where it tells of a match
+pub match_told : (secret : ℕ) (shown : List ℕ) (a b : Memory) (told : Outcome) → told ≡ Matched
+    → Compared secret shown a b told → IsMatch secret shown a b
+match_told secret shown a b told is compared = subst (λ (o : Outcome). Compared secret shown a b o) is compared
+
+-- what an end leaves where it tells of a match
+pub end_told : (secret : ℕ) (shown : List ℕ) (now : Pin) (a c : Memory) (told : Outcome) → told ≡ Matched
+    → SetsByMatch secret shown now a c → Ends secret shown now a c told
+end_told secret shown now a c told is sets = subst (λ (o : Outcome). Ends secret shown now a c o) (sym is) sets

@@ -1,0 +1,52 @@
+use Rattle.std.proofs.Common.{◌<◌, ℕ, List, refl, sym, ◌∙◌, subst, true≢false, below_more, arith}
+use Rattle.undo_journal.specs.Memory.{committed}
+use Rattle.undo_journal.specs.laws.Calls.{reads_same, reads_then}
+use Rattle.pin_store.specs.declared.layout.TheConstants.{PINS}
+use Rattle.pin_store.specs.Pages.{IsPinPage}
+use Rattle.pin_store.proofs.checking.are_pins.Goals as goal
+
+pub loop-pin-init : goal.loop-pin-init
+loop-pin-init g c = record {
+  ready = c.requires.ready;
+  reads = reads_same _;
+  so_far = λ pin none. absurd (omega (arith, none));
+}
+
+pub loop-pin-preserved : goal.loop-pin-preserved
+loop-pin-preserved g c =
+    let m = committed c.args.store.now in
+    let here : IsPinPage m c.loop-pin.pin =
+    subst (λ (l : List ℕ). IsPinPage l c.loop-pin.pin) c.loop-pin.invariant.reads.keeps.committed_words
+    (c.in_ok-is_pin_page.ensures.page.0 c.if-not-branch.false) in
+    record {
+      ready = c.in_ok-is_pin_page.ensures.ready;
+      reads = reads_then _ _ _ c.loop-pin.invariant.reads c.is_pin_page.ensures.reads;
+      so_far = below_more (λ (pin : ℕ). IsPinPage m pin) c.loop-pin.pin c.loop-pin.invariant.so_far here;
+    }
+
+pub returns-in_err-is_pin_page-clause-reads : goal.returns-in_err-is_pin_page-clause-reads
+returns-in_err-is_pin_page-clause-reads g c =
+    reads_then _ _ _ c.loop-pin.invariant.reads c.is_pin_page.ensures.reads
+
+pub returns-then-not-branch-clause-reads : goal.returns-then-not-branch-clause-reads
+returns-then-not-branch-clause-reads g c =
+    reads_then _ _ _ c.loop-pin.invariant.reads c.is_pin_page.ensures.reads
+
+pub returns-then-not-branch-clause-pins : goal.returns-then-not-branch-clause-pins
+returns-then-not-branch-clause-pins g c =
+    let here : c.loop-pin.pin < PINS = omega (arith, c.loop-pin-test.true) in
+    let now = committed c.loop-pin.store in (
+      λ no. absurd (true≢false (sym no)),
+      λ all. absurd (true≢false (sym (c.in_ok-is_pin_page.ensures.page.1
+          (subst (λ (l : List ℕ). IsPinPage l c.loop-pin.pin) (sym c.loop-pin.invariant.reads.keeps.committed_words)
+          (all.each c.loop-pin.pin here))) ∙ c.if-not-branch.true)),
+    )
+
+pub returns-clause-pins : goal.returns-clause-pins
+returns-clause-pins g c = (
+  λ _. record {
+    each = λ pin small. let below : pin < c.loop-pin.pin = omega (arith, small, c.loop-pin-test.false) in
+        c.loop-pin.invariant.so_far pin below;
+  },
+  λ _. refl,
+)
