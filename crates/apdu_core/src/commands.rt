@@ -1,6 +1,6 @@
 //! Commands as values, and their parsing: class, instruction, P1 and P2, and then lengths (ISO/IEC 7816-4, clause 5).
-ghost use Rattle.std.specs.Prelude.{◌≡◌, option_map, IfOk};
-ghost use Rattle.apdu_core.specs.Asked.{asked, row_of, is_class};
+ghost use Rattle.std.specs.Prelude.{◌≡◌, Some, option_map, IfOk};
+ghost use Rattle.apdu_core.specs.Asked.{asked, asked_by_row, row_of, is_class};
 ghost use Rattle.apdu_core.specs.Ranges.{IsInRange};
 ghost use Rattle.apdu_core.specs.Requests.{Gives};
 
@@ -134,28 +134,37 @@ impl<'a> Command<'a> {
         if !is_known_class(*class) {
             return Err(Sw::UNKNOWN_CLASS);
         }
-        match Instruction::of(*class, *instruction).ok_or(Sw::UNKNOWN_INSTRUCTION)? {
-            Instruction::Select => parse_select(*p1, *p2, rest),
-            Instruction::ReadBinary => parse_read_binary(*p1, *p2, rest),
-            Instruction::UpdateBinary => parse_update_binary(*p1, *p2, rest),
-            Instruction::CreateFile => parse_create_file(*p1, *p2, rest),
-            Instruction::DeleteFile => parse_delete_file(*p1, *p2, rest),
-            Instruction::ReadRecord => parse_read_record(*p1, *p2, rest),
-            Instruction::UpdateRecord => parse_update_record(*p1, *p2, rest),
-            Instruction::AppendRecord => parse_append_record(*p1, *p2, rest),
-            Instruction::SearchRecord => parse_search_record(*p1, *p2, rest),
-            Instruction::Increase => parse_increase(*p1, *p2, rest),
-            Instruction::ChangeLifeCycle(change) => parse_life_cycle_change(change, *p1, *p2, rest),
-            Instruction::TerminateCardUsage => parse_terminate_card_usage(*p1, *p2, rest),
-            Instruction::Verify => parse_verify(*p1, *p2, rest),
-            Instruction::ChangeReferenceData => parse_change_reference_data(*p1, *p2, rest),
-            Instruction::ResetRetryCounter => parse_reset_retry_counter(*p1, *p2, rest),
-        }
+        let known = Instruction::of(*class, *instruction).ok_or(Sw::UNKNOWN_INSTRUCTION)?;
+        known.parse_command(*p1, *p2, rest)
     }
 }
 
 impl Instruction {
     ghost use Rattle.apdu_core.specs.InstructionRow.{row_for};
+
+    /// Reads P1, P2 and what follows the header of a command with this instruction.
+    fn parse_command<'a>(self, p1: u8, p2: u8, rest: &'a [u8]) -> Result<Command<'a>, Sw>
+        ensures asked { Gives result (asked_by_row (Some (row_for self)) p1 p2 rest.now) }
+        ensures ranges { IfOk result IsInRange }
+    {
+        match self {
+            Instruction::Select => parse_select(p1, p2, rest),
+            Instruction::ReadBinary => parse_read_binary(p1, p2, rest),
+            Instruction::UpdateBinary => parse_update_binary(p1, p2, rest),
+            Instruction::CreateFile => parse_create_file(p1, p2, rest),
+            Instruction::DeleteFile => parse_delete_file(p1, p2, rest),
+            Instruction::ReadRecord => parse_read_record(p1, p2, rest),
+            Instruction::UpdateRecord => parse_update_record(p1, p2, rest),
+            Instruction::AppendRecord => parse_append_record(p1, p2, rest),
+            Instruction::SearchRecord => parse_search_record(p1, p2, rest),
+            Instruction::Increase => parse_increase(p1, p2, rest),
+            Instruction::ChangeLifeCycle(change) => parse_life_cycle_change(change, p1, p2, rest),
+            Instruction::TerminateCardUsage => parse_terminate_card_usage(p1, p2, rest),
+            Instruction::Verify => parse_verify(p1, p2, rest),
+            Instruction::ChangeReferenceData => parse_change_reference_data(p1, p2, rest),
+            Instruction::ResetRetryCounter => parse_reset_retry_counter(p1, p2, rest),
+        }
+    }
 
     /// The instruction under its class, if it is built.
     fn of(class: u8, instruction: u8) -> Option<Instruction>
