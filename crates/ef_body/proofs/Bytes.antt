@@ -28,11 +28,24 @@ take-first (suc k) zero xs few = absurd (omega (arith, few))
 take-first (suc k) (suc n) [] few = refl
 take-first (suc k) (suc n) (x ∷ xs) few = ap (λ (l : List ℕ). x ∷ l) (take-first k n xs (omega (arith, few)))
 
+-- the chain of a body has room for its bytes
+pub chain_whole : (m : List ℕ) (body : Transparent) → length m ≡ WORDS → IsTransparent m body
+    → body.size ≤ length (chain_bytes m body.chain)
+chain_whole m body sized is =
+    let all = length-bytes_of m (chain_of m body.chain) sized (leads_blocks m body.chain.first 0 (chain_of m
+    body.chain) is.chain.leads) in
+    let fits = is.fits in
+    omega (arith, all, fits)
+
 -- as many bytes of a body as are asked for, or all that are left
-pub taken : (bytes : List ℕ) (size offset most count : ℕ) → offset < size → size ≤ length bytes
-    → count ≡ min most (size - offset) → take count (drop offset bytes) ≡ take most (drop offset (take size bytes))
-taken bytes size offset most count inside whole is =
+pub taken : (m : List ℕ) (body : Transparent) → length m ≡ WORDS → IsTransparent m body → (offset most count : ℕ)
+    → offset < body.size → count ≡ min most (body.size - offset)
+    → take count (drop offset (chain_bytes m body.chain)) ≡ take most (drop offset (transparent_bytes m body))
+taken m body sized is_body offset most count inside is =
+    let bytes = chain_bytes m body.chain in
+    let size = body.size in
     let rest = size - offset in
+    let whole = chain_whole m body sized is_body in
     let split : offset + rest ≡ size = omega (arith, inside) in
     let back : drop offset (take size bytes) ≡ take rest (drop offset bytes) =
     sym (ap (λ (n : ℕ). drop offset (take n bytes)) split) ∙ drop-take offset rest bytes in
@@ -49,11 +62,7 @@ taken bytes size offset most count inside whole is =
 -- how many bytes a body has
 pub length-transparent : (m : List ℕ) (body : Transparent) → length m ≡ WORDS → IsTransparent m body
     → length (transparent_bytes m body) ≡ body.size
-length-transparent m body sized is =
-    let all = length-bytes_of m (chain_of m body.chain) sized (leads_blocks m body.chain.first 0 (chain_of m
-    body.chain) is.chain.leads) in
-    let fits = is.fits in
-    length-take-le body.size (chain_bytes m body.chain) (omega (arith, all, fits))
+length-transparent m body sized is = length-take-le body.size (chain_bytes m body.chain) (chain_whole m body sized is)
 
 -- bytes put within the first ones
 take-overwrite : (bytes new : List ℕ) (size offset : ℕ) → size ≤ length bytes → offset + length new ≤ size
@@ -79,12 +88,9 @@ pub bytes_put : (m after : List ℕ) (body : Transparent) (offset : ℕ) (bytes 
     → TransparentBecomes m body (overwrite (transparent_bytes m body) offset bytes) after
 bytes_put m after body offset bytes sized is within over =
     let blocks = chain_kept m after body.chain offset bytes sized is.chain over in
-    let all = length-bytes_of m (chain_of m body.chain) sized (leads_blocks m body.chain.first 0 (chain_of m
-    body.chain) is.chain.leads) in
-    let fits = is.fits in
     record {
       becomes = ap (take body.size) (ap (bytes_of after) blocks ∙ over.content)
-          ∙ take-overwrite (chain_bytes m body.chain) bytes body.size offset (omega (arith, all, fits)) within;
+          ∙ take-overwrite (chain_bytes m body.chain) bytes body.size offset (chain_whole m body sized is) within;
       blocks = blocks;
       only = over.only;
     }

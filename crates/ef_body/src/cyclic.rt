@@ -180,7 +180,6 @@ impl Cyclic {
     /// # Errors
     /// 6A83 where there is no record, 9850 where the sum doesn't fit a record. What the store answers: then the
     /// records are as before, or with the new one. In each case the buffer may hold anything.
-    #[tactic(auto, using(undo_journal::specs::MemoryLaws::reports_then))]
     pub fn increase<B: Board, const N: usize>(
         self,
         store: &mut Store<B>,

@@ -4,6 +4,7 @@ ghost use Rattle.std.specs.Result.{result_err};
 ghost use Rattle.undo_journal.specs.Memory.{committed, IsReady};
 ghost use Rattle.undo_journal.specs.Calls.{OnlyReads};
 ghost use Rattle.block_chain.specs.Chains.{Leads, chain_of, chain_bytes};
+ghost use Rattle.block_chain.specs.Changes.{AppendsSome};
 ghost use Rattle.block_chain.specs.declared.layout.TheConstants.{BLOCK_BYTES};
 ghost use Rattle.ef_body.specs.Records.{record_of};
 ghost use Rattle.ef_body.specs.Bodies.{cyclic_records, IsCyclic};
@@ -28,6 +29,8 @@ pub(crate) fn read_anew<B: Board, const N: usize>(
     requires empty { bytes.old.items ≡ [] }
     ensures bytes { OnOk result (bytes.new.items ≡ take count (drop offset (chain_bytes (committed store.old)
         chain))) }
+    ensures any_exit { AppendsSome [] (take count (drop offset (chain_bytes (committed store.old) chain)))
+        bytes.new.items }
     ensures ready { OnOk result (IsReady store.new) }
     ensures reads { OnlyReads store.old store.new }
     ensures tells { store.new.failed ≡ result_err result }

@@ -107,7 +107,6 @@ fn note<const N: usize>(numbers: &mut ArrayVec<u8, N>, number: u16, holds: bool)
 }
 
 /// Puts the numbers of the records that hold the text into the empty buffer, from the record of a number on.
-#[tactic(auto, using(undo_journal::specs::laws::Calls::reads_then))]
 pub(crate) fn search_records<B: Board, const N: usize>(
     body: Cyclic,
     store: &mut Store<B>,

@@ -4,7 +4,7 @@ ghost use Rattle.std.specs.Result.{result_err};
 ghost use Rattle.undo_journal.specs.Memory.{committed, IsReady, IsIdle, Reports};
 ghost use Rattle.undo_journal.specs.Calls.{OnlyReads};
 ghost use Rattle.undo_journal.specs.Spending.{WritesAtMost};
-ghost use Rattle.block_chain.specs.Changes.{overwrite, touched_words};
+ghost use Rattle.block_chain.specs.Changes.{overwrite, touched_words, AppendsSome};
 ghost use Rattle.ef_body.specs.Refusals.{past_end, overlong, Decides, UnlessFailed, IfRefused, failure};
 ghost use Rattle.ef_body.specs.Bodies.{transparent_bytes, IsTransparent};
 ghost use Rattle.ef_body.specs.Changes.{TransparentBecomes};
@@ -45,7 +45,7 @@ impl Transparent {
     ///
     /// # Errors
     /// 6B00 where the offset is at the end of the body or past it: then the buffer is empty. What the store answers:
-    /// then the buffer may hold some of the bytes.
+    /// then the buffer may hold some of the bytes, from the first on.
     pub fn read<B: Board, const N: usize>(
         self,
         store: &mut Store<B>,
@@ -58,6 +58,8 @@ impl Transparent {
         requires room { most ≤ N }
         ensures bytes { OnOk result (bytes.new.items
             ≡ take most (drop offset (transparent_bytes (committed store.old) self))) }
+        ensures any_exit { AppendsSome [] (take most (drop offset (transparent_bytes (committed store.old) self)))
+            bytes.new.items }
         ensures refusal { Decides (past_end (transparent_bytes (committed store.old) self) offset) (result_err
             result) }
         ensures refused { IfRefused (result_err result) ((bytes.new.items ≡ []) × (store.new ≡ store.old)) }

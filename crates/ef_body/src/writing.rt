@@ -26,7 +26,6 @@ pub(crate) fn counts(number: u16, start: u16) -> u32
 }
 
 /// Puts bytes in place of those of a chain from an offset on, in one transaction.
-#[tactic(auto, using(undo_journal::specs::MemoryLaws::reports_then))]
 pub(crate) fn put_bytes<B: Board>(
     store: &mut Store<B>,
     chain: Chain,
@@ -57,7 +56,6 @@ pub(crate) fn put_bytes<B: Board>(
 
 /// Puts a record's bytes in place of those of a chain from an offset on, and then sets the word of the entry, in one
 /// transaction.
-#[tactic(auto, using(undo_journal::specs::MemoryLaws::reports_then))]
 pub(crate) fn put_record<B: Board>(
     store: &mut Store<B>,
     chain: Chain,

@@ -1,4 +1,4 @@
-use Rattle.std.proofs.Common.{rules, ◌≡◌, ◌≤◌, ◌<◌, ◌++◌, ◌∷◌, [], cond, Bool, List, ℕ, arith, ap, ap₂, ◌∙◌, sym}
+use Rattle.std.proofs.Common.{rules, ◌≡◌, ◌≤◌, ◌<◌, ◌++◌, ◌∷◌, [], cond, Bool, List, ℕ, arith, ap, ap₂, ◌∙◌, sym, subst}
 use Rattle.std.proofs.Common.{length, take, slice_index}
 use Rattle.std.proofs.lemmas.List.{length-take-le, take_all}
 use Rattle.std.specs.List.{filter}
@@ -6,7 +6,7 @@ use Rattle.undo_journal.specs.Memory.{committed}
 use Rattle.undo_journal.specs.laws.Calls.{reads_same, reads_then}
 use Rattle.ef_body.specs.Records.{record_of}
 use Rattle.ef_body.specs.Searching.{stands_in, numbers_on}
-use Rattle.ef_body.specs.Bodies.{cyclic_records}
+use Rattle.ef_body.specs.Bodies.{cyclic_records, IsCyclic}
 use Rattle.ef_body.proofs.Becoming.{length-cyclic}
 use Rattle.ef_body.proofs.Finding.{steps_few, filter-next, filter-few}
 use Rattle.ef_body.proofs.search.search_records.Goals as goal
@@ -17,6 +17,15 @@ loop-step-init g c = record {
   reads = reads_same _;
   so_far = c.requires.empty;
 }
+
+pub record_holds-requires-clause-body : goal.record_holds-requires-clause-body
+record_holds-requires-clause-body g c =
+    subst (λ (m : List ℕ). IsCyclic m c.args.body) (sym c.loop-step.invariant.reads.keeps.committed_words)
+    c.requires.body
+
+pub returns-in_err-holds-clause-reads : goal.returns-in_err-holds-clause-reads
+returns-in_err-holds-clause-reads g c =
+    reads_then _ _ _ c.loop-step.invariant.reads c.record_holds.ensures.reads
 
 -- what is looked at in the step
 pub note-requires : goal.note-requires

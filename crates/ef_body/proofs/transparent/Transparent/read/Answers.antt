@@ -1,7 +1,6 @@
-use Rattle.std.proofs.Common.{rules, ◌≤◌, arith, ◌∙◌, length}
+use Rattle.std.proofs.Common.{rules, ℕ, List, [], arith, ◌∙◌, subst}
 use Rattle.undo_journal.specs.Memory.{committed}
-use Rattle.block_chain.specs.Chains.{chain_of, chain_bytes}
-use Rattle.block_chain.specs.laws.Bytes.{leads_blocks, length-bytes_of}
+use Rattle.block_chain.specs.Changes.{AppendsSome}
 use Rattle.ef_body.specs.Bodies.{transparent_bytes}
 use Rattle.ef_body.proofs.Bytes.{length-transparent, inside, offset_past, offset_inside, taken}
 use Rattle.ef_body.proofs.Refusing.{store_decides}
@@ -51,14 +50,34 @@ returns-clause-bytes g c =
     let low = inside (transparent_bytes m c.args.self) c.args.self.size c.args.offset c.ends_at.result
     (length-transparent m c.args.self c.requires.ready.usable.committed_size c.requires.body) c.ends_at.ensures
     c.if-ends_at.false in
-    let all = length-bytes_of m (chain_of m c.args.self.chain) c.requires.ready.usable.committed_size
-    (leads_blocks m c.args.self.chain.first 0 (chain_of m c.args.self.chain) c.requires.body.chain.leads) in
-    let fits = c.requires.body.fits in
-    let whole : c.args.self.size ≤ length (chain_bytes m c.args.self.chain) = omega (arith, all, fits) in
     c.in_ok-read_anew.ensures.bytes
-    ∙ taken (chain_bytes m c.args.self.chain) c.args.self.size c.args.offset c.args.most c.smaller-count.result low
-    whole
-    c.smaller-count.ensures
+    ∙ taken m c.args.self c.requires.ready.usable.committed_size c.requires.body c.args.offset c.args.most
+    c.smaller-count.result low c.smaller-count.ensures
+
+pub returns-then-ends_at-clause-any_exit : goal.returns-then-ends_at-clause-any_exit
+returns-then-ends_at-clause-any_exit g c = record { some = 0; is = c.clear.ensures }
+
+pub returns-in_err-read_anew-clause-any_exit : goal.returns-in_err-read_anew-clause-any_exit
+returns-in_err-read_anew-clause-any_exit g c =
+    let m = committed c.args.store.now in
+    let low = inside (transparent_bytes m c.args.self) c.args.self.size c.args.offset c.ends_at.result
+    (length-transparent m c.args.self c.requires.ready.usable.committed_size c.requires.body) c.ends_at.ensures
+    c.if-ends_at.false in
+    subst (λ (l : List ℕ). AppendsSome [] l c.read_anew.new.bytes.items)
+    (taken m c.args.self c.requires.ready.usable.committed_size c.requires.body c.args.offset c.args.most
+    c.smaller-count.result low c.smaller-count.ensures)
+    c.read_anew.ensures.any_exit
+
+pub returns-clause-any_exit : goal.returns-clause-any_exit
+returns-clause-any_exit g c =
+    let m = committed c.args.store.now in
+    let low = inside (transparent_bytes m c.args.self) c.args.self.size c.args.offset c.ends_at.result
+    (length-transparent m c.args.self c.requires.ready.usable.committed_size c.requires.body) c.ends_at.ensures
+    c.if-ends_at.false in
+    subst (λ (l : List ℕ). AppendsSome [] l c.read_anew.new.bytes.items)
+    (taken m c.args.self c.requires.ready.usable.committed_size c.requires.body c.args.offset c.args.most
+    c.smaller-count.result low c.smaller-count.ensures)
+    c.read_anew.ensures.any_exit
 
 pub returns-in_err-read_anew-clause-refusal : goal.returns-in_err-read_anew-clause-refusal
 returns-in_err-read_anew-clause-refusal g c =
