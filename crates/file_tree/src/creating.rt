@@ -1,6 +1,6 @@
 //! Creating a file.
 
-ghost use Rattle.std.specs.Prelude.{◌≡◌, ◌≢◌, ◌⊎◌, ◌<◌, ◌≤◌, ◌+◌, length, Some, IfOk, OnOk};
+ghost use Rattle.std.specs.Prelude.{◌≡◌, ◌≢◌, ◌⊎◌, ◌<◌, ◌≤◌, ◌+◌, length, Some, IfOk, OnOk, if◌then◌else◌};
 ghost use Rattle.std.specs.Result.{result_err};
 ghost use Rattle.card_rules.specs.declared.status.Sw.{Sw};
 ghost use Rattle.fcp_template.specs.declared.fcp.ShortIdentifier.TheVariants.{Absent};
@@ -46,6 +46,13 @@ const BLANK: u8 = 0xFF;
 /// The most that a short identifier is.
 const MOST_SHORT: u8 = 30;
 
+/// A short identifier, or 0 where a child has it.
+fn if_free(short: u8, is_taken: bool) -> u8
+    ensures { result ≡ (if is_taken then 0 else short) }
+{
+    if is_taken { 0 } else { short }
+}
+
 /// The low five bits of an identifier as a short identifier, if no child has it; 0 for none.
 #[tactic(auto, using(undo_journal::specs::laws::Calls::reads_then))]
 fn short_by_default<B: Board>(store: &mut Store<B>, df: u8, identifier: u16) -> Result<u8, StoreErr>
@@ -63,10 +70,7 @@ fn short_by_default<B: Board>(store: &mut Store<B>, df: u8, identifier: u16) -> 
         return Ok(0);
     }
     let found = find_short(store, df, low)?;
-    if found.is_some() {
-        return Ok(0);
-    }
-    Ok(low)
+    Ok(if_free(low, found.is_some()))
 }
 
 /// The short identifier of a new file of a kind that has one; 0 for none.

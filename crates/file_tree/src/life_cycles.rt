@@ -20,8 +20,7 @@ ghost use Rattle.file_tree.specs.laws.Living.{TellsLife};
 use crate::deleting::put;
 use crate::entry::Entry;
 use crate::layout::{CARD_TERMINATED, DEEPEST, FIRST_ENTRY_PAGE, STATE_WORD};
-use crate::reading::{read_entry, read_table};
-use crate::table::parent_of;
+use crate::reading::read_entry;
 use crate::writing::two_bytes;
 use block_chain::HEADER_PAGE;
 use card_rules::{AccessBit, Compact, LifeCycle, LifeCycleCommand, Verified};
@@ -47,50 +46,45 @@ fn life_of(entry: &Entry) -> LifeCycle
     }
 }
 
-/// The state that the entry of a number tells; past the table that of a free entry.
-#[tactic(auto, using(crate::specs::laws::Tables::entry_past, crate::specs::laws::Tables::entry_within))]
-fn life_in(entries: &[Entry], e: u8) -> LifeCycle
-    ensures { result ≡ life_told (entry_in entries.now e) }
-{
-    match entries.get(usize::from(e)) {
-        Some(entry) => life_of(entry),
-        None => LifeCycle::Activated,
-    }
-}
-
-/// A file above that of an entry is deactivated or terminated.
-fn is_below_barred(entries: &[Entry], e: u8) -> bool
-    ensures { result ≡ barred_up entries.now 7 e }
+/// A file above that of an entry is deactivated or terminated. By at most seven steps from child to parent all files above
+/// are met; each step reads one entry, and a file that bars ends the way. `parent` is the number that the entry tells of
+/// its parent.
+#[tactic(auto, using(undo_journal::specs::laws::Calls::reads_then))]
+fn is_below_barred<B: Board>(store: &mut Store<B>, e: u8, parent: u8) -> Result<bool, StoreErr>
+    requires ready { IsReady store.old }
+    requires tree { TreeStands (committed store.old) }
+    requires used { IsUsed (table (committed store.old)) e }
+    requires parent { parent ≡ (entry_in (table (committed store.old)) e).parent }
+    ensures barred { IfOk result (λ barred. barred ≡ barred_up (table (committed store.old)) 7 e) }
+    ensures ready { OnOk result (IsReady store.new) }
+    ensures reads { OnlyReads store.old store.new }
+    ensures tells { store.new.failed ≡ result_err result }
 {
     let mut at = e;
+    let mut above = parent;
     for _step in 0..DEEPEST {
         if at == 0 {
-            return false;
+            return Ok(false);
         }
-        at = parent_of(entries, at);
-        if bars(life_in(entries, at)) {
-            return true;
+        let entry = read_entry(store, above)?;
+        if bars(life_of(&entry)) {
+            return Ok(true);
         }
+        at = above;
+        above = entry.parent;
     }
-    false
+    Ok(false)
 }
 
-/// The file of an entry, or one above it, is deactivated or terminated.
-fn is_barred_in(entries: &[Entry], e: u8) -> bool
-    ensures { result ≡ (bars (life_told (entry_in entries.now e)) || barred_up entries.now 7 e) }
+/// The state of an entry's file after a command, or None where it is refused: `barred` says that a file above is
+/// deactivated or terminated.
+fn next_of(entry: &Entry, barred: bool, command: LifeCycleCommand) -> Option<LifeCycle>
+    ensures { result ≡ (if barred then None else state_after command (life_told entry.now)) }
 {
-    bars(life_in(entries, e)) || is_below_barred(entries, e)
-}
-
-/// The state of an entry's file after a command, or None where it is refused.
-fn next_in(entries: &[Entry], e: u8, command: LifeCycleCommand) -> Option<LifeCycle>
-    ensures { result ≡ (if barred_up entries.now 7 e then None else
-        state_after command (life_told (entry_in entries.now e))) }
-{
-    if is_below_barred(entries, e) {
+    if barred {
         None
     } else {
-        LifeCycle::next_state(command, life_in(entries, e))
+        LifeCycle::next_state(command, life_of(entry))
     }
 }
 
@@ -109,8 +103,12 @@ pub fn is_barred<B: Board>(store: &mut Store<B>, e: u8) -> Result<bool, StoreErr
     ensures reads { OnlyReads store.old store.new }
     ensures tells { store.new.failed ≡ result_err result }
 {
-    let entries = read_table(store)?;
-    Ok(is_barred_in(entries.as_slice(), e))
+    let entry = read_entry(store, e)?;
+    if bars(life_of(&entry)) {
+        return Ok(true);
+    }
+    let barred = is_below_barred(store, e, entry.parent)?;
+    Ok(barred)
 }
 
 /// The state of an entry's file after a life cycle command. None where it is refused, as its conditions of use aren't
@@ -133,8 +131,9 @@ pub fn next_life_cycle<B: Board>(
     ensures reads { OnlyReads store.old store.new }
     ensures tells { store.new.failed ≡ result_err result }
 {
-    let entries = read_table(store)?;
-    Ok(next_in(entries.as_slice(), e, command))
+    let entry = read_entry(store, e)?;
+    let barred = is_below_barred(store, e, entry.parent)?;
+    Ok(next_of(&entry, barred, command))
 }
 
 /// The first word of an entry in another state.

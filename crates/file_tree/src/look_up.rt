@@ -1,17 +1,26 @@
 //! Files by their names: every look-up of an identifier goes through `find_child`.
 
-ghost use Rattle.std.specs.Prelude.{◌≡◌, ◌≤◌, ◌<◌, IfOk, OnOk, IfSome, option_map};
+ghost use Rattle.std.specs.Prelude.{◌≡◌, ◌==◌, ◌≤◌, ◌<◌, ◌↔◌, IsTrue, IfOk, OnOk, IfSome, Some, None, option_map};
+ghost use Rattle.std.specs.Prelude.{if◌then◌else◌};
 ghost use Rattle.std.specs.Result.{result_err};
 ghost use Rattle.undo_journal.specs.Memory.{committed, IsReady};
 ghost use Rattle.undo_journal.specs.Calls.{OnlyReads};
 ghost use Rattle.file_tree.specs.Reaching.{reached, child_by_short};
 ghost use Rattle.file_tree.specs.Table.{table, entry_in, path_of, IsUsed, IsChild};
 ghost use Rattle.file_tree.specs.Trees.{tree_of, TreeStands};
-ghost use Rattle.file_tree.specs.laws.LookUps.{TellsChild, TellsShort, TellsBeside, TellsAbove};
+ghost use Rattle.file_tree.specs.laws.LookUps.{NamesChild, NamesShort, TellsChild, TellsShort, TellsBeside, TellsAbove};
 
+use crate::entry::Entry;
 use crate::layout::{ENTRIES, MASTER_FILE};
 use crate::reading::read_entry;
 use undo_journal::{Board, Store, StoreErr};
+
+/// An entry is that of a child of a dedicated file with this identifier.
+fn is_child(entry: &Entry, df: u8, identifier: u16) -> bool
+    ensures { IsTrue result ↔ NamesChild entry.now df identifier }
+{
+    entry.kind != 0 && entry.parent == df && entry.identifier == identifier
+}
 
 /// The entry of the child of a dedicated file with this identifier, if it has one.
 #[tactic(auto, using(undo_journal::specs::laws::Calls::reads_then))]
@@ -28,11 +37,18 @@ pub fn find_child<B: Board>(
 {
     for e in 1..ENTRIES as u8 {
         let entry = read_entry(store, e)?;
-        if entry.kind != 0 && entry.parent == df && entry.identifier == identifier {
+        if is_child(&entry, df, identifier) {
             return Ok(Some(e));
         }
     }
     Ok(None)
+}
+
+/// An entry is that of a child of a dedicated file with this short identifier.
+fn has_short_identifier(entry: &Entry, df: u8, short: u8) -> bool
+    ensures { IsTrue result ↔ NamesShort entry.now df short }
+{
+    entry.kind != 0 && entry.parent == df && entry.short == short
 }
 
 /// The entry of the child of a dedicated file with this short identifier, 1 to 30, if it has one.
@@ -50,7 +66,7 @@ fn find_short_child<B: Board>(
 {
     for e in 1..ENTRIES as u8 {
         let entry = read_entry(store, e)?;
-        if entry.kind != 0 && entry.parent == df && entry.short == short {
+        if has_short_identifier(&entry, df, short) {
             return Ok(Some(e));
         }
     }
@@ -79,6 +95,13 @@ pub fn find_short<B: Board>(store: &mut Store<B>, df: u8, short: u8) -> Result<O
     Ok(found)
 }
 
+/// The number of an entry whose file is a dedicated one.
+fn if_dedicated(e: u8, entry: &Entry) -> Option<u8>
+    ensures { result ≡ (if entry.now.kind == 1 then Some e else None) }
+{
+    if entry.kind == 1 { Some(e) } else { None }
+}
+
 /// A dedicated file beside this one with this identifier. The master file has none beside it.
 #[tactic(auto, using(undo_journal::specs::laws::Calls::reads_then))]
 fn find_beside<B: Board>(
@@ -102,11 +125,7 @@ fn find_beside<B: Board>(
         return Ok(None);
     };
     let other = read_entry(store, beside)?;
-    if other.kind == 1 {
-        Ok(Some(beside))
-    } else {
-        Ok(None)
-    }
+    Ok(if_dedicated(beside, &other))
 }
 
 /// The parent of a dedicated file, or itself, or the master file: the first that has this identifier.

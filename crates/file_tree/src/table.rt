@@ -1,6 +1,6 @@
 //! The rules on the table of entries. They look at entries that were read; no store is touched.
 
-ghost use Rattle.std.specs.Prelude.{◌≡◌, ◌≢◌, ◌⊎◌, ◌↔◌, ◌<◌, ◌≤◌, ℕ, length, slice_index_or, IsTrue, All};
+ghost use Rattle.std.specs.Prelude.{◌≡◌, ◌≢◌, ◌⊎◌, ◌↔◌, ◌==◌, ◌<◌, ◌≤◌, ℕ, length, slice_index_or, IsTrue, All};
 ghost use Rattle.std.specs.List.{filter_map};
 ghost use Rattle.file_tree.specs.Entries.{extent_of};
 ghost use Rattle.file_tree.specs.Table.{entry_in, ancestor, extents, IsUsed, IsMasterFile, IsBelowMaster, IsTable};
@@ -140,6 +140,13 @@ pub fn extents_of(entries: &[Entry]) -> ExtentList
     extents
 }
 
+/// No file has an entry.
+fn is_free(entry: &Entry) -> bool
+    ensures { result ≡ (entry.now.kind == 0) }
+{
+    entry.kind == 0
+}
+
 /// How many entries no file has.
 pub(crate) fn count_free(entries: &[Entry]) -> u16
     requires { length entries.now ≡ 64 }
@@ -147,7 +154,7 @@ pub(crate) fn count_free(entries: &[Entry]) -> u16
 {
     let mut free = 0;
     for entry in entries {
-        if entry.kind == 0 {
+        if is_free(entry) {
             free += 1;
         }
     }

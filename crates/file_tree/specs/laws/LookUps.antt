@@ -8,12 +8,23 @@ use Rattle.std.proofs.lemmas.Bool.Decides.{eqb_tells}
 use Rattle.file_tree.specs.declared.entry.Entry.{Entry}
 use Rattle.file_tree.specs.Cards.{Path, File, master_file, parent, identifier, no_file, exists, file_at, is_dedicated}
 use Rattle.file_tree.specs.Reaching.{Candidate, first_reached, reached}
-use Rattle.file_tree.specs.Table.{table, entry_in, path_of, IsUsed, IsChild, IsTable}
+use Rattle.file_tree.specs.Table.{table, entry_in, path_of, IsUsed, IsChild, HaveIdentifiers, IsTable}
 use Rattle.file_tree.specs.Trees.{content, tree_of}
 use Rattle.file_tree.specs.laws.Paths.{path-zero, path_of-empty, parent_path, identifier_path, parent_used}
 use Rattle.file_tree.specs.laws.Paths.{master_used, child_of_path, path_of_child}
 use Rattle.file_tree.specs.laws.Nodes.{used_small, entry_found, exists-used, exists-none, file_at_entry}
 use Rattle.file_tree.specs.laws.Nodes.{dedicated_entry}
+
+-- an entry is a file's in a dedicated file, with an identifier; with a short identifier
+pub record NamesChild (x : Entry) (df id : ℕ) : Type 0 where
+  pub used : x.kind ≢ 0
+  pub parent : x.parent ≡ df
+  pub identifier : x.identifier ≡ id
+
+pub record NamesShort (x : Entry) (df n : ℕ) : Type 0 where
+  pub used : x.kind ≢ 0
+  pub parent : x.parent ≡ df
+  pub short : x.short ≡ n
 
 -- the child with an identifier, or None where no child has it
 abbrev pub TellsChild : List Entry → ℕ → ℕ → Option ℕ → Type 0
@@ -39,6 +50,47 @@ TellsAbove t df id found =
     found ≡ (if not (df == 0) && ((entry_in t above).identifier == id) then Some above else
     if (entry_in t df).identifier == id then Some df else
     if master_file == id then Some 0 else None)
+
+-- the entry of a number names a child, or names none
+pub child_there : (t : List Entry) (df id e : ℕ) (x : Entry) → x ≡ entry_in t e → 0 < e → NamesChild x df id
+    → TellsChild t df id (Some e)
+child_there t df id e x is below names =
+    let here = subst (λ (y : Entry). NamesChild y df id) is names in
+    (record { below = below; used = here.used; parent = here.parent }, here.identifier)
+
+pub no_child_there : (t : List Entry) (df id e : ℕ) (x : Entry) → x ≡ entry_in t e → (NamesChild x df id → ⊥)
+    → IsChild t df e → (entry_in t e).identifier ≡ id → ⊥
+no_child_there t df id e x is not_named child same =
+    not_named (subst (λ (y : Entry). NamesChild y df id) (sym is)
+    (record { used = child.used; parent = child.parent; identifier = same }))
+
+pub short_there : (t : List Entry) (df n e : ℕ) (x : Entry) → x ≡ entry_in t e → 0 < e → NamesShort x df n
+    → TellsShort t df n (Some e)
+short_there t df n e x is below names =
+    let here = subst (λ (y : Entry). NamesShort y df n) is names in
+    (record { below = below; used = here.used; parent = here.parent }, here.short)
+
+pub no_short_there : (t : List Entry) (df n e : ℕ) (x : Entry) → x ≡ entry_in t e → (NamesShort x df n → ⊥)
+    → IsChild t df e → (entry_in t e).short ≡ n → ⊥
+no_short_there t df n e x is not_named child same =
+    not_named (subst (λ (y : Entry). NamesShort y df n) (sym is)
+    (record { used = child.used; parent = child.parent; short = same }))
+
+-- of the children of the parent the one with the identifier is beside, if it is a dedicated file
+pub beside_there : (t : List Entry) (df id e : ℕ) (x : Entry) (found : Option ℕ) → HaveIdentifiers t → df ≢ 0
+    → TellsChild t (entry_in t df).parent id (Some e) → x ≡ entry_in t e
+    → found ≡ (if x.kind == 1 then Some e else None) → TellsBeside t df id found
+beside_there t df id e x found one below told is tells = elim (eqb_tells x.kind 1) [
+  | inl same ↦
+      let kind = ap (λ (y : Entry). y.kind) (sym is) ∙ same.1 in
+      let answer = tells ∙ ap (λ (b : Bool). if b then Some e else None) same.0 in
+      subst (λ (o : Option ℕ). TellsBeside t df id o) (sym answer) (below, told.0, kind, told.1)
+  | inr other ↦
+      let answer = tells ∙ ap (λ (b : Bool). if b then Some e else None) other.0 in
+      subst (λ (o : Option ℕ). TellsBeside t df id o) (sym answer) (λ some f child dedicated named.
+      let same = one (entry_in t df).parent e f told.0 child (told.1 ∙ sym named) in
+      other.1 (ap (λ (y : Entry). y.kind) is ∙ ap (λ (k : ℕ). (entry_in t k).kind) same ∙ dedicated))
+]
 
 -- what was told of the words as they were
 pub told_child : (m now : List ℕ) (p q id : ℕ) (o : Option ℕ) (e : ℕ) → now ≡ m → p ≡ q → o ≡ Some e

@@ -1,10 +1,8 @@
 -- What writing bytes of blocks makes of the tree: bytes of one file, and of free blocks.
-use Rattle.std.specs.Prelude.{◌≡◌, ◌≢◌, ◌<◌, ◌≤◌, ◌+◌, ◌==◌, ℕ, if◌then◌else◌, List, length, take}
+use Rattle.std.specs.Prelude.{◌≡◌, ◌≢◌, ◌<◌, ◌≤◌, ◌==◌, ℕ, if◌then◌else◌, List, length, take}
 use Rattle.std.specs.Prelude.{None, Some, unwrap_or}
-use Rattle.std.proofs.Common.{refl, sym, ◌∙◌, ap, ap₂, subst, arith, inl, inr, ⊎_elim, get_or-take}
+use Rattle.std.proofs.Common.{refl, sym, ◌∙◌, ap, ap₂, subst, arith, inl, inr, ⊎_elim}
 use Rattle.std.proofs.lemmas.Bool.{cases_lt}
-use Rattle.std.proofs.lemmas.List.{length-take-le}
-use Rattle.std.proofs.lemmas.Grind.{same_number_lists}
 use Rattle.std.specs.FinMap.{insert}
 use Rattle.nvm_board.specs.declared.board.TheConstants.{WORDS, PAGE_WORDS}
 use Rattle.card_rules.specs.LifeCycle.{life_cycle_at}
@@ -13,12 +11,10 @@ use Rattle.block_chain.specs.declared.chain.Extent.{Extent}
 use Rattle.block_chain.specs.Counts.{count, IsNotIn}
 use Rattle.block_chain.specs.Words.{word, IsBlock}
 use Rattle.block_chain.specs.Chains.{free_chain, bytes_of}
-use Rattle.block_chain.specs.Changes.{OnlyContent, Overwrites, overwrite}
-use Rattle.block_chain.specs.Parts.{byte_over}
+use Rattle.block_chain.specs.Changes.{OnlyContent, overwrite}
 use Rattle.block_chain.specs.Layout.{blocks_of, laid_out, IsExtent, AreLaid}
 use Rattle.block_chain.specs.laws.Counts.{count-append, count-split}
 use Rattle.block_chain.specs.laws.Bytes.{AreBlocks, leads_blocks, blocks_take}
-use Rattle.block_chain.specs.laws.Overwriting.{length-overwrite, index-overwrite}
 use Rattle.block_chain.specs.laws.Footprints.{page_words_same, not_among, no_header, laid_kept, extent_kept, extent_bytes}
 use Rattle.file_tree.specs.declared.entry.Entry.{Entry}
 use Rattle.file_tree.specs.Cards.{transparent, linear, cyclic, dedicated, elementary, File}
@@ -29,24 +25,9 @@ use Rattle.file_tree.specs.Trees.{content, tree_of, TreeStands}
 use Rattle.file_tree.specs.Changes.{KeepsRest, SameTree, Rewrites, with_overwritten}
 use Rattle.file_tree.specs.laws.Tables.{table-same, length-table}
 use Rattle.file_tree.specs.laws.Nodes.{file_in, file_at_entry, used_small}
-use Rattle.file_tree.specs.laws.Costs.{entry_extent, room_for_size}
+use Rattle.file_tree.specs.laws.Costs.{entry_extent}
 use Rattle.file_tree.specs.laws.Contents.{content-none, content-some, count_both, count_named, named-some}
 use Rattle.file_tree.specs.laws.Changing.{tree_inserted, tree_stays}
-
--- the first bytes of a list that is overwritten within them
-pub take_overwritten : (xs bytes : List ℕ) (offset n : ℕ) → offset + length bytes ≤ n → n ≤ length xs
-    → take n (overwrite xs offset bytes) ≡ overwrite (take n xs) offset bytes
-take_overwritten xs bytes offset n within fits =
-    let size = length-take-le n xs fits in
-    let outer = length-overwrite xs bytes offset (omega (arith, within, fits)) in
-    let inner = length-overwrite (take n xs) bytes offset (omega (arith, within, size)) in
-    let left = length-take-le n (overwrite xs offset bytes) (omega (arith, outer, fits)) in
-    same_number_lists _ _ (left ∙ sym (inner ∙ size)) (λ i lt.
-    let small : i < n = omega (arith, lt, left) in
-    get_or-take n (overwrite xs offset bytes) i 0 small
-    ∙ index-overwrite xs bytes offset (omega (arith, within, fits)) i
-    ∙ sym (index-overwrite (take n xs) bytes offset (omega (arith, within, size)) i
-    ∙ ap (byte_over offset bytes i) (get_or-take n xs i 0 small)))
 
 -- the file of a transparent entry
 pub file_of-transparent : (x : Entry) (bytes : List ℕ) → x.kind ≡ 2 → file_of x bytes ≡ record {
@@ -65,17 +46,18 @@ file_of-transparent x bytes is = λ i. record {
       cyclic x.record_length (capacity_of x) (cyclic_records x bytes));
 }
 
--- so overwriting its bytes overwrites the file's
-pub file_overwritten : (x : Entry) (content bytes : List ℕ) (offset : ℕ) → x.kind ≡ 2 → offset + length bytes ≤ x.size
-    → x.size ≤ length content → file_of x (overwrite content offset bytes) ≡ with_overwritten (file_of x content) offset bytes
-file_overwritten x content bytes offset is within fits =
-    file_of-transparent x (overwrite content offset bytes) is
+-- so where its bytes are overwritten, the file's are
+pub file_overwritten : (x : Entry) (before after bytes : List ℕ) (offset : ℕ) → x.kind ≡ 2
+    → take x.size after ≡ overwrite (take x.size before) offset bytes
+    → file_of x after ≡ with_overwritten (file_of x before) offset bytes
+file_overwritten x before after bytes offset is becomes =
+    file_of-transparent x after is
     ∙ ap (λ (bs : List ℕ). record {
       life = unwrap_or (life_cycle_at x.life) Activated;
       rule = rule_of x;
       kind = elementary (if x.short == 0 then None else Some x.short) (transparent bs);
-    }) (take_overwritten content bytes offset x.size within fits)
-    ∙ sym (ap (λ (file : File). with_overwritten file offset bytes) (file_of-transparent x content is))
+    }) becomes
+    ∙ sym (ap (λ (file : File). with_overwritten file offset bytes) (file_of-transparent x before is))
 
 -- Words of blocks that hold bytes change: entries stay, and so does all that is no block.
 module _ (m after ps : List ℕ) (sized : length m ≡ WORDS) (blocks : AreBlocks ps) (only : OnlyContent m ps after) where
@@ -139,11 +121,13 @@ entries_apart m stands e f other e_in f_in e_high f_high q some =
     let both = count_both m q t f e lt (omega (arith, e_in, long)) in omega (arith, one, two, most, parts, both, some))
     (cases_lt e f)
 
--- The bytes of a transparent file are overwritten within its size: the tree has the file so, and all else stays.
+-- The bytes of a transparent file are overwritten: the tree has the file so, and all else stays.
 pub rewritten : (m after : List ℕ) (e offset : ℕ) (bytes : List ℕ) → length m ≡ WORDS → TreeStands m → IsUsed (table m) e
-    → (entry_in (table m) e).kind ≡ 2 → offset + length bytes ≤ (entry_in (table m) e).size
-    → Overwrites m (blocks_of m (extent_told (entry_in (table m) e))) offset bytes after → Rewrites m e offset bytes after
-rewritten m after e offset bytes sized stands used is within over =
+    → (entry_in (table m) e).kind ≡ 2 → OnlyContent m (blocks_of m (extent_told (entry_in (table m) e))) after
+    → take (entry_in (table m) e).size (bytes_of after (blocks_of m (extent_told (entry_in (table m) e))))
+    ≡ overwrite (take (entry_in (table m) e).size (bytes_of m (blocks_of m (extent_told (entry_in (table m) e))))) offset bytes
+    → Rewrites m e offset bytes after
+rewritten m after e offset bytes sized stands used is only becomes =
     let t = table m in
     let x = entry_in t e in
     let p = path_of t e in
@@ -152,22 +136,21 @@ rewritten m after e offset bytes sized stands used is within over =
     let extent : IsExtent m (extent_told x) = entry_extent m sized stands e e_in high in
     let ps = blocks_of m (extent_told x) in
     let blocks = leads_blocks m _ 0 ps extent.leads in
-    let same = content_table m after ps sized blocks over.only in
-    let stands_after = content_stands m after ps sized blocks over.only stands in
+    let same = content_table m after ps sized blocks only in
+    let stands_after = content_stands m after ps sized blocks only stands in
     let kept : blocks_of after (extent_told x) ≡ ps =
-    (extent_kept m after (extent_told x) extent (λ q some. over.only.others q 0 (omega arith) (inl refl))).1 in
-    let content_after : content after x ≡ overwrite (content m x) offset bytes =
-    content-some after x high ∙ ap (bytes_of after) kept ∙ over.content
-    ∙ ap (λ (bs : List ℕ). overwrite bs offset bytes) (sym (content-some m x high)) in
+    (extent_kept m after (extent_told x) extent (λ q some. only.others q 0 (omega arith) (inl refl))).1 in
+    let held : content m x ≡ bytes_of m ps = content-some m x high in
+    let holds : content after x ≡ bytes_of after ps = content-some after x high ∙ ap (bytes_of after) kept in
     let own : file_in after e ≡ with_overwritten (file_in m e) offset bytes =
     ap (λ (u : List Entry). file_of (entry_in u e) (content after (entry_in u e))) same
-    ∙ ap (file_of x) content_after
-    ∙ file_overwritten x (content m x) bytes offset is within (room_for_size m sized stands e e_in high) in
+    ∙ file_overwritten x (content m x) (content after x) bytes offset is
+    (ap (take x.size) holds ∙ becomes ∙ ap (λ (bs : List ℕ). overwrite (take x.size bs) offset bytes) (sym held)) in
     let before : (f : ℕ) → IsUsed (table after) f → IsUsed t f = λ f u. subst (λ (s : List Entry). IsUsed s f) same u in
     let now : (f : ℕ) → IsUsed t f → IsUsed (table after) f = λ f u. subst (λ (s : List Entry). IsUsed s f) (sym same) u in
     let others : (f : ℕ) → f ≢ e → IsUsed (table after) f → IsUsed t f × (file_in after f ≡ file_in m f) = λ f other u. (
       before f u,
-      content_file m after ps sized blocks over.only stands f (before f u) (λ q some f_high.
+      content_file m after ps sized blocks only stands f (before f u) (λ q some f_high.
           entries_apart m stands e f (λ eq. other (sym eq)) e_in (used_small m f (before f u)) high f_high q some),
     ) in
     let inserted = tree_inserted m after stands.entries stands_after.entries e (now e used) others
@@ -178,8 +161,8 @@ rewritten m after e offset bytes sized stands used is within over =
           ∙ ap (insert (tree_of m) p) (own ∙ ap (λ (file : File). with_overwritten file offset bytes)
           (sym (file_at_entry m stands.entries e p used refl)));
       stands = stands_after;
-      free = content_free m after ps sized blocks over.only stands;
-      rest = content_rest m after ps sized blocks over.only;
+      free = content_free m after ps sized blocks only stands;
+      rest = content_rest m after ps sized blocks only;
       table = same;
     }
 

@@ -1,5 +1,12 @@
+use Rattle.undo_journal.specs.laws.Memory.{reports_then}
+use Rattle.undo_journal.specs.laws.Calls.{reads_spend}
+use Rattle.file_tree.proofs.Transactions.{writes_after}
+use Rattle.undo_journal.specs.laws.Calls.{reads_then}
+use Rattle.file_tree.specs.Table.{IsUsed}
+use Rattle.file_tree.proofs.Ending.{if_failed, tells_failed}
 use Rattle.std.proofs.Common.{◌≡◌, ℕ, List, length, take, Option, None, Some, is_some, sym, ◌∙◌, ap, subst, arith, inl, inr}
-use Rattle.std.proofs.Common.{⊎_elim, true≢false}
+use Rattle.std.proofs.Common.{⊎_elim, true≢false, refl}
+use Rattle.file_tree.specs.Changes.{SameTree}
 use Rattle.nvm_board.specs.declared.board.TheConstants.{WORDS}
 use Rattle.undo_journal.specs.Memory.{committed}
 use Rattle.fcp_template.specs.declared.fcp.Fcp.{Fcp}
@@ -20,6 +27,20 @@ use Rattle.file_tree.specs.laws.Rewriting.{filled}
 use Rattle.file_tree.specs.laws.Created.{FindsPlace, FillsAndAdds}
 use Rattle.file_tree.specs.laws.Made.{is_created}
 use Rattle.file_tree.proofs.creating.create.Goals as goal
+
+-- a dedicated file is a used entry's
+used_df : (m : List ℕ) (df : ℕ) → (entry_in (table m) df).kind ≡ 1 → IsUsed (table m) df
+used_df m df dedicated none = let z : ⊥ = omega (arith, dedicated, none) in z
+
+-- the tree of the same words
+same_tree : (m after : List ℕ) → TreeStands m → after ≡ m → SameTree m after
+same_tree m after stands same = subst (λ (l : List ℕ). SameTree m l) (sym same) (record {
+  tree = refl;
+  stands = stands;
+  free = refl;
+  rest = record { size = refl; words = λ page place small entry block other. refl };
+  table = refl;
+})
 
 -- what was told of a place
 place_at : (m : List ℕ) (df : ℕ) (fcp : Fcp) (place : Place) (e : ℕ) → place ≡ At e → FindsPlace m df fcp place
@@ -50,7 +71,8 @@ created : (m now after : List ℕ) (df n e k : ℕ) (fcp : Fcp) (entry : Entry) 
     → entry ≡ entry_for fcp df n no_chain → k ≡ blocks_for (size_of_kind fcp.kind) → FillsAndAdds now e entry k after
     → IsCreated m df fcp e k after
 created m now after df n e k fcp entry sized stands dedicated creatable found short words is blocks made =
-    let by_words : List ℕ → Type 0 = λ l. FillsAndAdds l e (entry_for fcp df n no_chain) (blocks_for (size_of_kind fcp.kind)) after in
+    let by_words : List ℕ → Type 0 = λ l. FillsAndAdds l e (entry_for fcp df n no_chain) (blocks_for
+    (size_of_kind fcp.kind)) after in
     let by_entry : Entry → Type 0 = λ x. FillsAndAdds now e x (blocks_for (size_of_kind fcp.kind)) after in
     let by_blocks : ℕ → Type 0 = λ j. FillsAndAdds now e entry j after in
     let told : ℕ → Type 0 = λ j. IsCreated m df fcp e j after in
@@ -126,3 +148,144 @@ returns-in_err-write_file-clause-any_exit g c =
     words c.entry_for.ensures (c.blocks_for-blocks.ensures ∙ ap blocks_for c.size.ensures) adds in
     inr is.creates)
     c.write_file.ensures.any_exit
+
+pub find_place-requires-clause-ready : goal.find_place-requires-clause-ready
+find_place-requires-clause-ready g c = c.requires.ready
+
+pub find_place-requires-clause-tree : goal.find_place-requires-clause-tree
+find_place-requires-clause-tree g c = c.requires.tree
+
+pub find_place-requires-clause-df : goal.find_place-requires-clause-df
+find_place-requires-clause-df g c = (used_df (committed c.args.store.now) c.args.df c.requires.df)
+
+pub find_place-requires-clause-fcp : goal.find_place-requires-clause-fcp
+find_place-requires-clause-fcp g c = c.requires.fcp
+
+pub returns-in_err-entry-clause-any_exit : goal.returns-in_err-entry-clause-any_exit
+returns-in_err-entry-clause-any_exit g c =
+    inl (same_tree (committed c.args.store.now) _ c.requires.tree c.find_place.ensures.reads.keeps.committed_words)
+
+pub returns-in_err-entry-clause-idle : goal.returns-in_err-entry-clause-idle
+returns-in_err-entry-clause-idle g c = λ status is. c.find_place.ensures.reads
+
+pub returns-in_err-entry-clause-done : goal.returns-in_err-entry-clause-done
+returns-in_err-entry-clause-done g c = if_failed _ _ _ c.from_residual.ensures.1
+
+pub returns-in_err-entry-clause-ready : goal.returns-in_err-entry-clause-ready
+returns-in_err-entry-clause-ready g c = if_failed _ _ _ c.from_residual.ensures.1
+
+pub returns-in_err-entry-clause-reports : goal.returns-in_err-entry-clause-reports
+returns-in_err-entry-clause-reports g c = c.find_place.ensures.reads.reports
+
+pub returns-in_err-entry-clause-tells : goal.returns-in_err-entry-clause-tells
+returns-in_err-entry-clause-tells g c = tells_failed _ _ _ c.from_residual.ensures.1 c.in_err-entry.ensures.tells
+
+pub returns-in_err-entry-clause-writes : goal.returns-in_err-entry-clause-writes
+returns-in_err-entry-clause-writes g c = reads_spend _ _ _ c.find_place.ensures.reads
+
+pub returns-in-Refused-clause-any_exit : goal.returns-in-Refused-clause-any_exit
+returns-in-Refused-clause-any_exit g c =
+    inl (same_tree (committed c.args.store.now) _ c.requires.tree c.find_place.ensures.reads.keeps.committed_words)
+
+pub returns-in-Refused-clause-idle : goal.returns-in-Refused-clause-idle
+returns-in-Refused-clause-idle g c = λ status is. c.find_place.ensures.reads
+
+pub returns-in-Refused-clause-done : goal.returns-in-Refused-clause-done
+returns-in-Refused-clause-done g c = (
+  subst (λ (p : Place). FindsPlace (committed c.args.store.now) c.args.df c.args.fcp.now p) c.in-Refused.is
+      c.in_ok-entry.ensures.found,
+  c.find_place.ensures.reads.keeps.committed_words,
+)
+
+pub returns-in-Refused-clause-ready : goal.returns-in-Refused-clause-ready
+returns-in-Refused-clause-ready g c = c.in_ok-entry.ensures.ready
+
+pub returns-in-Refused-clause-reports : goal.returns-in-Refused-clause-reports
+returns-in-Refused-clause-reports g c = c.find_place.ensures.reads.reports
+
+pub returns-in-Refused-clause-tells : goal.returns-in-Refused-clause-tells
+returns-in-Refused-clause-tells g c = c.in_ok-entry.ensures.ready.usable.works
+
+pub returns-in-Refused-clause-writes : goal.returns-in-Refused-clause-writes
+returns-in-Refused-clause-writes g c = reads_spend _ _ _ c.find_place.ensures.reads
+
+pub short_of-requires-clause-ready : goal.short_of-requires-clause-ready
+short_of-requires-clause-ready g c = c.in_ok-entry.ensures.ready
+
+pub short_of-requires-clause-tree : goal.short_of-requires-clause-tree
+short_of-requires-clause-tree g c =
+    subst (λ (l : List ℕ). TreeStands l) (sym (c.find_place.ensures.reads.keeps.committed_words)) c.requires.tree
+
+pub short_of-requires-clause-df : goal.short_of-requires-clause-df
+short_of-requires-clause-df g c =
+    subst (λ (l : List ℕ). IsUsed (table l) c.args.df) (sym (c.find_place.ensures.reads.keeps.committed_words)) (used_df
+    (committed c.args.store.now) c.args.df c.requires.df)
+
+pub short_of-requires-clause-fcp : goal.short_of-requires-clause-fcp
+short_of-requires-clause-fcp g c = c.requires.fcp
+
+pub returns-in_err-short-clause-any_exit : goal.returns-in_err-short-clause-any_exit
+returns-in_err-short-clause-any_exit g c =
+    inl (same_tree (committed c.args.store.now) _ c.requires.tree (c.short_of.ensures.reads.keeps.committed_words
+    ∙ c.find_place.ensures.reads.keeps.committed_words))
+
+pub returns-in_err-short-clause-idle : goal.returns-in_err-short-clause-idle
+returns-in_err-short-clause-idle g c = λ status is. reads_then _ _ _ c.find_place.ensures.reads c.short_of.ensures.reads
+
+pub returns-in_err-short-clause-done : goal.returns-in_err-short-clause-done
+returns-in_err-short-clause-done g c = if_failed _ _ _ c.from_residual-in_err-short.ensures.1
+
+pub returns-in_err-short-clause-ready : goal.returns-in_err-short-clause-ready
+returns-in_err-short-clause-ready g c = if_failed _ _ _ c.from_residual-in_err-short.ensures.1
+
+pub returns-in_err-short-clause-reports : goal.returns-in_err-short-clause-reports
+returns-in_err-short-clause-reports g c = reports_then _ _ _ c.find_place.ensures.reads.reports c.short_of.ensures.reads.reports
+
+pub returns-in_err-short-clause-tells : goal.returns-in_err-short-clause-tells
+returns-in_err-short-clause-tells g c = tells_failed _ _ _ c.from_residual-in_err-short.ensures.1 c.in_err-short.ensures.tells
+
+pub returns-in_err-short-clause-writes : goal.returns-in_err-short-clause-writes
+returns-in_err-short-clause-writes g c =
+    reads_spend _ _ _ (reads_then _ _ _ c.find_place.ensures.reads c.short_of.ensures.reads)
+
+pub write_file-requires-clause-ready : goal.write_file-requires-clause-ready
+write_file-requires-clause-ready g c = c.in_ok-short.ensures.ready
+
+pub write_file-requires-clause-tree : goal.write_file-requires-clause-tree
+write_file-requires-clause-tree g c =
+    subst (λ (l : List ℕ). TreeStands l) (sym (c.short_of.ensures.reads.keeps.committed_words
+    ∙ c.find_place.ensures.reads.keeps.committed_words)) c.requires.tree
+
+pub returns-in_err-write_file-clause-done : goal.returns-in_err-write_file-clause-done
+returns-in_err-write_file-clause-done g c = if_failed _ _ _ c.from_residual-in_err-write_file.ensures.1
+
+pub returns-in_err-write_file-clause-ready : goal.returns-in_err-write_file-clause-ready
+returns-in_err-write_file-clause-ready g c = if_failed _ _ _ c.from_residual-in_err-write_file.ensures.1
+
+pub returns-in_err-write_file-clause-reports : goal.returns-in_err-write_file-clause-reports
+returns-in_err-write_file-clause-reports g c =
+    reports_then _ _ _ (reports_then _ _ _ c.find_place.ensures.reads.reports c.short_of.ensures.reads.reports)
+    c.write_file.ensures.reports
+
+pub returns-in_err-write_file-clause-tells : goal.returns-in_err-write_file-clause-tells
+returns-in_err-write_file-clause-tells g c =
+    tells_failed _ _ _ c.from_residual-in_err-write_file.ensures.1 c.in_err-write_file.ensures.tells
+
+pub returns-in_err-write_file-clause-writes : goal.returns-in_err-write_file-clause-writes
+returns-in_err-write_file-clause-writes g c =
+    writes_after _ _ _ _ (reads_then _ _ _ c.find_place.ensures.reads c.short_of.ensures.reads) c.write_file.ensures.writes
+
+pub returns-clause-ready : goal.returns-clause-ready
+returns-clause-ready g c = c.in_ok-write_file.ensures.ready
+
+pub returns-clause-reports : goal.returns-clause-reports
+returns-clause-reports g c =
+    reports_then _ _ _ (reports_then _ _ _ c.find_place.ensures.reads.reports c.short_of.ensures.reads.reports)
+    c.write_file.ensures.reports
+
+pub returns-clause-tells : goal.returns-clause-tells
+returns-clause-tells g c = c.in_ok-write_file.ensures.ready.usable.works
+
+pub returns-clause-writes : goal.returns-clause-writes
+returns-clause-writes g c =
+    writes_after _ _ _ _ (reads_then _ _ _ c.find_place.ensures.reads c.short_of.ensures.reads) c.write_file.ensures.writes

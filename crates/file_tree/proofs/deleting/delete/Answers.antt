@@ -1,3 +1,7 @@
+use Rattle.undo_journal.specs.laws.Memory.{reports_then}
+use Rattle.undo_journal.specs.laws.Calls.{reads_spend}
+use Rattle.file_tree.proofs.Transactions.{writes_after}
+use Rattle.file_tree.proofs.Ending.{if_failed, tells_failed}
 use Rattle.std.proofs.Common.{◌≡◌, ℕ, List, length, sym, ◌∙◌, ap, subst, inl, inr, ⊎_elim}
 use Rattle.undo_journal.specs.Memory.{committed}
 use Rattle.file_tree.specs.declared.entry.Entry.{Entry}
@@ -32,7 +36,8 @@ returns-in_err-remove-clause-any_exit g c =
     let chains = c.as_slice-2.ensures.value ∙ removal.chains in
     let sized = c.requires.ready.usable.committed_size in
     let read = c.removal_of.ensures.reads.keeps.committed_words in
-    let family : List ℕ → Type 0 = λ l. Removes l c.as_slice.result.now c.as_slice-2.result.now (committed c.remove.new.store) in
+    let family : List ℕ → Type 0 = λ l. Removes l c.as_slice.result.now c.as_slice-2.result.now
+    (committed c.remove.new.store) in
     ⊎_elim
     (λ (kept : committed c.remove.new.store ≡ committed c.removal_of.new.store). inl (kept ∙ read))
     (λ (removes : family (committed c.removal_of.new.store)).
@@ -48,8 +53,10 @@ returns-clause-done g c =
     let chains = c.as_slice-2.ensures.value ∙ removal.chains in
     let sized = c.requires.ready.usable.committed_size in
     let read = c.removal_of.ensures.reads.keeps.committed_words in
-    let family : List ℕ → Type 0 = λ l. Removes l c.as_slice.result.now c.as_slice-2.result.now (committed c.remove.new.store) in
-    removed_deletes m c.args.e sized c.requires.tree c.requires.below c.requires.used _ _ part chains _ (subst family read c.in_ok-remove.ensures.done)
+    let family : List ℕ → Type 0 = λ l. Removes l c.as_slice.result.now c.as_slice-2.result.now
+    (committed c.remove.new.store) in
+    removed_deletes m c.args.e sized c.requires.tree c.requires.below c.requires.used _ _ part chains _
+    (subst family read c.in_ok-remove.ensures.done)
 
 pub returns-clause-any_exit : goal.returns-clause-any_exit
 returns-clause-any_exit g c =
@@ -59,8 +66,10 @@ returns-clause-any_exit g c =
     let chains = c.as_slice-2.ensures.value ∙ removal.chains in
     let sized = c.requires.ready.usable.committed_size in
     let read = c.removal_of.ensures.reads.keeps.committed_words in
-    let family : List ℕ → Type 0 = λ l. Removes l c.as_slice.result.now c.as_slice-2.result.now (committed c.remove.new.store) in
-    inr (removed_deletes m c.args.e sized c.requires.tree c.requires.below c.requires.used _ _ part chains _ (subst family read c.in_ok-remove.ensures.done))
+    let family : List ℕ → Type 0 = λ l. Removes l c.as_slice.result.now c.as_slice-2.result.now
+    (committed c.remove.new.store) in
+    inr (removed_deletes m c.args.e sized c.requires.tree c.requires.below c.requires.used _ _ part chains _
+    (subst family read c.in_ok-remove.ensures.done))
 
 pub returns-clause-space : goal.returns-clause-space
 returns-clause-space g c =
@@ -70,6 +79,74 @@ returns-clause-space g c =
     let chains = c.as_slice-2.ensures.value ∙ removal.chains in
     let sized = c.requires.ready.usable.committed_size in
     let read = c.removal_of.ensures.reads.keeps.committed_words in
-    let family : List ℕ → Type 0 = λ l. Removes l c.as_slice.result.now c.as_slice-2.result.now (committed c.remove.new.store) in
+    let family : List ℕ → Type 0 = λ l. Removes l c.as_slice.result.now c.as_slice-2.result.now
+    (committed c.remove.new.store) in
     removed_space m c.args.e sized c.requires.tree c.requires.below c.requires.used _ _ part chains _
     (subst family read c.in_ok-remove.ensures.done) c.in_ok-removal.removal.space removal.blocks removal.entries
+
+pub removal_of-requires-clause-ready : goal.removal_of-requires-clause-ready
+removal_of-requires-clause-ready g c = c.requires.ready
+
+pub removal_of-requires-clause-tree : goal.removal_of-requires-clause-tree
+removal_of-requires-clause-tree g c = c.requires.tree
+
+pub removal_of-requires-clause-used : goal.removal_of-requires-clause-used
+removal_of-requires-clause-used g c = c.requires.used
+
+pub removal_of-requires-clause-below : goal.removal_of-requires-clause-below
+removal_of-requires-clause-below g c = c.requires.below
+
+pub returns-in_err-removal-clause-any_exit : goal.returns-in_err-removal-clause-any_exit
+returns-in_err-removal-clause-any_exit g c = inl c.removal_of.ensures.reads.keeps.committed_words
+
+pub returns-in_err-removal-clause-done : goal.returns-in_err-removal-clause-done
+returns-in_err-removal-clause-done g c = if_failed _ _ _ c.from_residual.ensures.1
+
+pub returns-in_err-removal-clause-space : goal.returns-in_err-removal-clause-space
+returns-in_err-removal-clause-space g c = if_failed _ _ _ c.from_residual.ensures.1
+
+pub returns-in_err-removal-clause-ready : goal.returns-in_err-removal-clause-ready
+returns-in_err-removal-clause-ready g c = if_failed _ _ _ c.from_residual.ensures.1
+
+pub returns-in_err-removal-clause-reports : goal.returns-in_err-removal-clause-reports
+returns-in_err-removal-clause-reports g c = c.removal_of.ensures.reads.reports
+
+pub returns-in_err-removal-clause-tells : goal.returns-in_err-removal-clause-tells
+returns-in_err-removal-clause-tells g c = tells_failed _ _ _ c.from_residual.ensures.1 c.in_err-removal.ensures.tells
+
+pub returns-in_err-removal-clause-writes : goal.returns-in_err-removal-clause-writes
+returns-in_err-removal-clause-writes g c = reads_spend _ _ _ c.removal_of.ensures.reads
+
+pub remove-requires-clause-ready : goal.remove-requires-clause-ready
+remove-requires-clause-ready g c = c.in_ok-removal.ensures.ready
+
+pub returns-in_err-remove-clause-done : goal.returns-in_err-remove-clause-done
+returns-in_err-remove-clause-done g c = if_failed _ _ _ c.from_residual-in_err-remove.ensures.1
+
+pub returns-in_err-remove-clause-space : goal.returns-in_err-remove-clause-space
+returns-in_err-remove-clause-space g c = if_failed _ _ _ c.from_residual-in_err-remove.ensures.1
+
+pub returns-in_err-remove-clause-ready : goal.returns-in_err-remove-clause-ready
+returns-in_err-remove-clause-ready g c = if_failed _ _ _ c.from_residual-in_err-remove.ensures.1
+
+pub returns-in_err-remove-clause-reports : goal.returns-in_err-remove-clause-reports
+returns-in_err-remove-clause-reports g c = reports_then _ _ _ c.removal_of.ensures.reads.reports c.remove.ensures.reports
+
+pub returns-in_err-remove-clause-tells : goal.returns-in_err-remove-clause-tells
+returns-in_err-remove-clause-tells g c =
+    tells_failed _ _ _ c.from_residual-in_err-remove.ensures.1 c.in_err-remove.ensures.tells
+
+pub returns-in_err-remove-clause-writes : goal.returns-in_err-remove-clause-writes
+returns-in_err-remove-clause-writes g c = writes_after _ _ _ _ c.removal_of.ensures.reads c.remove.ensures.writes
+
+pub returns-clause-ready : goal.returns-clause-ready
+returns-clause-ready g c = c.in_ok-remove.ensures.ready
+
+pub returns-clause-reports : goal.returns-clause-reports
+returns-clause-reports g c = reports_then _ _ _ c.removal_of.ensures.reads.reports c.remove.ensures.reports
+
+pub returns-clause-tells : goal.returns-clause-tells
+returns-clause-tells g c = c.in_ok-remove.ensures.ready.usable.works
+
+pub returns-clause-writes : goal.returns-clause-writes
+returns-clause-writes g c = writes_after _ _ _ _ c.removal_of.ensures.reads c.remove.ensures.writes

@@ -1,3 +1,4 @@
+use Rattle.file_tree.proofs.Ending.{if_failed, tells_failed}
 use Rattle.std.proofs.Common.{◌≤◌, List, length, sym, ◌∙◌, ap, subst, arith}
 use Rattle.std.specs.List.{sum_by}
 use Rattle.undo_journal.specs.Memory.{committed}
@@ -20,7 +21,8 @@ part_of-part-requires g c =
 pub blocks_in-requires : goal.blocks_in-requires
 blocks_in-requires g c =
     let m = committed c.args.store.now in
-    let part = c.part_of-part.ensures ∙ ap (λ (t : List Entry). part_below t c.args.e) (c.as_slice.ensures.value ∙ c.in_ok-entries.ensures.table) in
+    let part = c.part_of-part.ensures ∙ ap (λ (t : List Entry). part_below t c.args.e) (c.as_slice.ensures.value
+    ∙ c.in_ok-entries.ensures.table) in
     let es = c.as_slice-3.ensures.value ∙ c.extents_of-extents.ensures ∙ ap extents (c.as_slice-2.ensures.value ∙ part) in
     let family : List Extent → Type 0 = λ xs. sum_by (λ x. x.blocks) xs ≤ BLOCKS in
     subst family (sym es) (part_blocks m c.args.e c.requires.tree)
@@ -34,7 +36,8 @@ count_free-requires g c =
 pub returns-clause-removal : goal.returns-clause-removal
 returns-clause-removal g c =
     let m = committed c.args.store.now in
-    let part = c.part_of-part.ensures ∙ ap (λ (t : List Entry). part_below t c.args.e) (c.as_slice.ensures.value ∙ c.in_ok-entries.ensures.table) in
+    let part = c.part_of-part.ensures ∙ ap (λ (t : List Entry). part_below t c.args.e) (c.as_slice.ensures.value
+    ∙ c.in_ok-entries.ensures.table) in
     let es = c.extents_of-extents.ensures ∙ ap extents (c.as_slice-2.ensures.value ∙ part) in
     let free = c.count_free.ensures ∙ ap free_entries (c.as_slice-4.ensures.value ∙ part) in
     let most = most_free (table m) c.args.e in
@@ -44,3 +47,27 @@ returns-clause-removal g c =
       blocks = c.blocks_in.ensures ∙ ap (λ (xs : List Extent). sum_by (λ x. x.blocks) xs) (c.as_slice-3.ensures.value ∙ es);
       entries = omega (arith, free, most);
     }
+
+pub read_table-requires : goal.read_table-requires
+read_table-requires g c = record { ready = c.requires.ready }
+
+pub returns-in_err-entries-clause-removal : goal.returns-in_err-entries-clause-removal
+returns-in_err-entries-clause-removal g c = if_failed _ _ _ c.from_residual.ensures.1
+
+pub returns-in_err-entries-clause-ready : goal.returns-in_err-entries-clause-ready
+returns-in_err-entries-clause-ready g c = if_failed _ _ _ c.from_residual.ensures.1
+
+pub returns-in_err-entries-clause-reads : goal.returns-in_err-entries-clause-reads
+returns-in_err-entries-clause-reads g c = c.read_table.ensures.reads
+
+pub returns-in_err-entries-clause-tells : goal.returns-in_err-entries-clause-tells
+returns-in_err-entries-clause-tells g c = tells_failed _ _ _ c.from_residual.ensures.1 c.in_err-entries.ensures.tells
+
+pub returns-clause-ready : goal.returns-clause-ready
+returns-clause-ready g c = c.in_ok-entries.ensures.ready
+
+pub returns-clause-reads : goal.returns-clause-reads
+returns-clause-reads g c = c.read_table.ensures.reads
+
+pub returns-clause-tells : goal.returns-clause-tells
+returns-clause-tells g c = c.in_ok-entries.ensures.ready.usable.works

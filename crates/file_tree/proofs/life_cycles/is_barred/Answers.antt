@@ -1,16 +1,96 @@
-use Rattle.std.proofs.Common.{◌||◌, List, sym, ◌∙◌, ap, ap₂, Bool}
+use Rattle.std.proofs.Common.{subst}
+use Rattle.undo_journal.specs.laws.Calls.{reads_then}
+use Rattle.file_tree.proofs.Ending.{if_failed, tells_failed}
+use Rattle.std.proofs.Common.{◌≡◌, ◌||◌, ℕ, List, Bool, true, false, sym, ◌∙◌, ap, ap₂}
 use Rattle.undo_journal.specs.Memory.{committed}
 use Rattle.file_tree.specs.declared.entry.Entry.{Entry}
-use Rattle.file_tree.specs.States.{bars}
-use Rattle.file_tree.specs.Table.{entry_in}
+use Rattle.file_tree.specs.States.{bars, is_barred}
+use Rattle.file_tree.specs.Table.{table, entry_in, path_of, IsUsed}
+use Rattle.file_tree.specs.Trees.{tree_of, TreeStands}
 use Rattle.file_tree.specs.laws.Barring.{barred_up, barred_told, life_told, life_told_there}
+use Rattle.file_tree.specs.laws.Nodes.{used_small}
 use Rattle.file_tree.proofs.life_cycles.is_barred.Goals as goal
+
+-- what the entry's own state and the way up tell
+told : (m : List ℕ) (e : ℕ) (x : Entry) (own up : Bool) → TreeStands m → IsUsed (table m) e → x ≡ entry_in (table m) e
+    → own ≡ bars (life_told x) → up ≡ barred_up (table m) 7 e → (own || up) ≡ is_barred (tree_of m) (path_of (table m) e)
+told m e x own up stands used is here above =
+    ap₂ (λ (a b : Bool). a || b)
+    (here ∙ ap (λ (y : Entry). bars (life_told y)) is ∙ ap bars (sym (life_told_there m stands.entries e used)))
+    (above ∙ barred_told m stands.entries e used)
+
+pub read_entry-requires-clause-within : goal.read_entry-requires-clause-within
+read_entry-requires-clause-within g c = used_small (committed c.args.store.now) c.args.e c.requires.used
+
+pub returns-then-bars-clause-barred : goal.returns-then-bars-clause-barred
+returns-then-bars-clause-barred g c =
+    let m = committed c.args.store.now in
+    told m c.args.e c.in_ok-entry.entry true (barred_up
+    (table m) 7 c.args.e) c.requires.tree c.requires.used c.in_ok-entry.ensures.entry
+    (sym c.if-bars.true ∙ c.bars.ensures ∙ ap bars c.life_of.ensures) (λ i. barred_up (table m) 7 c.args.e)
 
 pub returns-clause-barred : goal.returns-clause-barred
 returns-clause-barred g c =
     let m = committed c.args.store.now in
     let e = c.args.e in
-    let rules = c.requires.tree.entries in
-    c.is_barred_in.ensures
-    ∙ ap (λ (t : List Entry). bars (life_told (entry_in t e)) || barred_up t 7 e) (c.as_slice.ensures.value ∙ c.in_ok-entries.ensures.table)
-    ∙ ap₂ (λ (a b : Bool). a || b) (ap bars (sym (life_told_there m rules e c.requires.used))) (barred_told m rules e c.requires.used)
+    told m e c.in_ok-entry.entry false c.in_ok-barred.barred c.requires.tree c.requires.used c.in_ok-entry.ensures.entry
+    (sym c.if-bars.false ∙ c.bars.ensures ∙ ap bars c.life_of.ensures)
+    (c.in_ok-barred.ensures.barred ∙ ap (λ (l : List ℕ). barred_up
+    (table l) 7 e) c.read_entry.ensures.reads.keeps.committed_words)
+
+pub read_entry-requires-clause-ready : goal.read_entry-requires-clause-ready
+read_entry-requires-clause-ready g c = c.requires.ready
+
+pub returns-in_err-entry-clause-barred : goal.returns-in_err-entry-clause-barred
+returns-in_err-entry-clause-barred g c = if_failed _ _ _ c.from_residual.ensures.1
+
+pub returns-in_err-entry-clause-ready : goal.returns-in_err-entry-clause-ready
+returns-in_err-entry-clause-ready g c = if_failed _ _ _ c.from_residual.ensures.1
+
+pub returns-in_err-entry-clause-reads : goal.returns-in_err-entry-clause-reads
+returns-in_err-entry-clause-reads g c = c.read_entry.ensures.reads
+
+pub returns-in_err-entry-clause-tells : goal.returns-in_err-entry-clause-tells
+returns-in_err-entry-clause-tells g c = tells_failed _ _ _ c.from_residual.ensures.1 c.in_err-entry.ensures.tells
+
+pub returns-then-bars-clause-ready : goal.returns-then-bars-clause-ready
+returns-then-bars-clause-ready g c = c.in_ok-entry.ensures.ready
+
+pub returns-then-bars-clause-reads : goal.returns-then-bars-clause-reads
+returns-then-bars-clause-reads g c = c.read_entry.ensures.reads
+
+pub returns-then-bars-clause-tells : goal.returns-then-bars-clause-tells
+returns-then-bars-clause-tells g c = c.in_ok-entry.ensures.ready.usable.works
+
+pub is_below_barred-requires-clause-ready : goal.is_below_barred-requires-clause-ready
+is_below_barred-requires-clause-ready g c = c.in_ok-entry.ensures.ready
+
+pub is_below_barred-requires-clause-tree : goal.is_below_barred-requires-clause-tree
+is_below_barred-requires-clause-tree g c =
+    subst (λ (l : List ℕ). TreeStands l) (sym (c.read_entry.ensures.reads.keeps.committed_words)) c.requires.tree
+
+pub is_below_barred-requires-clause-used : goal.is_below_barred-requires-clause-used
+is_below_barred-requires-clause-used g c =
+    subst (λ (l : List ℕ). IsUsed (table l) c.args.e) (sym (c.read_entry.ensures.reads.keeps.committed_words)) c.requires.used
+
+pub returns-in_err-barred-clause-barred : goal.returns-in_err-barred-clause-barred
+returns-in_err-barred-clause-barred g c = if_failed _ _ _ c.from_residual-in_err-barred.ensures.1
+
+pub returns-in_err-barred-clause-ready : goal.returns-in_err-barred-clause-ready
+returns-in_err-barred-clause-ready g c = if_failed _ _ _ c.from_residual-in_err-barred.ensures.1
+
+pub returns-in_err-barred-clause-reads : goal.returns-in_err-barred-clause-reads
+returns-in_err-barred-clause-reads g c = reads_then _ _ _ c.read_entry.ensures.reads c.is_below_barred.ensures.reads
+
+pub returns-in_err-barred-clause-tells : goal.returns-in_err-barred-clause-tells
+returns-in_err-barred-clause-tells g c =
+    tells_failed _ _ _ c.from_residual-in_err-barred.ensures.1 c.in_err-barred.ensures.tells
+
+pub returns-clause-ready : goal.returns-clause-ready
+returns-clause-ready g c = c.in_ok-barred.ensures.ready
+
+pub returns-clause-reads : goal.returns-clause-reads
+returns-clause-reads g c = reads_then _ _ _ c.read_entry.ensures.reads c.is_below_barred.ensures.reads
+
+pub returns-clause-tells : goal.returns-clause-tells
+returns-clause-tells g c = c.in_ok-barred.ensures.ready.usable.works

@@ -1,43 +1,119 @@
-use Rattle.std.proofs.Common.{◌≡◌, ◌≢◌, ◌+◌, ◌-◌, ◌||◌, ℕ, suc, Bool, List, sym, ◌∙◌, ap, arith}
+use Rattle.file_tree.proofs.Ending.{if_failed, tells_failed}
+use Rattle.std.proofs.Common.{◌≡◌, ◌≢◌, ◌<◌, ◌+◌, ◌-◌, ◌||◌, ℕ, suc, true, false, Bool, List, sym, ◌∙◌, ap, subst, arith}
+use Rattle.undo_journal.specs.Memory.{committed}
+use Rattle.undo_journal.specs.laws.Calls.{reads_then}
 use Rattle.file_tree.specs.declared.entry.Entry.{Entry}
 use Rattle.file_tree.specs.States.{bars}
-use Rattle.file_tree.specs.Table.{entry_in}
+use Rattle.file_tree.specs.Table.{table, entry_in, IsUsed, IsTable}
 use Rattle.file_tree.specs.laws.Barring.{barred_up, barred_up-master, barred_up-none, barred_up-step, life_told}
+use Rattle.file_tree.specs.laws.Nodes.{used_small}
+use Rattle.file_tree.specs.laws.Paths.{parent_used}
 use Rattle.file_tree.proofs.life_cycles.is_below_barred.Goals as goal
 
--- one step to a parent
-step_up : (t : List Entry) (n k at up : ℕ) (b : Bool) → n ≡ suc k → at ≢ 0 → up ≡ (entry_in t at).parent
-    → b ≡ bars (life_told (entry_in t up)) → barred_up t n at ≡ (b || barred_up t k up)
-step_up t n k at up b one some is tells =
+-- the file above one that was met is used too
+used_above : (t : List Entry) (at above : ℕ) → IsTable t → at ≢ 0 → IsUsed t at → above ≡ (entry_in t at).parent → IsUsed t above
+used_above t at above rules some used is =
+    let family : ℕ → Type 0 = λ e. IsUsed t e in
+    let below : 0 < at = omega (arith, some) in
+    subst family (sym is) (parent_used t rules at below used)
+
+-- the entry that was read is that of the words as they were at first
+read_there : (m now : List ℕ) (above : ℕ) (x : Entry) → now ≡ m → x ≡ entry_in (table now) above → x ≡ entry_in (table m) above
+read_there m now above x kept is = is ∙ ap (λ (l : List ℕ). entry_in (table l) above) kept
+
+-- what one step to a parent tells
+step_up : (t : List Entry) (n k at above : ℕ) (x : Entry) (b tells : Bool) → n ≡ suc k → at ≢ 0 → above ≡ (entry_in t at).parent
+    → x ≡ entry_in t above → b ≡ bars (life_told x) → b ≡ tells → barred_up t n at ≡ (tells || barred_up t k above)
+step_up t n k at above x b tells one some is there told known =
     ap (λ (i : ℕ). barred_up t i at) one ∙ barred_up-step t k at some
     ∙ ap (λ (p : ℕ). bars (life_told (entry_in t p)) || barred_up t k p) (sym is)
-    ∙ ap (λ (a : Bool). a || barred_up t k up) (sym tells)
+    ∙ ap (λ (a : Bool). a || barred_up t k above) (ap (λ (y : Entry). bars (life_told y)) (sym there) ∙ sym told ∙ known)
 
-pub returns-then-at-eq0 : goal.returns-then-at-eq0
-returns-then-at-eq0 c =
-    sym (c.loop-step.invariant.same ∙ barred_up-master c.args.entries.now (7 - c.loop-step._step) c.loop-step.at c.if-at-eq0.true)
+pub read_entry-requires-clause-within : goal.read_entry-requires-clause-within
+read_entry-requires-clause-within g c =
+    let m = committed c.args.store.now in
+    used_small m c.loop-step.above (used_above
+    (table m) c.loop-step.at c.loop-step.above c.requires.tree.entries c.if-at-eq0.false
+    c.loop-step.invariant.used c.loop-step.invariant.parent)
 
-pub returns-then-bars : goal.returns-then-bars
-returns-then-bars c =
-    let t = c.args.entries.now in
+pub returns-then-at-eq0-clause-barred : goal.returns-then-at-eq0-clause-barred
+returns-then-at-eq0-clause-barred g c =
+    let t = table (committed c.args.store.now) in
+    sym (c.loop-step.invariant.left ∙ barred_up-master t (7 - c.loop-step._step) c.loop-step.at c.if-at-eq0.true)
+
+pub returns-then-bars-clause-barred : goal.returns-then-bars-clause-barred
+returns-then-bars-clause-barred g c =
+    let m = committed c.args.store.now in
     let one : 7 - c.loop-step._step ≡ suc (7 - (c.loop-step._step + 1)) = omega (arith, c.loop-step-test.true) in
-    sym (c.loop-step.invariant.same
-    ∙ step_up t _ (7 - (c.loop-step._step + 1)) c.loop-step.at c.parent_of-at.result c.bars.result one c.if-at-eq0.false
-    c.parent_of-at.ensures (c.bars.ensures ∙ ap bars c.life_in.ensures)
-    ∙ ap (λ (b : Bool). b || barred_up t (7 - (c.loop-step._step + 1)) c.parent_of-at.result) c.if-bars.true)
+    let there = read_there m (committed c.loop-step.store) c.loop-step.above c.in_ok-entry.entry
+    c.loop-step.invariant.reads.keeps.committed_words c.in_ok-entry.ensures.entry in
+    sym (c.loop-step.invariant.left
+    ∙ step_up (table m) _ (7 - (c.loop-step._step + 1)) c.loop-step.at c.loop-step.above c.in_ok-entry.entry c.bars.result true
+    one
+    c.if-at-eq0.false c.loop-step.invariant.parent there (c.bars.ensures ∙ ap bars c.life_of.ensures) c.if-bars.true)
 
 pub loop-step-preserved : goal.loop-step-preserved
-loop-step-preserved c =
-    let t = c.args.entries.now in
+loop-step-preserved g c =
+    let m = committed c.args.store.now in
     let one : 7 - c.loop-step._step ≡ suc (7 - (c.loop-step._step + 1)) = omega (arith, c.loop-step-test.true) in
+    let there = read_there m (committed c.loop-step.store) c.loop-step.above c.in_ok-entry.entry
+    c.loop-step.invariant.reads.keeps.committed_words c.in_ok-entry.ensures.entry in
     record {
-      same = c.loop-step.invariant.same
-          ∙ step_up t _ (7 - (c.loop-step._step + 1)) c.loop-step.at c.parent_of-at.result c.bars.result one c.if-at-eq0.false
-          c.parent_of-at.ensures (c.bars.ensures ∙ ap bars c.life_in.ensures)
-          ∙ ap (λ (b : Bool). b || barred_up t (7 - (c.loop-step._step + 1)) c.parent_of-at.result) c.if-bars.false;
+      ready = c.in_ok-entry.ensures.ready;
+      reads = reads_then _ _ _ c.loop-step.invariant.reads c.read_entry.ensures.reads;
+      used = used_above (table m) c.loop-step.at c.loop-step.above c.requires.tree.entries c.if-at-eq0.false
+          c.loop-step.invariant.used c.loop-step.invariant.parent;
+      parent = ap (λ (x : Entry). x.parent) there;
+      left = c.loop-step.invariant.left
+          ∙ step_up (table m) _ (7 - (c.loop-step._step + 1)) c.loop-step.at c.loop-step.above c.in_ok-entry.entry
+          c.bars.result false
+          one c.if-at-eq0.false c.loop-step.invariant.parent there (c.bars.ensures ∙ ap bars c.life_of.ensures) c.if-bars.false;
     }
 
-pub returns : goal.returns
-returns c =
+pub returns-clause-barred : goal.returns-clause-barred
+returns-clause-barred g c =
+    let t = table (committed c.args.store.now) in
     let none : 7 - c.loop-step._step ≡ 0 = omega (arith, c.loop-step-test.false) in
-    sym (c.loop-step.invariant.same ∙ barred_up-none c.args.entries.now (7 - c.loop-step._step) c.loop-step.at none)
+    sym (c.loop-step.invariant.left ∙ barred_up-none t (7 - c.loop-step._step) c.loop-step.at none)
+
+pub returns-then-at-eq0-clause-ready : goal.returns-then-at-eq0-clause-ready
+returns-then-at-eq0-clause-ready g c = c.loop-step.invariant.ready
+
+pub returns-then-at-eq0-clause-reads : goal.returns-then-at-eq0-clause-reads
+returns-then-at-eq0-clause-reads g c = c.loop-step.invariant.reads
+
+pub returns-then-at-eq0-clause-tells : goal.returns-then-at-eq0-clause-tells
+returns-then-at-eq0-clause-tells g c = c.loop-step.invariant.ready.usable.works
+
+pub read_entry-requires-clause-ready : goal.read_entry-requires-clause-ready
+read_entry-requires-clause-ready g c = c.loop-step.invariant.ready
+
+pub returns-in_err-entry-clause-barred : goal.returns-in_err-entry-clause-barred
+returns-in_err-entry-clause-barred g c = if_failed _ _ _ c.from_residual.ensures.1
+
+pub returns-in_err-entry-clause-ready : goal.returns-in_err-entry-clause-ready
+returns-in_err-entry-clause-ready g c = if_failed _ _ _ c.from_residual.ensures.1
+
+pub returns-in_err-entry-clause-reads : goal.returns-in_err-entry-clause-reads
+returns-in_err-entry-clause-reads g c = reads_then _ _ _ c.loop-step.invariant.reads c.read_entry.ensures.reads
+
+pub returns-in_err-entry-clause-tells : goal.returns-in_err-entry-clause-tells
+returns-in_err-entry-clause-tells g c = tells_failed _ _ _ c.from_residual.ensures.1 c.in_err-entry.ensures.tells
+
+pub returns-then-bars-clause-ready : goal.returns-then-bars-clause-ready
+returns-then-bars-clause-ready g c = c.in_ok-entry.ensures.ready
+
+pub returns-then-bars-clause-reads : goal.returns-then-bars-clause-reads
+returns-then-bars-clause-reads g c = reads_then _ _ _ c.loop-step.invariant.reads c.read_entry.ensures.reads
+
+pub returns-then-bars-clause-tells : goal.returns-then-bars-clause-tells
+returns-then-bars-clause-tells g c = c.in_ok-entry.ensures.ready.usable.works
+
+pub returns-clause-ready : goal.returns-clause-ready
+returns-clause-ready g c = c.loop-step.invariant.ready
+
+pub returns-clause-reads : goal.returns-clause-reads
+returns-clause-reads g c = c.loop-step.invariant.reads
+
+pub returns-clause-tells : goal.returns-clause-tells
+returns-clause-tells g c = c.loop-step.invariant.ready.usable.works

@@ -1,19 +1,77 @@
-use Rattle.std.proofs.Common.{List, None, sym, ◌∙◌, ap, ap₂, Bool, if◌then◌else◌}
+use Rattle.std.proofs.Common.{subst}
+use Rattle.undo_journal.specs.laws.Calls.{reads_then}
+use Rattle.file_tree.specs.Table.{IsUsed}
+use Rattle.file_tree.specs.Trees.{TreeStands}
+use Rattle.file_tree.proofs.Ending.{if_failed, tells_failed}
+use Rattle.std.proofs.Common.{None, ℕ, List, Bool, if◌then◌else◌, sym, ◌∙◌, ap, ap₂}
 use Rattle.undo_journal.specs.Memory.{committed}
 use Rattle.card_rules.specs.LifeCycle.{state_after}
 use Rattle.card_rules.specs.declared.life_cycle.LifeCycle.{LifeCycle}
 use Rattle.file_tree.specs.declared.entry.Entry.{Entry}
-use Rattle.file_tree.specs.Table.{entry_in}
+use Rattle.file_tree.specs.Table.{table}
 use Rattle.file_tree.specs.laws.Barring.{barred_up, barred_told, life_told, life_told_there}
+use Rattle.file_tree.specs.laws.Nodes.{used_small}
 use Rattle.file_tree.proofs.life_cycles.next_life_cycle.Goals as goal
+
+pub read_entry-requires-clause-within : goal.read_entry-requires-clause-within
+read_entry-requires-clause-within g c = used_small (committed c.args.store.now) c.args.e c.requires.used
 
 pub returns-clause-next : goal.returns-clause-next
 returns-clause-next g c =
     let m = committed c.args.store.now in
     let e = c.args.e in
     let rules = c.requires.tree.entries in
-    c.next_in.ensures
-    ∙ ap (λ (t : List Entry). if barred_up t 7 e then None else state_after c.args.command (life_told (entry_in t e)))
-    (c.as_slice.ensures.value ∙ c.in_ok-entries.ensures.table)
+    c.next_of.ensures
     ∙ ap₂ (λ (b : Bool) (life : LifeCycle). if b then None else state_after c.args.command life)
-    (barred_told m rules e c.requires.used) (sym (life_told_there m rules e c.requires.used))
+    (c.in_ok-barred.ensures.barred ∙ ap (λ (l : List ℕ). barred_up
+    (table l) 7 e) c.read_entry.ensures.reads.keeps.committed_words
+    ∙ barred_told m rules e c.requires.used)
+    (ap (λ (x : Entry). life_told x) c.in_ok-entry.ensures.entry ∙ sym (life_told_there m rules e c.requires.used))
+
+pub read_entry-requires-clause-ready : goal.read_entry-requires-clause-ready
+read_entry-requires-clause-ready g c = c.requires.ready
+
+pub returns-in_err-entry-clause-next : goal.returns-in_err-entry-clause-next
+returns-in_err-entry-clause-next g c = if_failed _ _ _ c.from_residual.ensures.1
+
+pub returns-in_err-entry-clause-ready : goal.returns-in_err-entry-clause-ready
+returns-in_err-entry-clause-ready g c = if_failed _ _ _ c.from_residual.ensures.1
+
+pub returns-in_err-entry-clause-reads : goal.returns-in_err-entry-clause-reads
+returns-in_err-entry-clause-reads g c = c.read_entry.ensures.reads
+
+pub returns-in_err-entry-clause-tells : goal.returns-in_err-entry-clause-tells
+returns-in_err-entry-clause-tells g c = tells_failed _ _ _ c.from_residual.ensures.1 c.in_err-entry.ensures.tells
+
+pub is_below_barred-requires-clause-ready : goal.is_below_barred-requires-clause-ready
+is_below_barred-requires-clause-ready g c = c.in_ok-entry.ensures.ready
+
+pub is_below_barred-requires-clause-tree : goal.is_below_barred-requires-clause-tree
+is_below_barred-requires-clause-tree g c =
+    subst (λ (l : List ℕ). TreeStands l) (sym (c.read_entry.ensures.reads.keeps.committed_words)) c.requires.tree
+
+pub is_below_barred-requires-clause-used : goal.is_below_barred-requires-clause-used
+is_below_barred-requires-clause-used g c =
+    subst (λ (l : List ℕ). IsUsed (table l) c.args.e) (sym (c.read_entry.ensures.reads.keeps.committed_words)) c.requires.used
+
+pub returns-in_err-barred-clause-next : goal.returns-in_err-barred-clause-next
+returns-in_err-barred-clause-next g c = if_failed _ _ _ c.from_residual-in_err-barred.ensures.1
+
+pub returns-in_err-barred-clause-ready : goal.returns-in_err-barred-clause-ready
+returns-in_err-barred-clause-ready g c = if_failed _ _ _ c.from_residual-in_err-barred.ensures.1
+
+pub returns-in_err-barred-clause-reads : goal.returns-in_err-barred-clause-reads
+returns-in_err-barred-clause-reads g c = reads_then _ _ _ c.read_entry.ensures.reads c.is_below_barred.ensures.reads
+
+pub returns-in_err-barred-clause-tells : goal.returns-in_err-barred-clause-tells
+returns-in_err-barred-clause-tells g c =
+    tells_failed _ _ _ c.from_residual-in_err-barred.ensures.1 c.in_err-barred.ensures.tells
+
+pub returns-clause-ready : goal.returns-clause-ready
+returns-clause-ready g c = c.in_ok-barred.ensures.ready
+
+pub returns-clause-reads : goal.returns-clause-reads
+returns-clause-reads g c = reads_then _ _ _ c.read_entry.ensures.reads c.is_below_barred.ensures.reads
+
+pub returns-clause-tells : goal.returns-clause-tells
+returns-clause-tells g c = c.in_ok-barred.ensures.ready.usable.works

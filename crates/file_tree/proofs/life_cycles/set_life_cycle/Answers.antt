@@ -1,3 +1,7 @@
+use Rattle.undo_journal.specs.laws.Memory.{reports_then}
+use Rattle.undo_journal.specs.laws.Calls.{reads_spend}
+use Rattle.file_tree.proofs.Transactions.{writes_after}
+use Rattle.file_tree.proofs.Ending.{if_failed, tells_failed}
 use Rattle.std.proofs.Common.{◌≡◌, ◌+◌, ℕ, List, slice_set, sym, ◌∙◌, ap, subst, inl, inr, ⊎_elim}
 use Rattle.nvm_board.specs.Facts.{address}
 use Rattle.undo_journal.specs.Memory.{committed}
@@ -44,17 +48,21 @@ write_life-requires-clause-within g c = used_small (committed c.args.store.now) 
 pub returns-clause-done : goal.returns-clause-done
 returns-clause-done g c =
     let m = committed c.args.store.now in
-    changed m (committed c.read_entry.new.store) (committed c.write_life.new.store) c.args.e c.life_word.result c.to_byte-life.result
+    changed m (committed c.read_entry.new.store)
+    (committed c.write_life.new.store) c.args.e c.life_word.result c.to_byte-life.result
     c.args.state c.in_ok-entry.entry c.requires.ready.usable.committed_size c.requires.tree c.requires.used
-    c.read_entry.ensures.reads.keeps.committed_words c.in_ok-entry.ensures.entry c.to_byte-life.ensures.value c.life_word.ensures
+    c.read_entry.ensures.reads.keeps.committed_words c.in_ok-entry.ensures.entry c.to_byte-life.ensures.value
+    c.life_word.ensures
     c.in_ok-write_life.ensures.done
 
 pub returns-clause-any_exit : goal.returns-clause-any_exit
 returns-clause-any_exit g c =
     let m = committed c.args.store.now in
-    inr (changed m (committed c.read_entry.new.store) (committed c.write_life.new.store) c.args.e c.life_word.result c.to_byte-life.result
+    inr (changed m (committed c.read_entry.new.store)
+    (committed c.write_life.new.store) c.args.e c.life_word.result c.to_byte-life.result
     c.args.state c.in_ok-entry.entry c.requires.ready.usable.committed_size c.requires.tree c.requires.used
-    c.read_entry.ensures.reads.keeps.committed_words c.in_ok-entry.ensures.entry c.to_byte-life.ensures.value c.life_word.ensures
+    c.read_entry.ensures.reads.keeps.committed_words c.in_ok-entry.ensures.entry c.to_byte-life.ensures.value
+    c.life_word.ensures
     c.in_ok-write_life.ensures.done)
 
 pub returns-in_err-write_life-clause-any_exit : goal.returns-in_err-write_life-clause-any_exit
@@ -65,9 +73,11 @@ returns-in_err-write_life-clause-any_exit g c =
     inl (same ∙ c.read_entry.ensures.reads.keeps.committed_words))
     (λ (set : committed c.write_life.new.store
     ≡ slice_set (committed c.read_entry.new.store) (address (FIRST_ENTRY_PAGE + c.args.e) 0) c.life_word.result).
-    inr (changed m (committed c.read_entry.new.store) (committed c.write_life.new.store) c.args.e c.life_word.result c.to_byte-life.result
+    inr (changed m (committed c.read_entry.new.store)
+    (committed c.write_life.new.store) c.args.e c.life_word.result c.to_byte-life.result
     c.args.state c.in_ok-entry.entry c.requires.ready.usable.committed_size c.requires.tree c.requires.used
-    c.read_entry.ensures.reads.keeps.committed_words c.in_ok-entry.ensures.entry c.to_byte-life.ensures.value c.life_word.ensures
+    c.read_entry.ensures.reads.keeps.committed_words c.in_ok-entry.ensures.entry c.to_byte-life.ensures.value
+    c.life_word.ensures
     set))
     c.write_life.ensures.any_exit
 
@@ -87,3 +97,77 @@ pub returns-in_err-write_life-clause-stays : goal.returns-in_err-write_life-clau
 returns-in_err-write_life-clause-stays g c = λ here. absurd (c.if-entry-life.false
     (has_byte (committed c.args.store.now) c.args.e c.args.state c.in_ok-entry.entry c.to_byte-life.result c.requires.tree
     c.requires.used c.in_ok-entry.ensures.entry c.to_byte-life.ensures.value here))
+
+pub read_entry-requires-clause-ready : goal.read_entry-requires-clause-ready
+read_entry-requires-clause-ready g c = c.requires.ready
+
+pub returns-in_err-entry-clause-any_exit : goal.returns-in_err-entry-clause-any_exit
+returns-in_err-entry-clause-any_exit g c = inl c.read_entry.ensures.reads.keeps.committed_words
+
+pub returns-in_err-entry-clause-done : goal.returns-in_err-entry-clause-done
+returns-in_err-entry-clause-done g c = if_failed _ _ _ c.from_residual.ensures.1
+
+pub returns-in_err-entry-clause-stays : goal.returns-in_err-entry-clause-stays
+returns-in_err-entry-clause-stays g c = λ here. c.read_entry.ensures.reads
+
+pub returns-in_err-entry-clause-ready : goal.returns-in_err-entry-clause-ready
+returns-in_err-entry-clause-ready g c = if_failed _ _ _ c.from_residual.ensures.1
+
+pub returns-in_err-entry-clause-reports : goal.returns-in_err-entry-clause-reports
+returns-in_err-entry-clause-reports g c = c.read_entry.ensures.reads.reports
+
+pub returns-in_err-entry-clause-tells : goal.returns-in_err-entry-clause-tells
+returns-in_err-entry-clause-tells g c = tells_failed _ _ _ c.from_residual.ensures.1 c.in_err-entry.ensures.tells
+
+pub returns-in_err-entry-clause-writes : goal.returns-in_err-entry-clause-writes
+returns-in_err-entry-clause-writes g c = reads_spend _ _ _ c.read_entry.ensures.reads
+
+pub returns-then-entry-life-clause-any_exit : goal.returns-then-entry-life-clause-any_exit
+returns-then-entry-life-clause-any_exit g c = inl c.read_entry.ensures.reads.keeps.committed_words
+
+pub returns-then-entry-life-clause-stays : goal.returns-then-entry-life-clause-stays
+returns-then-entry-life-clause-stays g c = λ here. c.read_entry.ensures.reads
+
+pub returns-then-entry-life-clause-ready : goal.returns-then-entry-life-clause-ready
+returns-then-entry-life-clause-ready g c = c.in_ok-entry.ensures.ready
+
+pub returns-then-entry-life-clause-reports : goal.returns-then-entry-life-clause-reports
+returns-then-entry-life-clause-reports g c = c.read_entry.ensures.reads.reports
+
+pub returns-then-entry-life-clause-tells : goal.returns-then-entry-life-clause-tells
+returns-then-entry-life-clause-tells g c = c.in_ok-entry.ensures.ready.usable.works
+
+pub returns-then-entry-life-clause-writes : goal.returns-then-entry-life-clause-writes
+returns-then-entry-life-clause-writes g c = reads_spend _ _ _ c.read_entry.ensures.reads
+
+pub write_life-requires-clause-ready : goal.write_life-requires-clause-ready
+write_life-requires-clause-ready g c = c.in_ok-entry.ensures.ready
+
+pub returns-in_err-write_life-clause-done : goal.returns-in_err-write_life-clause-done
+returns-in_err-write_life-clause-done g c = if_failed _ _ _ c.from_residual-in_err-write_life.ensures.1
+
+pub returns-in_err-write_life-clause-ready : goal.returns-in_err-write_life-clause-ready
+returns-in_err-write_life-clause-ready g c = if_failed _ _ _ c.from_residual-in_err-write_life.ensures.1
+
+pub returns-in_err-write_life-clause-reports : goal.returns-in_err-write_life-clause-reports
+returns-in_err-write_life-clause-reports g c =
+    reports_then _ _ _ c.read_entry.ensures.reads.reports c.write_life.ensures.reports
+
+pub returns-in_err-write_life-clause-tells : goal.returns-in_err-write_life-clause-tells
+returns-in_err-write_life-clause-tells g c =
+    tells_failed _ _ _ c.from_residual-in_err-write_life.ensures.1 c.in_err-write_life.ensures.tells
+
+pub returns-in_err-write_life-clause-writes : goal.returns-in_err-write_life-clause-writes
+returns-in_err-write_life-clause-writes g c = writes_after _ _ _ _ c.read_entry.ensures.reads c.write_life.ensures.writes
+
+pub returns-clause-ready : goal.returns-clause-ready
+returns-clause-ready g c = c.in_ok-write_life.ensures.ready
+
+pub returns-clause-reports : goal.returns-clause-reports
+returns-clause-reports g c = reports_then _ _ _ c.read_entry.ensures.reads.reports c.write_life.ensures.reports
+
+pub returns-clause-tells : goal.returns-clause-tells
+returns-clause-tells g c = c.in_ok-write_life.ensures.ready.usable.works
+
+pub returns-clause-writes : goal.returns-clause-writes
+returns-clause-writes g c = writes_after _ _ _ _ c.read_entry.ensures.reads c.write_life.ensures.writes

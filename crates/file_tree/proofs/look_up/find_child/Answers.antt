@@ -1,4 +1,8 @@
-use Rattle.std.proofs.Common.{rules, ◌≤◌, arith}
+use Rattle.undo_journal.specs.laws.Calls.{reads_then}
+use Rattle.file_tree.proofs.Ending.{if_failed, tells_failed}
+use Rattle.std.proofs.Common.{rules, ◌<◌, ◌≤◌, ◌∙◌, ℕ, List, sym, ap, arith, below_more, true≢false}
+use Rattle.file_tree.specs.Table.{table, entry_in}
+use Rattle.file_tree.specs.laws.LookUps.{child_there, no_child_there}
 use Rattle.undo_journal.specs.Memory.{committed}
 use Rattle.file_tree.specs.laws.Nodes.{used_small}
 use Rattle.file_tree.proofs.look_up.find_child.Goals as goal
@@ -8,3 +12,57 @@ returns-clause-found g c = λ e child same.
     let end : 64 ≤ c.loop-e.e = search rules in
     let below = used_small (committed c.args.store.now) e child.used in
     c.loop-e.invariant.none e (omega (arith, end, below)) child same
+
+pub read_entry-requires-clause-ready : goal.read_entry-requires-clause-ready
+read_entry-requires-clause-ready g c = c.loop-e.invariant.ready
+
+pub returns-in_err-entry-clause-found : goal.returns-in_err-entry-clause-found
+returns-in_err-entry-clause-found g c = if_failed _ _ _ c.from_residual.ensures.1
+
+pub returns-in_err-entry-clause-ready : goal.returns-in_err-entry-clause-ready
+returns-in_err-entry-clause-ready g c = if_failed _ _ _ c.from_residual.ensures.1
+
+pub returns-in_err-entry-clause-reads : goal.returns-in_err-entry-clause-reads
+returns-in_err-entry-clause-reads g c = reads_then _ _ _ c.loop-e.invariant.reads c.read_entry.ensures.reads
+
+pub returns-in_err-entry-clause-tells : goal.returns-in_err-entry-clause-tells
+returns-in_err-entry-clause-tells g c = tells_failed _ _ _ c.from_residual.ensures.1 c.in_err-entry.ensures.tells
+
+pub returns-then-is_child-clause-ready : goal.returns-then-is_child-clause-ready
+returns-then-is_child-clause-ready g c = c.in_ok-entry.ensures.ready
+
+pub returns-then-is_child-clause-reads : goal.returns-then-is_child-clause-reads
+returns-then-is_child-clause-reads g c = reads_then _ _ _ c.loop-e.invariant.reads c.read_entry.ensures.reads
+
+pub returns-then-is_child-clause-tells : goal.returns-then-is_child-clause-tells
+returns-then-is_child-clause-tells g c = c.in_ok-entry.ensures.ready.usable.works
+
+pub returns-clause-ready : goal.returns-clause-ready
+returns-clause-ready g c = c.loop-e.invariant.ready
+
+pub returns-clause-reads : goal.returns-clause-reads
+returns-clause-reads g c = c.loop-e.invariant.reads
+
+pub returns-clause-tells : goal.returns-clause-tells
+returns-clause-tells g c = c.loop-e.invariant.ready.usable.works
+
+pub returns-then-is_child-clause-found : goal.returns-then-is_child-clause-found
+returns-then-is_child-clause-found g c =
+    let m = committed c.args.store.now in
+    let e = c.loop-e.e in
+    let is = c.in_ok-entry.ensures.entry ∙ ap (λ (l : List ℕ). entry_in (table l) e) c.loop-e.invariant.reads.keeps.committed_words in
+    let some : 0 < e = search rules in
+    child_there (table m) c.args.df c.args.identifier e c.in_ok-entry.entry is some (c.is_child.ensures.0 c.if-is_child.true)
+
+pub loop-e-preserved : goal.loop-e-preserved
+loop-e-preserved g c =
+    let m = committed c.args.store.now in
+    let e = c.loop-e.e in
+    let is = c.in_ok-entry.ensures.entry ∙ ap (λ (l : List ℕ). entry_in (table l) e) c.loop-e.invariant.reads.keeps.committed_words in
+    record {
+      ready = c.in_ok-entry.ensures.ready;
+      reads = reads_then _ _ _ c.loop-e.invariant.reads c.read_entry.ensures.reads;
+      none = below_more _ _ c.loop-e.invariant.none
+          (no_child_there (table m) c.args.df c.args.identifier e c.in_ok-entry.entry is
+          (λ names. true≢false (sym (c.is_child.ensures.1 names) ∙ c.if-is_child.false)));
+    }

@@ -1,3 +1,5 @@
+use Rattle.undo_journal.specs.laws.Calls.{reads_same}
+use Rattle.file_tree.proofs.Ending.{if_failed, tells_failed}
 use Rattle.std.proofs.Common.{◌≡◌, ℕ, Some, sym, ◌∙◌, ap, subst}
 use Rattle.undo_journal.specs.Memory.{committed}
 use Rattle.file_tree.specs.declared.entry.Entry.{Entry}
@@ -28,3 +30,39 @@ returns-clause-used g c =
     ap (λ (x : Entry). x.parent) c.in_ok-entry.ensures.entry in
     let family : ℕ → Type 0 = λ e. IsUsed (table m) e in
     subst family (sym parent) (above_used m c.requires.tree.entries c.args.df 0 c.requires.df)
+
+pub returns-then-df-eq0-clause-ready : goal.returns-then-df-eq0-clause-ready
+returns-then-df-eq0-clause-ready g c = c.requires.ready
+
+pub returns-then-df-eq0-clause-reads : goal.returns-then-df-eq0-clause-reads
+returns-then-df-eq0-clause-reads g c = reads_same _
+
+pub returns-then-df-eq0-clause-tells : goal.returns-then-df-eq0-clause-tells
+returns-then-df-eq0-clause-tells g c = c.requires.ready.usable.works
+
+pub read_entry-requires-clause-ready : goal.read_entry-requires-clause-ready
+read_entry-requires-clause-ready g c = c.requires.ready
+
+pub returns-in_err-entry-clause-found : goal.returns-in_err-entry-clause-found
+returns-in_err-entry-clause-found g c = if_failed _ _ _ c.from_residual.ensures.1
+
+pub returns-in_err-entry-clause-used : goal.returns-in_err-entry-clause-used
+returns-in_err-entry-clause-used g c = if_failed _ _ _ c.from_residual.ensures.1
+
+pub returns-in_err-entry-clause-ready : goal.returns-in_err-entry-clause-ready
+returns-in_err-entry-clause-ready g c = if_failed _ _ _ c.from_residual.ensures.1
+
+pub returns-in_err-entry-clause-reads : goal.returns-in_err-entry-clause-reads
+returns-in_err-entry-clause-reads g c = c.read_entry.ensures.reads
+
+pub returns-in_err-entry-clause-tells : goal.returns-in_err-entry-clause-tells
+returns-in_err-entry-clause-tells g c = tells_failed _ _ _ c.from_residual.ensures.1 c.in_err-entry.ensures.tells
+
+pub returns-clause-ready : goal.returns-clause-ready
+returns-clause-ready g c = c.in_ok-entry.ensures.ready
+
+pub returns-clause-reads : goal.returns-clause-reads
+returns-clause-reads g c = c.read_entry.ensures.reads
+
+pub returns-clause-tells : goal.returns-clause-tells
+returns-clause-tells g c = c.in_ok-entry.ensures.ready.usable.works

@@ -1,3 +1,4 @@
+use Rattle.file_tree.proofs.Ending.{if_failed, tells_failed}
 use Rattle.std.proofs.Common.{◌≡◌, ◌≤◌, ◌<◌, ◌+◌, ◌∷◌, ℕ, List, Option, None, length, drop, slice_index, subst, arith}
 use Rattle.std.proofs.lemmas.List.{drop_more, drop_all}
 use Rattle.undo_journal.specs.Memory.{committed}
@@ -57,3 +58,39 @@ returns-clause-found g c =
     let family : Path → Type 0 = λ left. IsOnWay m c.args.df c.loop-k.at path left in
     way_ends m c.requires.tree.entries c.args.df c.loop-k.at path
     (subst family (drop_all c.loop-k.k path end) c.loop-k.invariant.way)
+
+pub find_child-requires : goal.find_child-requires
+find_child-requires g c = record { ready = c.loop-k.invariant.ready }
+
+pub returns-in_err-child-clause-found : goal.returns-in_err-child-clause-found
+returns-in_err-child-clause-found g c = if_failed _ _ _ c.from_residual.ensures.1
+
+pub returns-in_err-child-clause-used : goal.returns-in_err-child-clause-used
+returns-in_err-child-clause-used g c = if_failed _ _ _ c.from_residual.ensures.1
+
+pub returns-in_err-child-clause-ready : goal.returns-in_err-child-clause-ready
+returns-in_err-child-clause-ready g c = if_failed _ _ _ c.from_residual.ensures.1
+
+pub returns-in_err-child-clause-reads : goal.returns-in_err-child-clause-reads
+returns-in_err-child-clause-reads g c = reads_then _ _ _ c.loop-k.invariant.reads c.find_child.ensures.reads
+
+pub returns-in_err-child-clause-tells : goal.returns-in_err-child-clause-tells
+returns-in_err-child-clause-tells g c = tells_failed _ _ _ c.from_residual.ensures.1 c.in_err-child.ensures.tells
+
+pub returns-in-None-clause-ready : goal.returns-in-None-clause-ready
+returns-in-None-clause-ready g c = c.in_ok-child.ensures.ready
+
+pub returns-in-None-clause-reads : goal.returns-in-None-clause-reads
+returns-in-None-clause-reads g c = reads_then _ _ _ c.loop-k.invariant.reads c.find_child.ensures.reads
+
+pub returns-in-None-clause-tells : goal.returns-in-None-clause-tells
+returns-in-None-clause-tells g c = c.in_ok-child.ensures.ready.usable.works
+
+pub returns-clause-ready : goal.returns-clause-ready
+returns-clause-ready g c = c.loop-k.invariant.ready
+
+pub returns-clause-reads : goal.returns-clause-reads
+returns-clause-reads g c = c.loop-k.invariant.reads
+
+pub returns-clause-tells : goal.returns-clause-tells
+returns-clause-tells g c = c.loop-k.invariant.ready.usable.works

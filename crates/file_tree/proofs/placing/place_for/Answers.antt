@@ -1,3 +1,5 @@
+use Rattle.undo_journal.specs.laws.Calls.{reads_then}
+use Rattle.file_tree.proofs.Ending.{if_failed, tells_failed}
 use Rattle.std.proofs.Common.{rules, ◌≡◌, ◌≢◌, ℕ, Bool, false, List, length, Option, None, Some, IsTrue, sym, ◌∙◌, ap, subst, arith, true≢false, inl, inr}
 use Rattle.std.proofs.lemmas.Bool.Decides.{eqb_tells}
 use Rattle.undo_journal.specs.Memory.{committed}
@@ -40,12 +42,14 @@ returns-in_default-clause-place g c =
     let sized = c.requires.ready.usable.committed_size in
     let entries = c.as_slice.ensures.value ∙ c.in_ok-entries.ensures.table in
     let of_table : List Entry → Type 0 = λ t. ancestor t 6 c.args.df ≡ 0 in
-    let level : ancestor (table m) 6 c.args.df ≡ 0 = subst of_table entries (level_zero c.as_slice.result.now c.args.df c.is_deepest.result
+    let level : ancestor (table m) 6 c.args.df ≡ 0 = subst of_table entries
+    (level_zero c.as_slice.result.now c.args.df c.is_deepest.result
     c.if-is_deepest.false c.is_deepest.ensures.1) in
     let again = c.as_slice-2.ensures.value ∙ c.in_ok-entries.ensures.table in
     let told : Option ℕ → List Entry → Type 0 = λ o t. TellsFreeEntry t o in
     let none : c.first_free.result ≡ None = search rules in
-    let free = subst (λ (t : List Entry). told None t) again (subst (λ (o : Option ℕ). told o c.as_slice-2.result.now) none c.first_free.ensures) in
+    let free = subst (λ (t : List Entry). told None t) again (subst (λ
+    (o : Option ℕ). told o c.as_slice-2.result.now) none c.first_free.ensures) in
     sym (place_none m sized c.requires.tree c.args.df c.requires.df c.args.fcp.now.kind level free)
 
 pub free_count-requires-clause-free : goal.free_count-requires-clause-free
@@ -61,13 +65,15 @@ returns-then-free-blocks_for-clause-place g c =
     let sized = c.requires.ready.usable.committed_size in
     let entries = c.as_slice.ensures.value ∙ c.in_ok-entries.ensures.table in
     let of_table : List Entry → Type 0 = λ t. ancestor t 6 c.args.df ≡ 0 in
-    let level : ancestor (table m) 6 c.args.df ≡ 0 = subst of_table entries (level_zero c.as_slice.result.now c.args.df c.is_deepest.result
+    let level : ancestor (table m) 6 c.args.df ≡ 0 = subst of_table entries
+    (level_zero c.as_slice.result.now c.args.df c.is_deepest.result
     c.if-is_deepest.false c.is_deepest.ensures.1) in
     let again = c.as_slice-2.ensures.value ∙ c.in_ok-entries.ensures.table in
     let told : Option ℕ → List Entry → Type 0 = λ o t. TellsFreeEntry t o in
     let free = subst (λ (t : List Entry). told (Some c.in-Some.e) t) again
     (subst (λ (o : Option ℕ). told o c.as_slice-2.result.now) c.in-Some.is c.first_free.ensures) in
-    let count = c.in_ok-free.ensures.count ∙ ap (λ (l : List ℕ). length (free_chain l)) c.read_table.ensures.reads.keeps.committed_words in
+    let count = c.in_ok-free.ensures.count ∙ ap (λ (l : List ℕ). length
+    (free_chain l)) c.read_table.ensures.reads.keeps.committed_words in
     let blocks = c.blocks_for.ensures ∙ ap blocks_for c.size.ensures in
     sym (place_small m sized c.requires.tree c.args.df c.requires.df c.args.fcp.now.kind c.in-Some.e level free
     (omega (arith, count, blocks, c.if-free-blocks_for.true)))
@@ -78,13 +84,81 @@ returns-clause-place g c =
     let sized = c.requires.ready.usable.committed_size in
     let entries = c.as_slice.ensures.value ∙ c.in_ok-entries.ensures.table in
     let of_table : List Entry → Type 0 = λ t. ancestor t 6 c.args.df ≡ 0 in
-    let level : ancestor (table m) 6 c.args.df ≡ 0 = subst of_table entries (level_zero c.as_slice.result.now c.args.df c.is_deepest.result
+    let level : ancestor (table m) 6 c.args.df ≡ 0 = subst of_table entries
+    (level_zero c.as_slice.result.now c.args.df c.is_deepest.result
     c.if-is_deepest.false c.is_deepest.ensures.1) in
     let again = c.as_slice-2.ensures.value ∙ c.in_ok-entries.ensures.table in
     let told : Option ℕ → List Entry → Type 0 = λ o t. TellsFreeEntry t o in
     let free = subst (λ (t : List Entry). told (Some c.in-Some.e) t) again
     (subst (λ (o : Option ℕ). told o c.as_slice-2.result.now) c.in-Some.is c.first_free.ensures) in
-    let count = c.in_ok-free.ensures.count ∙ ap (λ (l : List ℕ). length (free_chain l)) c.read_table.ensures.reads.keeps.committed_words in
+    let count = c.in_ok-free.ensures.count ∙ ap (λ (l : List ℕ). length
+    (free_chain l)) c.read_table.ensures.reads.keeps.committed_words in
     let blocks = c.blocks_for.ensures ∙ ap blocks_for c.size.ensures in
     place_there m sized c.requires.tree c.args.df c.requires.df c.args.fcp.now.kind c.in-Some.e level free
     (omega (arith, count, blocks, c.if-free-blocks_for.false))
+
+pub read_table-requires : goal.read_table-requires
+read_table-requires g c = record { ready = c.requires.ready }
+
+pub returns-in_err-entries-clause-place : goal.returns-in_err-entries-clause-place
+returns-in_err-entries-clause-place g c = if_failed _ _ _ c.from_residual.ensures.1
+
+pub returns-in_err-entries-clause-ready : goal.returns-in_err-entries-clause-ready
+returns-in_err-entries-clause-ready g c = if_failed _ _ _ c.from_residual.ensures.1
+
+pub returns-in_err-entries-clause-reads : goal.returns-in_err-entries-clause-reads
+returns-in_err-entries-clause-reads g c = c.read_table.ensures.reads
+
+pub returns-in_err-entries-clause-tells : goal.returns-in_err-entries-clause-tells
+returns-in_err-entries-clause-tells g c = tells_failed _ _ _ c.from_residual.ensures.1 c.in_err-entries.ensures.tells
+
+pub returns-then-is_deepest-clause-ready : goal.returns-then-is_deepest-clause-ready
+returns-then-is_deepest-clause-ready g c = c.in_ok-entries.ensures.ready
+
+pub returns-then-is_deepest-clause-reads : goal.returns-then-is_deepest-clause-reads
+returns-then-is_deepest-clause-reads g c = c.read_table.ensures.reads
+
+pub returns-then-is_deepest-clause-tells : goal.returns-then-is_deepest-clause-tells
+returns-then-is_deepest-clause-tells g c = c.in_ok-entries.ensures.ready.usable.works
+
+pub returns-in_default-clause-ready : goal.returns-in_default-clause-ready
+returns-in_default-clause-ready g c = c.in_ok-entries.ensures.ready
+
+pub returns-in_default-clause-reads : goal.returns-in_default-clause-reads
+returns-in_default-clause-reads g c = c.read_table.ensures.reads
+
+pub returns-in_default-clause-tells : goal.returns-in_default-clause-tells
+returns-in_default-clause-tells g c = c.in_ok-entries.ensures.ready.usable.works
+
+pub free_count-requires-clause-ready : goal.free_count-requires-clause-ready
+free_count-requires-clause-ready g c = c.in_ok-entries.ensures.ready
+
+pub returns-in_err-free-clause-place : goal.returns-in_err-free-clause-place
+returns-in_err-free-clause-place g c = if_failed _ _ _ c.from_residual-in_err-free.ensures.1
+
+pub returns-in_err-free-clause-ready : goal.returns-in_err-free-clause-ready
+returns-in_err-free-clause-ready g c = if_failed _ _ _ c.from_residual-in_err-free.ensures.1
+
+pub returns-in_err-free-clause-reads : goal.returns-in_err-free-clause-reads
+returns-in_err-free-clause-reads g c = reads_then _ _ _ c.read_table.ensures.reads c.free_count.ensures.reads
+
+pub returns-in_err-free-clause-tells : goal.returns-in_err-free-clause-tells
+returns-in_err-free-clause-tells g c = tells_failed _ _ _ c.from_residual-in_err-free.ensures.1 c.in_err-free.ensures.tells
+
+pub returns-then-free-blocks_for-clause-ready : goal.returns-then-free-blocks_for-clause-ready
+returns-then-free-blocks_for-clause-ready g c = c.in_ok-free.ensures.ready
+
+pub returns-then-free-blocks_for-clause-reads : goal.returns-then-free-blocks_for-clause-reads
+returns-then-free-blocks_for-clause-reads g c = reads_then _ _ _ c.read_table.ensures.reads c.free_count.ensures.reads
+
+pub returns-then-free-blocks_for-clause-tells : goal.returns-then-free-blocks_for-clause-tells
+returns-then-free-blocks_for-clause-tells g c = c.in_ok-free.ensures.ready.usable.works
+
+pub returns-clause-ready : goal.returns-clause-ready
+returns-clause-ready g c = c.in_ok-free.ensures.ready
+
+pub returns-clause-reads : goal.returns-clause-reads
+returns-clause-reads g c = reads_then _ _ _ c.read_table.ensures.reads c.free_count.ensures.reads
+
+pub returns-clause-tells : goal.returns-clause-tells
+returns-clause-tells g c = c.in_ok-free.ensures.ready.usable.works

@@ -1,3 +1,4 @@
+use Rattle.file_tree.proofs.Ending.{if_failed, tells_failed}
 use Rattle.std.proofs.Common.{rules, ◌≡◌, ◌<◌, ℕ, List, [], ◌∷◌, ◌++◌, length, take, sym, ◌∙◌, ap, ap₂, arith}
 use Rattle.std.proofs.lemmas.List.{take_more}
 use Rattle.std.proofs.Math.Seq.{take-length}
@@ -31,5 +32,30 @@ loop-e-preserved g c =
 pub returns-clause-table : goal.returns-clause-table
 returns-clause-table g c =
     let m = committed c.args.store.now in
-    let all : c.loop-e.e ≡ length (table m) = let l = length-table m in let e : c.loop-e.e ≡ 64 = search rules in omega (arith, l, e) in
+    let all : c.loop-e.e ≡ length (table m) = let l = length-table m in let e : c.loop-e.e ≡ 64 = search rules in omega
+    (arith, l, e) in
     c.loop-e.invariant.so_far ∙ ap (λ (n : ℕ). take n (table m)) all ∙ take-length (table m)
+
+pub read_entry-requires-clause-ready : goal.read_entry-requires-clause-ready
+read_entry-requires-clause-ready g c = c.loop-e.invariant.ready
+
+pub returns-in_err-read_entry-clause-table : goal.returns-in_err-read_entry-clause-table
+returns-in_err-read_entry-clause-table g c = if_failed _ _ _ c.from_residual.ensures.1
+
+pub returns-in_err-read_entry-clause-ready : goal.returns-in_err-read_entry-clause-ready
+returns-in_err-read_entry-clause-ready g c = if_failed _ _ _ c.from_residual.ensures.1
+
+pub returns-in_err-read_entry-clause-reads : goal.returns-in_err-read_entry-clause-reads
+returns-in_err-read_entry-clause-reads g c = reads_then _ _ _ c.loop-e.invariant.reads c.read_entry.ensures.reads
+
+pub returns-in_err-read_entry-clause-tells : goal.returns-in_err-read_entry-clause-tells
+returns-in_err-read_entry-clause-tells g c = tells_failed _ _ _ c.from_residual.ensures.1 c.in_err-read_entry.ensures.tells
+
+pub returns-clause-ready : goal.returns-clause-ready
+returns-clause-ready g c = c.loop-e.invariant.ready
+
+pub returns-clause-reads : goal.returns-clause-reads
+returns-clause-reads g c = c.loop-e.invariant.reads
+
+pub returns-clause-tells : goal.returns-clause-tells
+returns-clause-tells g c = c.loop-e.invariant.ready.usable.works

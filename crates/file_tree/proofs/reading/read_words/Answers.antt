@@ -1,3 +1,4 @@
+use Rattle.file_tree.proofs.Ending.{if_failed, tells_failed}
 use Rattle.std.proofs.Common.{rules, ◌≡◌, ◌+◌, ◌<◌, ◌≤◌, ℕ, List, slice_index, slice_set, sym, ◌∙◌, ap, ap₂, arith}
 use Rattle.std.proofs.Common.{⊎_elim, get_or-set_same, get_or-set_other, length-set}
 use Rattle.std.proofs.lemmas.Bool.{cases_lt}
@@ -34,3 +35,24 @@ loop-k-preserved g c =
           ∙ ap (word m (1 + c.args.e)) (sym is))
           (cases_lt k at);
     }
+
+pub returns-in_err-words-clause-words : goal.returns-in_err-words-clause-words
+returns-in_err-words-clause-words g c = if_failed _ _ _ c.from_residual.ensures.1
+
+pub returns-in_err-words-clause-ready : goal.returns-in_err-words-clause-ready
+returns-in_err-words-clause-ready g c = if_failed _ _ _ c.from_residual.ensures.1
+
+pub returns-in_err-words-clause-reads : goal.returns-in_err-words-clause-reads
+returns-in_err-words-clause-reads g c = reads_then _ _ _ c.loop-k.invariant.reads c.read.ensures.reads
+
+pub returns-in_err-words-clause-tells : goal.returns-in_err-words-clause-tells
+returns-in_err-words-clause-tells g c = tells_failed _ _ _ c.from_residual.ensures.1 c.in_err-words.ensures.tells
+
+pub returns-clause-ready : goal.returns-clause-ready
+returns-clause-ready g c = c.loop-k.invariant.ready
+
+pub returns-clause-reads : goal.returns-clause-reads
+returns-clause-reads g c = c.loop-k.invariant.reads
+
+pub returns-clause-tells : goal.returns-clause-tells
+returns-clause-tells g c = c.loop-k.invariant.ready.usable.works

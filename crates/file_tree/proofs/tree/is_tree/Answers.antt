@@ -1,3 +1,5 @@
+use Rattle.undo_journal.specs.laws.Calls.{reads_then}
+use Rattle.file_tree.proofs.Ending.{if_failed, tells_failed}
 use Rattle.std.proofs.Common.{rules, ℕ, List, Option, length, IsTrue, sym, ◌∙◌, ap, subst}
 use Rattle.block_chain.specs.Layout.{TellsFree}
 use Rattle.undo_journal.specs.Memory.{committed}
@@ -26,7 +28,62 @@ returns-in-Some-clause-tree g c =
     c.requires.ready.usable.committed_size
     c.read_table.ensures.reads.keeps.committed_words
     (c.as_slice.ensures.value ∙ c.in_ok-entries.ensures.table)
-    (c.as_slice-3.ensures.value ∙ c.extents_of-extents.ensures ∙ ap extents (c.as_slice-2.ensures.value ∙ sym c.as_slice.ensures.value))
+    (c.as_slice-3.ensures.value ∙ c.extents_of-extents.ensures ∙ ap extents (c.as_slice-2.ensures.value
+    ∙ sym c.as_slice.ensures.value))
     (c.is_table.ensures.0 passes)
     (subst told c.in-Some.is c.in_ok-lay.ensures.found)
     (c.count_free-entries.ensures ∙ ap free_entries (c.as_slice-in-Some.ensures.value ∙ sym c.as_slice.ensures.value))
+
+pub read_table-requires : goal.read_table-requires
+read_table-requires g c = record { ready = c.requires.ready }
+
+pub returns-in_err-entries-clause-tree : goal.returns-in_err-entries-clause-tree
+returns-in_err-entries-clause-tree g c = if_failed _ _ _ c.from_residual.ensures.1
+
+pub returns-in_err-entries-clause-ready : goal.returns-in_err-entries-clause-ready
+returns-in_err-entries-clause-ready g c = if_failed _ _ _ c.from_residual.ensures.1
+
+pub returns-in_err-entries-clause-reads : goal.returns-in_err-entries-clause-reads
+returns-in_err-entries-clause-reads g c = c.read_table.ensures.reads
+
+pub returns-in_err-entries-clause-tells : goal.returns-in_err-entries-clause-tells
+returns-in_err-entries-clause-tells g c = tells_failed _ _ _ c.from_residual.ensures.1 c.in_err-entries.ensures.tells
+
+pub returns-then-not-is_table-clause-ready : goal.returns-then-not-is_table-clause-ready
+returns-then-not-is_table-clause-ready g c = c.in_ok-entries.ensures.ready
+
+pub returns-then-not-is_table-clause-reads : goal.returns-then-not-is_table-clause-reads
+returns-then-not-is_table-clause-reads g c = c.read_table.ensures.reads
+
+pub returns-then-not-is_table-clause-tells : goal.returns-then-not-is_table-clause-tells
+returns-then-not-is_table-clause-tells g c = c.in_ok-entries.ensures.ready.usable.works
+
+pub returns-in_err-lay-clause-tree : goal.returns-in_err-lay-clause-tree
+returns-in_err-lay-clause-tree g c = if_failed _ _ _ c.from_residual-in_err-lay.ensures.1
+
+pub returns-in_err-lay-clause-ready : goal.returns-in_err-lay-clause-ready
+returns-in_err-lay-clause-ready g c = if_failed _ _ _ c.from_residual-in_err-lay.ensures.1
+
+pub returns-in_err-lay-clause-reads : goal.returns-in_err-lay-clause-reads
+returns-in_err-lay-clause-reads g c = reads_then _ _ _ c.read_table.ensures.reads c.lay.ensures.reads
+
+pub returns-in_err-lay-clause-tells : goal.returns-in_err-lay-clause-tells
+returns-in_err-lay-clause-tells g c = tells_failed _ _ _ c.from_residual-in_err-lay.ensures.1 c.in_err-lay.ensures.tells
+
+pub returns-in-None-clause-ready : goal.returns-in-None-clause-ready
+returns-in-None-clause-ready g c = c.in_ok-lay.ensures.ready
+
+pub returns-in-None-clause-reads : goal.returns-in-None-clause-reads
+returns-in-None-clause-reads g c = reads_then _ _ _ c.read_table.ensures.reads c.lay.ensures.reads
+
+pub returns-in-None-clause-tells : goal.returns-in-None-clause-tells
+returns-in-None-clause-tells g c = c.in_ok-lay.ensures.ready.usable.works
+
+pub returns-in-Some-clause-ready : goal.returns-in-Some-clause-ready
+returns-in-Some-clause-ready g c = c.in_ok-lay.ensures.ready
+
+pub returns-in-Some-clause-reads : goal.returns-in-Some-clause-reads
+returns-in-Some-clause-reads g c = reads_then _ _ _ c.read_table.ensures.reads c.lay.ensures.reads
+
+pub returns-in-Some-clause-tells : goal.returns-in-Some-clause-tells
+returns-in-Some-clause-tells g c = c.in_ok-lay.ensures.ready.usable.works

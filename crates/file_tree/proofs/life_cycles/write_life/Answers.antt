@@ -1,0 +1,32 @@
+use Rattle.file_tree.proofs.Ending.{if_failed, tells_failed}
+use Rattle.file_tree.proofs.life_cycles.write_life.Goals as goal
+
+pub write_word-requires-clause-ready : goal.write_word-requires-clause-ready
+write_word-requires-clause-ready g c = c.requires.ready
+
+pub returns-in_err-write_word-clause-done : goal.returns-in_err-write_word-clause-done
+returns-in_err-write_word-clause-done g c = if_failed _ _ _ c.from_residual.ensures.1
+
+pub returns-in_err-write_word-clause-ready : goal.returns-in_err-write_word-clause-ready
+returns-in_err-write_word-clause-ready g c = if_failed _ _ _ c.from_residual.ensures.1
+
+pub returns-in_err-write_word-clause-reports : goal.returns-in_err-write_word-clause-reports
+returns-in_err-write_word-clause-reports g c = c.write_word.ensures.reports
+
+pub returns-in_err-write_word-clause-tells : goal.returns-in_err-write_word-clause-tells
+returns-in_err-write_word-clause-tells g c = tells_failed _ _ _ c.from_residual.ensures.1 c.in_err-write_word.ensures.tells
+
+pub returns-in_err-write_word-clause-writes : goal.returns-in_err-write_word-clause-writes
+returns-in_err-write_word-clause-writes g c = c.write_word.ensures.writes
+
+pub returns-clause-ready : goal.returns-clause-ready
+returns-clause-ready g c = c.in_ok-write_word.ensures.ready
+
+pub returns-clause-reports : goal.returns-clause-reports
+returns-clause-reports g c = c.write_word.ensures.reports
+
+pub returns-clause-tells : goal.returns-clause-tells
+returns-clause-tells g c = c.in_ok-write_word.ensures.ready.usable.works
+
+pub returns-clause-writes : goal.returns-clause-writes
+returns-clause-writes g c = c.write_word.ensures.writes
