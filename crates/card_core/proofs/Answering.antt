@@ -1,5 +1,10 @@
 -- What is said of a value or an error, said in other words.
-use Rattle.std.proofs.Common.{Result, Ok, Err, IfOk, OnOk, MatchResult, ◌≡◌, subst}
+use Rattle.std.proofs.Common.{Result, Ok, Err, IfOk, OnOk, MatchResult, Option, None, Some, ◌≡◌, subst}
+use Rattle.card_rules.specs.declared.status.Sw.{Sw}
+use Rattle.undo_journal.specs.declared.error.StoreErr.{StoreErr}
+use Rattle.ef_body.specs.declared.error.BodyErr.{BodyErr}
+use Rattle.ef_body.specs.declared.error.BodyErr.TheVariants.{Refused, Store}
+use Rattle.ef_body.specs.Refusals.{Decides, IfRefused}
 
 pub ok_then : {T E : Type 0} (P Q : T → Type 0) (r : Result T E) → ((x : T) → P x → Q x) → IfOk r P → IfOk r Q
 ok_then P Q (Ok x) f h = f x h
@@ -29,3 +34,16 @@ ok_anyway P (Err e) h = tt
 pub on_then : {T E : Type 0} (P Q : Type 0) (r : Result T E) → (P → Q) → OnOk r P → OnOk r Q
 on_then P Q (Ok x) f h = f h
 on_then P Q (Err e) f h = tt
+
+-- what an answer of a body says where it is a refusal
+module _ (answer : BodyErr) (status : Sw) (is : answer ≡ Refused status) where
+  pub refused-decides : (due : Option Sw) → Decides due (Some answer) → due ≡ Some status
+  refused-decides due decides = subst (λ (b : BodyErr). Decides due (Some b)) is decides
+
+  pub refused-says : (fact : Type 0) → IfRefused (Some answer) fact → fact
+  refused-says fact said = subst (λ (b : BodyErr). IfRefused (Some b) fact) is said
+
+-- and where the store failed: then nothing refuses
+pub failed-decides : (answer : BodyErr) (e : StoreErr) → answer ≡ Store e → (due : Option Sw)
+    → Decides due (Some answer) → due ≡ None
+failed-decides answer e is due decides = subst (λ (b : BodyErr). Decides due (Some b)) is decides

@@ -31,7 +31,7 @@ use Rattle.pin_store.specs.laws.Tries.{charge_keeps_law, end_keeps_law, IsEnd}
 use Rattle.card_core.specs.declared.current.Current.{Current}
 use Rattle.card_core.specs.Cards.{Card}
 use Rattle.card_core.specs.Comparing.{attempt_of, comparisons, ComparesBy, ComparesShown, CostsATry}
-use Rattle.card_core.specs.Outcomes.{refused, refused_by, unless_refused}
+use Rattle.card_core.specs.Outcomes.{refused, refused_by}
 use Rattle.card_core.specs.Pins.{Attempt, attempt_commits, attempt_refusals, attempted, attempted_as, charged_card, is_right}
 use Rattle.card_core.specs.Pins.{changing, no_refusals, pin_of, resetting, settled_card, told_tries, tries_of, tries_told}
 use Rattle.card_core.specs.Pins.{unblocking_of, unverified, value_of, verifying, with_pin_of}

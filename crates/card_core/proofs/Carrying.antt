@@ -1,14 +1,14 @@
 -- From what a call leaves of the request that was asked for to what it leaves of the bytes of a command.
-use Rattle.std.proofs.Common.{◌≡◌, ◌≢◌, ◌⊎◌, ◌+◌, ◌≤◌, ◌==◌, ℕ, Bool, true, false, List, [], ◌∷◌, length, Contains, Option, None, Some}
+use Rattle.std.proofs.Common.{◌≡◌, ◌+◌, ◌≤◌, ◌==◌, ℕ, Bool, true, false, List, [], length, Some}
 use Rattle.std.proofs.Common.{Result, Ok, Err, IfOk, OnOk, if◌then◌else◌, sym, ◌∙◌, ap, subst, arith, inl, inr, ⊎_elim, refl}
 use Rattle.std.specs.Result.{result_err}
 use Rattle.card_rules.specs.declared.status.Sw.{Sw}
 use Rattle.card_rules.specs.declared.status.TheConstants.Sw.{CONDITIONS_NOT_SATISFIED}
 use Rattle.undo_journal.specs.declared.error.StoreErr.{StoreErr}
 use Rattle.undo_journal.specs.Calls.{OnlyReads}
-use Rattle.undo_journal.specs.laws.Calls.{reads_same, reads_then}
+use Rattle.undo_journal.specs.laws.Calls.{reads_then}
 use Rattle.undo_journal.specs.laws.Memory.{reports_then}
-use Rattle.undo_journal.specs.Memory.{Memory, committed, IsReady, Reports}
+use Rattle.undo_journal.specs.Memory.{Memory, committed, IsReady}
 use Rattle.block_chain.specs.Words.{word}
 use Rattle.file_tree.specs.Table.{table}
 use Rattle.apdu_core.specs.Asked.{asked}
@@ -17,13 +17,12 @@ use Rattle.card_core.specs.declared.current.Current.{Current}
 use Rattle.card_core.specs.declared.layout.TheConstants.{HEADER_PAGE, STATE_WORD}
 use Rattle.card_core.specs.Cards.{Card}
 use Rattle.card_core.specs.Comparing.{comparisons, Comparisons, ComparesAsked, ComparesBy}
-use Rattle.card_core.specs.Outcomes.{Outcome, refused, refused_by}
+use Rattle.card_core.specs.Outcomes.{refused}
 use Rattle.card_core.specs.Served.{CarriesOut, IsDoing, Serves}
 use Rattle.card_core.specs.Sessions.{Session}
-use Rattle.card_core.specs.Spending.{most_writes, writes_asked, writes_of}
-use Rattle.card_core.specs.Stages.{commits, commits_asked, commits_served, commits_unless, stages, ChangesNothing, IsStage}
+use Rattle.card_core.specs.Spending.{writes_asked}
 use Rattle.card_core.specs.Standing.{IsCard, card_of}
-use Rattle.card_core.specs.Steps.{carried_out, outcome_of, refusals_of, served, step}
+use Rattle.card_core.specs.Steps.{carried_out, outcome_of, served, step}
 use Rattle.card_core.specs.Working.{card_in, outcome, session_in, session_of, table_in, IsCurrent}
 use Rattle.card_core.specs.laws.StageLaws.{doing_lasts, stage_doing, stage_first}
 use Rattle.card_core.proofs.Serves.{reads-compared, reads-nothing}

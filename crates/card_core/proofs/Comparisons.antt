@@ -1,14 +1,10 @@
 -- What a comparison costs, as a store tells it and as a card does.
-use Rattle.std.proofs.Common.{◌≡◌, ◌-◌, ℕ, List, slice_set, Option, Some, None, sym, ◌∙◌, ap, inl, inr, ⊎_elim}
-use Rattle.std.proofs.lemmas.List.{set-get_or}
+use Rattle.std.proofs.Common.{◌≡◌, ℕ, List, inl, inr, ⊎_elim}
 use Rattle.undo_journal.specs.Memory.{Memory}
-use Rattle.apdu_core.specs.Requests.{Request}
 use Rattle.pin_store.specs.Pins.{tries_left}
 use Rattle.pin_store.specs.Trials.{pin_in, FillsByMatch, IsMatch, KeepsPinLaw, PaysForOne as PaysInStore}
-use Rattle.card_core.specs.Cards.{Card, Pin}
-use Rattle.card_core.specs.Comparing.{attempt_of, comparisons, Comparisons, ComparesBy, ComparesNothing, ComparesShown}
+use Rattle.card_core.specs.Comparing.{comparisons}
 use Rattle.card_core.specs.Comparing.{CostsATry, FillsTries, Matches, PaysForOne}
-use Rattle.card_core.specs.Pins.{no_pin, pin_of, Attempt}
 
 -- the law of a store, told by its PIN and its counts
 module _ (secret : ℕ) (shown : List ℕ) (old new : Memory) where

@@ -1,7 +1,7 @@
 -- The factory's memory stands for the factory's card.
 use Rattle.std.proofs.Common.{◌≡◌, ◌<◌, ◌≤◌, ◌+◌, ◌==◌, ℕ, true, List, [], ◌∷◌, ◌++◌, zero, suc, length, drop, map}
 use Rattle.std.proofs.Common.{slice_index}
-use Rattle.std.proofs.Common.{slice_range, refl, sym, ◌∙◌, ap, ap₂, subst, arith, inl, lit≤, lit<, replicate, Option}
+use Rattle.std.proofs.Common.{refl, sym, ◌∙◌, ap, ap₂, subst, arith, inl, lit≤, lit<, replicate, Option}
 use Rattle.std.proofs.Common.{Some}
 use Rattle.std.specs.List.{flat_map, range_with_len, filter_map, cons_option}
 use Rattle.std.specs.FinMap.{from_entries}

@@ -25,6 +25,8 @@ pub mod Attempts
 pub mod Carrying
 pub mod Serving
 pub mod Powers
+pub mod Commanding
+pub mod SpaceKept
 pub mod FactoryPages
 pub mod FactoryBlocks
 pub mod FactoryTable
@@ -35,3 +37,7 @@ pub mod RecordTables
 pub mod RecordChanges
 pub mod RecordWrites
 pub mod RecordSums
+pub mod Readings
+pub mod Headers
+pub mod Missing
+pub mod RecordKinds

@@ -1,10 +1,18 @@
 -- What calls say of power and device, one after another.
-use Rattle.std.proofs.Common.{◌≡◌, ◌+◌, ℕ, true, true≢false, Result, sym, ◌∙◌, ap, subst, inl, inr, ⊎_elim}
+use Rattle.std.proofs.Common.{◌≡◌, ◌+◌, ℕ, true, true≢false, Option, Some, None, Result, Ok, Err, IfOk, sym, ◌∙◌, ap, subst, inl, inr, ⊎_elim}
+use Rattle.std.specs.Prelude.{MatchOption, MatchResult}
+use Rattle.std.specs.Result.{result_err}
 use Rattle.nvm_board.specs.declared.board.DeviceErr.{DeviceErr}
 use Rattle.nvm_board.specs.Facts.{Facts, Steady, GoesDark, Fails, Answered, IsWorn}
 use Rattle.undo_journal.specs.declared.error.StoreErr.{StoreErr}
 use Rattle.undo_journal.specs.declared.error.StoreErr.TheVariants.{PowerLost, Fault}
-use Rattle.undo_journal.specs.Memory.{FailsBy as StoreFailsBy}
+use Rattle.undo_journal.specs.Memory.{committed, FailsBy as StoreFailsBy, Memory, Reports}
+use Rattle.undo_journal.specs.Undo.{IsSound}
+use Rattle.file_tree.specs.declared.space.FreeSpace.{FreeSpace}
+use Rattle.card_core.specs.declared.faults.StartFault.TheVariants.{Damaged}
+use Rattle.card_core.specs.Finding.{words_found}
+use Rattle.card_core.specs.Standing.{IsCard}
+use Rattle.card_core.specs.Working.{TellsCard}
 use Rattle.card_core.specs.declared.faults.StartFault.{StartFault}
 use Rattle.card_core.specs.StartFaults.{fault_of_store}
 use Rattle.card_core.specs.Running.{StopsBy}
@@ -56,3 +64,43 @@ stops-by PowerLost stop a b c is before fails = subst (λ (f : StartFault). Stop
     (goes_dark_then a b c before fails))
 stops-by Fault stop a b c is before fails = subst (λ (f : StartFault). StopsBy f a c) (sym is) (fails_then a b c
     before fails)
+
+-- what a start tells of what it found
+abbrev Found : Result (Option FreeSpace) StoreErr → Result FreeSpace StartFault → Type 0
+Found found result = MatchResult found (λ space. MatchOption space (result ≡ Err Damaged) (λ free. result ≡ Ok free))
+    (λ e. result ≡ Err (fault_of_store e))
+
+-- a card
+pub found-there : (found : Result (Option FreeSpace) StoreErr) (result : Result FreeSpace StartFault) (free : FreeSpace)
+    → Found found result → result ≡ Ok free → found ≡ Ok (Some free)
+found-there (Ok (Some space)) result free tells is = let same = sym tells ∙ is in cc
+found-there (Ok None) result free tells is = let never = sym tells ∙ is in cc
+found-there (Err e) result free tells is = let never = sym tells ∙ is in cc
+
+-- or why there is none that starts
+pub stops-found : (first : Facts) (opened last : Memory) → Steady first opened.facts → IsSound first.words
+    → committed opened ≡ words_found first.words → opened.failed ≡ None → Reports opened last
+    → (found : Result (Option FreeSpace) StoreErr) (result : Result FreeSpace StartFault) (stop : StartFault)
+    → Found found result → result ≡ Err stop → IfOk found (TellsCard (committed opened))
+    → last.failed ≡ result_err found → StopsBy stop first last.facts
+stops-found first opened last light sound words works reports (Ok (Some space)) result stop tells is card failed =
+    let never = sym tells ∙ is in cc
+stops-found first opened last light sound words works reports (Ok None) result stop tells is card failed =
+    let same = sym tells ∙ is in
+    let damaged : Damaged ≡ stop = cc in
+    let still = (reports.works failed).1 in
+    subst (λ (f : StartFault). StopsBy f first last.facts) damaged (
+      sound,
+      λ stands. card (subst IsCard (sym words) stands),
+      record {
+        was_lit = light.was_lit;
+        lit = still.dark ∙ light.lit;
+        faults = still.faults ∙ light.faults;
+        cuts = still.cuts ∙ light.cuts;
+        due = still.due ∙ light.due;
+      },
+    )
+stops-found first opened last light sound words works reports (Err e) result stop tells is card failed =
+    let same = sym tells ∙ is in
+    let stop_is : stop ≡ fault_of_store e = cc in
+    stops-by e stop first opened.facts last.facts stop_is light (reports.fails e works failed)

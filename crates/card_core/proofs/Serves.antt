@@ -10,8 +10,7 @@ use Rattle.file_tree.specs.declared.space.FreeSpace.{FreeSpace}
 use Rattle.file_tree.specs.Table.{table}
 use Rattle.apdu_core.specs.Requests.{Request}
 use Rattle.card_core.specs.declared.current.Current.{Current}
-use Rattle.card_core.specs.Cards.{Card}
-use Rattle.card_core.specs.Comparing.{comparisons, Comparisons, ComparesBy, ComparesNothing}
+use Rattle.card_core.specs.Comparing.{comparisons, ComparesBy, ComparesNothing}
 use Rattle.card_core.specs.Outcomes.{refused}
 use Rattle.card_core.specs.Served.{IsDoing, Serves}
 use Rattle.card_core.specs.Spending.{most_writes}

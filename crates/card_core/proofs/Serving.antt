@@ -1,54 +1,62 @@
 -- READ BINARY and UPDATE BINARY by the entry of the file that is named.
-use Rattle.std.proofs.Common.{◌≡◌, ◌≢◌, ◌⊎◌, ◌<◌, ◌≤◌, ◌+◌, ◌-◌, ◌*◌, ◌==◌, ℕ, min, Bool, true, false, nat_le}
-use Rattle.std.proofs.Common.{nat_lt, List, [], ◌++◌, length, length-take, take, drop}
-use Rattle.std.proofs.Common.{Some, None, refl, sym, ◌∙◌, ap, ap₂, subst, arith, if◌then◌else◌, inl}
-use Rattle.std.proofs.Common.{inr, ⊎_elim}
-use Rattle.std.proofs.lemmas.Bool.{lt-ltb, le-ltb, le-leb, lt-leb, ne_eqb, cases_eq}
+use Rattle.std.proofs.Common.{◌≡◌, ◌⊎◌, ◌<◌, ◌≤◌, ◌+◌, ◌==◌, ℕ, Bool, true, false, List, [], length, length-take, take, drop, Ok, Err}
+use Rattle.std.proofs.Common.{Some, None, refl, sym, ◌∙◌, ap, ap₂, subst, arith, if◌then◌else◌, inl, inr, ⊎_elim}
 use Rattle.std.specs.FinMap.{insert}
-use Rattle.std.proofs.Math.Nat.{min-le_left, min-le_right}
 use Rattle.nvm_board.specs.declared.board.TheConstants.{WORDS}
-use Rattle.card_rules.specs.declared.status.TheConstants.Sw.{DONE, NO_ROOM, WRONG_OFFSET}
+use Rattle.card_rules.specs.declared.status.Sw.{Sw}
+use Rattle.card_rules.specs.declared.status.TheConstants.Sw.{DONE}
 use Rattle.card_rules.specs.declared.access_mode.AccessBit.{AccessBit}
 use Rattle.card_rules.specs.declared.access_mode.AccessBit.TheVariants.{Read, Update}
+use Rattle.undo_journal.specs.declared.error.StoreErr.{StoreErr}
+use Rattle.undo_journal.specs.Calls.{OnlyReads}
+use Rattle.undo_journal.specs.Memory.{Memory, committed, IsReady, Reports}
+use Rattle.undo_journal.specs.Spending.{WritesAtMost}
+use Rattle.undo_journal.specs.laws.Memory.{reports_then}
 use Rattle.apdu_core.specs.declared.binary.Target.{Target}
 use Rattle.apdu_core.specs.declared.binary.Target.TheVariants.{Current, Short}
-use Rattle.apdu_core.specs.Requests.{read_binary, update_binary}
-use Rattle.block_chain.specs.declared.chain.Chain.{Chain}
-use Rattle.block_chain.specs.Chains.{chain, bytes_of, IsChain}
-use Rattle.block_chain.specs.Changes.{AppendsSome, Overwrites}
+use Rattle.apdu_core.specs.Requests.{Request, read_binary, update_binary}
+use Rattle.block_chain.specs.Chains.{bytes_of}
+use Rattle.block_chain.specs.Changes.{AppendsSome}
+use Rattle.ef_body.specs.declared.transparent.Transparent.{Transparent}
+use Rattle.ef_body.specs.Bodies.{transparent_bytes, IsTransparent}
+use Rattle.ef_body.specs.Changes.{TransparentBecomes}
+use Rattle.ef_body.specs.Refusals.{overlong, past_end}
 use Rattle.file_tree.specs.declared.entry.Entry.{Entry}
-use Rattle.file_tree.specs.Cards.{Kind, Tree, File, file_at, is_transparent, overwrite, with_bytes}
+use Rattle.file_tree.specs.Cards.{Kind, Tree, File, file_at, overwrite, with_bytes}
 use Rattle.file_tree.specs.Cards.{bytes_of as bytes_in}
 use Rattle.file_tree.specs.Changes.{Rewrites}
+use Rattle.file_tree.specs.Entries.{free_entry}
 use Rattle.file_tree.specs.Spaces.{free_space}
-use Rattle.file_tree.specs.Table.{table, entry_in, path_of, free_entries, IsUsed}
-use Rattle.file_tree.specs.Trees.{content, tree_of}
+use Rattle.file_tree.specs.Table.{table, entry_in, path_of, free_entries}
+use Rattle.file_tree.specs.Trees.{tree_of}
 use Rattle.file_tree.specs.laws.Costs.{space_counted}
 use Rattle.file_tree.specs.laws.Nodes.{file_in, file_at_entry, used_small}
 use Rattle.file_tree.specs.laws.Paths.{parent_path, identifier_path}
 use Rattle.file_tree.specs.laws.Rewriting.{rewritten}
+use Rattle.file_tree.specs.laws.Tables.{length-table}
 use Rattle.card_core.specs.declared.current.Current.{Current as CurrentFiles}
 use Rattle.card_core.specs.declared.named.Need.{Need}
 use Rattle.card_core.specs.declared.named.Structure.TheVariants.{Bytes}
 use Rattle.card_core.specs.Binaries.{read_response}
-use Rattle.card_core.specs.Elementary.{file_refusals, naming}
-use Rattle.card_core.specs.Cards.{Card, with_content}
-use Rattle.card_core.specs.Outcomes.{Response, refused, refused_by, only_status}
-use Rattle.card_core.specs.Reaching.{target_of}
-use Rattle.card_core.specs.Sessions.{Session, marked}
+use Rattle.card_core.specs.Comparing.{comparisons, ComparesBy}
+use Rattle.card_core.specs.Elementary.{naming}
+use Rattle.card_core.specs.Cards.{with_content}
+use Rattle.card_core.specs.Outcomes.{Response, refused, only_status}
+use Rattle.card_core.specs.Sessions.{marked}
 use Rattle.card_core.specs.laws.FoundLaws.{same-of}
-use Rattle.card_core.specs.Served.{IsDoing}
+use Rattle.card_core.specs.Served.{IsDoing, Serves}
+use Rattle.card_core.specs.Spending.{most_writes}
 use Rattle.card_core.specs.Standing.{card_of, IsCard}
 use Rattle.card_core.specs.Steps.{served}
-use Rattle.card_core.specs.Working.{end_status, named_from, outcome, read_count, session_of, IsCurrent, IsElementary}
-use Rattle.card_core.specs.Working.{IsNamed}
-use Rattle.card_core.proofs.BinarySteps.{read-past, read-within, update-commits, update-long, update-past}
-use Rattle.card_core.proofs.BinarySteps.{update-unrefused, update-within}
+use Rattle.card_core.specs.Working.{card_in, end_status, named_from, outcome, session_in, session_of, space_in, table_in}
+use Rattle.card_core.specs.Working.{IsCurrent, IsElementary, IsNamed}
+use Rattle.card_core.proofs.BinarySteps.{read-past, read-within, update-commits, update-decided, update-past}
+use Rattle.card_core.proofs.BinarySteps.{update-within}
 use Rattle.card_core.proofs.Doing.{doing-one}
-use Rattle.card_core.proofs.Contents.{transparent-is, content-is, room-is, chain-is, fits-chain}
-use Rattle.card_core.proofs.Contents.{length-content, response-is}
+use Rattle.card_core.proofs.Contents.{transparent-is, content-is, chain-is, fits-chain, response-is}
 use Rattle.card_core.proofs.Entries.{card-tree, there}
 use Rattle.card_core.proofs.Keeping.{files-stand, files-after}
+use Rattle.card_core.proofs.Serves.{compared-none, reads-compared, torn, written}
 
 -- the current files after a command on contents that named the file of an entry
 pub named-current : (m : List ℕ) (x : CurrentFiles) (e : ℕ) → IsElementary (table m) x.df e → (target : Target)
@@ -66,292 +74,231 @@ naming-entry m words x (Short n) e file =
     let id = identifier_path (table m) words.tree.entries e file.child.used in
     λ i. record { current_df = above i; current_ef = Some (id i); pointer = None; verified = marked x.verified }
 
-module _ (m : List ℕ) (sized : length m ≡ WORDS) (words : IsCard m) (x : CurrentFiles) (target : Target) (e : ℕ)
-    (file : IsElementary (table m) x.df e) (place : target_of (card_of m).tree (session_of (table m) x) target
-    ≡ Some (path_of (table m) e)) where
-  abbrev c : Card
-  c = card_of m
-
-  abbrev s : Session
-  s = session_of (table m) x
-
-  abbrev path : List ℕ
-  path = path_of (table m) e
-
-  abbrev entry : Entry
-  entry = entry_in (table m) e
-
-  abbrev f : File
-  f = file_in m e
-
-  used : IsUsed (table m) e
-  used = file.child.used
-
-  below : e < 64
-  below = used_small m e used
-
-  module _ (bytes_kind : entry.kind ≡ 2) (offset : ℕ) (within : offset < entry.size) where
-    transparent : is_transparent f.kind ≡ true
-    transparent = ap is_transparent (transparent-is m e bytes_kind)
-
-    size-is : length (bytes_in f.kind) ≡ entry.size
-    size-is = length-content m e sized words below file.kind bytes_kind
-
-    inside : nat_le (length (bytes_in f.kind)) offset ≡ false
-    inside = lt-leb (length (bytes_in f.kind)) offset (omega (arith, size-is, within))
-
-    -- READ BINARY
-    pub reads : (expected : ℕ) → refused_by (file_refusals c s target is_transparent Read) ≡ None
-        → served c s (read_binary target offset expected)
-        ≡ outcome c (session_of (table m) (named_from x target e))
-        (take (read_count (entry.size - offset) expected) (drop offset (bytes_of m (chain m entry.first))))
-        (end_status (entry.size - offset) expected)
-    reads expected free =
-        let bytes = content m entry in
-        let is = content-is m e sized words below file.kind in
-        let fits = room-is m e sized words below file.kind in
-        let response : read_response (drop offset (bytes_in f.kind)) expected
-        ≡ record {
-          text = take (read_count (entry.size - offset) expected) (drop offset bytes);
-          status = end_status
-              (entry.size - offset) expected;
-        } =
-        ap (λ (k : Kind). read_response (drop offset (bytes_in k)) expected) (transparent-is m e bytes_kind)
-        ∙ response-is bytes entry.size offset expected fits within in
-        read-within c s target offset path f place (there m words e used) expected free inside
-        ∙ ap₂ (λ (session : Session) (r : Response). record { card = c; session = session; response = r })
-        (naming-entry m words x target e file) response
-        ∙ ap (λ (b : List ℕ). outcome c (session_of (table m) (named_from x target e)) (take (read_count (entry.size -
-        offset) expected) (drop offset b))
-        (end_status (entry.size - offset) expected)) is
-
-    -- UPDATE BINARY that would end past the end
-    pub updates-long : (bytes : List ℕ) → refused_by (file_refusals c s target is_transparent Update) ≡ None
-        → entry.size - offset < length bytes
-        → served c s (update_binary target offset bytes) ≡ refused c s NO_ROOM
-    updates-long bytes free many =
-        update-long c s target offset path f place (there m words e used) bytes free inside
-        (lt-ltb (length (bytes_in f.kind)) (offset + length bytes) (omega (arith, size-is, within, many)))
-
-    -- UPDATE BINARY
-    module _ (bytes : List ℕ) (free : refused_by (file_refusals c s target is_transparent Update) ≡ None)
-        (few : length bytes ≤ entry.size - offset) where
-      fits : nat_lt (length (bytes_in f.kind)) (offset + length bytes) ≡ false
-      fits = le-ltb (length (bytes_in f.kind)) (offset + length bytes) (omega (arith, size-is, within, few))
-
-      module _ (after : List ℕ) (over : Overwrites m (chain m entry.first) offset bytes after) where
-        rewrites : Rewrites m e offset bytes after
-        rewrites = rewritten m after e offset bytes sized words.tree used bytes_kind (omega (arith, within, few)) over
-
-        pub table-after : table after ≡ table m
-        table-after = rewrites.table
-
-        pub space-after : free_space (card_of after).tree ≡ free_space c.tree
-        space-after =
-            let sized_after : length after ≡ WORDS = rewrites.rest.size ∙ sized in
-            ap free_space (card-tree after) ∙ space_counted after sized_after rewrites.stands
-            ∙ ap₂ (λ (free : List ℕ) (t : List Entry). record { blocks = length free; entries = free_entries t })
-            rewrites.free rewrites.table
-            ∙ sym (ap free_space (card-tree m) ∙ space_counted m sized words.tree)
-
-        pub stands-after : IsCard after
-        stands-after = files-stand m after sized rewrites.rest words rewrites.stands
-
-        -- the card with the bytes in it
-        pub card-is : card_of after ≡ with_content c path (overwrite (bytes_in f.kind) offset bytes)
-        card-is =
-            let at_path : file_at (tree_of m) path ≡ f = file_at_entry m words.tree.entries e path used refl in
-            files-after m after sized rewrites.rest
-            ∙ ap (λ (tree : Tree). record c { tree = tree }) rewrites.tree
-            ∙ (λ i. record c {
-              tree = insert (tree_of m) path (record (file_at (tree_of m) path) {
-                kind = with_bytes
-                    (file_at (tree_of m) path).kind (overwrite (bytes_in (at_path i).kind) offset bytes);
-              });
-            })
-            ∙ sym (ap (λ (tree : Tree). with_content (record c { tree = tree }) path (overwrite (bytes_in f.kind)
-            offset bytes)) (card-tree m))
-
-        pub updates : served c s (update_binary target offset bytes)
-            ≡ outcome (card_of after) (session_of (table after) (named_from x target e)) [] DONE
-        updates =
-            update-within c s target offset path f place (there m words e used) bytes free inside fits
-            ∙ (λ i. record {
-              card = sym card-is i;
-              session = naming-entry m words x target e file i;
-              response = only_status DONE;
-            })
-            ∙ ap (λ (t : List Entry). outcome (card_of after) (session_of t (named_from x target e)) [] DONE) (sym
-            table-after)
-
-      -- the card before it, or with the bytes in it
-      pub updating : (after : List ℕ) → (after ≡ m) ⊎ Overwrites m (chain m entry.first) offset bytes after
-          → IsDoing c s (update_binary target offset bytes) (card_of after)
-      updating after left =
-          doing-one c s (update_binary target offset bytes) (with_content c path (overwrite (bytes_in f.kind) offset bytes))
-          (card_of after) (update-unrefused c s target offset path f place (there m words e used) bytes free inside fits)
-          (update-commits c s target offset path f place (there m words e used) bytes free inside fits)
-          (⊎_elim (λ (kept : after ≡ m). inl (ap card_of kept))
-          (λ (over : Overwrites m (chain m entry.first) offset bytes after). inr (card-is after over)) left)
-
 -- what a file of bytes is needed for
 abbrev pub bytes_for : AccessBit → Need
 bytes_for bit = record { structure = Bytes; bit = bit }
 
--- what is found serves reads and writes: its chain leads over blocks, with room for its bytes
+-- the body that the entry of a file of bytes tells of
+abbrev pub bytes_told : Entry → Transparent
+bytes_told entry = record { chain = record { first = entry.first; last = entry.last }; size = entry.size }
+
+-- The body of what is found stands in a memory that was only read since, and its bytes are the file's.
 module _ (m : List ℕ) (sized : length m ≡ WORDS) (words : IsCard m) (x : CurrentFiles) (target : Target) (bit : AccessBit)
-    (e : ℕ) (entry : Entry) (found : IsNamed m x target (bytes_for bit) e entry) where
+    (e : ℕ) (entry : Entry) (found : IsNamed m x target (bytes_for bit) e entry) (body : Transparent)
+    (is : body ≡ bytes_told entry) (now : List ℕ) (same : now ≡ m) where
   abbrev told : Entry
   told = entry_in (table m) e
 
-  found-kind : told.kind ≡ 2
-  found-kind = ap (λ (y : Entry). y.kind) (sym found.entry_is) ∙ same-of entry.kind 2 found.structure
+  of-bytes : told.kind ≡ 2
+  of-bytes = ap (λ (y : Entry). y.kind) (sym found.entry_is) ∙ same-of entry.kind 2 found.structure
 
-  found-small : e < 64
-  found-small = used_small m e found.file.child.used
+  below : e < 64
+  below = used_small m e found.file.child.used
 
-  pub found-chain : IsChain m entry.first (chain m entry.first)
-  found-chain = subst (λ (y : Entry). IsChain m y.first (chain m y.first)) (sym found.entry_is) (chain-is m e sized
-      words found-small found.file.kind)
+  body-is : body ≡ bytes_told told
+  body-is = is ∙ ap bytes_told found.entry_is
 
-  pub found-fits : entry.size ≤ 60 * length (chain m entry.first)
-  found-fits = subst (λ (y : Entry). y.size ≤ 60 * length (chain m y.first)) (sym found.entry_is) (fits-chain m e
-      sized words found-small found.file.kind)
+  stands : IsTransparent m (bytes_told told)
+  stands =
+      let lt = below in
+      let within : e < length (table m) = (let l = length-table m in omega (arith, l, lt)) in
+      let rules = ((words.tree.entries.each e free_entry within).used found.file.child.used).body.transparent of-bytes in
+      record {
+        chain = chain-is m e sized words lt found.file.kind;
+        some = rules.some;
+        size = rules.size;
+        fits = fits-chain m e sized words lt found.file.kind;
+      }
 
-  -- an offset past the end
-  pub found-past : (offset : ℕ) → entry.size ≤ offset
-      → nat_le (length (bytes_in (file_in m e).kind)) offset ≡ true
-  found-past offset past =
-      let size = length-content m e sized words found-small found.file.kind found-kind in
-      let same = ap (λ (y : Entry). y.size) found.entry_is in
-      le-leb (length (bytes_in (file_in m e).kind)) offset (omega (arith, size, same, past))
+  pub found-body : IsTransparent now body
+  found-body = subst (λ (l : List ℕ). IsTransparent l body) (sym same)
+      (subst (λ (b : Transparent). IsTransparent m b) (sym body-is) stands)
 
-  module _ (offset : ℕ) (within : offset < entry.size) where
-    told-within : offset < told.size
-    told-within = subst (λ (y : Entry). offset < y.size) found.entry_is within
+  pub found-bytes : bytes_in (file_in m e).kind ≡ transparent_bytes now body
+  found-bytes = ap (λ (k : Kind). bytes_in k) (transparent-is m e of-bytes)
+      ∙ ap (take told.size) (content-is m e sized words below found.file.kind)
+      ∙ sym (λ i. transparent_bytes (same i) (body-is i))
 
-    few-told : (bytes : List ℕ) → length bytes ≤ entry.size - offset → length bytes ≤ told.size - offset
-    few-told bytes few = subst (λ (y : Entry). length bytes ≤ y.size - offset) found.entry_is few
+  -- the file is written where its body is
+  pub found-rewritten : (offset : ℕ) (bytes after : List ℕ)
+      → TransparentBecomes now body (overwrite (transparent_bytes now body) offset bytes) after
+      → Rewrites m e offset bytes after
+  found-rewritten offset bytes after becomes =
+      let change = subst (λ (b : Transparent). TransparentBecomes m b (overwrite (transparent_bytes m b) offset bytes) after)
+      body-is (subst (λ (l : List ℕ). TransparentBecomes l body (overwrite (transparent_bytes l body) offset bytes) after)
+      same becomes) in
+      rewritten m after e offset bytes sized words.tree found.file.child.used of-bytes change.only
+      (ap (λ (ps : List ℕ). take told.size (bytes_of after ps)) (sym change.blocks) ∙ change.becomes)
 
 -- READ BINARY of what is found
 module _ (m : List ℕ) (sized : length m ≡ WORDS) (words : IsCard m) (x : CurrentFiles) (target : Target)
-    (e : ℕ) (entry : Entry) (found : IsNamed m x target (bytes_for Read) e entry) (offset expected : ℕ) where
-  pub found-read-past : entry.size ≤ offset
+    (e : ℕ) (entry : Entry) (found : IsNamed m x target (bytes_for Read) e entry) (body : Transparent)
+    (is : body ≡ bytes_told entry) (now : List ℕ) (same : now ≡ m) (offset expected : ℕ) where
+  abbrev held : List ℕ
+  held = transparent_bytes now body
+
+  holds : bytes_in (file_in m e).kind ≡ held
+  holds = found-bytes m sized words x target Read e entry found body is now same
+
+  pub found-read-past : (status : Sw) → past_end held offset ≡ Some status
       → served (card_of m) (session_of (table m) x) (read_binary target offset expected)
-      ≡ refused (card_of m) (session_of (table m) x) WRONG_OFFSET
-  found-read-past past =
+      ≡ refused (card_of m) (session_of (table m) x) status
+  found-read-past status past =
       read-past (card_of m) (session_of (table m) x) target offset (path_of (table m) e) (file_in m e) found.place
-      (there m words e found.file.child.used) expected found.unrefused
-      (found-past m sized words x target Read e entry found offset past)
+      (there m words e found.file.child.used) expected found.unrefused status
+      (ap (λ (bytes : List ℕ). past_end bytes offset) holds ∙ past)
 
-  pub found-read : offset < entry.size
+  pub found-read : past_end held offset ≡ None → (text : List ℕ)
+      → text ≡ take (if expected == 0 then 256 else expected) (drop offset held)
       → served (card_of m) (session_of (table m) x) (read_binary target offset expected)
-      ≡ outcome (card_of m) (session_of (table m) (named_from x target e))
-      (take (read_count (entry.size - offset) expected) (drop offset (bytes_of m (chain m entry.first)))) (end_status
-      (entry.size - offset) expected)
-  found-read within =
-      reads m sized words x target e found.file found.place (found-kind m sized words x target Read e entry found) offset
-      (told-within m sized words x target Read e entry found offset within) expected found.unrefused
-      ∙ ap (λ (y : Entry). outcome (card_of m) (session_of (table m) (named_from x target e))
-      (take (read_count (y.size - offset) expected) (drop offset (bytes_of m (chain m y.first)))) (end_status (y.size
-      - offset) expected)) (sym found.entry_is)
+      ≡ outcome (card_of m) (session_of (table m) (named_from x target e)) text (end_status (length text) expected)
+  found-read within text given =
+      read-within (card_of m) (session_of (table m) x) target offset (path_of (table m) e) (file_in m e) found.place
+      (there m words e found.file.child.used) expected found.unrefused
+      (ap (λ (bytes : List ℕ). past_end bytes offset) holds ∙ within)
+      ∙ (λ i. record {
+        card = card_of m;
+        session = naming-entry m words x target e found.file i;
+        response = read_response (drop offset (holds i)) expected;
+      })
+      ∙ ap (λ (r : Response). record { card = card_of m; session = session_of (table m) (named_from x target e); response = r })
+      (response-is (drop offset held) expected)
+      ∙ ap (λ (t : List ℕ). outcome (card_of m) (session_of (table m) (named_from x target e)) t (end_status (length t)
+      expected)) (sym given)
 
--- UPDATE BINARY of what is found
-module _ (m : List ℕ) (sized : length m ≡ WORDS) (words : IsCard m) (x : CurrentFiles) (target : Target)
-    (e : ℕ) (entry : Entry) (found : IsNamed m x target (bytes_for Update) e entry) (offset : ℕ) (bytes : List ℕ) where
-  pub found-update-past : entry.size ≤ offset
-      → served (card_of m) (session_of (table m) x) (update_binary target offset bytes)
-      ≡ refused (card_of m) (session_of (table m) x) WRONG_OFFSET
-  found-update-past past =
-      update-past (card_of m) (session_of (table m) x) target offset (path_of (table m) e) (file_in m e) found.place
-      (there m words e found.file.child.used) bytes found.unrefused
-      (found-past m sized words x target Update e entry found offset past)
+-- UPDATE BINARY of what is found, in a memory that was only read since
+module _ (old mid : Memory) (ready : IsReady old) (words : IsCard (committed old)) (x : CurrentFiles) (target : Target)
+    (e : ℕ) (entry : Entry) (found : IsNamed (committed old) x target (bytes_for Update) e entry) (body : Transparent)
+    (is : body ≡ bytes_told entry) (offset : ℕ) (bytes : List ℕ) (reads : OnlyReads old mid) where
+  abbrev m : List ℕ
+  m = committed old
 
-  module _ (within : offset < entry.size) where
-    in_told : offset < (entry_in (table m) e).size
-    in_told = told-within m sized words x target Update e entry found offset within
+  abbrev request : Request
+  request = update_binary target offset bytes
 
-    of_bytes : (entry_in (table m) e).kind ≡ 2
-    of_bytes = found-kind m sized words x target Update e entry found
+  abbrev path : List ℕ
+  path = path_of (table m) e
 
-    pub found-long : entry.size - offset < length bytes
-        → served (card_of m) (session_of (table m) x) (update_binary target offset bytes)
-        ≡ refused (card_of m) (session_of (table m) x) NO_ROOM
-    found-long many =
-        updates-long m sized words x target e found.file found.place of_bytes offset in_told bytes found.unrefused
-        (subst (λ (y : Entry). y.size - offset < length bytes) found.entry_is many)
+  abbrev f : File
+  f = file_in m e
 
-    -- a write that was cut, or not: the memory before it was only read
-    module _ (few : length bytes ≤ entry.size - offset) (now after : List ℕ) (k : Chain) (same : now ≡ m)
-        (is : k ≡ record { first = entry.first; last = entry.last }) where
-      few_told : length bytes ≤ (entry_in (table m) e).size - offset
-      few_told = few-told m sized words x target Update e entry found offset within bytes few
+  abbrev held_now : List ℕ
+  held_now = transparent_bytes (committed mid) body
 
-      over_is : Overwrites now (chain now k.first) offset bytes after
-          → Overwrites m (chain m (entry_in (table m) e).first) offset bytes after
-      over_is over =
-          subst (λ (y : Entry). Overwrites m (chain m y.first) offset bytes after) found.entry_is
-          (subst (λ (l : List ℕ). Overwrites l (chain l entry.first) offset bytes after) same
-          (subst (λ (j : Chain). Overwrites now (chain now j.first) offset bytes after) is over))
+  sized : length m ≡ WORDS
+  sized = ready.usable.committed_size
 
-      pub written-stands : (after ≡ now) ⊎ Overwrites now (chain now k.first) offset bytes after → IsCard after
-      written-stands (inl kept) = subst IsCard (sym (kept ∙ same)) words
-      written-stands (inr over) = stands-after m sized words x target e found.file found.place of_bytes offset in_told
-          bytes found.unrefused few_told after (over_is over)
+  same : committed mid ≡ m
+  same = reads.keeps.committed_words
 
-      pub written-updating : (after ≡ now) ⊎ Overwrites now (chain now k.first) offset bytes after
-          → IsDoing (card_of m) (session_of (table m) x) (update_binary target offset bytes) (card_of after)
-      written-updating left =
-          updating m sized words x target e found.file found.place of_bytes offset in_told bytes found.unrefused few_told
-          after
-          (⊎_elim (λ (kept : after ≡ now). inl (kept ∙ same))
-          (λ (over : Overwrites now (chain now k.first) offset bytes after). inr (over_is over)) left)
+  decides : overlong (bytes_in f.kind) offset bytes ≡ overlong held_now offset bytes
+  decides = ap (λ (b : List ℕ). overlong b offset bytes)
+      (found-bytes m sized words x target Update e entry found body is (committed mid) same)
 
-      pub written-update : Overwrites now (chain now k.first) offset bytes after
-          → served (card_of m) (session_of (table m) x) (update_binary target offset bytes)
-          ≡ outcome (card_of after) (session_of (table after) (named_from x target e)) [] DONE
-      written-update over = updates m sized words x target e found.file found.place of_bytes offset in_told bytes
-          found.unrefused few_told after (over_is over)
+  pub found-update-past : (status : Sw) → overlong held_now offset bytes ≡ Some status
+      → served (card_in old) (session_in old x) request ≡ refused (card_in old) (session_in old x) status
+  found-update-past status past =
+      update-past (card_in old) (session_in old x) target offset path f found.place
+      (there m words e found.file.child.used) bytes found.unrefused status (decides ∙ past)
 
-      pub written-space : Overwrites now (chain now k.first) offset bytes after → free_space (card_of after).tree
-          ≡ free_space (card_of m).tree
-      written-space over = space-after m sized words x target e found.file found.place of_bytes offset in_told bytes
-          found.unrefused few_told after (over_is over)
+  module _ (none : overlong held_now offset bytes ≡ None) (new : Memory)
+      (any_exit : (committed new ≡ committed mid)
+      ⊎ TransparentBecomes (committed mid) body (overwrite held_now offset bytes) (committed new))
+      (reports : Reports mid new) (spends : WritesAtMost (most_writes request) mid.facts new.facts) where
+    abbrev after : List ℕ
+    after = committed new
 
-      pub written-current : IsCurrent (table m) x → Overwrites now (chain now k.first) offset bytes after
-          → IsCurrent (table after) (named_from x target e)
-      written-current current over =
-          subst (λ (t : List Entry). IsCurrent t (named_from x target e))
-          (sym (table-after m sized words x target e found.file found.place of_bytes offset in_told bytes found.unrefused
-          few_told after (over_is over)))
-          (named-current m x e found.file target current)
+    abbrev Becomes : Type 0
+    Becomes = TransparentBecomes (committed mid) body (overwrite held_now offset bytes) after
 
--- so many bytes as are read are left, and fit an answer
-pub count-least : (left expected : ℕ) → expected < 256 → read_count left expected ≤ left
-count-least left expected small = ⊎_elim
-    (λ (none : expected ≡ 0). let m = min-le_left left 256 in
-    subst (λ (n : ℕ). n ≤ left) (sym (ap (λ (b : Bool). if b then min left 256 else min left expected) (ap (λ (n : ℕ).
-    n == 0) none))) m)
-    (λ (some : expected ≢ 0). let m = min-le_left left expected in
-    subst (λ (n : ℕ). n ≤ left) (sym (ap (λ (b : Bool). if b then min left 256 else min left expected) (ne_eqb
-    expected 0 some))) m)
-    (cases_eq expected 0)
+    rewrites : Becomes → Rewrites m e offset bytes after
+    rewrites = found-rewritten m sized words x target Update e entry found body is (committed mid) same offset bytes after
 
-pub count-most : (left expected : ℕ) → expected < 256 → read_count left expected ≤ 256
-count-most left expected small = ⊎_elim
-    (λ (none : expected ≡ 0). let m = min-le_right left 256 in
-    subst (λ (n : ℕ). n ≤ 256) (sym (ap (λ (b : Bool). if b then min left 256 else min left expected) (ap (λ (n : ℕ).
-    n == 0) none))) m)
-    (λ (some : expected ≢ 0). let m = min-le_right left expected in
-    subst (λ (n : ℕ). n ≤ 256) (sym (ap (λ (b : Bool). if b then min left 256 else min left expected) (ne_eqb expected
-    0 some))) (omega (arith, m, small)))
-    (cases_eq expected 0)
+    -- the card with the bytes in it
+    card-is : Becomes → card_of after ≡ with_content (card_of m) path (overwrite (bytes_in f.kind) offset bytes)
+    card-is becomes =
+        let change = rewrites becomes in
+        let at_path : file_at (tree_of m) path ≡ f = file_at_entry m words.tree.entries e path found.file.child.used refl in
+        files-after m after sized change.rest
+        ∙ ap (λ (tree : Tree). record (card_of m) { tree = tree }) change.tree
+        ∙ (λ i. record (card_of m) {
+          tree = insert (tree_of m) path (record (file_at (tree_of m) path) {
+            kind = with_bytes
+                (file_at (tree_of m) path).kind (overwrite (bytes_in (at_path i).kind) offset bytes);
+          });
+        })
+        ∙ sym (ap (λ (tree : Tree). with_content (record (card_of m) { tree = tree }) path (overwrite (bytes_in f.kind)
+        offset bytes)) (card-tree m))
 
--- what is appended to nothing is no longer than what may be appended
-pub appended-short : (old bytes new : List ℕ) (n : ℕ) → old ≡ [] → length bytes ≤ n → AppendsSome old bytes new
-    → length new ≤ n
-appended-short old bytes new n none short appends =
-    let is : new ≡ take appends.some bytes = appends.is ∙ ap (λ (l : List ℕ). l ++ take appends.some bytes) none in
-    let size = ap (λ (l : List ℕ). length l) is in
-    let some = length-take appends.some bytes in
-    omega (arith, size, some, short)
+    card-stands : IsCard after
+    card-stands = ⊎_elim (λ (kept : after ≡ committed mid). subst IsCard (sym (kept ∙ same)) words)
+        (λ (becomes : Becomes). files-stand m after sized (rewrites becomes).rest words (rewrites becomes).stands) any_exit
+
+    stage : OnlyReads old new ⊎ IsDoing (card_in old) (session_in old x) request (card_in new)
+    stage = inr (doing-one (card_in old) (session_in old x) request
+        (with_content (card_of m) path (overwrite (bytes_in f.kind) offset bytes)) (card_of after)
+        (update-decided (card_in old) (session_in old x) target offset path f found.place
+        (there m words e found.file.child.used) bytes found.unrefused ∙ decides ∙ none)
+        (update-commits (card_in old) (session_in old x) target offset path f found.place
+        (there m words e found.file.child.used) bytes found.unrefused)
+        (⊎_elim (λ (kept : after ≡ committed mid). inl (ap card_of (kept ∙ same)))
+        (λ (becomes : Becomes). inr (card-is becomes)) any_exit))
+
+    all-reports : Reports old new
+    all-reports = reports_then old mid new reads.reports reports
+
+    costs : new.facts.writes ≤ old.facts.writes + most_writes request
+    costs = let spent = spends.writes in let kept = reads.board.writes in omega (arith, spent, kept)
+
+    compares : ComparesBy request (card_in old) (comparisons old.facts) (card_in new) (comparisons new.facts)
+    compares = compared-none (most_writes request) mid.facts new.facts spends ∙ reads-compared old mid reads
+
+    -- an update that stopped, before or after its commit
+    pub found-torn : (error : StoreErr) → new.failed ≡ Some error → Serves request old x new x [] (Err error)
+    found-torn error failed =
+        torn request old x new x [] error stage card-stands all-reports failed (omega arith) costs compares
+
+    -- an update that was made
+    pub found-made : Becomes → IsReady new → IsCurrent (table_in old) x
+        → Serves request old x new (named_from x target e) [] (Ok DONE)
+    found-made becomes ready_now current =
+        let y = named_from x target e in
+        let files = sym (rewrites becomes).table in
+        written request old x new y [] DONE stage card-stands all-reports ready_now
+        (subst (λ (t : List Entry). IsCurrent t y) files (named-current m x e found.file target current))
+        (omega arith) costs compares
+        (update-within (card_in old) (session_in old x) target offset path f found.place
+        (there m words e found.file.child.used) bytes found.unrefused (decides ∙ none)
+        ∙ (λ i. record {
+          card = sym (card-is becomes) i;
+          session = naming-entry m words x target e found.file i;
+          response = only_status DONE;
+        })
+        ∙ ap (λ (t : List Entry). outcome (card_of after) (session_of t y) [] DONE) files)
+
+    pub found-space : Becomes → space_in new ≡ space_in old
+    found-space becomes =
+        let change = rewrites becomes in
+        let sized_after : length after ≡ WORDS = change.rest.size ∙ sized in
+        ap free_space (card-tree after) ∙ space_counted after sized_after change.stands
+        ∙ ap₂ (λ (free : List ℕ) (t : List Entry). record { blocks = length free; entries = free_entries t })
+        change.free change.table
+        ∙ sym (ap free_space (card-tree m) ∙ space_counted m sized words.tree)
+
+-- an Le byte asks for at most 256 bytes
+pub asked-most : (expected : ℕ) → expected < 256 → (if expected == 0 then 256 else expected) ≤ 256
+asked-most expected small = by_test (expected == 0)
+  where
+    by_test : (all : Bool) → (if all then 256 else expected) ≤ 256
+    by_test true = omega arith
+    by_test false = omega (arith, small)
+
+-- so what a read left of them fits an answer
+pub read-short : (expected count : ℕ) → expected < 256 → count ≡ (if expected == 0 then 256 else expected)
+    → (bytes text : List ℕ) → AppendsSome [] (take count bytes) text → length text ≤ 256
+read-short expected count small is bytes text appends =
+    let size = ap (λ (l : List ℕ). length l) appends.is in
+    let some = length-take appends.some (take count bytes) in
+    let most = length-take count bytes in
+    let few = asked-most expected small in
+    omega (arith, size, some, most, few, is)

@@ -1,6 +1,6 @@
 -- The elementary file whose contents a command is for, and what refuses the command by that file, whatever it is
 -- (ISO/IEC 7816-4, 7.3.1, 7.4.10 and 9.3.3).
-use Rattle.std.specs.Prelude.{ℕ, Bool, not, List, [], ◌∷◌, is_none, unwrap_or}
+use Rattle.std.specs.Prelude.{Bool, not, List, [], ◌∷◌, is_none, unwrap_or}
 use Rattle.card_rules.specs.declared.access_mode.AccessBit.{AccessBit}
 use Rattle.card_rules.specs.declared.status.Sw.{Sw}
 use Rattle.card_rules.specs.declared.status.TheConstants.Sw.{FILE_NOT_FOUND, NO_CURRENT_EF, WRONG_STRUCTURE}

@@ -1,5 +1,5 @@
 -- What refuses a command by the life cycle of a file, and by its access rule (ISO/IEC 7816-4, 7.4.10 and 9.3.3).
-use Rattle.std.specs.Prelude.{Bool, not, ◌||◌, Option, is_none}
+use Rattle.std.specs.Prelude.{Bool, not, is_none}
 use Rattle.card_rules.specs.declared.access_mode.AccessBit.{AccessBit}
 use Rattle.card_rules.specs.declared.life_cycle.LifeCycleCommand.{LifeCycleCommand}
 use Rattle.card_rules.specs.declared.status.TheConstants.Sw.{ACCESS_DENIED, CONDITIONS_NOT_SATISFIED}

@@ -1,5 +1,5 @@
 -- What the code keeps of a session, and what it makes of a step. No public clause names these.
-use Rattle.std.specs.Prelude.{◌≡◌, ◌≢◌, ◌<◌, ◌≤◌, ◌+◌, ◌*◌, ◌==◌, ◌&&◌, ℕ, Bool, true, false, min, not, nat_lt}
+use Rattle.std.specs.Prelude.{◌≡◌, ◌≢◌, ◌≤◌, ◌+◌, ◌*◌, ◌==◌, ◌&&◌, ℕ, Bool, true, false, not, nat_lt}
 use Rattle.std.specs.Prelude.{nat_le, if◌then◌else◌}
 use Rattle.std.specs.Prelude.{◌||◌, ◌-◌, ◌++◌, ◌∷◌, slice_set, IsTrue, List, [], length, Option, Some}
 use Rattle.std.specs.Prelude.{None, option_map, unwrap_or, IfSome}
@@ -161,10 +161,7 @@ pub record IsNamed (m : List ℕ) (x : Current) (target : Target) (need : Need) 
   pub unrefused : refused_by (file_refusals (card_of m) (session_of (table m) x) target (fits need.structure) need.bit) ≡ None
   pub structure : IsTrue (fits_kind need.structure entry.kind)
 
--- how many of the bytes that are left are read for an Le byte, and the status word that tells it
-abbrev pub read_count : ℕ → ℕ → ℕ
-read_count rest expected = if expected == 0 then min rest 256 else min rest expected
-
+-- the status word that tells where fewer bytes are left than an Le byte asks for
 abbrev pub end_status : ℕ → ℕ → Sw
 end_status rest expected = if nat_lt rest expected then END_REACHED else DONE
 

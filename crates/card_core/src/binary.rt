@@ -1,23 +1,18 @@
 //! READ BINARY and UPDATE BINARY (ISO/IEC 7816-4, 11.3).
-ghost use Rattle.std.specs.Prelude.{◌≡◌, ◌⊎◌, ◌+◌, ◌*◌, ◌≤◌, [], length, OnOk};
-ghost use Rattle.std.specs.Result.{result_err};
-ghost use Rattle.undo_journal.specs.Memory.{committed, IsReady, Reports};
-ghost use Rattle.undo_journal.specs.Spending.{WritesAtMost};
+ghost use Rattle.std.specs.Prelude.{◌≡◌, ◌≤◌, ◌==◌, if◌then◌else◌, [], length, OnOk};
+ghost use Rattle.undo_journal.specs.Memory.{committed, IsReady};
 ghost use Rattle.apdu_core.specs.Ranges.{IsTarget};
 ghost use Rattle.apdu_core.specs.Requests.{read_binary, update_binary};
-ghost use Rattle.block_chain.specs.Chains.{chain_of as blocks_of_chain, IsChain};
-ghost use Rattle.block_chain.specs.Changes.{Overwrites, touched_words};
-ghost use Rattle.block_chain.specs.declared.layout.TheConstants.{BLOCK_BYTES};
 ghost use Rattle.card_core.specs.Standing.{IsCard};
 ghost use Rattle.card_core.specs.Served.{Serves};
-ghost use Rattle.card_core.specs.Spending.{transaction_writes};
-ghost use Rattle.card_core.specs.Working.{end_status, read_count, space_in, table_in, IsCurrent};
+ghost use Rattle.card_core.specs.Working.{end_status, space_in, table_in, IsCurrent};
 
 use crate::current::Current;
 use crate::named::{Need, Structure, find_file};
 use apdu_core::{Answer, Sw, Target};
-use block_chain::{Chain, read_bytes, set_bytes};
+use block_chain::Chain;
 use card_rules::AccessBit;
+use ef_body::{BodyErr, Transparent};
 use file_tree::Entry;
 use undo_journal::{Board, Store, StoreErr};
 
@@ -33,7 +28,6 @@ const UPDATING: Need = Need {
 };
 
 /// READ BINARY: the bytes from the offset on go into `text`, as many as Le asks for, and the status word is the result.
-#[tactic(auto, using(undo_journal::specs::laws::Calls::reads_then))]
 pub(crate) fn read_file<B: Board>(
     store: &mut Store<B>,
     current: &mut Current,
@@ -54,23 +48,17 @@ pub(crate) fn read_file<B: Board>(
         Ok(file) => file,
         Err(refusal) => return Ok(refusal),
     };
-    if file.entry.size <= offset {
-        return Ok(Sw::WRONG_OFFSET);
+    let body = body_of(&file.entry);
+    match body.read(store, offset, most_of(expected), text) {
+        Ok(()) => {}
+        Err(BodyErr::Refused(refusal)) => return Ok(refusal),
+        Err(BodyErr::Store(e)) => return Err(e),
     }
-    let rest = file.entry.size - offset;
-    read_bytes(
-        store,
-        chain_of(&file.entry),
-        offset,
-        count_of(rest, expected),
-        text,
-    )?;
     *current = current.naming(target, file.number);
-    Ok(read_status(rest, expected))
+    Ok(read_status(text.len(), expected))
 }
 
 /// UPDATE BINARY: the bytes take the place of those from the offset on, in one transaction, all or none.
-#[tactic(auto, using(undo_journal::specs::MemoryLaws::reports_then))]
 pub(crate) fn update_file<B: Board>(
     store: &mut Store<B>,
     current: &mut Current,
@@ -91,77 +79,47 @@ pub(crate) fn update_file<B: Board>(
         Ok(file) => file,
         Err(refusal) => return Ok(refusal),
     };
-    if file.entry.size <= offset {
-        return Ok(Sw::WRONG_OFFSET);
+    let body = body_of(&file.entry);
+    match body.update(store, offset, bytes) {
+        Ok(()) => {}
+        Err(BodyErr::Refused(refusal)) => return Ok(refusal),
+        Err(BodyErr::Store(e)) => return Err(e),
     }
-    if bytes.len() > usize::from(file.entry.size - offset) {
-        return Ok(Sw::NO_ROOM);
-    }
-    write_bytes(store, chain_of(&file.entry), offset, bytes)?;
     *current = current.naming(target, file.number);
     Ok(Sw::DONE)
 }
 
-/// The chain of an elementary file.
-fn chain_of(entry: &Entry) -> Chain
-    ensures { result ≡ record { first = entry.now.first; last = entry.now.last } }
+/// The body of a transparent file.
+fn body_of(entry: &Entry) -> Transparent
+    ensures { result ≡ record { chain = record { first = entry.now.first; last = entry.now.last }; size = entry.now.size } }
 {
-    Chain {
-        first: entry.first,
-        last: entry.last,
+    Transparent {
+        chain: Chain {
+            first: entry.first,
+            last: entry.last,
+        },
+        size: entry.size,
     }
 }
 
-/// How many of the bytes that are left are read, for an Le byte: as many as it says, all of them where it says more, and
-/// all of them, at most 256, where it is 00.
-fn count_of(rest: u16, expected: u8) -> u16
-    ensures { result ≡ read_count rest expected }
+/// How many bytes are read at most, for an Le byte: as many as it says, 256 where it is 00.
+fn most_of(expected: u8) -> u16
+    ensures { result ≡ (if expected == 0 then 256 else expected) }
 {
     if expected == 0 {
-        rest.min(256)
+        256
     } else {
-        rest.min(u16::from(expected))
+        u16::from(expected)
     }
 }
 
-/// The status word of READ BINARY, which tells where more bytes were asked for than are left.
-fn read_status(rest: u16, expected: u8) -> Sw
-    ensures { result ≡ end_status rest expected }
+/// The status word of READ BINARY that read so many bytes, which tells where more were asked for.
+fn read_status(count: usize, expected: u8) -> Sw
+    ensures { result ≡ end_status count expected }
 {
-    if rest < u16::from(expected) {
+    if count < usize::from(expected) {
         Sw::END_REACHED
     } else {
         Sw::DONE
-    }
-}
-
-/// Puts bytes in place of those of a chain from an offset on, in one transaction.
-#[tactic(auto, using(undo_journal::specs::MemoryLaws::reports_then))]
-fn write_bytes<B: Board>(
-    store: &mut Store<B>,
-    chain: Chain,
-    offset: u16,
-    bytes: &[u8],
-) -> Result<(), StoreErr>
-    requires ready { IsReady store.old }
-    requires chain { IsChain (committed store.old) chain.first (blocks_of_chain (committed store.old) chain) }
-    requires within { offset + length bytes.now ≤ BLOCK_BYTES * length (blocks_of_chain (committed store.old) chain) }
-    requires some { 1 ≤ length bytes.now }
-    requires few { length bytes.now ≤ 255 }
-    ensures any_exit { (committed store.new ≡ committed store.old)
-        ⊎ Overwrites (committed store.old) (blocks_of_chain (committed store.old) chain) offset bytes.now (committed
-        store.new) }
-    ensures done { OnOk result (Overwrites (committed store.old) (blocks_of_chain (committed store.old) chain) offset
-        bytes.now (committed store.new)) }
-    ensures ready { OnOk result (IsReady store.new) }
-    ensures reports { Reports store.old store.new }
-    ensures tells { store.new.failed ≡ result_err result }
-    ensures writes { WritesAtMost (transaction_writes (touched_words offset (length bytes.now))) store.old.facts
-        store.new.facts }
-{
-    let mut txn = store.begin();
-    match set_bytes(&mut txn, chain, offset, bytes) {
-        Ok(()) => txn.commit(),
-        Err(_) => txn.abandon(),
     }
 }

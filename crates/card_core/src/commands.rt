@@ -62,7 +62,6 @@ fn is_in_use<B: Board>(store: &mut Store<B>) -> Result<bool, StoreErr>
 }
 
 /// Carries out a command on a card that is in use.
-#[tactic(auto, using(crate::proofs::Serves::space_kept))]
 fn serve<B: Board>(
     store: &mut Store<B>,
     current: &mut Current,

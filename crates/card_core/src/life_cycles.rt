@@ -57,12 +57,12 @@ pub(crate) fn change_life_cycle<B: Board>(
 /// word is the result.
 pub(crate) fn terminate_card_usage<B: Board>(
     store: &mut Store<B>,
-    current: &mut Current,
+    current: &Current,
 ) -> Result<Sw, StoreErr>
     requires ready { IsReady store.old }
     requires card { IsCard (committed store.old) }
-    requires current { IsCurrent (table_in store.old) current.old }
-    ensures serves { Serves (terminating) store.old current.old store.new current.new [] result }
+    requires current { IsCurrent (table_in store.old) current.now }
+    ensures serves { Serves (terminating) store.old current.now store.new current.now [] result }
     ensures space { OnOk result (space_in store.new ≡ space_in store.old) }
 {
     if !is_allowed(store, 0, AccessBit::Terminate, &current.verified())? {

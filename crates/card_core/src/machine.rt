@@ -1,6 +1,9 @@
 //! A started card and its commands.
 ghost use Rattle.std.specs.Prelude.{◌≡◌, ◌⊎◌, ◌≤◌, ◌+◌, ◌-◌, Some, true, false, [], length, IsOk, IsErr, OnOk, OnErr, IfOk};
-ghost use Rattle.std.specs.Prelude.{IfErr};
+ghost use Rattle.std.specs.Prelude.{IfErr, IsErrOf, Ok, Err, MatchOption, MatchResult};
+ghost use Rattle.undo_journal.specs.declared.error.StoreErr.TheVariants as StoreErr;
+ghost use Rattle.card_core.specs.declared.faults.StartFault.TheVariants as StartFault;
+ghost use Rattle.card_core.specs.StartFaults.{fault_of_store};
 ghost use Rattle.undo_journal.specs.Spending.{WritesAtMost, KeepsBoard, start_writes};
 ghost use Rattle.undo_journal.specs.Undo.{gate};
 ghost use Rattle.file_tree.specs.Spaces.{free_space};
@@ -79,15 +82,14 @@ impl<B: Board> Card<B> {
             Ok(store) => store,
             Err((board, fault)) => return Err((board, StartFault::from(fault))),
         };
-        match find_card(&mut store) {
-            Ok(Some(free)) => Ok(Card {
+        match space_of(find_card(&mut store)) {
+            Ok(free) => Ok(Card {
                 store,
                 current: Current::fresh(),
                 free,
                 state: CardState::Working,
             }),
-            Ok(None) => Err((store.into_board(), StartFault::Damaged)),
-            Err(e) => Err((store.into_board(), StartFault::from(e))),
+            Err(fault) => Err((store.into_board(), fault)),
         }
     }
 
@@ -111,7 +113,6 @@ impl<B: Board> Card<B> {
     /// Carries out the bytes of a command (ISO/IEC 7816-4, clause 5), and puts its answer into the buffer, whatever that held.
     /// A refusal is an answer too. A fault of the device is answered 6581, here and from then on, until the next start; where
     /// power is lost, `PowerLost` is the result and nothing is answered, here and from then on.
-    #[tactic(auto, using(crate::specs::laws::SpendLaws::few_writes))]
     pub fn command(&mut self, command: &[u8], answer: &mut Answer) -> Result<(), PowerLost>
         // At every exit, cut or fault or neither, the card that is found is one of the command's stages.
         ensures has_card { HasCard self.new.facts.words }
@@ -143,29 +144,14 @@ impl<B: Board> Card<B> {
             }
             CardState::Dark => return Err(PowerLost),
         }
-        match carry_out(
+        let carried = carry_out(
             &mut self.store,
             &mut self.current,
             &mut self.free,
             command,
             answer,
-        ) {
-            Ok(status) => {
-                end_answer(answer, status);
-                Ok(())
-            }
-            Err(StoreErr::Fault) => {
-                self.state = CardState::Failed;
-                answer.clear();
-                end_answer(answer, Sw::MEMORY_FAILURE);
-                Ok(())
-            }
-            Err(StoreErr::PowerLost) => {
-                self.state = CardState::Dark;
-                answer.clear();
-                Err(PowerLost)
-            }
-        }
+        );
+        end_command(carried, &mut self.state, answer)
     }
 
     /// The board, as it is.
@@ -204,6 +190,52 @@ impl<B: Armed> Card<B> {
         } }
     {
         self.store.arm(k, mask);
+    }
+}
+
+/// What a start finds: the free space of the card, or why the card doesn't start.
+fn space_of(found: Result<Option<FreeSpace>, StoreErr>) -> Result<FreeSpace, StartFault>
+    ensures { MatchResult found
+        (λ space. MatchOption space (result ≡ Err StartFault.Damaged) (λ free. result ≡ Ok free))
+        (λ e. result ≡ Err (fault_of_store e)) }
+{
+    match found {
+        Ok(Some(free)) => Ok(free),
+        Ok(None) => Err(StartFault::Damaged),
+        Err(e) => Err(StartFault::from(e)),
+    }
+}
+
+/// Ends a command that was carried out: its answer, and what the card can still do.
+fn end_command(
+    carried: Result<Sw, StoreErr>,
+    state: &mut CardState,
+    answer: &mut Answer,
+) -> Result<(), PowerLost>
+    requires { length answer.old.items ≤ 256 }
+    ensures done { IfOk carried (λ status. IsOk result × (state.new ≡ state.old) × (answer.new.items
+        ≡ answer_bytes (record { text = answer.old.items; status = status }))) }
+    ensures failed { IsErrOf carried StoreErr.Fault
+        → IsOk result × (state.new ≡ CardState.Failed) × (answer.new.items ≡ memory_failure) }
+    ensures lost { IsErrOf carried StoreErr.PowerLost
+        → IsErr result × (state.new ≡ CardState.Dark) × (answer.new.items ≡ []) }
+{
+    match carried {
+        Ok(status) => {
+            end_answer(answer, status);
+            Ok(())
+        }
+        Err(StoreErr::Fault) => {
+            *state = CardState::Failed;
+            answer.clear();
+            end_answer(answer, Sw::MEMORY_FAILURE);
+            Ok(())
+        }
+        Err(StoreErr::PowerLost) => {
+            *state = CardState::Dark;
+            answer.clear();
+            Err(PowerLost)
+        }
     }
 }
 

@@ -1,5 +1,5 @@
 -- Commands on PINs: proper cards stay proper, and answers are short.
-use Rattle.std.specs.Prelude.{◌<◌, ◌≤◌, ◌-◌, ℕ, Bool, true, false, if◌then◌else◌}
+use Rattle.std.specs.Prelude.{◌≤◌, ◌-◌, ℕ, Bool, true, false, if◌then◌else◌}
 use Rattle.std.proofs.Common.{arith, lit<}
 use Rattle.std.proofs.lemmas.List.Elements.{All-set}
 use Rattle.card_rules.specs.declared.status.TheConstants.Sw.{DONE}

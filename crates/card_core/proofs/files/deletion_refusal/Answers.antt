@@ -13,6 +13,7 @@ use Rattle.card_core.specs.Working.{file_refusal, session_of}
 use Rattle.card_core.proofs.Entries.{card-tree}
 use Rattle.card_core.proofs.Verified.{marks-are}
 use Rattle.card_core.proofs.files.deletion_refusal.Goals.{then-own, else-own}
+use Rattle.card_core.proofs.Readings.{three_reads, tree_still, used_still}
 use Rattle.card_core.proofs.files.deletion_refusal.Goals as goal
 
 pub returns-in_err-by_parent-clause-reads : goal.returns-in_err-by_parent-clause-reads
@@ -50,3 +51,28 @@ returns-clause-found g c =
     ] in
     c.refusal_by.ensures ∙ (λ i. file_refusal (barred i) true (both i))
     ∙ (λ i. file_refusal (is_barred (card_of m).tree (path_of t c.args.parent)) true (own i || by_parent i))
+
+pub is_allowed-requires-clause-tree : goal.is_allowed-requires-clause-tree
+is_allowed-requires-clause-tree g c =
+    tree_still c.args.store.now c.is_barred.new.store c.is_barred.ensures.reads c.requires.card
+
+pub is_allowed-requires-clause-used : goal.is_allowed-requires-clause-used
+is_allowed-requires-clause-used g c =
+    used_still c.args.store.now c.is_barred.new.store c.args.number c.is_barred.ensures.reads c.requires.used
+
+pub is_allowed-requires-2-clause-tree : goal.is_allowed-requires-2-clause-tree
+is_allowed-requires-2-clause-tree g c =
+    tree_still c.args.store.now c.is_allowed.new.store (reads_then c.args.store.now c.is_barred.new.store c.is_allowed.new.store c.is_barred.ensures.reads c.is_allowed.ensures.reads) c.requires.card
+
+pub is_allowed-requires-2-clause-used : goal.is_allowed-requires-2-clause-used
+is_allowed-requires-2-clause-used g c =
+    used_still c.args.store.now c.is_allowed.new.store c.args.parent (reads_then c.args.store.now c.is_barred.new.store c.is_allowed.new.store c.is_barred.ensures.reads c.is_allowed.ensures.reads) c.requires.above
+
+pub returns-in_err-own-clause-reads : goal.returns-in_err-own-clause-reads
+returns-in_err-own-clause-reads g c =
+    reads_then c.args.store.now c.is_barred.new.store c.is_allowed.new.store c.is_barred.ensures.reads c.is_allowed.ensures.reads
+
+pub returns-clause-reads : goal.returns-clause-reads
+returns-clause-reads g c =
+    three_reads c.args.store.now c.is_barred.new.store c.is_allowed.new.store c.is_allowed-2.new.store c.is_barred.ensures.reads
+    c.is_allowed.ensures.reads c.is_allowed-2.ensures.reads

@@ -10,6 +10,7 @@ use Rattle.card_core.specs.Standing.{card_of}
 use Rattle.card_core.specs.Working.{session_of}
 use Rattle.card_core.proofs.Deletions.{deletable, deletion_verdict, file-verdict}
 use Rattle.card_core.proofs.FileSteps.{delete-master}
+use Rattle.card_core.proofs.Readings.{card_still, current_still, used_still}
 use Rattle.card_core.proofs.files.find_deletable.Goals as goal
 
 pub returns-then-number-eq0-clause-found : goal.returns-then-number-eq0-clause-found
@@ -96,3 +97,25 @@ returns-in-None-clause-found g c =
     ∙ ap (λ (l : List ℕ). deletion_verdict l x e c.in_ok-entry.entry.parent) (sym same)
     ∙ sym c.in_ok-refusal.ensures.found ∙ c.in-None.is)
     c.in_ok-entry.entry entry
+
+pub returns-in_err-entry-clause-reads : goal.returns-in_err-entry-clause-reads
+returns-in_err-entry-clause-reads g c =
+    reads_then c.args.store.now c.find_subject.new.store c.read_entry.new.store c.find_subject.ensures.reads c.read_entry.ensures.reads
+
+pub deletion_refusal-requires-clause-card : goal.deletion_refusal-requires-clause-card
+deletion_refusal-requires-clause-card g c =
+    card_still c.args.store.now c.read_entry.new.store
+    (reads_then c.args.store.now c.find_subject.new.store c.read_entry.new.store c.find_subject.ensures.reads c.read_entry.ensures.reads)
+    c.requires.card
+
+pub deletion_refusal-requires-clause-current : goal.deletion_refusal-requires-clause-current
+deletion_refusal-requires-clause-current g c =
+    current_still c.args.store.now c.read_entry.new.store c.args.current.now
+    (reads_then c.args.store.now c.find_subject.new.store c.read_entry.new.store c.find_subject.ensures.reads c.read_entry.ensures.reads)
+    c.requires.current
+
+pub deletion_refusal-requires-clause-used : goal.deletion_refusal-requires-clause-used
+deletion_refusal-requires-clause-used g c =
+    used_still c.args.store.now c.read_entry.new.store c.in-Some.number
+    (reads_then c.args.store.now c.find_subject.new.store c.read_entry.new.store c.find_subject.ensures.reads c.read_entry.ensures.reads)
+    (subst (λ (o : Option ℕ). IfSome o (IsUsed (table (committed c.args.store.now)))) c.in-Some.is c.in_ok-number.ensures.used)

@@ -12,6 +12,7 @@ use Rattle.card_core.specs.Standing.{card_of}
 use Rattle.card_core.specs.Working.{session_of}
 use Rattle.card_core.proofs.Entries.{card-tree}
 use Rattle.card_core.proofs.Verified.{marks-are}
+use Rattle.card_core.proofs.Readings.{df_used, three_reads, tree_still, used_still}
 use Rattle.card_core.proofs.files.permits_in.Goals as goal
 
 pub returns-in_err-elementary-clause-reads : goal.returns-in_err-elementary-clause-reads
@@ -43,3 +44,32 @@ returns-clause-permits g c =
     ∙ sym (ap (λ (tree : Tree). is_allowed tree (path_of t x.df) CreateEf (marks_of (session_of t x).verified))
     (card-tree m)) in
     λ i. record { barred = barred i; dedicated = dedicated i; elementary = elementary i }
+
+pub is_barred-requires-clause-used : goal.is_barred-requires-clause-used
+is_barred-requires-clause-used g c =
+    df_used (table (committed c.args.store.now)) c.args.current.now c.requires.current
+
+pub is_allowed-requires-clause-tree : goal.is_allowed-requires-clause-tree
+is_allowed-requires-clause-tree g c =
+    tree_still c.args.store.now c.is_barred.new.store c.is_barred.ensures.reads c.requires.card
+
+pub is_allowed-requires-clause-used : goal.is_allowed-requires-clause-used
+is_allowed-requires-clause-used g c =
+    used_still c.args.store.now c.is_barred.new.store c.args.current.now.df c.is_barred.ensures.reads (df_used (table (committed c.args.store.now)) c.args.current.now c.requires.current)
+
+pub is_allowed-requires-2-clause-tree : goal.is_allowed-requires-2-clause-tree
+is_allowed-requires-2-clause-tree g c =
+    tree_still c.args.store.now c.is_allowed.new.store (reads_then c.args.store.now c.is_barred.new.store c.is_allowed.new.store c.is_barred.ensures.reads c.is_allowed.ensures.reads) c.requires.card
+
+pub is_allowed-requires-2-clause-used : goal.is_allowed-requires-2-clause-used
+is_allowed-requires-2-clause-used g c =
+    used_still c.args.store.now c.is_allowed.new.store c.args.current.now.df (reads_then c.args.store.now c.is_barred.new.store c.is_allowed.new.store c.is_barred.ensures.reads c.is_allowed.ensures.reads) (df_used (table (committed c.args.store.now)) c.args.current.now c.requires.current)
+
+pub returns-in_err-dedicated-clause-reads : goal.returns-in_err-dedicated-clause-reads
+returns-in_err-dedicated-clause-reads g c =
+    reads_then c.args.store.now c.is_barred.new.store c.is_allowed.new.store c.is_barred.ensures.reads c.is_allowed.ensures.reads
+
+pub returns-clause-reads : goal.returns-clause-reads
+returns-clause-reads g c =
+    three_reads c.args.store.now c.is_barred.new.store c.is_allowed.new.store c.is_allowed-2.new.store c.is_barred.ensures.reads
+    c.is_allowed.ensures.reads c.is_allowed-2.ensures.reads

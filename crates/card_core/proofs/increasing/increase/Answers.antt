@@ -26,6 +26,7 @@ use Rattle.card_core.proofs.RecordWrites.{records-made, records-space, records-t
 use Rattle.card_core.proofs.Recording.{agree, declined-empty}
 use Rattle.card_core.proofs.Serves.{stopped}
 use Rattle.card_core.proofs.Stopping.{err-is}
+use Rattle.card_core.proofs.SpaceKept.{space-same}
 use Rattle.card_core.proofs.increasing.increase.Goals as goal
 
 pub returns-in-Err-clause-serves : goal.returns-in-Err-clause-serves
@@ -316,3 +317,21 @@ returns-clause-space g c =
     (bodies.Cyclic body) found (increase sent expected) (records_in m) none lasting fits refl refl reads left
     c.put_sum.ensures.reports c.put_sum.ensures.writes
     becomes
+
+pub returns-in-Err-clause-space : goal.returns-in-Err-clause-space
+returns-in-Err-clause-space g c =
+    space-same c.args.store.now c.find_records.new.store c.find_records.ensures.reads.keeps.committed_words
+
+pub returns-then-is_too_long-clause-space : goal.returns-then-is_too_long-clause-space
+returns-then-is_too_long-clause-space g c =
+    space-same c.args.store.now c.find_records.new.store c.find_records.ensures.reads.keeps.committed_words
+
+pub returns-in-Some-clause-space : goal.returns-in-Some-clause-space
+returns-in-Some-clause-space g c =
+    space-same c.args.store.now c.raised.new.store (c.raised.ensures.reads.keeps.committed_words
+    ∙ c.find_records.ensures.reads.keeps.committed_words)
+
+pub returns-then-asks_less-clause-space : goal.returns-then-asks_less-clause-space
+returns-then-asks_less-clause-space g c =
+    space-same c.args.store.now c.raised.new.store (c.raised.ensures.reads.keeps.committed_words
+    ∙ c.find_records.ensures.reads.keeps.committed_words)

@@ -8,6 +8,7 @@ use Rattle.card_core.specs.Working.{card_in, session_in}
 use Rattle.card_core.proofs.Answering.{said_ok, said_err}
 use Rattle.card_core.proofs.LifeServes.{change-torn, change-made, change-refused, change-space}
 use Rattle.card_core.proofs.Serves.{declined}
+use Rattle.card_core.proofs.SpaceKept.{space-same}
 use Rattle.card_core.proofs.life_cycles.change_life_cycle.Goals as goal
 
 pub returns-in-Err-clause-serves : goal.returns-in-Err-clause-serves
@@ -56,3 +57,7 @@ returns-clause-space g c =
     change-space old mid new c.requires.ready c.requires.card x c.requires.current c.args.change c.args.subject
     c.in-Ok.changed found c.find_change.ensures.reads c.set_life_cycle.ensures.any_exit c.set_life_cycle.ensures.stays
     c.set_life_cycle.ensures.reports c.set_life_cycle.ensures.writes c.in_ok-set_life_cycle.ensures.done
+
+pub returns-in-Err-clause-space : goal.returns-in-Err-clause-space
+returns-in-Err-clause-space g c =
+    space-same c.args.store.now c.find_change.new.store c.find_change.ensures.reads.keeps.committed_words

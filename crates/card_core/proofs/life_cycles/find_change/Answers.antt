@@ -1,11 +1,16 @@
-use Rattle.std.proofs.Common.{◌≡◌, ℕ, List, Option, IfSome, option_map, Result, ◌∙◌, ap, subst}
+use Rattle.std.proofs.Common.{◌≡◌, ℕ, List, Option, Some, IfSome, option_map, Result, sym, ◌∙◌, ap, subst}
 use Rattle.card_rules.specs.declared.status.Sw.{Sw}
 use Rattle.undo_journal.specs.Memory.{committed}
 use Rattle.file_tree.specs.Table.{table, path_of, IsUsed}
 use Rattle.card_core.specs.declared.life_cycles.Changed.{Changed}
 use Rattle.card_core.specs.Changing.{change_at}
 use Rattle.card_core.proofs.Answering.{ok_then}
+use Rattle.card_core.specs.Standing.{card_of}
+use Rattle.card_core.specs.Working.{session_of}
 use Rattle.card_core.proofs.Living.{found-is}
+use Rattle.card_core.proofs.Missing.{change-missed}
+use Rattle.undo_journal.specs.laws.Calls.{reads_then}
+use Rattle.card_core.proofs.Readings.{card_still, used_still}
 use Rattle.card_core.proofs.life_cycles.find_change.Goals as goal
 
 pub returns-clause-found : goal.returns-clause-found
@@ -22,3 +27,24 @@ returns-clause-found g c =
     (λ answer is. found-is m c.requires.card x c.requires.current c.args.change c.args.subject e used place answer
     (is ∙ ap (λ (l : List ℕ). change_at l x c.args.change e) same))
     c.read_change.ensures.found
+
+pub returns-clause-reads : goal.returns-clause-reads
+returns-clause-reads g c =
+    reads_then c.args.store.now c.find_changed.new.store c.read_change.new.store c.find_changed.ensures.reads c.read_change.ensures.reads
+
+pub read_change-requires-clause-card : goal.read_change-requires-clause-card
+read_change-requires-clause-card g c =
+    card_still c.args.store.now c.find_changed.new.store c.find_changed.ensures.reads c.requires.card
+
+pub read_change-requires-clause-used : goal.read_change-requires-clause-used
+read_change-requires-clause-used g c =
+    used_still c.args.store.now c.find_changed.new.store c.in-Some.number c.find_changed.ensures.reads
+    (subst (λ (o : Option ℕ). IfSome o (IsUsed (table (committed c.args.store.now)))) c.in-Some.is
+    c.in_ok-number.ensures.used)
+
+pub returns-in_default-clause-found : goal.returns-in_default-clause-found
+returns-in_default-clause-found g c =
+    let t = table (committed c.args.store.now) in
+    change-missed (card_of (committed c.args.store.now)) (session_of t c.args.current.now) c.args.change c.args.subject
+    (c.in_ok-number.ensures.found ∙ ap (λ (found : Option ℕ). option_map (path_of t) found) c.in_default.is)
+    ∙ ap (λ (status : Sw). Some status) (sym c.no_subject.ensures)

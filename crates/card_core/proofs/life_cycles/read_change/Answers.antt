@@ -1,6 +1,15 @@
 use Rattle.undo_journal.specs.Memory.{committed}
 use Rattle.undo_journal.specs.laws.Calls.{reads_then}
 use Rattle.file_tree.specs.laws.Nodes.{used_small}
+use Rattle.std.proofs.Common.{◌≡◌, ◌∙◌, ap}
+use Rattle.card_core.proofs.Readings.{three_reads, tree_still, used_still}
+use Rattle.card_rules.specs.declared.life_cycle.LifeCycleCommand.{LifeCycleCommand}
+use Rattle.file_tree.specs.States.{is_allowed, next_life}
+use Rattle.file_tree.specs.Table.{table, entry_in, path_of}
+use Rattle.file_tree.specs.Trees.{tree_of}
+use Rattle.card_core.specs.Changing.{changed_by}
+use Rattle.card_core.specs.LifeCycles.{change_bit, command_of}
+use Rattle.card_core.specs.Working.{verified_in}
 use Rattle.card_core.proofs.life_cycles.read_change.Goals as goal
 
 pub read_entry-requires-clause-within : goal.read_entry-requires-clause-within
@@ -9,3 +18,37 @@ read_entry-requires-clause-within g c = used_small (committed c.args.store.now) 
 pub returns-in_err-entry-clause-reads : goal.returns-in_err-entry-clause-reads
 returns-in_err-entry-clause-reads g c =
     reads_then _ _ _ c.next_life_cycle.ensures.reads (reads_then _ _ _ c.is_allowed.ensures.reads c.read_entry.ensures.reads)
+
+pub is_allowed-requires-clause-tree : goal.is_allowed-requires-clause-tree
+is_allowed-requires-clause-tree g c =
+    tree_still c.args.store.now c.next_life_cycle.new.store c.next_life_cycle.ensures.reads c.requires.card
+
+pub is_allowed-requires-clause-used : goal.is_allowed-requires-clause-used
+is_allowed-requires-clause-used g c =
+    used_still c.args.store.now c.next_life_cycle.new.store c.args.number c.next_life_cycle.ensures.reads c.requires.used
+
+pub returns-in_err-allowed-clause-reads : goal.returns-in_err-allowed-clause-reads
+returns-in_err-allowed-clause-reads g c =
+    reads_then c.args.store.now c.next_life_cycle.new.store c.is_allowed.new.store c.next_life_cycle.ensures.reads c.is_allowed.ensures.reads
+
+pub returns-clause-reads : goal.returns-clause-reads
+returns-clause-reads g c =
+    three_reads c.args.store.now c.next_life_cycle.new.store c.is_allowed.new.store c.read_entry.new.store c.next_life_cycle.ensures.reads
+    c.is_allowed.ensures.reads c.read_entry.ensures.reads
+
+pub returns-clause-found : goal.returns-clause-found
+returns-clause-found g c =
+    let m = committed c.args.store.now in
+    let e = c.args.number in
+    let same = c.next_life_cycle.ensures.reads.keeps.committed_words in
+    let still = c.is_allowed.ensures.reads.keeps.committed_words ∙ same in
+    let next : c.in_ok-next.next ≡ next_life (tree_of m) (path_of (table m) e) (command_of c.args.change) =
+    c.in_ok-next.ensures.next
+    ∙ ap (λ (k : LifeCycleCommand). next_life (tree_of m) (path_of (table m) e) k) c.command_of.ensures in
+    let allowed : c.in_ok-allowed.allowed
+    ≡ is_allowed (tree_of m) (path_of (table m) e) (change_bit c.args.change) (verified_in c.args.current.now) =
+    c.in_ok-allowed.ensures.allowed
+    ∙ (λ i. is_allowed (tree_of (same i)) (path_of (table (same i)) e) (c.bit_of.ensures i) (c.verified.ensures i)) in
+    let entry : c.in_ok-entry.entry ≡ entry_in (table m) e =
+    c.in_ok-entry.ensures.entry ∙ (λ i. entry_in (table (still i)) e) in
+    c.changed_by.ensures ∙ (λ i. changed_by c.args.change e (entry i) (next i) (allowed i))

@@ -1,10 +1,15 @@
-use Rattle.std.proofs.Common.{rules, ◌≡◌, true, false, sym, ◌∙◌}
+use Rattle.std.proofs.Common.{◌≡◌, true, false, [], Result, sym, ◌∙◌, ap, subst, arith}
 use Rattle.std.specs.Result.{result_err}
+use Rattle.card_rules.specs.declared.status.Sw.{Sw}
 use Rattle.card_rules.specs.declared.status.TheConstants.Sw.{ACCESS_DENIED}
+use Rattle.undo_journal.specs.declared.error.StoreErr.{StoreErr}
 use Rattle.undo_journal.specs.Memory.{committed}
 use Rattle.apdu_core.specs.Requests.{terminate_card_usage}
 use Rattle.card_core.proofs.Ending.{end-made, end-refused, end-space, end-torn}
-use Rattle.card_core.proofs.Serves.{declined}
+use Rattle.card_core.specs.Served.{Serves}
+use Rattle.card_core.proofs.Serves.{declined, stopped}
+use Rattle.card_core.proofs.SpaceKept.{space-same}
+use Rattle.card_core.proofs.Stopping.{err-is}
 use Rattle.card_core.proofs.life_cycles.terminate_card_usage.Goals as goal
 
 pub returns-then-not-branch-clause-serves : goal.returns-then-not-branch-clause-serves
@@ -23,7 +28,8 @@ returns-in_err-terminate_card-clause-serves g c =
     let mid = c.is_allowed.new.store in
     let new = c.terminate_card.new.store in
     let granted : c.in_ok-is_allowed.field-0 ≡ true = c.if-not-branch.false in
-    let tells : new.failed ≡ result_err c.from_residual-in_err-terminate_card.result = search rules in
+    let tells = c.in_err-terminate_card.ensures.tells ∙ sym (ap (λ (r : Result Sw StoreErr). result_err r)
+    (err-is _ _ c.from_residual-in_err-terminate_card.ensures.1)) in
     end-torn old mid new c.requires.ready c.requires.card c.args.current.now c.requires.current c.verified.result
     c.verified.ensures (sym granted ∙ c.in_ok-is_allowed.ensures.allowed) c.is_allowed.ensures.reads
     c.terminate_card.ensures.any_exit c.terminate_card.ensures.reports c.terminate_card.ensures.writes
@@ -50,3 +56,17 @@ returns-clause-space g c =
     c.verified.ensures (sym granted ∙ c.in_ok-is_allowed.ensures.allowed) c.is_allowed.ensures.reads
     c.terminate_card.ensures.any_exit c.terminate_card.ensures.reports c.terminate_card.ensures.writes
     c.in_ok-terminate_card.ensures.done
+
+pub returns-in_err-is_allowed-clause-serves : goal.returns-in_err-is_allowed-clause-serves
+returns-in_err-is_allowed-clause-serves g c =
+    let old = c.args.store.now in
+    let x = c.args.current.now in
+    let mid = c.is_allowed.new.store in
+    subst (λ (r : Result Sw StoreErr). Serves terminate_card_usage old x mid x [] r) (sym (err-is _ _
+    c.from_residual.ensures.1))
+    (stopped terminate_card_usage old x mid c.requires.card x [] c.in_err-is_allowed.field-0.0 c.is_allowed.ensures.reads
+    c.in_err-is_allowed.ensures.tells (omega arith))
+
+pub returns-then-not-branch-clause-space : goal.returns-then-not-branch-clause-space
+returns-then-not-branch-clause-space g c =
+    space-same c.args.store.now c.is_allowed.new.store c.is_allowed.ensures.reads.keeps.committed_words

@@ -1,4 +1,7 @@
-use Rattle.std.proofs.Common.{◌≡◌, ℕ, List, Option, IfSome, option_map, sym, ◌∙◌, ap, subst}
+use Rattle.std.proofs.Common.{◌≡◌, ℕ, List, Option, Some, None, IfSome, option_map, sym, ◌∙◌, ap, subst, if◌then◌else◌}
+use Rattle.std.specs.Option.{is_none}
+use Rattle.card_rules.specs.declared.status.Sw.{Sw}
+use Rattle.card_core.specs.Elementary.{missing}
 use Rattle.undo_journal.specs.Memory.{committed}
 use Rattle.undo_journal.specs.laws.Calls.{reads_then}
 use Rattle.file_tree.specs.declared.entry.Entry.{Entry}
@@ -9,6 +12,9 @@ use Rattle.card_core.specs.Guards.{allowed}
 use Rattle.card_core.specs.Standing.{card_of}
 use Rattle.card_core.specs.Working.{file_refusal, fits_kind, session_of, IsElementary}
 use Rattle.card_core.proofs.NamedEntries.{entry-named, entry-refusal}
+use Rattle.card_core.specs.Standing.{IsCard}
+use Rattle.card_core.specs.Working.{IsCurrent}
+use Rattle.file_tree.specs.Table.{IsUsed}
 use Rattle.card_core.proofs.named.find_file.Goals as goal
 
 pub read_entry-requires-clause-within : goal.read_entry-requires-clause-within
@@ -67,3 +73,47 @@ returns-in-None-clause-found g c =
     ∙ sym c.in_ok-refusal.ensures.found ∙ c.in-None.is in
     entry-named m c.requires.ready.usable.committed_size c.requires.card c.args.current.now c.args.target c.args.need e file
     place none c.in_ok-entry.entry entry
+
+pub refusal_of-requires-clause-card : goal.refusal_of-requires-clause-card
+refusal_of-requires-clause-card g c =
+    let same = c.read_entry.ensures.reads.keeps.committed_words ∙ c.find_target.ensures.reads.keeps.committed_words in
+    subst IsCard (sym same) c.requires.card
+
+pub refusal_of-requires-clause-current : goal.refusal_of-requires-clause-current
+refusal_of-requires-clause-current g c =
+    let same = c.read_entry.ensures.reads.keeps.committed_words ∙ c.find_target.ensures.reads.keeps.committed_words in
+    subst (λ (l : List ℕ). IsCurrent (table l) c.args.current.now) (sym same) c.requires.current
+
+pub refusal_of-requires-clause-used : goal.refusal_of-requires-clause-used
+refusal_of-requires-clause-used g c =
+    let same = c.read_entry.ensures.reads.keeps.committed_words ∙ c.find_target.ensures.reads.keeps.committed_words in
+    let file = subst (λ (o : Option ℕ). IfSome o (IsElementary (table (committed c.args.store.now)) c.args.current.now.df))
+    c.in-Some.is c.in_ok-number.ensures.child in
+    subst (λ (l : List ℕ). IsUsed (table l) c.in-Some.number) (sym same) file.child.used
+
+pub returns-in_err-entry-clause-reads : goal.returns-in_err-entry-clause-reads
+returns-in_err-entry-clause-reads g c =
+    reads_then c.args.store.now c.find_target.new.store c.read_entry.new.store c.find_target.ensures.reads
+    c.read_entry.ensures.reads
+
+pub returns-in-Some-2-clause-reads : goal.returns-in-Some-2-clause-reads
+returns-in-Some-2-clause-reads g c =
+    reads_then c.args.store.now c.find_target.new.store c.refusal_of.new.store c.find_target.ensures.reads
+    (reads_then c.find_target.new.store c.read_entry.new.store c.refusal_of.new.store c.read_entry.ensures.reads
+    c.refusal_of.ensures.reads)
+
+pub returns-in-None-clause-reads : goal.returns-in-None-clause-reads
+returns-in-None-clause-reads g c =
+    reads_then c.args.store.now c.find_target.new.store c.refusal_of.new.store c.find_target.ensures.reads
+    (reads_then c.find_target.new.store c.read_entry.new.store c.refusal_of.new.store c.read_entry.ensures.reads
+    c.refusal_of.ensures.reads)
+
+pub returns-in_default-clause-found : goal.returns-in_default-clause-found
+returns-in_default-clause-found g c =
+    let none = c.in_ok-number.ensures.found
+    ∙ ap (λ (o : Option ℕ). option_map (path_of (table (committed c.args.store.now))) o) c.in_default.is in
+    absent _ (missing c.args.target) _ none ∙ ap (λ (s : Sw). Some s) (sym c.missing.ensures)
+  where
+    absent : {A : Type 0} (o : Option A) (status : Sw) (rest : Option Sw) → o ≡ None
+        → (if is_none o then Some status else rest) ≡ Some status
+    absent o status rest is = ap (λ (p : Option _). if is_none p then Some status else rest) is

@@ -10,6 +10,8 @@ use Rattle.card_core.specs.Standing.{card_of}
 use Rattle.card_core.specs.Working.{file_refusal, session_of}
 use Rattle.card_core.proofs.Entries.{card-tree}
 use Rattle.card_core.proofs.Verified.{marks-are}
+use Rattle.undo_journal.specs.laws.Calls.{reads_then}
+use Rattle.card_core.proofs.Readings.{tree_still, used_still}
 use Rattle.card_core.proofs.named.refusal_of.Goals as goal
 
 pub returns-clause-found : goal.returns-clause-found
@@ -27,3 +29,19 @@ returns-clause-found g c =
     ∙ (λ i. is_allowed (tree_of (same i)) (path_of (table (same i)) c.args.number) bit (marks i))
     ∙ sym (ap (λ (tree : Tree). is_allowed tree path bit (marks_of (session_of t c.args.current.now).verified)) (card-tree m)) in
     c.refusal_by.ensures ∙ (λ i. file_refusal (barred i) (c.fits.ensures i) (permitted i))
+
+pub is_allowed-requires-clause-tree : goal.is_allowed-requires-clause-tree
+is_allowed-requires-clause-tree g c =
+    tree_still c.args.store.now c.is_barred.new.store c.is_barred.ensures.reads c.requires.card
+
+pub is_allowed-requires-clause-used : goal.is_allowed-requires-clause-used
+is_allowed-requires-clause-used g c =
+    used_still c.args.store.now c.is_barred.new.store c.args.number c.is_barred.ensures.reads c.requires.used
+
+pub returns-in_err-allowed-clause-reads : goal.returns-in_err-allowed-clause-reads
+returns-in_err-allowed-clause-reads g c =
+    reads_then c.args.store.now c.is_barred.new.store c.is_allowed.new.store c.is_barred.ensures.reads c.is_allowed.ensures.reads
+
+pub returns-clause-reads : goal.returns-clause-reads
+returns-clause-reads g c =
+    reads_then c.args.store.now c.is_barred.new.store c.is_allowed.new.store c.is_barred.ensures.reads c.is_allowed.ensures.reads

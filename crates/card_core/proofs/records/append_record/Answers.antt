@@ -16,6 +16,7 @@ use Rattle.card_core.proofs.RecordWrites.{append-commits, append-effect, append-
 use Rattle.card_core.proofs.RecordWrites.{records-made, records-space, records-torn}
 use Rattle.card_core.proofs.Serves.{declined}
 use Rattle.card_core.proofs.Stopping.{err-is}
+use Rattle.card_core.proofs.SpaceKept.{space-same}
 use Rattle.card_core.proofs.records.append_record.Goals as goal
 
 pub returns-in-Err-clause-serves : goal.returns-in-Err-clause-serves
@@ -188,3 +189,15 @@ returns-clause-space g c =
     (append_record target bytes) (appended_in m body bytes) none lasting fits refl refl c.find_records.ensures.reads
     left c.append.ensures.reports c.append.ensures.writes
     becomes
+
+pub returns-in-Err-clause-space : goal.returns-in-Err-clause-space
+returns-in-Err-clause-space g c =
+    space-same c.args.store.now c.find_records.new.store c.find_records.ensures.reads.keeps.committed_words
+
+pub returns-then-is_full-clause-space : goal.returns-then-is_full-clause-space
+returns-then-is_full-clause-space g c =
+    space-same c.args.store.now c.find_records.new.store c.find_records.ensures.reads.keeps.committed_words
+
+pub returns-then-not-takes-clause-space : goal.returns-then-not-takes-clause-space
+returns-then-not-takes-clause-space g c =
+    space-same c.args.store.now c.find_records.new.store c.find_records.ensures.reads.keeps.committed_words

@@ -18,6 +18,7 @@ use Rattle.card_core.proofs.RecordBodies.{has-few}
 use Rattle.card_core.proofs.Recording.{agree, current-is, declined-empty, read-gone, read-other, read-refused, read-whole}
 use Rattle.card_core.proofs.Serves.{answered, stopped}
 use Rattle.card_core.proofs.Stopping.{err-is}
+use Rattle.card_core.proofs.SpaceKept.{space-same}
 use Rattle.card_core.proofs.records.read_record.Goals as goal
 
 pub returns-in-Err-clause-serves : goal.returns-in-Err-clause-serves
@@ -137,3 +138,21 @@ returns-clause-serves g c =
     (read-whole (committed old) sized c.requires.card x c.args.target _ e body found found.named.unrefused
     c.args.choice c.args.expected has whole
     ∙ (λ i. outcome (card_in old) (session_in old (sym y_is i)) (sym given_is i) DONE))
+
+pub returns-in-Err-clause-space : goal.returns-in-Err-clause-space
+returns-in-Err-clause-space g c =
+    space-same c.args.store.now c.find_records.new.store c.find_records.ensures.reads.keeps.committed_words
+
+pub returns-then-not-has_record-clause-space : goal.returns-then-not-has_record-clause-space
+returns-then-not-has_record-clause-space g c =
+    space-same c.args.store.now c.find_records.new.store c.find_records.ensures.reads.keeps.committed_words
+
+pub returns-then-is_other_length-clause-space : goal.returns-then-is_other_length-clause-space
+returns-then-is_other_length-clause-space g c =
+    space-same c.args.store.now c.read.new.store (c.read.ensures.reads.keeps.committed_words
+    ∙ c.find_records.ensures.reads.keeps.committed_words)
+
+pub returns-clause-space : goal.returns-clause-space
+returns-clause-space g c =
+    space-same c.args.store.now c.read.new.store (c.read.ensures.reads.keeps.committed_words
+    ∙ c.find_records.ensures.reads.keeps.committed_words)

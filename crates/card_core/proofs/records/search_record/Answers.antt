@@ -17,6 +17,7 @@ use Rattle.card_core.proofs.Answering.{said_ok, said_err}
 use Rattle.card_core.proofs.Recording.{agree, current-is, declined-empty, search-gone, search-less, search-refused, search-whole}
 use Rattle.card_core.proofs.Serves.{answered, stopped}
 use Rattle.card_core.proofs.Stopping.{err-is}
+use Rattle.card_core.proofs.SpaceKept.{space-same}
 use Rattle.card_core.proofs.records.search_record.Goals as goal
 
 pub returns-in-Err-clause-serves : goal.returns-in-Err-clause-serves
@@ -131,3 +132,21 @@ returns-clause-serves g c =
     (search-whole (committed old) sized c.requires.card x c.args.target _ e body found found.named.unrefused
     c.args.first c.args.direction c.args.text.now c.args.expected has enough
     ∙ (λ i. outcome (card_in old) (session_in old (sym y_is i)) (sym given_is i) (sym status i)))
+
+pub returns-in-Err-clause-space : goal.returns-in-Err-clause-space
+returns-in-Err-clause-space g c =
+    space-same c.args.store.now c.find_records.new.store c.find_records.ensures.reads.keeps.committed_words
+
+pub returns-then-not-has_record-clause-space : goal.returns-then-not-has_record-clause-space
+returns-then-not-has_record-clause-space g c =
+    space-same c.args.store.now c.find_records.new.store c.find_records.ensures.reads.keeps.committed_words
+
+pub returns-then-asks_less-clause-space : goal.returns-then-asks_less-clause-space
+returns-then-asks_less-clause-space g c =
+    space-same c.args.store.now c.search.new.store (c.search.ensures.reads.keeps.committed_words
+    ∙ c.find_records.ensures.reads.keeps.committed_words)
+
+pub returns-clause-space : goal.returns-clause-space
+returns-clause-space g c =
+    space-same c.args.store.now c.search.new.store (c.search.ensures.reads.keeps.committed_words
+    ∙ c.find_records.ensures.reads.keeps.committed_words)

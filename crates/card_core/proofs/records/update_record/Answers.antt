@@ -22,6 +22,7 @@ use Rattle.card_core.proofs.RecordWrites.{need-replaces, records-made, records-s
 use Rattle.card_core.proofs.RecordWrites.{update-free, update-gone, update-other, update-refused}
 use Rattle.card_core.proofs.Serves.{declined}
 use Rattle.card_core.proofs.Stopping.{err-is}
+use Rattle.card_core.proofs.SpaceKept.{space-same}
 use Rattle.card_core.proofs.records.update_record.Goals as goal
 
 pub find_records-requires-clause-records : goal.find_records-requires-clause-records
@@ -256,3 +257,15 @@ returns-clause-space g c =
     (update_record target choice bytes) (replaced_in m body n bytes) none lasting fits refl refl c.find_records.ensures.reads
     left c.update.ensures.reports c.update.ensures.writes
     becomes
+
+pub returns-in-Err-clause-space : goal.returns-in-Err-clause-space
+returns-in-Err-clause-space g c =
+    space-same c.args.store.now c.find_records.new.store c.find_records.ensures.reads.keeps.committed_words
+
+pub returns-then-not-has_record-clause-space : goal.returns-then-not-has_record-clause-space
+returns-then-not-has_record-clause-space g c =
+    space-same c.args.store.now c.find_records.new.store c.find_records.ensures.reads.keeps.committed_words
+
+pub returns-then-not-takes-clause-space : goal.returns-then-not-takes-clause-space
+returns-then-not-takes-clause-space g c =
+    space-same c.args.store.now c.find_records.new.store c.find_records.ensures.reads.keeps.committed_words

@@ -1,89 +1,134 @@
-use Rattle.std.proofs.Common.{◌≡◌, Some, ap, sym, subst, ◌∙◌, rules}
-use Rattle.undo_journal.specs.declared.error.StoreErr.{StoreErr}
-use Rattle.undo_journal.specs.declared.error.StoreErr.TheVariants.{PowerLost, Fault}
-use Rattle.undo_journal.specs.Memory.{FailsBy}
+use Rattle.std.proofs.Common.{◌≡◌, ◌⊎◌, ◌+◌, ◌≤◌, OnOk, OnErr, sym, ◌∙◌, ap, subst, arith}
 use Rattle.undo_journal.specs.Spending.{KeepsBoard}
-use Rattle.card_core.specs.declared.card_state.CardState.TheVariants.{Working, Dark}
-use Rattle.card_core.specs.Running.{Running, card_found}
-use Rattle.card_core.specs.Sessions.{Session}
-use Rattle.card_core.specs.Stages.{ChangesNothing, IsStage}
+use Rattle.apdu_core.specs.Asked.{asked}
 use Rattle.card_core.specs.declared.card_state.CardState.{CardState}
+use Rattle.card_core.specs.declared.card_state.CardState.TheVariants.{Working, Failed, Dark}
+use Rattle.card_core.specs.declared.machine.TheConstants.{COMMAND_WRITES}
+use Rattle.card_core.specs.Comparing.{comparisons, ComparesAsked}
+use Rattle.card_core.specs.Finding.{HasCard}
+use Rattle.card_core.specs.Running.{card_found, FailsIn, IsCutIn, Running, Steps}
+use Rattle.card_core.specs.Sessions.{Session}
+use Rattle.card_core.specs.Spending.{writes_of}
+use Rattle.card_core.specs.Stages.{ChangesNothing, IsStage}
 use Rattle.card_core.specs.Working.{card_in, session_while, table_in}
+use Rattle.card_core.specs.laws.SpendLaws.{few_writes}
+use Rattle.card_core.proofs.Commanding.{after, ended-done, ended-kept, ended-lost, ended-unlit, Ends}
 use Rattle.card_core.proofs.machine.Card.command.Given.{Over}
+use Rattle.card_core.proofs.machine.Card.command.Goals.{After-end_command}
 use Rattle.card_core.proofs.machine.Card.command.Goals as goal
 
-pub returns-in-Ok-clause-stage : goal.returns-in-Ok-clause-stage
-returns-in-Ok-clause-stage g c =
-    let new = card_in c.carry_out.new.store in
+-- the end of the command, as the call told it
+ends : (g : Over) (c : After-end_command g) → Ends c.carry_out-carried.result c.self.inside.state c.end_command.new.state
+    c.carry_out-carried.new.text.items c.end_command.new.answer.items c.end_command.result
+ends g c = record {
+  done = c.end_command.ensures.done;
+  failed = c.end_command.ensures.failed;
+  lost = c.end_command.ensures.lost;
+}
+
+there : (g : Over) (c : After-end_command g) → HasCard c.carry_out-carried.new.store.facts.words
+there g c =
+    let carries = c.carry_out-carried.ensures.carries in
+    record { journal = carries.reports.sound c.self.invariant.0.journal; words = carries.card }
+
+pub end_command-requires : goal.end_command-requires
+end_command-requires g c = c.carry_out-carried.ensures.carries.room
+
+pub returns-clause-has_card : goal.returns-clause-has_card
+returns-clause-has_card g c = there g c
+
+pub returns-clause-stage : goal.returns-clause-stage
+returns-clause-stage g c =
+    let new = card_in c.carry_out-carried.new.store in
     let inside = c.self.inside in
     let session = sym (ap (λ (state : CardState). session_while state (table_in inside.store) inside.current)
     c.in-Working.is) in
     subst (λ (r : Running). IsStage (card_found r) r.session c.args.command.now new) c.self.view_is
-    (subst (λ (s : Session). IsStage (card_in inside.store) s c.args.command.now new) session c.carry_out.ensures.carries.stage)
+    (subst (λ (s : Session). IsStage (card_in inside.store) s c.args.command.now new) session
+    c.carry_out-carried.ensures.carries.stage)
 
-pub returns-in-Err-Fault-clause-stage : goal.returns-in-Err-Fault-clause-stage
-returns-in-Err-Fault-clause-stage g c =
-    let new = card_in c.carry_out.new.store in
-    let inside = c.self.inside in
-    let session = sym (ap (λ (state : CardState). session_while state (table_in inside.store) inside.current)
-    c.in-Working.is) in
-    subst (λ (r : Running). IsStage (card_found r) r.session c.args.command.now new) c.self.view_is
-    (subst (λ (s : Session). IsStage (card_in inside.store) s c.args.command.now new) session c.carry_out.ensures.carries.stage)
-
-pub returns-in-Err-PowerLost-clause-stage : goal.returns-in-Err-PowerLost-clause-stage
-returns-in-Err-PowerLost-clause-stage g c =
-    let new = card_in c.carry_out.new.store in
-    let inside = c.self.inside in
-    let session = sym (ap (λ (state : CardState). session_while state (table_in inside.store) inside.current)
-    c.in-Working.is) in
-    subst (λ (r : Running). IsStage (card_found r) r.session c.args.command.now new) c.self.view_is
-    (subst (λ (s : Session). IsStage (card_in inside.store) s c.args.command.now new) session c.carry_out.ensures.carries.stage)
-
-pub returns-in-Err-Fault-clause-done : goal.returns-in-Err-Fault-clause-done
-returns-in-Err-Fault-clause-done g c =
-    let works = (c.self.invariant.1 c.in-Working.is).ready.usable.works in
-    let told = c.in-Err-Fault.ensures.carries.tells ∙ ap (λ (e : StoreErr). Some e) c.in-Err-Fault.field-0-is in
-    let fails = c.carry_out.ensures.carries.reports.fails Fault works told in search (rules, fails)
-
--- where power is lost, the board goes dark
-dark : (g : Over) (c : goal.After-clear-in-Err-PowerLost g) → FailsBy PowerLost c.self.inside.store.facts
-    c.carry_out.new.store.facts
-dark g c =
-    let works = (c.self.invariant.1 c.in-Working.is).ready.usable.works in
-    let told = c.in-Err-PowerLost.ensures.carries.tells ∙ ap (λ (e : StoreErr). Some e) c.in-Err-PowerLost.field-0-is in
-    c.carry_out.ensures.carries.reports.fails PowerLost works told
-
-pub returns-in-Err-PowerLost-clause-lost : goal.returns-in-Err-PowerLost-clause-lost
-returns-in-Err-PowerLost-clause-lost g c = let fails = dark g c in search (rules, fails)
-
-pub returns-in-Err-PowerLost-clause-unlit : goal.returns-in-Err-PowerLost-clause-unlit
-returns-in-Err-PowerLost-clause-unlit g c = (dark g c).dark
-
-pub invariant_of-self-in-Err-PowerLost : goal.invariant_of-self-in-Err-PowerLost
-invariant_of-self-in-Err-PowerLost g c = (
-  record { journal = c.carry_out.ensures.carries.reports.sound c.self.invariant.0.journal; words = c.carry_out.ensures.carries.card },
-  λ e. let never : Dark ≡ Working = e in cc,
-  λ e. (dark g c).dark,
-)
-
-pub returns-in-Err-Fault-clause-idle : goal.returns-in-Err-Fault-clause-idle
-returns-in-Err-Fault-clause-idle g c =
-    let new = c.carry_out.new.store.facts in
+pub returns-clause-idle : goal.returns-clause-idle
+returns-clause-idle g c =
+    let new = c.carry_out-carried.new.store.facts in
     let inside = c.self.inside in
     let session = sym (ap (λ (state : CardState). session_while state (table_in inside.store) inside.current)
     c.in-Working.is) in
     subst (λ (r : Running). ChangesNothing (card_found r) r.session c.args.command.now → KeepsBoard r.facts new)
     c.self.view_is
     (subst (λ (s : Session). ChangesNothing (card_in inside.store) s c.args.command.now → KeepsBoard inside.store.facts new)
-    session (λ nothing. (c.carry_out.ensures.carries.idle nothing).board))
+    session (λ nothing. (c.carry_out-carried.ensures.carries.idle nothing).board))
 
-pub returns-in-Err-PowerLost-clause-idle : goal.returns-in-Err-PowerLost-clause-idle
-returns-in-Err-PowerLost-clause-idle g c =
-    let new = c.carry_out.new.store.facts in
+pub returns-clause-done : goal.returns-clause-done
+returns-clause-done g c =
     let inside = c.self.inside in
-    let session = sym (ap (λ (state : CardState). session_while state (table_in inside.store) inside.current)
-    c.in-Working.is) in
-    subst (λ (r : Running). ChangesNothing (card_found r) r.session c.args.command.now → KeepsBoard r.facts new)
-    c.self.view_is
-    (subst (λ (s : Session). ChangesNothing (card_in inside.store) s c.args.command.now → KeepsBoard inside.store.facts new)
-    session (λ nothing. (c.carry_out.ensures.carries.idle nothing).board))
+    let new = c.carry_out-carried.new.store in
+    let y = c.carry_out-carried.new.current in
+    let bytes = c.args.command.now in
+    let said = c.end_command.new.answer.items in
+    let ready = (c.self.invariant.1 c.in-Working.is).ready in
+    let leaves = after inside.store new inside.current y bytes c.carry_out-carried.new.text.items said ready inside.state
+    c.end_command.new.state c.in-Working.is c.end_command.result in
+    subst (λ (r : Running). OnOk c.end_command.result (r.state ≡ Working → Steps r bytes leaves said
+    ⊎ FailsIn r leaves said)) c.self.view_is
+    (ended-done inside.store new inside.current y bytes c.carry_out-carried.new.text.items said ready inside.state
+    c.end_command.new.state c.in-Working.is c.end_command.result c.carry_out-carried.result
+    c.carry_out-carried.ensures.carries (ends g c))
+
+pub returns-clause-lost : goal.returns-clause-lost
+returns-clause-lost g c =
+    let inside = c.self.inside in
+    let new = c.carry_out-carried.new.store in
+    let y = c.carry_out-carried.new.current in
+    let bytes = c.args.command.now in
+    let said = c.end_command.new.answer.items in
+    let ready = (c.self.invariant.1 c.in-Working.is).ready in
+    let leaves = after inside.store new inside.current y bytes c.carry_out-carried.new.text.items said ready inside.state
+    c.end_command.new.state c.in-Working.is c.end_command.result in
+    subst (λ (r : Running). OnErr c.end_command.result (r.state ≡ Working → IsCutIn r leaves said)) c.self.view_is
+    (ended-lost inside.store new inside.current y bytes c.carry_out-carried.new.text.items said ready inside.state
+    c.end_command.new.state c.in-Working.is c.end_command.result c.carry_out-carried.result
+    c.carry_out-carried.ensures.carries (ends g c))
+
+pub returns-clause-unlit : goal.returns-clause-unlit
+returns-clause-unlit g c =
+    let inside = c.self.inside in
+    ended-unlit inside.store c.carry_out-carried.new.store inside.current c.carry_out-carried.new.current c.args.command.now
+    c.carry_out-carried.new.text.items c.end_command.new.answer.items (c.self.invariant.1 c.in-Working.is).ready
+    inside.state c.end_command.new.state c.in-Working.is c.end_command.result c.carry_out-carried.result
+    c.carry_out-carried.ensures.carries (ends g c)
+
+pub invariant_of-self : goal.invariant_of-self
+invariant_of-self g c =
+    let inside = c.self.inside in
+    let kept = ended-kept inside.store c.carry_out-carried.new.store inside.current c.carry_out-carried.new.current
+    c.args.command.now c.carry_out-carried.new.text.items c.end_command.new.answer.items
+    (c.self.invariant.1 c.in-Working.is).ready inside.state c.end_command.new.state c.in-Working.is c.end_command.result
+    c.carry_out-carried.result c.carry_out-carried.ensures.carries (ends g c) c.carry_out-carried.new.free
+    c.carry_out-carried.ensures.space in
+    (there g c, kept.0, kept.1)
+
+pub returns-clause-failed : goal.returns-clause-failed
+returns-clause-failed g c = λ is.
+    let never : Working ≡ Failed = sym c.in-Working.is ∙ (ap (λ (r : Running). r.state) c.self.view_is ∙ is) in cc
+
+pub returns-clause-dark : goal.returns-clause-dark
+returns-clause-dark g c = λ is.
+    let never : Working ≡ Dark = sym c.in-Working.is ∙ (ap (λ (r : Running). r.state) c.self.view_is ∙ is) in cc
+
+pub returns-clause-writes : goal.returns-clause-writes
+returns-clause-writes g c =
+    let writes = c.carry_out-carried.ensures.carries.writes in
+    let few = few_writes c.args.command.now in
+    subst (λ (r : Running). c.carry_out-carried.new.store.facts.writes ≤ r.facts.writes + COMMAND_WRITES) c.self.view_is
+    (omega (arith, writes, few))
+
+pub returns-clause-counted : goal.returns-clause-counted
+returns-clause-counted g c =
+    subst (λ (r : Running). c.carry_out-carried.new.store.facts.writes ≤ r.facts.writes + writes_of c.args.command.now)
+    c.self.view_is c.carry_out-carried.ensures.carries.writes
+
+pub returns-clause-compares : goal.returns-clause-compares
+returns-clause-compares g c =
+    let new = c.carry_out-carried.new.store in
+    subst (λ (r : Running). ComparesAsked (asked c.args.command.now) (card_found r) (comparisons r.facts) (card_in new)
+    (comparisons new.facts)) c.self.view_is c.carry_out-carried.ensures.carries.compares

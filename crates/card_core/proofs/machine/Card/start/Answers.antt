@@ -1,5 +1,7 @@
-use Rattle.std.proofs.Common.{Option, None, refl, sym, subst, ◌∙◌, ap}
+use Rattle.std.proofs.Common.{Option, None, Result, IfOk, refl, sym, subst, ◌∙◌, ap}
+use Rattle.std.specs.Result.{result_err}
 use Rattle.card_core.proofs.Verified.{marked-none}
+use Rattle.undo_journal.specs.declared.error.StoreErr.{StoreErr}
 use Rattle.undo_journal.specs.Memory.{committed}
 use Rattle.file_tree.specs.declared.space.FreeSpace.{FreeSpace}
 use Rattle.card_core.specs.Standing.{IsCard}
@@ -7,25 +9,27 @@ use Rattle.card_core.specs.Working.{session_of, table_in, TellsCard}
 use Rattle.card_core.proofs.Entries.{master-path}
 use Rattle.nvm_board.specs.Facts.{Facts}
 use Rattle.card_core.specs.Running.{StopsBy}
-use Rattle.card_core.proofs.Powers.{stops-by}
+use Rattle.card_core.proofs.Powers.{found-there, stops-found}
 use Rattle.card_core.proofs.machine.Card.start.Goals as goal
 
-pub returns-in-Err-find_card-clause-stopped : goal.returns-in-Err-find_card-clause-stopped
-returns-in-Err-find_card-clause-stopped g c =
+pub returns-in-Err-space_of-clause-stopped : goal.returns-in-Err-space_of-clause-stopped
+returns-in-Err-space_of-clause-stopped g c =
     let first = g.B.Board.facts c.args.board in
-    let stop = c.from-in-Err-find_card.result in
-    let fails = c.find_card.ensures.reads.reports.fails c.in-Err-find_card.e c.in-Ok.ensures.ready.usable.works
-    c.in-Err-find_card.ensures.tells in
-    subst (λ (now : Facts). StopsBy stop first now) (sym c.into_board-in-Err-find_card.ensures)
-    (stops-by c.in-Err-find_card.e stop first c.in-Ok.store.facts c.find_card.new.store.facts
-    c.from-in-Err-find_card.ensures c.in-Ok.ensures.light fails)
+    subst (λ (now : Facts). StopsBy c.in-Err-space_of.fault first now) (sym c.into_board.ensures)
+    (stops-found first c.in-Ok.store c.find_card.new.store c.in-Ok.ensures.light c.in-Ok.ensures.sound
+    c.in-Ok.ensures.found c.in-Ok.ensures.ready.usable.works c.find_card.ensures.reads.reports c.find_card.result
+    c.space_of.result c.in-Err-space_of.fault c.space_of.ensures c.in-Err-space_of.is c.find_card.ensures.card
+    c.find_card.ensures.tells)
 
-pub returns-in-Ok-Some-clause-started : goal.returns-in-Ok-Some-clause-started
-returns-in-Ok-Some-clause-started g c =
-    let same = (c.find_card.ensures.reads.reports.works c.in-Ok-Some.ensures.tells).1 in
+pub returns-in-Ok-space_of-clause-started : goal.returns-in-Ok-space_of-clause-started
+returns-in-Ok-space_of-clause-started g c =
+    let there = found-there c.find_card.result c.space_of.result c.in-Ok-space_of.free c.space_of.ensures
+    c.in-Ok-space_of.is in
+    let works = c.find_card.ensures.tells ∙ ap (λ (r : Result (Option FreeSpace) StoreErr). result_err r) there in
+    let same = (c.find_card.ensures.reads.reports.works works).1 in
     let steady = c.in-Ok.ensures.light in
-    let told = subst (λ (free : Option FreeSpace). TellsCard (committed c.in-Ok.store) free) c.in-Ok-Some.field-0-is
-    c.in-Ok-Some.ensures.card in
+    let told = subst (λ (r : Result (Option FreeSpace) StoreErr). IfOk r (TellsCard (committed c.in-Ok.store))) there
+    c.find_card.ensures.card in
     let path = master-path (committed c.find_card.new.store) in
     record {
       has_card = record { journal = c.in-Ok.ensures.sound; words = subst IsCard c.in-Ok.ensures.found told.0 };

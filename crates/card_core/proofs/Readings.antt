@@ -1,0 +1,35 @@
+-- What reads in a row leave of a card: what was known of its words is known after them.
+use Rattle.std.proofs.Common.{◌≡◌, ℕ, List, sym, subst, arith}
+use Rattle.undo_journal.specs.Calls.{OnlyReads}
+use Rattle.undo_journal.specs.Memory.{Memory, committed}
+use Rattle.undo_journal.specs.laws.Calls.{reads_then}
+use Rattle.file_tree.specs.declared.entry.Entry.{Entry}
+use Rattle.file_tree.specs.Table.{table, entry_in, IsUsed}
+use Rattle.file_tree.specs.Trees.{TreeStands}
+use Rattle.card_core.specs.declared.current.Current.{Current}
+use Rattle.card_core.specs.Standing.{IsCard}
+use Rattle.card_core.specs.Working.{IsCurrent}
+
+-- they are still the words of a card, whose files make a tree
+pub card_still : (a b : Memory) → OnlyReads a b → IsCard (committed a) → IsCard (committed b)
+card_still a b reads words = subst IsCard (sym reads.keeps.committed_words) words
+
+pub tree_still : (a b : Memory) → OnlyReads a b → IsCard (committed a) → TreeStands (committed b)
+tree_still a b reads words = subst TreeStands (sym reads.keeps.committed_words) words.tree
+
+-- an entry that is used is still used, and current files are still current
+pub used_still : (a b : Memory) (e : ℕ) → OnlyReads a b → IsUsed (table (committed a)) e → IsUsed (table (committed b)) e
+used_still a b e reads used = subst (λ (l : List ℕ). IsUsed (table l) e) (sym reads.keeps.committed_words) used
+
+pub current_still : (a b : Memory) (x : Current) → OnlyReads a b → IsCurrent (table (committed a)) x
+    → IsCurrent (table (committed b)) x
+current_still a b x reads current =
+    subst (λ (l : List ℕ). IsCurrent (table l) x) (sym reads.keeps.committed_words) current
+
+-- the entry of the current dedicated file is used
+pub df_used : (t : List Entry) (x : Current) → IsCurrent t x → IsUsed t x.df
+df_used t x current = λ (unused : (entry_in t x.df).kind ≡ 0). let z : ⊥ = omega (arith, unused, current.df) in z
+
+-- three calls in a row that only read
+pub three_reads : (a b c d : Memory) → OnlyReads a b → OnlyReads b c → OnlyReads c d → OnlyReads a d
+three_reads a b c d first second third = reads_then a b d first (reads_then b c d second third)

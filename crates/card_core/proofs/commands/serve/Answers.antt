@@ -1,0 +1,248 @@
+-- Each command is served as the function that carries it out says of the request that the command is.
+use Rattle.std.proofs.Common.{◌≡◌, ℕ, List, [], Result, sym, subst}
+use Rattle.card_rules.specs.declared.status.Sw.{Sw}
+use Rattle.undo_journal.specs.declared.error.StoreErr.{StoreErr}
+use Rattle.undo_journal.specs.Memory.{Memory}
+use Rattle.apdu_core.specs.declared.commands.Command.{Command}
+use Rattle.apdu_core.specs.Ranges.{IsInRange}
+use Rattle.apdu_core.specs.Requests.{request_of}
+use Rattle.card_core.specs.declared.current.Current.{Current}
+use Rattle.card_core.specs.Served.{Serves}
+use Rattle.card_core.specs.Working.{space_in}
+use Rattle.card_core.proofs.Serves.{space_kept}
+use Rattle.card_core.proofs.commands.serve.Goals as goal
+
+module _ (old : Memory) (x : Current) (new : Memory) (y : Current) (result : Result Sw StoreErr) (command this :
+    Command)
+    (is : command ≡ this) where
+  -- with an answer
+  told : (text : List ℕ) → Serves (request_of this) old x new y text result
+      → Serves (request_of command) old x new y text result
+  told text serves = subst (λ (it : Command). Serves (request_of it) old x new y text result) (sym is) serves
+
+  -- with a status word alone
+  silent : (text : List ℕ) → text ≡ [] → Serves (request_of this) old x new y [] result
+      → Serves (request_of command) old x new y text result
+  silent text empty serves =
+      told text (subst (λ (it : List ℕ). Serves (request_of this) old x new y it result) (sym empty) serves)
+
+pub select_file-requires-clause-selector : goal.select_file-requires-clause-selector
+select_file-requires-clause-selector g c = subst IsInRange c.in-Select.is c.requires.in_range
+
+pub returns-in-Select-clause-serves : goal.returns-in-Select-clause-serves
+returns-in-Select-clause-serves g c =
+    told c.args.store.now c.args.current.now c.select_file.new.store c.select_file.new.current c.select_file.result
+    c.args.command _
+    c.in-Select.is c.select_file.new.text.items c.select_file.ensures.serves
+
+pub returns-in-Select-clause-space : goal.returns-in-Select-clause-space
+returns-in-Select-clause-space g c =
+    space_kept c.args.free.now (space_in c.args.store.now) (space_in c.select_file.new.store) c.select_file.result
+    c.requires.space
+    c.select_file.ensures.space
+
+pub read_file-requires-clause-target : goal.read_file-requires-clause-target
+read_file-requires-clause-target g c = (subst IsInRange c.in-ReadBinary.is c.requires.in_range).0
+
+pub returns-in-ReadBinary-clause-serves : goal.returns-in-ReadBinary-clause-serves
+returns-in-ReadBinary-clause-serves g c =
+    told c.args.store.now c.args.current.now c.read_file.new.store c.read_file.new.current c.read_file.result
+    c.args.command _
+    c.in-ReadBinary.is c.read_file.new.text.items c.read_file.ensures.serves
+
+pub returns-in-ReadBinary-clause-space : goal.returns-in-ReadBinary-clause-space
+returns-in-ReadBinary-clause-space g c =
+    space_kept c.args.free.now (space_in c.args.store.now) (space_in c.read_file.new.store) c.read_file.result
+    c.requires.space
+    c.read_file.ensures.space
+
+pub update_file-requires-clause-target : goal.update_file-requires-clause-target
+update_file-requires-clause-target g c = (subst IsInRange c.in-UpdateBinary.is c.requires.in_range).0
+
+pub update_file-requires-clause-some : goal.update_file-requires-clause-some
+update_file-requires-clause-some g c = (subst IsInRange c.in-UpdateBinary.is c.requires.in_range).2
+
+pub update_file-requires-clause-few : goal.update_file-requires-clause-few
+update_file-requires-clause-few g c = (subst IsInRange c.in-UpdateBinary.is c.requires.in_range).3
+
+pub returns-in-UpdateBinary-clause-serves : goal.returns-in-UpdateBinary-clause-serves
+returns-in-UpdateBinary-clause-serves g c =
+    silent c.args.store.now c.args.current.now c.update_file.new.store c.update_file.new.current c.update_file.result
+    c.args.command _
+    c.in-UpdateBinary.is c.args.text.now.items c.requires.empty c.update_file.ensures.serves
+
+pub returns-in-UpdateBinary-clause-space : goal.returns-in-UpdateBinary-clause-space
+returns-in-UpdateBinary-clause-space g c =
+    space_kept c.args.free.now (space_in c.args.store.now) (space_in c.update_file.new.store) c.update_file.result
+    c.requires.space
+    c.update_file.ensures.space
+
+pub returns-in-CreateFile-clause-serves : goal.returns-in-CreateFile-clause-serves
+returns-in-CreateFile-clause-serves g c =
+    silent c.args.store.now c.args.current.now c.create_file.new.store c.create_file.new.current c.create_file.result
+    c.args.command _
+    c.in-CreateFile.is c.args.text.now.items c.requires.empty c.create_file.ensures.serves
+
+pub returns-in-DeleteFile-clause-serves : goal.returns-in-DeleteFile-clause-serves
+returns-in-DeleteFile-clause-serves g c =
+    silent c.args.store.now c.args.current.now c.delete_file.new.store c.delete_file.new.current c.delete_file.result
+    c.args.command _
+    c.in-DeleteFile.is c.args.text.now.items c.requires.empty c.delete_file.ensures.serves
+
+pub read_record-requires-clause-target : goal.read_record-requires-clause-target
+read_record-requires-clause-target g c = (subst IsInRange c.in-ReadRecord.is c.requires.in_range).0
+
+pub returns-in-ReadRecord-clause-serves : goal.returns-in-ReadRecord-clause-serves
+returns-in-ReadRecord-clause-serves g c =
+    told c.args.store.now c.args.current.now c.read_record.new.store c.read_record.new.current c.read_record.result
+    c.args.command _
+    c.in-ReadRecord.is c.read_record.new.text.items c.read_record.ensures.serves
+
+pub returns-in-ReadRecord-clause-space : goal.returns-in-ReadRecord-clause-space
+returns-in-ReadRecord-clause-space g c =
+    space_kept c.args.free.now (space_in c.args.store.now) (space_in c.read_record.new.store) c.read_record.result
+    c.requires.space
+    c.read_record.ensures.space
+
+pub update_record-requires-clause-target : goal.update_record-requires-clause-target
+update_record-requires-clause-target g c = (subst IsInRange c.in-UpdateRecord.is c.requires.in_range).0
+
+pub update_record-requires-clause-some : goal.update_record-requires-clause-some
+update_record-requires-clause-some g c = (subst IsInRange c.in-UpdateRecord.is c.requires.in_range).2
+
+pub update_record-requires-clause-few : goal.update_record-requires-clause-few
+update_record-requires-clause-few g c = (subst IsInRange c.in-UpdateRecord.is c.requires.in_range).3
+
+pub returns-in-UpdateRecord-clause-serves : goal.returns-in-UpdateRecord-clause-serves
+returns-in-UpdateRecord-clause-serves g c =
+    silent c.args.store.now c.args.current.now c.update_record.new.store c.update_record.new.current
+    c.update_record.result c.args.command _
+    c.in-UpdateRecord.is c.args.text.now.items c.requires.empty c.update_record.ensures.serves
+
+pub returns-in-UpdateRecord-clause-space : goal.returns-in-UpdateRecord-clause-space
+returns-in-UpdateRecord-clause-space g c =
+    space_kept c.args.free.now (space_in c.args.store.now) (space_in c.update_record.new.store)
+    c.update_record.result c.requires.space
+    c.update_record.ensures.space
+
+pub append_record-requires-clause-target : goal.append_record-requires-clause-target
+append_record-requires-clause-target g c = (subst IsInRange c.in-AppendRecord.is c.requires.in_range).0
+
+pub append_record-requires-clause-some : goal.append_record-requires-clause-some
+append_record-requires-clause-some g c = (subst IsInRange c.in-AppendRecord.is c.requires.in_range).1
+
+pub append_record-requires-clause-few : goal.append_record-requires-clause-few
+append_record-requires-clause-few g c = (subst IsInRange c.in-AppendRecord.is c.requires.in_range).2
+
+pub returns-in-AppendRecord-clause-serves : goal.returns-in-AppendRecord-clause-serves
+returns-in-AppendRecord-clause-serves g c =
+    silent c.args.store.now c.args.current.now c.append_record.new.store c.append_record.new.current
+    c.append_record.result c.args.command _
+    c.in-AppendRecord.is c.args.text.now.items c.requires.empty c.append_record.ensures.serves
+
+pub returns-in-AppendRecord-clause-space : goal.returns-in-AppendRecord-clause-space
+returns-in-AppendRecord-clause-space g c =
+    space_kept c.args.free.now (space_in c.args.store.now) (space_in c.append_record.new.store)
+    c.append_record.result c.requires.space
+    c.append_record.ensures.space
+
+pub search_record-requires-clause-target : goal.search_record-requires-clause-target
+search_record-requires-clause-target g c = (subst IsInRange c.in-SearchRecord.is c.requires.in_range).0
+
+pub search_record-requires-clause-few : goal.search_record-requires-clause-few
+search_record-requires-clause-few g c = (subst IsInRange c.in-SearchRecord.is c.requires.in_range).3
+
+pub returns-in-SearchRecord-clause-serves : goal.returns-in-SearchRecord-clause-serves
+returns-in-SearchRecord-clause-serves g c =
+    told c.args.store.now c.args.current.now c.search_record.new.store c.search_record.new.current
+    c.search_record.result c.args.command _
+    c.in-SearchRecord.is c.search_record.new.answer.items c.search_record.ensures.serves
+
+pub returns-in-SearchRecord-clause-space : goal.returns-in-SearchRecord-clause-space
+returns-in-SearchRecord-clause-space g c =
+    space_kept c.args.free.now (space_in c.args.store.now) (space_in c.search_record.new.store)
+    c.search_record.result c.requires.space
+    c.search_record.ensures.space
+
+pub increase-requires-clause-few : goal.increase-requires-clause-few
+increase-requires-clause-few g c = (subst IsInRange c.in-Increase.is c.requires.in_range).1
+
+pub returns-in-Increase-clause-serves : goal.returns-in-Increase-clause-serves
+returns-in-Increase-clause-serves g c =
+    told c.args.store.now c.args.current.now c.increase.new.store c.increase.new.current c.increase.result
+    c.args.command _
+    c.in-Increase.is c.increase.new.text.items c.increase.ensures.serves
+
+pub returns-in-Increase-clause-space : goal.returns-in-Increase-clause-space
+returns-in-Increase-clause-space g c =
+    space_kept c.args.free.now (space_in c.args.store.now) (space_in c.increase.new.store) c.increase.result
+    c.requires.space
+    c.increase.ensures.space
+
+pub returns-in-ChangeLifeCycle-clause-serves : goal.returns-in-ChangeLifeCycle-clause-serves
+returns-in-ChangeLifeCycle-clause-serves g c =
+    silent c.args.store.now c.args.current.now c.change_life_cycle.new.store c.change_life_cycle.new.current
+    c.change_life_cycle.result c.args.command _
+    c.in-ChangeLifeCycle.is c.args.text.now.items c.requires.empty c.change_life_cycle.ensures.serves
+
+pub returns-in-ChangeLifeCycle-clause-space : goal.returns-in-ChangeLifeCycle-clause-space
+returns-in-ChangeLifeCycle-clause-space g c =
+    space_kept c.args.free.now (space_in c.args.store.now) (space_in c.change_life_cycle.new.store)
+    c.change_life_cycle.result c.requires.space
+    c.change_life_cycle.ensures.space
+
+pub returns-in-TerminateCardUsage-clause-serves : goal.returns-in-TerminateCardUsage-clause-serves
+returns-in-TerminateCardUsage-clause-serves g c =
+    silent c.args.store.now c.args.current.now c.terminate_card_usage.new.store c.args.current.now
+    c.terminate_card_usage.result c.args.command _
+    c.in-TerminateCardUsage.is c.args.text.now.items c.requires.empty c.terminate_card_usage.ensures.serves
+
+pub returns-in-TerminateCardUsage-clause-space : goal.returns-in-TerminateCardUsage-clause-space
+returns-in-TerminateCardUsage-clause-space g c =
+    space_kept c.args.free.now (space_in c.args.store.now) (space_in c.terminate_card_usage.new.store)
+    c.terminate_card_usage.result c.requires.space
+    c.terminate_card_usage.ensures.space
+
+pub verify-requires-clause-pin : goal.verify-requires-clause-pin
+verify-requires-clause-pin g c = subst IsInRange c.in-Verify.is c.requires.in_range
+
+pub returns-in-Verify-clause-serves : goal.returns-in-Verify-clause-serves
+returns-in-Verify-clause-serves g c =
+    silent c.args.store.now c.args.current.now c.verify.new.store c.verify.new.current c.verify.result c.args.command _
+    c.in-Verify.is c.args.text.now.items c.requires.empty c.verify.ensures.serves
+
+pub returns-in-Verify-clause-space : goal.returns-in-Verify-clause-space
+returns-in-Verify-clause-space g c =
+    space_kept c.args.free.now (space_in c.args.store.now) (space_in c.verify.new.store) c.verify.result
+    c.requires.space
+    c.verify.ensures.space
+
+pub change_reference_data-requires-clause-pin : goal.change_reference_data-requires-clause-pin
+change_reference_data-requires-clause-pin g c = subst IsInRange c.in-ChangeReferenceData.is c.requires.in_range
+
+pub returns-in-ChangeReferenceData-clause-serves : goal.returns-in-ChangeReferenceData-clause-serves
+returns-in-ChangeReferenceData-clause-serves g c =
+    silent c.args.store.now c.args.current.now c.change_reference_data.new.store c.change_reference_data.new.current
+    c.change_reference_data.result c.args.command _
+    c.in-ChangeReferenceData.is c.args.text.now.items c.requires.empty c.change_reference_data.ensures.serves
+
+pub returns-in-ChangeReferenceData-clause-space : goal.returns-in-ChangeReferenceData-clause-space
+returns-in-ChangeReferenceData-clause-space g c =
+    space_kept c.args.free.now (space_in c.args.store.now) (space_in c.change_reference_data.new.store)
+    c.change_reference_data.result c.requires.space
+    c.change_reference_data.ensures.space
+
+pub reset_retry_counter-requires-clause-pin : goal.reset_retry_counter-requires-clause-pin
+reset_retry_counter-requires-clause-pin g c = subst IsInRange c.in-ResetRetryCounter.is c.requires.in_range
+
+pub returns-in-ResetRetryCounter-clause-serves : goal.returns-in-ResetRetryCounter-clause-serves
+returns-in-ResetRetryCounter-clause-serves g c =
+    silent c.args.store.now c.args.current.now c.reset_retry_counter.new.store c.reset_retry_counter.new.current
+    c.reset_retry_counter.result c.args.command _
+    c.in-ResetRetryCounter.is c.args.text.now.items c.requires.empty c.reset_retry_counter.ensures.serves
+
+pub returns-in-ResetRetryCounter-clause-space : goal.returns-in-ResetRetryCounter-clause-space
+returns-in-ResetRetryCounter-clause-space g c =
+    space_kept c.args.free.now (space_in c.args.store.now) (space_in c.reset_retry_counter.new.store)
+    c.reset_retry_counter.result c.requires.space
+    c.reset_retry_counter.ensures.space
