@@ -3,7 +3,8 @@ use Rattle.std.specs.Prelude.{◌≡◌, ◌<◌, ◌-◌, ℕ, zero, suc, List,
 use Rattle.std.proofs.Common.{arith, inl, inr, subst, sym}
 use Rattle.t1_link.specs.ReaderTable.{Reader}
 use Rattle.card_bench.specs.BenchStates.{BenchState, off, on, IsOn}
-use Rattle.card_bench.specs.Exchanges.{Arrives, Commands, Desk, Ended, Ends, Exchanged, Exchanges, Passes, Way, cut_off, given_up, left_by, printed_by, toward_card}
+use Rattle.card_bench.specs.Exchanges.{Arrives, Commands, Desk, Ended, Ends, Exchanged, Exchanges, Passes, Way, cut_off, given_up}
+use Rattle.card_bench.specs.Exchanges.{left_by, printed_by, toward_card}
 use Rattle.card_bench.specs.declared.line.Line.{Line}
 use Rattle.card_bench.specs.declared.playing.Item.TheVariants as item
 use Rattle.card_bench.specs.Lines.{arriving, line_after}

@@ -1,5 +1,6 @@
 -- Hexadecimal digits of too few or too many bytes.
-use Rattle.std.proofs.Common.{◌≡◌, ◌<◌, ◌*◌, ◌/◌, ◌&&◌, ◌⊎◌, ℕ, Bool, true, false, cond, nat_le, List, length, Option, Some, None, Result, Ok, Err, refl, ◌∙◌, ap}
+use Rattle.std.proofs.Common.{◌≡◌, ◌<◌, ◌*◌, ◌/◌, ◌&&◌, ◌⊎◌, ℕ, Bool, true, false, cond, nat_le, List, length, Option, Some, None}
+use Rattle.std.proofs.Common.{Result, Ok, Err, refl, ◌∙◌, ap}
 use Rattle.std.proofs.Common.{arith, inl, inr, ⊎_elim}
 use Rattle.std.proofs.lemmas.Bool.{lt-leb}
 use Rattle.hex.specs.Hex.{decode_of}
@@ -13,7 +14,8 @@ nothing = None
 
 -- bytes outside the limit
 outside : (limit : ℕ) (bytes : List ℕ) → (length bytes < 1) ⊎ (limit < length bytes) → within_limit limit (Ok bytes) ≡ None
-outside limit bytes (inl none) = ap (λ (b : Bool). cond (b && nat_le (length bytes) limit) (Some (record { items = bytes })) None) (lt-leb 1 (length bytes) none)
+outside limit bytes (inl none) =
+    ap (λ (b : Bool). cond (b && nat_le (length bytes) limit) (Some (record { items = bytes })) None) (lt-leb 1 (length bytes) none)
 outside limit bytes (inr many) =
     let over : nat_le (length bytes) limit ≡ false = lt-leb (length bytes) limit many in
     ap (λ (b : Bool). cond (nat_le 1 (length bytes) && b) (Some (record { items = bytes })) None) over ∙ never (nat_le 1 (length bytes))

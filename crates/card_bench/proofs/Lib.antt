@@ -1,3 +1,4 @@
+pub mod BlockRuns
 pub mod CardStates
 mod CommandsGiven
 pub mod ExchangeInWorld
@@ -8,7 +9,9 @@ pub mod FreeTold
 pub mod HexLimits
 pub mod LineFaults
 pub mod Numbers
+pub mod PartsTaken
 pub mod PlayedTurns
+pub mod PowerTurns
 pub mod ScriptLines
 pub mod ScriptInWorld
 pub mod SoundBlocks

@@ -35,7 +35,8 @@ pending_after-later first second (Some wait) = by (nat_lt wait first) refl
       where
         shifted : (past : Bool) → nat_lt wait (first + second) ≡ past → first ≤ wait
             → pending_after second (Some (wait - first)) ≡ pending_after (first + second) (Some wait)
-        shifted true later waits = let after = ltb-true wait (first + second) later in simp (later, lt-ltb (wait - first) second (omega (arith, after, waits))) refl
+        shifted true later waits = let after = ltb-true wait (first + second) later in
+            simp (later, lt-ltb (wait - first) second (omega (arith, after, waits))) refl
         shifted false later waits =
             let after = ltb-false wait (first + second) later in
             simp (later, le-ltb (wait - first) second (omega (arith, after, waits))) (ap (λ (n : ℕ). Some n) (omega (arith, after, waits)))

@@ -1,6 +1,8 @@
 -- The lines of a script, as they are read one by one.
-use Rattle.std.proofs.Common.{◌≡◌, ◌<◌, ◌≤◌, ◌+◌, ◌-◌, ◌==◌, ◌&&◌, IfSome, ℕ, zero, suc, Bool, true, false, true≢false, cond, nat_lt, List, [], ◌∷◌, ◌++◌, length, take}
-use Rattle.std.proofs.Common.{Option, Some, None, OnSome, is_some, slice_index, refl, sym, ◌∙◌, ap, ap₂, subst, inl, inr, arith, append_assoc, append-nil, length-append, length-take}
+use Rattle.std.proofs.Common.{◌≡◌, ◌<◌, ◌≤◌, ◌+◌, ◌-◌, ◌==◌, ◌&&◌, IfSome, ℕ, zero, suc, Bool, true, false, true≢false, cond}
+use Rattle.std.proofs.Common.{nat_lt, List, [], ◌∷◌, ◌++◌, length, take}
+use Rattle.std.proofs.Common.{Option, Some, None, OnSome, is_some, slice_index, refl, sym, ◌∙◌, ap, ap₂, subst, inl, inr, arith}
+use Rattle.std.proofs.Common.{append_assoc, append-nil, length-append, length-take}
 use Rattle.std.proofs.Common.{if◌then◌else◌}
 use Rattle.std.proofs.KnownBytes.{Appends-nil, Appends-trans}
 use Rattle.std.proofs.Math.Seq.{take-append-add, take-length}
@@ -373,9 +375,11 @@ pub is_done : (script old new : Option (List ℕ)) (n taken taken' : ℕ) (line 
     → Appends before holds (text_of prints) → IfSome script (λ bytes. IsRunToEnd bytes held holds)
 is_done None old new n taken taken' line desk desk' held before holds order prints run takes counted within good performs wrote = tt
 is_done (Some script) None new n taken taken' line desk desk' held before holds order prints run takes counted within good performs wrote = absurd run
-is_done (Some script) (Some rest) None n taken taken' line desk desk' held before holds order prints run takes counted within good performs wrote = absurd counted
+is_done (Some script) (Some rest) None n taken taken' line desk desk' held before holds order prints run takes counted within good performs wrote =
+    absurd counted
 is_done (Some script) (Some rest) (Some rest') n taken taken' line desk desk' held before holds order prints run takes counted within good performs wrote =
-    let all = whole script rest rest' line n taken taken' desk desk' run.0 run.1 held before holds order prints takes.0 takes.1 takes.2 run.2 good performs wrote in
+    let all = whole script rest rest' line n taken taken' desk desk' run.0 run.1 held before holds
+    order prints takes.0 takes.1 takes.2 run.2 good performs wrote in
     record {
       good = record { orders = all.0; size = last_size script rest rest' line n taken taken' desk run.0 run.1 takes.0 takes.1 takes.2 counted within };
       written = all.1;
@@ -461,8 +465,10 @@ pub is_unwritten : (script old new : Option (List ℕ)) (n taken taken' : ℕ) (
 unfolding next
 is_unwritten None old new n taken taken' line end desk desk' held before holds order prints run takes counted good performs began = tt
 is_unwritten (Some script) None new n taken taken' line end desk desk' held before holds order prints run takes counted good performs began = absurd run
-is_unwritten (Some script) (Some rest) None n taken taken' line end desk desk' held before holds order prints run takes counted good performs began = absurd counted
-is_unwritten (Some script) (Some rest) (Some rest') n taken taken' line LineFeed desk desk' held before holds order prints run takes counted good performs began =
+is_unwritten (Some script) (Some rest) None n taken taken' line end desk desk' held before holds order prints run takes counted good performs began =
+    absurd counted
+is_unwritten (Some script) (Some rest) (Some rest')
+    n taken taken' line LineFeed desk desk' held before holds order prints run takes counted good performs began =
     let more = next script rest rest' line n taken taken' desk run.0 run.1 takes.0 takes.1 takes.2 takes.3 desk' order prints counted good performs in (
       run.1.done ++ line ∷ [],
       lines rest',
@@ -474,7 +480,8 @@ is_unwritten (Some script) (Some rest) (Some rest') n taken taken' line LineFeed
         begun held before holds run.0 (text_of prints) began.0 run.2 began.1,
       ),
     )
-is_unwritten (Some script) (Some rest) (Some rest') n taken taken' [] EndOfScript desk desk' held before holds order prints run takes counted good performs began =
+is_unwritten (Some script) (Some rest) (Some rest')
+    n taken taken' [] EndOfScript desk desk' held before holds order prints run takes counted good performs began =
     let silence : text_of prints ≡ [] = silent order prints desk desk' good performs in
     let nothing : Appends before holds [] = subst (Appends before holds) (ap (take began.0) silence ∙ take-none began.0) began.1 in
     let all : lines script ≡ run.1.done = last_lines script rest rest' [] n taken taken' desk run.0 run.1 takes.0 takes.1 takes.2 ∙ append-nil run.1.done in (
@@ -488,7 +495,8 @@ is_unwritten (Some script) (Some rest) (Some rest') n taken taken' [] EndOfScrip
         subst (Appends held holds) (append-nil run.0 ∙ sym (take-length run.0)) (Appends-trans held before holds run.0 [] run.2 nothing),
       ),
     )
-is_unwritten (Some script) (Some rest) (Some rest') n taken taken' (b ∷ l) EndOfScript desk desk' held before holds order prints run takes counted good performs began =
+is_unwritten (Some script) (Some rest) (Some rest')
+    n taken taken' (b ∷ l) EndOfScript desk desk' held before holds order prints run takes counted good performs began =
     let all : lines script ≡ run.1.done ++ (b ∷ l) ∷ [] =
     last_lines script rest rest' (b ∷ l) n taken taken' desk run.0 run.1 takes.0 takes.1 takes.2
     ∙ ap (λ (e : Bool). run.1.done ++ cond e [] ((b ∷ l) ∷ [])) (some_bytes b l) in (

@@ -5,12 +5,15 @@ use Rattle.t1_link.specs.declared.reader_end.Failure.TheVariants.{LinkLost}
 use Rattle.t1_link.specs.Blocks.{Block, frame, heard, resynch_request, resynch_response}
 use Rattle.t1_link.specs.CardTable.{fresh}
 use Rattle.t1_link.specs.ReaderTable.{is_busy, reader_step, Turned, fresh_reader, requesting_again, turns_resynch, unknown}
-use Rattle.t1_link.specs.ReaderRows.{reader_takes-resynch, reader_times_out-resynch, requesting_again-last, requesting_again-more, turns_resynch-answered, turns_resynch-else}
-use Rattle.card_bench.specs.Worlds.{world, Answers, Arrival, Event, Failed, Line, Machine, Unknown, World, arrival, arriving, at_reader, garble, in_vain, is_command}
+use Rattle.t1_link.specs.ReaderRows.{reader_takes-resynch, reader_times_out-resynch, requesting_again-last, requesting_again-more}
+use Rattle.t1_link.specs.ReaderRows.{turns_resynch-answered, turns_resynch-else}
+use Rattle.card_bench.specs.Worlds.{world, Answers, Arrival, Event, Failed, Line, Machine, Unknown, World, arrival, arriving}
+use Rattle.card_bench.specs.Worlds.{at_reader, garble, in_vain, is_command}
 use Rattle.card_bench.specs.Worlds.{lose, nothing, pass, powered, quiet, send, toward_card, toward_reader, turning, world_step}
 use Rattle.card_bench.specs.WorldLaw.{is_under_way, IsUnanswered, Kept, Lawful, ResynchLaw, Resynchs, WorldLaw, comes_of, requests, so_far}
 use Rattle.card_bench.proofs.WorldPhases.{After, At, Budget, Core, Good, Kind, Requesting, Stage, Straight, ToCard, ToReader, answer_offered, answer_taken}
-use Rattle.card_bench.proofs.WorldPhases.{asks_card, asks_reader, at_rest, command_offered, command_taken, core, exchange, given_up, kind_of, many, newest_answer}
+use Rattle.card_bench.proofs.WorldPhases.{asks_card, asks_reader, at_rest, command_offered, command_taken, core, exchange}
+use Rattle.card_bench.proofs.WorldPhases.{given_up, kind_of, many, newest_answer}
 use Rattle.card_bench.proofs.WorldPhases.{none_yet, offers_card, offers_reader, once, requesting_now}
 use Rattle.card_bench.proofs.WorldSteps.{at-open, command_size, good-powered, good-watch, some_left}
 use Rattle.card_bench.specs.WorldRepairs.{Counts, RepairLaw, Repaired, Watched, counts_after, newest, no_counts, watch, watched}
@@ -89,14 +92,16 @@ module _ {M : Type 0} (machine : Machine M) (start : M) (Invariant : M → Type 
       subst (λ (t : Turned). ((turning w t).reports ≡ Unknown ∷ w.reports) × ((turning w t).offered ≡ w.offered)) (sym row) (refl, refl)
 
   -- it was not, and what follows is the reader's end's next request or its giving up
-  unanswered-so : (w : World M) (came : Arrival) → Requesting machine start w → IsUnanswered came → arriving machine w came ≡ turning w (requesting_again w.reader)
+  unanswered-so : (w : World M) (came : Arrival) → Requesting machine start w → IsUnanswered came
+      → arriving machine w came ≡ turning w (requesting_again w.reader)
   unanswered-so w came r (inl e) = ap (arriving machine w) e ∙ ap (turning w) (reader_times_out-resynch w.reader r.some)
   unanswered-so w came r (inr h) = ap (arriving machine w) h.1
       ∙ ap (turning w) (reader_takes-resynch w.reader (heard h.0) r.some ∙ turns_resynch-else w.reader (heard h.0) h.2)
 
   resynchs-so : (w : World M) (came : Arrival) → Requesting machine start w → Resynchs w came (arriving machine w came)
   resynchs-so w came r = record {
-    answered = λ bytes e h. subst (λ (a : Arrival). ((arriving machine w a).reports ≡ Unknown ∷ w.reports) × ((arriving machine w a).offered ≡ w.offered)) (sym e)
+    answered = λ bytes e h. subst (λ (a : Arrival). ((arriving machine w a).reports ≡ Unknown ∷ w.reports)
+        × ((arriving machine w a).offered ≡ w.offered)) (sym e)
         (answered-so w bytes r h);
     again = λ u few. let left : w.reader.resynchs < 3 = omega (arith, few, r.count) in
         subst (λ (after : World M). (after.reports ≡ w.reports) × (after.line ≡ toward_card resynch_request) × (after.offered ≡ resynch_request ∷ w.offered))
@@ -182,7 +187,8 @@ module _ {M : Type 0} (machine : Machine M) (start : M) (Invariant : M → Type 
   same (event ∷ events) v = same events (record { world = world_step machine v.world event; counts = counts_after v event })
 
   good-watched : (events : List Event) → Good machine start (watched machine start events).counts (watched machine start events).world
-  good-watched events = good-watch machine start Invariant fits begins events (record { world = powered start; counts = no_counts }) (good-powered machine start Invariant fits begins)
+  good-watched events = good-watch machine start Invariant fits begins events
+      (record { world = powered start; counts = no_counts }) (good-powered machine start Invariant fits begins)
 
   same-watched : (events : List Event) → (watched machine start events).world ≡ comes_of machine start events
   same-watched events = same events (record { world = powered start; counts = no_counts })
@@ -192,16 +198,20 @@ module _ {M : Type 0} (machine : Machine M) (start : M) (Invariant : M → Type 
 
 -- the law, for a machine with states of any type
 pub world-lawful : {M : Type 0} (machine : Machine M) (Invariant : M → Type 0) → Answers machine Invariant → WorldLaw machine Invariant
-world-lawful machine Invariant fits start events begins = lawful machine start Invariant fits begins (watched machine start events).counts (comes_of machine start events)
+world-lawful machine Invariant fits start events begins =
+    lawful machine start Invariant fits begins (watched machine start events).counts (comes_of machine start events)
     (good-world machine start Invariant fits begins events)
 
 pub world-resynchs : {M : Type 0} (machine : Machine M) (Invariant : M → Type 0) → Answers machine Invariant → ResynchLaw machine Invariant
-world-resynchs machine Invariant fits start events event begins busy some = resynchs-good machine start Invariant fits begins (watched machine start events).counts (comes_of machine start events) event
+world-resynchs machine Invariant fits start events event begins busy some =
+    resynchs-good machine start Invariant fits begins (watched machine start events).counts (comes_of machine start events) event
     (good-world machine start Invariant fits begins events) busy some
 
 pub world-repairs : {M : Type 0} (machine : Machine M) (Invariant : M → Type 0) → Answers machine Invariant → RepairLaw machine Invariant
 world-repairs machine Invariant fits start events begins = record {
   same_world = same-watched machine start Invariant fits begins events;
-  repaired = repaired-so machine start Invariant fits begins (watched machine start events).counts (watched machine start events).world (good-watched machine start Invariant fits begins events);
-  in_time = in_time-so machine start Invariant fits begins (watched machine start events).counts (watched machine start events).world (good-watched machine start Invariant fits begins events);
+  repaired = repaired-so machine start Invariant fits begins (watched machine start events).counts
+      (watched machine start events).world (good-watched machine start Invariant fits begins events);
+  in_time = in_time-so machine start Invariant fits begins (watched machine start events).counts
+      (watched machine start events).world (good-watched machine start Invariant fits begins events);
 }

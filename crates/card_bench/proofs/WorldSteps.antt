@@ -12,20 +12,25 @@ use Rattle.t1_link.specs.declared.reader_end.Failure.TheVariants.{LinkLost}
 use Rattle.t1_link.specs.Blocks.{Block, IsSpellable, frame, heard, information, receive_ready, resynch_request, resynch_response, same, told_as}
 use Rattle.t1_link.specs.BlockLaws.{heard-frame, not-not, same-not, same-refl}
 use Rattle.t1_link.specs.CardTable.{Link, Taken, card_takes, fresh, joined, refusing, sending, sent_block, sent_more}
-use Rattle.t1_link.specs.CardRows.{card_takes-again, card_takes-fault, card_takes-joins, card_takes-next, card_takes-nothing, card_takes-resynch, card_takes-runs}
+use Rattle.t1_link.specs.CardRows.{card_takes-again, card_takes-fault, card_takes-joins, card_takes-next, card_takes-nothing}
+use Rattle.t1_link.specs.CardRows.{card_takes-resynch, card_takes-runs}
 use Rattle.t1_link.specs.ReaderTable.{is_busy, Reader, reader_step, Turned, advancing, asking, failing, last_block, requesting, requesting_again, sends, trying}
 use Rattle.t1_link.specs.ReaderTable.{turns_block, turns_resynch, fresh_reader, unknown}
 use Rattle.t1_link.specs.ReaderRows.{reader_sends-dead, reader_sends-idle, reader_takes-awaits, reader_takes-resynch, reader_times_out-asks}
 use Rattle.t1_link.specs.ReaderRows.{reader_times_out-resynch, turns_answer-done, turns_answer-more, turns_block-again, turns_block-fault, turns_block-joins}
 use Rattle.t1_link.specs.ReaderRows.{turns_block-next, turns_block-nothing, turns_resynch-answered, turns_resynch-else}
-use Rattle.card_bench.specs.Worlds.{Answers, Arrival, Carried, Done, Event, Failed, Line, Machine, Report, Unknown, World, arrival, arriving, at_card, at_reader}
-use Rattle.card_bench.specs.Worlds.{carrying, garble, giving, are_bytes, in_vain, is_command, is_garbled, lose, may_arrive, may_send, nothing, pass, powered, quiet}
+use Rattle.card_bench.specs.Worlds.{Answers, Arrival, Carried, Done, Event, Failed, Line, Machine, Report, Unknown, World}
+use Rattle.card_bench.specs.Worlds.{arrival, arriving, at_card, at_reader}
+use Rattle.card_bench.specs.Worlds.{carrying, garble, giving, are_bytes, in_vain, is_command, is_garbled, lose, may_arrive}
+use Rattle.card_bench.specs.Worlds.{may_send, nothing, pass, powered, quiet}
 use Rattle.card_bench.specs.Worlds.{running, send, taking, toward_card, toward_reader, turning, world_step}
 use Rattle.card_bench.specs.WorldRepairs.{Counts, Watched, answer_blocks, command_blocks, counted, counts_after, faulted, newest, no_counts, passed, watch}
 use Rattle.card_bench.specs.WorldLaw.{Kept, OnlyRequestsFollow, requests}
 use Rattle.card_bench.proofs.WorldPhases.{Budget, Exchange, UnderWay, Kind, Straight, asks_card, asks_reader, kind_back, kind_there, many, need, newest_answer}
-use Rattle.card_bench.proofs.WorldPhases.{none_yet, offers_card, offers_reader, once, After, AnswerOffered, At, Awaits, Before, CommandOffered, Core, Good, History}
-use Rattle.card_bench.proofs.WorldPhases.{Requesting, Stage, ToCard, ToReader, answer_offered, answer_taken, at_rest, kind_of, command_offered, command_taken, core}
+use Rattle.card_bench.proofs.WorldPhases.{none_yet, offers_card, offers_reader, once, After, AnswerOffered, At, Awaits, Before}
+use Rattle.card_bench.proofs.WorldPhases.{CommandOffered, Core, Good, History}
+use Rattle.card_bench.proofs.WorldPhases.{Requesting, Stage, ToCard, ToReader, answer_offered, answer_taken, at_rest, kind_of}
+use Rattle.card_bench.proofs.WorldPhases.{command_offered, command_taken, core}
 use Rattle.card_bench.proofs.WorldPhases.{exchange, given_up, requesting_now}
 
 pub none_left : (xs : List ℕ) → not (length xs == 0) ≡ false → xs ≡ []
@@ -149,7 +154,8 @@ module _ {M : Type 0} (machine : Machine M) (start : M) (Invariant : M → Type 
   after-done h answer a = subst (λ (s : List (List ℕ)). Kept machine start s h.carried (Done answer ∷ h.reports) h.machine) (sym a.sent)
       (inl (a.was, a.before, a.carried, a.machine_is, a.sound, inl (ap Done (sym a.answer_is)), a.kept))
 
-  pub at-open : (stage : Stage) (k : Core M) → At machine start stage k → Kept machine start k.past.sent k.past.carried (Unknown ∷ k.past.reports) k.past.machine
+  pub at-open : (stage : Stage) (k : Core M) → At machine start stage k
+      → Kept machine start k.past.sent k.past.carried (Unknown ∷ k.past.reports) k.past.machine
   at-open command_offered k at = before-open k.past at.command at.history
   at-open command_taken k at = before-open k.past at.command at.history
   at-open answer_offered k at = after-open k.past at.answer at.history
@@ -224,7 +230,8 @@ module _ {M : Type 0} (machine : Machine M) (start : M) (Invariant : M → Type 
   reader-gets : (c : Counts) (w : World M) (b : Block) (turned : Turned) → IsSpellable b → w.reader.resynchs ≡ 0 → turns_block w.reader (Ok b) ≡ turned
       → Good machine start c (turning w turned) → Good machine start c (arriving machine w (at_reader (frame b)))
   reader-gets c w b turned spellable none row good =
-      let step : reader_step w.reader (frame b) ≡ turned = reader_takes-awaits w.reader (heard (frame b)) none ∙ ap (turns_block w.reader) (heard-frame b spellable)
+      let step : reader_step w.reader (frame b) ≡ turned = reader_takes-awaits w.reader (heard (frame b)) none
+      ∙ ap (turns_block w.reader) (heard-frame b spellable)
       ∙ row in
       subst (λ (t : Turned). Good machine start c (turning w t)) (sym step) good
 
@@ -312,12 +319,14 @@ module _ {M : Type 0} (machine : Machine M) (start : M) (Invariant : M → Type 
       card-gets (passed c) w (receive_ready w.reader.nr error) _ tt
       (card_takes-nothing w.card w.reader.nr error (and_right (is_some w.card.sent) _ (other_than w.reader.nr w.card.ns (sym at.answered)))
       (ap (λ (xs : List ℕ). not (length xs == 0)) at.unsent))
-      (keeps (passed c) command_offered w ErrorFree at awaits (passes_on budget command_offered asks_reader (core w) w.reader.tries (omega arith) (λ t s. absurd s)))
+      (keeps (passed c) command_offered w ErrorFree at awaits
+      (passes_on budget command_offered asks_reader (core w) w.reader.tries (omega arith) (λ t s. absurd s)))
   asked c command_taken w error at awaits budget =
       card-gets (passed c) w (receive_ready w.reader.nr error) _ tt
       (card_takes-nothing w.card w.reader.nr error (and_right (is_some w.card.sent) _ (other_than w.reader.nr w.card.ns (sym at.answered)))
       (ap (λ (xs : List ℕ). not (length xs == 0)) at.unsent))
-      (keeps (passed c) command_taken w ErrorFree at awaits (passes_on budget command_taken asks_reader (core w) w.reader.tries (omega arith) (λ t s. absurd s)))
+      (keeps (passed c) command_taken w ErrorFree at awaits
+      (passes_on budget command_taken asks_reader (core w) w.reader.tries (omega arith) (λ t s. absurd s)))
   asked c answer_offered w error at awaits budget =
       card-gets (passed c) w (receive_ready w.reader.nr error) _ tt
       (card_takes-again w.card w.reader.nr error
@@ -341,7 +350,8 @@ module _ {M : Type 0} (machine : Machine M) (start : M) (Invariant : M → Type 
       → Budget c answer_offered offers_reader (core (running machine w command)) w.reader.tries → Good machine start c (running machine w command)
   runs-it c w command sound history awaits number answered held sent_all size empty budget =
       let ran : World M = record w { machine = machine.next w.machine command; carried = carrying machine w.machine command ∷ w.carried } in
-      offers c ran (machine.answer w.machine command) (machine.answer w.machine command) (fits.at_least w.machine command (before-invariant (core w).past command history) sound)
+      offers c ran (machine.answer w.machine command) (machine.answer w.machine command)
+      (fits.at_least w.machine command (before-invariant (core w).past command history) sound)
       (fits.at_most w.machine command (before-invariant (core w).past command history) sound)
       (record {
         command = command;
@@ -365,7 +375,8 @@ module _ {M : Type 0} (machine : Machine M) (start : M) (Invariant : M → Type 
   offered c true w more at awaits budget =
       let expected : same (not w.reader.ns) w.card.nr ≡ true = same_as (not w.reader.ns) w.card.nr (sym at.number) in
       let split : w.card.held ++ w.reader.field ++ w.reader.rest ≡ at.command = append_assoc w.card.held w.reader.field w.reader.rest ∙ at.whole in
-      let size : length (w.card.held ++ w.reader.field) ≤ 262 = let n = length-append (w.card.held ++ w.reader.field) w.reader.rest in let l = ap length split in
+      let size : length (w.card.held ++ w.reader.field) ≤ 262 =
+      let n = length-append (w.card.held ++ w.reader.field) w.reader.rest in let l = ap length split in
       let most = (command_size at.command at.sound).1 in omega (arith, n, l, most) in
       let kept : joined w.card w.reader.field ≡ w.card.held ++ w.reader.field = take_all 262 (w.card.held ++ w.reader.field) size in
       card-gets (passed c) w (information (not w.reader.ns) true w.reader.field) _ at.field
@@ -403,7 +414,8 @@ module _ {M : Type 0} (machine : Machine M) (start : M) (Invariant : M → Type 
       at.history
       (record { phase = awaits.phase; resynchs = awaits.resynchs; only = awaits.only; requested = awaits.requested })
       (turned_back w.card.nr w.reader.ns at.number) at.answered refl all at.size at.empty
-      (passes_on budget answer_offered offers_reader _ w.reader.tries (omega arith) (λ t s. (t, run_straight w at.command at.sound (before-invariant (core w).past at.command at.history) all at.size c.passes s)))))
+      (passes_on budget answer_offered offers_reader _ w.reader.tries (omega arith)
+      (λ t s. (t, run_straight w at.command at.sound (before-invariant (core w).past at.command at.history) all at.size c.passes s)))))
 
   -- the reader's end is asked for the block that the card's end expects
   asked_back : (c : Counts) (stage : Stage) (w : World M) (error : ErrorKind) → At machine start stage (core w) → Awaits w
@@ -417,9 +429,11 @@ module _ {M : Type 0} (machine : Machine M) (start : M) (Invariant : M → Type 
   asked_back c command_taken w error at awaits budget =
       reader-gets (passed c) w (receive_ready w.card.nr error) _ tt awaits.resynchs
       (turns_block-next w.reader w.card.nr error (other_than w.card.nr w.reader.ns at.number) at.more)
-      (advances (passed c) w w.reader.rest at.command at.sound at.history awaits.phase awaits.resynchs awaits.only awaits.requested at.number at.answered at.empty
+      (advances (passed c) w w.reader.rest at.command at.sound at.history awaits.phase awaits.resynchs
+      awaits.only awaits.requested at.number at.answered at.empty
       at.unsent at.size at.whole
-      (passes_on budget command_offered offers_card _ 0 (omega arith) (λ t s. let less = one_block_less w.reader.rest at.more in (refl, omega (arith, s, less)))))
+      (passes_on budget command_offered offers_card _ 0 (omega arith)
+      (λ t s. let less = one_block_less w.reader.rest at.more in (refl, omega (arith, s, less)))))
   asked_back c answer_offered w error at awaits budget =
       reader-gets (passed c) w (receive_ready w.card.nr error) _ tt awaits.resynchs
       (turns_block-nothing w.reader w.card.nr error (other_than w.card.nr w.reader.ns at.number) (ap (λ (xs : List ℕ). not (length xs == 0)) at.sent_all))
@@ -428,7 +442,8 @@ module _ {M : Type 0} (machine : Machine M) (start : M) (Invariant : M → Type 
   asked_back c answer_taken w error at awaits budget =
       reader-gets (passed c) w (receive_ready w.card.nr error) _ tt awaits.resynchs
       (turns_block-nothing w.reader w.card.nr error (other_than w.card.nr w.reader.ns at.number) (ap (λ (xs : List ℕ). not (length xs == 0)) at.sent_all))
-      (ask (passed c) answer_taken w OtherError at awaits (passes_on budget answer_taken asks_card (core w) (w.reader.tries + 1) (omega arith) (λ t s. absurd s)))
+      (ask (passed c) answer_taken w OtherError at awaits
+      (passes_on budget answer_taken asks_card (core w) (w.reader.tries + 1) (omega arith) (λ t s. absurd s)))
 
   -- the reader's end gets the block of the answer that is offered, of which more follows or not
   answered_so : (c : Counts) (more : Bool) (w : World M) → sent_more w.card ≡ more → (at : AnswerOffered machine start (core w)) → Awaits w
@@ -503,7 +518,8 @@ module _ {M : Type 0} (machine : Machine M) (start : M) (Invariant : M → Type 
   -- a block under way arrives
   arrives_there : (c : Counts) (stage : Stage) (w : World M) (b : Block) → At machine start stage (core w) → Awaits w → (toward : ToCard stage (core w) b)
       → Budget c stage (kind_there toward) (core w) w.reader.tries → Good machine start (passed c) (arriving machine w (at_card (frame b)))
-  arrives_there c stage w b at awaits (inl asks) budget = subst (λ (x : Block). Good machine start (passed c) (arriving machine w (at_card (frame x)))) (sym asks.1)
+  arrives_there c stage w b at awaits (inl asks) budget =
+      subst (λ (x : Block). Good machine start (passed c) (arriving machine w (at_card (frame x)))) (sym asks.1)
       (asked c stage w asks.0 at awaits budget)
   arrives_there c command_offered w b at awaits (inr same_block) budget =
       subst (λ (x : Block). Good machine start (passed c) (arriving machine w (at_card (frame x)))) (sym same_block)
@@ -514,7 +530,8 @@ module _ {M : Type 0} (machine : Machine M) (start : M) (Invariant : M → Type 
 
   arrives_back : (c : Counts) (stage : Stage) (w : World M) (b : Block) → At machine start stage (core w) → Awaits w → (toward : ToReader stage (core w) b)
       → Budget c stage (kind_back toward) (core w) w.reader.tries → Good machine start (passed c) (arriving machine w (at_reader (frame b)))
-  arrives_back c stage w b at awaits (inl asks) budget = subst (λ (x : Block). Good machine start (passed c) (arriving machine w (at_reader (frame x)))) (sym asks.1)
+  arrives_back c stage w b at awaits (inl asks) budget =
+      subst (λ (x : Block). Good machine start (passed c) (arriving machine w (at_reader (frame x)))) (sym asks.1)
       (asked_back c stage w asks.0 at awaits budget)
   arrives_back c command_offered w b at awaits (inr nothing_so) budget = absurd nothing_so
   arrives_back c command_taken w b at awaits (inr nothing_so) budget = absurd nothing_so
@@ -573,13 +590,22 @@ module _ {M : Type 0} (machine : Machine M) (start : M) (Invariant : M → Type 
       subst (λ (t : Turned). Good machine start c (turning w t)) (sym row) (requests_again c often w r)
 
   waits_again : (c : Counts) → 2 ≤ c.faults → (w : World M) → Requesting machine start w → Good machine start c (arriving machine w in_vain)
-  waits_again c often w r = subst (λ (t : Turned). Good machine start c (turning w t)) (sym (reader_times_out-resynch w.reader r.some)) (requests_again c often w r)
+  waits_again c often w r = subst (λ (t : Turned). Good machine start c (turning w t))
+      (sym (reader_times_out-resynch w.reader r.some)) (requests_again c often w r)
 
   -- the card's end gets the request
   requested_there : (c : Counts) → 2 ≤ c.faults → (w : World M) → Requesting machine start w
       → Good machine start c (arriving machine w (at_card (frame resynch_request)))
   requested_there c often w r = card-gets c w resynch_request _ tt (card_takes-resynch w.card)
-      (requesting_now (record { phase = r.phase; some = r.some; most = r.most; count = r.count; only = r.only; kept = r.kept; way = inr (inl (refl, refl)) }) often)
+      (requesting_now (record {
+        phase = r.phase;
+        some = r.some;
+        most = r.most;
+        count = r.count;
+        only = r.only;
+        kept = r.kept;
+        way = inr (inl (refl, refl));
+      }) often)
 
   -- the card's end gets bytes that are no block
   garbled_request : (c : Counts) → 2 ≤ c.faults → (w : World M) (bytes : List ℕ) (fault : Fault) → Requesting machine start w → heard bytes ≡ Err fault
@@ -628,7 +654,8 @@ module _ {M : Type 0} (machine : Machine M) (start : M) (Invariant : M → Type 
   by_line : (c : Counts) (w : World M) (line : Line) (event : Event) → w.line ≡ line
       → Good machine start (counted c event (arrival line event)) (arriving machine w (arrival line event))
       → Good machine start (counted c event (arrival w.line event)) (arriving machine w (arrival w.line event))
-  by_line c w line event e good = subst (λ (l : Line). Good machine start (counted c event (arrival l event)) (arriving machine w (arrival l event))) (sym e) good
+  by_line c w line event e good =
+      subst (λ (l : Line). Good machine start (counted c event (arrival l event)) (arriving machine w (arrival l event))) (sym e) good
 
   -- the line garbles only into bytes that are no block
   garble_so : (c : Counts) (garbles : Bool) (w : World M) (bytes : List ℕ) (came : Arrival) → may_arrive bytes ≡ garbles → Good machine start c w
@@ -646,7 +673,8 @@ module _ {M : Type 0} (machine : Machine M) (start : M) (Invariant : M → Type 
   toward_card-event c stage w b at awaits toward budget good (garble bytes) =
       garble_so c (may_arrive bytes) w bytes (at_card bytes) refl good (λ fault e. garbled_there c stage w bytes fault (kind_there toward) at awaits budget e)
 
-  toward_reader-event : (c : Counts) (stage : Stage) (w : World M) (b : Block) → At machine start stage (core w) → Awaits w → (toward : ToReader stage (core w) b)
+  toward_reader-event : (c : Counts) (stage : Stage) (w : World M) (b : Block) → At machine start stage (core w)
+      → Awaits w → (toward : ToReader stage (core w) b)
       → Budget c stage (kind_back toward) (core w) w.reader.tries → Good machine start c w
       → (event : Event) → Good machine start (counted c event (arrival (toward_reader b) event)) (arriving machine w (arrival (toward_reader b) event))
   toward_reader-event c stage w b at awaits toward budget good (send command) = good
@@ -701,7 +729,8 @@ module _ {M : Type 0} (machine : Machine M) (start : M) (Invariant : M → Type 
       r.way
 
   -- a command is given
-  given : (c : Counts) (w : World M) (command : List ℕ) → may_send w.reader command ≡ true → Good machine start c w → Good machine start no_counts (giving w command)
+  given : (c : Counts) (w : World M) (command : List ℕ) → may_send w.reader command ≡ true
+      → Good machine start c w → Good machine start no_counts (giving w command)
   given c w command may (at_rest r repaired) =
       let ready : World M = record w { reader = record w.reader { answer = []; phase = Busy }; sent = command ∷ w.sent; offered = [] } in
       let sound = (both_true (not (is_busy w.reader.phase)) (is_command command) may).1 in
@@ -731,7 +760,8 @@ module _ {M : Type 0} (machine : Machine M) (start : M) (Invariant : M → Type 
   given_so c true w command e good = given c w command e good
   given_so c false w command e good = good
 
-  pub good-step : (v : Watched M) (event : Event) → Good machine start v.counts v.world → Good machine start (counts_after v event) (world_step machine v.world event)
+  pub good-step : (v : Watched M) (event : Event) → Good machine start v.counts v.world
+      → Good machine start (counts_after v event) (world_step machine v.world event)
   unfolding world_step
   good-step v (send command) good = given_so v.counts (may_send v.world.reader command) v.world command refl good
   good-step v pass good = arrives v.counts v.world pass good

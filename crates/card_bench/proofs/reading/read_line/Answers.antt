@@ -12,7 +12,8 @@ returns-in-Ok-LineFeed-clause-line g c =
     let line = c.loop.line.items in
     let first = g.R.Read.remaining c.args.reader.now in
     let new = g.R.Read.remaining c.read_part.new.reader in
-    let part = subst (TakesPart (g.R.Read.remaining c.loop.reader) new line c.read_part.new.line.items) c.in-Ok-LineFeed.field-0-is c.in-Ok-LineFeed.ensures.part in (
+    let part = subst (TakesPart (g.R.Read.remaining c.loop.reader) new line c.read_part.new.line.items)
+    c.in-Ok-LineFeed.field-0-is c.in-Ok-LineFeed.ensures.part in (
       line ++ part.0,
       subst (Consumes first new) (sym (append_assoc line part.0 (10 ∷ [])))
           (Consumes-trans _ _ _ line (part.0 ++ 10 ∷ []) c.loop.invariant.so_far part.1),

@@ -7,3 +7,6 @@ pub unreachable-unreachable : goal.unreachable-unreachable
 unreachable-unreachable c =
     format_succeeds (cut_facts c.args.board) (cut_facts c.in-Err.field-0.0) c.in-Err.field-0.1 c.requires refl c.in-Err.ensures.counts_err
     c.in-Err.ensures.power_err
+
+pub returns-clause-card : goal.returns-clause-card
+returns-clause-card c = c.in-Ok.ensures.found

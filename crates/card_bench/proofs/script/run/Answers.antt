@@ -45,7 +45,8 @@ returns-in_default-print-clause-stopped g c =
     let after = g.W.Write.contents c.print.new.writer in
     let bytes = c.perform-printed.new.self.blocks.toward_reader.items in
     let began : (size : ℕ) × Appends before after (take size (text_of (print_of printed bytes))) =
-    subst (λ (l : List ℕ). (size : ℕ) × Appends before after (take size (text_of (print_of printed l)))) c.bytes.ensures.bytes c.in_default-print.ensures.began in
+    subst (λ (l : List ℕ). (size : ℕ) × Appends before after (take size (text_of (print_of printed l))))
+    c.bytes.ensures.bytes c.in_default-print.ensures.began in
     is_unwritten _ _ _ _ _ _ _ c.in-Ok-read_line.end _ _ _ _ _ _ _ c.loop-number.invariant.so_far c.in-Ok-read_line.ensures.line
     c.in-Ok-read_line.ensures.counted good c.perform-printed.ensures.performs began
 
@@ -90,7 +91,8 @@ loop-number-preserved g c =
     record {
       taken = c.read_line.ensures.taken;
       good = c.perform-printed.ensures.good;
-      so_far = subst (λ (n : ℕ). HasRun first new n c.read_line.new.taken (record { bench = desk.bench; reader = desk.reader; line = desk.line }) held after) number
+      so_far = subst (λ (n : ℕ). HasRun first new n c.read_line.new.taken
+          (record { bench = desk.bench; reader = desk.reader; line = desk.line }) held after) number
           (goes_on first old new _ _ _ _ _ _ _ _ _ _ _ c.loop-number.invariant.so_far
           (subst (TakesLine old new c.read_line.new.line.items) c.in-LineFeed.is c.in-Ok-read_line.ensures.line)
           c.in-Ok-read_line.ensures.counted good c.perform-printed.ensures.performs wrote);

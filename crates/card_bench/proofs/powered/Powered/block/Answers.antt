@@ -1,12 +1,14 @@
-use Rattle.std.specs.Prelude.{◌≡◌, ◌≢◌, ℕ, List, [], Option, Some, unwrap_or}
+use Rattle.undo_journal.specs.Spending.{KeepsBoard}
+use Rattle.std.specs.Prelude.{◌≡◌, ◌⊎◌, OnOk, ◌≢◌, ℕ, List, [], Option, Some, unwrap_or}
 use Rattle.std.proofs.Common.{rules, ap, sym, refl, subst, ◌∙◌}
 use Rattle.card_core.specs.declared.card_state.CardState.TheVariants.{Working, Dark}
 use Rattle.apdu_core.specs.Asked.{asked}
-use Rattle.t1_link.specs.CardTable.{command_of, link_step, CardLink, Reaction, replies, runs}
+use Rattle.t1_link.specs.CardTable.{answers, bytes_of, command_of, link_step, CardLink, Link, Reaction, replies, runs}
 use Rattle.card_core.specs.Comparing.{comparisons, ComparesAsked}
-use Rattle.card_core.specs.Running.{card_found}
+use Rattle.card_core.specs.Running.{FailsIn, Steps, card_found}
 use Rattle.card_core.specs.laws.CompareLaws.{asked-none}
-use Rattle.card_bench.specs.CardBlocks.{BlockCompares, IsCutAt, Powered}
+use Rattle.card_bench.specs.CardBlocks.{BlockChangesNothing, BlockCompares, FailsAt, IsBlockStage, IsCutAt, Powered, Replies}
+use Rattle.card_bench.proofs.BlockRuns.{cut-at, of-run, run-replies}
 use Rattle.card_bench.proofs.CardStates.{on_err, works_if_cut}
 use Rattle.card_bench.proofs.powered.Powered.block.Goals as goal
 
@@ -41,12 +43,83 @@ returns-in_err-command-in-Run-clause-compares g c =
 
 pub returns-in_err-command-in-Run-clause-lost : goal.returns-in_err-command-in-Run-clause-lost
 returns-in_err-command-in-Run-clause-lost g c =
-    let same : c.self.inside.card.state ≡ c.args.self.now.card.state = ap (λ (p : Powered). p.card.state) c.self.view_is in
-    let card = c.command-in-Run.new.self in
-    let cut : c.args.self.now.card.state ≢ Dark
-    → IsCutAt c.args.self.now c.args.got.now (record { card = card; link = c.take.new.self.link }) c.take.new.out.items =
-    λ lit.
-    let works : c.args.self.now.card.state ≡ Working =
-    sym same ∙ works_if_cut _ _ (λ dark. lit (sym same ∙ dark)) c.in_err-command-in-Run.ensures.failed (λ f. cc) in
-    search rules in
+    let old : Powered = record { card = c.self.inside.card; link = c.self.inside.link.link } in
+    let new : Powered = record { card = c.command-in-Run.new.self; link = c.take.new.self.link } in
+    let got = c.args.got.now in
+    let out = c.take.new.out.items in
+    let waits = ap (λ (e : CardLink). e.waiting) (sym c.take.ensures.state) ∙ c.command.ensures in
+    let cut : c.args.self.now.card.state ≢ Dark → IsCutAt c.args.self.now got new out =
+    subst (λ (p : Powered). p.card.state ≢ Dark → IsCutAt p got new out) c.self.view_is
+    (λ lit.
+    let works : old.card.state ≡ Working = works_if_cut _ _ lit c.in_err-command-in-Run.ensures.failed (λ f. cc) in
+    cut-at old new got c.command.result.now c.command-in-Run.new.answer.items out waits c.take.ensures.block
+    (c.in_err-command-in-Run.ensures.lost works)) in
     on_err _ _ cut
+
+pub returns-in_ok-command-in-Run-clause-stage : goal.returns-in_ok-command-in-Run-clause-stage
+returns-in_ok-command-in-Run-clause-stage g c =
+    let old : Powered = record { card = c.self.inside.card; link = c.self.inside.link.link } in
+    let waits = ap (λ (e : CardLink). e.waiting) (sym c.take.ensures.state) ∙ c.command.ensures in
+    let card = card_found c.command-in-Run.new.self in
+    subst (λ (p : Powered). IsBlockStage p (link_step p.link c.args.got.now).reaction card) c.self.view_is
+    (of-run (λ (r : Reaction). IsBlockStage old r card) (link_step old.link c.args.got.now).reaction c.command.result.now waits
+    c.command-in-Run.ensures.stage)
+
+pub returns-in_ok-command-in-Run-clause-idle : goal.returns-in_ok-command-in-Run-clause-idle
+returns-in_ok-command-in-Run-clause-idle g c =
+    let old : Powered = record { card = c.self.inside.card; link = c.self.inside.link.link } in
+    let waits = ap (λ (e : CardLink). e.waiting) (sym c.take.ensures.state) ∙ c.command.ensures in
+    let facts = c.command-in-Run.new.self.facts in
+    subst (λ (p : Powered). BlockChangesNothing p (link_step p.link c.args.got.now).reaction → KeepsBoard p.card.facts facts) c.self.view_is
+    (of-run (λ (r : Reaction). BlockChangesNothing old r → KeepsBoard old.card.facts facts) (link_step old.link c.args.got.now).reaction
+    c.command.result.now waits c.command-in-Run.ensures.idle)
+
+pub returns-in_err-command-in-Run-clause-stage : goal.returns-in_err-command-in-Run-clause-stage
+returns-in_err-command-in-Run-clause-stage g c =
+    let old : Powered = record { card = c.self.inside.card; link = c.self.inside.link.link } in
+    let waits = ap (λ (e : CardLink). e.waiting) (sym c.take.ensures.state) ∙ c.command.ensures in
+    let card = card_found c.command-in-Run.new.self in
+    subst (λ (p : Powered). IsBlockStage p (link_step p.link c.args.got.now).reaction card) c.self.view_is
+    (of-run (λ (r : Reaction). IsBlockStage old r card) (link_step old.link c.args.got.now).reaction c.command.result.now waits
+    c.command-in-Run.ensures.stage)
+
+pub returns-in_err-command-in-Run-clause-idle : goal.returns-in_err-command-in-Run-clause-idle
+returns-in_err-command-in-Run-clause-idle g c =
+    let old : Powered = record { card = c.self.inside.card; link = c.self.inside.link.link } in
+    let waits = ap (λ (e : CardLink). e.waiting) (sym c.take.ensures.state) ∙ c.command.ensures in
+    let facts = c.command-in-Run.new.self.facts in
+    subst (λ (p : Powered). BlockChangesNothing p (link_step p.link c.args.got.now).reaction → KeepsBoard p.card.facts facts) c.self.view_is
+    (of-run (λ (r : Reaction). BlockChangesNothing old r → KeepsBoard old.card.facts facts) (link_step old.link c.args.got.now).reaction
+    c.command.result.now waits c.command-in-Run.ensures.idle)
+
+pub returns-in_ok-command-in-Run-clause-compares : goal.returns-in_ok-command-in-Run-clause-compares
+returns-in_ok-command-in-Run-clause-compares g c =
+    let new : Powered = record { card = c.command-in-Run.new.self; link = c.answer.new.self.link } in
+    let waits = ap (λ (e : CardLink). e.waiting) (sym c.take.ensures.state) ∙ c.command.ensures in
+    subst (λ (p : Powered). BlockCompares p (link_step p.link c.args.got.now).reaction new) c.self.view_is
+    (run-compares (record { card = c.self.inside.card; link = c.self.inside.link.link }) new
+    (link_step c.self.inside.link.link c.args.got.now).reaction c.command.result.now waits
+    c.command-in-Run.ensures.compares)
+
+pub returns-in_ok-command-in-Run-clause-replies : goal.returns-in_ok-command-in-Run-clause-replies
+returns-in_ok-command-in-Run-clause-replies g c =
+    let old : Powered = record { card = c.self.inside.card; link = c.self.inside.link.link } in
+    let new : Powered = record { card = c.command-in-Run.new.self; link = c.answer.new.self.link } in
+    let got = c.args.got.now in
+    let out = c.answer.new.out.items in
+    let bytes = c.command-in-Run.new.answer.items in
+    let waits = ap (λ (e : CardLink). e.waiting) (sym c.take.ensures.state) ∙ c.command.ensures in
+    let taken = ap (λ (e : CardLink). e.link) c.take.ensures.state in
+    let link = ap (λ (e : CardLink). e.link) c.answer.ensures.state ∙ ap (λ (l : Link). (answers l bytes).link) taken in
+    let block = c.answer.ensures.block ∙ ap (λ (l : Link). bytes_of (answers l bytes).reaction) taken in
+    subst (λ (p : Powered). p.card.state ≡ Working → Replies p got new out ⊎ FailsAt p got new out) c.self.view_is
+    (λ works. run-replies old new got c.command.result.now bytes out waits link block (c.in_ok-command-in-Run.ensures.done works))
+
+pub returns-in-Reply-clause-lost : goal.returns-in-Reply-clause-lost
+returns-in-Reply-clause-lost g c = tt
+
+pub returns-in-Reply-clause-unlit : goal.returns-in-Reply-clause-unlit
+returns-in-Reply-clause-unlit g c = tt
+
+pub returns-in-Reply-clause-failed : goal.returns-in-Reply-clause-failed
+returns-in-Reply-clause-failed g c = search rules

@@ -1,0 +1,154 @@
+-- A power-on, by how the start of the card ended.
+use Rattle.std.specs.Prelude.{◌≡◌, ◌≤◌, ◌⊎◌, ℕ, true, false, List}
+use Rattle.std.proofs.Common.{arith, ap, inl, inr, subst, sym, ◌∙◌, true≢false}
+use Rattle.nvm_board.specs.Facts.{Facts, GoesDark, IsWorn, IsWornOut, Steady}
+use Rattle.card_core.specs.declared.faults.StartFault.{StartFault}
+use Rattle.card_core.specs.declared.faults.StartFault.TheVariants.{PowerLost, Fault, BadJournal, Damaged}
+use Rattle.card_core.specs.Finding.{FindsAgain, HasCard, found}
+use Rattle.card_core.specs.Running.{Starts, StopsBy}
+use Rattle.card_core.specs.Standing.{IsCard, card_of}
+use Rattle.t1_link.specs.CardTable.{fresh}
+use Rattle.card_bench.specs.declared.playing.Turn.TheVariants as turn
+use Rattle.card_bench.specs.declared.playing.Item.TheVariants as item
+use Rattle.card_bench.specs.BenchStates.{BenchState, off, on, bench_facts}
+use Rattle.card_bench.specs.CardBlocks.{Powered}
+use Rattle.card_bench.specs.Plays.{Plays}
+use Rattle.card_bench.specs.Turns.{RestsOff}
+
+-- what is found again is there
+there-again : (old new : List ℕ) → FindsAgain old new → HasCard old → HasCard new
+there-again old new again there = record {
+  journal = again.journal.1 there.journal;
+  words = subst IsCard (sym again.words) there.words;
+}
+
+-- the bench before, and its board with power off
+module _ (old : BenchState) (dark : Facts) (darkened : dark ≡ record (bench_facts old) { dark = true }) where
+  same-words : dark.words ≡ (bench_facts old).words
+  same-words = ap (λ (f : Facts). f.words) darkened
+
+  -- a count of the board stands at its end, so that the card stays mute
+  pub stays_mute : (new : Facts) → IsWornOut dark → new ≡ dark → Plays old turn.On item.Mute (off new)
+  stays_mute new worn same =
+      let is : new ≡ record (bench_facts old) { dark = true } = same ∙ darkened in
+      let words : new.words ≡ (bench_facts old).words = ap (λ (f : Facts). f.words) is in
+      let cuts : new.cuts ≡ (bench_facts old).cuts = ap (λ (f : Facts). f.cuts) is in
+      let due : new.due ≡ (bench_facts old).due = ap (λ (f : Facts). f.due) is in
+      let faults : new.faults ≡ (bench_facts old).faults = ap (λ (f : Facts). f.faults) is in
+      record {
+        there = λ there. subst HasCard (sym words) there;
+        counts = record { cuts = omega (arith, cuts); due = inl (omega (arith, due)); faults = omega (arith, faults) };
+        well = λ good. tt;
+        one = λ there good. (record { power = tt; card = ap found words }, subst IsWornOut (sym same) worn);
+      }
+
+  -- the board with power on
+  module _ (lit : Facts) (lights : lit ≡ record dark { dark = false }) where
+    lit-words : lit.words ≡ (bench_facts old).words
+    lit-words = ap (λ (f : Facts). f.words) lights ∙ same-words
+
+    lit-cuts : lit.cuts ≡ (bench_facts old).cuts
+    lit-cuts = ap (λ (f : Facts). f.cuts) lights ∙ ap (λ (f : Facts). f.cuts) darkened
+
+    lit-due : lit.due ≡ (bench_facts old).due
+    lit-due = ap (λ (f : Facts). f.due) lights ∙ ap (λ (f : Facts). f.due) darkened
+
+    lit-faults : lit.faults ≡ (bench_facts old).faults
+    lit-faults = ap (λ (f : Facts). f.faults) lights ∙ ap (λ (f : Facts). f.faults) darkened
+
+    found-again : (new : List ℕ) → FindsAgain lit.words new → found new ≡ found (bench_facts old).words
+    found-again new again = ap card_of again.words ∙ ap found lit-words
+
+    has-card : (new : List ℕ) → FindsAgain lit.words new → HasCard (bench_facts old).words → HasCard new
+    has-card new again there = there-again lit.words new again (subst HasCard (sym lit-words) there)
+
+    -- the card starts
+    pub starts : (p : Powered) → Starts lit p.card → p.link ≡ fresh → FindsAgain lit.words p.card.facts.words
+        → Plays old turn.On item.Atr (on p)
+    starts p started link again =
+        let power = started.power in
+        record {
+          there = has-card p.card.facts.words again;
+          counts = record {
+            cuts = omega (arith, power.cuts, lit-cuts);
+            due = inl (omega (arith, power.due, lit-due));
+            faults = omega (arith, power.faults, lit-faults);
+          };
+          well = λ good. started.state;
+          one = λ there good. ((started.session, link), found-again p.card.facts.words again);
+        }
+
+    dark-lit : lit.dark ≡ true → ⊥
+    dark-lit is = true≢false (sym is ∙ ap (λ (f : Facts). f.dark) lights)
+
+    -- the board, power off, after a start that stopped
+    module _ (stopped new : Facts) (again : FindsAgain lit.words stopped.words) (turned : new ≡ record stopped { dark = true }) where
+      new-words : new.words ≡ stopped.words
+      new-words = ap (λ (f : Facts). f.words) turned
+
+      rests : RestsOff old (off new)
+      rests = record { power = tt; card = ap found new-words ∙ found-again stopped.words again }
+
+      there : HasCard (bench_facts old).words → HasCard new.words
+      there before = subst HasCard (sym new-words) (has-card stopped.words again before)
+
+      lost-so : GoesDark lit stopped → Plays old turn.On item.Dark (off new)
+      lost-so lost =
+          let cuts : new.cuts ≡ stopped.cuts = ap (λ (f : Facts). f.cuts) turned in
+          let faults : new.faults ≡ stopped.faults = ap (λ (f : Facts). f.faults) turned in
+          let due : new.due ≡ stopped.due = ap (λ (f : Facts). f.due) turned in
+          record {
+            there = there;
+            counts = record {
+              cuts = omega (arith, lost.cuts, cuts, lit-cuts);
+              due = elim lost.due [
+                | inl spent ↦ inl (omega (arith, spent, due, lit-due))
+                | inr worn ↦ inr (subst IsWorn (sym turned) worn.0, omega (arith, worn.1, due, lit-due))
+              ];
+              faults = omega (arith, lost.faults, faults, lit-faults);
+            };
+            well = λ good. tt;
+            one = λ before good. rests;
+          }
+
+      -- power was lost in the start
+      pub ends_dark : (why : StartFault) → why ≡ PowerLost → StopsBy why lit stopped → Plays old turn.On item.Dark (off new)
+      ends_dark why is stops = elim (subst (λ (e : StartFault). StopsBy e lit stopped) is stops) [
+        | inl lost ↦ lost-so lost
+        | inr was ↦ absurd (dark-lit was.0)
+      ]
+
+      -- the device failed, or no card starts: then there was none, or a fault is counted
+      mute-so : stopped.cuts ≡ lit.cuts → stopped.due ≡ lit.due → lit.faults ≤ stopped.faults
+          → (HasCard (bench_facts old).words → stopped.faults ≡ lit.faults → ⊥) → Plays old turn.On item.Mute (off new)
+      mute-so same_cuts same_due more none =
+          let cuts : new.cuts ≡ stopped.cuts = ap (λ (f : Facts). f.cuts) turned in
+          let faults : new.faults ≡ stopped.faults = ap (λ (f : Facts). f.faults) turned in
+          let due : new.due ≡ stopped.due = ap (λ (f : Facts). f.due) turned in
+          record {
+            there = there;
+            counts = record {
+              cuts = omega (arith, same_cuts, cuts, lit-cuts);
+              due = inl (omega (arith, same_due, due, lit-due));
+              faults = omega (arith, more, faults, lit-faults);
+            };
+            well = λ good. tt;
+            one = λ before good. absurd (none before (omega (arith, good.faults, faults, lit-faults)));
+          }
+
+      steady-so : Steady lit stopped → (HasCard lit.words → ⊥) → Plays old turn.On item.Mute (off new)
+      steady-so steady none =
+          mute-so steady.cuts steady.due (omega (arith, steady.faults))
+          (λ before same. none (subst HasCard (sym lit-words) before))
+
+      pub ends_mute : (why : StartFault) → (why ≡ Fault) ⊎ (why ≡ BadJournal) ⊎ (why ≡ Damaged) → StopsBy why lit stopped
+          → Plays old turn.On item.Mute (off new)
+      ends_mute PowerLost is stops = elim is [
+        | inl other ↦ absurd cc
+        | inr (inl other) ↦ absurd cc
+        | inr (inr other) ↦ absurd cc
+      ]
+      ends_mute Fault is stops =
+          mute-so stops.cuts stops.due (omega (arith, stops.faults)) (λ before same. let rises = stops.faults in omega (arith, rises, same))
+      ends_mute BadJournal is stops = steady-so stops.1 (λ there. stops.0 there.journal)
+      ends_mute Damaged is stops = steady-so stops.2 (λ there. stops.1 there.words)

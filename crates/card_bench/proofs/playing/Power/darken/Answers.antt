@@ -1,0 +1,8 @@
+use Rattle.std.proofs.Common.{rules}
+use Rattle.card_bench.proofs.playing.Power.darken.Goals as goal
+
+pub returns-clause-off : goal.returns-clause-off
+returns-clause-off g c = search rules
+
+pub returns-clause-kept : goal.returns-clause-kept
+returns-clause-kept g c = tt
