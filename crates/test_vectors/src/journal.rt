@@ -4,6 +4,7 @@ ghost use Rattle.std.specs.Option.{ForSome};
 ghost use Rattle.undo_journal.specs.Memory.{room, IsOpen, IsReady};
 ghost use Rattle.undo_journal.specs.Lent.{memory_of};
 
+use crate::boards::with_words;
 use nvm_board::{Armed, Board, CutBoard, DeviceErr, RamBoard, Socket};
 use std::alloc::Global;
 use std::test::Fail;
@@ -14,14 +15,19 @@ const BEFORE: [u32; 3] = [50, 60, 61];
 
 const AFTER: [u32; 3] = [3, 2, 4];
 
-// A lit board with the words as they are before. The first pair of the journal, which doesn't count, is an old one: it
-// names no word of the data.
+// The words as they are before. The first pair of the journal, which doesn't count, is an old one: it names no word of the
+// data.
+const WORDS: &[(u16, u32)] = &[
+    (5, 50),
+    (1184, 0xFFFF_FFFF),
+    (1185, 50),
+    (2048, 60),
+    (2049, 61),
+];
+
+// A lit board with these.
 fn board_before(alloc: Global) -> Result<CutBoard, Fail> {
-    let mut board = CutBoard::new(alloc)?;
-    board.write(0, 5, &[50])?;
-    board.write(74, 0, &[0xFFFF_FFFF, 50])?;
-    board.write(128, 0, &[60, 61])?;
-    Ok(board)
+    with_words(CutBoard::new(alloc)?, WORDS)
 }
 
 // A store of a board that can be opened.
@@ -54,7 +60,7 @@ fn set_words<B: Board>(txn: &mut Txn<'_, B>) -> Result<(), StoreErr>
 }
 
 // What becomes of the sets: one device write for a commit, five to take them back.
-#[derive(Clone, Copy, Debug, PartialEq, Eq)]
+#[derive(Clone, Copy)]
 enum End {
     Commits,
     Abandons,
@@ -74,7 +80,7 @@ fn change<B: Board>(store: &mut Store<B>, end: End) -> Result<(), StoreErr>
 }
 
 // A cut at a device write, counted from 1, with those words new whose bit of the mask is set.
-#[derive(Clone, Copy, Debug)]
+#[derive(Clone, Copy)]
 struct Cut {
     write: u32,
     mask: u16,
@@ -118,14 +124,14 @@ fn finds_before_or_after_each_cut(rt: HostRuntime) -> Result<(), Fail> {
                 let cut = Cut { write, mask };
                 let want = if is_after(end, cut) { AFTER } else { BEFORE };
                 let words = words_after(rt.alloc(), end, cut, None)?;
-                assert_eq!(rt; words, want, "{end:?} at {cut:?}");
+                assert_eq!(rt; words, want, "at {write} by {mask}");
                 for next in 1..=6 {
-                    let next = Cut {
+                    let again = Cut {
                         write: next,
                         mask: mask & 1,
                     };
-                    let words = words_after(rt.alloc(), end, cut, Some(next))?;
-                    assert_eq!(rt; words, want, "{end:?} at {cut:?} and {next:?}");
+                    let words = words_after(rt.alloc(), end, cut, Some(again))?;
+                    assert_eq!(rt; words, want, "at {write} by {mask}, and then at {next}");
                 }
             }
         }
@@ -133,44 +139,43 @@ fn finds_before_or_after_each_cut(rt: HostRuntime) -> Result<(), Fail> {
     Ok(())
 }
 
-// A board in working memory, with words at these addresses.
-fn board_with(alloc: Global, words: &[(u16, u32)]) -> Result<RamBoard, Fail> {
-    let mut board = RamBoard::new(alloc)?;
-    for &(at, word) in words {
-        if at < 16384 {
-            board.write(at / 16, (at % 16) as u8, &[word])?;
-        }
-    }
-    Ok(board)
-}
+const BAD: Option<OpenFault> = Some(OpenFault::BadJournal);
 
 // Too many pairs; an address of the gate, at the end of the journal, and past the last page; and the same not counted.
+const JOURNALS: &[(&[(u16, u32)], Option<OpenFault>)] = &[
+    (&[(1168, 433), (1184, 5)], BAD),
+    (&[(1168, 1), (1184, 1168)], BAD),
+    (&[(1168, 1), (1184, 2047)], BAD),
+    (&[(1168, 1), (1184, 16384)], BAD),
+    (&[(1168, 0), (1184, 16384)], None),
+    (&[(1168, 1), (1184, 16383)], None),
+];
+
 #[test]
 fn opens_what_undo_is_defined_for(rt: HostRuntime) -> Result<(), Fail> {
-    for (words, want) in [
-        ([(1168, 433), (1184, 5)], Some(OpenFault::BadJournal)),
-        ([(1168, 1), (1184, 1168)], Some(OpenFault::BadJournal)),
-        ([(1168, 1), (1184, 2047)], Some(OpenFault::BadJournal)),
-        ([(1168, 1), (1184, 16384)], Some(OpenFault::BadJournal)),
-        ([(1168, 0), (1184, 16384)], None),
-        ([(1168, 1), (1184, 16383)], None),
-    ] {
-        let fault = match Store::open(board_with(rt.alloc(), &words)?) {
+    for &(words, want) in JOURNALS {
+        let fault = match Store::open(with_words(RamBoard::new(rt.alloc())?, words)?) {
             Ok(_) => None,
             Err((_, fault)) => Some(fault),
         };
         assert_eq!(rt; fault, want, "at {words:?}");
     }
-    // The first pair that names a word counts.
-    let pairs = [
-        (1168, 2),
-        (1184, 2049),
-        (1185, 0x9810_3254),
-        (1186, 2049),
-        (1187, 0),
-        (2049, 7),
-    ];
-    let mut store = opened(board_with(rt.alloc(), &pairs)?)?;
+    Ok(())
+}
+
+// Two pairs that name one word: the first of them counts.
+const TWICE: &[(u16, u32)] = &[
+    (1168, 2),
+    (1184, 2049),
+    (1185, 0x9810_3254),
+    (1186, 2049),
+    (1187, 0),
+    (2049, 7),
+];
+
+#[test]
+fn takes_back_the_first_pair_of_a_word(rt: HostRuntime) -> Result<(), Fail> {
+    let mut store = opened(with_words(RamBoard::new(rt.alloc())?, TWICE)?)?;
     assert_eq!(rt; store.read(2049)?, 0x9810_3254);
     Ok(())
 }

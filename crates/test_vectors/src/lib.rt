@@ -7,11 +7,11 @@ mod boards;
 #[cfg(test)]
 mod bodies;
 #[cfg(test)]
-mod card_commands;
-#[cfg(test)]
 mod cards;
 #[cfg(test)]
 mod commands;
+#[cfg(test)]
+mod cuts;
 #[cfg(test)]
 mod digits;
 #[cfg(test)]
@@ -21,11 +21,9 @@ mod link;
 #[cfg(test)]
 mod pins;
 #[cfg(test)]
-mod record_commands;
+mod playing;
 #[cfg(test)]
-mod refusals;
-#[cfg(test)]
-mod rows;
+mod readers;
 #[cfg(test)]
 mod rules;
 #[cfg(test)]

@@ -1,146 +1,11 @@
-//! Both ends of the block protocol T=1 (ISO/IEC 7816-3, third edition, clause 11): blocks that come, and what is done.
+//! The reader's end of the block protocol T=1 (ISO/IEC 7816-3, third edition, clause 11), and blocks of many bytes to both
+//! ends. What the card's end answers stands in rows.
 
 use crate::digits::bytes_of;
 use std::alloc::Global;
 use std::process::Abort;
 use std::test::Fail;
-use t1_link::{Action, AnswerBytes, BlockBytes, CardEnd, Failure, Next, ReaderEnd};
-
-// What comes to the card's end, in hexadecimal digits, and what it does.
-#[derive(Clone, Copy)]
-enum Turn {
-    // A block, and the reply.
-    Replies(&'static str, &'static str),
-    // A block that ends a command, the command, its answer, and the first block of that.
-    Runs(&'static str, &'static str, &'static str, &'static str),
-}
-
-// A block comes to the card's end, which says what it does. The reply, if it gives one, is in the buffer.
-fn take(rt: &impl Abort, card: &mut CardEnd, block: &[u8], out: &mut BlockBytes) -> Action {
-    assert!(rt; !card.waiting());
-    card.take(block, out)
-}
-
-// The command that waits is answered, by a block in the buffer.
-fn answer(
-    rt: &impl Abort,
-    card: &mut CardEnd,
-    command: &[u8],
-    answer: &[u8],
-    out: &mut BlockBytes,
-) {
-    assert!(rt; card.waiting());
-    assert!(rt; out.is_empty());
-    assert_eq!(rt; card.command(), command);
-    let mut bytes = AnswerBytes::new();
-    bytes
-        .try_extend_from_slice(answer)
-        .expect(rt, "an answer has at most 258 bytes");
-    card.answer(&bytes, out);
-    assert!(rt; !card.waiting());
-}
-
-fn check(rt: &impl Abort, alloc: Global, card: &mut CardEnd, turn: Turn) -> Result<(), Fail> {
-    let mut out = BlockBytes::new();
-    let (block, reply) = match turn {
-        Turn::Replies(block, reply) => {
-            let action = take(rt, card, &bytes_of(alloc, block)?, &mut out);
-            assert!(rt; matches!(action, Action::Reply), "at {block}");
-            (block, reply)
-        }
-        Turn::Runs(block, command, given, reply) => {
-            let action = take(rt, card, &bytes_of(alloc, block)?, &mut out);
-            assert!(rt; matches!(action, Action::Run), "at {block}");
-            answer(
-                rt,
-                card,
-                &bytes_of(alloc, command)?,
-                &bytes_of(alloc, given)?,
-                &mut out,
-            );
-            (block, reply)
-        }
-    };
-    assert_eq!(rt;
-        out.as_slice(),
-        bytes_of(alloc, reply)?.as_slice(),
-        "at {block}"
-    );
-    Ok(())
-}
-
-// Each list begins after power-on.
-const STORIES: [&[Turn]; 5] = [
-    // The exclusive-or is wrong, the length, the node address; then a node address and a length with a wrong exclusive-or.
-    &[
-        Turn::Replies("00000800A40004023F000094", "00810081"),
-        Turn::Replies("00000900A40004023F000095", "00820082"),
-        Turn::Replies("01C000C1", "00820082"),
-        Turn::Replies("01C000C0", "00810081"),
-        Turn::Replies("0000FF00", "00820082"),
-        Turn::Replies("00C000", "00820082"),
-    ],
-    // The size that the reader takes, RESYNCH, responses that only a reader gets, and what was never sent.
-    &[
-        Turn::Replies("00C101FE3E", "00E101FE1E"),
-        Turn::Replies("00C000C0", "00E000E0"),
-        Turn::Replies("00C10100C0", "00820082"),
-        Turn::Replies("00C101FF3F", "00820082"),
-        Turn::Replies("00E000E0", "00820082"),
-        Turn::Replies("00800080", "00800080"),
-        Turn::Replies("00910091", "00800080"),
-    ],
-    // A block that comes again isn't run again, and the answer is sent again when it is asked for.
-    &[
-        Turn::Runs(
-            "00000700A4000C023F0092",
-            "00A4000C023F00",
-            "9000",
-            "000002900092",
-        ),
-        Turn::Replies("00000700A4000C023F0092", "00920092"),
-        Turn::Replies("00800080", "000002900092"),
-        Turn::Replies("00900090", "00900090"),
-    ],
-    // Two blocks are one command; an empty block is a command of no bytes.
-    &[
-        Turn::Replies("00200300A40087", "00900090"),
-        Turn::Runs("0040040C023F0075", "00A4000C023F00", "9000", "000002900092"),
-        Turn::Runs("00000000", "", "6700", "004002670025"),
-    ],
-    // An answer in three blocks of four bytes; no command is taken meanwhile; after RESYNCH it goes in one.
-    &[
-        Turn::Replies("00C10104C4", "00E10104E4"),
-        Turn::Runs(
-            "00000500B082000A3D",
-            "00B082000A",
-            "981032547698103254769000",
-            "00200498103254CA",
-        ),
-        Turn::Replies("00900090", "00600476981032A8"),
-        Turn::Replies("00900090", "00600476981032A8"),
-        Turn::Replies("00400500B082000A7D", "00920092"),
-        Turn::Replies("00800080", "00000454769000B6"),
-        Turn::Replies("00C000C0", "00E000E0"),
-        Turn::Runs(
-            "00000500B082000A3D",
-            "00B082000A",
-            "981032547698103254769000",
-            "00000C9810325476981032547690009C",
-        ),
-    ],
-];
-
-#[test]
-fn card_end_takes_blocks(rt: HostRuntime) -> Result<(), Fail> {
-    for story in STORIES {
-        let mut card = CardEnd::new();
-        for turn in story {
-            check(&rt, rt.alloc(), &mut card, *turn)?;
-        }
-    }
-    Ok(())
-}
+use t1_link::{Action, BlockBytes, CardEnd, Failure, Next, ReaderEnd};
 
 // What the reader's end is told, in hexadecimal digits.
 #[derive(Clone, Copy)]
@@ -203,7 +68,7 @@ const TIME_OUT: (Event, Says) = (Event::TimedOut, Says::Block("00820082"));
 const RESYNCH: (Event, Says) = (Event::TimedOut, Says::Block("00C000C0"));
 
 // Each list begins after power-on.
-const EXCHANGES: [&[(Event, Says)]; 6] = [
+const EXCHANGES: &[&[(Event, Says)]] = &[
     &[
         (SELECT, SELECT_BLOCK),
         (Event::Got("000002900092"), Says::Answer("9000")),
@@ -258,22 +123,23 @@ const EXCHANGES: [&[(Event, Says)]; 6] = [
 fn reader_end_has_its_commands_answered(rt: HostRuntime) -> Result<(), Fail> {
     for exchange in EXCHANGES {
         let mut reader = ReaderEnd::new();
-        for (event, says) in exchange {
-            let bytes = match event {
-                Event::Send(digits) | Event::Got(digits) => bytes_of(rt.alloc(), digits)?,
-                Event::TimedOut => bytes_of(rt.alloc(), "")?,
+        for &(event, says) in *exchange {
+            let digits = match event {
+                Event::Send(digits) | Event::Got(digits) => digits,
+                Event::TimedOut => "",
             };
-            let next = tell(&rt, &mut reader, *event, &bytes);
-            assert_eq!(rt; reader.busy(), matches!(says, Says::Block(_)));
-            expect(&rt, rt.alloc(), next, *says)?;
+            let bytes = bytes_of(rt.alloc(), digits)?;
+            let next = tell(&rt, &mut reader, event, &bytes);
+            assert_eq!(rt; reader.busy(), matches!(&says, Says::Block(_)));
+            expect(&rt, rt.alloc(), next, says)?;
         }
     }
     Ok(())
 }
 
-// The longest command goes in two blocks, the longest answer in nine.
+// The longest command goes in two blocks.
 #[test]
-fn longest_command_and_answer_go_in_chains(rt: HostRuntime) -> Result<(), Fail> {
+fn longest_command_goes_in_a_chain(rt: HostRuntime) -> Result<(), Fail> {
     let mut reader = ReaderEnd::new();
     match reader.send(&[0xAA; 261]) {
         Next::Send(block) => {
@@ -283,45 +149,7 @@ fn longest_command_and_answer_go_in_chains(rt: HostRuntime) -> Result<(), Fail> 
         _ => assert!(rt; false, "no block is sent"),
     }
     let next = tell(&rt, &mut reader, Event::Got(""), &[0x00, 0x90, 0x00, 0x90]);
-    expect(&rt, rt.alloc(), next, Says::Block("004007AAAAAAAAAAAAAAED"))?;
-
-    let mut given = [0xFF; 258];
-    given[256] = 0x90;
-    given[257] = 0x00;
-    let mut even = [0xFF; 36];
-    even[..3].copy_from_slice(&[0x00, 0x20, 0x20]);
-    even[35] = 0x00;
-    let mut odd = even;
-    odd[1] = 0x60;
-    odd[35] = 0x40;
-    let mut card = CardEnd::new();
-    let mut out = BlockBytes::new();
-    let read = [0x00, 0x00, 0x05, 0x00, 0xB0, 0x00, 0x00, 0x00, 0xB5];
-    assert!(rt; matches!(take(&rt, &mut card, &read, &mut out), Action::Run));
-    answer(
-        &rt,
-        &mut card,
-        &[0x00, 0xB0, 0x00, 0x00, 0x00],
-        &given,
-        &mut out,
-    );
-    assert_eq!(rt; out.as_slice(), even.as_slice());
-    for turn in 1..=8 {
-        let is_odd = turn % 2 == 1;
-        let wants: [u8; 4] = if is_odd {
-            [0x00, 0x90, 0x00, 0x90]
-        } else {
-            [0x00, 0x80, 0x00, 0x80]
-        };
-        assert!(rt; matches!(take(&rt, &mut card, &wants, &mut out), Action::Reply));
-        let want: &[u8] = match (turn, is_odd) {
-            (8, _) => &[0x00, 0x00, 0x02, 0x90, 0x00, 0x92],
-            (_, true) => &odd,
-            (_, false) => &even,
-        };
-        assert_eq!(rt; out.as_slice(), want, "at block {turn}");
-    }
-    Ok(())
+    expect(&rt, rt.alloc(), next, Says::Block("004007AAAAAAAAAAAAAAED"))
 }
 
 // Both ends take a block, whatever its bytes.
