@@ -3,4 +3,3 @@ pub mod Giving
 pub mod Runs
 pub mod Fills
 pub mod Puts
-pub mod Exits

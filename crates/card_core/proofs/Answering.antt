@@ -30,11 +30,6 @@ pub ok_anyway : {T E : Type 0} (P : Type 0) (r : Result T E) → P → OnOk r P
 ok_anyway P (Ok x) h = h
 ok_anyway P (Err e) h = tt
 
--- and what follows from what holds of a success
-pub on_then : {T E : Type 0} (P Q : Type 0) (r : Result T E) → (P → Q) → OnOk r P → OnOk r Q
-on_then P Q (Ok x) f h = f h
-on_then P Q (Err e) f h = tt
-
 -- what an answer of a body says where it is a refusal
 module _ (answer : BodyErr) (status : Sw) (is : answer ≡ Refused status) where
   pub refused-decides : (due : Option Sw) → Decides due (Some answer) → due ≡ Some status

@@ -1,3 +1,2 @@
-mod Ending
 mod Pages
 mod Settled

@@ -16,15 +16,6 @@ use Rattle.pin_store.specs.declared.errors.Outcome.TheVariants.{Matched}
 pub pages_stay : (m after : List ℕ) → after ≡ m → ArePinPages m → ArePinPages after
 pages_stay m after same pages = subst (λ (l : List ℕ). ArePinPages l) (sym same) pages
 
--- writes after reads
-pub writes_after : (n : ℕ) (a b c : Memory) → OnlyReads a b → WritesAtMost n b.facts c.facts
-    → WritesAtMost n a.facts c.facts
-writes_after n a b c reads rest = record {
-  writes = omega (arith, reads.board.writes, rest.writes);
-  compares = rest.compares ∙ reads.board.compares;
-  matches = rest.matches ∙ reads.board.matches;
-}
-
 -- the tries were read, there was one, and one fewer was set
 pub charges : (secret left : ℕ) (a b c : Memory) → OnlyReads a b → left ≡ tries_left secret (pin_in a secret) → 0 < left
     → SetsPin (committed b) (owner secret) (with_tries secret (left - 1) (pin_in b secret)) (committed c)

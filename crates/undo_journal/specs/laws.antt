@@ -4,4 +4,5 @@ pub mod Undo
 pub mod Words
 pub mod Memory
 pub mod Calls
+pub mod Exits
 pub mod Transactions

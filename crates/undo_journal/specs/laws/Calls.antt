@@ -20,6 +20,22 @@ keeping_spends n a b kept = record {
 pub reads_spend : (n : ℕ) (a b : Memory) → OnlyReads a b → WritesAtMost n a.facts b.facts
 reads_spend n a b reads = keeping_spends n a.facts b.facts reads.board
 
+-- a bound may be higher
+pub within_more : (n k : ℕ) (f g : Facts) → n ≤ k → WritesAtMost n f g → WritesAtMost k f g
+within_more n k f g fits costs = record {
+  writes = omega (arith, fits, costs.writes);
+  compares = costs.compares;
+  matches = costs.matches;
+}
+
+-- reads before cost nothing
+pub writes_after : (n : ℕ) (a b : Memory) (f : Facts) → OnlyReads a b → WritesAtMost n b.facts f → WritesAtMost n a.facts f
+writes_after n a b f reads costs = record {
+  writes = omega (arith, reads.board.writes, costs.writes);
+  compares = costs.compares ∙ reads.board.compares;
+  matches = costs.matches ∙ reads.board.matches;
+}
+
 -- no read at all
 pub reads_same : (m : Memory) → OnlyReads m m
 reads_same m = record {

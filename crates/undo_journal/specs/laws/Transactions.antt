@@ -1,8 +1,6 @@
 -- Laws of a transaction that is begun on a ready store and spent: `a` is the store before it, `b` as it is begun, `t` after the
 -- work, `c` as commit or abandon leaves it, and `x` the store afterwards.
-use Rattle.std.specs.Prelude.{Option, Some, Result, Ok, Err, OnOk, is_some}
-use Rattle.std.specs.Result.{result_err}
-use Rattle.std.proofs.Common.{◌≡◌, ◌≤◌, ◌+◌, ℕ, List, refl, sym, ◌∙◌, ap, subst, true≢false, arith}
+use Rattle.std.proofs.Common.{◌≡◌, ◌≤◌, ◌+◌, ℕ, List, refl, sym, ◌∙◌, ap, subst, arith}
 use Rattle.nvm_board.specs.Facts.{Facts}
 use Rattle.undo_journal.specs.Memory.{Memory, committed, current, IsReady, Reports}
 use Rattle.undo_journal.specs.Spending.{WritesAtMost}
@@ -47,8 +45,3 @@ writes_ended i n k a b t c x fits same last first rest =
 pub stays_spends : (f g : Facts) → g ≡ f → WritesAtMost 0 f g
 stays_spends f g same =
     subst (λ (h : Facts). WritesAtMost 0 f h) (sym same) (record { writes = omega arith; compares = refl; matches = refl })
-
--- of a success nothing is said where there was an error
-pub on_error : {T E : Type 0} (P : Type 0) (r : Result T E) (e : E) → result_err r ≡ Some e → OnOk r P
-on_error {T} {E} P (Ok v) e is = absurd (true≢false (sym (ap (λ (o : Option E). is_some o) is)))
-on_error {T} {E} P (Err f) e is = tt

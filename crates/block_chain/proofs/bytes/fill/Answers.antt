@@ -9,7 +9,7 @@ use Rattle.block_chain.specs.laws.Bytes.{leads_blocks}
 use Rattle.block_chain.specs.laws.Chains.{head_small, leads_first}
 use Rattle.block_chain.specs.laws.Filling.{AreFilled, filled_more, first_filled}
 use Rattle.block_chain.proofs.Fills.{block_to_fill, only_filled, next_to_fill, next_small}
-use Rattle.block_chain.proofs.Exits.{none_ok, error_tells}
+use Rattle.undo_journal.specs.laws.Exits.{none_ok, error_tells}
 use Rattle.block_chain.proofs.bytes.fill.Goals as goal
 
 pub read_head-requires-clause-small : goal.read_head-requires-clause-small

@@ -8,7 +8,7 @@ use Rattle.block_chain.specs.Chains.{chain_of}
 use Rattle.block_chain.specs.laws.Bytes.{leads_blocks}
 use Rattle.block_chain.specs.laws.Overwriting.{IsPut, overwrites_none, touched, put_none, put_all}
 use Rattle.block_chain.proofs.Puts.{word_block, word_small, word_fits, word_put, link_put, link_small}
-use Rattle.block_chain.proofs.Exits.{none_ok, error_tells}
+use Rattle.undo_journal.specs.laws.Exits.{none_ok, error_tells}
 use Rattle.block_chain.proofs.bytes.set_bytes.Goals as goal
 
 pub loop-k-init : goal.loop-k-init

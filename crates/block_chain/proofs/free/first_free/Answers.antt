@@ -5,7 +5,7 @@ use Rattle.undo_journal.specs.laws.Calls.{txn_reads_then}
 use Rattle.block_chain.specs.Chains.{chain, free_chain}
 use Rattle.block_chain.specs.Words.{link}
 use Rattle.block_chain.specs.laws.Chains.{at_block, head_small}
-use Rattle.block_chain.proofs.Exits.{none_ok, error_tells}
+use Rattle.undo_journal.specs.laws.Exits.{none_ok, error_tells}
 use Rattle.block_chain.proofs.free.first_free.Goals as goal
 
 pub head-requires-clause-small : goal.head-requires-clause-small

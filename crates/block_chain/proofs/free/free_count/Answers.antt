@@ -3,7 +3,7 @@ use Rattle.undo_journal.specs.Memory.{committed}
 use Rattle.undo_journal.specs.laws.Calls.{reads_then}
 use Rattle.block_chain.specs.Chains.{free_chain}
 use Rattle.block_chain.specs.laws.Chains.{at_some, head_small, leads_ended, leads_first}
-use Rattle.block_chain.proofs.Exits.{none_ok, error_tells}
+use Rattle.undo_journal.specs.laws.Exits.{none_ok, error_tells}
 use Rattle.block_chain.proofs.free.free_count.Goals as goal
 
 pub read_head-requires-clause-small : goal.read_head-requires-clause-small

@@ -10,7 +10,7 @@ use Rattle.block_chain.specs.Parts.{first_of, joined}
 use Rattle.block_chain.specs.declared.chain.Chain.{Chain}
 use Rattle.block_chain.specs.laws.Chains.{head_small}
 use Rattle.block_chain.specs.laws.Joining.{joined-nil, joined-cons, length-joined, whole_block}
-use Rattle.block_chain.proofs.Exits.{none_ok, error_tells}
+use Rattle.undo_journal.specs.laws.Exits.{none_ok, error_tells}
 use Rattle.block_chain.proofs.free.join.Goals as goal
 use Rattle.nvm_board.specs.declared.board.TheConstants.{PAGE_WORDS}
 

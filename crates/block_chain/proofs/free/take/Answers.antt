@@ -6,7 +6,7 @@ use Rattle.undo_journal.specs.laws.Calls.{sets_then, reads_sets}
 use Rattle.block_chain.specs.Changes.{Takes}
 use Rattle.block_chain.specs.declared.layout.TheConstants.{HEADER_PAGE}
 use Rattle.block_chain.proofs.Taking.{takes}
-use Rattle.block_chain.proofs.Exits.{none_ok, error_tells}
+use Rattle.undo_journal.specs.laws.Exits.{none_ok, error_tells}
 use Rattle.block_chain.proofs.free.take.Goals as goal
 use Rattle.nvm_board.specs.declared.board.TheConstants.{PAGE_WORDS}
 use Rattle.block_chain.specs.declared.layout.TheConstants.{FREE_HEAD_WORD}

@@ -3,7 +3,7 @@ use Rattle.undo_journal.specs.Memory.{committed}
 use Rattle.undo_journal.specs.laws.Calls.{reads_then}
 use Rattle.block_chain.specs.Chains.{chain}
 use Rattle.block_chain.specs.laws.Chains.{at_block}
-use Rattle.block_chain.proofs.Exits.{none_ok, error_tells}
+use Rattle.undo_journal.specs.laws.Exits.{none_ok, error_tells}
 use Rattle.block_chain.proofs.reading.block_at.Goals as goal
 
 pub read_link-requires-clause-block : goal.read_link-requires-clause-block

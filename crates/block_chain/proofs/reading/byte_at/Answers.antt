@@ -7,7 +7,7 @@ use Rattle.block_chain.specs.Words.{word, word_bytes, IsBlock}
 use Rattle.block_chain.specs.Chains.{chain_of}
 use Rattle.block_chain.specs.laws.Chains.{leads_block}
 use Rattle.block_chain.specs.laws.Bytes.{content_word, leads_blocks, index-bytes_of}
-use Rattle.block_chain.proofs.Exits.{none_ok, error_tells}
+use Rattle.undo_journal.specs.laws.Exits.{none_ok, error_tells}
 use Rattle.block_chain.proofs.reading.byte_at.Goals as goal
 
 pub read_word-requires-clause-block : goal.read_word-requires-clause-block

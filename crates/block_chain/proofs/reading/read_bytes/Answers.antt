@@ -7,7 +7,7 @@ use Rattle.block_chain.specs.Chains.{chain_of}
 use Rattle.block_chain.specs.laws.Laying.{pages_most}
 use Rattle.undo_journal.specs.laws.Calls.{reads_then}
 use Rattle.block_chain.proofs.Runs.{block_here, appended, some_bytes}
-use Rattle.block_chain.proofs.Exits.{none_ok, error_tells}
+use Rattle.undo_journal.specs.laws.Exits.{none_ok, error_tells}
 use Rattle.block_chain.proofs.reading.read_bytes.Goals as goal
 
 pub overflow_add-end : goal.overflow_add-end

@@ -14,7 +14,7 @@ use Rattle.block_chain.specs.laws.Laying.{AreLaidSoFar, laid_free, laid_more, la
 use Rattle.block_chain.specs.laws.Laying.{laid_short}
 use Rattle.block_chain.specs.laws.Laying.{pages_most}
 use Rattle.block_chain.proofs.walk.lay.Given.{Over}
-use Rattle.block_chain.proofs.Exits.{none_ok, error_tells}
+use Rattle.undo_journal.specs.laws.Exits.{none_ok, error_tells}
 use Rattle.block_chain.proofs.walk.lay.Goals as goal
 use Rattle.block_chain.proofs.walk.lay.Goals.{then-not-is_extent-via-then-not-is_extent}
 use Rattle.block_chain.proofs.walk.lay.Goals.{then-not-is_extent-via-else-not-is_extent+then-walked-blocks}

@@ -9,7 +9,7 @@ use Rattle.block_chain.specs.Words.{link, IsBlock}
 use Rattle.block_chain.specs.declared.layout.TheConstants.{BLOCKS, FIRST_BLOCK_PAGE}
 use Rattle.block_chain.specs.laws.Walking.{HasWalked, walked_none, walked_more, walked_all, walked_fresh}
 use Rattle.block_chain.specs.laws.Walking.{stale_long, stale_next, last_more, pages_zero}
-use Rattle.block_chain.proofs.Exits.{none_ok, error_tells}
+use Rattle.undo_journal.specs.laws.Exits.{none_ok, error_tells}
 use Rattle.block_chain.proofs.walk.walk_over.Goals as goal
 use Rattle.block_chain.proofs.walk.walk_over.Goals.{then-loop-blocks-test+else-page-ne0, else-loop-blocks-test}
 use Rattle.nvm_board.specs.declared.board.TheConstants.{PAGE_WORDS}

@@ -1,4 +1,4 @@
-use Rattle.block_chain.proofs.Exits.{none_ok, error_tells}
+use Rattle.undo_journal.specs.laws.Exits.{none_ok, error_tells}
 use Rattle.block_chain.proofs.words.head.Goals as goal
 
 pub returns-in_err-word-clause-page : goal.returns-in_err-word-clause-page

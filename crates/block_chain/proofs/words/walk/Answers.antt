@@ -5,7 +5,7 @@ use Rattle.undo_journal.specs.laws.Calls.{txn_reads_then}
 use Rattle.block_chain.specs.Chains.{chain}
 use Rattle.block_chain.specs.laws.Chains.{IsAt, at_block}
 use Rattle.block_chain.proofs.words.walk.Given.{Over}
-use Rattle.block_chain.proofs.Exits.{none_ok, error_tells}
+use Rattle.undo_journal.specs.laws.Exits.{none_ok, error_tells}
 use Rattle.block_chain.proofs.words.walk.Goals as goal
 
 here : (g : Over) (c : goal.After-next-arg-1 g)

@@ -4,7 +4,8 @@ use Rattle.std.proofs.Math.Logic.{⊎_map}
 use Rattle.std.proofs.lemmas.Result.{on_ok_weaker}
 use Rattle.undo_journal.specs.Lent.{memory_of}
 use Rattle.undo_journal.specs.Memory.{Memory, committed, current, IsOpen, IsReady}
-use Rattle.undo_journal.specs.laws.Transactions.{begun, commits, stays, reports_ended, writes_ended, stays_spends, on_error}
+use Rattle.undo_journal.specs.laws.Exits.{on_error}
+use Rattle.undo_journal.specs.laws.Transactions.{begun, commits, stays, reports_ended, writes_ended, stays_spends}
 use Rattle.block_chain.specs.declared.layout.TheConstants.{BLOCK_BYTES}
 use Rattle.block_chain.specs.Chains.{chain_of, IsChain}
 use Rattle.block_chain.specs.Changes.{Overwrites, touched_words}

@@ -1,9 +1,9 @@
 use Rattle.undo_journal.specs.laws.Memory.{reports_then}
 use Rattle.undo_journal.specs.laws.Calls.{reads_spend}
-use Rattle.file_tree.proofs.Transactions.{writes_after}
+use Rattle.undo_journal.specs.laws.Calls.{writes_after}
 use Rattle.undo_journal.specs.laws.Calls.{reads_then}
 use Rattle.file_tree.specs.Table.{IsUsed}
-use Rattle.file_tree.proofs.Ending.{if_failed, tells_failed}
+use Rattle.undo_journal.specs.laws.Exits.{none_ok, error_tells}
 use Rattle.std.proofs.Common.{◌≡◌, ℕ, List, length, take, Option, None, Some, is_some, sym, ◌∙◌, ap, subst, arith, inl, inr}
 use Rattle.std.proofs.Common.{⊎_elim, true≢false, refl}
 use Rattle.file_tree.specs.Changes.{SameTree}
@@ -169,16 +169,16 @@ pub returns-in_err-entry-clause-idle : goal.returns-in_err-entry-clause-idle
 returns-in_err-entry-clause-idle g c = λ status is. c.find_place.ensures.reads
 
 pub returns-in_err-entry-clause-done : goal.returns-in_err-entry-clause-done
-returns-in_err-entry-clause-done g c = if_failed _ _ _ c.from_residual.ensures.1
+returns-in_err-entry-clause-done g c = none_ok _ _ _ c.from_residual.ensures.1
 
 pub returns-in_err-entry-clause-ready : goal.returns-in_err-entry-clause-ready
-returns-in_err-entry-clause-ready g c = if_failed _ _ _ c.from_residual.ensures.1
+returns-in_err-entry-clause-ready g c = none_ok _ _ _ c.from_residual.ensures.1
 
 pub returns-in_err-entry-clause-reports : goal.returns-in_err-entry-clause-reports
 returns-in_err-entry-clause-reports g c = c.find_place.ensures.reads.reports
 
 pub returns-in_err-entry-clause-tells : goal.returns-in_err-entry-clause-tells
-returns-in_err-entry-clause-tells g c = tells_failed _ _ _ c.from_residual.ensures.1 c.in_err-entry.ensures.tells
+returns-in_err-entry-clause-tells g c = error_tells _ _ _ c.from_residual.ensures.1 c.in_err-entry.ensures.tells
 
 pub returns-in_err-entry-clause-writes : goal.returns-in_err-entry-clause-writes
 returns-in_err-entry-clause-writes g c = reads_spend _ _ _ c.find_place.ensures.reads
@@ -233,16 +233,16 @@ pub returns-in_err-short-clause-idle : goal.returns-in_err-short-clause-idle
 returns-in_err-short-clause-idle g c = λ status is. reads_then _ _ _ c.find_place.ensures.reads c.short_of.ensures.reads
 
 pub returns-in_err-short-clause-done : goal.returns-in_err-short-clause-done
-returns-in_err-short-clause-done g c = if_failed _ _ _ c.from_residual-in_err-short.ensures.1
+returns-in_err-short-clause-done g c = none_ok _ _ _ c.from_residual-in_err-short.ensures.1
 
 pub returns-in_err-short-clause-ready : goal.returns-in_err-short-clause-ready
-returns-in_err-short-clause-ready g c = if_failed _ _ _ c.from_residual-in_err-short.ensures.1
+returns-in_err-short-clause-ready g c = none_ok _ _ _ c.from_residual-in_err-short.ensures.1
 
 pub returns-in_err-short-clause-reports : goal.returns-in_err-short-clause-reports
 returns-in_err-short-clause-reports g c = reports_then _ _ _ c.find_place.ensures.reads.reports c.short_of.ensures.reads.reports
 
 pub returns-in_err-short-clause-tells : goal.returns-in_err-short-clause-tells
-returns-in_err-short-clause-tells g c = tells_failed _ _ _ c.from_residual-in_err-short.ensures.1 c.in_err-short.ensures.tells
+returns-in_err-short-clause-tells g c = error_tells _ _ _ c.from_residual-in_err-short.ensures.1 c.in_err-short.ensures.tells
 
 pub returns-in_err-short-clause-writes : goal.returns-in_err-short-clause-writes
 returns-in_err-short-clause-writes g c =
@@ -257,10 +257,10 @@ write_file-requires-clause-tree g c =
     ∙ c.find_place.ensures.reads.keeps.committed_words)) c.requires.tree
 
 pub returns-in_err-write_file-clause-done : goal.returns-in_err-write_file-clause-done
-returns-in_err-write_file-clause-done g c = if_failed _ _ _ c.from_residual-in_err-write_file.ensures.1
+returns-in_err-write_file-clause-done g c = none_ok _ _ _ c.from_residual-in_err-write_file.ensures.1
 
 pub returns-in_err-write_file-clause-ready : goal.returns-in_err-write_file-clause-ready
-returns-in_err-write_file-clause-ready g c = if_failed _ _ _ c.from_residual-in_err-write_file.ensures.1
+returns-in_err-write_file-clause-ready g c = none_ok _ _ _ c.from_residual-in_err-write_file.ensures.1
 
 pub returns-in_err-write_file-clause-reports : goal.returns-in_err-write_file-clause-reports
 returns-in_err-write_file-clause-reports g c =
@@ -269,7 +269,7 @@ returns-in_err-write_file-clause-reports g c =
 
 pub returns-in_err-write_file-clause-tells : goal.returns-in_err-write_file-clause-tells
 returns-in_err-write_file-clause-tells g c =
-    tells_failed _ _ _ c.from_residual-in_err-write_file.ensures.1 c.in_err-write_file.ensures.tells
+    error_tells _ _ _ c.from_residual-in_err-write_file.ensures.1 c.in_err-write_file.ensures.tells
 
 pub returns-in_err-write_file-clause-writes : goal.returns-in_err-write_file-clause-writes
 returns-in_err-write_file-clause-writes g c =

@@ -2,7 +2,7 @@ use Rattle.std.proofs.Common.{List, ℕ, sym, subst}
 use Rattle.undo_journal.specs.laws.Calls.{reads_then}
 use Rattle.file_tree.specs.Table.{table, IsUsed}
 use Rattle.file_tree.specs.Trees.{TreeStands}
-use Rattle.file_tree.proofs.Ending.{if_failed, tells_failed}
+use Rattle.undo_journal.specs.laws.Exits.{none_ok, error_tells}
 use Rattle.file_tree.proofs.creating.find_place.Goals as goal
 
 pub taken-requires-clause-ready : goal.taken-requires-clause-ready
@@ -15,16 +15,16 @@ pub taken-requires-clause-df : goal.taken-requires-clause-df
 taken-requires-clause-df g c = c.requires.df
 
 pub returns-in_err-status-clause-found : goal.returns-in_err-status-clause-found
-returns-in_err-status-clause-found g c = if_failed _ _ _ c.from_residual.ensures.1
+returns-in_err-status-clause-found g c = none_ok _ _ _ c.from_residual.ensures.1
 
 pub returns-in_err-status-clause-ready : goal.returns-in_err-status-clause-ready
-returns-in_err-status-clause-ready g c = if_failed _ _ _ c.from_residual.ensures.1
+returns-in_err-status-clause-ready g c = none_ok _ _ _ c.from_residual.ensures.1
 
 pub returns-in_err-status-clause-reads : goal.returns-in_err-status-clause-reads
 returns-in_err-status-clause-reads g c = c.taken.ensures.reads
 
 pub returns-in_err-status-clause-tells : goal.returns-in_err-status-clause-tells
-returns-in_err-status-clause-tells g c = tells_failed _ _ _ c.from_residual.ensures.1 c.in_err-status.ensures.tells
+returns-in_err-status-clause-tells g c = error_tells _ _ _ c.from_residual.ensures.1 c.in_err-status.ensures.tells
 
 pub place_for-requires-clause-ready : goal.place_for-requires-clause-ready
 place_for-requires-clause-ready g c = c.in_ok-status.ensures.ready

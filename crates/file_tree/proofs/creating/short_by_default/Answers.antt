@@ -1,5 +1,5 @@
 use Rattle.undo_journal.specs.laws.Calls.{reads_same}
-use Rattle.file_tree.proofs.Ending.{if_failed, tells_failed}
+use Rattle.undo_journal.specs.laws.Exits.{none_ok, error_tells}
 use Rattle.file_tree.proofs.creating.short_by_default.Goals as goal
 
 pub returns-then-low-lt1-clause-ready : goal.returns-then-low-lt1-clause-ready
@@ -21,16 +21,16 @@ pub find_short-requires-clause-df : goal.find_short-requires-clause-df
 find_short-requires-clause-df g c = c.requires.df
 
 pub returns-in_err-found-clause-short : goal.returns-in_err-found-clause-short
-returns-in_err-found-clause-short g c = if_failed _ _ _ c.from_residual.ensures.1
+returns-in_err-found-clause-short g c = none_ok _ _ _ c.from_residual.ensures.1
 
 pub returns-in_err-found-clause-ready : goal.returns-in_err-found-clause-ready
-returns-in_err-found-clause-ready g c = if_failed _ _ _ c.from_residual.ensures.1
+returns-in_err-found-clause-ready g c = none_ok _ _ _ c.from_residual.ensures.1
 
 pub returns-in_err-found-clause-reads : goal.returns-in_err-found-clause-reads
 returns-in_err-found-clause-reads g c = c.find_short.ensures.reads
 
 pub returns-in_err-found-clause-tells : goal.returns-in_err-found-clause-tells
-returns-in_err-found-clause-tells g c = tells_failed _ _ _ c.from_residual.ensures.1 c.in_err-found.ensures.tells
+returns-in_err-found-clause-tells g c = error_tells _ _ _ c.from_residual.ensures.1 c.in_err-found.ensures.tells
 
 pub returns-clause-ready : goal.returns-clause-ready
 returns-clause-ready g c = c.in_ok-found.ensures.ready

@@ -13,8 +13,10 @@ use Rattle.file_tree.specs.NewFiles.{blank}
 use Rattle.file_tree.specs.Table.{table, extents}
 use Rattle.file_tree.specs.laws.Created.{AddsFile, FillsAndAdds}
 use Rattle.file_tree.specs.laws.Rewriting.{filled}
-use Rattle.file_tree.proofs.Ending.{on_then, on_failure}
-use Rattle.file_tree.proofs.Transactions.{within, stays, lasts, stays_or_lasts, reports_ended, writes_ended, writes_none}
+use Rattle.undo_journal.specs.laws.Exits.{on_then, on_error}
+use Rattle.undo_journal.specs.laws.Calls.{within_more}
+use Rattle.undo_journal.specs.laws.Transactions.{stays, reports_ended, writes_ended, stays_spends}
+use Rattle.file_tree.proofs.Transactions.{lasts, stays_or_lasts}
 use Rattle.file_tree.proofs.creating.write_file.Goals as goal
 
 -- blocks that were filled, and nothing added
@@ -114,7 +116,7 @@ returns-in-Err-clause-tells g c =
 pub returns-in-Ok-clause-writes : goal.returns-in-Ok-clause-writes
 returns-in-Ok-clause-writes g c =
     let last = c.store-1.given.1 (sym (c.add_file.ensures.sets.same_store ∙ c.begin-txn.ensures.same_store)) in
-    within (c.args.blocks + 40) CREATE_WRITES _ _ (omega (arith, c.requires.few))
+    within_more (c.args.blocks + 40) CREATE_WRITES _ _ (omega (arith, c.requires.few))
     (writes_then c.args.blocks 40 _ _ _ c.fill.ensures.writes
     (writes_ended 39 1 40 _ _ (memory_of c.add_file.new.txn) _ _
     (lit< tt) c.begin-txn.ensures.same last c.add_file.ensures.sets.writes c.commit.ensures.writes))
@@ -122,10 +124,10 @@ returns-in-Ok-clause-writes g c =
 pub returns-in-Err-clause-writes : goal.returns-in-Err-clause-writes
 returns-in-Err-clause-writes g c =
     let last = c.store-in-Err-1.given.1 (sym (c.add_file.ensures.sets.same_store ∙ c.begin-txn.ensures.same_store)) in
-    within (c.args.blocks + 40) CREATE_WRITES _ _ (omega (arith, c.requires.few))
+    within_more (c.args.blocks + 40) CREATE_WRITES _ _ (omega (arith, c.requires.few))
     (writes_then c.args.blocks 40 _ _ _ c.fill.ensures.writes
     (writes_ended 39 0 40 _ _ (memory_of c.add_file.new.txn) _ _
-    (lit< tt) c.begin-txn.ensures.same last c.add_file.ensures.sets.writes (writes_none _ _
+    (lit< tt) c.begin-txn.ensures.same last c.add_file.ensures.sets.writes (stays_spends _ _
     (c.abandon.ensures.reports.stuck c.in-Err.field-0 c.in-Err.ensures.tells).1)))
 
 pub returns-in-Err-clause-any_exit : goal.returns-in-Err-clause-any_exit
@@ -138,7 +140,7 @@ returns-in-Err-clause-any_exit g c =
 
 pub returns-in-Err-clause-done : goal.returns-in-Err-clause-done
 returns-in-Err-clause-done g c =
-    on_failure _ c.abandon.result c.in-Err.field-0 (sym c.abandon.ensures.tells ∙
+    on_error _ c.abandon.result c.in-Err.field-0 (sym c.abandon.ensures.tells ∙
     (c.abandon.ensures.reports.stuck c.in-Err.field-0 c.in-Err.ensures.tells).0)
 
 pub returns-in_err-fill-clause-any_exit : goal.returns-in_err-fill-clause-any_exit
@@ -151,4 +153,4 @@ returns-in_err-fill-clause-reports g c =
 
 pub returns-in_err-fill-clause-writes : goal.returns-in_err-fill-clause-writes
 returns-in_err-fill-clause-writes g c =
-    within c.args.blocks CREATE_WRITES _ _ (omega (arith, c.requires.few)) c.fill.ensures.writes
+    within_more c.args.blocks CREATE_WRITES _ _ (omega (arith, c.requires.few)) c.fill.ensures.writes

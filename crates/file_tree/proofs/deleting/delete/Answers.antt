@@ -1,7 +1,7 @@
 use Rattle.undo_journal.specs.laws.Memory.{reports_then}
 use Rattle.undo_journal.specs.laws.Calls.{reads_spend}
-use Rattle.file_tree.proofs.Transactions.{writes_after}
-use Rattle.file_tree.proofs.Ending.{if_failed, tells_failed}
+use Rattle.undo_journal.specs.laws.Calls.{writes_after}
+use Rattle.undo_journal.specs.laws.Exits.{none_ok, error_tells}
 use Rattle.std.proofs.Common.{◌≡◌, ℕ, List, length, sym, ◌∙◌, ap, subst, inl, inr, ⊎_elim}
 use Rattle.undo_journal.specs.Memory.{committed}
 use Rattle.file_tree.specs.declared.entry.Entry.{Entry}
@@ -100,19 +100,19 @@ pub returns-in_err-removal-clause-any_exit : goal.returns-in_err-removal-clause-
 returns-in_err-removal-clause-any_exit g c = inl c.removal_of.ensures.reads.keeps.committed_words
 
 pub returns-in_err-removal-clause-done : goal.returns-in_err-removal-clause-done
-returns-in_err-removal-clause-done g c = if_failed _ _ _ c.from_residual.ensures.1
+returns-in_err-removal-clause-done g c = none_ok _ _ _ c.from_residual.ensures.1
 
 pub returns-in_err-removal-clause-space : goal.returns-in_err-removal-clause-space
-returns-in_err-removal-clause-space g c = if_failed _ _ _ c.from_residual.ensures.1
+returns-in_err-removal-clause-space g c = none_ok _ _ _ c.from_residual.ensures.1
 
 pub returns-in_err-removal-clause-ready : goal.returns-in_err-removal-clause-ready
-returns-in_err-removal-clause-ready g c = if_failed _ _ _ c.from_residual.ensures.1
+returns-in_err-removal-clause-ready g c = none_ok _ _ _ c.from_residual.ensures.1
 
 pub returns-in_err-removal-clause-reports : goal.returns-in_err-removal-clause-reports
 returns-in_err-removal-clause-reports g c = c.removal_of.ensures.reads.reports
 
 pub returns-in_err-removal-clause-tells : goal.returns-in_err-removal-clause-tells
-returns-in_err-removal-clause-tells g c = tells_failed _ _ _ c.from_residual.ensures.1 c.in_err-removal.ensures.tells
+returns-in_err-removal-clause-tells g c = error_tells _ _ _ c.from_residual.ensures.1 c.in_err-removal.ensures.tells
 
 pub returns-in_err-removal-clause-writes : goal.returns-in_err-removal-clause-writes
 returns-in_err-removal-clause-writes g c = reads_spend _ _ _ c.removal_of.ensures.reads
@@ -121,20 +121,20 @@ pub remove-requires-clause-ready : goal.remove-requires-clause-ready
 remove-requires-clause-ready g c = c.in_ok-removal.ensures.ready
 
 pub returns-in_err-remove-clause-done : goal.returns-in_err-remove-clause-done
-returns-in_err-remove-clause-done g c = if_failed _ _ _ c.from_residual-in_err-remove.ensures.1
+returns-in_err-remove-clause-done g c = none_ok _ _ _ c.from_residual-in_err-remove.ensures.1
 
 pub returns-in_err-remove-clause-space : goal.returns-in_err-remove-clause-space
-returns-in_err-remove-clause-space g c = if_failed _ _ _ c.from_residual-in_err-remove.ensures.1
+returns-in_err-remove-clause-space g c = none_ok _ _ _ c.from_residual-in_err-remove.ensures.1
 
 pub returns-in_err-remove-clause-ready : goal.returns-in_err-remove-clause-ready
-returns-in_err-remove-clause-ready g c = if_failed _ _ _ c.from_residual-in_err-remove.ensures.1
+returns-in_err-remove-clause-ready g c = none_ok _ _ _ c.from_residual-in_err-remove.ensures.1
 
 pub returns-in_err-remove-clause-reports : goal.returns-in_err-remove-clause-reports
 returns-in_err-remove-clause-reports g c = reports_then _ _ _ c.removal_of.ensures.reads.reports c.remove.ensures.reports
 
 pub returns-in_err-remove-clause-tells : goal.returns-in_err-remove-clause-tells
 returns-in_err-remove-clause-tells g c =
-    tells_failed _ _ _ c.from_residual-in_err-remove.ensures.1 c.in_err-remove.ensures.tells
+    error_tells _ _ _ c.from_residual-in_err-remove.ensures.1 c.in_err-remove.ensures.tells
 
 pub returns-in_err-remove-clause-writes : goal.returns-in_err-remove-clause-writes
 returns-in_err-remove-clause-writes g c = writes_after _ _ _ _ c.removal_of.ensures.reads c.remove.ensures.writes

@@ -3,8 +3,9 @@ use Rattle.undo_journal.specs.Lent.{memory_of}
 use Rattle.undo_journal.specs.Memory.{Memory, IsReady}
 use Rattle.file_tree.specs.declared.layout.TheConstants.{DELETE_WRITES}
 use Rattle.file_tree.specs.laws.Deleting.{Removes}
-use Rattle.file_tree.proofs.Ending.{on_then, on_failure}
-use Rattle.file_tree.proofs.Transactions.{stays, lasts, stays_or_lasts, reports_ended, writes_ended, writes_none}
+use Rattle.undo_journal.specs.laws.Exits.{on_then, on_error}
+use Rattle.undo_journal.specs.laws.Transactions.{stays, reports_ended, writes_ended, stays_spends}
+use Rattle.file_tree.proofs.Transactions.{lasts, stays_or_lasts}
 use Rattle.file_tree.proofs.deleting.remove.Goals as goal
 
 pub returns-in-Ok-clause-any_exit : goal.returns-in-Ok-clause-any_exit
@@ -73,7 +74,7 @@ returns-in-Err-clause-writes g c =
     let last = c.store-in-Err-1.given.1 (sym (c.take_away.ensures.sets.same_store ∙ c.begin-txn.ensures.same_store)) in
     writes_ended (3 * (64 + (length c.args.chains.now + 1))) 0 DELETE_WRITES _ _ (memory_of c.take_away.new.txn) _ _ (omega
     (arith, c.requires.few)) c.begin-txn.ensures.same last c.take_away.ensures.sets.writes
-    (writes_none _ _ (c.abandon.ensures.reports.stuck c.in-Err.field-0 c.in-Err.ensures.tells).1)
+    (stays_spends _ _ (c.abandon.ensures.reports.stuck c.in-Err.field-0 c.in-Err.ensures.tells).1)
 
 pub returns-in-Err-clause-any_exit : goal.returns-in-Err-clause-any_exit
 returns-in-Err-clause-any_exit g c =
@@ -83,5 +84,5 @@ returns-in-Err-clause-any_exit g c =
 
 pub returns-in-Err-clause-done : goal.returns-in-Err-clause-done
 returns-in-Err-clause-done g c =
-    on_failure _ c.abandon.result c.in-Err.field-0 (sym c.abandon.ensures.tells ∙
+    on_error _ c.abandon.result c.in-Err.field-0 (sym c.abandon.ensures.tells ∙
     (c.abandon.ensures.reports.stuck c.in-Err.field-0 c.in-Err.ensures.tells).0)

@@ -1,4 +1,4 @@
-use Rattle.file_tree.proofs.Ending.{if_failed, tells_failed}
+use Rattle.undo_journal.specs.laws.Exits.{none_ok, error_tells}
 use Rattle.std.proofs.Common.{◌≡◌, ◌≢◌, ◌<◌, ◌+◌, ◌-◌, ◌||◌, ℕ, suc, true, false, Bool, List, sym, ◌∙◌, ap, subst, arith}
 use Rattle.undo_journal.specs.Memory.{committed}
 use Rattle.undo_journal.specs.laws.Calls.{reads_then}
@@ -89,16 +89,16 @@ pub read_entry-requires-clause-ready : goal.read_entry-requires-clause-ready
 read_entry-requires-clause-ready g c = c.loop-step.invariant.ready
 
 pub returns-in_err-entry-clause-barred : goal.returns-in_err-entry-clause-barred
-returns-in_err-entry-clause-barred g c = if_failed _ _ _ c.from_residual.ensures.1
+returns-in_err-entry-clause-barred g c = none_ok _ _ _ c.from_residual.ensures.1
 
 pub returns-in_err-entry-clause-ready : goal.returns-in_err-entry-clause-ready
-returns-in_err-entry-clause-ready g c = if_failed _ _ _ c.from_residual.ensures.1
+returns-in_err-entry-clause-ready g c = none_ok _ _ _ c.from_residual.ensures.1
 
 pub returns-in_err-entry-clause-reads : goal.returns-in_err-entry-clause-reads
 returns-in_err-entry-clause-reads g c = reads_then _ _ _ c.loop-step.invariant.reads c.read_entry.ensures.reads
 
 pub returns-in_err-entry-clause-tells : goal.returns-in_err-entry-clause-tells
-returns-in_err-entry-clause-tells g c = tells_failed _ _ _ c.from_residual.ensures.1 c.in_err-entry.ensures.tells
+returns-in_err-entry-clause-tells g c = error_tells _ _ _ c.from_residual.ensures.1 c.in_err-entry.ensures.tells
 
 pub returns-then-bars-clause-ready : goal.returns-then-bars-clause-ready
 returns-then-bars-clause-ready g c = c.in_ok-entry.ensures.ready

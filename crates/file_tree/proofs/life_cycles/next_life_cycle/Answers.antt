@@ -2,7 +2,7 @@ use Rattle.std.proofs.Common.{subst}
 use Rattle.undo_journal.specs.laws.Calls.{reads_then}
 use Rattle.file_tree.specs.Table.{IsUsed}
 use Rattle.file_tree.specs.Trees.{TreeStands}
-use Rattle.file_tree.proofs.Ending.{if_failed, tells_failed}
+use Rattle.undo_journal.specs.laws.Exits.{none_ok, error_tells}
 use Rattle.std.proofs.Common.{None, ℕ, List, Bool, if◌then◌else◌, sym, ◌∙◌, ap, ap₂}
 use Rattle.undo_journal.specs.Memory.{committed}
 use Rattle.card_rules.specs.LifeCycle.{state_after}
@@ -32,16 +32,16 @@ pub read_entry-requires-clause-ready : goal.read_entry-requires-clause-ready
 read_entry-requires-clause-ready g c = c.requires.ready
 
 pub returns-in_err-entry-clause-next : goal.returns-in_err-entry-clause-next
-returns-in_err-entry-clause-next g c = if_failed _ _ _ c.from_residual.ensures.1
+returns-in_err-entry-clause-next g c = none_ok _ _ _ c.from_residual.ensures.1
 
 pub returns-in_err-entry-clause-ready : goal.returns-in_err-entry-clause-ready
-returns-in_err-entry-clause-ready g c = if_failed _ _ _ c.from_residual.ensures.1
+returns-in_err-entry-clause-ready g c = none_ok _ _ _ c.from_residual.ensures.1
 
 pub returns-in_err-entry-clause-reads : goal.returns-in_err-entry-clause-reads
 returns-in_err-entry-clause-reads g c = c.read_entry.ensures.reads
 
 pub returns-in_err-entry-clause-tells : goal.returns-in_err-entry-clause-tells
-returns-in_err-entry-clause-tells g c = tells_failed _ _ _ c.from_residual.ensures.1 c.in_err-entry.ensures.tells
+returns-in_err-entry-clause-tells g c = error_tells _ _ _ c.from_residual.ensures.1 c.in_err-entry.ensures.tells
 
 pub is_below_barred-requires-clause-ready : goal.is_below_barred-requires-clause-ready
 is_below_barred-requires-clause-ready g c = c.in_ok-entry.ensures.ready
@@ -55,17 +55,17 @@ is_below_barred-requires-clause-used g c =
     subst (λ (l : List ℕ). IsUsed (table l) c.args.e) (sym (c.read_entry.ensures.reads.keeps.committed_words)) c.requires.used
 
 pub returns-in_err-barred-clause-next : goal.returns-in_err-barred-clause-next
-returns-in_err-barred-clause-next g c = if_failed _ _ _ c.from_residual-in_err-barred.ensures.1
+returns-in_err-barred-clause-next g c = none_ok _ _ _ c.from_residual-in_err-barred.ensures.1
 
 pub returns-in_err-barred-clause-ready : goal.returns-in_err-barred-clause-ready
-returns-in_err-barred-clause-ready g c = if_failed _ _ _ c.from_residual-in_err-barred.ensures.1
+returns-in_err-barred-clause-ready g c = none_ok _ _ _ c.from_residual-in_err-barred.ensures.1
 
 pub returns-in_err-barred-clause-reads : goal.returns-in_err-barred-clause-reads
 returns-in_err-barred-clause-reads g c = reads_then _ _ _ c.read_entry.ensures.reads c.is_below_barred.ensures.reads
 
 pub returns-in_err-barred-clause-tells : goal.returns-in_err-barred-clause-tells
 returns-in_err-barred-clause-tells g c =
-    tells_failed _ _ _ c.from_residual-in_err-barred.ensures.1 c.in_err-barred.ensures.tells
+    error_tells _ _ _ c.from_residual-in_err-barred.ensures.1 c.in_err-barred.ensures.tells
 
 pub returns-clause-ready : goal.returns-clause-ready
 returns-clause-ready g c = c.in_ok-barred.ensures.ready

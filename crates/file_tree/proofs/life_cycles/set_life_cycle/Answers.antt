@@ -1,7 +1,7 @@
 use Rattle.undo_journal.specs.laws.Memory.{reports_then}
 use Rattle.undo_journal.specs.laws.Calls.{reads_spend}
-use Rattle.file_tree.proofs.Transactions.{writes_after}
-use Rattle.file_tree.proofs.Ending.{if_failed, tells_failed}
+use Rattle.undo_journal.specs.laws.Calls.{writes_after}
+use Rattle.undo_journal.specs.laws.Exits.{none_ok, error_tells}
 use Rattle.std.proofs.Common.{◌≡◌, ◌+◌, ℕ, List, slice_set, sym, ◌∙◌, ap, subst, inl, inr, ⊎_elim}
 use Rattle.nvm_board.specs.Facts.{address}
 use Rattle.undo_journal.specs.Memory.{committed}
@@ -105,19 +105,19 @@ pub returns-in_err-entry-clause-any_exit : goal.returns-in_err-entry-clause-any_
 returns-in_err-entry-clause-any_exit g c = inl c.read_entry.ensures.reads.keeps.committed_words
 
 pub returns-in_err-entry-clause-done : goal.returns-in_err-entry-clause-done
-returns-in_err-entry-clause-done g c = if_failed _ _ _ c.from_residual.ensures.1
+returns-in_err-entry-clause-done g c = none_ok _ _ _ c.from_residual.ensures.1
 
 pub returns-in_err-entry-clause-stays : goal.returns-in_err-entry-clause-stays
 returns-in_err-entry-clause-stays g c = λ here. c.read_entry.ensures.reads
 
 pub returns-in_err-entry-clause-ready : goal.returns-in_err-entry-clause-ready
-returns-in_err-entry-clause-ready g c = if_failed _ _ _ c.from_residual.ensures.1
+returns-in_err-entry-clause-ready g c = none_ok _ _ _ c.from_residual.ensures.1
 
 pub returns-in_err-entry-clause-reports : goal.returns-in_err-entry-clause-reports
 returns-in_err-entry-clause-reports g c = c.read_entry.ensures.reads.reports
 
 pub returns-in_err-entry-clause-tells : goal.returns-in_err-entry-clause-tells
-returns-in_err-entry-clause-tells g c = tells_failed _ _ _ c.from_residual.ensures.1 c.in_err-entry.ensures.tells
+returns-in_err-entry-clause-tells g c = error_tells _ _ _ c.from_residual.ensures.1 c.in_err-entry.ensures.tells
 
 pub returns-in_err-entry-clause-writes : goal.returns-in_err-entry-clause-writes
 returns-in_err-entry-clause-writes g c = reads_spend _ _ _ c.read_entry.ensures.reads
@@ -144,10 +144,10 @@ pub write_life-requires-clause-ready : goal.write_life-requires-clause-ready
 write_life-requires-clause-ready g c = c.in_ok-entry.ensures.ready
 
 pub returns-in_err-write_life-clause-done : goal.returns-in_err-write_life-clause-done
-returns-in_err-write_life-clause-done g c = if_failed _ _ _ c.from_residual-in_err-write_life.ensures.1
+returns-in_err-write_life-clause-done g c = none_ok _ _ _ c.from_residual-in_err-write_life.ensures.1
 
 pub returns-in_err-write_life-clause-ready : goal.returns-in_err-write_life-clause-ready
-returns-in_err-write_life-clause-ready g c = if_failed _ _ _ c.from_residual-in_err-write_life.ensures.1
+returns-in_err-write_life-clause-ready g c = none_ok _ _ _ c.from_residual-in_err-write_life.ensures.1
 
 pub returns-in_err-write_life-clause-reports : goal.returns-in_err-write_life-clause-reports
 returns-in_err-write_life-clause-reports g c =
@@ -155,7 +155,7 @@ returns-in_err-write_life-clause-reports g c =
 
 pub returns-in_err-write_life-clause-tells : goal.returns-in_err-write_life-clause-tells
 returns-in_err-write_life-clause-tells g c =
-    tells_failed _ _ _ c.from_residual-in_err-write_life.ensures.1 c.in_err-write_life.ensures.tells
+    error_tells _ _ _ c.from_residual-in_err-write_life.ensures.1 c.in_err-write_life.ensures.tells
 
 pub returns-in_err-write_life-clause-writes : goal.returns-in_err-write_life-clause-writes
 returns-in_err-write_life-clause-writes g c = writes_after _ _ _ _ c.read_entry.ensures.reads c.write_life.ensures.writes

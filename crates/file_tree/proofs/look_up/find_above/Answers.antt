@@ -1,5 +1,5 @@
 use Rattle.undo_journal.specs.laws.Calls.{reads_then}
-use Rattle.file_tree.proofs.Ending.{if_failed, tells_failed}
+use Rattle.undo_journal.specs.laws.Exits.{none_ok, error_tells}
 use Rattle.std.proofs.Common.{ap, arith}
 use Rattle.undo_journal.specs.Memory.{committed}
 use Rattle.file_tree.specs.declared.entry.Entry.{Entry}
@@ -20,31 +20,31 @@ pub read_entry-requires-clause-ready : goal.read_entry-requires-clause-ready
 read_entry-requires-clause-ready g c = c.requires.ready
 
 pub returns-in_err-own-clause-found : goal.returns-in_err-own-clause-found
-returns-in_err-own-clause-found g c = if_failed _ _ _ c.from_residual.ensures.1
+returns-in_err-own-clause-found g c = none_ok _ _ _ c.from_residual.ensures.1
 
 pub returns-in_err-own-clause-ready : goal.returns-in_err-own-clause-ready
-returns-in_err-own-clause-ready g c = if_failed _ _ _ c.from_residual.ensures.1
+returns-in_err-own-clause-ready g c = none_ok _ _ _ c.from_residual.ensures.1
 
 pub returns-in_err-own-clause-reads : goal.returns-in_err-own-clause-reads
 returns-in_err-own-clause-reads g c = c.read_entry.ensures.reads
 
 pub returns-in_err-own-clause-tells : goal.returns-in_err-own-clause-tells
-returns-in_err-own-clause-tells g c = tells_failed _ _ _ c.from_residual.ensures.1 c.in_err-own.ensures.tells
+returns-in_err-own-clause-tells g c = error_tells _ _ _ c.from_residual.ensures.1 c.in_err-own.ensures.tells
 
 pub read_entry-requires-2-clause-ready : goal.read_entry-requires-2-clause-ready
 read_entry-requires-2-clause-ready g c = c.in_ok-own.ensures.ready
 
 pub returns-in_err-above-clause-found : goal.returns-in_err-above-clause-found
-returns-in_err-above-clause-found g c = if_failed _ _ _ c.from_residual-in_err-above.ensures.1
+returns-in_err-above-clause-found g c = none_ok _ _ _ c.from_residual-in_err-above.ensures.1
 
 pub returns-in_err-above-clause-ready : goal.returns-in_err-above-clause-ready
-returns-in_err-above-clause-ready g c = if_failed _ _ _ c.from_residual-in_err-above.ensures.1
+returns-in_err-above-clause-ready g c = none_ok _ _ _ c.from_residual-in_err-above.ensures.1
 
 pub returns-in_err-above-clause-reads : goal.returns-in_err-above-clause-reads
 returns-in_err-above-clause-reads g c = reads_then _ _ _ c.read_entry.ensures.reads c.read_entry-2.ensures.reads
 
 pub returns-in_err-above-clause-tells : goal.returns-in_err-above-clause-tells
-returns-in_err-above-clause-tells g c = tells_failed _ _ _ c.from_residual-in_err-above.ensures.1 c.in_err-above.ensures.tells
+returns-in_err-above-clause-tells g c = error_tells _ _ _ c.from_residual-in_err-above.ensures.1 c.in_err-above.ensures.tells
 
 pub returns-then-above-identifier-clause-ready : goal.returns-then-above-identifier-clause-ready
 returns-then-above-identifier-clause-ready g c = c.in_ok-above.ensures.ready

@@ -1,5 +1,5 @@
 use Rattle.undo_journal.specs.laws.Calls.{reads_same}
-use Rattle.file_tree.proofs.Ending.{if_failed, tells_failed}
+use Rattle.undo_journal.specs.laws.Exits.{none_ok, error_tells}
 use Rattle.std.proofs.Common.{◌∙◌, ℕ, List, ap}
 use Rattle.undo_journal.specs.Memory.{committed}
 use Rattle.undo_journal.specs.laws.Calls.{reads_then}
@@ -37,32 +37,32 @@ pub read_entry-requires-clause-ready : goal.read_entry-requires-clause-ready
 read_entry-requires-clause-ready g c = c.requires.ready
 
 pub returns-in_err-entry-clause-found : goal.returns-in_err-entry-clause-found
-returns-in_err-entry-clause-found g c = if_failed _ _ _ c.from_residual.ensures.1
+returns-in_err-entry-clause-found g c = none_ok _ _ _ c.from_residual.ensures.1
 
 pub returns-in_err-entry-clause-ready : goal.returns-in_err-entry-clause-ready
-returns-in_err-entry-clause-ready g c = if_failed _ _ _ c.from_residual.ensures.1
+returns-in_err-entry-clause-ready g c = none_ok _ _ _ c.from_residual.ensures.1
 
 pub returns-in_err-entry-clause-reads : goal.returns-in_err-entry-clause-reads
 returns-in_err-entry-clause-reads g c = c.read_entry.ensures.reads
 
 pub returns-in_err-entry-clause-tells : goal.returns-in_err-entry-clause-tells
-returns-in_err-entry-clause-tells g c = tells_failed _ _ _ c.from_residual.ensures.1 c.in_err-entry.ensures.tells
+returns-in_err-entry-clause-tells g c = error_tells _ _ _ c.from_residual.ensures.1 c.in_err-entry.ensures.tells
 
 pub find_child-requires : goal.find_child-requires
 find_child-requires g c = record { ready = c.in_ok-entry.ensures.ready }
 
 pub returns-in_err-beside-clause-found : goal.returns-in_err-beside-clause-found
-returns-in_err-beside-clause-found g c = if_failed _ _ _ c.from_residual-in_err-beside.ensures.1
+returns-in_err-beside-clause-found g c = none_ok _ _ _ c.from_residual-in_err-beside.ensures.1
 
 pub returns-in_err-beside-clause-ready : goal.returns-in_err-beside-clause-ready
-returns-in_err-beside-clause-ready g c = if_failed _ _ _ c.from_residual-in_err-beside.ensures.1
+returns-in_err-beside-clause-ready g c = none_ok _ _ _ c.from_residual-in_err-beside.ensures.1
 
 pub returns-in_err-beside-clause-reads : goal.returns-in_err-beside-clause-reads
 returns-in_err-beside-clause-reads g c = reads_then _ _ _ c.read_entry.ensures.reads c.find_child.ensures.reads
 
 pub returns-in_err-beside-clause-tells : goal.returns-in_err-beside-clause-tells
 returns-in_err-beside-clause-tells g c =
-    tells_failed _ _ _ c.from_residual-in_err-beside.ensures.1 c.in_err-beside.ensures.tells
+    error_tells _ _ _ c.from_residual-in_err-beside.ensures.1 c.in_err-beside.ensures.tells
 
 pub returns-in_default-clause-ready : goal.returns-in_default-clause-ready
 returns-in_default-clause-ready g c = c.in_ok-beside.ensures.ready
@@ -77,13 +77,13 @@ pub read_entry-requires-2-clause-ready : goal.read_entry-requires-2-clause-ready
 read_entry-requires-2-clause-ready g c = c.in_ok-beside.ensures.ready
 
 pub returns-in_err-other-clause-found : goal.returns-in_err-other-clause-found
-returns-in_err-other-clause-found g c = if_failed _ _ _ c.from_residual-in_err-other.ensures.1
+returns-in_err-other-clause-found g c = none_ok _ _ _ c.from_residual-in_err-other.ensures.1
 
 pub returns-in_err-other-clause-ready : goal.returns-in_err-other-clause-ready
-returns-in_err-other-clause-ready g c = if_failed _ _ _ c.from_residual-in_err-other.ensures.1
+returns-in_err-other-clause-ready g c = none_ok _ _ _ c.from_residual-in_err-other.ensures.1
 
 pub returns-in_err-other-clause-tells : goal.returns-in_err-other-clause-tells
-returns-in_err-other-clause-tells g c = tells_failed _ _ _ c.from_residual-in_err-other.ensures.1 c.in_err-other.ensures.tells
+returns-in_err-other-clause-tells g c = error_tells _ _ _ c.from_residual-in_err-other.ensures.1 c.in_err-other.ensures.tells
 
 pub returns-clause-found : goal.returns-clause-found
 returns-clause-found g c =

@@ -1,4 +1,4 @@
-use Rattle.file_tree.proofs.Ending.{if_failed, tells_failed}
+use Rattle.undo_journal.specs.laws.Exits.{none_ok, error_tells}
 use Rattle.std.proofs.Common.{◌≢◌, arith}
 use Rattle.undo_journal.specs.Memory.{committed}
 use Rattle.file_tree.specs.laws.Shorts.{short_named, short_found}
@@ -20,22 +20,22 @@ pub find_short_child-requires : goal.find_short_child-requires
 find_short_child-requires g c = record { ready = c.requires.ready }
 
 pub returns-in_err-found-clause-found : goal.returns-in_err-found-clause-found
-returns-in_err-found-clause-found g c = if_failed _ _ _ c.from_residual.ensures.1
+returns-in_err-found-clause-found g c = none_ok _ _ _ c.from_residual.ensures.1
 
 pub returns-in_err-found-clause-child : goal.returns-in_err-found-clause-child
-returns-in_err-found-clause-child g c = if_failed _ _ _ c.from_residual.ensures.1
+returns-in_err-found-clause-child g c = none_ok _ _ _ c.from_residual.ensures.1
 
 pub returns-in_err-found-clause-elementary : goal.returns-in_err-found-clause-elementary
-returns-in_err-found-clause-elementary g c = if_failed _ _ _ c.from_residual.ensures.1
+returns-in_err-found-clause-elementary g c = none_ok _ _ _ c.from_residual.ensures.1
 
 pub returns-in_err-found-clause-ready : goal.returns-in_err-found-clause-ready
-returns-in_err-found-clause-ready g c = if_failed _ _ _ c.from_residual.ensures.1
+returns-in_err-found-clause-ready g c = none_ok _ _ _ c.from_residual.ensures.1
 
 pub returns-in_err-found-clause-reads : goal.returns-in_err-found-clause-reads
 returns-in_err-found-clause-reads g c = c.find_short_child.ensures.reads
 
 pub returns-in_err-found-clause-tells : goal.returns-in_err-found-clause-tells
-returns-in_err-found-clause-tells g c = tells_failed _ _ _ c.from_residual.ensures.1 c.in_err-found.ensures.tells
+returns-in_err-found-clause-tells g c = error_tells _ _ _ c.from_residual.ensures.1 c.in_err-found.ensures.tells
 
 pub returns-clause-ready : goal.returns-clause-ready
 returns-clause-ready g c = c.in_ok-found.ensures.ready

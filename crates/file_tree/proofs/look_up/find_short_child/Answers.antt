@@ -1,5 +1,5 @@
 use Rattle.undo_journal.specs.laws.Calls.{reads_then}
-use Rattle.file_tree.proofs.Ending.{if_failed, tells_failed}
+use Rattle.undo_journal.specs.laws.Exits.{none_ok, error_tells}
 use Rattle.std.proofs.Common.{rules, ◌<◌, ◌≤◌, ◌∙◌, ℕ, List, sym, ap, arith, below_more, true≢false}
 use Rattle.file_tree.specs.Table.{table, entry_in}
 use Rattle.file_tree.specs.laws.LookUps.{short_there, no_short_there}
@@ -17,16 +17,16 @@ pub read_entry-requires-clause-ready : goal.read_entry-requires-clause-ready
 read_entry-requires-clause-ready g c = c.loop-e.invariant.ready
 
 pub returns-in_err-entry-clause-found : goal.returns-in_err-entry-clause-found
-returns-in_err-entry-clause-found g c = if_failed _ _ _ c.from_residual.ensures.1
+returns-in_err-entry-clause-found g c = none_ok _ _ _ c.from_residual.ensures.1
 
 pub returns-in_err-entry-clause-ready : goal.returns-in_err-entry-clause-ready
-returns-in_err-entry-clause-ready g c = if_failed _ _ _ c.from_residual.ensures.1
+returns-in_err-entry-clause-ready g c = none_ok _ _ _ c.from_residual.ensures.1
 
 pub returns-in_err-entry-clause-reads : goal.returns-in_err-entry-clause-reads
 returns-in_err-entry-clause-reads g c = reads_then _ _ _ c.loop-e.invariant.reads c.read_entry.ensures.reads
 
 pub returns-in_err-entry-clause-tells : goal.returns-in_err-entry-clause-tells
-returns-in_err-entry-clause-tells g c = tells_failed _ _ _ c.from_residual.ensures.1 c.in_err-entry.ensures.tells
+returns-in_err-entry-clause-tells g c = error_tells _ _ _ c.from_residual.ensures.1 c.in_err-entry.ensures.tells
 
 pub returns-then-has_short_identifier-clause-ready : goal.returns-then-has_short_identifier-clause-ready
 returns-then-has_short_identifier-clause-ready g c = c.in_ok-entry.ensures.ready

@@ -1,7 +1,7 @@
 use Rattle.std.proofs.Common.{List, ℕ, sym, ◌∙◌, subst}
 use Rattle.file_tree.specs.Table.{IsUsed}
 use Rattle.file_tree.specs.Trees.{TreeStands}
-use Rattle.file_tree.proofs.Ending.{if_failed, tells_failed}
+use Rattle.undo_journal.specs.laws.Exits.{none_ok, error_tells}
 use Rattle.std.proofs.Common.{rules, None, Some}
 use Rattle.undo_journal.specs.laws.Calls.{reads_then}
 use Rattle.undo_journal.specs.Memory.{committed}
@@ -38,19 +38,19 @@ pub find_child-requires : goal.find_child-requires
 find_child-requires g c = record { ready = c.requires.ready }
 
 pub returns-in_err-child-clause-found : goal.returns-in_err-child-clause-found
-returns-in_err-child-clause-found g c = if_failed _ _ _ c.from_residual.ensures.1
+returns-in_err-child-clause-found g c = none_ok _ _ _ c.from_residual.ensures.1
 
 pub returns-in_err-child-clause-used : goal.returns-in_err-child-clause-used
-returns-in_err-child-clause-used g c = if_failed _ _ _ c.from_residual.ensures.1
+returns-in_err-child-clause-used g c = none_ok _ _ _ c.from_residual.ensures.1
 
 pub returns-in_err-child-clause-ready : goal.returns-in_err-child-clause-ready
-returns-in_err-child-clause-ready g c = if_failed _ _ _ c.from_residual.ensures.1
+returns-in_err-child-clause-ready g c = none_ok _ _ _ c.from_residual.ensures.1
 
 pub returns-in_err-child-clause-reads : goal.returns-in_err-child-clause-reads
 returns-in_err-child-clause-reads g c = c.find_child.ensures.reads
 
 pub returns-in_err-child-clause-tells : goal.returns-in_err-child-clause-tells
-returns-in_err-child-clause-tells g c = tells_failed _ _ _ c.from_residual.ensures.1 c.in_err-child.ensures.tells
+returns-in_err-child-clause-tells g c = error_tells _ _ _ c.from_residual.ensures.1 c.in_err-child.ensures.tells
 
 pub returns-in-Some-clause-ready : goal.returns-in-Some-clause-ready
 returns-in-Some-clause-ready g c = c.in_ok-child.ensures.ready
@@ -73,20 +73,20 @@ find_beside-requires-clause-df g c =
     subst (λ (l : List ℕ). IsUsed (table l) c.args.df) (sym (c.find_child.ensures.reads.keeps.committed_words)) c.requires.df
 
 pub returns-in_err-beside-clause-found : goal.returns-in_err-beside-clause-found
-returns-in_err-beside-clause-found g c = if_failed _ _ _ c.from_residual-in_err-beside.ensures.1
+returns-in_err-beside-clause-found g c = none_ok _ _ _ c.from_residual-in_err-beside.ensures.1
 
 pub returns-in_err-beside-clause-used : goal.returns-in_err-beside-clause-used
-returns-in_err-beside-clause-used g c = if_failed _ _ _ c.from_residual-in_err-beside.ensures.1
+returns-in_err-beside-clause-used g c = none_ok _ _ _ c.from_residual-in_err-beside.ensures.1
 
 pub returns-in_err-beside-clause-ready : goal.returns-in_err-beside-clause-ready
-returns-in_err-beside-clause-ready g c = if_failed _ _ _ c.from_residual-in_err-beside.ensures.1
+returns-in_err-beside-clause-ready g c = none_ok _ _ _ c.from_residual-in_err-beside.ensures.1
 
 pub returns-in_err-beside-clause-reads : goal.returns-in_err-beside-clause-reads
 returns-in_err-beside-clause-reads g c = reads_then _ _ _ c.find_child.ensures.reads c.find_beside.ensures.reads
 
 pub returns-in_err-beside-clause-tells : goal.returns-in_err-beside-clause-tells
 returns-in_err-beside-clause-tells g c =
-    tells_failed _ _ _ c.from_residual-in_err-beside.ensures.1 c.in_err-beside.ensures.tells
+    error_tells _ _ _ c.from_residual-in_err-beside.ensures.1 c.in_err-beside.ensures.tells
 
 pub returns-in-Some-2-clause-ready : goal.returns-in-Some-2-clause-ready
 returns-in-Some-2-clause-ready g c = c.in_ok-beside.ensures.ready
@@ -111,16 +111,16 @@ find_above-requires-clause-df g c =
     ∙ c.find_child.ensures.reads.keeps.committed_words)) c.requires.df
 
 pub returns-in_err-above-clause-found : goal.returns-in_err-above-clause-found
-returns-in_err-above-clause-found g c = if_failed _ _ _ c.from_residual-in_err-above.ensures.1
+returns-in_err-above-clause-found g c = none_ok _ _ _ c.from_residual-in_err-above.ensures.1
 
 pub returns-in_err-above-clause-used : goal.returns-in_err-above-clause-used
-returns-in_err-above-clause-used g c = if_failed _ _ _ c.from_residual-in_err-above.ensures.1
+returns-in_err-above-clause-used g c = none_ok _ _ _ c.from_residual-in_err-above.ensures.1
 
 pub returns-in_err-above-clause-ready : goal.returns-in_err-above-clause-ready
-returns-in_err-above-clause-ready g c = if_failed _ _ _ c.from_residual-in_err-above.ensures.1
+returns-in_err-above-clause-ready g c = none_ok _ _ _ c.from_residual-in_err-above.ensures.1
 
 pub returns-in_err-above-clause-tells : goal.returns-in_err-above-clause-tells
-returns-in_err-above-clause-tells g c = tells_failed _ _ _ c.from_residual-in_err-above.ensures.1 c.in_err-above.ensures.tells
+returns-in_err-above-clause-tells g c = error_tells _ _ _ c.from_residual-in_err-above.ensures.1 c.in_err-above.ensures.tells
 
 pub returns-clause-ready : goal.returns-clause-ready
 returns-clause-ready g c = c.in_ok-above.ensures.ready

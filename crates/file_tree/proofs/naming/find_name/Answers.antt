@@ -1,4 +1,4 @@
-use Rattle.file_tree.proofs.Ending.{if_failed, tells_failed}
+use Rattle.undo_journal.specs.laws.Exits.{none_ok, error_tells}
 use Rattle.std.proofs.Common.{List, length, ◌∙◌, ap, subst}
 use Rattle.undo_journal.specs.Memory.{committed}
 use Rattle.file_tree.specs.declared.entry.Entry.{Entry}
@@ -30,19 +30,19 @@ pub read_table-requires : goal.read_table-requires
 read_table-requires g c = record { ready = c.requires.ready }
 
 pub returns-in_err-entries-clause-found : goal.returns-in_err-entries-clause-found
-returns-in_err-entries-clause-found g c = if_failed _ _ _ c.from_residual.ensures.1
+returns-in_err-entries-clause-found g c = none_ok _ _ _ c.from_residual.ensures.1
 
 pub returns-in_err-entries-clause-used : goal.returns-in_err-entries-clause-used
-returns-in_err-entries-clause-used g c = if_failed _ _ _ c.from_residual.ensures.1
+returns-in_err-entries-clause-used g c = none_ok _ _ _ c.from_residual.ensures.1
 
 pub returns-in_err-entries-clause-ready : goal.returns-in_err-entries-clause-ready
-returns-in_err-entries-clause-ready g c = if_failed _ _ _ c.from_residual.ensures.1
+returns-in_err-entries-clause-ready g c = none_ok _ _ _ c.from_residual.ensures.1
 
 pub returns-in_err-entries-clause-reads : goal.returns-in_err-entries-clause-reads
 returns-in_err-entries-clause-reads g c = c.read_table.ensures.reads
 
 pub returns-in_err-entries-clause-tells : goal.returns-in_err-entries-clause-tells
-returns-in_err-entries-clause-tells g c = tells_failed _ _ _ c.from_residual.ensures.1 c.in_err-entries.ensures.tells
+returns-in_err-entries-clause-tells g c = error_tells _ _ _ c.from_residual.ensures.1 c.in_err-entries.ensures.tells
 
 pub returns-clause-ready : goal.returns-clause-ready
 returns-clause-ready g c = c.in_ok-entries.ensures.ready

@@ -1,4 +1,4 @@
-use Rattle.file_tree.proofs.Ending.{if_failed, tells_failed}
+use Rattle.undo_journal.specs.laws.Exits.{none_ok, error_tells}
 use Rattle.std.proofs.Common.{◌≡◌, ◌≤◌, ◌<◌, ◌+◌, ◌∷◌, ℕ, List, Option, None, length, drop, slice_index, subst, arith}
 use Rattle.std.proofs.lemmas.List.{drop_more, drop_all}
 use Rattle.undo_journal.specs.Memory.{committed}
@@ -63,19 +63,19 @@ pub find_child-requires : goal.find_child-requires
 find_child-requires g c = record { ready = c.loop-k.invariant.ready }
 
 pub returns-in_err-child-clause-found : goal.returns-in_err-child-clause-found
-returns-in_err-child-clause-found g c = if_failed _ _ _ c.from_residual.ensures.1
+returns-in_err-child-clause-found g c = none_ok _ _ _ c.from_residual.ensures.1
 
 pub returns-in_err-child-clause-used : goal.returns-in_err-child-clause-used
-returns-in_err-child-clause-used g c = if_failed _ _ _ c.from_residual.ensures.1
+returns-in_err-child-clause-used g c = none_ok _ _ _ c.from_residual.ensures.1
 
 pub returns-in_err-child-clause-ready : goal.returns-in_err-child-clause-ready
-returns-in_err-child-clause-ready g c = if_failed _ _ _ c.from_residual.ensures.1
+returns-in_err-child-clause-ready g c = none_ok _ _ _ c.from_residual.ensures.1
 
 pub returns-in_err-child-clause-reads : goal.returns-in_err-child-clause-reads
 returns-in_err-child-clause-reads g c = reads_then _ _ _ c.loop-k.invariant.reads c.find_child.ensures.reads
 
 pub returns-in_err-child-clause-tells : goal.returns-in_err-child-clause-tells
-returns-in_err-child-clause-tells g c = tells_failed _ _ _ c.from_residual.ensures.1 c.in_err-child.ensures.tells
+returns-in_err-child-clause-tells g c = error_tells _ _ _ c.from_residual.ensures.1 c.in_err-child.ensures.tells
 
 pub returns-in-None-clause-ready : goal.returns-in-None-clause-ready
 returns-in-None-clause-ready g c = c.in_ok-child.ensures.ready

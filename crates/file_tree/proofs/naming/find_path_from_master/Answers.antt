@@ -1,4 +1,4 @@
-use Rattle.file_tree.proofs.Ending.{if_failed, tells_failed}
+use Rattle.undo_journal.specs.laws.Exits.{none_ok, error_tells}
 use Rattle.std.proofs.Common.{◌∙◌}
 use Rattle.undo_journal.specs.Memory.{committed}
 use Rattle.file_tree.specs.Table.{table}
@@ -20,19 +20,19 @@ pub find_path-requires-clause-df : goal.find_path-requires-clause-df
 find_path-requires-clause-df g c = master_used (table (committed c.args.store.now)) c.requires.tree.entries
 
 pub returns-in_err-found-clause-found : goal.returns-in_err-found-clause-found
-returns-in_err-found-clause-found g c = if_failed _ _ _ c.from_residual.ensures.1
+returns-in_err-found-clause-found g c = none_ok _ _ _ c.from_residual.ensures.1
 
 pub returns-in_err-found-clause-used : goal.returns-in_err-found-clause-used
-returns-in_err-found-clause-used g c = if_failed _ _ _ c.from_residual.ensures.1
+returns-in_err-found-clause-used g c = none_ok _ _ _ c.from_residual.ensures.1
 
 pub returns-in_err-found-clause-ready : goal.returns-in_err-found-clause-ready
-returns-in_err-found-clause-ready g c = if_failed _ _ _ c.from_residual.ensures.1
+returns-in_err-found-clause-ready g c = none_ok _ _ _ c.from_residual.ensures.1
 
 pub returns-in_err-found-clause-reads : goal.returns-in_err-found-clause-reads
 returns-in_err-found-clause-reads g c = c.find_path.ensures.reads
 
 pub returns-in_err-found-clause-tells : goal.returns-in_err-found-clause-tells
-returns-in_err-found-clause-tells g c = tells_failed _ _ _ c.from_residual.ensures.1 c.in_err-found.ensures.tells
+returns-in_err-found-clause-tells g c = error_tells _ _ _ c.from_residual.ensures.1 c.in_err-found.ensures.tells
 
 pub returns-clause-ready : goal.returns-clause-ready
 returns-clause-ready g c = c.in_ok-found.ensures.ready

@@ -1,5 +1,5 @@
 use Rattle.undo_journal.specs.laws.Calls.{reads_then}
-use Rattle.file_tree.proofs.Ending.{if_failed, tells_failed}
+use Rattle.undo_journal.specs.laws.Exits.{none_ok, error_tells}
 use Rattle.std.proofs.Common.{rules, ◌≡◌, ◌≢◌, ℕ, Bool, false, List, length, Option, None, Some, IsTrue, sym, ◌∙◌, ap, subst, arith, true≢false, inl, inr}
 use Rattle.std.proofs.lemmas.Bool.Decides.{eqb_tells}
 use Rattle.undo_journal.specs.Memory.{committed}
@@ -101,16 +101,16 @@ pub read_table-requires : goal.read_table-requires
 read_table-requires g c = record { ready = c.requires.ready }
 
 pub returns-in_err-entries-clause-place : goal.returns-in_err-entries-clause-place
-returns-in_err-entries-clause-place g c = if_failed _ _ _ c.from_residual.ensures.1
+returns-in_err-entries-clause-place g c = none_ok _ _ _ c.from_residual.ensures.1
 
 pub returns-in_err-entries-clause-ready : goal.returns-in_err-entries-clause-ready
-returns-in_err-entries-clause-ready g c = if_failed _ _ _ c.from_residual.ensures.1
+returns-in_err-entries-clause-ready g c = none_ok _ _ _ c.from_residual.ensures.1
 
 pub returns-in_err-entries-clause-reads : goal.returns-in_err-entries-clause-reads
 returns-in_err-entries-clause-reads g c = c.read_table.ensures.reads
 
 pub returns-in_err-entries-clause-tells : goal.returns-in_err-entries-clause-tells
-returns-in_err-entries-clause-tells g c = tells_failed _ _ _ c.from_residual.ensures.1 c.in_err-entries.ensures.tells
+returns-in_err-entries-clause-tells g c = error_tells _ _ _ c.from_residual.ensures.1 c.in_err-entries.ensures.tells
 
 pub returns-then-is_deepest-clause-ready : goal.returns-then-is_deepest-clause-ready
 returns-then-is_deepest-clause-ready g c = c.in_ok-entries.ensures.ready
@@ -134,16 +134,16 @@ pub free_count-requires-clause-ready : goal.free_count-requires-clause-ready
 free_count-requires-clause-ready g c = c.in_ok-entries.ensures.ready
 
 pub returns-in_err-free-clause-place : goal.returns-in_err-free-clause-place
-returns-in_err-free-clause-place g c = if_failed _ _ _ c.from_residual-in_err-free.ensures.1
+returns-in_err-free-clause-place g c = none_ok _ _ _ c.from_residual-in_err-free.ensures.1
 
 pub returns-in_err-free-clause-ready : goal.returns-in_err-free-clause-ready
-returns-in_err-free-clause-ready g c = if_failed _ _ _ c.from_residual-in_err-free.ensures.1
+returns-in_err-free-clause-ready g c = none_ok _ _ _ c.from_residual-in_err-free.ensures.1
 
 pub returns-in_err-free-clause-reads : goal.returns-in_err-free-clause-reads
 returns-in_err-free-clause-reads g c = reads_then _ _ _ c.read_table.ensures.reads c.free_count.ensures.reads
 
 pub returns-in_err-free-clause-tells : goal.returns-in_err-free-clause-tells
-returns-in_err-free-clause-tells g c = tells_failed _ _ _ c.from_residual-in_err-free.ensures.1 c.in_err-free.ensures.tells
+returns-in_err-free-clause-tells g c = error_tells _ _ _ c.from_residual-in_err-free.ensures.1 c.in_err-free.ensures.tells
 
 pub returns-then-free-blocks_for-clause-ready : goal.returns-then-free-blocks_for-clause-ready
 returns-then-free-blocks_for-clause-ready g c = c.in_ok-free.ensures.ready

@@ -1,4 +1,4 @@
-use Rattle.file_tree.proofs.Ending.{if_failed, tells_failed}
+use Rattle.undo_journal.specs.laws.Exits.{none_ok, error_tells}
 use Rattle.std.proofs.Common.{◌+◌, sym, ◌∙◌, arith}
 use Rattle.undo_journal.specs.Memory.{committed}
 use Rattle.block_chain.specs.Words.{page_words}
@@ -19,16 +19,16 @@ pub read_words-requires-clause-ready : goal.read_words-requires-clause-ready
 read_words-requires-clause-ready g c = c.requires.ready
 
 pub returns-in_err-words-clause-entry : goal.returns-in_err-words-clause-entry
-returns-in_err-words-clause-entry g c = if_failed _ _ _ c.from_residual.ensures.1
+returns-in_err-words-clause-entry g c = none_ok _ _ _ c.from_residual.ensures.1
 
 pub returns-in_err-words-clause-ready : goal.returns-in_err-words-clause-ready
-returns-in_err-words-clause-ready g c = if_failed _ _ _ c.from_residual.ensures.1
+returns-in_err-words-clause-ready g c = none_ok _ _ _ c.from_residual.ensures.1
 
 pub returns-in_err-words-clause-reads : goal.returns-in_err-words-clause-reads
 returns-in_err-words-clause-reads g c = c.read_words.ensures.reads
 
 pub returns-in_err-words-clause-tells : goal.returns-in_err-words-clause-tells
-returns-in_err-words-clause-tells g c = tells_failed _ _ _ c.from_residual.ensures.1 c.in_err-words.ensures.tells
+returns-in_err-words-clause-tells g c = error_tells _ _ _ c.from_residual.ensures.1 c.in_err-words.ensures.tells
 
 pub returns-clause-ready : goal.returns-clause-ready
 returns-clause-ready g c = c.in_ok-words.ensures.ready

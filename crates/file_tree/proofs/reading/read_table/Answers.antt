@@ -1,4 +1,4 @@
-use Rattle.file_tree.proofs.Ending.{if_failed, tells_failed}
+use Rattle.undo_journal.specs.laws.Exits.{none_ok, error_tells}
 use Rattle.std.proofs.Common.{rules, ◌≡◌, ◌<◌, ℕ, List, [], ◌∷◌, ◌++◌, length, take, sym, ◌∙◌, ap, ap₂, arith}
 use Rattle.std.proofs.lemmas.List.{take_more}
 use Rattle.std.proofs.Math.Seq.{take-length}
@@ -40,16 +40,16 @@ pub read_entry-requires-clause-ready : goal.read_entry-requires-clause-ready
 read_entry-requires-clause-ready g c = c.loop-e.invariant.ready
 
 pub returns-in_err-read_entry-clause-table : goal.returns-in_err-read_entry-clause-table
-returns-in_err-read_entry-clause-table g c = if_failed _ _ _ c.from_residual.ensures.1
+returns-in_err-read_entry-clause-table g c = none_ok _ _ _ c.from_residual.ensures.1
 
 pub returns-in_err-read_entry-clause-ready : goal.returns-in_err-read_entry-clause-ready
-returns-in_err-read_entry-clause-ready g c = if_failed _ _ _ c.from_residual.ensures.1
+returns-in_err-read_entry-clause-ready g c = none_ok _ _ _ c.from_residual.ensures.1
 
 pub returns-in_err-read_entry-clause-reads : goal.returns-in_err-read_entry-clause-reads
 returns-in_err-read_entry-clause-reads g c = reads_then _ _ _ c.loop-e.invariant.reads c.read_entry.ensures.reads
 
 pub returns-in_err-read_entry-clause-tells : goal.returns-in_err-read_entry-clause-tells
-returns-in_err-read_entry-clause-tells g c = tells_failed _ _ _ c.from_residual.ensures.1 c.in_err-read_entry.ensures.tells
+returns-in_err-read_entry-clause-tells g c = error_tells _ _ _ c.from_residual.ensures.1 c.in_err-read_entry.ensures.tells
 
 pub returns-clause-ready : goal.returns-clause-ready
 returns-clause-ready g c = c.loop-e.invariant.ready

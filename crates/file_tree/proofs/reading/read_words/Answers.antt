@@ -1,4 +1,4 @@
-use Rattle.file_tree.proofs.Ending.{if_failed, tells_failed}
+use Rattle.undo_journal.specs.laws.Exits.{none_ok, error_tells}
 use Rattle.std.proofs.Common.{rules, ◌≡◌, ◌+◌, ◌<◌, ◌≤◌, ℕ, List, slice_index, slice_set, sym, ◌∙◌, ap, ap₂, arith}
 use Rattle.std.proofs.Common.{⊎_elim, get_or-set_same, get_or-set_other, length-set}
 use Rattle.std.proofs.lemmas.Bool.{cases_lt}
@@ -37,16 +37,16 @@ loop-k-preserved g c =
     }
 
 pub returns-in_err-words-clause-words : goal.returns-in_err-words-clause-words
-returns-in_err-words-clause-words g c = if_failed _ _ _ c.from_residual.ensures.1
+returns-in_err-words-clause-words g c = none_ok _ _ _ c.from_residual.ensures.1
 
 pub returns-in_err-words-clause-ready : goal.returns-in_err-words-clause-ready
-returns-in_err-words-clause-ready g c = if_failed _ _ _ c.from_residual.ensures.1
+returns-in_err-words-clause-ready g c = none_ok _ _ _ c.from_residual.ensures.1
 
 pub returns-in_err-words-clause-reads : goal.returns-in_err-words-clause-reads
 returns-in_err-words-clause-reads g c = reads_then _ _ _ c.loop-k.invariant.reads c.read.ensures.reads
 
 pub returns-in_err-words-clause-tells : goal.returns-in_err-words-clause-tells
-returns-in_err-words-clause-tells g c = tells_failed _ _ _ c.from_residual.ensures.1 c.in_err-words.ensures.tells
+returns-in_err-words-clause-tells g c = error_tells _ _ _ c.from_residual.ensures.1 c.in_err-words.ensures.tells
 
 pub returns-clause-ready : goal.returns-clause-ready
 returns-clause-ready g c = c.loop-k.invariant.ready

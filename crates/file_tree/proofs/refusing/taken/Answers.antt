@@ -1,5 +1,5 @@
 use Rattle.file_tree.specs.Table.{IsUsed}
-use Rattle.file_tree.proofs.Ending.{if_failed, tells_failed}
+use Rattle.undo_journal.specs.laws.Exits.{none_ok, error_tells}
 use Rattle.std.proofs.Common.{◌≡◌, Bool, List, ℕ, [], ◌∷◌, ◌++◌, length, Option, is_some, sym, ◌∙◌, ap, subst, arith}
 use Rattle.undo_journal.specs.Memory.{committed}
 use Rattle.undo_journal.specs.laws.Calls.{reads_then}
@@ -75,32 +75,32 @@ pub find_child-requires : goal.find_child-requires
 find_child-requires g c = record { ready = c.requires.ready }
 
 pub returns-in_err-child-clause-taken : goal.returns-in_err-child-clause-taken
-returns-in_err-child-clause-taken g c = if_failed _ _ _ c.from_residual.ensures.1
+returns-in_err-child-clause-taken g c = none_ok _ _ _ c.from_residual.ensures.1
 
 pub returns-in_err-child-clause-ready : goal.returns-in_err-child-clause-ready
-returns-in_err-child-clause-ready g c = if_failed _ _ _ c.from_residual.ensures.1
+returns-in_err-child-clause-ready g c = none_ok _ _ _ c.from_residual.ensures.1
 
 pub returns-in_err-child-clause-reads : goal.returns-in_err-child-clause-reads
 returns-in_err-child-clause-reads g c = c.find_child.ensures.reads
 
 pub returns-in_err-child-clause-tells : goal.returns-in_err-child-clause-tells
-returns-in_err-child-clause-tells g c = tells_failed _ _ _ c.from_residual.ensures.1 c.in_err-child.ensures.tells
+returns-in_err-child-clause-tells g c = error_tells _ _ _ c.from_residual.ensures.1 c.in_err-child.ensures.tells
 
 pub read_table-requires : goal.read_table-requires
 read_table-requires g c = record { ready = c.in_ok-child.ensures.ready }
 
 pub returns-in_err-entries-clause-taken : goal.returns-in_err-entries-clause-taken
-returns-in_err-entries-clause-taken g c = if_failed _ _ _ c.from_residual-in_err-entries.ensures.1
+returns-in_err-entries-clause-taken g c = none_ok _ _ _ c.from_residual-in_err-entries.ensures.1
 
 pub returns-in_err-entries-clause-ready : goal.returns-in_err-entries-clause-ready
-returns-in_err-entries-clause-ready g c = if_failed _ _ _ c.from_residual-in_err-entries.ensures.1
+returns-in_err-entries-clause-ready g c = none_ok _ _ _ c.from_residual-in_err-entries.ensures.1
 
 pub returns-in_err-entries-clause-reads : goal.returns-in_err-entries-clause-reads
 returns-in_err-entries-clause-reads g c = reads_then _ _ _ c.find_child.ensures.reads c.read_table.ensures.reads
 
 pub returns-in_err-entries-clause-tells : goal.returns-in_err-entries-clause-tells
 returns-in_err-entries-clause-tells g c =
-    tells_failed _ _ _ c.from_residual-in_err-entries.ensures.1 c.in_err-entries.ensures.tells
+    error_tells _ _ _ c.from_residual-in_err-entries.ensures.1 c.in_err-entries.ensures.tells
 
 pub is_short_taken-requires-clause-ready : goal.is_short_taken-requires-clause-ready
 is_short_taken-requires-clause-ready g c = c.in_ok-entries.ensures.ready
@@ -111,13 +111,13 @@ is_short_taken-requires-clause-df g c =
     ∙ c.find_child.ensures.reads.keeps.committed_words)) c.requires.df
 
 pub returns-in_err-short-clause-taken : goal.returns-in_err-short-clause-taken
-returns-in_err-short-clause-taken g c = if_failed _ _ _ c.from_residual-in_err-short.ensures.1
+returns-in_err-short-clause-taken g c = none_ok _ _ _ c.from_residual-in_err-short.ensures.1
 
 pub returns-in_err-short-clause-ready : goal.returns-in_err-short-clause-ready
-returns-in_err-short-clause-ready g c = if_failed _ _ _ c.from_residual-in_err-short.ensures.1
+returns-in_err-short-clause-ready g c = none_ok _ _ _ c.from_residual-in_err-short.ensures.1
 
 pub returns-in_err-short-clause-tells : goal.returns-in_err-short-clause-tells
-returns-in_err-short-clause-tells g c = tells_failed _ _ _ c.from_residual-in_err-short.ensures.1 c.in_err-short.ensures.tells
+returns-in_err-short-clause-tells g c = error_tells _ _ _ c.from_residual-in_err-short.ensures.1 c.in_err-short.ensures.tells
 
 pub returns-clause-ready : goal.returns-clause-ready
 returns-clause-ready g c = c.in_ok-short.ensures.ready

@@ -1,5 +1,5 @@
 use Rattle.undo_journal.specs.laws.Calls.{reads_then}
-use Rattle.file_tree.proofs.Ending.{if_failed, tells_failed}
+use Rattle.undo_journal.specs.laws.Exits.{none_ok, error_tells}
 use Rattle.std.proofs.Common.{rules, ℕ, List, Option, length, IsTrue, sym, ◌∙◌, ap, subst}
 use Rattle.block_chain.specs.Layout.{TellsFree}
 use Rattle.undo_journal.specs.Memory.{committed}
@@ -38,16 +38,16 @@ pub read_table-requires : goal.read_table-requires
 read_table-requires g c = record { ready = c.requires.ready }
 
 pub returns-in_err-entries-clause-tree : goal.returns-in_err-entries-clause-tree
-returns-in_err-entries-clause-tree g c = if_failed _ _ _ c.from_residual.ensures.1
+returns-in_err-entries-clause-tree g c = none_ok _ _ _ c.from_residual.ensures.1
 
 pub returns-in_err-entries-clause-ready : goal.returns-in_err-entries-clause-ready
-returns-in_err-entries-clause-ready g c = if_failed _ _ _ c.from_residual.ensures.1
+returns-in_err-entries-clause-ready g c = none_ok _ _ _ c.from_residual.ensures.1
 
 pub returns-in_err-entries-clause-reads : goal.returns-in_err-entries-clause-reads
 returns-in_err-entries-clause-reads g c = c.read_table.ensures.reads
 
 pub returns-in_err-entries-clause-tells : goal.returns-in_err-entries-clause-tells
-returns-in_err-entries-clause-tells g c = tells_failed _ _ _ c.from_residual.ensures.1 c.in_err-entries.ensures.tells
+returns-in_err-entries-clause-tells g c = error_tells _ _ _ c.from_residual.ensures.1 c.in_err-entries.ensures.tells
 
 pub returns-then-not-is_table-clause-ready : goal.returns-then-not-is_table-clause-ready
 returns-then-not-is_table-clause-ready g c = c.in_ok-entries.ensures.ready
@@ -59,16 +59,16 @@ pub returns-then-not-is_table-clause-tells : goal.returns-then-not-is_table-clau
 returns-then-not-is_table-clause-tells g c = c.in_ok-entries.ensures.ready.usable.works
 
 pub returns-in_err-lay-clause-tree : goal.returns-in_err-lay-clause-tree
-returns-in_err-lay-clause-tree g c = if_failed _ _ _ c.from_residual-in_err-lay.ensures.1
+returns-in_err-lay-clause-tree g c = none_ok _ _ _ c.from_residual-in_err-lay.ensures.1
 
 pub returns-in_err-lay-clause-ready : goal.returns-in_err-lay-clause-ready
-returns-in_err-lay-clause-ready g c = if_failed _ _ _ c.from_residual-in_err-lay.ensures.1
+returns-in_err-lay-clause-ready g c = none_ok _ _ _ c.from_residual-in_err-lay.ensures.1
 
 pub returns-in_err-lay-clause-reads : goal.returns-in_err-lay-clause-reads
 returns-in_err-lay-clause-reads g c = reads_then _ _ _ c.read_table.ensures.reads c.lay.ensures.reads
 
 pub returns-in_err-lay-clause-tells : goal.returns-in_err-lay-clause-tells
-returns-in_err-lay-clause-tells g c = tells_failed _ _ _ c.from_residual-in_err-lay.ensures.1 c.in_err-lay.ensures.tells
+returns-in_err-lay-clause-tells g c = error_tells _ _ _ c.from_residual-in_err-lay.ensures.1 c.in_err-lay.ensures.tells
 
 pub returns-in-None-clause-ready : goal.returns-in-None-clause-ready
 returns-in-None-clause-ready g c = c.in_ok-lay.ensures.ready

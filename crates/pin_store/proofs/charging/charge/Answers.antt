@@ -1,7 +1,8 @@
 use Rattle.std.proofs.Common.{◌<◌, sym, ◌∙◌, inl, refl, arith}
 use Rattle.undo_journal.specs.laws.Calls.{reads_spend}
 use Rattle.undo_journal.specs.laws.Memory.{reports_then}
-use Rattle.pin_store.proofs.Settled.{pages_stay, writes_after, charges, charges_or_not}
+use Rattle.undo_journal.specs.laws.Calls.{writes_after}
+use Rattle.pin_store.proofs.Settled.{pages_stay, charges, charges_or_not}
 use Rattle.pin_store.proofs.charging.charge.Goals as goal
 
 pub returns-in_err-left-clause-any_exit : goal.returns-in_err-left-clause-any_exit
@@ -60,7 +61,7 @@ pub returns-in_err-put_left-clause-reports : goal.returns-in_err-put_left-clause
 returns-in_err-put_left-clause-reports g c = reports_then _ _ _ c.tries.ensures.reads.reports c.put_left.ensures.reports
 
 pub returns-in_err-put_left-clause-writes : goal.returns-in_err-put_left-clause-writes
-returns-in_err-put_left-clause-writes g c = writes_after 1 _ _ c.put_left.new.store c.tries.ensures.reads c.put_left.ensures.writes
+returns-in_err-put_left-clause-writes g c = writes_after 1 _ _ c.put_left.new.store.facts c.tries.ensures.reads c.put_left.ensures.writes
 
 pub returns-clause-any_exit : goal.returns-clause-any_exit
 returns-clause-any_exit g c =
@@ -75,7 +76,7 @@ pub returns-clause-reports : goal.returns-clause-reports
 returns-clause-reports g c = reports_then _ _ _ c.tries.ensures.reads.reports c.put_left.ensures.reports
 
 pub returns-clause-writes : goal.returns-clause-writes
-returns-clause-writes g c = writes_after 1 _ _ c.put_left.new.store c.tries.ensures.reads c.put_left.ensures.writes
+returns-clause-writes g c = writes_after 1 _ _ c.put_left.new.store.facts c.tries.ensures.reads c.put_left.ensures.writes
 
 pub returns-clause-done : goal.returns-clause-done
 returns-clause-done g c =

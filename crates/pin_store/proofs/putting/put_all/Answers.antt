@@ -3,9 +3,9 @@ use Rattle.std.proofs.Math.Logic.{⊎_map}
 use Rattle.undo_journal.specs.Lent.{memory_of}
 use Rattle.undo_journal.specs.Memory.{Memory, committed, IsOpen, IsReady}
 use Rattle.pin_store.specs.Pins.{reset_pin, owner}
-use Rattle.undo_journal.specs.laws.Transactions.{commits, stays, reports_ended, writes_ended, stays_spends, on_error}
+use Rattle.undo_journal.specs.laws.Transactions.{commits, stays, reports_ended, writes_ended, stays_spends}
 use Rattle.pin_store.specs.Pages.{pin_at, SetsPin}
-use Rattle.pin_store.proofs.Ending.{on_then}
+use Rattle.undo_journal.specs.laws.Exits.{on_then, on_error}
 use Rattle.pin_store.proofs.putting.put_all.Goals as goal
 
 pub returns-in-Ok-clause-any_exit : goal.returns-in-Ok-clause-any_exit

@@ -7,7 +7,7 @@ use Rattle.pin_store.specs.Pins.{is_unblocking, owner, with_tries}
 use Rattle.pin_store.specs.Pages.{pin_page, pin_at, ArePinPages, SetsPin}
 use Rattle.pin_store.specs.laws.AllPins.{left_pages}
 use Rattle.pin_store.specs.laws.PinPages.{sets_tries}
-use Rattle.pin_store.proofs.Ending.{on_then}
+use Rattle.undo_journal.specs.laws.Exits.{on_then}
 use Rattle.pin_store.proofs.putting.put_left.Given.{Over}
 use Rattle.pin_store.proofs.putting.put_left.Goals as goal
 

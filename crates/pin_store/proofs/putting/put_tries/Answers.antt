@@ -7,7 +7,7 @@ use Rattle.pin_store.specs.Pins.{owner, verified_pin}
 use Rattle.pin_store.specs.Pages.{pin_page, pin_at, ArePinPages, SetsPin}
 use Rattle.pin_store.specs.laws.AllPins.{verified_pages}
 use Rattle.pin_store.specs.laws.PinPages.{sets_verified}
-use Rattle.pin_store.proofs.Ending.{on_then}
+use Rattle.undo_journal.specs.laws.Exits.{on_then}
 use Rattle.pin_store.proofs.putting.put_tries.Given.{Over}
 use Rattle.pin_store.proofs.putting.put_tries.Goals as goal
 

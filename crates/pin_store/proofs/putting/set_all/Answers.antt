@@ -7,7 +7,7 @@ use Rattle.pin_store.specs.declared.layout.TheConstants.{PINS, TRIES, UNBLOCKING
 use Rattle.pin_store.specs.Pins.{owner, reset_pin}
 use Rattle.pin_store.specs.Pages.{pin_page, pin_at, SetsPin}
 use Rattle.pin_store.specs.laws.PinPages.{sets_all}
-use Rattle.pin_store.proofs.Ending.{on_then}
+use Rattle.undo_journal.specs.laws.Exits.{on_then}
 use Rattle.pin_store.proofs.putting.set_all.Goals as goal
 
 pub returns-clause-done : goal.returns-clause-done

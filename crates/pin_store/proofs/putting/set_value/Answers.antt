@@ -8,7 +8,7 @@ use Rattle.pin_store.specs.declared.layout.TheConstants.{PINS, TRIES}
 use Rattle.pin_store.specs.Pins.{owner, changed_pin}
 use Rattle.pin_store.specs.Pages.{pin_page, pin_at, SetsPin}
 use Rattle.pin_store.specs.laws.PinPages.{sets_value}
-use Rattle.pin_store.proofs.Ending.{on_then}
+use Rattle.undo_journal.specs.laws.Exits.{on_then}
 use Rattle.pin_store.proofs.putting.set_value.Goals as goal
 
 pub returns-clause-done : goal.returns-clause-done
