@@ -93,7 +93,8 @@ loop-i-preserved g c =
       ready = c.in_ok-page-2.ensures.ready;
       only = subst family (sym read) only;
       filled = subst by_byte word (subst by_words (sym read) filled);
-      page = c.in_ok-page-2.ensures.page ∙ next_to_fill m c.args.n c.requires.free c.requires.enough c.loop-i._i c.loop-i.page lt c.loop-i.invariant.page _ only;
+      page = c.in_ok-page-2.ensures.page ∙ next_to_fill m c.args.n c.requires.free c.requires.enough c.loop-i._i
+          c.loop-i.page lt c.loop-i.invariant.page _ only;
       reports = reports_then _ _ _ c.loop-i.invariant.reports
           (reports_then _ _ _ c.fill_block.ensures.reports c.read_link.ensures.reads.reports);
       writes = writes_then _ _ _ _ _ c.loop-i.invariant.writes

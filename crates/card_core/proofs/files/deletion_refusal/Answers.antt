@@ -62,11 +62,14 @@ is_allowed-requires-clause-used g c =
 
 pub is_allowed-requires-2-clause-tree : goal.is_allowed-requires-2-clause-tree
 is_allowed-requires-2-clause-tree g c =
-    tree_still c.args.store.now c.is_allowed.new.store (reads_then c.args.store.now c.is_barred.new.store c.is_allowed.new.store c.is_barred.ensures.reads c.is_allowed.ensures.reads) c.requires.card
+    tree_still c.args.store.now c.is_allowed.new.store (reads_then c.args.store.now c.is_barred.new.store
+    c.is_allowed.new.store c.is_barred.ensures.reads c.is_allowed.ensures.reads) c.requires.card
 
 pub is_allowed-requires-2-clause-used : goal.is_allowed-requires-2-clause-used
 is_allowed-requires-2-clause-used g c =
-    used_still c.args.store.now c.is_allowed.new.store c.args.parent (reads_then c.args.store.now c.is_barred.new.store c.is_allowed.new.store c.is_barred.ensures.reads c.is_allowed.ensures.reads) c.requires.above
+    used_still c.args.store.now c.is_allowed.new.store c.args.parent
+    (reads_then c.args.store.now c.is_barred.new.store c.is_allowed.new.store c.is_barred.ensures.reads
+    c.is_allowed.ensures.reads) c.requires.above
 
 pub returns-in_err-own-clause-reads : goal.returns-in_err-own-clause-reads
 returns-in_err-own-clause-reads g c =

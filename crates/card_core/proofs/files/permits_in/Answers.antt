@@ -55,15 +55,19 @@ is_allowed-requires-clause-tree g c =
 
 pub is_allowed-requires-clause-used : goal.is_allowed-requires-clause-used
 is_allowed-requires-clause-used g c =
-    used_still c.args.store.now c.is_barred.new.store c.args.current.now.df c.is_barred.ensures.reads (df_used (table (committed c.args.store.now)) c.args.current.now c.requires.current)
+    used_still c.args.store.now c.is_barred.new.store c.args.current.now.df c.is_barred.ensures.reads (df_used
+    (table (committed c.args.store.now)) c.args.current.now c.requires.current)
 
 pub is_allowed-requires-2-clause-tree : goal.is_allowed-requires-2-clause-tree
 is_allowed-requires-2-clause-tree g c =
-    tree_still c.args.store.now c.is_allowed.new.store (reads_then c.args.store.now c.is_barred.new.store c.is_allowed.new.store c.is_barred.ensures.reads c.is_allowed.ensures.reads) c.requires.card
+    tree_still c.args.store.now c.is_allowed.new.store (reads_then c.args.store.now c.is_barred.new.store
+    c.is_allowed.new.store c.is_barred.ensures.reads c.is_allowed.ensures.reads) c.requires.card
 
 pub is_allowed-requires-2-clause-used : goal.is_allowed-requires-2-clause-used
 is_allowed-requires-2-clause-used g c =
-    used_still c.args.store.now c.is_allowed.new.store c.args.current.now.df (reads_then c.args.store.now c.is_barred.new.store c.is_allowed.new.store c.is_barred.ensures.reads c.is_allowed.ensures.reads) (df_used (table (committed c.args.store.now)) c.args.current.now c.requires.current)
+    used_still c.args.store.now c.is_allowed.new.store c.args.current.now.df
+    (reads_then c.args.store.now c.is_barred.new.store c.is_allowed.new.store c.is_barred.ensures.reads
+    c.is_allowed.ensures.reads) (df_used (table (committed c.args.store.now)) c.args.current.now c.requires.current)
 
 pub returns-in_err-dedicated-clause-reads : goal.returns-in_err-dedicated-clause-reads
 returns-in_err-dedicated-clause-reads g c =

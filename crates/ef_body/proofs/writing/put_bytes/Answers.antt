@@ -54,7 +54,9 @@ pub returns-in-Ok-clause-writes : goal.returns-in-Ok-clause-writes
 returns-in-Ok-clause-writes g c =
     let last = c.store-1.given.1 (sym (c.set_bytes.ensures.sets.same_store ∙ c.begin-txn.ensures.same_store)) in
     let fits : 3 * (touched_words c.args.offset (length c.args.bytes.now)) + 1 ≤ 3 * touched_words c.args.offset (length c.args.bytes.now) + 1 = omega arith in
-    writes_ended (3 * (touched_words c.args.offset (length c.args.bytes.now))) 1 (3 * touched_words c.args.offset (length c.args.bytes.now) + 1) _ _ (memory_of c.set_bytes.new.txn) _ _ fits c.begin-txn.ensures.same last c.set_bytes.ensures.sets.writes c.commit.ensures.writes
+    writes_ended (3 * (touched_words c.args.offset (length c.args.bytes.now))) 1 (3 * touched_words c.args.offset
+    (length c.args.bytes.now) + 1) _ _ (memory_of c.set_bytes.new.txn) _ _ fits c.begin-txn.ensures.same last
+    c.set_bytes.ensures.sets.writes c.commit.ensures.writes
 
 pub returns-in-Err-clause-any_exit : goal.returns-in-Err-clause-any_exit
 returns-in-Err-clause-any_exit g c =
@@ -90,7 +92,10 @@ pub returns-in-Err-clause-writes : goal.returns-in-Err-clause-writes
 returns-in-Err-clause-writes g c =
     let last = c.store-in-Err-1.given.1 (sym (c.set_bytes.ensures.sets.same_store ∙ c.begin-txn.ensures.same_store)) in
     let fits : 3 * (touched_words c.args.offset (length c.args.bytes.now)) + 0 ≤ 3 * touched_words c.args.offset (length c.args.bytes.now) + 1 = omega arith in
-    writes_ended (3 * (touched_words c.args.offset (length c.args.bytes.now))) 0 (3 * touched_words c.args.offset (length c.args.bytes.now) + 1) _ _ (memory_of c.set_bytes.new.txn) _ _ fits c.begin-txn.ensures.same last c.set_bytes.ensures.sets.writes (stays_spends _ _ (c.abandon.ensures.reports.stuck c.in-Err.field-0 c.in-Err.ensures.tells).1)
+    writes_ended (3 * (touched_words c.args.offset (length c.args.bytes.now))) 0 (3 * touched_words c.args.offset
+    (length c.args.bytes.now) + 1) _ _ (memory_of c.set_bytes.new.txn) _ _ fits c.begin-txn.ensures.same last
+    c.set_bytes.ensures.sets.writes (stays_spends _ _ (c.abandon.ensures.reports.stuck c.in-Err.field-0
+    c.in-Err.ensures.tells).1)
 
 pub set_bytes-requires-clause-ready : goal.set_bytes-requires-clause-ready
 set_bytes-requires-clause-ready g c =

@@ -57,7 +57,9 @@ returns-in-Ok-clause-writes g c =
     let last = c.store-1.given.1 (sym (c.set_record.ensures.sets.same_store ∙ c.begin-txn.ensures.same_store)) in
     let most = touched_few c.args.offset (length c.args.bytes.now) c.requires.few in
     let fits : 3 * (touched_words c.args.offset (length c.args.bytes.now) + 1) + 1 ≤ RECORD_WRITES = omega (arith, most) in
-    writes_ended (3 * (touched_words c.args.offset (length c.args.bytes.now) + 1)) 1 RECORD_WRITES _ _ (memory_of c.set_record.new.txn) _ _ fits c.begin-txn.ensures.same last c.set_record.ensures.sets.writes c.commit.ensures.writes
+    writes_ended (3 * (touched_words c.args.offset (length c.args.bytes.now) + 1)) 1 RECORD_WRITES _ _
+    (memory_of c.set_record.new.txn) _ _ fits c.begin-txn.ensures.same last c.set_record.ensures.sets.writes
+    c.commit.ensures.writes
 
 pub returns-in-Err-clause-any_exit : goal.returns-in-Err-clause-any_exit
 returns-in-Err-clause-any_exit g c =
@@ -94,7 +96,9 @@ returns-in-Err-clause-writes g c =
     let last = c.store-in-Err-1.given.1 (sym (c.set_record.ensures.sets.same_store ∙ c.begin-txn.ensures.same_store)) in
     let most = touched_few c.args.offset (length c.args.bytes.now) c.requires.few in
     let fits : 3 * (touched_words c.args.offset (length c.args.bytes.now) + 1) + 0 ≤ RECORD_WRITES = omega (arith, most) in
-    writes_ended (3 * (touched_words c.args.offset (length c.args.bytes.now) + 1)) 0 RECORD_WRITES _ _ (memory_of c.set_record.new.txn) _ _ fits c.begin-txn.ensures.same last c.set_record.ensures.sets.writes (stays_spends _ _ (c.abandon.ensures.reports.stuck c.in-Err.field-0 c.in-Err.ensures.tells).1)
+    writes_ended (3 * (touched_words c.args.offset (length c.args.bytes.now) + 1)) 0 RECORD_WRITES _ _
+    (memory_of c.set_record.new.txn) _ _ fits c.begin-txn.ensures.same last c.set_record.ensures.sets.writes
+    (stays_spends _ _ (c.abandon.ensures.reports.stuck c.in-Err.field-0 c.in-Err.ensures.tells).1)
 
 pub set_record-requires-clause-ready : goal.set_record-requires-clause-ready
 set_record-requires-clause-ready g c =

@@ -12,14 +12,18 @@ pub returns-in-Ok-clause-any_exit : goal.returns-in-Ok-clause-any_exit
 returns-in-Ok-clause-any_exit g c =
     let last = c.store-1.given.1 (sym (c.set_value.ensures.sets.same_store ∙ c.begin-txn.ensures.same_store)) in
     ⊎_map (λ still. stays _ _ (memory_of c.set_value.new.txn) _ _ c.begin-txn.ensures.same last c.set_value.ensures.sets.kept still)
-    (λ made. commits (λ (m after : List ℕ). SetsPin m (owner c.args.secret) ((changed_pin c.args.new.now) (pin_at m (owner c.args.secret))) after) _ _ _ _ c.begin-txn.ensures.same c.requires.ready c.in-Ok.ensures.done (ap (λ (m : Memory). committed m) last ∙ made.0))
+    (λ made. commits (λ (m after : List ℕ). SetsPin m (owner c.args.secret) ((changed_pin c.args.new.now) (pin_at m
+    (owner c.args.secret))) after) _ _ _ _ c.begin-txn.ensures.same c.requires.ready c.in-Ok.ensures.done (ap (λ
+    (m : Memory). committed m) last ∙ made.0))
     c.commit.ensures.any_exit
 
 pub returns-in-Ok-clause-done : goal.returns-in-Ok-clause-done
 returns-in-Ok-clause-done g c =
     let last = c.store-1.given.1 (sym (c.set_value.ensures.sets.same_store ∙ c.begin-txn.ensures.same_store)) in
     on_then _ _ c.commit.result
-    (λ made. commits (λ (m after : List ℕ). SetsPin m (owner c.args.secret) ((changed_pin c.args.new.now) (pin_at m (owner c.args.secret))) after) _ _ _ _ c.begin-txn.ensures.same c.requires.ready c.in-Ok.ensures.done (ap (λ (m : Memory). committed m) last ∙ made))
+    (λ made. commits (λ (m after : List ℕ). SetsPin m (owner c.args.secret) ((changed_pin c.args.new.now) (pin_at m
+    (owner c.args.secret))) after) _ _ _ _ c.begin-txn.ensures.same c.requires.ready c.in-Ok.ensures.done (ap (λ
+    (m : Memory). committed m) last ∙ made))
     c.commit.ensures.done
 
 pub returns-in-Ok-clause-ready : goal.returns-in-Ok-clause-ready

@@ -73,7 +73,9 @@ returns-then-right-clause-reports g c =
 pub returns-then-right-clause-spends : goal.returns-then-right-clause-spends
 returns-then-right-clause-spends g c =
     compares_after c.args.charged c.charged.inside.secret _ _ c.compare.new.self c.charged.view_is (reads_then _ _ _ c.tries.ensures.reads c.kept.ensures.reads)
-    c.compare.ensures.writes (inr c.in_ok-right.ensures.compared) (inr (c.in_ok-right.ensures.matched ∙ ap (λ (b : Bool). if b then raised c.kept.new.store.facts.matches c.charged.inside.secret else c.kept.new.store.facts.matches) c.if-right.true))
+    c.compare.ensures.writes (inr c.in_ok-right.ensures.compared) (inr (c.in_ok-right.ensures.matched
+    ∙ ap (λ (b : Bool). if b then raised c.kept.new.store.facts.matches c.charged.inside.secret else
+    c.kept.new.store.facts.matches) c.if-right.true))
 
 pub returns-then-right-clause-done : goal.returns-then-right-clause-done
 returns-then-right-clause-done g c =
@@ -82,7 +84,10 @@ returns-then-right-clause-done g c =
     ∙ ap (λ (m : List ℕ). kept c.charged.inside.secret (pin_at m (owner c.charged.inside.secret)))
     c.tries.ensures.reads.keeps.committed_words in
     is_match c.args.charged c.charged.inside.secret c.args.shown.now c.in_ok-kept.kept _ _ _ c.charged.view_is
-    (reads_then _ _ _ c.tries.ensures.reads c.kept.ensures.reads) read (c.in_ok-right.ensures.equal.0 c.if-right.true) c.in_ok-right.ensures.compared (c.in_ok-right.ensures.matched ∙ ap (λ (b : Bool). if b then raised c.kept.new.store.facts.matches c.charged.inside.secret else c.kept.new.store.facts.matches) c.if-right.true)
+    (reads_then _ _ _ c.tries.ensures.reads c.kept.ensures.reads) read
+    (c.in_ok-right.ensures.equal.0 c.if-right.true) c.in_ok-right.ensures.compared (c.in_ok-right.ensures.matched
+    ∙ ap (λ (b : Bool). if b then raised c.kept.new.store.facts.matches c.charged.inside.secret else
+    c.kept.new.store.facts.matches) c.if-right.true)
 
 pub returns-else-right-clause-kept : goal.returns-else-right-clause-kept
 returns-else-right-clause-kept g c =
@@ -101,7 +106,9 @@ returns-else-right-clause-reports g c =
 pub returns-else-right-clause-spends : goal.returns-else-right-clause-spends
 returns-else-right-clause-spends g c =
     compares_after c.args.charged c.charged.inside.secret _ _ c.compare.new.self c.charged.view_is (reads_then _ _ _ c.tries.ensures.reads c.kept.ensures.reads)
-    c.compare.ensures.writes (inr c.in_ok-right.ensures.compared) (inl (c.in_ok-right.ensures.matched ∙ ap (λ (b : Bool). if b then raised c.kept.new.store.facts.matches c.charged.inside.secret else c.kept.new.store.facts.matches) c.if-right.false))
+    c.compare.ensures.writes (inr c.in_ok-right.ensures.compared) (inl (c.in_ok-right.ensures.matched
+    ∙ ap (λ (b : Bool). if b then raised c.kept.new.store.facts.matches c.charged.inside.secret else
+    c.kept.new.store.facts.matches) c.if-right.false))
 
 pub returns-else-right-clause-done : goal.returns-else-right-clause-done
 returns-else-right-clause-done g c =
@@ -112,5 +119,8 @@ returns-else-right-clause-done g c =
     let differs : ¬ (c.in_ok-kept.kept ≡ c.args.shown.now) =
     λ same. true≢false (sym (c.in_ok-right.ensures.equal.1 same) ∙ c.if-right.false) in
     is_wrong c.args.charged c.charged.inside.secret c.in_ok-left.left c.args.shown.now c.in_ok-kept.kept _ _ _ c.charged.view_is
-    (reads_then _ _ _ c.tries.ensures.reads c.kept.ensures.reads) read differs c.in_ok-left.ensures.left c.in_ok-right.ensures.compared (c.in_ok-right.ensures.matched ∙ ap (λ (b : Bool). if b then raised c.kept.new.store.facts.matches c.charged.inside.secret else c.kept.new.store.facts.matches) c.if-right.false) c.compare.ensures.writes
+    (reads_then _ _ _ c.tries.ensures.reads c.kept.ensures.reads) read differs c.in_ok-left.ensures.left
+    c.in_ok-right.ensures.compared (c.in_ok-right.ensures.matched
+    ∙ ap (λ (b : Bool). if b then raised c.kept.new.store.facts.matches c.charged.inside.secret else
+    c.kept.new.store.facts.matches) c.if-right.false) c.compare.ensures.writes
     c.compare.ensures.keeps.committed_words
