@@ -1,8 +1,8 @@
 -- The words of a chain, as bytes are put into them one by one.
-use Rattle.std.proofs.Common.{◌≡◌, ◌+◌, ◌-◌, ◌*◌, ◌/◌, ◌%◌, ◌<◌, ◌≤◌, ℕ, List, length, slice_index, refl, sym, ◌∙◌, ap}
+use Rattle.std.proofs.Common.{◌≡◌, ◌+◌, ◌-◌, ◌*◌, ◌/◌, ◌<◌, ◌≤◌, ℕ, List, length, slice_index, refl, sym, ◌∙◌, ap}
 use Rattle.std.proofs.Common.{subst, inl, arith}
 use Rattle.nvm_board.specs.declared.board.TheConstants.{WORDS, PAGES}
-use Rattle.block_chain.specs.declared.layout.TheConstants.{BLOCK_BYTES, BLOCK_WORDS, BLOCKS}
+use Rattle.block_chain.specs.declared.layout.TheConstants.{BLOCK_BYTES, BLOCK_WORDS}
 use Rattle.block_chain.specs.Words.{link, IsBlock}
 use Rattle.block_chain.specs.Chains.{IsChain}
 use Rattle.block_chain.specs.Changes.{touched_words}

@@ -4,9 +4,8 @@ ghost use Rattle.std.specs.Prelude.{slice_index};
 ghost use Rattle.std.specs.Result.{result_err};
 ghost use Rattle.block_chain.specs.declared.layout.TheConstants.{BLOCK_BYTES, BLOCK_WORDS};
 ghost use Rattle.block_chain.specs.Changes.{touched_words};
-ghost use Rattle.undo_journal.specs.Memory.{committed, current, room, IsOpen, IsReady, IsIdle, Reports};
-ghost use Rattle.undo_journal.specs.Spending.{WritesAtMost};
-ghost use Rattle.undo_journal.specs.Calls.{Sets, TxnReads};
+ghost use Rattle.undo_journal.specs.Memory.{committed, current, room, IsOpen, IsReady};
+ghost use Rattle.undo_journal.specs.Calls.{Changes, ReadsIn, SetsIn};
 ghost use Rattle.block_chain.specs.Chains.{free_chain, bytes_of, IsChain, chain_of, HasFree};
 ghost use Rattle.block_chain.specs.Changes.{OnlyContent, Overwrites};
 ghost use Rattle.block_chain.specs.Parts.{filled_word, byte_over, PutsWord};
@@ -61,9 +60,7 @@ fn put_word<B: Board>(
     requires room { 0 < room (memory_of txn.old) }
     ensures done { OnOk result (PutsWord (current (memory_of txn.old)) page k offset bytes.now
         (current (memory_of txn.new))) }
-    ensures ready { OnOk result (IsOpen (memory_of txn.new)) }
-    ensures sets { Sets 1 txn.old txn.new }
-    ensures tells { (memory_of txn.new).failed ≡ result_err result }
+    ensures store { SetsIn 1 txn.old txn.new (result_err result) }
 {
     let at = PAGE_WORDS * page + 1 + k % BLOCK_WORDS;
     let word = content(txn, at)?;
@@ -76,9 +73,7 @@ fn content<B: Board>(txn: &mut Txn<'_, B>, at: u16) -> Result<u32, StoreErr>
     requires ready { IsOpen (memory_of txn.old) }
     requires place { IsDataAddress (current (memory_of txn.old)) at }
     ensures word { IfOk result (λ word. word ≡ slice_index (current (memory_of txn.old)) at) }
-    ensures ready { OnOk result (IsOpen (memory_of txn.new)) }
-    ensures reads { TxnReads txn.old txn.new }
-    ensures tells { (memory_of txn.new).failed ≡ result_err result }
+    ensures store { ReadsIn txn.old txn.new (result_err result) }
 {
     txn.read(at)
 }
@@ -100,10 +95,8 @@ pub fn set_bytes<B: Board>(
     requires room { touched_words offset (length bytes.now) ≤ room (memory_of txn.old) }
     ensures done { OnOk result (Overwrites (current (memory_of txn.old))
         (chain_of (current (memory_of txn.old)) chain) offset bytes.now (current (memory_of txn.new))) }
-    ensures ready { OnOk result (IsOpen (memory_of txn.new)) }
+    ensures store { SetsIn (touched_words offset (length bytes.now)) txn.old txn.new (result_err result) }
     ensures none { length bytes.now ≡ 0 → memory_of txn.new ≡ memory_of txn.old }
-    ensures sets { Sets (touched_words offset (length bytes.now)) txn.old txn.new }
-    ensures tells { (memory_of txn.new).failed ≡ result_err result }
 {
     if bytes.is_empty() {
         // the offset may be the size of the chain: there is no block there
@@ -129,11 +122,7 @@ fn fill_block<B: Board>(store: &mut Store<B>, page: u16, word: u32) -> Result<()
     ensures any_exit { Torn (committed store.old) (address page 1) (replicate BLOCK_WORDS word) (committed store.new) }
     ensures done { OnOk result (committed store.new
         ≡ written (committed store.old) (address page 1) (replicate BLOCK_WORDS word)) }
-    ensures idle { IsIdle store.new }
-    ensures ready { OnOk result (IsReady store.new) }
-    ensures reports { Reports store.old store.new }
-    ensures tells { store.new.failed ≡ result_err result }
-    ensures writes { WritesAtMost 1 store.old.facts store.new.facts }
+    ensures store { Changes 1 store.old store.new (result_err result) }
 {
     let words = [word; BLOCK_WORDS as usize];
     store.write_plain(page, 1, &words)
@@ -153,11 +142,7 @@ pub fn fill<B: Board>(store: &mut Store<B>, n: u16, byte: u8) -> Result<(), Stor
         (take n (free_chain (committed store.old))) (committed store.new) }
     ensures done { OnOk result (bytes_of (committed store.new) (take n (free_chain (committed store.old)))
         ≡ replicate (BLOCK_BYTES * n) byte) }
-    ensures idle { IsIdle store.new }
-    ensures ready { OnOk result (IsReady store.new) }
-    ensures reports { Reports store.old store.new }
-    ensures tells { store.new.failed ≡ result_err result }
-    ensures writes { WritesAtMost n store.old.facts store.new.facts }
+    ensures store { Changes n store.old store.new (result_err result) }
 {
     let word = u32::from_be_bytes([byte; 4]);
     let mut page = read_head(store)?;

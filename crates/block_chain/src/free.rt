@@ -3,7 +3,7 @@ ghost use Rattle.std.specs.Prelude.{◌≡◌, ◌+◌, ◌*◌, ◌<◌, ◌≤
 ghost use Rattle.std.specs.Result.{result_err};
 ghost use Rattle.undo_journal.specs.Memory.{committed, current, room, IsReady, IsOpen};
 ghost use Rattle.undo_journal.specs.Lent.{memory_of};
-ghost use Rattle.undo_journal.specs.Calls.{OnlyReads, TxnReads, Sets};
+ghost use Rattle.undo_journal.specs.Calls.{Reads, ReadsIn, SetsIn};
 ghost use Rattle.block_chain.specs.Chains.{free_chain, HasFree, AreApart};
 ghost use Rattle.block_chain.specs.Changes.{Takes, GivesBack};
 ghost use Rattle.block_chain.specs.Parts.{IsFirstFree, first_of, joined};
@@ -22,9 +22,7 @@ pub fn free_count<B: Board>(store: &mut Store<B>) -> Result<u16, StoreErr>
     requires ready { IsReady store.old }
     requires free { HasFree (committed store.old) }
     ensures count { IfOk result (λ count. count ≡ length (free_chain (committed store.old))) }
-    ensures ready { OnOk result (IsReady store.new) }
-    ensures reads { OnlyReads store.old store.new }
-    ensures tells { store.new.failed ≡ result_err result }
+    ensures store { Reads store.old store.new (result_err result) }
 {
     let mut page = read_head(store)?;
     let mut count = 0;
@@ -43,9 +41,7 @@ fn first_free<B: Board>(txn: &mut Txn<'_, B>, n: u16) -> Result<(Chain, u16), St
     requires some { 1 ≤ n }
     requires enough { n ≤ length (free_chain (current (memory_of txn.old))) }
     ensures found { IfOk result (λ found. IsFirstFree (current (memory_of txn.old)) n found.0 found.1) }
-    ensures ready { OnOk result (IsOpen (memory_of txn.new)) }
-    ensures reads { TxnReads txn.old txn.new }
-    ensures tells { (memory_of txn.new).failed ≡ result_err result }
+    ensures store { ReadsIn txn.old txn.new (result_err result) }
 {
     let first = head(txn)?;
     let last = walk(txn, first, n - 1)?;
@@ -64,9 +60,7 @@ pub fn take<B: Board>(txn: &mut Txn<'_, B>, n: u16) -> Result<Chain, StoreErr>
     requires enough { n ≤ length (free_chain (current (memory_of txn.old))) }
     requires room { 2 ≤ room (memory_of txn.old) }
     ensures done { IfOk result (λ chain. Takes (current (memory_of txn.old)) n chain (current (memory_of txn.new))) }
-    ensures ready { OnOk result (IsOpen (memory_of txn.new)) }
-    ensures sets { Sets 2 txn.old txn.new }
-    ensures tells { (memory_of txn.new).failed ≡ result_err result }
+    ensures store { SetsIn 2 txn.old txn.new (result_err result) }
 {
     let (chain, rest) = first_free(txn, n)?;
     put(txn, PAGE_WORDS * chain.last, 0)?;
@@ -85,10 +79,8 @@ pub fn give_back<B: Board>(txn: &mut Txn<'_, B>, chains: &[Chain]) -> Result<(),
     requires apart { AreApart (current (memory_of txn.old)) chains.now }
     requires room { length chains.now + 1 ≤ room (memory_of txn.old) }
     ensures done { OnOk result (GivesBack (current (memory_of txn.old)) chains.now (current (memory_of txn.new))) }
-    ensures ready { OnOk result (IsOpen (memory_of txn.new)) }
+    ensures store { SetsIn (length chains.now + 1) txn.old txn.new (result_err result) }
     ensures none { length chains.now ≡ 0 → memory_of txn.new ≡ memory_of txn.old }
-    ensures sets { Sets (length chains.now + 1) txn.old txn.new }
-    ensures tells { (memory_of txn.new).failed ≡ result_err result }
 {
     if chains.is_empty() {
         return Ok(());
@@ -105,9 +97,7 @@ fn join<B: Board>(txn: &mut Txn<'_, B>, chains: &[Chain]) -> Result<u16, StoreEr
     requires room { length chains.now ≤ room (memory_of txn.old) }
     ensures page { IfOk result (λ page. page ≡ first_of (current (memory_of txn.old)) chains.now) }
     ensures done { OnOk result (current (memory_of txn.new) ≡ joined (current (memory_of txn.old)) chains.now) }
-    ensures ready { OnOk result (IsOpen (memory_of txn.new)) }
-    ensures sets { Sets (length chains.now) txn.old txn.new }
-    ensures tells { (memory_of txn.new).failed ≡ result_err result }
+    ensures store { SetsIn (length chains.now) txn.old txn.new (result_err result) }
 {
     let mut page = head(txn)?;
     let mut left = chains.len();

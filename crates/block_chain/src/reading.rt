@@ -4,7 +4,7 @@ ghost use Rattle.std.specs.Prelude.{slice_index};
 ghost use Rattle.std.specs.Result.{result_err};
 ghost use Rattle.arrayvec.specs.ArrayVec.{array_vec_len};
 ghost use Rattle.undo_journal.specs.Memory.{committed, IsReady};
-ghost use Rattle.undo_journal.specs.Calls.{OnlyReads};
+ghost use Rattle.undo_journal.specs.Calls.{Reads};
 ghost use Rattle.block_chain.specs.declared.layout.TheConstants.{BLOCK_BYTES, BLOCK_WORDS};
 ghost use Rattle.block_chain.specs.Words.{word, word_bytes, IsBlock};
 ghost use Rattle.block_chain.specs.Chains.{Leads, chain, chain_bytes, chain_of};
@@ -31,9 +31,7 @@ fn block_at<B: Board>(store: &mut Store<B>, first: u16, k: u16) -> Result<u16, S
     requires leads { Leads (committed store.old) first (chain (committed store.old) first) 0 }
     requires within { k < length (chain (committed store.old) first) }
     ensures page { IfOk result (λ page. page ≡ slice_index (chain (committed store.old) first) k) }
-    ensures ready { OnOk result (IsReady store.new) }
-    ensures reads { OnlyReads store.old store.new }
-    ensures tells { store.new.failed ≡ result_err result }
+    ensures store { Reads store.old store.new (result_err result) }
 {
     let mut page = first;
     for _i in 0..k {
@@ -47,9 +45,7 @@ fn read_word<B: Board>(store: &mut Store<B>, page: u16, offset: u16) -> Result<u
     requires ready { IsReady store.old }
     requires block { IsBlock page }
     ensures word { IfOk result (λ read. read ≡ word (committed store.old) page (1 + offset / 4 % BLOCK_WORDS)) }
-    ensures ready { OnOk result (IsReady store.new) }
-    ensures reads { OnlyReads store.old store.new }
-    ensures tells { store.new.failed ≡ result_err result }
+    ensures store { Reads store.old store.new (result_err result) }
 {
     store.read(PAGE_WORDS * page + 1 + offset / WORD_BYTES % BLOCK_WORDS)
 }
@@ -64,9 +60,7 @@ pub fn byte_at<B: Board>(store: &mut Store<B>, chain: Chain, offset: u16) -> Res
     requires leads { Leads (committed store.old) chain.first (chain_of (committed store.old) chain) 0 }
     requires within { offset < BLOCK_BYTES * length (chain_of (committed store.old) chain) }
     ensures byte { IfOk result (λ byte. byte ≡ slice_index (chain_bytes (committed store.old) chain) offset) }
-    ensures ready { OnOk result (IsReady store.new) }
-    ensures reads { OnlyReads store.old store.new }
-    ensures tells { store.new.failed ≡ result_err result }
+    ensures store { Reads store.old store.new (result_err result) }
 {
     let page = block_at(store, chain.first, offset / BLOCK_BYTES)?;
     let word = read_word(store, page, offset)?;
@@ -105,9 +99,7 @@ pub fn read_bytes<B: Board, const N: usize>(
         ≡ out.old.items ++ take count (drop offset (chain_bytes (committed store.old) chain))) }
     ensures any_exit { AppendsSome out.old.items
         (take count (drop offset (chain_bytes (committed store.old) chain))) out.new.items }
-    ensures ready { OnOk result (IsReady store.new) }
-    ensures reads { OnlyReads store.old store.new }
-    ensures tells { store.new.failed ≡ result_err result }
+    ensures store { Reads store.old store.new (result_err result) }
 {
     if count == 0 {
         // the offset may be the size of the chain: there is no block there

@@ -1,10 +1,10 @@
 //! The check of the layout: a walk over each chain that marks its blocks.
-ghost use Rattle.std.specs.Prelude.{◌≡◌, ◌+◌, ◌-◌, ◌≤◌, ◌↔◌, length, IfOk, OnOk, IsTrue, IfSome, Some, None};
+ghost use Rattle.std.specs.Prelude.{◌≡◌, ◌+◌, ◌-◌, ◌≤◌, ◌↔◌, length, IfOk, IsTrue, IfSome, Some, None};
 ghost use Rattle.std.specs.Prelude.{slice_index, slice_set, if◌then◌else◌};
 ghost use Rattle.std.specs.Result.{result_err};
 ghost use Rattle.nvm_board.specs.declared.board.TheConstants.{PAGES};
 ghost use Rattle.undo_journal.specs.Memory.{committed, IsReady};
-ghost use Rattle.undo_journal.specs.Calls.{OnlyReads};
+ghost use Rattle.undo_journal.specs.Calls.{Reads};
 ghost use Rattle.block_chain.specs.Chains.{chain, free_chain};
 ghost use Rattle.block_chain.specs.Layout.{TellsFree};
 ghost use Rattle.block_chain.specs.Parts.{marked, AreMarks, IsFresh, IsWalked};
@@ -52,9 +52,7 @@ fn walk_over<B: Board>(
     ensures walked { IfOk result (λ walked. IfSome walked (λ w. IsWalked
         (committed store.old) first seen.old w seen.new)) }
     ensures stale { IfOk result (λ walked. walked ≡ None → ¬ IsFresh (committed store.old) seen.old first) }
-    ensures ready { OnOk result (IsReady store.new) }
-    ensures reads { OnlyReads store.old store.new }
-    ensures tells { store.new.failed ≡ result_err result }
+    ensures store { Reads store.old store.new (result_err result) }
 {
     let mut page = first;
     let mut blocks = 0;
@@ -85,9 +83,7 @@ fn walk_over<B: Board>(
 pub fn lay<B: Board>(store: &mut Store<B>, extents: &[Extent]) -> Result<Option<u16>, StoreErr>
     requires ready { IsReady store.old }
     ensures found { IfOk result (λ free. TellsFree (committed store.old) extents.now free) }
-    ensures ready { OnOk result (IsReady store.new) }
-    ensures reads { OnlyReads store.old store.new }
-    ensures tells { store.new.failed ≡ result_err result }
+    ensures store { Reads store.old store.new (result_err result) }
 {
     let mut seen = [0; BLOCKS as usize];
     let head = store.read(FREE_HEAD)?;

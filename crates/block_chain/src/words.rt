@@ -4,7 +4,7 @@ ghost use Rattle.std.specs.Result.{result_err};
 ghost use Rattle.nvm_board.specs.declared.board.TheConstants.{PAGES};
 ghost use Rattle.undo_journal.specs.Memory.{committed, current, room, IsReady, IsOpen};
 ghost use Rattle.undo_journal.specs.Lent.{memory_of};
-ghost use Rattle.undo_journal.specs.Calls.{OnlyReads, TxnReads, Sets};
+ghost use Rattle.undo_journal.specs.Calls.{Reads, ReadsIn, SetsIn};
 ghost use Rattle.block_chain.specs.Chains.{Leads, chain};
 ghost use Rattle.block_chain.specs.Words.{link, IsBlock};
 ghost use Rattle.block_chain.specs.declared.layout.TheConstants.{FREE_HEAD};
@@ -18,9 +18,7 @@ pub(crate) fn read_head<B: Board>(store: &mut Store<B>) -> Result<u16, StoreErr>
     requires ready { IsReady store.old }
     requires small { slice_index (committed store.old) FREE_HEAD < PAGES }
     ensures page { IfOk result (λ page. page ≡ slice_index (committed store.old) FREE_HEAD) }
-    ensures ready { OnOk result (IsReady store.new) }
-    ensures reads { OnlyReads store.old store.new }
-    ensures tells { store.new.failed ≡ result_err result }
+    ensures store { Reads store.old store.new (result_err result) }
 {
     let word = store.read(FREE_HEAD)?;
     Ok(word as u16)
@@ -32,9 +30,7 @@ pub(crate) fn read_link<B: Board>(store: &mut Store<B>, page: u16) -> Result<u16
     requires block { IsBlock page }
     requires small { link (committed store.old) page < PAGES }
     ensures page { IfOk result (λ next. next ≡ link (committed store.old) page) }
-    ensures ready { OnOk result (IsReady store.new) }
-    ensures reads { OnlyReads store.old store.new }
-    ensures tells { store.new.failed ≡ result_err result }
+    ensures store { Reads store.old store.new (result_err result) }
 {
     let word = store.read(PAGE_WORDS * page)?;
     Ok(word as u16)
@@ -45,9 +41,7 @@ pub(crate) fn head<B: Board>(txn: &mut Txn<'_, B>) -> Result<u16, StoreErr>
     requires ready { IsOpen (memory_of txn.old) }
     requires small { slice_index (current (memory_of txn.old)) FREE_HEAD < PAGES }
     ensures page { IfOk result (λ page. page ≡ slice_index (current (memory_of txn.old)) FREE_HEAD) }
-    ensures ready { OnOk result (IsOpen (memory_of txn.new)) }
-    ensures reads { TxnReads txn.old txn.new }
-    ensures tells { (memory_of txn.new).failed ≡ result_err result }
+    ensures store { ReadsIn txn.old txn.new (result_err result) }
 {
     let word = txn.read(FREE_HEAD)?;
     Ok(word as u16)
@@ -59,9 +53,7 @@ pub(crate) fn next<B: Board>(txn: &mut Txn<'_, B>, page: u16) -> Result<u16, Sto
     requires block { IsBlock page }
     requires small { link (current (memory_of txn.old)) page < PAGES }
     ensures page { IfOk result (λ next. next ≡ link (current (memory_of txn.old)) page) }
-    ensures ready { OnOk result (IsOpen (memory_of txn.new)) }
-    ensures reads { TxnReads txn.old txn.new }
-    ensures tells { (memory_of txn.new).failed ≡ result_err result }
+    ensures store { ReadsIn txn.old txn.new (result_err result) }
 {
     let word = txn.read(PAGE_WORDS * page)?;
     Ok(word as u16)
@@ -74,9 +66,7 @@ pub(crate) fn walk<B: Board>(txn: &mut Txn<'_, B>, first: u16, k: u16) -> Result
     requires leads { Leads (current (memory_of txn.old)) first (chain (current (memory_of txn.old)) first) 0 }
     requires within { k < length (chain (current (memory_of txn.old)) first) }
     ensures page { IfOk result (λ page. page ≡ slice_index (chain (current (memory_of txn.old)) first) k) }
-    ensures ready { OnOk result (IsOpen (memory_of txn.new)) }
-    ensures reads { TxnReads txn.old txn.new }
-    ensures tells { (memory_of txn.new).failed ≡ result_err result }
+    ensures store { ReadsIn txn.old txn.new (result_err result) }
 {
     let mut page = first;
     for _i in 0..k {
@@ -91,9 +81,7 @@ pub(crate) fn put<B: Board>(txn: &mut Txn<'_, B>, at: u16, word: u32) -> Result<
     requires room { 0 < room (memory_of txn.old) }
     requires place { IsDataAddress (current (memory_of txn.old)) at }
     ensures done { OnOk result (current (memory_of txn.new) ≡ slice_set (current (memory_of txn.old)) at word) }
-    ensures ready { OnOk result (IsOpen (memory_of txn.new)) }
-    ensures sets { Sets 1 txn.old txn.new }
-    ensures tells { (memory_of txn.new).failed ≡ result_err result }
+    ensures store { SetsIn 1 txn.old txn.new (result_err result) }
 {
     txn.set(at, word)
 }

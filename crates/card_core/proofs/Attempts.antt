@@ -6,7 +6,7 @@ use Rattle.std.proofs.Common.{⊎_elim}
 use Rattle.std.proofs.lemmas.Bool.{cases_eq, ne_eqb, eq-eqb}
 use Rattle.std.proofs.Math.ListN.{length-set}
 use Rattle.std.specs.Cmp.Lexicographic.{bytes_decides, pointwise}
-use Rattle.std.specs.Prelude.{nat_eq, IfOk, MatchOption, OnOk, Result}
+use Rattle.std.specs.Prelude.{nat_eq, IfOk, MatchOption, Result}
 use Rattle.std.specs.Result.{result_err, IsErrAnd}
 use Rattle.std.specs.FinSet.{FinSet}
 use Rattle.std.specs.Ordering.{nat_cmp}
@@ -15,7 +15,7 @@ use Rattle.card_rules.specs.declared.status.Sw.{Sw}
 use Rattle.card_rules.specs.declared.status.TheConstants.Sw.{DONE, METHOD_BLOCKED}
 use Rattle.card_rules.specs.Pins.{IsPinNumber, with_pin, without_pin}
 use Rattle.undo_journal.specs.declared.error.StoreErr.{StoreErr}
-use Rattle.undo_journal.specs.Calls.{OnlyReads}
+use Rattle.undo_journal.specs.Calls.{OnlyReads, Reads}
 use Rattle.undo_journal.specs.Memory.{Memory, committed, IsReady, Reports}
 use Rattle.undo_journal.specs.Spending.{WritesAtMost}
 use Rattle.undo_journal.specs.laws.Memory.{reports_then}
@@ -26,7 +26,7 @@ use Rattle.pin_store.specs.declared.errors.Outcome.{Outcome as AttemptEnd}
 use Rattle.pin_store.specs.declared.errors.Outcome.TheVariants.{Matched, Wrong}
 use Rattle.pin_store.specs.Pages.{pin_at, ArePinPages, IsApart, SetsPin}
 use Rattle.pin_store.specs.Pins.{charged_pin, kept, owner, tries_left, Pin}
-use Rattle.pin_store.specs.Trials.{pin_in, Charges, ComparesOnce, Ends, IsWrong, KeepsPinLaw, SetsByMatch}
+use Rattle.pin_store.specs.Trials.{pin_in, Charges, ComparesOnce, EndsByOutcome, IsWrong, KeepsPinLaw, SetsByMatch}
 use Rattle.pin_store.specs.laws.Tries.{charge_keeps_law, end_keeps_law, IsEnd}
 use Rattle.card_core.specs.declared.current.Current.{Current}
 use Rattle.card_core.specs.Cards.{Card}
@@ -324,13 +324,13 @@ module _ (request : Request) (a : Attempt) (asks : IsAttempt request a) (old : M
           session-wrong false =
               ap (λ (t : List Entry). session_of t x) (sym (exit-table e (ended-size e exit) pages law-end))
 
-      step-end : (end : AttemptEnd) → Ends a.secret a.shown (a.becomes (pin_in b a.secret)) b e end
+      step-end : (end : AttemptEnd) → EndsByOutcome a.secret a.shown (a.becomes (pin_in b a.secret)) b e end
           → served c s request ≡ outcome (card_in e) (session_in e (y end)) [] (end_of_attempt end)
       step-end Matched set = step-matched set
       step-end (Wrong left) is = step-wrong left is
 
       -- the end was made
-      pub exit-done : (end : AttemptEnd) → Ends a.secret a.shown (a.becomes (pin_in b a.secret)) b e end → IsReady e
+      pub exit-done : (end : AttemptEnd) → EndsByOutcome a.secret a.shown (a.becomes (pin_in b a.secret)) b e end → IsReady e
           → Serves request old x e (y end) [] (Ok (end_of_attempt end))
       exit-done end done ready =
           written request old x e (y end) [] (end_of_attempt end) stage-end (exit-card e (ended-size e exit) pages law-end)
@@ -396,13 +396,13 @@ module _ (request : Request) (a : Attempt) (asks : IsAttempt request a) (n : ℕ
           (exit-end request a asks old x sized card current b got.1 card-b e n (ends _) costs spends-told pages
           (reports_then old b e reports-b reports) writes exit-told err failed)
 
-      pub end-made : (end : AttemptEnd) → Ends k a.shown (a.becomes (pin_in b k)) b e end → IsReady e
+      pub end-made : (end : AttemptEnd) → EndsByOutcome k a.shown (a.becomes (pin_in b k)) b e end → IsReady e
           → (y : Current) → y ≡ tried_from x a.pin a.unverifies end → (status : Sw) → status ≡ end_of_attempt end
           → Serves request old x e y [] (Ok status)
       end-made end ended is-ready y at status told =
           let made = exit-done request a asks old x sized card current b got.1 card-b e n (ends _) costs spends-told pages
           (reports_then old b e reports-b reports) writes exit-told end
-          (subst (λ (k : ℕ). Ends k a.shown (a.becomes (pin_in b k)) b e end) got.0 ended) is-ready in
+          (subst (λ (k : ℕ). EndsByOutcome k a.shown (a.becomes (pin_in b k)) b e end) got.0 ended) is-ready in
           subst (λ (z : Current). Serves request old x e z [] (Ok status)) (sym at)
           (subst (λ (w : Sw). Serves request old x e (tried_from x a.pin a.unverifies end) [] (Ok w)) (sym told) made)
 
@@ -474,7 +474,7 @@ module _ (n : ℕ) (number : IsPinNumber n) where
   asks-unblocking = record { refuses = λ c s. refl; does = λ c s. refl; number = number; owned = unblocking-owned n number }
 
 module _ (request : Request) (n secret : ℕ) (asks : IsQuestion request n secret) (old : Memory) (x : Current)
-    (card : IsCard (committed old)) (current : IsCurrent (table_in old) x) (new : Memory) (reads : OnlyReads old new) where
+    (card : IsCard (committed old)) (current : IsCurrent (table_in old) x) (new : Memory) where
   tries-are : tries_left secret (pin_in old secret) ≡ tries_of (card_in old) n secret
   tries-are = ap (tries_left secret) (ap (pin_at (committed old)) asks.owned ∙ sym (pin-is (committed old) n asks.number))
 
@@ -486,8 +486,9 @@ module _ (request : Request) (n secret : ℕ) (asks : IsQuestion request n secre
       ∙ ap (refused (card_in old) (session_in old x)) (sym (told ∙ ap tries_told tries-are))
 
   pub question-answered : (r : Result Sw StoreErr)
-      → IfOk r (λ status. status ≡ tries_told (tries_left secret (pin_in old secret))) → OnOk r (IsReady new)
-      → new.failed ≡ result_err r → Serves request old x new x [] r
-  question-answered (Ok status) told ready tells =
-      declined request old x new card status reads ready current (answer-is status told)
-  question-answered (Err e) told ready tells = stopped request old x new card x [] e reads tells (omega arith)
+      → IfOk r (λ status. status ≡ tries_told (tries_left secret (pin_in old secret)))
+      → Reads old new (result_err r) → Serves request old x new x [] r
+  question-answered (Ok status) told reads =
+      declined request old x new card status reads.only reads.ready current (answer-is status told)
+  question-answered (Err e) told reads =
+      stopped request old x new card x [] e reads.only reads.tells (omega arith)

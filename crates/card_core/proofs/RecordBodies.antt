@@ -17,7 +17,7 @@ use Rattle.ef_body.specs.declared.error.BodyErr.{BodyErr}
 use Rattle.ef_body.specs.declared.error.BodyErr.TheVariants.{Refused, Store}
 use Rattle.ef_body.specs.Bodies.{cyclic_records, linear_records, number_told, start_told, IsCyclic, IsLinear}
 use Rattle.ef_body.specs.Records.{in_order, newest_first}
-use Rattle.ef_body.specs.Refusals.{failure, missing_record, Decides, UnlessFailed}
+use Rattle.ef_body.specs.Refusals.{failure, missing_record, Decides}
 use Rattle.ef_body.specs.laws.Lists.{length-in_order, length-newest_first}
 use Rattle.file_tree.specs.declared.entry.Entry.{Entry}
 use Rattle.file_tree.specs.Cards.{Kind, transparent, linear, cyclic, dedicated, elementary}
@@ -311,13 +311,6 @@ pub decides-none : (refusal : Option Sw) (answer : Option BodyErr) → refusal �
 decides-none refusal answer none decides = subst (λ (o : Option Sw). Decides o answer) none decides
 
 module _ {T : Type 0} (P : Type 0) where
-  pub unless-then : (answered : Result T BodyErr) (result : Result T StoreErr) → Decides None (result_err answered)
-      → result_err result ≡ failure (result_err answered) → UnlessFailed (result_err answered) P → OnOk result P
-  unless-then (Ok x) (Ok y) none same fact = fact
-  unless-then (Err (Refused status)) (Ok y) none same fact = fact
-  unless-then (Err (Store e)) (Ok y) none same fact = cc
-  unless-then answered (Err e) none same fact = tt
-
   pub ok-then : (answered : Result T BodyErr) (result : Result T StoreErr) → Decides None (result_err answered)
       → result_err result ≡ failure (result_err answered) → OnOk answered P → OnOk result P
   ok-then (Ok x) (Ok y) none same fact = fact

@@ -1,7 +1,7 @@
 //! Whether the words of a memory are those of a card.
-ghost use Rattle.std.specs.Prelude.{◌≡◌, ◌↔◌, IfOk, OnOk, IsTrue};
+ghost use Rattle.std.specs.Prelude.{◌≡◌, ◌↔◌, IfOk, IsTrue};
 ghost use Rattle.std.specs.Result.{result_err};
-ghost use Rattle.undo_journal.specs.Calls.{OnlyReads};
+ghost use Rattle.undo_journal.specs.Calls.{Reads};
 ghost use Rattle.undo_journal.specs.Memory.{committed, IsReady};
 ghost use Rattle.card_core.specs.Standing.{IsHeader};
 ghost use Rattle.card_core.specs.Working.{TellsCard};
@@ -16,9 +16,7 @@ use undo_journal::{Board, PAGE_WORDS, Store, StoreErr};
 fn is_header<B: Board>(store: &mut Store<B>) -> Result<bool, StoreErr>
     requires ready { IsReady store.old }
     ensures header { IfOk result (λ header. IsTrue header ↔ IsHeader (committed store.old)) }
-    ensures ready { OnOk result (IsReady store.new) }
-    ensures reads { OnlyReads store.old store.new }
-    ensures tells { store.new.failed ≡ result_err result }
+    ensures store { Reads store.old store.new (result_err result) }
 {
     let mark = store.read(PAGE_WORDS * HEADER_PAGE)?;
     let state = store.read(PAGE_WORDS * HEADER_PAGE + STATE_WORD)?;
@@ -30,9 +28,7 @@ fn is_header<B: Board>(store: &mut Store<B>) -> Result<bool, StoreErr>
 pub(crate) fn find_card<B: Board>(store: &mut Store<B>) -> Result<Option<FreeSpace>, StoreErr>
     requires ready { IsReady store.old }
     ensures card { IfOk result (TellsCard (committed store.old)) }
-    ensures ready { OnOk result (IsReady store.new) }
-    ensures reads { OnlyReads store.old store.new }
-    ensures tells { store.new.failed ≡ result_err result }
+    ensures store { Reads store.old store.new (result_err result) }
 {
     let header = is_header(store)?;
     let pins = are_pins(store)?;

@@ -1,7 +1,7 @@
 //! A command on a card: one step of the tree machine.
 ghost use Rattle.std.specs.Prelude.{◌≡◌, ◌==◌, [], not, IfOk, OnOk};
 ghost use Rattle.std.specs.Result.{result_err};
-ghost use Rattle.undo_journal.specs.Calls.{OnlyReads};
+ghost use Rattle.undo_journal.specs.Calls.{Reads};
 ghost use Rattle.undo_journal.specs.Memory.{committed, IsReady};
 ghost use Rattle.apdu_core.specs.Ranges.{IsInRange};
 ghost use Rattle.apdu_core.specs.Requests.{request_of};
@@ -53,9 +53,7 @@ pub(crate) fn carry_out<B: Board>(
 fn is_in_use<B: Board>(store: &mut Store<B>) -> Result<bool, StoreErr>
     requires ready { IsReady store.old }
     ensures in_use { IfOk result (λ in_use. in_use ≡ (card_in store.old).in_use) }
-    ensures ready { OnOk result (IsReady store.new) }
-    ensures reads { OnlyReads store.old store.new }
-    ensures tells { store.new.failed ≡ result_err result }
+    ensures store { Reads store.old store.new (result_err result) }
 {
     let state = store.read(PAGE_WORDS * HEADER_PAGE + STATE_WORD)?;
     Ok(state == 0)

@@ -1,7 +1,7 @@
 //! Commands on files as such: CREATE FILE and DELETE FILE (ISO/IEC 7816-9).
 ghost use Rattle.std.specs.Prelude.{◌≡◌, ◌||◌, [], true, option_map, Some, IfOk, IfSome, OnOk, MatchResult};
 ghost use Rattle.std.specs.Result.{result_err};
-ghost use Rattle.undo_journal.specs.Calls.{OnlyReads};
+ghost use Rattle.undo_journal.specs.Calls.{Reads};
 ghost use Rattle.undo_journal.specs.Memory.{committed, IsReady};
 ghost use Rattle.apdu_core.specs.Requests.{create_file as creation, delete_file as deletion};
 ghost use Rattle.card_rules.specs.declared.access_mode.AccessBit.TheVariants.{DeleteChild, DeleteSelf};
@@ -92,9 +92,7 @@ fn permits_in<B: Board>(store: &mut Store<B>, current: &Current) -> Result<Permi
     requires card { IsCard (committed store.old) }
     requires current { IsCurrent (table_in store.old) current.now }
     ensures permits { IfOk result (λ permits. permits ≡ permits_of (card_in store.old) (session_in store.old current.now)) }
-    ensures ready { OnOk result (IsReady store.new) }
-    ensures reads { OnlyReads store.old store.new }
-    ensures tells { store.new.failed ≡ result_err result }
+    ensures store { Reads store.old store.new (result_err result) }
 {
     let barred = is_barred(store, current.df)?;
     let dedicated = is_allowed(store, current.df, AccessBit::CreateDf, &current.verified())?;
@@ -155,9 +153,7 @@ fn find_deletable<B: Board>(
         (λ file. IsDeletable (committed store.old) current.now subject file.number file.entry)
         (λ refusal. refused_by (delete_refusals (card_in store.old) (session_in store.old current.now) subject)
         ≡ Some refusal)) }
-    ensures ready { OnOk result (IsReady store.new) }
-    ensures reads { OnlyReads store.old store.new }
-    ensures tells { store.new.failed ≡ result_err result }
+    ensures store { Reads store.old store.new (result_err result) }
 {
     let Some(number) = find_subject(store, current, subject)? else {
         return Ok(Err(Sw::FILE_NOT_FOUND));
@@ -190,9 +186,7 @@ fn deletion_refusal<B: Board>(
         (allowed (card_in store.old) (session_in store.old current.now) (path_of (table_in store.old) number) DeleteSelf
         || allowed (card_in store.old) (session_in store.old current.now) (path_of (table_in store.old) parent)
         DeleteChild)) }
-    ensures ready { OnOk result (IsReady store.new) }
-    ensures reads { OnlyReads store.old store.new }
-    ensures tells { store.new.failed ≡ result_err result }
+    ensures store { Reads store.old store.new (result_err result) }
 {
     let barred = is_barred(store, parent)?;
     let own = is_allowed(store, number, AccessBit::DeleteSelf, &current.verified())?;
@@ -213,9 +207,7 @@ fn find_subject<B: Board>(
     ensures found { IfOk result (λ found. subject_of (card_in store.old).tree (session_in store.old current.now) subject
         ≡ option_map (path_of (table_in store.old)) found) }
     ensures used { IfOk result (λ found. IfSome found (IsUsed (table_in store.old))) }
-    ensures ready { OnOk result (IsReady store.new) }
-    ensures reads { OnlyReads store.old store.new }
-    ensures tells { store.new.failed ≡ result_err result }
+    ensures store { Reads store.old store.new (result_err result) }
 {
     match subject {
         Subject::Current => Ok(Some(current.ef.unwrap_or(current.df))),

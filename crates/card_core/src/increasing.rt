@@ -1,9 +1,8 @@
 //! INCREASE (ETSI TS 102 221, 11.1.8).
 ghost use Rattle.std.specs.Prelude.{◌≡◌, ◌≤◌, ◌+◌, ◌++◌, ◌||◌, ◌⊎◌, nat_lt, [], length, None, IfOk, OnOk};
 ghost use Rattle.std.specs.Result.{result_err};
-ghost use Rattle.undo_journal.specs.Calls.{OnlyReads};
-ghost use Rattle.undo_journal.specs.Memory.{committed, IsReady, Reports};
-ghost use Rattle.undo_journal.specs.Spending.{WritesAtMost};
+ghost use Rattle.undo_journal.specs.Calls.{Reads, Changes};
+ghost use Rattle.undo_journal.specs.Memory.{committed, IsReady};
 ghost use Rattle.apdu_core.specs.Requests.{increase as increasing};
 ghost use Rattle.ef_body.specs.declared.layout.TheConstants.{RECORD_WRITES};
 ghost use Rattle.ef_body.specs.Bodies.{cyclic_records, IsCyclic};
@@ -85,9 +84,7 @@ fn raised<B: Board>(
         amount.now ≡ refusal) }
     ensures bytes { IfOk result (λ refusal. refusal ≡ None → sum.new.items
         ≡ spelled body.record_length (raised_number (cyclic_records (committed store.old) body) amount.now)) }
-    ensures ready { OnOk result (IsReady store.new) }
-    ensures reads { OnlyReads store.old store.new }
-    ensures tells { store.new.failed ≡ result_err result }
+    ensures store { Reads store.old store.new (result_err result) }
 {
     match body.sum(store, amount, sum) {
         Ok(()) => Ok(None),
@@ -110,10 +107,7 @@ fn put_sum<B: Board>(
     ensures any_exit { (committed store.new ≡ committed store.old)
         ⊎ Increases (committed store.old) body amount.now (committed store.new) }
     ensures done { OnOk result (Increases (committed store.old) body amount.now (committed store.new)) }
-    ensures ready { OnOk result (IsReady store.new) }
-    ensures reports { Reports store.old store.new }
-    ensures tells { store.new.failed ≡ result_err result }
-    ensures writes { WritesAtMost RECORD_WRITES store.old.facts store.new.facts }
+    ensures store { Changes RECORD_WRITES store.old store.new (result_err result) }
 {
     unrefused(body.increase(store, amount, sum))
 }

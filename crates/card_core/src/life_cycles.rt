@@ -2,7 +2,7 @@
 //! (ISO/IEC 7816-9).
 ghost use Rattle.std.specs.Prelude.{◌≡◌, [], Some, option_map, IfOk, IfSome, OnOk, MatchResult};
 ghost use Rattle.std.specs.Result.{result_err};
-ghost use Rattle.undo_journal.specs.Calls.{OnlyReads};
+ghost use Rattle.undo_journal.specs.Calls.{Reads};
 ghost use Rattle.undo_journal.specs.Memory.{committed, IsReady};
 ghost use Rattle.apdu_core.specs.Requests.{change_life_cycle as changing, terminate_card_usage as terminating};
 ghost use Rattle.file_tree.specs.Table.{path_of, IsUsed};
@@ -89,9 +89,7 @@ fn find_change<B: Board>(
         (λ changed. IsChanged (committed store.old) current.now change subject changed)
         (λ refusal. refused_by (change_refusals (card_in store.old) (session_in store.old current.now) change subject)
         ≡ Some refusal)) }
-    ensures ready { OnOk result (IsReady store.new) }
-    ensures reads { OnlyReads store.old store.new }
-    ensures tells { store.new.failed ≡ result_err result }
+    ensures store { Reads store.old store.new (result_err result) }
 {
     let Some(number) = find_changed(store, current, change, subject)? else {
         return Ok(Err(no_subject(subject)));
@@ -112,9 +110,7 @@ fn read_change<B: Board>(
     requires card { IsCard (committed store.old) }
     requires used { IsUsed (table_in store.old) number }
     ensures found { IfOk result (λ answer. answer ≡ change_at (committed store.old) current.now change number) }
-    ensures ready { OnOk result (IsReady store.new) }
-    ensures reads { OnlyReads store.old store.new }
-    ensures tells { store.new.failed ≡ result_err result }
+    ensures store { Reads store.old store.new (result_err result) }
 {
     let next = next_life_cycle(store, number, command_of(change))?;
     let allowed = is_allowed(store, number, bit_of(change), &current.verified())?;
@@ -162,9 +158,7 @@ fn find_changed<B: Board>(
     ensures found { IfOk result (λ found. changed_file (card_in store.old).tree (session_in store.old current.now) change subject
         ≡ option_map (path_of (table_in store.old)) found) }
     ensures used { IfOk result (λ found. IfSome found (IsUsed (table_in store.old))) }
-    ensures ready { OnOk result (IsReady store.new) }
-    ensures reads { OnlyReads store.old store.new }
-    ensures tells { store.new.failed ≡ result_err result }
+    ensures store { Reads store.old store.new (result_err result) }
 {
     match subject {
         Subject::Current => Ok(current_changed(current, change)),

@@ -1,7 +1,7 @@
 //! The elementary file whose contents a command is for (ISO/IEC 7816-4, 7.3.1), and what refuses the command by that file.
-ghost use Rattle.std.specs.Prelude.{◌≡◌, Some, option_map, IfOk, IfSome, OnOk, MatchResult};
+ghost use Rattle.std.specs.Prelude.{◌≡◌, Some, option_map, IfOk, IfSome, MatchResult};
 ghost use Rattle.std.specs.Result.{result_err};
-ghost use Rattle.undo_journal.specs.Calls.{OnlyReads};
+ghost use Rattle.undo_journal.specs.Calls.{Reads};
 ghost use Rattle.undo_journal.specs.Memory.{committed, IsReady};
 ghost use Rattle.apdu_core.specs.Ranges.{IsTarget};
 ghost use Rattle.file_tree.specs.States.{is_barred as is_barred_at};
@@ -63,9 +63,7 @@ pub(crate) fn find_file<B: Board>(
         (λ file. IsNamed (committed store.old) current.now target need file.number file.entry)
         (λ refusal. refused_by (file_refusals (card_in store.old) (session_in store.old current.now) target
         (fits need.structure) need.bit) ≡ Some refusal)) }
-    ensures ready { OnOk result (IsReady store.new) }
-    ensures reads { OnlyReads store.old store.new }
-    ensures tells { store.new.failed ≡ result_err result }
+    ensures store { Reads store.old store.new (result_err result) }
 {
     let Some(number) = find_target(store, current, target)? else {
         return Ok(Err(missing(target)));
@@ -93,9 +91,7 @@ fn refusal_of<B: Board>(
     ensures found { IfOk result (λ refusal. refusal ≡ file_refusal
         (is_barred_at (card_in store.old).tree (path_of (table_in store.old) number)) (fits_kind need.structure kind)
         (allowed (card_in store.old) (session_in store.old current.now) (path_of (table_in store.old) number) need.bit)) }
-    ensures ready { OnOk result (IsReady store.new) }
-    ensures reads { OnlyReads store.old store.new }
-    ensures tells { store.new.failed ≡ result_err result }
+    ensures store { Reads store.old store.new (result_err result) }
 {
     let barred = is_barred(store, number)?;
     let allowed = is_allowed(store, number, need.bit, &current.verified())?;
@@ -144,9 +140,7 @@ pub(crate) fn find_target<B: Board>(
     ensures found { IfOk result (λ found. target_of (card_in store.old).tree (session_in store.old current.now) target
         ≡ option_map (path_of (table_in store.old)) found) }
     ensures child { IfOk result (λ found. IfSome found (IsElementary (table_in store.old) current.now.df)) }
-    ensures ready { OnOk result (IsReady store.new) }
-    ensures reads { OnlyReads store.old store.new }
-    ensures tells { store.new.failed ≡ result_err result }
+    ensures store { Reads store.old store.new (result_err result) }
 {
     match target {
         Target::Current => Ok(current.ef),

@@ -3,9 +3,8 @@
 ghost use Rattle.std.specs.Prelude.{◌≡◌, ◌⊎◌, ◌<◌, [], Some, option_map, IfOk, OnOk, MatchOption};
 ghost use Rattle.std.specs.Result.{result_err};
 ghost use Rattle.nvm_board.specs.declared.board.TheConstants.{SECRETS};
-ghost use Rattle.undo_journal.specs.Calls.{OnlyReads};
-ghost use Rattle.undo_journal.specs.Memory.{committed, IsReady, Reports};
-ghost use Rattle.undo_journal.specs.Spending.{WritesAtMost};
+ghost use Rattle.undo_journal.specs.Calls.{OnlyReads, Reads, Changes};
+ghost use Rattle.undo_journal.specs.Memory.{committed, IsReady};
 ghost use Rattle.card_rules.specs.Pins.{IsPinNumber};
 ghost use Rattle.apdu_core.specs.Requests.{change_reference_data as changing, reset_retry_counter as resetting, verify as verifying};
 ghost use Rattle.pin_store.specs.Pages.{ArePinPages};
@@ -143,9 +142,7 @@ fn tell_tries<B: Board>(store: &mut Store<B>, secret: u8) -> Result<Sw, StoreErr
     requires secret { secret < SECRETS }
     requires pages { ArePinPages (committed store.old) }
     ensures told { IfOk result (λ status. status ≡ tries_told (tries_left secret (pin_in store.old secret))) }
-    ensures ready { OnOk result (IsReady store.new) }
-    ensures reads { OnlyReads store.old store.new }
-    ensures tells { store.new.failed ≡ result_err result }
+    ensures store { Reads store.old store.new (result_err result) }
 {
     let left = tries(store, secret)?;
     Ok(tries_status(left))
@@ -161,10 +158,7 @@ fn take_try<B: Board>(store: &mut Store<B>, secret: u8) -> Result<Option<Charged
         (λ charged. (charged ≡ secret) × Charges secret store.old store.new)) }
     ensures kept { tries_left secret (pin_in store.old secret) ≡ 0 → OnlyReads store.old store.new }
     ensures pages { ArePinPages (committed store.new) }
-    ensures ready { OnOk result (IsReady store.new) }
-    ensures reports { Reports store.old store.new }
-    ensures tells { store.new.failed ≡ result_err result }
-    ensures writes { WritesAtMost 1 store.old.facts store.new.facts }
+    ensures store { Changes 1 store.old store.new (result_err result) }
 {
     match charge(store, secret) {
         Ok(charged) => Ok(Some(charged)),

@@ -1,12 +1,11 @@
 //! The body of an elementary file of records, as the entry of the file tells of it.
 ghost use Rattle.std.specs.Prelude.{◌≡◌, ◌≤◌, ◌⊎◌, ◌==◌, if◌then◌else◌, IsTrue, true, false, length, None, Some, OnOk};
 ghost use Rattle.std.specs.Result.{result_err};
-ghost use Rattle.undo_journal.specs.Calls.{OnlyReads};
-ghost use Rattle.undo_journal.specs.Memory.{committed, IsReady, Reports};
-ghost use Rattle.undo_journal.specs.Spending.{WritesAtMost};
+ghost use Rattle.undo_journal.specs.Calls.{Reads, Changes};
+ghost use Rattle.undo_journal.specs.Memory.{committed, IsReady};
 ghost use Rattle.ef_body.specs.declared.layout.TheConstants.{RECORD_WRITES};
 ghost use Rattle.ef_body.specs.Records.{record_of};
-ghost use Rattle.ef_body.specs.Refusals.{failure, missing_record, Decides, UnlessFailed};
+ghost use Rattle.ef_body.specs.Refusals.{failure, missing_record, Decides};
 ghost use Rattle.ef_body.specs.Searching.{found};
 ghost use Rattle.card_core.specs.declared.record_body.RecordBody.TheVariants as bodies;
 ghost use Rattle.card_core.specs.Records.{next_record, place_number, pointer_after, previous_record};
@@ -196,9 +195,7 @@ impl RecordBody {
         requires body { IsBodyIn (committed store.old) self }
         requires record { has_in self number ≡ true }
         ensures bytes { OnOk result (bytes.new.items ≡ record_of (records_at (committed store.old) self) number) }
-        ensures ready { OnOk result (IsReady store.new) }
-        ensures reads { OnlyReads store.old store.new }
-        ensures tells { store.new.failed ≡ result_err result }
+        ensures store { Reads store.old store.new (result_err result) }
     {
         unrefused(self.try_read(store, number, bytes))
     }
@@ -218,9 +215,7 @@ impl RecordBody {
         requires record { has_in self first ≡ true }
         ensures numbers { OnOk result (numbers.new.items
             ≡ found direction first text.now (records_at (committed store.old) self)) }
-        ensures ready { OnOk result (IsReady store.new) }
-        ensures reads { OnlyReads store.old store.new }
-        ensures tells { store.new.failed ≡ result_err result }
+        ensures store { Reads store.old store.new (result_err result) }
     {
         unrefused(self.try_search(store, direction, first, text, numbers))
     }
@@ -241,10 +236,7 @@ impl RecordBody {
             (committed store.new) }
         ensures done { OnOk result (BodyBecomes (committed store.old) self (replaced_in (committed store.old) self
             number bytes.now) (committed store.new)) }
-        ensures ready { OnOk result (IsReady store.new) }
-        ensures reports { Reports store.old store.new }
-        ensures tells { store.new.failed ≡ result_err result }
-        ensures writes { WritesAtMost RECORD_WRITES store.old.facts store.new.facts }
+        ensures store { Changes RECORD_WRITES store.old store.new (result_err result) }
     {
         unrefused(self.try_update(store, number, bytes))
     }
@@ -261,10 +253,7 @@ impl RecordBody {
             store.new) }
         ensures done { OnOk result (BodyBecomes (committed store.old) self (appended_in (committed store.old) self
             bytes.now) (committed store.new)) }
-        ensures ready { OnOk result (IsReady store.new) }
-        ensures reports { Reports store.old store.new }
-        ensures tells { store.new.failed ≡ result_err result }
-        ensures writes { WritesAtMost RECORD_WRITES store.old.facts store.new.facts }
+        ensures store { Changes RECORD_WRITES store.old store.new (result_err result) }
     {
         unrefused(self.try_append(store, bytes))
     }
@@ -280,9 +269,7 @@ impl RecordBody {
         requires body { IsBodyIn (committed store.old) self }
         ensures bytes { OnOk result (bytes.new.items ≡ record_of (records_at (committed store.old) self) number) }
         ensures refusal { Decides (missing_record (records_at (committed store.old) self) number) (result_err result) }
-        ensures ready { UnlessFailed (result_err result) (IsReady store.new) }
-        ensures reads { OnlyReads store.old store.new }
-        ensures tells { store.new.failed ≡ failure (result_err result) }
+        ensures store { Reads store.old store.new (failure (result_err result)) }
     {
         match self {
             RecordBody::Linear(body) => body.read(store, number, bytes),
@@ -304,9 +291,7 @@ impl RecordBody {
         ensures numbers { OnOk result (numbers.new.items
             ≡ found direction first text.now (records_at (committed store.old) self)) }
         ensures refusal { Decides (missing_record (records_at (committed store.old) self) first) (result_err result) }
-        ensures ready { UnlessFailed (result_err result) (IsReady store.new) }
-        ensures reads { OnlyReads store.old store.new }
-        ensures tells { store.new.failed ≡ failure (result_err result) }
+        ensures store { Reads store.old store.new (failure (result_err result)) }
     {
         match self {
             RecordBody::Linear(body) => body.search(store, direction, first, text, numbers),
@@ -331,10 +316,7 @@ impl RecordBody {
             number bytes.now) (committed store.new)) }
         ensures refusal { Decides (missing_record (records_at (committed store.old) self) (looked_at self number))
             (result_err result) }
-        ensures ready { UnlessFailed (result_err result) (IsReady store.new) }
-        ensures reports { Reports store.old store.new }
-        ensures tells { store.new.failed ≡ failure (result_err result) }
-        ensures writes { WritesAtMost RECORD_WRITES store.old.facts store.new.facts }
+        ensures store { Changes RECORD_WRITES store.old store.new (failure (result_err result)) }
     {
         match self {
             RecordBody::Linear(body) => body.update(store, number, bytes),
@@ -353,10 +335,7 @@ impl RecordBody {
         ensures done { OnOk result (BodyBecomes (committed store.old) self (appended_in (committed store.old) self
             bytes.now) (committed store.new)) }
         ensures refusal { Decides (full_in (committed store.old) self) (result_err result) }
-        ensures ready { UnlessFailed (result_err result) (IsReady store.new) }
-        ensures reports { Reports store.old store.new }
-        ensures tells { store.new.failed ≡ failure (result_err result) }
-        ensures writes { WritesAtMost RECORD_WRITES store.old.facts store.new.facts }
+        ensures store { Changes RECORD_WRITES store.old store.new (failure (result_err result)) }
     {
         match self {
             RecordBody::Linear(body) => body.append(store, bytes),

@@ -1,7 +1,7 @@
 //! READ, UPDATE, APPEND and SEARCH RECORD (ISO/IEC 7816-4, 11.4).
 ghost use Rattle.std.specs.Prelude.{◌≡◌, ◌≢◌, ◌≤◌, ◌==◌, ◌&&◌, not, [], length, Some, IfOk, OnOk, MatchResult};
 ghost use Rattle.std.specs.Result.{result_err};
-ghost use Rattle.undo_journal.specs.Calls.{OnlyReads};
+ghost use Rattle.undo_journal.specs.Calls.{Reads};
 ghost use Rattle.undo_journal.specs.Memory.{committed, IsReady};
 ghost use Rattle.apdu_core.specs.Ranges.{IsTarget};
 ghost use Rattle.apdu_core.specs.Requests.{append_record as appending, read_record as reading, search_record as searching};
@@ -85,9 +85,7 @@ pub(crate) fn find_records<B: Board>(
         (λ file. IsRecordFile (committed store.old) current.now target need file.number file.body)
         (λ refusal. refused_by (file_refusals (card_in store.old) (session_in store.old current.now) target
         (fits need.structure) need.bit) ≡ Some refusal)) }
-    ensures ready { OnOk result (IsReady store.new) }
-    ensures reads { OnlyReads store.old store.new }
-    ensures tells { store.new.failed ≡ result_err result }
+    ensures store { Reads store.old store.new (result_err result) }
 {
     match find_file(store, current, target, need)? {
         Ok(file) => {

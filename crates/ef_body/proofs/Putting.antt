@@ -1,9 +1,9 @@
 -- The words of a body and of its entry, as they are after bytes of its chain were set.
 use Rattle.std.proofs.Common.{refl, sym, ◌∙◌, ap, arith, inl, inr, subst, get_or-set_same, get_or-set_other}
 use Rattle.std.proofs.Math.ListN.{length-set}
-use Rattle.std.specs.Prelude.{◌≡◌, ◌≢◌, ◌<◌, ◌≤◌, ◌+◌, ◌*◌, ◌/◌, ◌%◌, ℕ, zero, suc, List, length, slice_index}
+use Rattle.std.specs.Prelude.{◌≡◌, ◌≢◌, ◌<◌, ◌≤◌, ◌+◌, ◌*◌, ◌/◌, ◌%◌, ℕ, zero, suc, List, Option, length, slice_index}
 use Rattle.std.specs.Prelude.{slice_set}
-use Rattle.nvm_board.specs.Facts.{Facts, address}
+use Rattle.nvm_board.specs.Facts.{address}
 use Rattle.nvm_board.specs.declared.board.TheConstants.{WORDS, PAGE_WORDS}
 use Rattle.undo_journal.specs.declared.layout.TheConstants.{GATE}
 use Rattle.block_chain.specs.declared.chain.Chain.{Chain}
@@ -11,7 +11,10 @@ use Rattle.block_chain.specs.declared.layout.TheConstants.{BLOCKS, BLOCK_WORDS}
 use Rattle.block_chain.specs.Words.{word, IsBlock}
 use Rattle.block_chain.specs.Counts.{count, IsNotIn}
 use Rattle.block_chain.specs.Chains.{chain_of, bytes_of, IsChain}
-use Rattle.undo_journal.specs.Spending.{WritesAtMost}
+use Rattle.undo_journal.specs.declared.error.StoreErr.{StoreErr}
+use Rattle.undo_journal.specs.Memory.{Memory}
+use Rattle.undo_journal.specs.Calls.{Changes}
+use Rattle.undo_journal.specs.laws.Told.{changes_within}
 use Rattle.ef_body.specs.declared.layout.TheConstants.{UPDATE_WRITES}
 use Rattle.block_chain.specs.Changes.{Overwrites, touched_words}
 use Rattle.block_chain.specs.laws.Bytes.{leads_blocks, block_in}
@@ -95,10 +98,9 @@ pub touched_few : (offset count : ℕ) → count ≤ 255 → touched_words offse
 touched_few offset zero few = omega arith
 touched_few offset (suc n) few = omega (arith, few)
 
-pub update_spends : (offset count : ℕ) (a b : Facts) → count ≤ 255 → WritesAtMost (3 * touched_words offset count +
-    1) a b
-    → WritesAtMost UPDATE_WRITES a b
-update_spends offset count a b few spends =
+-- so setting them costs no more than an update may
+pub update_within : (offset count : ℕ) (a b : Memory) (told : Option StoreErr) → count ≤ 255
+    → Changes (3 * touched_words offset count + 1) a b told → Changes UPDATE_WRITES a b told
+update_within offset count a b told few changes =
     let most = touched_few offset count few in
-    let writes = spends.writes in
-    record { writes = omega (arith, most, writes); compares = spends.compares; matches = spends.matches }
+    changes_within (3 * touched_words offset count + 1) UPDATE_WRITES a b told (omega (arith, most)) changes

@@ -8,10 +8,13 @@ use Rattle.std.specs.Result.{result_err}
 use Rattle.card_rules.specs.declared.status.Sw.{Sw}
 use Rattle.card_rules.specs.declared.status.TheConstants.Sw.{RECORD_NOT_FOUND, NO_ROOM}
 use Rattle.undo_journal.specs.declared.error.StoreErr.{StoreErr}
+use Rattle.undo_journal.specs.Memory.{Memory}
+use Rattle.undo_journal.specs.Calls.{Changes}
+use Rattle.undo_journal.specs.laws.Told.{told_is}
 use Rattle.ef_body.specs.declared.error.BodyErr.{BodyErr}
 use Rattle.ef_body.specs.declared.error.BodyErr.TheVariants.{Store}
 use Rattle.ef_body.specs.Records.{has_record}
-use Rattle.ef_body.specs.Refusals.{missing_record, full, Decides}
+use Rattle.ef_body.specs.Refusals.{missing_record, full, failure, Decides}
 
 -- what a test that gave false tells
 pub not_so : (b : Bool) (fact : Type 0) → (IsTrue b ↔ fact) → b ≡ false → fact → ⊥
@@ -81,3 +84,9 @@ pub store_decides : {T : Type 0} (refusal : Option Sw) (result : Result T BodyEr
 store_decides refusal (Ok v) e is none = none
 store_decides refusal (Err r) e is none =
     let family : BodyErr → Type 0 = λ b. Decides refusal (Some b) in subst family (sym is) none
+
+-- a call that fails as one that it made: what that tells of the store, it tells too
+pub changes_fail : {T : Type 0} (n : ℕ) (old new : Memory) (r : Result T BodyErr) (e : BodyErr)
+    → IsErrAnd r (λ b. b ≡ e) → Changes n old new (failure (Some e)) → Changes n old new (failure (result_err r))
+changes_fail n old new r e is changes =
+    subst (λ (why : Option BodyErr). Changes n old new (failure why)) (told_is r e is) changes

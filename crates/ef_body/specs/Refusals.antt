@@ -49,12 +49,6 @@ Fits refusal None = refusal ≡ None
 Fits refusal (Some (Refused status)) = refusal ≡ Some status
 Fits refusal (Some (Store e)) = Unit {0}
 
--- a fact that holds unless the store failed
-abbrev pub UnlessFailed : Option BodyErr → Type 0 → Type 0
-UnlessFailed None fact = fact
-UnlessFailed (Some (Refused status)) fact = fact
-UnlessFailed (Some (Store e)) fact = Unit {0}
-
 -- a fact that holds where the call is refused
 abbrev pub IfRefused : Option BodyErr → Type 0 → Type 0
 IfRefused None fact = Unit {0}

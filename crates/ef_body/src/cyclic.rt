@@ -1,15 +1,14 @@
 //! Cyclic bodies: records of one length, the newest first (ETSI TS 102 221, 8.2.2.3).
 ghost use Rattle.std.specs.Prelude.{◌≡◌, ◌≤◌, ◌<◌, ◌⊎◌, ◌↔◌, ◌+◌, [], min, length, None, Some, IsTrue, OnOk};
 ghost use Rattle.std.specs.Result.{result_err};
-ghost use Rattle.undo_journal.specs.Memory.{committed, IsReady, IsIdle, Reports};
-ghost use Rattle.undo_journal.specs.Calls.{OnlyReads};
-ghost use Rattle.undo_journal.specs.Spending.{WritesAtMost};
+ghost use Rattle.undo_journal.specs.Memory.{committed, IsReady};
+ghost use Rattle.undo_journal.specs.Calls.{OnlyReads, Reads, Changes};
 ghost use Rattle.ef_body.specs.declared.layout.TheConstants.{RECORD_WRITES};
 ghost use Rattle.card_rules.specs.declared.status.Sw.{Sw};
 ghost use Rattle.ef_body.specs.Records.{front, record_of};
 ghost use Rattle.ef_body.specs.Numbers.{spelled};
 ghost use Rattle.ef_body.specs.Searching.{found};
-ghost use Rattle.ef_body.specs.Refusals.{missing_record, unraised, raised_number, Decides, Fits, UnlessFailed};
+ghost use Rattle.ef_body.specs.Refusals.{missing_record, unraised, raised_number, Decides, Fits};
 ghost use Rattle.ef_body.specs.Refusals.{IfRefused, failure};
 ghost use Rattle.ef_body.specs.Bodies.{cyclic_records, IsCyclic};
 ghost use Rattle.ef_body.specs.Changes.{CyclicBecomes, Increases};
@@ -64,9 +63,7 @@ impl Cyclic {
         ensures refusal { Decides (missing_record (cyclic_records (committed store.old) self) number) (result_err
             result) }
         ensures refused { IfRefused (result_err result) ((bytes.new.items ≡ []) × (store.new ≡ store.old)) }
-        ensures ready { UnlessFailed (result_err result) (IsReady store.new) }
-        ensures reads { OnlyReads store.old store.new }
-        ensures tells { store.new.failed ≡ failure (result_err result) }
+        ensures store { Reads store.old store.new (failure (result_err result)) }
     {
         bytes.clear();
         if !self.has_record(number) {
@@ -92,11 +89,7 @@ impl Cyclic {
             store.old) self)) bytes.now (cyclic_records (committed store.old) self)) (committed store.new)) }
         ensures refusal { Decides (missing_record (cyclic_records (committed store.old) self) 1) (result_err result) }
         ensures refused { IfRefused (result_err result) (store.new ≡ store.old) }
-        ensures ready { UnlessFailed (result_err result) (IsReady store.new) }
-        ensures idle { IsIdle store.new }
-        ensures reports { Reports store.old store.new }
-        ensures tells { store.new.failed ≡ failure (result_err result) }
-        ensures writes { WritesAtMost RECORD_WRITES store.old.facts store.new.facts }
+        ensures store { Changes RECORD_WRITES store.old store.new (failure (result_err result)) }
     {
         if !self.has_record(1) {
             return Err(BodyErr::Refused(Sw::RECORD_NOT_FOUND));
@@ -120,11 +113,7 @@ impl Cyclic {
         ensures done { OnOk result (CyclicBecomes (committed store.old) self (front self.capacity bytes.now
             (cyclic_records (committed store.old) self)) (committed store.new)) }
         ensures refusal { Decides None (result_err result) }
-        ensures ready { UnlessFailed (result_err result) (IsReady store.new) }
-        ensures idle { IsIdle store.new }
-        ensures reports { Reports store.old store.new }
-        ensures tells { store.new.failed ≡ failure (result_err result) }
-        ensures writes { WritesAtMost RECORD_WRITES store.old.facts store.new.facts }
+        ensures store { Changes RECORD_WRITES store.old store.new (failure (result_err result)) }
     {
         put_front(self, store, bytes, self.appended())?;
         Ok(())
@@ -159,9 +148,7 @@ impl Cyclic {
             (committed store.old) self) sent.now)) }
         ensures refusal { Fits (unraised self.record_length (cyclic_records (committed store.old) self) sent.now)
             (result_err result) }
-        ensures ready { UnlessFailed (result_err result) (IsReady store.new) }
-        ensures reads { OnlyReads store.old store.new }
-        ensures tells { store.new.failed ≡ failure (result_err result) }
+        ensures store { Reads store.old store.new (failure (result_err result)) }
     {
         bytes.clear();
         if !self.has_record(1) {
@@ -200,11 +187,7 @@ impl Cyclic {
         ensures refused { (status : Sw) → unraised self.record_length (cyclic_records (committed store.old) self)
             sent.now
             ≡ Some status → OnlyReads store.old store.new }
-        ensures ready { UnlessFailed (result_err result) (IsReady store.new) }
-        ensures idle { IsIdle store.new }
-        ensures reports { Reports store.old store.new }
-        ensures tells { store.new.failed ≡ failure (result_err result) }
-        ensures writes { WritesAtMost RECORD_WRITES store.old.facts store.new.facts }
+        ensures store { Changes RECORD_WRITES store.old store.new (failure (result_err result)) }
     {
         self.sum(store, sent, bytes)?;
         put_front(self, store, bytes, self.records)?;
@@ -234,9 +217,7 @@ impl Cyclic {
         ensures refusal { Decides (missing_record (cyclic_records (committed store.old) self) first) (result_err
             result) }
         ensures refused { IfRefused (result_err result) ((numbers.new.items ≡ []) × (store.new ≡ store.old)) }
-        ensures ready { UnlessFailed (result_err result) (IsReady store.new) }
-        ensures reads { OnlyReads store.old store.new }
-        ensures tells { store.new.failed ≡ failure (result_err result) }
+        ensures store { Reads store.old store.new (failure (result_err result)) }
     {
         numbers.clear();
         if !self.has_record(first) {

@@ -2,13 +2,12 @@
 ghost use Rattle.std.specs.Prelude.{◌≡◌, ◌≤◌, ◌<◌, ◌+◌, ◌-◌, ◌*◌, ◌⊎◌, ◌↔◌, ◌++◌, ◌∷◌, [], length, slice_set, IsTrue};
 ghost use Rattle.std.specs.Prelude.{OnOk};
 ghost use Rattle.std.specs.Result.{result_err};
-ghost use Rattle.undo_journal.specs.Memory.{committed, IsReady, IsIdle, Reports};
-ghost use Rattle.undo_journal.specs.Calls.{OnlyReads};
-ghost use Rattle.undo_journal.specs.Spending.{WritesAtMost};
+ghost use Rattle.undo_journal.specs.Memory.{committed, IsReady};
+ghost use Rattle.undo_journal.specs.Calls.{Reads, Changes};
 ghost use Rattle.ef_body.specs.declared.layout.TheConstants.{UPDATE_WRITES, RECORD_WRITES};
 ghost use Rattle.ef_body.specs.Records.{record_of};
 ghost use Rattle.ef_body.specs.Searching.{found};
-ghost use Rattle.ef_body.specs.Refusals.{missing_record, full, Decides, UnlessFailed, IfRefused, failure};
+ghost use Rattle.ef_body.specs.Refusals.{missing_record, full, Decides, IfRefused, failure};
 ghost use Rattle.ef_body.specs.Bodies.{linear_records, ring_of, IsLinear};
 ghost use Rattle.ef_body.specs.Changes.{LinearBecomes};
 
@@ -81,9 +80,7 @@ impl Linear {
         ensures refusal { Decides (missing_record (linear_records (committed store.old) self) number) (result_err
             result) }
         ensures refused { IfRefused (result_err result) ((bytes.new.items ≡ []) × (store.new ≡ store.old)) }
-        ensures ready { UnlessFailed (result_err result) (IsReady store.new) }
-        ensures reads { OnlyReads store.old store.new }
-        ensures tells { store.new.failed ≡ failure (result_err result) }
+        ensures store { Reads store.old store.new (failure (result_err result)) }
     {
         bytes.clear();
         if !self.has_record(number) {
@@ -114,11 +111,7 @@ impl Linear {
         ensures refusal { Decides (missing_record (linear_records (committed store.old) self) number) (result_err
             result) }
         ensures refused { IfRefused (result_err result) (store.new ≡ store.old) }
-        ensures ready { UnlessFailed (result_err result) (IsReady store.new) }
-        ensures idle { IsIdle store.new }
-        ensures reports { Reports store.old store.new }
-        ensures tells { store.new.failed ≡ failure (result_err result) }
-        ensures writes { WritesAtMost UPDATE_WRITES store.old.facts store.new.facts }
+        ensures store { Changes UPDATE_WRITES store.old store.new (failure (result_err result)) }
     {
         if !self.has_record(number) {
             return Err(BodyErr::Refused(Sw::RECORD_NOT_FOUND));
@@ -145,11 +138,7 @@ impl Linear {
         ensures refusal { Decides (full self.capacity (linear_records (committed store.old) self)) (result_err
             result) }
         ensures refused { IfRefused (result_err result) (store.new ≡ store.old) }
-        ensures ready { UnlessFailed (result_err result) (IsReady store.new) }
-        ensures idle { IsIdle store.new }
-        ensures reports { Reports store.old store.new }
-        ensures tells { store.new.failed ≡ failure (result_err result) }
-        ensures writes { WritesAtMost RECORD_WRITES store.old.facts store.new.facts }
+        ensures store { Changes RECORD_WRITES store.old store.new (failure (result_err result)) }
     {
         if self.is_full() {
             return Err(BodyErr::Refused(Sw::NO_ROOM));
@@ -183,9 +172,7 @@ impl Linear {
         ensures refusal { Decides (missing_record (linear_records (committed store.old) self) first) (result_err
             result) }
         ensures refused { IfRefused (result_err result) ((numbers.new.items ≡ []) × (store.new ≡ store.old)) }
-        ensures ready { UnlessFailed (result_err result) (IsReady store.new) }
-        ensures reads { OnlyReads store.old store.new }
-        ensures tells { store.new.failed ≡ failure (result_err result) }
+        ensures store { Reads store.old store.new (failure (result_err result)) }
     {
         numbers.clear();
         if !self.has_record(first) {

@@ -2,7 +2,7 @@
 ghost use Rattle.std.specs.Prelude.{◌≡◌, ◌≤◌, ◌<◌, ◌+◌, ◌-◌, ◌*◌, ◌%◌, [], length, take, drop, OnOk};
 ghost use Rattle.std.specs.Result.{result_err};
 ghost use Rattle.undo_journal.specs.Memory.{committed, IsReady};
-ghost use Rattle.undo_journal.specs.Calls.{OnlyReads};
+ghost use Rattle.undo_journal.specs.Calls.{Reads};
 ghost use Rattle.block_chain.specs.Chains.{Leads, chain_of, chain_bytes};
 ghost use Rattle.block_chain.specs.Changes.{AppendsSome};
 ghost use Rattle.block_chain.specs.declared.layout.TheConstants.{BLOCK_BYTES};
@@ -31,9 +31,7 @@ pub(crate) fn read_anew<B: Board, const N: usize>(
         chain))) }
     ensures any_exit { AppendsSome [] (take count (drop offset (chain_bytes (committed store.old) chain)))
         bytes.new.items }
-    ensures ready { OnOk result (IsReady store.new) }
-    ensures reads { OnlyReads store.old store.new }
-    ensures tells { store.new.failed ≡ result_err result }
+    ensures store { Reads store.old store.new (result_err result) }
 {
     read_bytes(store, chain, offset, count, bytes)
 }
@@ -52,9 +50,7 @@ pub(crate) fn read_record<B: Board, const N: usize>(
     requires room { body.record_length ≤ N }
     requires empty { bytes.old.items ≡ [] }
     ensures bytes { OnOk result (bytes.new.items ≡ record_of (cyclic_records (committed store.old) body) number) }
-    ensures ready { OnOk result (IsReady store.new) }
-    ensures reads { OnlyReads store.old store.new }
-    ensures tells { store.new.failed ≡ result_err result }
+    ensures store { Reads store.old store.new (result_err result) }
 {
     let slot = (body.start + number - 1) % body.capacity;
     let offset = slot * body.record_length;

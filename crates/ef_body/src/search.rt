@@ -4,7 +4,7 @@ ghost use Rattle.std.specs.Prelude.{slice_index, IfOk, OnOk};
 ghost use Rattle.std.specs.List.{starts_with};
 ghost use Rattle.std.specs.Result.{result_err};
 ghost use Rattle.undo_journal.specs.Memory.{committed, IsReady};
-ghost use Rattle.undo_journal.specs.Calls.{OnlyReads};
+ghost use Rattle.undo_journal.specs.Calls.{Reads};
 ghost use Rattle.ef_body.specs.Records.{record_of};
 ghost use Rattle.ef_body.specs.Searching.{stands_in, numbers_on, found};
 ghost use Rattle.ef_body.specs.Bodies.{cyclic_records, IsCyclic};
@@ -57,9 +57,7 @@ fn record_holds<B: Board>(
     requires last { number ≤ body.records }
     ensures holds { IfOk result (λ holds. holds
         ≡ stands_in text.now (record_of (cyclic_records (committed store.old) body) number)) }
-    ensures ready { OnOk result (IsReady store.new) }
-    ensures reads { OnlyReads store.old store.new }
-    ensures tells { store.new.failed ≡ result_err result }
+    ensures store { Reads store.old store.new (result_err result) }
 {
     let mut bytes = ArrayVec::<u8, MOST_RECORD_BYTES>::new();
     read_record(body, store, number, &mut bytes)?;
@@ -123,9 +121,7 @@ pub(crate) fn search_records<B: Board, const N: usize>(
     requires empty { numbers.old.items ≡ [] }
     ensures numbers { OnOk result (numbers.new.items
         ≡ found direction first text.now (cyclic_records (committed store.old) body)) }
-    ensures ready { OnOk result (IsReady store.new) }
-    ensures reads { OnlyReads store.old store.new }
-    ensures tells { store.new.failed ≡ result_err result }
+    ensures store { Reads store.old store.new (result_err result) }
 {
     let steps = steps_of(direction, first, body.records);
     for step in 0..steps {

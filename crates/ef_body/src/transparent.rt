@@ -1,11 +1,10 @@
 //! Transparent bodies: bytes (ISO/IEC 7816-4, 7.3.2 and 11.3).
 ghost use Rattle.std.specs.Prelude.{◌≡◌, ◌≤◌, ◌<◌, ◌+◌, ◌*◌, ◌⊎◌, ◌↔◌, [], min, length, take, drop, IsTrue, OnOk};
 ghost use Rattle.std.specs.Result.{result_err};
-ghost use Rattle.undo_journal.specs.Memory.{committed, IsReady, IsIdle, Reports};
-ghost use Rattle.undo_journal.specs.Calls.{OnlyReads};
-ghost use Rattle.undo_journal.specs.Spending.{WritesAtMost};
+ghost use Rattle.undo_journal.specs.Memory.{committed, IsReady};
+ghost use Rattle.undo_journal.specs.Calls.{Reads, Changes};
 ghost use Rattle.block_chain.specs.Changes.{overwrite, touched_words, AppendsSome};
-ghost use Rattle.ef_body.specs.Refusals.{past_end, overlong, Decides, UnlessFailed, IfRefused, failure};
+ghost use Rattle.ef_body.specs.Refusals.{past_end, overlong, Decides, IfRefused, failure};
 ghost use Rattle.ef_body.specs.Bodies.{transparent_bytes, IsTransparent};
 ghost use Rattle.ef_body.specs.Changes.{TransparentBecomes};
 
@@ -63,9 +62,7 @@ impl Transparent {
         ensures refusal { Decides (past_end (transparent_bytes (committed store.old) self) offset) (result_err
             result) }
         ensures refused { IfRefused (result_err result) ((bytes.new.items ≡ []) × (store.new ≡ store.old)) }
-        ensures ready { UnlessFailed (result_err result) (IsReady store.new) }
-        ensures reads { OnlyReads store.old store.new }
-        ensures tells { store.new.failed ≡ failure (result_err result) }
+        ensures store { Reads store.old store.new (failure (result_err result)) }
     {
         bytes.clear();
         if self.ends_at(offset) {
@@ -101,12 +98,8 @@ impl Transparent {
             (result_err
             result) }
         ensures refused { IfRefused (result_err result) (store.new ≡ store.old) }
-        ensures ready { UnlessFailed (result_err result) (IsReady store.new) }
-        ensures idle { IsIdle store.new }
-        ensures reports { Reports store.old store.new }
-        ensures tells { store.new.failed ≡ failure (result_err result) }
-        ensures writes { WritesAtMost (3 * touched_words offset (length bytes.now) + 1) store.old.facts
-            store.new.facts }
+        ensures store { Changes (3 * touched_words offset (length bytes.now) + 1) store.old store.new (failure
+            (result_err result)) }
     {
         if self.ends_at(offset) {
             return Err(BodyErr::Refused(Sw::WRONG_OFFSET));

@@ -1,10 +1,9 @@
 // The words of bodies that are written, each time in one transaction.
 ghost use Rattle.std.specs.Prelude.{◌≡◌, ◌⊎◌, ◌≤◌, ◌<◌, ◌+◌, ◌*◌, ◌-◌, ◌%◌, length, slice_set, OnOk};
 ghost use Rattle.std.specs.Result.{result_err};
-ghost use Rattle.undo_journal.specs.Memory.{committed, current, room, IsOpen, IsReady, IsIdle, Reports};
-ghost use Rattle.undo_journal.specs.Calls.{Sets};
+ghost use Rattle.undo_journal.specs.Memory.{committed, current, room, IsOpen, IsReady};
+ghost use Rattle.undo_journal.specs.Calls.{Changes, SetsIn};
 ghost use Rattle.undo_journal.specs.Lent.{memory_of};
-ghost use Rattle.undo_journal.specs.Spending.{WritesAtMost};
 ghost use Rattle.undo_journal.specs.declared.layout.TheConstants.{GATE};
 ghost use Rattle.block_chain.specs.Chains.{chain_of as blocks_of_chain, IsChain};
 ghost use Rattle.block_chain.specs.Changes.{Overwrites, touched_words};
@@ -41,11 +40,7 @@ pub(crate) fn put_bytes<B: Board>(
         store.new) }
     ensures done { OnOk result (Overwrites (committed store.old) (blocks_of_chain (committed store.old) chain) offset
         bytes.now (committed store.new)) }
-    ensures idle { IsIdle store.new }
-    ensures ready { OnOk result (IsReady store.new) }
-    ensures reports { Reports store.old store.new }
-    ensures tells { store.new.failed ≡ result_err result }
-    ensures writes { WritesAtMost (3 * touched_words offset (length bytes.now) + 1) store.old.facts store.new.facts }
+    ensures store { Changes (3 * touched_words offset (length bytes.now) + 1) store.old store.new (result_err result) }
 {
     let mut txn = store.begin();
     match set_bytes(&mut txn, chain, offset, bytes) {
@@ -73,11 +68,7 @@ pub(crate) fn put_record<B: Board>(
         ⊎ PutsRecord (committed store.old) chain offset bytes.now told_at told (committed store.new) }
     ensures done { OnOk result (PutsRecord (committed store.old) chain offset bytes.now told_at told (committed
         store.new)) }
-    ensures idle { IsIdle store.new }
-    ensures ready { OnOk result (IsReady store.new) }
-    ensures reports { Reports store.old store.new }
-    ensures tells { store.new.failed ≡ result_err result }
-    ensures writes { WritesAtMost RECORD_WRITES store.old.facts store.new.facts }
+    ensures store { Changes RECORD_WRITES store.old store.new (result_err result) }
 {
     let mut txn = store.begin();
     match set_record(&mut txn, chain, offset, bytes, told_at, told) {
@@ -104,9 +95,7 @@ fn set_record<B: Board>(
     requires room { touched_words offset (length bytes.now) + 1 ≤ room (memory_of txn.old) }
     ensures done { OnOk result (PutsRecord (current (memory_of txn.old)) chain offset bytes.now told_at told (current
         (memory_of txn.new))) }
-    ensures ready { OnOk result (IsOpen (memory_of txn.new)) }
-    ensures sets { Sets (touched_words offset (length bytes.now) + 1) txn.old txn.new }
-    ensures tells { (memory_of txn.new).failed ≡ result_err result }
+    ensures store { SetsIn (touched_words offset (length bytes.now) + 1) txn.old txn.new (result_err result) }
 {
     set_bytes(txn, chain, offset, bytes)?;
     set_word(txn, told_at, told)
@@ -118,9 +107,7 @@ fn set_word<B: Board>(txn: &mut Txn<'_, B>, at: u16, word: u32) -> Result<(), St
     requires room { 0 < room (memory_of txn.old) }
     requires place { at < GATE }
     ensures done { OnOk result (current (memory_of txn.new) ≡ slice_set (current (memory_of txn.old)) at word) }
-    ensures ready { OnOk result (IsOpen (memory_of txn.new)) }
-    ensures sets { Sets 1 txn.old txn.new }
-    ensures tells { (memory_of txn.new).failed ≡ result_err result }
+    ensures store { SetsIn 1 txn.old txn.new (result_err result) }
 {
     txn.set(at, word)
 }
@@ -145,11 +132,7 @@ pub(crate) fn put_front<B: Board>(
         (committed store.new) }
     ensures done { OnOk result (CyclicBecomes (committed store.old) body (front records bytes.now (cyclic_records
         (committed store.old) body)) (committed store.new)) }
-    ensures idle { IsIdle store.new }
-    ensures ready { OnOk result (IsReady store.new) }
-    ensures reports { Reports store.old store.new }
-    ensures tells { store.new.failed ≡ result_err result }
-    ensures writes { WritesAtMost RECORD_WRITES store.old.facts store.new.facts }
+    ensures store { Changes RECORD_WRITES store.old store.new (result_err result) }
 {
     let start = slot_before(body.start, body.capacity);
     let offset = start * body.record_length;

@@ -1,14 +1,13 @@
 //! Creating a file.
 
-ghost use Rattle.std.specs.Prelude.{◌≡◌, ◌≢◌, ◌⊎◌, ◌<◌, ◌≤◌, ◌+◌, length, Some, IfOk, OnOk, if◌then◌else◌};
+ghost use Rattle.std.specs.Prelude.{◌≡◌, ◌≢◌, ◌⊎◌, ◌&&◌, ◌<◌, ◌≤◌, ◌+◌, nat_le, length, Some, IfOk, OnOk, if◌then◌else◌};
 ghost use Rattle.std.specs.Result.{result_err};
 ghost use Rattle.card_rules.specs.declared.status.Sw.{Sw};
 ghost use Rattle.fcp_template.specs.declared.fcp.ShortIdentifier.TheVariants.{Absent};
 ghost use Rattle.fcp_template.specs.Ranges.{IsShort, IsCreatable};
-ghost use Rattle.undo_journal.specs.Memory.{committed, current, room, IsOpen, IsReady, IsIdle, Reports};
+ghost use Rattle.undo_journal.specs.Memory.{committed, current, room, IsOpen, IsReady};
 ghost use Rattle.undo_journal.specs.Lent.{memory_of};
-ghost use Rattle.undo_journal.specs.Spending.{WritesAtMost};
-ghost use Rattle.undo_journal.specs.Calls.{OnlyReads, Sets};
+ghost use Rattle.undo_journal.specs.Calls.{OnlyReads, Reads, Changes, SetsIn};
 ghost use Rattle.block_chain.specs.Chains.{HasFree, free_chain};
 ghost use Rattle.file_tree.specs.declared.layout.TheConstants.{CREATE_WRITES, MOST_FILE_BLOCKS};
 ghost use Rattle.file_tree.specs.laws.Created.{AddsFile, FillsAndAdds, FillsOrAdds};
@@ -17,7 +16,7 @@ ghost use Rattle.file_tree.specs.Trees.{tree_of, TreeStands};
 ghost use Rattle.file_tree.specs.Changes.{SameTree};
 ghost use Rattle.file_tree.specs.Creations.{CreatesNew, TellsCreation};
 ghost use Rattle.file_tree.specs.laws.Created.{FindsPlace};
-ghost use Rattle.file_tree.specs.NewFiles.{short_for, short_of_new, creation_refusal};
+ghost use Rattle.file_tree.specs.NewFiles.{low_bits, short_for, short_of_new, creation_refusal};
 ghost use Rattle.file_tree.specs.laws.NewEntries.{entry_for, kind_number, no_chain, padded, short_option};
 ghost use Rattle.file_tree.specs.laws.NewEntries.{record_length_of_kind, existing_of_kind};
 
@@ -53,20 +52,30 @@ fn if_free(short: u8, is_taken: bool) -> u8
     if is_taken { 0 } else { short }
 }
 
+/// The low five bits of an identifier, if they are 1 to 30; else 0.
+fn low_short(identifier: u16) -> u8
+    ensures { result ≡ (if nat_le 1 (low_bits identifier) && nat_le (low_bits identifier) 30 then low_bits identifier
+        else 0) }
+{
+    let low = (identifier % 32) as u8;
+    if 1 <= low && low <= MOST_SHORT {
+        low
+    } else {
+        0
+    }
+}
+
 /// The low five bits of an identifier as a short identifier, if no child has it; 0 for none.
-#[tactic(auto, using(undo_journal::specs::laws::Calls::reads_then))]
 fn short_by_default<B: Board>(store: &mut Store<B>, df: u8, identifier: u16) -> Result<u8, StoreErr>
     requires ready { IsReady store.old }
     requires tree { TreeStands (committed store.old) }
     requires df { IsUsed (table (committed store.old)) df }
     ensures short { IfOk result (λ n. short_option n
         ≡ short_for (tree_of (committed store.old)) (path_of (table (committed store.old)) df) identifier Absent) }
-    ensures ready { OnOk result (IsReady store.new) }
-    ensures reads { OnlyReads store.old store.new }
-    ensures tells { store.new.failed ≡ result_err result }
+    ensures store { Reads store.old store.new (result_err result) }
 {
-    let low = (identifier % 32) as u8;
-    if low < 1 || low > MOST_SHORT {
+    let low = low_short(identifier);
+    if low == 0 {
         return Ok(0);
     }
     let found = find_short(store, df, low)?;
@@ -87,9 +96,7 @@ fn short_number<B: Board>(
     requires short { IsShort short }
     ensures short { IfOk result (λ n. short_option n
         ≡ short_for (tree_of (committed store.old)) (path_of (table (committed store.old)) df) identifier short) }
-    ensures ready { OnOk result (IsReady store.new) }
-    ensures reads { OnlyReads store.old store.new }
-    ensures tells { store.new.failed ≡ result_err result }
+    ensures store { Reads store.old store.new (result_err result) }
 {
     match short {
         ShortIdentifier::Absent => short_by_default(store, df, identifier),
@@ -107,16 +114,13 @@ fn short_of<B: Board>(store: &mut Store<B>, df: u8, fcp: &Fcp<'_>) -> Result<u8,
     requires fcp { IsCreatable fcp.now }
     ensures short { IfOk result (λ n. short_option n
         ≡ short_of_new (tree_of (committed store.old)) (path_of (table (committed store.old)) df) fcp.now) }
-    ensures ready { OnOk result (IsReady store.new) }
-    ensures reads { OnlyReads store.old store.new }
-    ensures tells { store.new.failed ≡ result_err result }
+    ensures store { Reads store.old store.new (result_err result) }
 {
-    match fcp.kind {
-        FileKind::Df { .. } => Ok(0),
-        FileKind::Transparent { short, .. } => short_number(store, df, fcp.identifier, short),
-        FileKind::Linear { short, .. } => short_number(store, df, fcp.identifier, short),
-        FileKind::Cyclic { short, .. } => short_number(store, df, fcp.identifier, short),
+    if kind_number(&fcp.kind) == 1 {
+        return Ok(0);
     }
+    let number = short_number(store, df, fcp.identifier, fcp.kind.short())?;
+    Ok(number)
 }
 
 /// The number of a kind of file in its entry.
@@ -204,9 +208,7 @@ fn add_file<B: Board>(
     requires enough { blocks ≤ length (free_chain (current (memory_of txn.old))) }
     requires room { 13 ≤ room (memory_of txn.old) }
     ensures done { OnOk result (AddsFile (current (memory_of txn.old)) e entry blocks (current (memory_of txn.new))) }
-    ensures ready { OnOk result (IsOpen (memory_of txn.new)) }
-    ensures sets { Sets 13 txn.old txn.new }
-    ensures tells { (memory_of txn.new).failed ≡ result_err result }
+    ensures store { SetsIn 13 txn.old txn.new (result_err result) }
 {
     if blocks == 0 {
         return write_entry(txn, e, entry);
@@ -236,10 +238,7 @@ fn write_file<B: Board>(
     requires few { blocks ≤ MOST_FILE_BLOCKS }
     ensures any_exit { FillsOrAdds (committed store.old) e entry blocks (committed store.new) }
     ensures done { OnOk result (FillsAndAdds (committed store.old) e entry blocks (committed store.new)) }
-    ensures ready { OnOk result (IsReady store.new) }
-    ensures reports { Reports store.old store.new }
-    ensures tells { store.new.failed ≡ result_err result }
-    ensures writes { WritesAtMost CREATE_WRITES store.old.facts store.new.facts }
+    ensures store { Changes CREATE_WRITES store.old store.new (result_err result) }
 {
     fill(store, blocks, BLANK)?;
     let mut txn = store.begin();
@@ -257,9 +256,7 @@ fn find_place<B: Board>(store: &mut Store<B>, df: u8, fcp: &Fcp<'_>) -> Result<P
     requires df { IsUsed (table (committed store.old)) df }
     requires fcp { IsCreatable fcp.now }
     ensures found { IfOk result (FindsPlace (committed store.old) df fcp.now) }
-    ensures ready { OnOk result (IsReady store.new) }
-    ensures reads { OnlyReads store.old store.new }
-    ensures tells { store.new.failed ≡ result_err result }
+    ensures store { Reads store.old store.new (result_err result) }
 {
     match taken(store, df, fcp)? {
         Some(status) => Ok(Place::Refused(status)),
@@ -281,14 +278,11 @@ pub fn create<B: Board>(store: &mut Store<B>, df: u8, fcp: &Fcp<'_>) -> Result<C
     requires fcp { IsCreatable fcp.now }
     ensures any_exit { SameTree (committed store.old) (committed store.new)
         ⊎ CreatesNew (committed store.old) df fcp.now (committed store.new) }
+    ensures store { Changes CREATE_WRITES store.old store.new (result_err result) }
     ensures idle { (status : Sw)
         → creation_refusal (tree_of (committed store.old)) (path_of (table (committed store.old)) df) fcp.now ≡ Some status
         → OnlyReads store.old store.new }
     ensures done { IfOk result (λ creation. TellsCreation (committed store.old) df fcp.now creation (committed store.new)) }
-    ensures ready { OnOk result (IsReady store.new) }
-    ensures reports { Reports store.old store.new }
-    ensures tells { store.new.failed ≡ result_err result }
-    ensures writes { WritesAtMost CREATE_WRITES store.old.facts store.new.facts }
 {
     let entry = match find_place(store, df, fcp)? {
         Place::At(entry) => entry,

@@ -4,11 +4,10 @@ ghost use Rattle.std.specs.Prelude.{◌≡◌, ◌≢◌, ◌⊎◌, ◌<◌, �
 ghost use Rattle.std.specs.List.{sum_by};
 ghost use Rattle.std.specs.Result.{result_err};
 ghost use Rattle.nvm_board.specs.declared.board.TheConstants.{WORDS};
-ghost use Rattle.undo_journal.specs.Memory.{committed, current, room, IsOpen, IsReady, IsIdle, Reports};
+ghost use Rattle.undo_journal.specs.Memory.{committed, current, room, IsOpen, IsReady};
 ghost use Rattle.undo_journal.specs.Lent.{memory_of};
 ghost use Rattle.undo_journal.specs.Undo.{IsDataAddress};
-ghost use Rattle.undo_journal.specs.Spending.{WritesAtMost};
-ghost use Rattle.undo_journal.specs.Calls.{OnlyReads, Sets};
+ghost use Rattle.undo_journal.specs.Calls.{Reads, Changes, SetsIn};
 ghost use Rattle.block_chain.specs.declared.layout.TheConstants.{BLOCKS};
 ghost use Rattle.block_chain.specs.Layout.{chains_of};
 ghost use Rattle.file_tree.specs.declared.layout.TheConstants.{DELETE_WRITES};
@@ -104,9 +103,7 @@ pub(crate) fn put<B: Board>(txn: &mut Txn<'_, B>, at: u16, word: u32) -> Result<
     requires room { 0 < room (memory_of txn.old) }
     requires place { IsDataAddress (current (memory_of txn.old)) at }
     ensures done { OnOk result (current (memory_of txn.new) ≡ slice_set (current (memory_of txn.old)) at word) }
-    ensures ready { OnOk result (IsOpen (memory_of txn.new)) }
-    ensures sets { Sets 1 txn.old txn.new }
-    ensures tells { (memory_of txn.new).failed ≡ result_err result }
+    ensures store { SetsIn 1 txn.old txn.new (result_err result) }
 {
     txn.set(at, word)
 }
@@ -117,9 +114,7 @@ fn free_part<B: Board>(txn: &mut Txn<'_, B>, part: &[Entry]) -> Result<(), Store
     requires size { length part.now ≡ 64 }
     requires room { 64 ≤ room (memory_of txn.old) }
     ensures done { OnOk result (FreesEntries (current (memory_of txn.old)) part.now (current (memory_of txn.new))) }
-    ensures ready { OnOk result (IsOpen (memory_of txn.new)) }
-    ensures sets { Sets 64 txn.old txn.new }
-    ensures tells { (memory_of txn.new).failed ≡ result_err result }
+    ensures store { SetsIn 64 txn.old txn.new (result_err result) }
 {
     for e in 0..ENTRIES {
         if part[usize::from(e)].kind != 0 {
@@ -140,9 +135,7 @@ fn take_away<B: Board>(
     requires apart { CanGive (current (memory_of txn.old)) part.now chains.now }
     requires room { 64 + (length chains.now + 1) ≤ room (memory_of txn.old) }
     ensures done { OnOk result (Removes (current (memory_of txn.old)) part.now chains.now (current (memory_of txn.new))) }
-    ensures ready { OnOk result (IsOpen (memory_of txn.new)) }
-    ensures sets { Sets (64 + (length chains.now + 1)) txn.old txn.new }
-    ensures tells { (memory_of txn.new).failed ≡ result_err result }
+    ensures store { SetsIn (64 + (length chains.now + 1)) txn.old txn.new (result_err result) }
 {
     free_part(txn, part)?;
     give_back(txn, chains)
@@ -158,11 +151,7 @@ fn remove<B: Board>(store: &mut Store<B>, part: &[Entry], chains: &[Chain]) -> R
     ensures any_exit { (committed store.new ≡ committed store.old)
         ⊎ Removes (committed store.old) part.now chains.now (committed store.new) }
     ensures done { OnOk result (Removes (committed store.old) part.now chains.now (committed store.new)) }
-    ensures idle { IsIdle store.new }
-    ensures ready { OnOk result (IsReady store.new) }
-    ensures reports { Reports store.old store.new }
-    ensures tells { store.new.failed ≡ result_err result }
-    ensures writes { WritesAtMost DELETE_WRITES store.old.facts store.new.facts }
+    ensures store { Changes DELETE_WRITES store.old store.new (result_err result) }
 {
     let mut txn = store.begin();
     match take_away(&mut txn, part, chains) {
@@ -187,9 +176,7 @@ fn removal_of<B: Board>(store: &mut Store<B>, e: u8) -> Result<Removal, StoreErr
     requires used { IsUsed (table (committed store.old)) e }
     requires below { 0 < e }
     ensures removal { IfOk result (IsRemoval (committed store.old) e) }
-    ensures ready { OnOk result (IsReady store.new) }
-    ensures reads { OnlyReads store.old store.new }
-    ensures tells { store.new.failed ≡ result_err result }
+    ensures store { Reads store.old store.new (result_err result) }
 {
     let entries = read_table(store)?;
     let part = part_of(entries.as_slice(), e);
@@ -221,10 +208,7 @@ pub fn delete<B: Board>(store: &mut Store<B>, e: u8) -> Result<FreeSpace, StoreE
     ensures done { OnOk result (Deletes (committed store.old) e (committed store.new)) }
     ensures space { IfOk result (λ freed.
         free_space (tree_of (committed store.new)) ≡ with_freed (free_space (tree_of (committed store.old))) freed) }
-    ensures ready { OnOk result (IsReady store.new) }
-    ensures reports { Reports store.old store.new }
-    ensures tells { store.new.failed ≡ result_err result }
-    ensures writes { WritesAtMost DELETE_WRITES store.old.facts store.new.facts }
+    ensures store { Changes DELETE_WRITES store.old store.new (result_err result) }
 {
     let removal = removal_of(store, e)?;
     remove(store, removal.part.as_slice(), removal.chains.as_slice())?;

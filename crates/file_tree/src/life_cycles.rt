@@ -5,10 +5,9 @@ ghost use Rattle.std.specs.Result.{result_err};
 ghost use Rattle.card_rules.specs.LifeCycle.{state_after};
 ghost use Rattle.card_rules.specs.Rule.{allows, is_rule};
 ghost use Rattle.nvm_board.specs.Facts.{address};
-ghost use Rattle.undo_journal.specs.Memory.{committed, IsReady, IsIdle, Reports};
+ghost use Rattle.undo_journal.specs.Memory.{committed, IsReady};
 ghost use Rattle.undo_journal.specs.Undo.{IsDataAddress};
-ghost use Rattle.undo_journal.specs.Spending.{WritesAtMost};
-ghost use Rattle.undo_journal.specs.Calls.{OnlyReads};
+ghost use Rattle.undo_journal.specs.Calls.{OnlyReads, Reads, Changes};
 ghost use Rattle.file_tree.specs.declared.layout.TheConstants.{FIRST_ENTRY_PAGE};
 ghost use Rattle.file_tree.specs.Entries.{rule_of};
 ghost use Rattle.file_tree.specs.States.{bars, is_allowed, is_barred, life_at, next_life, with_card_terminated, ChangesLife};
@@ -56,9 +55,7 @@ fn is_below_barred<B: Board>(store: &mut Store<B>, e: u8, parent: u8) -> Result<
     requires used { IsUsed (table (committed store.old)) e }
     requires parent { parent ≡ (entry_in (table (committed store.old)) e).parent }
     ensures barred { IfOk result (λ barred. barred ≡ barred_up (table (committed store.old)) 7 e) }
-    ensures ready { OnOk result (IsReady store.new) }
-    ensures reads { OnlyReads store.old store.new }
-    ensures tells { store.new.failed ≡ result_err result }
+    ensures store { Reads store.old store.new (result_err result) }
 {
     let mut at = e;
     let mut above = parent;
@@ -99,9 +96,7 @@ pub fn is_barred<B: Board>(store: &mut Store<B>, e: u8) -> Result<bool, StoreErr
     requires used { IsUsed (table (committed store.old)) e }
     ensures barred { IfOk result (λ barred. barred
         ≡ is_barred (tree_of (committed store.old)) (path_of (table (committed store.old)) e)) }
-    ensures ready { OnOk result (IsReady store.new) }
-    ensures reads { OnlyReads store.old store.new }
-    ensures tells { store.new.failed ≡ result_err result }
+    ensures store { Reads store.old store.new (result_err result) }
 {
     let entry = read_entry(store, e)?;
     if bars(life_of(&entry)) {
@@ -127,9 +122,7 @@ pub fn next_life_cycle<B: Board>(
     requires used { IsUsed (table (committed store.old)) e }
     ensures next { IfOk result (λ next. next
         ≡ next_life (tree_of (committed store.old)) (path_of (table (committed store.old)) e) command) }
-    ensures ready { OnOk result (IsReady store.new) }
-    ensures reads { OnlyReads store.old store.new }
-    ensures tells { store.new.failed ≡ result_err result }
+    ensures store { Reads store.old store.new (result_err result) }
 {
     let entry = read_entry(store, e)?;
     let barred = is_below_barred(store, e, entry.parent)?;
@@ -151,10 +144,7 @@ fn write_word<B: Board>(store: &mut Store<B>, at: u16, word: u32) -> Result<(), 
     ensures any_exit { (committed store.new ≡ committed store.old)
         ⊎ (committed store.new ≡ slice_set (committed store.old) at word) }
     ensures done { OnOk result (committed store.new ≡ slice_set (committed store.old) at word) }
-    ensures ready { OnOk result (IsReady store.new) }
-    ensures reports { Reports store.old store.new }
-    ensures tells { store.new.failed ≡ result_err result }
-    ensures writes { WritesAtMost 4 store.old.facts store.new.facts }
+    ensures store { Changes 4 store.old store.new (result_err result) }
 {
     let mut txn = store.begin();
     match put(&mut txn, at, word) {
@@ -171,10 +161,7 @@ fn write_life<B: Board>(store: &mut Store<B>, e: u8, word: u32) -> Result<(), St
         ⊎ (committed store.new ≡ slice_set (committed store.old) (address (FIRST_ENTRY_PAGE + e) 0) word) }
     ensures done { OnOk result
         (committed store.new ≡ slice_set (committed store.old) (address (FIRST_ENTRY_PAGE + e) 0) word) }
-    ensures ready { OnOk result (IsReady store.new) }
-    ensures reports { Reports store.old store.new }
-    ensures tells { store.new.failed ≡ result_err result }
-    ensures writes { WritesAtMost 4 store.old.facts store.new.facts }
+    ensures store { Changes 4 store.old store.new (result_err result) }
 {
     write_word(store, PAGE_WORDS * (FIRST_ENTRY_PAGE + u16::from(e)), word)?;
     Ok(())
@@ -200,10 +187,7 @@ pub fn set_life_cycle<B: Board>(
     ensures done { OnOk result (ChangesLife (committed store.old) e state (committed store.new)) }
     ensures stays { life_at (tree_of (committed store.old)) (path_of (table (committed store.old)) e) ≡ state
         → OnlyReads store.old store.new }
-    ensures ready { OnOk result (IsReady store.new) }
-    ensures reports { Reports store.old store.new }
-    ensures tells { store.new.failed ≡ result_err result }
-    ensures writes { WritesAtMost 4 store.old.facts store.new.facts }
+    ensures store { Changes 4 store.old store.new (result_err result) }
 {
     let entry = read_entry(store, e)?;
     let life = state.to_byte();
@@ -242,9 +226,7 @@ pub fn is_allowed<B: Board>(
     requires used { IsUsed (table (committed store.old)) e }
     ensures allowed { IfOk result (λ allowed. allowed ≡ is_allowed (tree_of (committed store.old))
         (path_of (table (committed store.old)) e) bit verified.now) }
-    ensures ready { OnOk result (IsReady store.new) }
-    ensures reads { OnlyReads store.old store.new }
-    ensures tells { store.new.failed ≡ result_err result }
+    ensures store { Reads store.old store.new (result_err result) }
 {
     let entry = read_entry(store, e)?;
     Ok(allows_in(&entry, bit, verified))
@@ -260,10 +242,7 @@ pub fn terminate_card<B: Board>(store: &mut Store<B>) -> Result<(), StoreErr>
     ensures any_exit { (committed store.new ≡ committed store.old)
         ⊎ (committed store.new ≡ with_card_terminated (committed store.old)) }
     ensures done { OnOk result (committed store.new ≡ with_card_terminated (committed store.old)) }
-    ensures ready { OnOk result (IsReady store.new) }
-    ensures reports { Reports store.old store.new }
-    ensures tells { store.new.failed ≡ result_err result }
-    ensures writes { WritesAtMost 4 store.old.facts store.new.facts }
+    ensures store { Changes 4 store.old store.new (result_err result) }
 {
     write_word(
         store,

@@ -1,10 +1,11 @@
 //! Files by their names: every look-up of an identifier goes through `find_child`.
 
-ghost use Rattle.std.specs.Prelude.{◌≡◌, ◌==◌, ◌≤◌, ◌<◌, ◌↔◌, IsTrue, IfOk, OnOk, IfSome, Some, None, option_map};
-ghost use Rattle.std.specs.Prelude.{if◌then◌else◌};
+ghost use Rattle.std.specs.Prelude.{◌≡◌, ◌==◌, ◌≤◌, ◌<◌, ◌&&◌, ◌↔◌, not, IsTrue, IfOk, IfSome, Some, None};
+ghost use Rattle.std.specs.Prelude.{if◌then◌else◌, option_map};
 ghost use Rattle.std.specs.Result.{result_err};
 ghost use Rattle.undo_journal.specs.Memory.{committed, IsReady};
-ghost use Rattle.undo_journal.specs.Calls.{OnlyReads};
+ghost use Rattle.undo_journal.specs.Calls.{Reads};
+ghost use Rattle.file_tree.specs.Cards.{master_file};
 ghost use Rattle.file_tree.specs.Reaching.{reached, child_by_short};
 ghost use Rattle.file_tree.specs.Table.{table, entry_in, path_of, IsUsed, IsChild};
 ghost use Rattle.file_tree.specs.Trees.{tree_of, TreeStands};
@@ -31,9 +32,7 @@ pub fn find_child<B: Board>(
 ) -> Result<Option<u8>, StoreErr>
     requires ready { IsReady store.old }
     ensures found { IfOk result (TellsChild (table (committed store.old)) df identifier) }
-    ensures ready { OnOk result (IsReady store.new) }
-    ensures reads { OnlyReads store.old store.new }
-    ensures tells { store.new.failed ≡ result_err result }
+    ensures store { Reads store.old store.new (result_err result) }
 {
     for e in 1..ENTRIES as u8 {
         let entry = read_entry(store, e)?;
@@ -60,9 +59,7 @@ fn find_short_child<B: Board>(
 ) -> Result<Option<u8>, StoreErr>
     requires ready { IsReady store.old }
     ensures found { IfOk result (TellsShort (table (committed store.old)) df short) }
-    ensures ready { OnOk result (IsReady store.new) }
-    ensures reads { OnlyReads store.old store.new }
-    ensures tells { store.new.failed ≡ result_err result }
+    ensures store { Reads store.old store.new (result_err result) }
 {
     for e in 1..ENTRIES as u8 {
         let entry = read_entry(store, e)?;
@@ -87,9 +84,7 @@ pub fn find_short<B: Board>(store: &mut Store<B>, df: u8, short: u8) -> Result<O
         ≡ child_by_short (tree_of (committed store.old)) (path_of (table (committed store.old)) df) short) }
     ensures child { IfOk result (λ found. IfSome found (IsChild (table (committed store.old)) df)) }
     ensures elementary { IfOk result (λ found. IfSome found (λ e. 2 ≤ (entry_in (table (committed store.old)) e).kind)) }
-    ensures ready { OnOk result (IsReady store.new) }
-    ensures reads { OnlyReads store.old store.new }
-    ensures tells { store.new.failed ≡ result_err result }
+    ensures store { Reads store.old store.new (result_err result) }
 {
     let found = find_short_child(store, df, short)?;
     Ok(found)
@@ -113,9 +108,7 @@ fn find_beside<B: Board>(
     requires tree { TreeStands (committed store.old) }
     requires df { IsUsed (table (committed store.old)) df }
     ensures found { IfOk result (TellsBeside (table (committed store.old)) df identifier) }
-    ensures ready { OnOk result (IsReady store.new) }
-    ensures reads { OnlyReads store.old store.new }
-    ensures tells { store.new.failed ≡ result_err result }
+    ensures store { Reads store.old store.new (result_err result) }
 {
     if df == 0 {
         return Ok(None);
@@ -126,6 +119,23 @@ fn find_beside<B: Board>(
     };
     let other = read_entry(store, beside)?;
     Ok(if_dedicated(beside, &other))
+}
+
+/// The first with this identifier of the parent of a dedicated file, itself and the master file, by their entries.
+fn named_above(df: u8, own: &Entry, above: &Entry, identifier: u16) -> Option<u8>
+    ensures { result ≡ (if not (df == 0) && (above.now.identifier == identifier) then Some own.now.parent else
+        if own.now.identifier == identifier then Some df else
+        if master_file == identifier then Some 0 else None) }
+{
+    if df != 0 && above.identifier == identifier {
+        Some(own.parent)
+    } else if own.identifier == identifier {
+        Some(df)
+    } else if identifier == MASTER_FILE {
+        Some(0)
+    } else {
+        None
+    }
 }
 
 /// The parent of a dedicated file, or itself, or the master file: the first that has this identifier.
@@ -139,21 +149,11 @@ fn find_above<B: Board>(
     requires tree { TreeStands (committed store.old) }
     requires df { IsUsed (table (committed store.old)) df }
     ensures found { IfOk result (TellsAbove (table (committed store.old)) df identifier) }
-    ensures ready { OnOk result (IsReady store.new) }
-    ensures reads { OnlyReads store.old store.new }
-    ensures tells { store.new.failed ≡ result_err result }
+    ensures store { Reads store.old store.new (result_err result) }
 {
     let own = read_entry(store, df)?;
     let above = read_entry(store, own.parent)?;
-    if df != 0 && above.identifier == identifier {
-        Ok(Some(own.parent))
-    } else if own.identifier == identifier {
-        Ok(Some(df))
-    } else if identifier == MASTER_FILE {
-        Ok(Some(0))
-    } else {
-        Ok(None)
-    }
+    Ok(named_above(df, &own, &above, identifier))
 }
 
 /// The entry of the file that two bytes name from a dedicated file: a child of it; a dedicated file beside it; its
@@ -173,9 +173,7 @@ pub fn select<B: Board>(
     ensures found { IfOk result (λ found. option_map (path_of (table (committed store.old))) found
         ≡ reached (tree_of (committed store.old)) (path_of (table (committed store.old)) df) identifier) }
     ensures used { IfOk result (λ found. IfSome found (IsUsed (table (committed store.old)))) }
-    ensures ready { OnOk result (IsReady store.new) }
-    ensures reads { OnlyReads store.old store.new }
-    ensures tells { store.new.failed ≡ result_err result }
+    ensures store { Reads store.old store.new (result_err result) }
 {
     if let Some(child) = find_child(store, df, identifier)? {
         return Ok(Some(child));

@@ -1,9 +1,9 @@
 //! Files by their names, and along paths: what SELECT reaches but by two bytes (ISO/IEC 7816-4, 7.3.1 and 11.2.2).
 
-ghost use Rattle.std.specs.Prelude.{◌≡◌, ◌↔◌, ℕ, length, option_map, IfOk, IfSome, OnOk, IsTrue};
+ghost use Rattle.std.specs.Prelude.{◌≡◌, ◌↔◌, ℕ, length, option_map, IfOk, IfSome, IsTrue};
 ghost use Rattle.std.specs.Result.{result_err};
 ghost use Rattle.undo_journal.specs.Memory.{committed, IsReady};
-ghost use Rattle.undo_journal.specs.Calls.{OnlyReads};
+ghost use Rattle.undo_journal.specs.Calls.{Reads};
 ghost use Rattle.file_tree.specs.Cards.{Path};
 ghost use Rattle.file_tree.specs.Reaching.{selected, the_parent, by_name, path_from_master, path_from_current};
 ghost use Rattle.file_tree.specs.Table.{table, path_of, IsUsed};
@@ -47,9 +47,7 @@ pub fn find_name<B: Board>(store: &mut Store<B>, name: &[u8]) -> Result<Option<u
     ensures found { IfOk result (λ found. (df : Path) → option_map (path_of (table (committed store.old))) found
         ≡ selected (tree_of (committed store.old)) df (by_name name.now)) }
     ensures used { IfOk result (λ found. IfSome found (IsUsed (table (committed store.old)))) }
-    ensures ready { OnOk result (IsReady store.new) }
-    ensures reads { OnlyReads store.old store.new }
-    ensures tells { store.new.failed ≡ result_err result }
+    ensures store { Reads store.old store.new (result_err result) }
 {
     let entries = read_table(store)?;
     Ok(entry_named(entries.as_slice(), name))
@@ -67,9 +65,7 @@ pub fn find_parent<B: Board>(store: &mut Store<B>, df: u8) -> Result<Option<u8>,
     ensures found { IfOk result (λ found. option_map (path_of (table (committed store.old))) found
         ≡ selected (tree_of (committed store.old)) (path_of (table (committed store.old)) df) the_parent) }
     ensures used { IfOk result (λ found. IfSome found (IsUsed (table (committed store.old)))) }
-    ensures ready { OnOk result (IsReady store.new) }
-    ensures reads { OnlyReads store.old store.new }
-    ensures tells { store.new.failed ≡ result_err result }
+    ensures store { Reads store.old store.new (result_err result) }
 {
     if df == 0 {
         return Ok(None);
@@ -95,9 +91,7 @@ pub fn find_path<B: Board>(
     ensures found { IfOk result (λ found. option_map (path_of (table (committed store.old))) found
         ≡ selected (tree_of (committed store.old)) (path_of (table (committed store.old)) df) (path_from_current path.now)) }
     ensures used { IfOk result (λ found. IfSome found (IsUsed (table (committed store.old)))) }
-    ensures ready { OnOk result (IsReady store.new) }
-    ensures reads { OnlyReads store.old store.new }
-    ensures tells { store.new.failed ≡ result_err result }
+    ensures store { Reads store.old store.new (result_err result) }
 {
     let mut at = df;
     for k in 0..path.len() {
@@ -122,9 +116,7 @@ pub fn find_path_from_master<B: Board>(
     ensures found { IfOk result (λ found. (df : Path) → option_map (path_of (table (committed store.old))) found
         ≡ selected (tree_of (committed store.old)) df (path_from_master path.now)) }
     ensures used { IfOk result (λ found. IfSome found (IsUsed (table (committed store.old)))) }
-    ensures ready { OnOk result (IsReady store.new) }
-    ensures reads { OnlyReads store.old store.new }
-    ensures tells { store.new.failed ≡ result_err result }
+    ensures store { Reads store.old store.new (result_err result) }
 {
     let found = find_path(store, 0, path)?;
     Ok(found)

@@ -1,9 +1,9 @@
 //! Where a new file finds a place.
 
-ghost use Rattle.std.specs.Prelude.{◌≡◌, ◌≢◌, ◌<◌, ◌≤◌, length, IfOk, OnOk};
+ghost use Rattle.std.specs.Prelude.{◌≡◌, ◌≢◌, ◌<◌, ◌≤◌, length, IfOk};
 ghost use Rattle.std.specs.Result.{result_err};
 ghost use Rattle.undo_journal.specs.Memory.{committed, IsReady};
-ghost use Rattle.undo_journal.specs.Calls.{OnlyReads};
+ghost use Rattle.undo_journal.specs.Calls.{Reads};
 ghost use Rattle.file_tree.specs.Spaces.{blocks_for};
 ghost use Rattle.file_tree.specs.Table.{table, IsUsed};
 ghost use Rattle.file_tree.specs.Trees.{TreeStands};
@@ -41,9 +41,7 @@ pub(crate) fn place_for<B: Board>(
     requires tree { TreeStands (committed store.old) }
     requires df { IsUsed (table (committed store.old)) df }
     ensures place { IfOk result (TellsPlace (committed store.old) df fcp.now.kind) }
-    ensures ready { OnOk result (IsReady store.new) }
-    ensures reads { OnlyReads store.old store.new }
-    ensures tells { store.new.failed ≡ result_err result }
+    ensures store { Reads store.old store.new (result_err result) }
 {
     let entries = read_table(store)?;
     if is_deepest(entries.as_slice(), df) {

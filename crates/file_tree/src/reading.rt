@@ -1,9 +1,9 @@
 //! Entries read from a store.
 
-ghost use Rattle.std.specs.Prelude.{◌≡◌, ◌+◌, ◌<◌, ℕ, slice_index, IfOk, OnOk};
+ghost use Rattle.std.specs.Prelude.{◌≡◌, ◌+◌, ◌<◌, ℕ, slice_index, IfOk};
 ghost use Rattle.std.specs.Result.{result_err};
 ghost use Rattle.undo_journal.specs.Memory.{committed, IsReady};
-ghost use Rattle.undo_journal.specs.Calls.{OnlyReads};
+ghost use Rattle.undo_journal.specs.Calls.{Reads};
 ghost use Rattle.block_chain.specs.Words.{word};
 ghost use Rattle.file_tree.specs.Table.{table, entry_in};
 
@@ -18,9 +18,7 @@ fn read_words<B: Board>(store: &mut Store<B>, e: u8) -> Result<[u32; ENTRY_WORDS
     requires within { e < 64 }
     ensures words { IfOk result (λ words. (k : ℕ) → k < 11
         → slice_index words k ≡ word (committed store.old) (1 + e) k) }
-    ensures ready { OnOk result (IsReady store.new) }
-    ensures reads { OnlyReads store.old store.new }
-    ensures tells { store.new.failed ≡ result_err result }
+    ensures store { Reads store.old store.new (result_err result) }
 {
     let page = FIRST_ENTRY_PAGE + u16::from(e);
     let mut words = [0; ENTRY_WORDS];
@@ -36,9 +34,7 @@ pub fn read_entry<B: Board>(store: &mut Store<B>, e: u8) -> Result<Entry, StoreE
     requires ready { IsReady store.old }
     requires within { e < 64 }
     ensures entry { IfOk result (λ entry. entry ≡ entry_in (table (committed store.old)) e) }
-    ensures ready { OnOk result (IsReady store.new) }
-    ensures reads { OnlyReads store.old store.new }
-    ensures tells { store.new.failed ≡ result_err result }
+    ensures store { Reads store.old store.new (result_err result) }
 {
     let words = read_words(store, e)?;
     Ok(Entry::from_words(&words))
@@ -49,9 +45,7 @@ pub fn read_entry<B: Board>(store: &mut Store<B>, e: u8) -> Result<Entry, StoreE
 pub fn read_table<B: Board>(store: &mut Store<B>) -> Result<Table, StoreErr>
     requires ready { IsReady store.old }
     ensures table { IfOk result (λ entries. entries.items ≡ table (committed store.old)) }
-    ensures ready { OnOk result (IsReady store.new) }
-    ensures reads { OnlyReads store.old store.new }
-    ensures tells { store.new.failed ≡ result_err result }
+    ensures store { Reads store.old store.new (result_err result) }
 {
     let mut entries = Table::new();
     for e in 0..ENTRIES as u8 {

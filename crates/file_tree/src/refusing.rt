@@ -1,11 +1,11 @@
 //! Whether a new file is refused, and why.
 
-ghost use Rattle.std.specs.Prelude.{◌≡◌, ◌≢◌, ◌↔◌, ◌<◌, ◌≤◌, ◌∷◌, [], ◌++◌, length, IfOk, OnOk, IsTrue, if◌then◌else◌, Some, None};
+ghost use Rattle.std.specs.Prelude.{◌≡◌, ◌≢◌, ◌↔◌, ◌<◌, ◌≤◌, ◌∷◌, [], ◌++◌, length, IfOk, IsTrue, if◌then◌else◌, Some, None};
 ghost use Rattle.std.specs.Result.{result_err};
 ghost use Rattle.card_rules.specs.declared.status.TheConstants.Sw.{FILE_EXISTS, NAME_EXISTS, WRONG_DATA};
 ghost use Rattle.fcp_template.specs.Ranges.{IsShort, IsCreatable};
 ghost use Rattle.undo_journal.specs.Memory.{committed, IsReady};
-ghost use Rattle.undo_journal.specs.Calls.{OnlyReads};
+ghost use Rattle.undo_journal.specs.Calls.{Reads};
 ghost use Rattle.file_tree.specs.Table.{table, entry_in, ancestor, path_of, IsUsed};
 ghost use Rattle.file_tree.specs.Trees.{tree_of, TreeStands};
 ghost use Rattle.file_tree.specs.NewFiles.{has_short_given, taken_refusal};
@@ -59,9 +59,7 @@ fn is_short_taken<B: Board>(
     requires short { IsShort short }
     ensures taken { IfOk result (λ taken. taken
         ≡ has_short_given (tree_of (committed store.old)) (path_of (table (committed store.old)) df) short) }
-    ensures ready { OnOk result (IsReady store.new) }
-    ensures reads { OnlyReads store.old store.new }
-    ensures tells { store.new.failed ≡ result_err result }
+    ensures store { Reads store.old store.new (result_err result) }
 {
     match short {
         ShortIdentifier::Given(number) => {
@@ -102,9 +100,7 @@ pub(crate) fn taken<B: Board>(
     requires fcp { IsCreatable fcp.now }
     ensures taken { IfOk result (λ status. status
         ≡ taken_refusal (tree_of (committed store.old)) (path_of (table (committed store.old)) df) fcp.now) }
-    ensures ready { OnOk result (IsReady store.new) }
-    ensures reads { OnlyReads store.old store.new }
-    ensures tells { store.new.failed ≡ result_err result }
+    ensures store { Reads store.old store.new (result_err result) }
 {
     let child = find_child(store, df, fcp.identifier)?;
     let entries = read_table(store)?;

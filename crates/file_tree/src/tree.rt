@@ -1,9 +1,9 @@
 //! Whether a memory stands for a tree of files.
 
-ghost use Rattle.std.specs.Prelude.{◌≡◌, IfOk, OnOk};
+ghost use Rattle.std.specs.Prelude.{◌≡◌, IfOk};
 ghost use Rattle.std.specs.Result.{result_err};
 ghost use Rattle.undo_journal.specs.Memory.{committed, IsReady};
-ghost use Rattle.undo_journal.specs.Calls.{OnlyReads};
+ghost use Rattle.undo_journal.specs.Calls.{Reads};
 ghost use Rattle.file_tree.specs.Trees.{TellsSpace};
 
 use crate::reading::read_table;
@@ -18,9 +18,7 @@ use undo_journal::{Board, Store, StoreErr};
 pub fn is_tree<B: Board>(store: &mut Store<B>) -> Result<Option<FreeSpace>, StoreErr>
     requires ready { IsReady store.old }
     ensures tree { IfOk result (TellsSpace (committed store.old)) }
-    ensures ready { OnOk result (IsReady store.new) }
-    ensures reads { OnlyReads store.old store.new }
-    ensures tells { store.new.failed ≡ result_err result }
+    ensures store { Reads store.old store.new (result_err result) }
 {
     let entries = read_table(store)?;
     if !is_table(entries.as_slice()) {

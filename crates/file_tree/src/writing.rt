@@ -7,7 +7,7 @@ ghost use Rattle.nvm_board.specs.Torn.{written};
 ghost use Rattle.undo_journal.specs.Memory.{current, room, IsOpen};
 ghost use Rattle.undo_journal.specs.Lent.{memory_of};
 ghost use Rattle.undo_journal.specs.Undo.{IsDataRun};
-ghost use Rattle.undo_journal.specs.Calls.{Sets};
+ghost use Rattle.undo_journal.specs.Calls.{SetsIn};
 ghost use Rattle.block_chain.specs.Words.{word_bytes};
 ghost use Rattle.file_tree.specs.declared.layout.TheConstants.{FIRST_ENTRY_PAGE};
 ghost use Rattle.file_tree.specs.Entries.{entry_told};
@@ -83,9 +83,7 @@ pub(crate) fn write_entry<B: Board>(
     requires used { entry.kind ≢ 0 }
     requires room { 11 ≤ room (memory_of txn.old) }
     ensures done { OnOk result (WritesEntry (current (memory_of txn.old)) e entry (current (memory_of txn.new))) }
-    ensures ready { OnOk result (IsOpen (memory_of txn.new)) }
-    ensures sets { Sets 11 txn.old txn.new }
-    ensures tells { (memory_of txn.new).failed ≡ result_err result }
+    ensures store { SetsIn 11 txn.old txn.new (result_err result) }
 {
     let words = words_of(entry);
     txn.set_run(PAGE_WORDS * (FIRST_ENTRY_PAGE + u16::from(e)), &words)

@@ -1,5 +1,5 @@
 -- What the two counts of tries of a PIN's page tell of the page.
-use Rattle.std.proofs.Common.{◌≡◌, ◌<◌, ◌≤◌, ◌↔◌, ℕ, Bool, true, false, List, IsTrue, nat_le, sym, ◌∙◌, true≢false, arith}
+use Rattle.std.proofs.Common.{◌≡◌, ◌<◌, ◌≤◌, ◌↔◌, ℕ, List, IsTrue, nat_le, sym, ◌∙◌, true≢false, arith}
 use Rattle.std.proofs.lemmas.Bool.{le-leb, lt-leb, leb-true}
 use Rattle.pin_store.specs.declared.layout.TheConstants.{TRIES, UNBLOCKING_TRIES}
 use Rattle.pin_store.specs.Pages.{pin_word, IsPinPage}

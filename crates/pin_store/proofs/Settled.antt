@@ -1,20 +1,43 @@
 -- What the calls of a charge, and of an end, leave together: reads, a comparison, and then writes that set the PIN.
-use Rattle.std.specs.Prelude.{◌-◌}
-use Rattle.std.proofs.Common.{◌≡◌, ◌⊎◌, ◌<◌, ◌≤◌, ◌+◌, ℕ, List, refl, sym, ◌∙◌, ap, subst, inl, inr, arith}
+use Rattle.std.specs.Prelude.{◌-◌, Option, Some, Result, Ok, Err, IsErrAnd}
+use Rattle.std.proofs.Common.{◌≡◌, ◌⊎◌, ◌<◌, ℕ, List, sym, ◌∙◌, ap, subst, inl, arith}
 use Rattle.std.proofs.Math.Logic.{⊎_map}
 use Rattle.nvm_board.specs.Facts.{Facts, RisesAt, raised}
-use Rattle.undo_journal.specs.Calls.{OnlyReads}
-use Rattle.undo_journal.specs.Memory.{Memory, committed}
+use Rattle.undo_journal.specs.declared.error.StoreErr.{StoreErr}
+use Rattle.undo_journal.specs.Calls.{Changes, Ends, OnlyReads, UnlessFailed}
+use Rattle.undo_journal.specs.Memory.{Memory, IsIdle, IsReady, KeepsWords, Reports, committed}
+use Rattle.undo_journal.specs.laws.Memory.{reports_then}
 use Rattle.undo_journal.specs.Spending.{WritesAtMost}
 use Rattle.pin_store.specs.Pins.{Pin, kept, owner, tries_left, with_tries}
 use Rattle.pin_store.specs.Pages.{pin_at, ArePinPages, SetsPin}
-use Rattle.pin_store.specs.Trials.{pin_in, Charges, Compared, ComparesOnce, Ends, IsMatch, IsWrong, SetsByMatch}
+use Rattle.pin_store.specs.Trials.{pin_in, store_failure, Charges, Compared, ComparesOnce, EndsByOutcome}
+use Rattle.pin_store.specs.Trials.{IsMatch, IsWrong, SetsByMatch}
+use Rattle.pin_store.specs.declared.errors.PinErr.{PinErr}
+use Rattle.pin_store.specs.declared.errors.PinErr.TheVariants as pin_err
 use Rattle.pin_store.specs.declared.errors.Outcome.{Outcome}
 use Rattle.pin_store.specs.declared.errors.Outcome.TheVariants.{Matched}
 
 -- where what is committed stays, the pages of PINs do
 pub pages_stay : (m after : List ℕ) → after ≡ m → ArePinPages m → ArePinPages after
 pages_stay m after same pages = subst (λ (l : List ℕ). ArePinPages l) (sym same) pages
+
+-- a failure of the store, handed on as the reason why no try is charged, is told
+pub charge_handed : {T : Type 0} (n : ℕ) (a b : Memory) (r : Result T PinErr) (e : StoreErr)
+    → IsErrAnd r (λ f. f ≡ pin_err.Store e) → Changes n a b (Some e) → Changes n a b (store_failure r)
+charge_handed n a b (Ok v) e is changes = absurd is
+charge_handed {T} n a b (Err f) e is changes =
+    let refused : PinErr → Result T PinErr = λ f. Err f in
+    subst (λ (f : PinErr). Changes n a b (store_failure (refused f))) (sym is) changes
+
+-- a comparison after reads ends with no transaction
+pub compare_ends : (a b c : Memory) (told : Option StoreErr) → IsIdle a → OnlyReads a b → KeepsWords b c → Reports b c
+    → UnlessFailed told (IsReady c) → c.failed ≡ told → Ends a c told
+compare_ends a b c told idle reads keeps reports ready tells = record {
+  reports = reports_then a b c reads.reports reports;
+  idle = keeps.used ∙ reads.keeps.used ∙ idle;
+  ready = ready;
+  tells = tells;
+}
 
 -- the tries were read, there was one, and one fewer was set
 pub charges : (secret left : ℕ) (a b c : Memory) → OnlyReads a b → left ≡ tries_left secret (pin_in a secret) → 0 < left
@@ -138,5 +161,6 @@ match_told secret shown a b told is compared = subst (λ (o : Outcome). Compared
 
 -- what an end leaves where it tells of a match
 pub end_told : (secret : ℕ) (shown : List ℕ) (now : Pin) (a c : Memory) (told : Outcome) → told ≡ Matched
-    → SetsByMatch secret shown now a c → Ends secret shown now a c told
-end_told secret shown now a c told is sets = subst (λ (o : Outcome). Ends secret shown now a c o) (sym is) sets
+    → SetsByMatch secret shown now a c → EndsByOutcome secret shown now a c told
+end_told secret shown now a c told is sets =
+    subst (λ (o : Outcome). EndsByOutcome secret shown now a c o) (sym is) sets

@@ -58,9 +58,9 @@ Compared secret shown old new Matched = IsMatch secret shown old new
 Compared secret shown old new (Wrong left) = IsWrong secret shown left old new
 
 -- what an end leaves by its outcome: after a match the PIN is this one, else all is as it was
-abbrev pub Ends : ℕ → List ℕ → Pin → Memory → Memory → Outcome → Type 0
-Ends secret shown now old new Matched = SetsByMatch secret shown now old new
-Ends secret shown now old new (Wrong left) = IsWrong secret shown left old new
+abbrev pub EndsByOutcome : ℕ → List ℕ → Pin → Memory → Memory → Outcome → Type 0
+EndsByOutcome secret shown now old new Matched = SetsByMatch secret shown now old new
+EndsByOutcome secret shown now old new (Wrong left) = IsWrong secret shown left old new
 
 -- A match of what was shown was counted, and all tries of it are there again.
 pub record FillsByMatch (secret : ℕ) (shown : List ℕ) (old new : Memory) : Type 0 where

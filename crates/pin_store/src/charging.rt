@@ -1,10 +1,9 @@
 //! The tries of a secret, and the charge that takes one away before anything is compared.
-ghost use Rattle.std.specs.Prelude.{◌≡◌, ◌⊎◌, ◌<◌, IfOk, OnOk, IsErrOf};
+ghost use Rattle.std.specs.Prelude.{◌≡◌, ◌⊎◌, ◌<◌, IfOk, IsErrOf};
 ghost use Rattle.std.specs.Result.{result_err};
 ghost use Rattle.nvm_board.specs.declared.board.TheConstants.{SECRETS};
-ghost use Rattle.undo_journal.specs.Calls.{OnlyReads};
-ghost use Rattle.undo_journal.specs.Memory.{committed, IsIdle, IsReady, Reports};
-ghost use Rattle.undo_journal.specs.Spending.{WritesAtMost};
+ghost use Rattle.undo_journal.specs.Calls.{OnlyReads, Reads, Changes};
+ghost use Rattle.undo_journal.specs.Memory.{committed, IsReady};
 ghost use Rattle.pin_store.specs.declared.errors.PinErr.TheVariants.{Blocked};
 ghost use Rattle.pin_store.specs.Pins.{tries_left};
 ghost use Rattle.pin_store.specs.Pages.{ArePinPages};
@@ -47,22 +46,19 @@ impl Charged {
 ///
 /// # Errors
 /// What the store answers: power was lost, or the device failed.
-#[tactic(auto, using(crate::specs::laws::AllPins::owner_page))]
 pub fn tries<B: Board>(store: &mut Store<B>, secret: u8) -> Result<u8, StoreErr>
     requires ready { IsReady store.old }
     requires secret { secret < SECRETS }
     requires pages { ArePinPages (committed store.old) }
     ensures left { IfOk result (λ left. left ≡ tries_left secret (pin_in store.old secret)) }
-    ensures ready { OnOk result (IsReady store.new) }
-    ensures reads { OnlyReads store.old store.new }
-    ensures tells { store.new.failed ≡ result_err result }
+    ensures store { Reads store.old store.new (result_err result) }
 {
     let word = store.read(address_of(secret, tries_place(secret)))?;
     Ok(word as u8)
 }
 
 /// Takes a try of a secret away, lastingly, in one device write. Nothing is compared, at no exit: the counts of comparisons
-/// and of matches stay (`writes`).
+/// and of matches stay (`store`).
 ///
 /// # Errors
 /// `Blocked` exactly where no try is left (`blocked`, `done`): then nothing is written, at no exit (`kept`). Else what the
@@ -76,11 +72,7 @@ pub fn charge<B: Board>(store: &mut Store<B>, secret: u8) -> Result<Charged, Pin
     ensures blocked { IsErrOf result Blocked → (tries_left secret (pin_in store.old secret) ≡ 0) × IsReady store.new }
     ensures kept { tries_left secret (pin_in store.old secret) ≡ 0 → OnlyReads store.old store.new }
     ensures pages { ArePinPages (committed store.new) }
-    ensures ready { OnOk result (IsReady store.new) }
-    ensures idle { IsIdle store.new }
-    ensures reports { Reports store.old store.new }
-    ensures tells { store.new.failed ≡ store_failure result }
-    ensures writes { WritesAtMost 1 store.old.facts store.new.facts }
+    ensures store { Changes 1 store.old store.new (store_failure result) }
 {
     let left = tries(store, secret)?;
     if left == 0 {

@@ -1,7 +1,7 @@
 //! Whether the words of a memory have PINs: no more tries are left than there may be.
-ghost use Rattle.std.specs.Prelude.{◌≡◌, ◌<◌, ◌↔◌, IfOk, OnOk, IsTrue};
+ghost use Rattle.std.specs.Prelude.{◌<◌, ◌↔◌, IfOk, IsTrue};
 ghost use Rattle.std.specs.Result.{result_err};
-ghost use Rattle.undo_journal.specs.Calls.{OnlyReads};
+ghost use Rattle.undo_journal.specs.Calls.{Reads};
 ghost use Rattle.undo_journal.specs.Memory.{committed, IsReady};
 ghost use Rattle.pin_store.specs.declared.layout.TheConstants.{PINS};
 ghost use Rattle.pin_store.specs.Pages.{ArePinPages, IsPinPage};
@@ -14,9 +14,7 @@ fn is_pin_page<B: Board>(store: &mut Store<B>, pin: u8) -> Result<bool, StoreErr
     requires ready { IsReady store.old }
     requires pin { pin < PINS }
     ensures page { IfOk result (λ page. IsTrue page ↔ IsPinPage (committed store.old) pin) }
-    ensures ready { OnOk result (IsReady store.new) }
-    ensures reads { OnlyReads store.old store.new }
-    ensures tells { store.new.failed ≡ result_err result }
+    ensures store { Reads store.old store.new (result_err result) }
 {
     let page = FIRST_PIN_PAGE + u16::from(pin);
     let tries = store.read(PAGE_WORDS * page)?;
@@ -31,9 +29,7 @@ fn is_pin_page<B: Board>(store: &mut Store<B>, pin: u8) -> Result<bool, StoreErr
 pub fn are_pins<B: Board>(store: &mut Store<B>) -> Result<bool, StoreErr>
     requires ready { IsReady store.old }
     ensures pins { IfOk result (λ pins. IsTrue pins ↔ ArePinPages (committed store.old)) }
-    ensures ready { OnOk result (IsReady store.new) }
-    ensures reads { OnlyReads store.old store.new }
-    ensures tells { store.new.failed ≡ result_err result }
+    ensures store { Reads store.old store.new (result_err result) }
 {
     for pin in 0..PINS {
         if !is_pin_page(store, pin)? {

@@ -1,5 +1,5 @@
 //! Laws of the definitions, as contracts of functions that do nothing.
-ghost use Rattle.std.specs.Prelude.{◌≡◌, ◌≢◌, ◌⊎◌, ◌<◌, ◌≤◌, ℕ, List, slice_set};
+ghost use Rattle.std.specs.Prelude.{◌≡◌, ◌⊎◌, ◌<◌, ◌≤◌, ℕ, List, slice_set};
 ghost use Rattle.undo_journal.specs.Memory.{Memory, committed};
 ghost use Rattle.undo_journal.specs.Spending.{WritesAtMost};
 ghost use Rattle.pin_store.specs.declared.layout.TheConstants.{FIRST_PIN_PAGE, PINS, PIN_WORDS, TRIES, UNBLOCKING_TRIES};
@@ -32,7 +32,7 @@ pub fn one_pin_is_set()
 
 /// The PIN law: a comparison costs a lasting try. It holds of the store before a charge and at each of its exits, and of the
 /// store before a charge and at each exit of the end that spends its receipt: what `charge`, `settle`, `change` and
-/// `reset_counter` leave, by their clauses `any_exit`, `writes` and `spends`, is all that it asks.
+/// `reset_counter` leave, by their clauses `any_exit`, `store` and `spends`, is all that it asks.
 pub fn a_comparison_costs_a_try()
     ensures charge { (secret : ℕ) (shown : List ℕ) (a b : Memory) → (committed b ≡ committed a) ⊎ Charges secret a b
         → WritesAtMost 1 a.facts b.facts → KeepsPinLaw secret shown a b }

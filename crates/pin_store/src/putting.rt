@@ -2,10 +2,9 @@
 ghost use Rattle.std.specs.Prelude.{◌≡◌, ◌⊎◌, ◌≤◌, length, OnOk};
 ghost use Rattle.std.specs.Result.{result_err};
 ghost use Rattle.nvm_board.specs.Torn.{written};
-ghost use Rattle.undo_journal.specs.Calls.{Sets};
+ghost use Rattle.undo_journal.specs.Calls.{Changes, SetsIn};
 ghost use Rattle.undo_journal.specs.Lent.{memory_of};
-ghost use Rattle.undo_journal.specs.Memory.{committed, current, room, IsIdle, IsOpen, IsReady, Reports};
-ghost use Rattle.undo_journal.specs.Spending.{WritesAtMost};
+ghost use Rattle.undo_journal.specs.Memory.{committed, current, room, IsOpen, IsReady};
 ghost use Rattle.undo_journal.specs.Undo.{IsDataRun};
 ghost use Rattle.pin_store.specs.Pins.{changed_pin, owner, reset_pin, tries_left, verified_pin, with_tries};
 ghost use Rattle.pin_store.specs.Pages.{pin_at, ArePinPages, SetsPin};
@@ -21,23 +20,18 @@ fn put_run<B: Board>(txn: &mut Txn<'_, B>, at: u16, words: &[u32]) -> Result<(),
     requires room { length words.now ≤ room (memory_of txn.old) }
     requires place { IsDataRun (current (memory_of txn.old)) at (length words.now) }
     ensures done { OnOk result (current (memory_of txn.new) ≡ written (current (memory_of txn.old)) at words.now) }
-    ensures ready { OnOk result (IsOpen (memory_of txn.new)) }
-    ensures sets { Sets (length words.now) txn.old txn.new }
-    ensures tells { (memory_of txn.new).failed ≡ result_err result }
+    ensures store { SetsIn (length words.now) txn.old txn.new (result_err result) }
 {
     txn.set_run(at, words)
 }
 
 /// Sets the tries of a PIN to 3, and its value, within a transaction: words 0, 2 and 3 of its page, in this order.
-#[tactic(auto, using(undo_journal::specs::laws::Calls::sets_then))]
 fn set_value<B: Board>(txn: &mut Txn<'_, B>, secret: u8, new: &[u8; 8]) -> Result<(), StoreErr>
     requires ready { IsOpen (memory_of txn.old) }
     requires room { 3 ≤ room (memory_of txn.old) }
     ensures done { OnOk result (SetsPin (current (memory_of txn.old)) (owner secret)
         (changed_pin new.now (pin_at (current (memory_of txn.old)) (owner secret))) (current (memory_of txn.new))) }
-    ensures ready { OnOk result (IsOpen (memory_of txn.new)) }
-    ensures sets { Sets 3 txn.old txn.new }
-    ensures tells { (memory_of txn.new).failed ≡ result_err result }
+    ensures store { SetsIn 3 txn.old txn.new (result_err result) }
 {
     let [first, second] = words_of(new);
     put_run(txn, address_of(secret, 0), &[u32::from(TRIES)])?;
@@ -51,9 +45,7 @@ fn set_all<B: Board>(txn: &mut Txn<'_, B>, secret: u8, new: &[u8; 8]) -> Result<
     requires room { 4 ≤ room (memory_of txn.old) }
     ensures done { OnOk result (SetsPin (current (memory_of txn.old)) (owner secret)
         (reset_pin new.now (pin_at (current (memory_of txn.old)) (owner secret))) (current (memory_of txn.new))) }
-    ensures ready { OnOk result (IsOpen (memory_of txn.new)) }
-    ensures sets { Sets 4 txn.old txn.new }
-    ensures tells { (memory_of txn.new).failed ≡ result_err result }
+    ensures store { SetsIn 4 txn.old txn.new (result_err result) }
 {
     let [first, second] = words_of(new);
     put_run(
@@ -73,11 +65,7 @@ pub(crate) fn put_left<B: Board>(store: &mut Store<B>, secret: u8, left: u8) -> 
     ensures done { OnOk result (SetsPin (committed store.old) (owner secret)
         (with_tries secret left (pin_in store.old secret)) (committed store.new)) }
     ensures pages { ArePinPages (committed store.new) }
-    ensures ready { OnOk result (IsReady store.new) }
-    ensures idle { IsIdle store.new }
-    ensures reports { Reports store.old store.new }
-    ensures tells { store.new.failed ≡ result_err result }
-    ensures writes { WritesAtMost 1 store.old.facts store.new.facts }
+    ensures store { Changes 1 store.old store.new (result_err result) }
 {
     store.put_alone(address_of(secret, tries_place(secret)), u32::from(left))
 }
@@ -91,11 +79,7 @@ pub(crate) fn put_tries<B: Board>(store: &mut Store<B>, secret: u8) -> Result<()
     ensures done { OnOk result (SetsPin (committed store.old) (owner secret)
         (verified_pin (pin_in store.old secret)) (committed store.new)) }
     ensures pages { ArePinPages (committed store.new) }
-    ensures ready { OnOk result (IsReady store.new) }
-    ensures idle { IsIdle store.new }
-    ensures reports { Reports store.old store.new }
-    ensures tells { store.new.failed ≡ result_err result }
-    ensures writes { WritesAtMost 1 store.old.facts store.new.facts }
+    ensures store { Changes 1 store.old store.new (result_err result) }
 {
     store.put_alone(address_of(secret, 0), u32::from(TRIES))
 }
@@ -111,11 +95,7 @@ pub(crate) fn put_value<B: Board>(
         (changed_pin new.now (pin_in store.old secret)) (committed store.new) }
     ensures done { OnOk result (SetsPin (committed store.old) (owner secret)
         (changed_pin new.now (pin_in store.old secret)) (committed store.new)) }
-    ensures ready { OnOk result (IsReady store.new) }
-    ensures idle { IsIdle store.new }
-    ensures reports { Reports store.old store.new }
-    ensures tells { store.new.failed ≡ result_err result }
-    ensures writes { WritesAtMost 10 store.old.facts store.new.facts }
+    ensures store { Changes 10 store.old store.new (result_err result) }
 {
     let mut txn = store.begin();
     match set_value(&mut txn, secret, new) {
@@ -135,11 +115,7 @@ pub(crate) fn put_all<B: Board>(
         (reset_pin new.now (pin_in store.old secret)) (committed store.new) }
     ensures done { OnOk result (SetsPin (committed store.old) (owner secret)
         (reset_pin new.now (pin_in store.old secret)) (committed store.new)) }
-    ensures ready { OnOk result (IsReady store.new) }
-    ensures idle { IsIdle store.new }
-    ensures reports { Reports store.old store.new }
-    ensures tells { store.new.failed ≡ result_err result }
-    ensures writes { WritesAtMost 13 store.old.facts store.new.facts }
+    ensures store { Changes 13 store.old store.new (result_err result) }
 {
     let mut txn = store.begin();
     match set_all(&mut txn, secret, new) {

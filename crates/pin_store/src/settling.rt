@@ -1,13 +1,13 @@
 //! The ends that follow a charge: each compares once, what was charged, and sets the PIN where it was right.
-ghost use Rattle.std.specs.Prelude.{◌≡◌, ◌⊎◌, ◌<◌, ◌≤◌, IfOk, OnOk};
+ghost use Rattle.std.specs.Prelude.{◌≡◌, ◌⊎◌, ◌<◌, ◌≤◌, IfOk};
 ghost use Rattle.std.specs.Result.{result_err};
-ghost use Rattle.undo_journal.specs.Calls.{OnlyReads};
-ghost use Rattle.undo_journal.specs.Memory.{committed, IsIdle, IsReady, Reports};
+ghost use Rattle.undo_journal.specs.Calls.{Reads, Ends};
+ghost use Rattle.undo_journal.specs.Memory.{committed, IsReady};
 ghost use Rattle.nvm_board.specs.declared.board.TheConstants.{SECRETS};
 ghost use Rattle.pin_store.specs.declared.layout.TheConstants.{PINS};
 ghost use Rattle.pin_store.specs.Pins.{changed_pin, kept, reset_pin, verified_pin};
 ghost use Rattle.pin_store.specs.Pages.{ArePinPages};
-ghost use Rattle.pin_store.specs.Trials.{pin_in, Compared, ComparesOnce, Ends, SetsByMatch};
+ghost use Rattle.pin_store.specs.Trials.{pin_in, Compared, ComparesOnce, EndsByOutcome, SetsByMatch};
 
 use crate::charging::{Charged, tries};
 use crate::errors::Outcome;
@@ -30,12 +30,10 @@ pub fn settle<B: Board>(
     requires pages { ArePinPages (committed store.old) }
     ensures any_exit { (committed store.new ≡ committed store.old)
         ⊎ SetsByMatch charged shown.now (verified_pin (pin_in store.old charged)) store.old store.new }
-    ensures done { IfOk result (Ends charged shown.now (verified_pin (pin_in store.old charged)) store.old store.new) }
+    ensures done { IfOk result (EndsByOutcome charged shown.now
+        (verified_pin (pin_in store.old charged)) store.old store.new) }
     ensures pages { ArePinPages (committed store.new) }
-    ensures ready { OnOk result (IsReady store.new) }
-    ensures idle { IsIdle store.new }
-    ensures reports { Reports store.old store.new }
-    ensures tells { store.new.failed ≡ result_err result }
+    ensures store { Ends store.old store.new (result_err result) }
     ensures spends { ComparesOnce 1 charged store.old.facts store.new.facts }
 {
     let secret = charged.secret();
@@ -62,12 +60,10 @@ pub fn change<B: Board>(
     requires pages { ArePinPages (committed store.old) }
     ensures any_exit { (committed store.new ≡ committed store.old)
         ⊎ SetsByMatch charged shown.now (changed_pin new.now (pin_in store.old charged)) store.old store.new }
-    ensures done { IfOk result (Ends charged shown.now (changed_pin new.now (pin_in store.old charged)) store.old store.new) }
+    ensures done { IfOk result (EndsByOutcome charged shown.now
+        (changed_pin new.now (pin_in store.old charged)) store.old store.new) }
     ensures pages { ArePinPages (committed store.new) }
-    ensures ready { OnOk result (IsReady store.new) }
-    ensures idle { IsIdle store.new }
-    ensures reports { Reports store.old store.new }
-    ensures tells { store.new.failed ≡ result_err result }
+    ensures store { Ends store.old store.new (result_err result) }
     ensures spends { ComparesOnce 10 charged store.old.facts store.new.facts }
 {
     let secret = charged.secret();
@@ -95,12 +91,10 @@ pub fn reset_counter<B: Board>(
     requires pages { ArePinPages (committed store.old) }
     ensures any_exit { (committed store.new ≡ committed store.old)
         ⊎ SetsByMatch charged shown.now (reset_pin new.now (pin_in store.old charged)) store.old store.new }
-    ensures done { IfOk result (Ends charged shown.now (reset_pin new.now (pin_in store.old charged)) store.old store.new) }
+    ensures done { IfOk result (EndsByOutcome charged shown.now
+        (reset_pin new.now (pin_in store.old charged)) store.old store.new) }
     ensures pages { ArePinPages (committed store.new) }
-    ensures ready { OnOk result (IsReady store.new) }
-    ensures idle { IsIdle store.new }
-    ensures reports { Reports store.old store.new }
-    ensures tells { store.new.failed ≡ result_err result }
+    ensures store { Ends store.old store.new (result_err result) }
     ensures spends { ComparesOnce 13 charged store.old.facts store.new.facts }
 {
     let secret = charged.secret();
@@ -121,10 +115,7 @@ fn compare<B: Board>(
     requires pages { ArePinPages (committed store.old) }
     ensures done { IfOk result (Compared charged shown.now store.old store.new) }
     ensures kept { committed store.new ≡ committed store.old }
-    ensures ready { OnOk result (IsReady store.new) }
-    ensures idle { IsIdle store.new }
-    ensures reports { Reports store.old store.new }
-    ensures tells { store.new.failed ≡ result_err result }
+    ensures store { Ends store.old store.new (result_err result) }
     ensures spends { ComparesOnce 0 charged store.old.facts store.new.facts }
 {
     let Charged { secret } = charged;
@@ -143,9 +134,7 @@ fn kept<B: Board>(store: &mut Store<B>, secret: u8) -> Result<[u8; 8], StoreErr>
     requires ready { IsReady store.old }
     requires secret { secret < SECRETS }
     ensures kept { IfOk result (λ bytes. bytes ≡ kept secret (pin_in store.old secret)) }
-    ensures ready { OnOk result (IsReady store.new) }
-    ensures reads { OnlyReads store.old store.new }
-    ensures tells { store.new.failed ≡ result_err result }
+    ensures store { Reads store.old store.new (result_err result) }
 {
     let place = kept_place(secret);
     let first = store.read(address_of(secret, place))?;

@@ -1,7 +1,7 @@
 //! The words of a PIN's page.
 ghost use Rattle.std.specs.Prelude.{◌≡◌, ◌<◌, if◌then◌else◌, slice_index};
 ghost use Rattle.nvm_board.specs.Facts.{address};
-ghost use Rattle.nvm_board.specs.declared.board.TheConstants.{PAGE_WORDS, SECRETS};
+ghost use Rattle.nvm_board.specs.declared.board.TheConstants.{PAGE_WORDS};
 ghost use Rattle.pin_store.specs.Pins.{is_unblocking, owner};
 ghost use Rattle.pin_store.specs.Pages.{bytes_of_words, pin_page};
 

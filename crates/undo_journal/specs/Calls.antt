@@ -1,8 +1,9 @@
--- What calls in a row leave of a store, and of a transaction, as it was.
-use Rattle.std.specs.Prelude.{◌≡◌, ◌+◌, ◌*◌, ◌≤◌, ℕ}
+-- What calls in a row leave of a store, and of a transaction, as it was, and what they leave of it with what they tell.
+use Rattle.std.specs.Prelude.{◌≡◌, ◌+◌, ◌*◌, ◌≤◌, ℕ, Option, Some, None}
+use Rattle.undo_journal.specs.declared.error.StoreErr.{StoreErr}
 use Rattle.undo_journal.specs.declared.txn.Txn.{Txn}
 use Rattle.undo_journal.specs.Lent.{memory_of, store_of}
-use Rattle.undo_journal.specs.Memory.{Memory, KeepsWords, Reports, committed, room}
+use Rattle.undo_journal.specs.Memory.{Memory, KeepsWords, Reports, IsOpen, IsIdle, IsReady, committed, room}
 use Rattle.undo_journal.specs.Spending.{KeepsBoard, WritesAtMost}
 
 -- Only reads were made of a store: no word and no count of its board changed, but for cuts and faults.
@@ -23,3 +24,41 @@ pub record Sets {B : Type 0} (n : ℕ) (old new : Txn B) : Type 0 where
   pub room : room (memory_of old) ≤ room (memory_of new) + n
   pub reports : Reports (memory_of old) (memory_of new)
   pub writes : WritesAtMost (3 * n) (memory_of old).facts (memory_of new).facts
+
+-- said of a store where no call failed: `told` is the error that was told, if there was one
+abbrev pub UnlessFailed : Option StoreErr → Type 0 → Type 0
+UnlessFailed None fact = fact
+UnlessFailed (Some e) fact = Unit {0}
+
+-- Calls that only read a ready store: it stays ready, or it has failed as they tell.
+pub record Reads (old new : Memory) (told : Option StoreErr) : Type 0 where
+  pub only : OnlyReads old new
+  pub ready : UnlessFailed told (IsReady new)
+  pub tells : new.failed ≡ told
+
+-- Calls that may write to a ready store, and end with no transaction: it is ready again, or it has failed as they tell.
+pub record Ends (old new : Memory) (told : Option StoreErr) : Type 0 where
+  pub reports : Reports old new
+  pub idle : IsIdle new
+  pub ready : UnlessFailed told (IsReady new)
+  pub tells : new.failed ≡ told
+
+-- and make at most n device writes, and no comparison
+pub record Changes (n : ℕ) (old new : Memory) (told : Option StoreErr) : Type 0 where
+  pub reports : Reports old new
+  pub idle : IsIdle new
+  pub ready : UnlessFailed told (IsReady new)
+  pub tells : new.failed ≡ told
+  pub writes : WritesAtMost n old.facts new.facts
+
+-- Calls that only read in a transaction: its store stays open, or it has failed as they tell.
+pub record ReadsIn {B : Type 0} (old new : Txn B) (told : Option StoreErr) : Type 0 where
+  pub only : TxnReads old new
+  pub ready : UnlessFailed told (IsOpen (memory_of new))
+  pub tells : (memory_of new).failed ≡ told
+
+-- Calls in a transaction that make at most n sets.
+pub record SetsIn {B : Type 0} (n : ℕ) (old new : Txn B) (told : Option StoreErr) : Type 0 where
+  pub sets : Sets n old new
+  pub ready : UnlessFailed told (IsOpen (memory_of new))
+  pub tells : (memory_of new).failed ≡ told

@@ -4,5 +4,6 @@ pub mod Undo
 pub mod Words
 pub mod Memory
 pub mod Calls
+pub mod Told
 pub mod Exits
 pub mod Transactions

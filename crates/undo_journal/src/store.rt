@@ -41,7 +41,7 @@ impl<B: Board> Model for Store<B> {
 
 impl<B: Board> Store<B> {
     ghost use Rattle.undo_journal.specs.Lent.{memory_of, store_of};
-    ghost use Rattle.undo_journal.specs.Calls.{OnlyReads};
+    ghost use Rattle.undo_journal.specs.Calls.{OnlyReads, Reads, Changes};
 
     /// Opens the store of a board, and takes back what was not committed. Where that fails it gives the board
     /// back.
@@ -82,14 +82,11 @@ impl<B: Board> Store<B> {
     pub fn read(&mut self, at: u16) -> Result<u32, StoreErr>
         requires { IsDataAddress (current self.old) at }
         ensures word { IfOk result (λ w. w ≡ slice_index (current self.old) at) }
-        ensures keeps { KeepsWords self.old self.new }
         ensures usable { OnOk result (IsOpen self.new) }
-        ensures ready { OnOk result (IsIdle self.old → IsReady self.new) }
         ensures reads { OnlyReads self.old self.new }
-        ensures reports { Reports self.old self.new }
+        ensures store { IsIdle self.old → Reads self.old self.new (result_err result) }
         ensures tells { self.new.failed ≡ result_err result }
         ensures dark { IsErrOf result PowerLost → self.new.facts.dark ≡ true }
-        ensures writes { WritesAtMost 0 self.old.facts self.new.facts }
     {
         if let Some(e) = self.failed {
             return Err(e);
@@ -117,13 +114,9 @@ impl<B: Board> Store<B> {
         ensures any_exit { (committed self.new ≡ committed self.old)
             ⊎ (committed self.new ≡ slice_set (committed self.old) at word) }
         ensures done { OnOk result (committed self.new ≡ slice_set (committed self.old) at word) }
-        ensures idle { IsIdle self.new }
-        ensures ready { OnOk result (IsReady self.new) }
-        ensures reports { Reports self.old self.new }
-        ensures tells { self.new.failed ≡ result_err result }
+        ensures store { Changes 1 self.old self.new (result_err result) }
         ensures dark { IsErrOf result PowerLost → self.new.facts.dark ≡ true }
         ensures counted { OnOk result (self.new.facts.writes ≡ self.old.facts.writes + 1) }
-        ensures writes { WritesAtMost 1 self.old.facts self.new.facts }
     {
         if let Some(e) = self.failed {
             return Err(e);
@@ -143,12 +136,8 @@ impl<B: Board> Store<B> {
         requires place { IsDataRun (current self.old) (address page first) (length words.now) }
         ensures any_exit { Torn (committed self.old) (address page first) words.now (committed self.new) }
         ensures done { OnOk result (committed self.new ≡ written (committed self.old) (address page first) words.now) }
-        ensures idle { IsIdle self.new }
-        ensures ready { OnOk result (IsReady self.new) }
-        ensures reports { Reports self.old self.new }
-        ensures tells { self.new.failed ≡ result_err result }
+        ensures store { Changes 1 self.old self.new (result_err result) }
         ensures dark { IsErrOf result PowerLost → self.new.facts.dark ≡ true }
-        ensures writes { WritesAtMost 1 self.old.facts self.new.facts }
     {
         if let Some(e) = self.failed {
             return Err(e);
@@ -248,12 +237,8 @@ impl<B: Board> Store<B> {
         ensures any_exit { (committed self.new ≡ committed self.old)
             ⊎ ((committed self.new ≡ current self.old) × (gate self.new.facts.words ≡ 0)) }
         ensures done { OnOk result (committed self.new ≡ current self.old) }
-        ensures idle { IsIdle self.new }
-        ensures ready { OnOk result (IsReady self.new) }
-        ensures reports { Reports self.old self.new }
-        ensures tells { self.new.failed ≡ result_err result }
+        ensures store { Changes 1 self.old self.new (result_err result) }
         ensures dark { IsErrOf result PowerLost → self.new.facts.dark ≡ true }
-        ensures writes { WritesAtMost 1 self.old.facts self.new.facts }
     {
         self.used = 0;
         if let Some(e) = self.failed {
@@ -269,12 +254,8 @@ impl<B: Board> Store<B> {
     pub(crate) fn abandon(&mut self) -> Result<(), StoreErr>
         ensures kept { committed self.new ≡ committed self.old }
         ensures done { OnOk result (current self.new ≡ committed self.old) }
-        ensures idle { IsIdle self.new }
-        ensures ready { OnOk result (IsReady self.new) }
-        ensures reports { Reports self.old self.new }
-        ensures tells { self.new.failed ≡ result_err result }
+        ensures store { Changes (rollback_writes self.old.used) self.old self.new (result_err result) }
         ensures dark { IsErrOf result PowerLost → self.new.facts.dark ≡ true }
-        ensures writes { WritesAtMost (rollback_writes self.old.used) self.old.facts self.new.facts }
     {
         let count = self.used;
         self.used = 0;

@@ -20,7 +20,7 @@ pub struct Txn<'a, B: Board> {
 
 impl<B: Board> Txn<'_, B> {
     ghost use Rattle.undo_journal.specs.Lent.{memory_of, store_of};
-    ghost use Rattle.undo_journal.specs.Calls.{TxnReads};
+    ghost use Rattle.undo_journal.specs.Calls.{Changes, ReadsIn, SetsIn};
 
     /// How many more sets there is room for.
     pub fn room(&self) -> usize
@@ -32,15 +32,9 @@ impl<B: Board> Txn<'_, B> {
     /// The current word at an address.
     pub fn read(&mut self, at: u16) -> Result<u32, StoreErr>
         requires { IsDataAddress (current (memory_of self.old)) at }
-        ensures same_store { (store_of self.new).ghost_name ≡ (store_of self.old).ghost_name }
         ensures word { IfOk result (λ w. w ≡ slice_index (current (memory_of self.old)) at) }
-        ensures keeps { KeepsWords (memory_of self.old) (memory_of self.new) }
-        ensures ready { OnOk result (IsOpen (memory_of self.new)) }
-        ensures reads { TxnReads self.old self.new }
-        ensures reports { Reports (memory_of self.old) (memory_of self.new) }
-        ensures tells { (memory_of self.new).failed ≡ result_err result }
+        ensures store { ReadsIn self.old self.new (result_err result) }
         ensures dark { IsErrOf result PowerLost → (memory_of self.new).facts.dark ≡ true }
-        ensures writes { WritesAtMost 0 (memory_of self.old).facts (memory_of self.new).facts }
     {
         self.store.read(at)
     }
@@ -50,15 +44,9 @@ impl<B: Board> Txn<'_, B> {
     pub fn set(&mut self, at: u16, word: u32) -> Result<(), StoreErr>
         requires room { 0 < room (memory_of self.old) }
         requires place { IsDataAddress (current (memory_of self.old)) at }
-        ensures same_store { (store_of self.new).ghost_name ≡ (store_of self.old).ghost_name }
-        ensures kept { committed (memory_of self.new) ≡ committed (memory_of self.old) }
         ensures done { OnOk result (current (memory_of self.new) ≡ slice_set (current (memory_of self.old)) at word) }
-        ensures room { room (memory_of self.old) ≤ room (memory_of self.new) + 1 }
-        ensures ready { OnOk result (IsOpen (memory_of self.new)) }
-        ensures reports { Reports (memory_of self.old) (memory_of self.new) }
-        ensures tells { (memory_of self.new).failed ≡ result_err result }
+        ensures store { SetsIn 1 self.old self.new (result_err result) }
         ensures dark { IsErrOf result PowerLost → (memory_of self.new).facts.dark ≡ true }
-        ensures writes { WritesAtMost 3 (memory_of self.old).facts (memory_of self.new).facts }
     {
         self.store.set(at, word)
     }
@@ -67,15 +55,9 @@ impl<B: Board> Txn<'_, B> {
     pub fn set_run(&mut self, at: u16, words: &[u32]) -> Result<(), StoreErr>
         requires room { length words.now ≤ room (memory_of self.old) }
         requires place { IsDataRun (current (memory_of self.old)) at (length words.now) }
-        ensures same_store { (store_of self.new).ghost_name ≡ (store_of self.old).ghost_name }
-        ensures kept { committed (memory_of self.new) ≡ committed (memory_of self.old) }
         ensures done { OnOk result (current (memory_of self.new) ≡ written (current (memory_of self.old)) at words.now) }
-        ensures room { room (memory_of self.old) ≤ room (memory_of self.new) + length words.now }
-        ensures ready { OnOk result (IsOpen (memory_of self.new)) }
-        ensures reports { Reports (memory_of self.old) (memory_of self.new) }
-        ensures tells { (memory_of self.new).failed ≡ result_err result }
+        ensures store { SetsIn (length words.now) self.old self.new (result_err result) }
         ensures dark { IsErrOf result PowerLost → (memory_of self.new).facts.dark ≡ true }
-        ensures writes { WritesAtMost (3 * length words.now) (memory_of self.old).facts (memory_of self.new).facts }
     {
         self.store.check()?;
         for (i, word) in words.iter().enumerate() {
@@ -89,12 +71,8 @@ impl<B: Board> Txn<'_, B> {
         ensures any_exit { (committed self.exit.0.now ≡ committed (memory_of self.entry))
             ⊎ ((committed self.exit.0.now ≡ current (memory_of self.entry)) × (gate self.exit.0.now.facts.words ≡ 0)) }
         ensures done { OnOk result (committed self.exit.0.now ≡ current (memory_of self.entry)) }
-        ensures idle { IsIdle self.exit.0.now }
-        ensures ready { OnOk result (IsReady self.exit.0.now) }
-        ensures reports { Reports (memory_of self.entry) self.exit.0.now }
-        ensures tells { self.exit.0.now.failed ≡ result_err result }
+        ensures store { Changes 1 (memory_of self.entry) self.exit.0.now (result_err result) }
         ensures dark { IsErrOf result PowerLost → self.exit.0.now.facts.dark ≡ true }
-        ensures writes { WritesAtMost 1 (memory_of self.entry).facts self.exit.0.now.facts }
     {
         let Txn { store } = self;
         store.commit()
@@ -104,13 +82,8 @@ impl<B: Board> Txn<'_, B> {
     pub fn abandon(self) -> Result<(), StoreErr>
         ensures kept { committed self.exit.0.now ≡ committed (memory_of self.entry) }
         ensures done { OnOk result (current self.exit.0.now ≡ committed (memory_of self.entry)) }
-        ensures idle { IsIdle self.exit.0.now }
-        ensures ready { OnOk result (IsReady self.exit.0.now) }
-        ensures reports { Reports (memory_of self.entry) self.exit.0.now }
-        ensures tells { self.exit.0.now.failed ≡ result_err result }
+        ensures store { Changes (rollback_writes (memory_of self.entry).used) (memory_of self.entry) self.exit.0.now (result_err result) }
         ensures dark { IsErrOf result PowerLost → self.exit.0.now.facts.dark ≡ true }
-        ensures writes { WritesAtMost (rollback_writes (memory_of self.entry).used) (memory_of self.entry).facts
-            self.exit.0.now.facts }
     {
         let Txn { store } = self;
         store.abandon()

@@ -1,5 +1,5 @@
 -- The entry of a new file: that it is a file's entry, its words, and that its file is new.
-use Rattle.std.specs.Prelude.{◌≡◌, ◌==◌, ◌⊎◌, ◌<◌, ◌≤◌, ◌+◌, ◌-◌, ◌*◌, ◌%◌, ℕ, zero, suc, Bool, true, if◌then◌else◌}
+use Rattle.std.specs.Prelude.{◌≢◌, ◌≡◌, ◌==◌, ◌⊎◌, ◌<◌, ◌≤◌, ◌+◌, ◌-◌, ◌*◌, ◌%◌, ℕ, zero, suc, Bool, true, if◌then◌else◌}
 use Rattle.std.specs.Prelude.{List, ◌∷◌, ◌++◌, length, map, take, drop, replicate, Option, None, Some, unwrap_or}
 use Rattle.std.specs.Prelude.{IsTrue, IsSome}
 use Rattle.std.specs.List.{range_with_len}
@@ -122,6 +122,12 @@ all_one f v a (suc n) each = ap₂ (λ (x : List ℕ) (xs : List (List ℕ)). x 
 -- 0 stands for no short identifier
 abbrev pub short_option : ℕ → Option ℕ
 short_option short = if short == 0 then None else Some short
+
+pub some_option : (short : ℕ) → short ≢ 0 → short_option short ≡ Some short
+some_option short some = elim (eqb_tells short 0) [
+  | inl same ↦ absurd (some same.1)
+  | inr other ↦ ap (λ (b : Bool). if b then None else Some short) other.0
+]
 
 -- the parts of a new file, kind by kind
 rule_again : (rule : List ℕ) → take (length rule) (padded 8 rule) ≡ rule

@@ -1,7 +1,5 @@
 use Rattle.std.proofs.Common.{rules, ◌≡◌, ◌+◌, ◌<◌, ℕ, List, take, refl, sym, ◌∙◌, subst, arith}
 use Rattle.undo_journal.specs.Memory.{committed}
-use Rattle.undo_journal.specs.MemoryLaws.{reports_then, writes_then}
-use Rattle.undo_journal.specs.laws.Calls.{reads_spend}
 use Rattle.block_chain.specs.Chains.{free_chain}
 use Rattle.block_chain.specs.Changes.{OnlyContent}
 use Rattle.block_chain.specs.Parts.{filled_word}
@@ -9,7 +7,8 @@ use Rattle.block_chain.specs.laws.Bytes.{leads_blocks}
 use Rattle.block_chain.specs.laws.Chains.{head_small, leads_first}
 use Rattle.block_chain.specs.laws.Filling.{AreFilled, filled_more, first_filled}
 use Rattle.block_chain.proofs.Fills.{block_to_fill, only_filled, next_to_fill, next_small}
-use Rattle.undo_journal.specs.laws.Exits.{none_ok, error_tells}
+use Rattle.undo_journal.specs.laws.Exits.{none_ok}
+use Rattle.undo_journal.specs.laws.Told.{changes_handed, changes_on, reads_after, reads_change}
 use Rattle.block_chain.proofs.bytes.fill.Goals as goal
 
 pub read_head-requires-clause-small : goal.read_head-requires-clause-small
@@ -18,16 +17,14 @@ read_head-requires-clause-small g c = head_small _ _ _ c.requires.free.leads
 pub loop-i-init : goal.loop-i-init
 loop-i-init g c =
     let m = committed c.args.store.now in
-    let read = c.read_head.ensures.reads.keeps.committed_words in
+    let read = c.read_head.ensures.store.only.keeps.committed_words in
     record {
-      ready = c.in_ok-page.ensures.ready;
       only = (
           let family : List ℕ → Type 0 = λ l. OnlyContent m (take c.args.n (free_chain m)) l in
           subst family (sym read) (record { size = refl; others = λ page place small apart. refl }));
       filled = λ k place below low high. absurd (omega (arith, below));
       page = c.in_ok-page.ensures.page ∙ leads_first m _ (free_chain m) c.requires.free.leads;
-      reports = c.read_head.ensures.reads.reports;
-      writes = reads_spend 0 _ _ c.read_head.ensures.reads;
+      changes = reads_change 0 _ _ _ c.requires.ready.idle c.in_ok-page.ensures.store;
     }
 
 pub fill_block-requires-clause-block : goal.fill_block-requires-clause-block
@@ -42,7 +39,7 @@ returns-in_err-fill_block-clause-any_exit g c =
     let lt : c.loop-i._i < c.args.n = omega (arith, c.loop-i-test.true) in
     let only = only_filled m c.args.n c.requires.free c.requires.enough c.loop-i._i c.loop-i.page lt c.loop-i.invariant.page
     (committed c.loop-i.store) (committed c.fill_block.new.store) c.from_be_bytes-word.result
-    c.loop-i.invariant.ready.usable.committed_size c.loop-i.invariant.only c.fill_block.ensures.any_exit in
+    c.loop-i.invariant.changes.ready.usable.committed_size c.loop-i.invariant.only c.fill_block.ensures.any_exit in
     only
 
 pub read_link-requires-clause-block : goal.read_link-requires-clause-block
@@ -57,7 +54,7 @@ read_link-requires-clause-small g c =
     let lt : c.loop-i._i < c.args.n = omega (arith, c.loop-i-test.true) in
     let only = only_filled m c.args.n c.requires.free c.requires.enough c.loop-i._i c.loop-i.page lt c.loop-i.invariant.page
     (committed c.loop-i.store) (committed c.fill_block.new.store) c.from_be_bytes-word.result
-    c.loop-i.invariant.ready.usable.committed_size c.loop-i.invariant.only c.fill_block.ensures.any_exit in
+    c.loop-i.invariant.changes.ready.usable.committed_size c.loop-i.invariant.only c.fill_block.ensures.any_exit in
     next_small m c.args.n c.requires.free c.requires.enough c.loop-i._i c.loop-i.page lt c.loop-i.invariant.page _ only
 
 pub returns-in_err-page-2-clause-any_exit : goal.returns-in_err-page-2-clause-any_exit
@@ -66,9 +63,9 @@ returns-in_err-page-2-clause-any_exit g c =
     let lt : c.loop-i._i < c.args.n = omega (arith, c.loop-i-test.true) in
     let only = only_filled m c.args.n c.requires.free c.requires.enough c.loop-i._i c.loop-i.page lt c.loop-i.invariant.page
     (committed c.loop-i.store) (committed c.fill_block.new.store) c.from_be_bytes-word.result
-    c.loop-i.invariant.ready.usable.committed_size c.loop-i.invariant.only c.fill_block.ensures.any_exit in
+    c.loop-i.invariant.changes.ready.usable.committed_size c.loop-i.invariant.only c.fill_block.ensures.any_exit in
     let family : List ℕ → Type 0 = λ l. OnlyContent m (take c.args.n (free_chain m)) l in
-    subst family (sym c.read_link.ensures.reads.keeps.committed_words) only
+    subst family (sym c.read_link.ensures.store.only.keeps.committed_words) only
 
 pub loop-i-preserved : goal.loop-i-preserved
 loop-i-preserved g c =
@@ -76,10 +73,10 @@ loop-i-preserved g c =
     let lt : c.loop-i._i < c.args.n = omega (arith, c.loop-i-test.true) in
     let only = only_filled m c.args.n c.requires.free c.requires.enough c.loop-i._i c.loop-i.page lt c.loop-i.invariant.page
     (committed c.loop-i.store) (committed c.fill_block.new.store) c.from_be_bytes-word.result
-    c.loop-i.invariant.ready.usable.committed_size c.loop-i.invariant.only c.fill_block.ensures.any_exit in
+    c.loop-i.invariant.changes.ready.usable.committed_size c.loop-i.invariant.only c.fill_block.ensures.any_exit in
     let ps = free_chain m in
     let w = c.from_be_bytes-word.result in
-    let read = c.read_link.ensures.reads.keeps.committed_words in
+    let read = c.read_link.ensures.store.only.keeps.committed_words in
     let family : List ℕ → Type 0 = λ l. OnlyContent m (take c.args.n ps) l in
     let word : w ≡ filled_word c.args.byte = omega (arith, c.from_be_bytes-word.ensures) in
     let by_word : ℕ → Type 0 = λ v. AreFilled (committed c.loop-i.store) (take c.loop-i._i ps) v in
@@ -87,18 +84,16 @@ loop-i-preserved g c =
     let by_byte : ℕ → Type 0 = λ v. AreFilled (committed c.read_link.new.store) (take (c.loop-i._i + 1) ps) v in
     let filled = filled_more (committed c.loop-i.store) _ ps c.args.n c.loop-i._i c.loop-i.page w c.requires.free.once lt
     c.requires.enough c.loop-i.invariant.page (block_to_fill m c.args.n c.requires.free c.requires.enough c.loop-i._i c.loop-i.page lt c.loop-i.invariant.page)
-    c.loop-i.invariant.ready.usable.committed_size c.in_ok-fill_block.ensures.done
+    c.loop-i.invariant.changes.ready.usable.committed_size c.in_ok-fill_block.ensures.done
     (subst by_word (sym word) c.loop-i.invariant.filled) in
     record {
-      ready = c.in_ok-page-2.ensures.ready;
       only = subst family (sym read) only;
       filled = subst by_byte word (subst by_words (sym read) filled);
       page = c.in_ok-page-2.ensures.page ∙ next_to_fill m c.args.n c.requires.free c.requires.enough c.loop-i._i
           c.loop-i.page lt c.loop-i.invariant.page _ only;
-      reports = reports_then _ _ _ c.loop-i.invariant.reports
-          (reports_then _ _ _ c.fill_block.ensures.reports c.read_link.ensures.reads.reports);
-      writes = writes_then _ _ _ _ _ c.loop-i.invariant.writes
-          (writes_then 1 0 _ _ _ c.fill_block.ensures.writes (reads_spend 0 _ _ c.read_link.ensures.reads));
+      changes = reads_after _ _ _ _ _
+          (changes_on c.loop-i._i 1 _ _ _ _ _ (omega arith) c.loop-i.invariant.changes c.in_ok-fill_block.ensures.store)
+          c.in_ok-page-2.ensures.store;
     }
 
 pub returns-clause-done : goal.returns-clause-done
@@ -107,35 +102,37 @@ returns-clause-done g c =
     let ps = free_chain m in
     let all : c.loop-i._i ≡ c.args.n = search rules in
     let family : ℕ → Type 0 = λ k. AreFilled (committed c.loop-i.store) (take k ps) (filled_word c.args.byte) in
-    first_filled (committed c.loop-i.store) ps c.args.n c.args.byte c.loop-i.invariant.ready.usable.committed_size
+    first_filled (committed c.loop-i.store) ps c.args.n c.args.byte c.loop-i.invariant.changes.ready.usable.committed_size
     (leads_blocks m _ 0 ps c.requires.free.leads) c.requires.enough (omega arith)
     (subst family all c.loop-i.invariant.filled)
 
 pub returns-in_err-page-clause-done : goal.returns-in_err-page-clause-done
 returns-in_err-page-clause-done g c = none_ok _ _ _ c.from_residual.ensures.1
 
-pub returns-in_err-page-clause-ready : goal.returns-in_err-page-clause-ready
-returns-in_err-page-clause-ready g c = none_ok _ _ _ c.from_residual.ensures.1
+pub returns-in_err-page-clause-store : goal.returns-in_err-page-clause-store
+returns-in_err-page-clause-store g c =
+    changes_handed _ _ _ _ _ c.from_residual.ensures.1
+    (reads_change _ _ _ _ c.requires.ready.idle c.in_err-page.ensures.store)
 
-pub returns-in_err-page-clause-tells : goal.returns-in_err-page-clause-tells
-returns-in_err-page-clause-tells g c = error_tells _ _ _ c.from_residual.ensures.1 c.in_err-page.ensures.tells
 
 pub returns-in_err-fill_block-clause-done : goal.returns-in_err-fill_block-clause-done
 returns-in_err-fill_block-clause-done g c = none_ok _ _ _ c.from_residual-in_err-fill_block.ensures.1
 
-pub returns-in_err-fill_block-clause-ready : goal.returns-in_err-fill_block-clause-ready
-returns-in_err-fill_block-clause-ready g c = none_ok _ _ _ c.from_residual-in_err-fill_block.ensures.1
+pub returns-in_err-fill_block-clause-store : goal.returns-in_err-fill_block-clause-store
+returns-in_err-fill_block-clause-store g c =
+    let lt : c.loop-i._i < c.args.n = omega (arith, c.loop-i-test.true) in
+    changes_handed _ _ _ _ _ c.from_residual-in_err-fill_block.ensures.1
+    (changes_on c.loop-i._i 1 _ _ _ _ _ (omega (arith, lt)) c.loop-i.invariant.changes
+    c.in_err-fill_block.ensures.store)
 
-pub returns-in_err-fill_block-clause-tells : goal.returns-in_err-fill_block-clause-tells
-returns-in_err-fill_block-clause-tells g c =
-    error_tells _ _ _ c.from_residual-in_err-fill_block.ensures.1 c.in_err-fill_block.ensures.tells
 
 pub returns-in_err-page-2-clause-done : goal.returns-in_err-page-2-clause-done
 returns-in_err-page-2-clause-done g c = none_ok _ _ _ c.from_residual-in_err-page-2.ensures.1
 
-pub returns-in_err-page-2-clause-ready : goal.returns-in_err-page-2-clause-ready
-returns-in_err-page-2-clause-ready g c = none_ok _ _ _ c.from_residual-in_err-page-2.ensures.1
-
-pub returns-in_err-page-2-clause-tells : goal.returns-in_err-page-2-clause-tells
-returns-in_err-page-2-clause-tells g c =
-    error_tells _ _ _ c.from_residual-in_err-page-2.ensures.1 c.in_err-page-2.ensures.tells
+pub returns-in_err-page-2-clause-store : goal.returns-in_err-page-2-clause-store
+returns-in_err-page-2-clause-store g c =
+    let lt : c.loop-i._i < c.args.n = omega (arith, c.loop-i-test.true) in
+    changes_handed _ _ _ _ _ c.from_residual-in_err-page-2.ensures.1
+    (reads_after _ _ _ _ _
+    (changes_on c.loop-i._i 1 _ _ _ _ _ (omega (arith, lt)) c.loop-i.invariant.changes c.in_ok-fill_block.ensures.store)
+    c.in_err-page-2.ensures.store)

@@ -1,3 +1,4 @@
+use Rattle.std.proofs.Common.{rules}
 use Rattle.std.proofs.Common.{◌≡◌, ◌+◌, ◌*◌, ◌%◌, ℕ, List, length, slice_index, slice_set, ◌∙◌, ap, ap₂, inr, arith}
 use Rattle.std.proofs.lemmas.Result.{on_ok_weaker}
 use Rattle.nvm_board.specs.Facts.{address}
@@ -6,7 +7,8 @@ use Rattle.undo_journal.specs.Lent.{memory_of}
 use Rattle.undo_journal.specs.laws.Calls.{reads_sets, sets_then}
 use Rattle.block_chain.specs.Parts.{byte_over}
 use Rattle.block_chain.specs.Words.{word, word_bytes}
-use Rattle.undo_journal.specs.laws.Exits.{none_ok, error_tells}
+use Rattle.undo_journal.specs.laws.Exits.{none_ok}
+use Rattle.undo_journal.specs.laws.Told.{sets_in_handed}
 use Rattle.block_chain.proofs.bytes.put_word.Goals as goal
 use Rattle.nvm_board.specs.declared.board.TheConstants.{PAGE_WORDS}
 use Rattle.block_chain.specs.declared.layout.TheConstants.{BLOCK_WORDS}
@@ -19,12 +21,16 @@ content-requires-clause-place g c =
 pub put-requires-clause-place : goal.put-requires-clause-place
 put-requires-clause-place g c =
     let block = c.requires.block in let size = c.requires.ready.current_size in
-    let same = ap (λ (l : List ℕ). length l) c.content.ensures.reads.reads.keeps.current_words in
+    let same = ap (λ (l : List ℕ). length l) c.content.ensures.store.only.reads.keeps.current_words in
     (inr (omega (arith, block.0)), omega (arith, block.1, size, same))
 
-pub returns-clause-sets : goal.returns-clause-sets
-returns-clause-sets g c =
-    sets_then 0 1 1 _ _ _ (omega arith) (reads_sets _ _ _ c.content.ensures.reads) c.put.ensures.sets
+pub returns-clause-store : goal.returns-clause-store
+returns-clause-store g c =
+    record {
+      sets = sets_then 0 1 1 _ _ _ (omega arith) (reads_sets _ _ _ c.content.ensures.store.only) c.put.ensures.store.sets;
+      ready = search rules;
+      tells = search rules;
+    }
 
 pub returns-clause-done : goal.returns-clause-done
 returns-clause-done g c =
@@ -32,7 +38,7 @@ returns-clause-done g c =
     let page = c.args.page in
     let k = c.args.k in
     let at : PAGE_WORDS * page + 1 + k % BLOCK_WORDS ≡ address page (1 + k % BLOCK_WORDS) = omega arith in
-    let read : current (memory_of c.content.new.txn) ≡ m = c.content.ensures.reads.reads.keeps.current_words in
+    let read : current (memory_of c.content.new.txn) ≡ m = c.content.ensures.store.only.reads.keeps.current_words in
     let was : c.in_ok-word.word ≡ word m page (1 + k % BLOCK_WORDS) =
     c.in_ok-word.ensures.word ∙ ap (slice_index m) at in
     on_ok_weaker c.put.result (λ
@@ -48,8 +54,10 @@ returns-clause-done g c =
 pub returns-in_err-word-clause-done : goal.returns-in_err-word-clause-done
 returns-in_err-word-clause-done g c = none_ok _ _ _ c.from_residual.ensures.1
 
-pub returns-in_err-word-clause-ready : goal.returns-in_err-word-clause-ready
-returns-in_err-word-clause-ready g c = none_ok _ _ _ c.from_residual.ensures.1
-
-pub returns-in_err-word-clause-tells : goal.returns-in_err-word-clause-tells
-returns-in_err-word-clause-tells g c = error_tells _ _ _ c.from_residual.ensures.1 c.in_err-word.ensures.tells
+pub returns-in_err-word-clause-store : goal.returns-in_err-word-clause-store
+returns-in_err-word-clause-store g c =
+    sets_in_handed _ _ _ _ _ c.from_residual.ensures.1 (record {
+      ready = tt;
+      tells = c.in_err-word.ensures.store.tells;
+      sets = search rules;
+    })

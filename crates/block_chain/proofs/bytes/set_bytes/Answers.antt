@@ -8,7 +8,8 @@ use Rattle.block_chain.specs.Chains.{chain_of}
 use Rattle.block_chain.specs.laws.Bytes.{leads_blocks}
 use Rattle.block_chain.specs.laws.Overwriting.{IsPut, overwrites_none, touched, put_none, put_all}
 use Rattle.block_chain.proofs.Puts.{word_block, word_small, word_fits, word_put, link_put, link_small}
-use Rattle.undo_journal.specs.laws.Exits.{none_ok, error_tells}
+use Rattle.undo_journal.specs.laws.Exits.{none_ok}
+use Rattle.undo_journal.specs.laws.Told.{sets_in_handed}
 use Rattle.block_chain.proofs.bytes.set_bytes.Goals as goal
 
 pub loop-k-init : goal.loop-k-init
@@ -16,13 +17,13 @@ loop-k-init g c =
     let m = current (memory_of c.args.txn.now) in
     let ps = chain_of m c.args.chain in
     let place : c.args.offset / BLOCK_BYTES ≡ c.args.offset / 4 / BLOCK_WORDS = omega arith in
-    let read = c.walk.ensures.reads.reads.keeps.current_words in
+    let read = c.walk.ensures.store.only.reads.keeps.current_words in
     let family : List ℕ → Type 0 = λ l. IsPut m ps c.args.offset c.args.bytes.now (c.args.offset / 4) l in
     record {
       from = omega arith;
       within = (let some : 1 ≤ length c.args.bytes.now = search rules in omega (arith, some));
-      ready = c.in_ok-page.ensures.ready;
-      sets = reads_sets _ _ _ c.walk.ensures.reads;
+      ready = c.in_ok-page.ensures.store.ready;
+      sets = reads_sets _ _ _ c.walk.ensures.store.only;
       page = c.in_ok-page.ensures.page ∙ ap (slice_index ps) place;
       put = subst family (sym read) (put_none m ps c.args.offset c.args.bytes.now c.requires.ready.current_size
           (leads_blocks m _ 0 ps c.requires.chain.leads));
@@ -57,17 +58,6 @@ put_word-requires-clause-room g c =
     c.loop-k.invariant.page some c.loop-k.invariant.from in
     omega (arith, fits, c.loop-k.invariant.sets.room, c.requires.room)
 
-pub returns-in_err-put_word-clause-sets : goal.returns-in_err-put_word-clause-sets
-returns-in_err-put_word-clause-sets g c =
-    let m = current (memory_of c.args.txn.now) in
-    let ps = chain_of m c.args.chain in
-    let k = c.loop-k.k in
-    let lt : k < (c.args.offset + length c.args.bytes.now + 3) / 4 = omega (arith, c.loop-k-test.true) in
-    let some : 1 ≤ length c.args.bytes.now = search rules in
-    let fits = word_fits m ps _ c.args.offset c.args.bytes.now c.requires.chain c.requires.within k c.loop-k.page lt
-    c.loop-k.invariant.page some c.loop-k.invariant.from in
-    sets_then _ _ _ _ _ _ fits c.loop-k.invariant.sets c.put_word.ensures.sets
-
 pub next-requires-clause-block : goal.next-requires-clause-block
 next-requires-clause-block g c =
     let m = current (memory_of c.args.txn.now) in
@@ -87,18 +77,6 @@ next-requires-clause-small g c =
     c.loop-k.invariant.page
     _ _ c.requires.ready.current_size c.loop-k.invariant.put c.in_ok-put_word.ensures.done
 
-pub returns-in_err-page-2-clause-sets : goal.returns-in_err-page-2-clause-sets
-returns-in_err-page-2-clause-sets g c =
-    let m = current (memory_of c.args.txn.now) in
-    let ps = chain_of m c.args.chain in
-    let k = c.loop-k.k in
-    let lt : k < (c.args.offset + length c.args.bytes.now + 3) / 4 = omega (arith, c.loop-k-test.true) in
-    let some : 1 ≤ length c.args.bytes.now = search rules in
-    let fits = word_fits m ps _ c.args.offset c.args.bytes.now c.requires.chain c.requires.within k c.loop-k.page lt
-    c.loop-k.invariant.page some c.loop-k.invariant.from in
-    let put = sets_then _ _ _ _ _ _ fits c.loop-k.invariant.sets c.put_word.ensures.sets in
-    sets_then _ 0 _ _ _ _ (omega arith) put (reads_sets 0 _ _ c.next.ensures.reads)
-
 pub loop-k-preserved-then-k-eq0 : goal.loop-k-preserved-then-k-eq0
 loop-k-preserved-then-k-eq0 g c =
     let m = current (memory_of c.args.txn.now) in
@@ -106,15 +84,15 @@ loop-k-preserved-then-k-eq0 g c =
     let k = c.loop-k.k in
     let lt : k < (c.args.offset + length c.args.bytes.now + 3) / 4 = omega (arith, c.loop-k-test.true) in
     let one : k - c.args.offset / 4 + 1 ≤ k + 1 - c.args.offset / 4 = omega (arith, c.loop-k.invariant.from) in
-    let read = c.next.ensures.reads.reads.keeps.current_words in
+    let read = c.next.ensures.store.only.reads.keeps.current_words in
     let words : List ℕ → Type 0 = λ l. IsPut m ps c.args.offset c.args.bytes.now (k + 1) l in
     let turn : k / BLOCK_WORDS + 1 ≡ (k + 1) / BLOCK_WORDS = omega (arith, c.if-k-eq0.true) in
-    let put = sets_then _ _ _ _ _ _ one c.loop-k.invariant.sets c.put_word.ensures.sets in
+    let put = sets_then _ _ _ _ _ _ one c.loop-k.invariant.sets c.put_word.ensures.store.sets in
     record {
       from = omega (arith, c.loop-k.invariant.from);
       within = omega (arith, lt);
       ready = search rules;
-      sets = sets_then _ 0 _ _ _ _ (omega arith) put (reads_sets 0 _ _ c.next.ensures.reads);
+      sets = sets_then _ 0 _ _ _ _ (omega arith) put (reads_sets 0 _ _ c.next.ensures.store.only);
       page = c.in_ok-page-2.ensures.page ∙ link_put m ps _ c.args.offset c.args.bytes.now c.requires.chain c.requires.within k c.loop-k.page lt
           c.loop-k.invariant.page
           _ _ c.requires.ready.current_size c.loop-k.invariant.put c.in_ok-put_word.ensures.done
@@ -136,19 +114,23 @@ loop-k-preserved g c =
       from = omega (arith, c.loop-k.invariant.from);
       within = omega (arith, lt);
       ready = search rules;
-      sets = sets_then _ _ _ _ _ _ one c.loop-k.invariant.sets c.put_word.ensures.sets;
+      sets = sets_then _ _ _ _ _ _ one c.loop-k.invariant.sets c.put_word.ensures.store.sets;
       page = c.loop-k.invariant.page ∙ ap (slice_index ps) turn;
       put = word_put m ps _ c.args.offset c.args.bytes.now c.requires.chain c.requires.within k c.loop-k.page lt
           c.loop-k.invariant.page
           _ _ c.requires.ready.current_size c.loop-k.invariant.put c.in_ok-put_word.ensures.done;
     }
 
-pub returns-clause-sets : goal.returns-clause-sets
-returns-clause-sets g c =
-    let some : 1 ≤ length c.args.bytes.now = search rules in
+pub returns-clause-store : goal.returns-clause-store
+returns-clause-store g c =
+    record {
+      sets = let some : 1 ≤ length c.args.bytes.now = search rules in
     let words = touched c.args.offset (length c.args.bytes.now) some in
     sets_weaker _ _ _ _ (omega
-    (arith, words, c.loop-k.invariant.within, c.loop-k.invariant.from)) c.loop-k.invariant.sets
+    (arith, words, c.loop-k.invariant.within, c.loop-k.invariant.from)) c.loop-k.invariant.sets;
+      ready = search rules;
+      tells = search rules;
+    }
 
 pub returns-clause-done : goal.returns-clause-done
 returns-clause-done g c =
@@ -167,28 +149,47 @@ returns-then-is_empty-clause-done g c =
 pub returns-in_err-page-clause-done : goal.returns-in_err-page-clause-done
 returns-in_err-page-clause-done g c = none_ok _ _ _ c.from_residual.ensures.1
 
-pub returns-in_err-page-clause-ready : goal.returns-in_err-page-clause-ready
-returns-in_err-page-clause-ready g c = none_ok _ _ _ c.from_residual.ensures.1
-
-pub returns-in_err-page-clause-tells : goal.returns-in_err-page-clause-tells
-returns-in_err-page-clause-tells g c = error_tells _ _ _ c.from_residual.ensures.1 c.in_err-page.ensures.tells
+pub returns-in_err-page-clause-store : goal.returns-in_err-page-clause-store
+returns-in_err-page-clause-store g c =
+    sets_in_handed _ _ _ _ _ c.from_residual.ensures.1 (record {
+      ready = tt;
+      tells = c.in_err-page.ensures.store.tells;
+      sets = search rules;
+    })
 
 pub returns-in_err-put_word-clause-done : goal.returns-in_err-put_word-clause-done
 returns-in_err-put_word-clause-done g c = none_ok _ _ _ c.from_residual-in_err-put_word.ensures.1
 
-pub returns-in_err-put_word-clause-ready : goal.returns-in_err-put_word-clause-ready
-returns-in_err-put_word-clause-ready g c = none_ok _ _ _ c.from_residual-in_err-put_word.ensures.1
-
-pub returns-in_err-put_word-clause-tells : goal.returns-in_err-put_word-clause-tells
-returns-in_err-put_word-clause-tells g c =
-    error_tells _ _ _ c.from_residual-in_err-put_word.ensures.1 c.in_err-put_word.ensures.tells
+pub returns-in_err-put_word-clause-store : goal.returns-in_err-put_word-clause-store
+returns-in_err-put_word-clause-store g c =
+    sets_in_handed _ _ _ _ _ c.from_residual-in_err-put_word.ensures.1 (record {
+      ready = tt;
+      sets = let m = current (memory_of c.args.txn.now) in
+    let ps = chain_of m c.args.chain in
+    let k = c.loop-k.k in
+    let lt : k < (c.args.offset + length c.args.bytes.now + 3) / 4 = omega (arith, c.loop-k-test.true) in
+    let some : 1 ≤ length c.args.bytes.now = search rules in
+    let fits = word_fits m ps _ c.args.offset c.args.bytes.now c.requires.chain c.requires.within k c.loop-k.page lt
+    c.loop-k.invariant.page some c.loop-k.invariant.from in
+    sets_then _ _ _ _ _ _ fits c.loop-k.invariant.sets c.put_word.ensures.store.sets;
+      tells = c.in_err-put_word.ensures.store.tells;
+    })
 
 pub returns-in_err-page-2-clause-done : goal.returns-in_err-page-2-clause-done
 returns-in_err-page-2-clause-done g c = none_ok _ _ _ c.from_residual-in_err-page-2.ensures.1
 
-pub returns-in_err-page-2-clause-ready : goal.returns-in_err-page-2-clause-ready
-returns-in_err-page-2-clause-ready g c = none_ok _ _ _ c.from_residual-in_err-page-2.ensures.1
-
-pub returns-in_err-page-2-clause-tells : goal.returns-in_err-page-2-clause-tells
-returns-in_err-page-2-clause-tells g c =
-    error_tells _ _ _ c.from_residual-in_err-page-2.ensures.1 c.in_err-page-2.ensures.tells
+pub returns-in_err-page-2-clause-store : goal.returns-in_err-page-2-clause-store
+returns-in_err-page-2-clause-store g c =
+    sets_in_handed _ _ _ _ _ c.from_residual-in_err-page-2.ensures.1 (record {
+      ready = tt;
+      sets = let m = current (memory_of c.args.txn.now) in
+    let ps = chain_of m c.args.chain in
+    let k = c.loop-k.k in
+    let lt : k < (c.args.offset + length c.args.bytes.now + 3) / 4 = omega (arith, c.loop-k-test.true) in
+    let some : 1 ≤ length c.args.bytes.now = search rules in
+    let fits = word_fits m ps _ c.args.offset c.args.bytes.now c.requires.chain c.requires.within k c.loop-k.page lt
+    c.loop-k.invariant.page some c.loop-k.invariant.from in
+    let put = sets_then _ _ _ _ _ _ fits c.loop-k.invariant.sets c.put_word.ensures.store.sets in
+    sets_then _ 0 _ _ _ _ (omega arith) put (reads_sets 0 _ _ c.next.ensures.store.only);
+      tells = c.in_err-page-2.ensures.store.tells;
+    })

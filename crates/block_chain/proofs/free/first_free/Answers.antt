@@ -1,3 +1,4 @@
+use Rattle.std.proofs.Common.{rules}
 use Rattle.std.proofs.Common.{◌-◌, ◌<◌, ℕ, List, length, slice_index, ◌∙◌, ap, ap₂, arith}
 use Rattle.undo_journal.specs.Memory.{current}
 use Rattle.undo_journal.specs.Lent.{memory_of}
@@ -5,7 +6,8 @@ use Rattle.undo_journal.specs.laws.Calls.{txn_reads_then}
 use Rattle.block_chain.specs.Chains.{chain, free_chain}
 use Rattle.block_chain.specs.Words.{link}
 use Rattle.block_chain.specs.laws.Chains.{at_block, head_small}
-use Rattle.undo_journal.specs.laws.Exits.{none_ok, error_tells}
+use Rattle.undo_journal.specs.laws.Exits.{none_ok}
+use Rattle.undo_journal.specs.laws.Told.{reads_in_handed, reads_in_on}
 use Rattle.block_chain.proofs.free.first_free.Goals as goal
 
 pub head-requires-clause-small : goal.head-requires-clause-small
@@ -15,10 +17,10 @@ pub next-requires-clause-block : goal.next-requires-clause-block
 next-requires-clause-block g c =
     let m = current (memory_of c.args.txn.now) in
     let within : c.args.n - 1 < length (free_chain m) = omega (arith, c.requires.some, c.requires.enough) in
-    let same = c.walk.ensures.reads.reads.keeps.current_words ∙ c.head.ensures.reads.reads.keeps.current_words in
+    let same = c.walk.ensures.store.only.reads.keeps.current_words ∙ c.head.ensures.store.only.reads.keeps.current_words in
     let last = c.in_ok-last.ensures.page
     ∙ ap₂ (λ (l : List ℕ) (p : ℕ). slice_index (chain l p)
-    (c.args.n - 1)) c.head.ensures.reads.reads.keeps.current_words c.in_ok-first.ensures.page in
+    (c.args.n - 1)) c.head.ensures.store.only.reads.keeps.current_words c.in_ok-first.ensures.page in
     let at = at_block _ _ _ _ _ _ same c.requires.free.leads last within in
     at.block
 
@@ -26,10 +28,10 @@ pub next-requires-clause-small : goal.next-requires-clause-small
 next-requires-clause-small g c =
     let m = current (memory_of c.args.txn.now) in
     let within : c.args.n - 1 < length (free_chain m) = omega (arith, c.requires.some, c.requires.enough) in
-    let same = c.walk.ensures.reads.reads.keeps.current_words ∙ c.head.ensures.reads.reads.keeps.current_words in
+    let same = c.walk.ensures.store.only.reads.keeps.current_words ∙ c.head.ensures.store.only.reads.keeps.current_words in
     let last = c.in_ok-last.ensures.page
     ∙ ap₂ (λ (l : List ℕ) (p : ℕ). slice_index (chain l p)
-    (c.args.n - 1)) c.head.ensures.reads.reads.keeps.current_words c.in_ok-first.ensures.page in
+    (c.args.n - 1)) c.head.ensures.store.only.reads.keeps.current_words c.in_ok-first.ensures.page in
     let at = at_block _ _ _ _ _ _ same c.requires.free.leads last within in
     at.small
 
@@ -37,10 +39,10 @@ pub returns-clause-found : goal.returns-clause-found
 returns-clause-found g c =
     let m = current (memory_of c.args.txn.now) in
     let within : c.args.n - 1 < length (free_chain m) = omega (arith, c.requires.some, c.requires.enough) in
-    let same = c.walk.ensures.reads.reads.keeps.current_words ∙ c.head.ensures.reads.reads.keeps.current_words in
+    let same = c.walk.ensures.store.only.reads.keeps.current_words ∙ c.head.ensures.store.only.reads.keeps.current_words in
     let last = c.in_ok-last.ensures.page
     ∙ ap₂ (λ (l : List ℕ) (p : ℕ). slice_index (chain l p)
-    (c.args.n - 1)) c.head.ensures.reads.reads.keeps.current_words c.in_ok-first.ensures.page in
+    (c.args.n - 1)) c.head.ensures.store.only.reads.keeps.current_words c.in_ok-first.ensures.page in
     let at = at_block _ _ _ _ _ _ same c.requires.free.leads last within in
     record {
       first = c.in_ok-first.ensures.page;
@@ -50,42 +52,31 @@ returns-clause-found g c =
       small = (let z = c.in_ok-rest.ensures.page in let y = at.small in omega (arith, z, y));
     }
 
-pub returns-in_err-rest-clause-reads : goal.returns-in_err-rest-clause-reads
-returns-in_err-rest-clause-reads g c =
-    txn_reads_then _ _ _ (txn_reads_then _ _ _ c.head.ensures.reads c.walk.ensures.reads) c.next.ensures.reads
-
 pub returns-in_err-first-clause-found : goal.returns-in_err-first-clause-found
 returns-in_err-first-clause-found g c = none_ok _ _ _ c.from_residual.ensures.1
 
-pub returns-in_err-first-clause-ready : goal.returns-in_err-first-clause-ready
-returns-in_err-first-clause-ready g c = none_ok _ _ _ c.from_residual.ensures.1
-
-pub returns-in_err-first-clause-tells : goal.returns-in_err-first-clause-tells
-returns-in_err-first-clause-tells g c = error_tells _ _ _ c.from_residual.ensures.1 c.in_err-first.ensures.tells
+pub returns-in_err-first-clause-store : goal.returns-in_err-first-clause-store
+returns-in_err-first-clause-store g c =
+    reads_in_handed _ _ _ _ c.from_residual.ensures.1 c.in_err-first.ensures.store
 
 pub returns-in_err-last-clause-found : goal.returns-in_err-last-clause-found
 returns-in_err-last-clause-found g c = none_ok _ _ _ c.from_residual-in_err-last.ensures.1
 
-pub returns-in_err-last-clause-ready : goal.returns-in_err-last-clause-ready
-returns-in_err-last-clause-ready g c = none_ok _ _ _ c.from_residual-in_err-last.ensures.1
-
-pub returns-in_err-last-clause-tells : goal.returns-in_err-last-clause-tells
-returns-in_err-last-clause-tells g c =
-    error_tells _ _ _ c.from_residual-in_err-last.ensures.1 c.in_err-last.ensures.tells
-
 pub returns-in_err-rest-clause-found : goal.returns-in_err-rest-clause-found
 returns-in_err-rest-clause-found g c = none_ok _ _ _ c.from_residual-in_err-rest.ensures.1
 
-pub returns-in_err-rest-clause-ready : goal.returns-in_err-rest-clause-ready
-returns-in_err-rest-clause-ready g c = none_ok _ _ _ c.from_residual-in_err-rest.ensures.1
+pub returns-in_err-rest-clause-store : goal.returns-in_err-rest-clause-store
+returns-in_err-rest-clause-store g c =
+    reads_in_handed _ _ _ _ c.from_residual-in_err-rest.ensures.1 (reads_in_on _ _ _ _ (txn_reads_then _ _ _ c.head.ensures.store.only c.walk.ensures.store.only) c.in_err-rest.ensures.store)
 
-pub returns-in_err-rest-clause-tells : goal.returns-in_err-rest-clause-tells
-returns-in_err-rest-clause-tells g c =
-    error_tells _ _ _ c.from_residual-in_err-rest.ensures.1 c.in_err-rest.ensures.tells
+pub returns-in_err-last-clause-store : goal.returns-in_err-last-clause-store
+returns-in_err-last-clause-store g c =
+    reads_in_handed _ _ _ _ c.from_residual-in_err-last.ensures.1 (reads_in_on _ _ _ _ c.head.ensures.store.only c.in_err-last.ensures.store)
 
-pub returns-in_err-last-clause-reads : goal.returns-in_err-last-clause-reads
-returns-in_err-last-clause-reads g c = txn_reads_then _ _ _ c.head.ensures.reads c.walk.ensures.reads
-
-pub returns-clause-reads : goal.returns-clause-reads
-returns-clause-reads g c =
-    txn_reads_then _ _ _ (txn_reads_then _ _ _ c.head.ensures.reads c.walk.ensures.reads) c.next.ensures.reads
+pub returns-clause-store : goal.returns-clause-store
+returns-clause-store g c =
+    record {
+      only = txn_reads_then _ _ _ (txn_reads_then _ _ _ c.head.ensures.store.only c.walk.ensures.store.only) c.next.ensures.store.only;
+      ready = search rules;
+      tells = search rules;
+    }

@@ -3,7 +3,8 @@ use Rattle.undo_journal.specs.Memory.{committed}
 use Rattle.undo_journal.specs.laws.Calls.{reads_then}
 use Rattle.block_chain.specs.Chains.{free_chain}
 use Rattle.block_chain.specs.laws.Chains.{at_some, head_small, leads_ended, leads_first}
-use Rattle.undo_journal.specs.laws.Exits.{none_ok, error_tells}
+use Rattle.undo_journal.specs.laws.Exits.{none_ok}
+use Rattle.undo_journal.specs.laws.Told.{reads_handed, reads_on}
 use Rattle.block_chain.proofs.free.free_count.Goals as goal
 
 pub read_head-requires-clause-small : goal.read_head-requires-clause-small
@@ -33,8 +34,8 @@ loop-page-preserved g c =
     (free_chain m) c.loop-page.count c.loop-page.page c.loop-page.invariant.reads.keeps.committed_words
     c.requires.free.leads c.loop-page.invariant.place some in
     record {
-      ready = c.in_ok-page-2.ensures.ready;
-      reads = reads_then _ _ _ c.loop-page.invariant.reads c.read_link.ensures.reads;
+      ready = c.in_ok-page-2.ensures.store.ready;
+      reads = reads_then _ _ _ c.loop-page.invariant.reads c.read_link.ensures.store.only;
       within = omega (arith, here.within);
       place = c.in_ok-page-2.ensures.page ∙ here.next;
     }
@@ -47,32 +48,24 @@ returns-clause-count g c =
     let ended = leads_ended m _ (free_chain m) c.loop-page.count c.requires.free.leads none in
     omega (arith, ended, c.loop-page.invariant.within)
 
-pub returns-in_err-page-2-clause-reads : goal.returns-in_err-page-2-clause-reads
-returns-in_err-page-2-clause-reads g c = reads_then _ _ _ c.loop-page.invariant.reads c.read_link.ensures.reads
-
 pub returns-in_err-page-clause-count : goal.returns-in_err-page-clause-count
 returns-in_err-page-clause-count g c = none_ok _ _ _ c.from_residual.ensures.1
 
-pub returns-in_err-page-clause-ready : goal.returns-in_err-page-clause-ready
-returns-in_err-page-clause-ready g c = none_ok _ _ _ c.from_residual.ensures.1
-
-pub returns-in_err-page-clause-tells : goal.returns-in_err-page-clause-tells
-returns-in_err-page-clause-tells g c = error_tells _ _ _ c.from_residual.ensures.1 c.in_err-page.ensures.tells
+pub returns-in_err-page-clause-store : goal.returns-in_err-page-clause-store
+returns-in_err-page-clause-store g c =
+    reads_handed _ _ _ _ c.from_residual.ensures.1 c.in_err-page.ensures.store
 
 pub returns-in_err-page-2-clause-count : goal.returns-in_err-page-2-clause-count
 returns-in_err-page-2-clause-count g c = none_ok _ _ _ c.from_residual-in_err-page-2.ensures.1
 
-pub returns-in_err-page-2-clause-ready : goal.returns-in_err-page-2-clause-ready
-returns-in_err-page-2-clause-ready g c = none_ok _ _ _ c.from_residual-in_err-page-2.ensures.1
-
-pub returns-in_err-page-2-clause-tells : goal.returns-in_err-page-2-clause-tells
-returns-in_err-page-2-clause-tells g c =
-    error_tells _ _ _ c.from_residual-in_err-page-2.ensures.1 c.in_err-page-2.ensures.tells
+pub returns-in_err-page-2-clause-store : goal.returns-in_err-page-2-clause-store
+returns-in_err-page-2-clause-store g c =
+    reads_handed _ _ _ _ c.from_residual-in_err-page-2.ensures.1 (reads_on _ _ _ _ c.loop-page.invariant.reads c.in_err-page-2.ensures.store)
 
 pub loop-page-init : goal.loop-page-init
 loop-page-init g c = record {
-  ready = c.in_ok-page.ensures.ready;
-  reads = c.read_head.ensures.reads;
+  ready = c.in_ok-page.ensures.store.ready;
+  reads = c.read_head.ensures.store.only;
   within = omega arith;
   place = c.in_ok-page.ensures.page ∙ leads_first _ _ _ c.requires.free.leads;
 }

@@ -26,8 +26,13 @@ returns-clause-done g c =
     subst family (sym after)
     (gives_back m cs c.requires.ready.current_size c.requires.free c.requires.apart)) c.put.ensures.done
 
-pub returns-clause-sets : goal.returns-clause-sets
-returns-clause-sets g c = sets_then _ _ _ _ _ _ (omega arith) c.join.ensures.sets c.put.ensures.sets
+pub returns-clause-store : goal.returns-clause-store
+returns-clause-store g c =
+    record {
+      sets = sets_then _ _ _ _ _ _ (omega arith) c.join.ensures.store.sets c.put.ensures.store.sets;
+      ready = search rules;
+      tells = search rules;
+    }
 
 pub returns-then-is_empty-clause-done : goal.returns-then-is_empty-clause-done
 returns-then-is_empty-clause-done g c =

@@ -1,3 +1,4 @@
+use Rattle.std.proofs.Common.{rules}
 use Rattle.std.proofs.Common.{◌≡◌, ◌+◌, ◌-◌, ◌*◌, ◌<◌, ◌≤◌, ℕ, List, [], ◌∷◌, length, drop, slice_set, slice_index_or}
 use Rattle.std.proofs.Common.{sym, ◌∙◌, ap, inr, arith}
 use Rattle.std.proofs.lemmas.List.{drop_more}
@@ -10,7 +11,8 @@ use Rattle.block_chain.specs.Parts.{first_of, joined}
 use Rattle.block_chain.specs.declared.chain.Chain.{Chain}
 use Rattle.block_chain.specs.laws.Chains.{head_small}
 use Rattle.block_chain.specs.laws.Joining.{joined-nil, joined-cons, length-joined, whole_block}
-use Rattle.undo_journal.specs.laws.Exits.{none_ok, error_tells}
+use Rattle.undo_journal.specs.laws.Exits.{none_ok}
+use Rattle.undo_journal.specs.laws.Told.{sets_in_handed}
 use Rattle.block_chain.proofs.free.join.Goals as goal
 use Rattle.nvm_board.specs.declared.board.TheConstants.{PAGE_WORDS}
 
@@ -23,10 +25,10 @@ loop-left-init g c =
     let none : drop (length c.args.chains.now) c.args.chains.now ≡ [] = drop-length c.args.chains.now in
     record {
       within = omega arith;
-      ready = c.in_ok-page.ensures.ready;
-      sets = reads_sets _ _ _ c.head.ensures.reads;
+      ready = c.in_ok-page.ensures.store.ready;
+      sets = reads_sets _ _ _ c.head.ensures.store.only;
       page = c.in_ok-page.ensures.page ∙ sym (ap (first_of m) none);
-      words = c.head.ensures.reads.reads.keeps.current_words ∙ sym (ap (joined m) none ∙ joined-nil m);
+      words = c.head.ensures.store.only.reads.keeps.current_words ∙ sym (ap (joined m) none ∙ joined-nil m);
     }
 
 pub overflow_mul-chain : goal.overflow_mul-chain
@@ -48,12 +50,6 @@ put-requires-clause-place g c =
     ∙ length-joined m (drop c.loop-left.left c.args.chains.now) in
     (inr (omega (arith, block.0)), omega (arith, block.1, size, same))
 
-pub returns-in_err-put-clause-sets : goal.returns-in_err-put-clause-sets
-returns-in_err-put-clause-sets g c =
-    let fits : length c.args.chains.now - c.loop-left.left + 1 ≤ length c.args.chains.now =
-    omega (arith, c.loop-left.invariant.within, c.loop-left-test.true) in
-    sets_then _ _ _ _ _ _ fits c.loop-left.invariant.sets c.put.ensures.sets
-
 pub loop-left-preserved : goal.loop-left-preserved
 loop-left-preserved g c =
     let m = current (memory_of c.args.txn.now) in
@@ -71,8 +67,8 @@ loop-left-preserved g c =
     let page : c.from.result ≡ first_of m (drop left cs) = c.from.ensures ∙ c.loop-left.invariant.page in
     record {
       within = omega (arith, lt);
-      ready = c.in_ok-put.ensures.ready;
-      sets = sets_then _ _ _ _ _ _ fits c.loop-left.invariant.sets c.put.ensures.sets;
+      ready = c.in_ok-put.ensures.store.ready;
+      sets = sets_then _ _ _ _ _ _ fits c.loop-left.invariant.sets c.put.ensures.store.sets;
       page = sym (ap (first_of m) more);
       words = c.in_ok-put.ensures.done
           ∙ (λ i. slice_set (c.loop-left.invariant.words i) (at i) (page i))
@@ -85,11 +81,13 @@ returns-in_err-page-clause-page g c = none_ok _ _ _ c.from_residual.ensures.1
 pub returns-in_err-page-clause-done : goal.returns-in_err-page-clause-done
 returns-in_err-page-clause-done g c = none_ok _ _ _ c.from_residual.ensures.1
 
-pub returns-in_err-page-clause-ready : goal.returns-in_err-page-clause-ready
-returns-in_err-page-clause-ready g c = none_ok _ _ _ c.from_residual.ensures.1
-
-pub returns-in_err-page-clause-tells : goal.returns-in_err-page-clause-tells
-returns-in_err-page-clause-tells g c = error_tells _ _ _ c.from_residual.ensures.1 c.in_err-page.ensures.tells
+pub returns-in_err-page-clause-store : goal.returns-in_err-page-clause-store
+returns-in_err-page-clause-store g c =
+    sets_in_handed _ _ _ _ _ c.from_residual.ensures.1 (record {
+      ready = tt;
+      tells = c.in_err-page.ensures.store.tells;
+      sets = search rules;
+    })
 
 pub returns-in_err-put-clause-page : goal.returns-in_err-put-clause-page
 returns-in_err-put-clause-page g c = none_ok _ _ _ c.from_residual-in_err-put.ensures.1
@@ -97,8 +95,12 @@ returns-in_err-put-clause-page g c = none_ok _ _ _ c.from_residual-in_err-put.en
 pub returns-in_err-put-clause-done : goal.returns-in_err-put-clause-done
 returns-in_err-put-clause-done g c = none_ok _ _ _ c.from_residual-in_err-put.ensures.1
 
-pub returns-in_err-put-clause-ready : goal.returns-in_err-put-clause-ready
-returns-in_err-put-clause-ready g c = none_ok _ _ _ c.from_residual-in_err-put.ensures.1
-
-pub returns-in_err-put-clause-tells : goal.returns-in_err-put-clause-tells
-returns-in_err-put-clause-tells g c = error_tells _ _ _ c.from_residual-in_err-put.ensures.1 c.in_err-put.ensures.tells
+pub returns-in_err-put-clause-store : goal.returns-in_err-put-clause-store
+returns-in_err-put-clause-store g c =
+    sets_in_handed _ _ _ _ _ c.from_residual-in_err-put.ensures.1 (record {
+      ready = tt;
+      sets = let fits : length c.args.chains.now - c.loop-left.left + 1 ≤ length c.args.chains.now =
+    omega (arith, c.loop-left.invariant.within, c.loop-left-test.true) in
+    sets_then _ _ _ _ _ _ fits c.loop-left.invariant.sets c.put.ensures.store.sets;
+      tells = c.in_err-put.ensures.store.tells;
+    })

@@ -1,3 +1,4 @@
+use Rattle.std.proofs.Common.{rules}
 use Rattle.std.proofs.Common.{◌≡◌, ◌*◌, ℕ, List, slice_set, sym, ◌∙◌, ap₂, subst, refl, arith}
 use Rattle.nvm_board.specs.Facts.{address}
 use Rattle.undo_journal.specs.Memory.{current}
@@ -6,24 +7,20 @@ use Rattle.undo_journal.specs.laws.Calls.{sets_then, reads_sets}
 use Rattle.block_chain.specs.Changes.{Takes}
 use Rattle.block_chain.specs.declared.layout.TheConstants.{HEADER_PAGE}
 use Rattle.block_chain.proofs.Taking.{takes}
-use Rattle.undo_journal.specs.laws.Exits.{none_ok, error_tells}
+use Rattle.undo_journal.specs.laws.Exits.{none_ok}
+use Rattle.undo_journal.specs.laws.Told.{sets_in_handed}
 use Rattle.block_chain.proofs.free.take.Goals as goal
 use Rattle.nvm_board.specs.declared.board.TheConstants.{PAGE_WORDS}
 use Rattle.block_chain.specs.declared.layout.TheConstants.{FREE_HEAD_WORD}
 
-pub returns-in_err-put-clause-sets : goal.returns-in_err-put-clause-sets
-returns-in_err-put-clause-sets g c =
-    sets_then 0 1 2 _ _ _ (omega arith) (reads_sets _ _ _ c.first_free.ensures.reads) c.put.ensures.sets
-
-pub returns-in_err-put-2-clause-sets : goal.returns-in_err-put-2-clause-sets
-returns-in_err-put-2-clause-sets g c =
-    sets_then 1 1 2 _ _ _ (omega arith) (sets_then 0 1 1 _ _ _ (omega arith)
-    (reads_sets _ _ _ c.first_free.ensures.reads) c.put.ensures.sets) c.put-2.ensures.sets
-
-pub returns-clause-sets : goal.returns-clause-sets
-returns-clause-sets g c =
-    sets_then 1 1 2 _ _ _ (omega arith) (sets_then 0 1 1 _ _ _ (omega arith)
-    (reads_sets _ _ _ c.first_free.ensures.reads) c.put.ensures.sets) c.put-2.ensures.sets
+pub returns-clause-store : goal.returns-clause-store
+returns-clause-store g c =
+    record {
+      sets = sets_then 1 1 2 _ _ _ (omega arith) (sets_then 0 1 1 _ _ _ (omega arith)
+    (reads_sets _ _ _ c.first_free.ensures.store.only) c.put.ensures.store.sets) c.put-2.ensures.store.sets;
+      ready = search rules;
+      tells = search rules;
+    }
 
 pub returns-clause-done : goal.returns-clause-done
 returns-clause-done g c =
@@ -31,7 +28,7 @@ returns-clause-done g c =
     let chain = c.in_ok-chain.chain in
     let rest = c.in_ok-chain.rest in
     let found = c.in_ok-chain.ensures.found in
-    let read = c.first_free.ensures.reads.reads.keeps.current_words in
+    let read = c.first_free.ensures.store.only.reads.keeps.current_words in
     let first : current (memory_of c.put.new.txn) ≡ slice_set m (address chain.last 0) 0 =
     let at : PAGE_WORDS * chain.last ≡ address chain.last 0 = omega arith in
     c.in_ok-put.ensures.done ∙ ap₂ (λ (l : List ℕ) (k : ℕ). slice_set l k 0) read at in
@@ -48,27 +45,33 @@ returns-clause-done g c =
 pub returns-in_err-chain-clause-done : goal.returns-in_err-chain-clause-done
 returns-in_err-chain-clause-done g c = none_ok _ _ _ c.from_residual.ensures.1
 
-pub returns-in_err-chain-clause-ready : goal.returns-in_err-chain-clause-ready
-returns-in_err-chain-clause-ready g c = none_ok _ _ _ c.from_residual.ensures.1
-
-pub returns-in_err-chain-clause-tells : goal.returns-in_err-chain-clause-tells
-returns-in_err-chain-clause-tells g c = error_tells _ _ _ c.from_residual.ensures.1 c.in_err-chain.ensures.tells
+pub returns-in_err-chain-clause-store : goal.returns-in_err-chain-clause-store
+returns-in_err-chain-clause-store g c =
+    sets_in_handed _ _ _ _ _ c.from_residual.ensures.1 (record {
+      ready = tt;
+      tells = c.in_err-chain.ensures.store.tells;
+      sets = search rules;
+    })
 
 pub returns-in_err-put-clause-done : goal.returns-in_err-put-clause-done
 returns-in_err-put-clause-done g c = none_ok _ _ _ c.from_residual-in_err-put.ensures.1
 
-pub returns-in_err-put-clause-ready : goal.returns-in_err-put-clause-ready
-returns-in_err-put-clause-ready g c = none_ok _ _ _ c.from_residual-in_err-put.ensures.1
-
-pub returns-in_err-put-clause-tells : goal.returns-in_err-put-clause-tells
-returns-in_err-put-clause-tells g c = error_tells _ _ _ c.from_residual-in_err-put.ensures.1 c.in_err-put.ensures.tells
+pub returns-in_err-put-clause-store : goal.returns-in_err-put-clause-store
+returns-in_err-put-clause-store g c =
+    sets_in_handed _ _ _ _ _ c.from_residual-in_err-put.ensures.1 (record {
+      ready = tt;
+      sets = sets_then 0 1 2 _ _ _ (omega arith) (reads_sets _ _ _ c.first_free.ensures.store.only) c.put.ensures.store.sets;
+      tells = c.in_err-put.ensures.store.tells;
+    })
 
 pub returns-in_err-put-2-clause-done : goal.returns-in_err-put-2-clause-done
 returns-in_err-put-2-clause-done g c = none_ok _ _ _ c.from_residual-in_err-put-2.ensures.1
 
-pub returns-in_err-put-2-clause-ready : goal.returns-in_err-put-2-clause-ready
-returns-in_err-put-2-clause-ready g c = none_ok _ _ _ c.from_residual-in_err-put-2.ensures.1
-
-pub returns-in_err-put-2-clause-tells : goal.returns-in_err-put-2-clause-tells
-returns-in_err-put-2-clause-tells g c =
-    error_tells _ _ _ c.from_residual-in_err-put-2.ensures.1 c.in_err-put-2.ensures.tells
+pub returns-in_err-put-2-clause-store : goal.returns-in_err-put-2-clause-store
+returns-in_err-put-2-clause-store g c =
+    sets_in_handed _ _ _ _ _ c.from_residual-in_err-put-2.ensures.1 (record {
+      ready = tt;
+      sets = sets_then 1 1 2 _ _ _ (omega arith) (sets_then 0 1 1 _ _ _ (omega arith)
+    (reads_sets _ _ _ c.first_free.ensures.store.only) c.put.ensures.store.sets) c.put-2.ensures.store.sets;
+      tells = c.in_err-put-2.ensures.store.tells;
+    })

@@ -1,3 +1,4 @@
+use Rattle.std.proofs.Common.{rules}
 use Rattle.std.proofs.Common.{◌≡◌, ◌+◌, ◌/◌, ◌%◌, ◌<◌, ℕ, List, length, slice_index, sym, ◌∙◌, ap, ap₂, subst}
 use Rattle.std.proofs.Common.{arith}
 use Rattle.undo_journal.specs.Memory.{committed}
@@ -7,7 +8,8 @@ use Rattle.block_chain.specs.Words.{word, word_bytes, IsBlock}
 use Rattle.block_chain.specs.Chains.{chain_of}
 use Rattle.block_chain.specs.laws.Chains.{leads_block}
 use Rattle.block_chain.specs.laws.Bytes.{content_word, leads_blocks, index-bytes_of}
-use Rattle.undo_journal.specs.laws.Exits.{none_ok, error_tells}
+use Rattle.undo_journal.specs.laws.Exits.{none_ok}
+use Rattle.undo_journal.specs.laws.Told.{reads_handed, reads_on}
 use Rattle.block_chain.proofs.reading.byte_at.Goals as goal
 
 pub read_word-requires-clause-block : goal.read_word-requires-clause-block
@@ -27,7 +29,7 @@ returns-clause-byte g c =
     let place : offset / BLOCK_BYTES ≡ offset / 4 / BLOCK_WORDS = omega arith in
     let page : c.in_ok-page.page ≡ slice_index ps (offset / 4 / BLOCK_WORDS) =
     c.in_ok-page.ensures.page ∙ ap (slice_index ps) place in
-    let words = c.block_at.ensures.reads.keeps.committed_words in
+    let words = c.block_at.ensures.store.only.keeps.committed_words in
     let read : c.in_ok-word.word ≡ content_word m ps (offset / 4) =
     c.in_ok-word.ensures.word ∙ ap₂ (λ (l : List ℕ) (q : ℕ). word l q (1 + offset / 4 % BLOCK_WORDS)) words page in
     let byte : c.from.result ≡ offset % 4 = c.from.ensures in
@@ -39,24 +41,21 @@ returns-clause-byte g c =
 pub returns-in_err-page-clause-byte : goal.returns-in_err-page-clause-byte
 returns-in_err-page-clause-byte g c = none_ok _ _ _ c.from_residual.ensures.1
 
-pub returns-in_err-page-clause-ready : goal.returns-in_err-page-clause-ready
-returns-in_err-page-clause-ready g c = none_ok _ _ _ c.from_residual.ensures.1
-
-pub returns-in_err-page-clause-tells : goal.returns-in_err-page-clause-tells
-returns-in_err-page-clause-tells g c = error_tells _ _ _ c.from_residual.ensures.1 c.in_err-page.ensures.tells
+pub returns-in_err-page-clause-store : goal.returns-in_err-page-clause-store
+returns-in_err-page-clause-store g c =
+    reads_handed _ _ _ _ c.from_residual.ensures.1 c.in_err-page.ensures.store
 
 pub returns-in_err-word-clause-byte : goal.returns-in_err-word-clause-byte
 returns-in_err-word-clause-byte g c = none_ok _ _ _ c.from_residual-in_err-word.ensures.1
 
-pub returns-in_err-word-clause-ready : goal.returns-in_err-word-clause-ready
-returns-in_err-word-clause-ready g c = none_ok _ _ _ c.from_residual-in_err-word.ensures.1
+pub returns-in_err-word-clause-store : goal.returns-in_err-word-clause-store
+returns-in_err-word-clause-store g c =
+    reads_handed _ _ _ _ c.from_residual-in_err-word.ensures.1 (reads_on _ _ _ _ c.block_at.ensures.store.only c.in_err-word.ensures.store)
 
-pub returns-in_err-word-clause-tells : goal.returns-in_err-word-clause-tells
-returns-in_err-word-clause-tells g c =
-    error_tells _ _ _ c.from_residual-in_err-word.ensures.1 c.in_err-word.ensures.tells
-
-pub returns-in_err-word-clause-reads : goal.returns-in_err-word-clause-reads
-returns-in_err-word-clause-reads g c = reads_then _ _ _ c.block_at.ensures.reads c.read_word.ensures.reads
-
-pub returns-clause-reads : goal.returns-clause-reads
-returns-clause-reads g c = reads_then _ _ _ c.block_at.ensures.reads c.read_word.ensures.reads
+pub returns-clause-store : goal.returns-clause-store
+returns-clause-store g c =
+    record {
+      only = reads_then _ _ _ c.block_at.ensures.store.only c.read_word.ensures.store.only;
+      ready = search rules;
+      tells = search rules;
+    }

@@ -7,7 +7,8 @@ use Rattle.block_chain.specs.Chains.{chain_of}
 use Rattle.block_chain.specs.laws.Laying.{pages_most}
 use Rattle.undo_journal.specs.laws.Calls.{reads_then}
 use Rattle.block_chain.proofs.Runs.{block_here, appended, some_bytes}
-use Rattle.undo_journal.specs.laws.Exits.{none_ok, error_tells}
+use Rattle.undo_journal.specs.laws.Exits.{none_ok}
+use Rattle.undo_journal.specs.laws.Told.{reads_handed, reads_on}
 use Rattle.block_chain.proofs.reading.read_bytes.Goals as goal
 
 pub overflow_add-end : goal.overflow_add-end
@@ -44,7 +45,7 @@ read_link-requires-clause-block g c =
     let ps = chain_of m c.args.chain in
     let at = c.loop-at.at in
     let some = c.min-some.result in
-    let same = c.read_word.ensures.reads.keeps.committed_words ∙ c.loop-at.invariant.reads.keeps.committed_words in
+    let same = c.read_word.ensures.store.only.keeps.committed_words ∙ c.loop-at.invariant.reads.keeps.committed_words in
     let here = block_here m ps _ c.args.offset c.args.count c.requires.ready.usable.committed_size c.requires.leads
     c.requires.within
     _ at _ same c.loop-at.invariant.page c.loop-at-test.true in
@@ -56,7 +57,7 @@ read_link-requires-clause-small g c =
     let ps = chain_of m c.args.chain in
     let at = c.loop-at.at in
     let some = c.min-some.result in
-    let same = c.read_word.ensures.reads.keeps.committed_words ∙ c.loop-at.invariant.reads.keeps.committed_words in
+    let same = c.read_word.ensures.store.only.keeps.committed_words ∙ c.loop-at.invariant.reads.keeps.committed_words in
     let here = block_here m ps _ c.args.offset c.args.count c.requires.ready.usable.committed_size c.requires.leads
     c.requires.within
     _ at _ same c.loop-at.invariant.page c.loop-at-test.true in
@@ -94,7 +95,7 @@ loop-at-preserved-then-at-eq0 g c =
     let ps = chain_of m c.args.chain in
     let at = c.loop-at.at in
     let some = c.min-some.result in
-    let same = c.read_word.ensures.reads.keeps.committed_words ∙ c.loop-at.invariant.reads.keeps.committed_words in
+    let same = c.read_word.ensures.store.only.keeps.committed_words ∙ c.loop-at.invariant.reads.keeps.committed_words in
     let here = block_here m ps _ c.args.offset c.args.count c.requires.ready.usable.committed_size c.requires.leads
     c.requires.within
     _ at _ same c.loop-at.invariant.page c.loop-at-test.true in
@@ -118,9 +119,9 @@ loop-at-preserved-then-at-eq0 g c =
     record {
       from = omega (arith, c.loop-at.invariant.from);
       within = omega (arith, high, c.loop-at-test.true);
-      ready = c.in_ok-page-2.ensures.ready;
+      ready = c.in_ok-page-2.ensures.store.ready;
       reads = reads_then _ _ _ c.loop-at.invariant.reads
-          (reads_then _ _ _ c.read_word.ensures.reads c.read_link.ensures.reads);
+          (reads_then _ _ _ c.read_word.ensures.store.only c.read_link.ensures.store.only);
       page = c.in_ok-page-2.ensures.page ∙ here.next ∙ ap (slice_index ps) turn;
       so_far = so_far;
     }
@@ -151,8 +152,8 @@ loop-at-preserved g c =
     record {
       from = omega (arith, c.loop-at.invariant.from);
       within = omega (arith, high, c.loop-at-test.true);
-      ready = c.in_ok-word.ensures.ready;
-      reads = reads_then _ _ _ c.loop-at.invariant.reads c.read_word.ensures.reads;
+      ready = c.in_ok-word.ensures.store.ready;
+      reads = reads_then _ _ _ c.loop-at.invariant.reads c.read_word.ensures.store.only;
       page = c.loop-at.invariant.page ∙ ap (slice_index ps) turn;
       so_far = so_far;
     }
@@ -165,48 +166,33 @@ returns-clause-any_exit g c =
     c.requires.within
     _ _ _ c.loop-at.invariant.within c.loop-at.invariant.so_far
 
-pub returns-in_err-word-clause-reads : goal.returns-in_err-word-clause-reads
-returns-in_err-word-clause-reads g c = reads_then _ _ _ c.loop-at.invariant.reads c.read_word.ensures.reads
-
-pub returns-in_err-page-2-clause-reads : goal.returns-in_err-page-2-clause-reads
-returns-in_err-page-2-clause-reads g c =
-    reads_then _ _ _ (reads_then _ _ _ c.loop-at.invariant.reads c.read_word.ensures.reads) c.read_link.ensures.reads
-
 pub returns-in_err-page-clause-done : goal.returns-in_err-page-clause-done
 returns-in_err-page-clause-done g c = none_ok _ _ _ c.from_residual.ensures.1
 
-pub returns-in_err-page-clause-ready : goal.returns-in_err-page-clause-ready
-returns-in_err-page-clause-ready g c = none_ok _ _ _ c.from_residual.ensures.1
-
-pub returns-in_err-page-clause-tells : goal.returns-in_err-page-clause-tells
-returns-in_err-page-clause-tells g c = error_tells _ _ _ c.from_residual.ensures.1 c.in_err-page.ensures.tells
+pub returns-in_err-page-clause-store : goal.returns-in_err-page-clause-store
+returns-in_err-page-clause-store g c =
+    reads_handed _ _ _ _ c.from_residual.ensures.1 c.in_err-page.ensures.store
 
 pub returns-in_err-word-clause-done : goal.returns-in_err-word-clause-done
 returns-in_err-word-clause-done g c = none_ok _ _ _ c.from_residual-in_err-word.ensures.1
 
-pub returns-in_err-word-clause-ready : goal.returns-in_err-word-clause-ready
-returns-in_err-word-clause-ready g c = none_ok _ _ _ c.from_residual-in_err-word.ensures.1
-
-pub returns-in_err-word-clause-tells : goal.returns-in_err-word-clause-tells
-returns-in_err-word-clause-tells g c =
-    error_tells _ _ _ c.from_residual-in_err-word.ensures.1 c.in_err-word.ensures.tells
+pub returns-in_err-word-clause-store : goal.returns-in_err-word-clause-store
+returns-in_err-word-clause-store g c =
+    reads_handed _ _ _ _ c.from_residual-in_err-word.ensures.1 (reads_on _ _ _ _ c.loop-at.invariant.reads c.in_err-word.ensures.store)
 
 pub returns-in_err-page-2-clause-done : goal.returns-in_err-page-2-clause-done
 returns-in_err-page-2-clause-done g c = none_ok _ _ _ c.from_residual-in_err-page-2.ensures.1
 
-pub returns-in_err-page-2-clause-ready : goal.returns-in_err-page-2-clause-ready
-returns-in_err-page-2-clause-ready g c = none_ok _ _ _ c.from_residual-in_err-page-2.ensures.1
-
-pub returns-in_err-page-2-clause-tells : goal.returns-in_err-page-2-clause-tells
-returns-in_err-page-2-clause-tells g c =
-    error_tells _ _ _ c.from_residual-in_err-page-2.ensures.1 c.in_err-page-2.ensures.tells
+pub returns-in_err-page-2-clause-store : goal.returns-in_err-page-2-clause-store
+returns-in_err-page-2-clause-store g c =
+    reads_handed _ _ _ _ c.from_residual-in_err-page-2.ensures.1 (reads_on _ _ _ _ (reads_then _ _ _ c.loop-at.invariant.reads c.read_word.ensures.store.only) c.in_err-page-2.ensures.store)
 
 pub loop-at-init : goal.loop-at-init
 loop-at-init g c = record {
   from = omega arith;
   within = omega arith;
-  ready = c.in_ok-page.ensures.ready;
-  reads = c.block_at.ensures.reads;
+  ready = c.in_ok-page.ensures.store.ready;
+  reads = c.block_at.ensures.store.only;
   page = c.in_ok-page.ensures.page;
   so_far = search rules;
 }

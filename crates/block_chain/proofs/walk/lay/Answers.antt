@@ -14,7 +14,8 @@ use Rattle.block_chain.specs.laws.Laying.{AreLaidSoFar, laid_free, laid_more, la
 use Rattle.block_chain.specs.laws.Laying.{laid_short}
 use Rattle.block_chain.specs.laws.Laying.{pages_most}
 use Rattle.block_chain.proofs.walk.lay.Given.{Over}
-use Rattle.undo_journal.specs.laws.Exits.{none_ok, error_tells}
+use Rattle.undo_journal.specs.laws.Exits.{none_ok}
+use Rattle.undo_journal.specs.laws.Told.{reads_handed, reads_on}
 use Rattle.block_chain.proofs.walk.lay.Goals as goal
 use Rattle.block_chain.proofs.walk.lay.Goals.{then-not-is_extent-via-then-not-is_extent}
 use Rattle.block_chain.proofs.walk.lay.Goals.{then-not-is_extent-via-else-not-is_extent+then-walked-blocks}
@@ -36,7 +37,7 @@ head_is g c = c.in_ok-head.ensures.word ∙ ap (λ (l : List ℕ). slice_index l
 
 pub returns-in-None-clause-found : goal.returns-in-None-clause-found
 returns-in-None-clause-found g c = λ laid.
-    let read = c.read.ensures.keeps.committed_words in
+    let read = c.read.ensures.reads.keeps.committed_words in
     let stale = c.in_ok-walked.ensures.stale c.in-None.is in
     let family : List ℕ → Type 0 = λ l. IsFresh l (replicate BLOCKS 0) c.in_ok-head.head in
     let from : ℕ → Type 0 = λ p. IsFresh (committed c.args.store.now) (replicate BLOCKS 0) p in
@@ -54,7 +55,7 @@ returns-in-None-clause-found g c = λ laid.
 pub loop-i-init : goal.loop-i-init
 loop-i-init g c =
     let m = committed c.args.store.now in
-    let read = c.read.ensures.keeps.committed_words in
+    let read = c.read.ensures.reads.keeps.committed_words in
     let head : c.in_ok-head.head ≡ slice_index m FREE_HEAD =
     c.in_ok-head.ensures.word ∙ ap (λ (l : List ℕ). slice_index l FREE_HEAD) (sym c.requires.ready.same) in
     let walked = some_at _ _ _ c.in-Some.is c.in_ok-walked.ensures.walked in
@@ -65,7 +66,7 @@ loop-i-init g c =
     let most = pages_most m BLOCKS (slice_index m FREE_HEAD) in
     record {
       ready = search rules;
-      reads = reads_then _ _ _ c.read.ensures.reads c.walk_over.ensures.reads;
+      reads = reads_then _ _ _ c.read.ensures.reads c.walk_over.ensures.store.only;
       most = (let b = w.blocks in omega (arith, b, most));
       free = w.blocks;
       so_far = laid_free m c.args.extents.now
@@ -101,7 +102,7 @@ loop-i-preserved g c =
     let count : ℕ → Type 0 = λ k. AreLaidSoFar m es (i + 1) c.walk_over-in-loop-i.new.seen (c.loop-i.blocks + k) in
     record {
       ready = search rules;
-      reads = reads_then _ _ _ c.loop-i.invariant.reads c.walk_over-in-loop-i.ensures.reads;
+      reads = reads_then _ _ _ c.loop-i.invariant.reads c.walk_over-in-loop-i.ensures.store.only;
       most = (let fits : c.in-Some-2.walked.blocks ≤ BLOCKS - c.loop-i.blocks = search rules in
           let b = c.loop-i.invariant.most in omega (arith, fits, b));
       free = c.loop-i.invariant.free;
@@ -172,47 +173,47 @@ returns-then-not-is_extent-clause-found g c = λ laid.
           omega (arith, over, fits, blocks))
     ]
 
-pub returns-in_err-walked-2-clause-reads : goal.returns-in_err-walked-2-clause-reads
-returns-in_err-walked-2-clause-reads g c = reads_then _ _ _ c.loop-i.invariant.reads c.walk_over-in-loop-i.ensures.reads
-
 pub returns-in_err-head-clause-found : goal.returns-in_err-head-clause-found
 returns-in_err-head-clause-found g c = none_ok _ _ _ c.from_residual.ensures.1
 
-pub returns-in_err-head-clause-ready : goal.returns-in_err-head-clause-ready
-returns-in_err-head-clause-ready g c = none_ok _ _ _ c.from_residual.ensures.1
-
-pub returns-in_err-head-clause-tells : goal.returns-in_err-head-clause-tells
-returns-in_err-head-clause-tells g c = error_tells _ _ _ c.from_residual.ensures.1 c.in_err-head.ensures.tells
+pub returns-in_err-head-clause-store : goal.returns-in_err-head-clause-store
+returns-in_err-head-clause-store g c =
+    reads_handed _ _ _ _ c.from_residual.ensures.1 (c.in_err-head.ensures.store c.requires.ready.idle)
 
 pub returns-in_err-walked-clause-found : goal.returns-in_err-walked-clause-found
 returns-in_err-walked-clause-found g c = none_ok _ _ _ c.from_residual-in_err-walked.ensures.1
 
-pub returns-in_err-walked-clause-ready : goal.returns-in_err-walked-clause-ready
-returns-in_err-walked-clause-ready g c = none_ok _ _ _ c.from_residual-in_err-walked.ensures.1
-
-pub returns-in_err-walked-clause-tells : goal.returns-in_err-walked-clause-tells
-returns-in_err-walked-clause-tells g c =
-    error_tells _ _ _ c.from_residual-in_err-walked.ensures.1 c.in_err-walked.ensures.tells
-
 pub returns-in_err-walked-2-clause-found : goal.returns-in_err-walked-2-clause-found
 returns-in_err-walked-2-clause-found g c = none_ok _ _ _ c.from_residual-in_err-walked-2.ensures.1
 
-pub returns-in_err-walked-2-clause-ready : goal.returns-in_err-walked-2-clause-ready
-returns-in_err-walked-2-clause-ready g c = none_ok _ _ _ c.from_residual-in_err-walked-2.ensures.1
+pub returns-in_err-walked-2-clause-store : goal.returns-in_err-walked-2-clause-store
+returns-in_err-walked-2-clause-store g c =
+    reads_handed _ _ _ _ c.from_residual-in_err-walked-2.ensures.1 (reads_on _ _ _ _ c.loop-i.invariant.reads c.in_err-walked-2.ensures.store)
 
-pub returns-in_err-walked-2-clause-tells : goal.returns-in_err-walked-2-clause-tells
-returns-in_err-walked-2-clause-tells g c =
-    error_tells _ _ _ c.from_residual-in_err-walked-2.ensures.1 c.in_err-walked-2.ensures.tells
+pub returns-in_err-walked-clause-store : goal.returns-in_err-walked-clause-store
+returns-in_err-walked-clause-store g c =
+    reads_handed _ _ _ _ c.from_residual-in_err-walked.ensures.1 (reads_on _ _ _ _ c.read.ensures.reads c.in_err-walked.ensures.store)
 
-pub returns-in_err-walked-clause-reads : goal.returns-in_err-walked-clause-reads
-returns-in_err-walked-clause-reads g c = reads_then _ _ _ c.read.ensures.reads c.walk_over.ensures.reads
+pub returns-in-None-clause-store : goal.returns-in-None-clause-store
+returns-in-None-clause-store g c =
+    record {
+      only = reads_then _ _ _ c.read.ensures.reads c.walk_over.ensures.store.only;
+      ready = search rules;
+      tells = search rules;
+    }
 
-pub returns-in-None-clause-reads : goal.returns-in-None-clause-reads
-returns-in-None-clause-reads g c = reads_then _ _ _ c.read.ensures.reads c.walk_over.ensures.reads
+pub returns-in-None-2-clause-store : goal.returns-in-None-2-clause-store
+returns-in-None-2-clause-store g c =
+    record {
+      only = reads_then _ _ _ c.loop-i.invariant.reads c.walk_over-in-loop-i.ensures.store.only;
+      ready = search rules;
+      tells = search rules;
+    }
 
-pub returns-in-None-2-clause-reads : goal.returns-in-None-2-clause-reads
-returns-in-None-2-clause-reads g c = reads_then _ _ _ c.loop-i.invariant.reads c.walk_over-in-loop-i.ensures.reads
-
-pub returns-then-not-is_extent-clause-reads : goal.returns-then-not-is_extent-clause-reads
-returns-then-not-is_extent-clause-reads g c =
-    reads_then _ _ _ c.loop-i.invariant.reads c.walk_over-in-loop-i.ensures.reads
+pub returns-then-not-is_extent-clause-store : goal.returns-then-not-is_extent-clause-store
+returns-then-not-is_extent-clause-store g c =
+    record {
+      only = reads_then _ _ _ c.loop-i.invariant.reads c.walk_over-in-loop-i.ensures.store.only;
+      ready = search rules;
+      tells = search rules;
+    }

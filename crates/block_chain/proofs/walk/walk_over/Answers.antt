@@ -9,7 +9,8 @@ use Rattle.block_chain.specs.Words.{link, IsBlock}
 use Rattle.block_chain.specs.declared.layout.TheConstants.{BLOCKS, FIRST_BLOCK_PAGE}
 use Rattle.block_chain.specs.laws.Walking.{HasWalked, walked_none, walked_more, walked_all, walked_fresh}
 use Rattle.block_chain.specs.laws.Walking.{stale_long, stale_next, last_more, pages_zero}
-use Rattle.undo_journal.specs.laws.Exits.{none_ok, error_tells}
+use Rattle.undo_journal.specs.laws.Exits.{none_ok}
+use Rattle.undo_journal.specs.laws.Told.{reads_handed, reads_on}
 use Rattle.block_chain.proofs.walk.walk_over.Goals as goal
 use Rattle.block_chain.proofs.walk.walk_over.Goals.{then-loop-blocks-test+else-page-ne0, else-loop-blocks-test}
 use Rattle.nvm_board.specs.declared.board.TheConstants.{PAGE_WORDS}
@@ -92,12 +93,7 @@ returns-in_err-page-clause-walked g c = none_ok _ _ _ c.from_residual.ensures.1
 pub returns-in_err-page-clause-stale : goal.returns-in_err-page-clause-stale
 returns-in_err-page-clause-stale g c = none_ok _ _ _ c.from_residual.ensures.1
 
-pub returns-in_err-page-clause-ready : goal.returns-in_err-page-clause-ready
-returns-in_err-page-clause-ready g c = none_ok _ _ _ c.from_residual.ensures.1
-
-pub returns-in_err-page-clause-tells : goal.returns-in_err-page-clause-tells
-returns-in_err-page-clause-tells g c = error_tells _ _ _ c.from_residual.ensures.1 c.in_err-page.ensures.tells
-
-pub returns-in_err-page-clause-reads : goal.returns-in_err-page-clause-reads
-returns-in_err-page-clause-reads g c =
-    reads_then _ _ _ c.loop-blocks.invariant.reads c.read.ensures.reads
+pub returns-in_err-page-clause-store : goal.returns-in_err-page-clause-store
+returns-in_err-page-clause-store g c =
+    reads_handed _ _ _ _ c.from_residual.ensures.1 (reads_on _ _ _ _ c.loop-blocks.invariant.reads
+    (c.in_err-page.ensures.store c.loop-blocks.invariant.ready.idle))

@@ -5,7 +5,8 @@ use Rattle.undo_journal.specs.laws.Calls.{txn_reads_then}
 use Rattle.block_chain.specs.Chains.{chain}
 use Rattle.block_chain.specs.laws.Chains.{IsAt, at_block}
 use Rattle.block_chain.proofs.words.walk.Given.{Over}
-use Rattle.undo_journal.specs.laws.Exits.{none_ok, error_tells}
+use Rattle.undo_journal.specs.laws.Exits.{none_ok}
+use Rattle.undo_journal.specs.laws.Told.{reads_in_handed, reads_in_on}
 use Rattle.block_chain.proofs.words.walk.Goals as goal
 
 here : (g : Over) (c : goal.After-next-arg-1 g)
@@ -30,20 +31,14 @@ loop-i-preserved g c =
     let at = at_block _ _ _ _ _ _ c.loop-i.invariant.reads.reads.keeps.current_words c.requires.leads
     c.loop-i.invariant.place within in
     record {
-      ready = c.in_ok-page.ensures.ready;
-      reads = txn_reads_then _ _ _ c.loop-i.invariant.reads c.next.ensures.reads;
+      ready = c.in_ok-page.ensures.store.ready;
+      reads = txn_reads_then _ _ _ c.loop-i.invariant.reads c.next.ensures.store.only;
       place = c.in_ok-page.ensures.page ∙ at.next;
     }
 
 pub returns-in_err-page-clause-page : goal.returns-in_err-page-clause-page
 returns-in_err-page-clause-page g c = none_ok _ _ _ c.from_residual.ensures.1
 
-pub returns-in_err-page-clause-ready : goal.returns-in_err-page-clause-ready
-returns-in_err-page-clause-ready g c = none_ok _ _ _ c.from_residual.ensures.1
-
-pub returns-in_err-page-clause-tells : goal.returns-in_err-page-clause-tells
-returns-in_err-page-clause-tells g c = error_tells _ _ _ c.from_residual.ensures.1 c.in_err-page.ensures.tells
-
-pub returns-in_err-page-clause-reads : goal.returns-in_err-page-clause-reads
-returns-in_err-page-clause-reads g c =
-    txn_reads_then _ _ _ c.loop-i.invariant.reads c.next.ensures.reads
+pub returns-in_err-page-clause-store : goal.returns-in_err-page-clause-store
+returns-in_err-page-clause-store g c =
+    reads_in_handed _ _ _ _ c.from_residual.ensures.1 (reads_in_on _ _ _ _ c.loop-i.invariant.reads c.in_err-page.ensures.store)

@@ -27,7 +27,7 @@ returns-in_err-file-clause-serves g c =
     subst (λ (r : Result Sw StoreErr). Serves (read_binary c.args.target c.args.offset c.args.expected) old x
     c.find_file.new.store x c.args.text.now.items r) (sym (err-is _ _ c.from_residual.ensures.1))
     (stopped (read_binary c.args.target c.args.offset c.args.expected) old x c.find_file.new.store c.requires.card x
-    c.args.text.now.items c.in_err-file.field-0.0 c.find_file.ensures.reads c.in_err-file.ensures.tells
+    c.args.text.now.items c.in_err-file.field-0.0 c.find_file.ensures.store.only c.in_err-file.ensures.store.tells
     (omega (arith, none)))
 
 pub returns-in-Err-clause-serves : goal.returns-in-Err-clause-serves
@@ -38,7 +38,7 @@ returns-in-Err-clause-serves g c =
     subst (λ (l : List ℕ). Serves (read_binary c.args.target c.args.offset c.args.expected) old x c.find_file.new.store x l
     (Ok c.in-Err.refusal)) (sym c.requires.empty)
     (declined (read_binary c.args.target c.args.offset c.args.expected) old x c.find_file.new.store c.requires.card
-    c.in-Err.refusal c.find_file.ensures.reads c.in_ok-file.ensures.ready c.requires.current
+    c.in-Err.refusal c.find_file.ensures.store.only c.in_ok-file.ensures.store.ready c.requires.current
     (read-refused (card_in old) (session_in old x) c.args.target c.args.offset c.args.expected c.in-Err.refusal refused))
 
 pub read-requires : goal.read-requires
@@ -46,9 +46,9 @@ read-requires g c =
     let found = said_ok _ _ c.in_ok-file.field-0 c.in-Ok.file c.in-Ok.is c.in_ok-file.ensures.found in
     let stands = found-body (committed c.args.store.now) c.requires.ready.usable.committed_size c.requires.card
     c.args.current.now c.args.target Read c.in-Ok.file.number c.in-Ok.file.entry found c.body_of-body.result
-    c.body_of-body.ensures (committed c.find_file.new.store) c.find_file.ensures.reads.keeps.committed_words in
+    c.body_of-body.ensures (committed c.find_file.new.store) c.find_file.ensures.store.only.keeps.committed_words in
     let most = asked-most c.args.expected (omega arith) in
-    (lit< tt, (c.in_ok-file.ensures.ready, (stands, omega (arith, most, c.most_of.ensures))))
+    (lit< tt, (c.in_ok-file.ensures.store.ready, (stands, omega (arith, most, c.most_of.ensures))))
 
 pub returns-in-Err-Refused-clause-serves : goal.returns-in-Err-Refused-clause-serves
 returns-in-Err-Refused-clause-serves g c =
@@ -61,11 +61,11 @@ returns-in-Err-Refused-clause-serves g c =
     let refusal = c.in-Err-Refused.refusal in
     let past = refused-decides _ refusal c.in-Err-Refused.field-0-is _ c.in-Err-Refused.ensures.refusal in
     let kept = refused-says _ refusal c.in-Err-Refused.field-0-is _ c.in-Err-Refused.ensures.refused in
-    let told = (declined request old x mid c.requires.card refusal c.find_file.ensures.reads c.in_ok-file.ensures.ready
+    let told = (declined request old x mid c.requires.card refusal c.find_file.ensures.store.only c.in_ok-file.ensures.store.ready
     c.requires.current
     (found-read-past (committed old) c.requires.ready.usable.committed_size c.requires.card x c.args.target
     c.in-Ok.file.number c.in-Ok.file.entry found c.body_of-body.result c.body_of-body.ensures (committed mid)
-    c.find_file.ensures.reads.keeps.committed_words c.args.offset c.args.expected refusal past)) in
+    c.find_file.ensures.store.only.keeps.committed_words c.args.offset c.args.expected refusal past)) in
     subst (λ (status : Sw). Serves request old x new x c.read.new.bytes.items (Ok status)) (sym c.in-Err-Refused.refusal-is)
     (subst (λ (m : Memory). Serves request old x m x c.read.new.bytes.items (Ok refusal)) (sym kept.1)
     (subst (λ (l : List ℕ). Serves request old x mid x l (Ok refusal)) (sym kept.0) told))
@@ -80,8 +80,8 @@ returns-in-Err-Store-clause-serves g c =
     subst (λ (e : StoreErr). Serves request old x c.read.new.store x c.read.new.bytes.items (Err e))
     (sym c.in-Err-Store.e-is)
     (stopped request old x c.read.new.store c.requires.card x c.read.new.bytes.items c.in-Err-Store.e
-    (reads_then old c.find_file.new.store c.read.new.store c.find_file.ensures.reads c.read.ensures.reads)
-    (c.in-Err-Store.ensures.tells ∙ ap (λ (b : BodyErr). failure (Some b)) c.in-Err-Store.field-0-is) room)
+    (reads_then old c.find_file.new.store c.read.new.store c.find_file.ensures.store.only c.read.ensures.store.only)
+    (c.in-Err-Store.ensures.store.tells ∙ ap (λ (b : BodyErr). failure (Some b)) c.in-Err-Store.field-0-is) room)
 
 pub returns-clause-serves : goal.returns-clause-serves
 returns-clause-serves g c =
@@ -102,11 +102,11 @@ returns-clause-serves g c =
     let current = sym c.naming.ensures in
     let status = sym (c.read_status.ensures ∙ ap (λ (n : ℕ). end_status n c.args.expected) c.len.ensures.value) in
     answered request old x new c.requires.card c.naming.result text c.read_status.result
-    (reads_then old mid new c.find_file.ensures.reads c.read.ensures.reads) c.in-Ok-read.ensures.ready
+    (reads_then old mid new c.find_file.ensures.store.only c.read.ensures.store.only) c.in-Ok-read.ensures.store.ready
     (subst (λ (y : Current). IsCurrent (table_in old) y) current
     (named-current (committed old) x e found.file c.args.target c.requires.current))
     room
     (found-read (committed old) c.requires.ready.usable.committed_size c.requires.card x c.args.target e
     c.in-Ok.file.entry found body c.body_of-body.ensures (committed mid)
-    c.find_file.ensures.reads.keeps.committed_words c.args.offset c.args.expected c.in-Ok-read.ensures.refusal text given
+    c.find_file.ensures.store.only.keeps.committed_words c.args.offset c.args.expected c.in-Ok-read.ensures.refusal text given
     ∙ (λ i. outcome (card_in old) (session_in old (current i)) text (status i)))

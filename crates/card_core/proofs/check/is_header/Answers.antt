@@ -4,19 +4,27 @@ use Rattle.undo_journal.specs.laws.Calls.{reads_then}
 use Rattle.block_chain.specs.Words.{word}
 use Rattle.card_core.specs.declared.layout.TheConstants.{HEADER_PAGE, STATE_WORD}
 use Rattle.card_core.proofs.Headers.{by_mark, by_state}
+use Rattle.undo_journal.specs.laws.Told.{reads_handed, reads_on, reads_so_far}
 use Rattle.card_core.proofs.check.is_header.Goals as goal
 
-pub returns-in_err-state-clause-reads : goal.returns-in_err-state-clause-reads
-returns-in_err-state-clause-reads g c =
-    reads_then c.args.store.now c.read.new.self c.read-2.new.self c.read.ensures.reads c.read-2.ensures.reads
+pub returns-in_err-mark-clause-store : goal.returns-in_err-mark-clause-store
+returns-in_err-mark-clause-store g c =
+    reads_handed _ _ _ _ c.from_residual.ensures.1 (c.in_err-mark.ensures.store c.requires.ready.idle)
 
-pub returns-then-mark-eq-MARK-clause-reads : goal.returns-then-mark-eq-MARK-clause-reads
-returns-then-mark-eq-MARK-clause-reads g c =
-    reads_then c.args.store.now c.read.new.self c.read-2.new.self c.read.ensures.reads c.read-2.ensures.reads
+pub returns-in_err-state-clause-store : goal.returns-in_err-state-clause-store
+returns-in_err-state-clause-store g c =
+    reads_handed _ _ _ _ c.from_residual-in_err-state.ensures.1 (reads_on _ _ _ _ c.read.ensures.reads
+    (c.in_err-state.ensures.store (c.in_ok-mark.ensures.store c.requires.ready.idle).ready.idle))
 
-pub returns-else-mark-eq-MARK-clause-reads : goal.returns-else-mark-eq-MARK-clause-reads
-returns-else-mark-eq-MARK-clause-reads g c =
-    reads_then c.args.store.now c.read.new.self c.read-2.new.self c.read.ensures.reads c.read-2.ensures.reads
+pub returns-then-mark-eq-MARK-clause-store : goal.returns-then-mark-eq-MARK-clause-store
+returns-then-mark-eq-MARK-clause-store g c =
+    reads_so_far _ _ (reads_then _ _ _ c.read.ensures.reads c.read-2.ensures.reads)
+    (c.in_ok-state.ensures.store (c.in_ok-mark.ensures.store c.requires.ready.idle).ready.idle).ready
+
+pub returns-else-mark-eq-MARK-clause-store : goal.returns-else-mark-eq-MARK-clause-store
+returns-else-mark-eq-MARK-clause-store g c =
+    reads_so_far _ _ (reads_then _ _ _ c.read.ensures.reads c.read-2.ensures.reads)
+    (c.in_ok-state.ensures.store (c.in_ok-mark.ensures.store c.requires.ready.idle).ready.idle).ready
 
 pub returns-then-mark-eq-MARK-clause-header : goal.returns-then-mark-eq-MARK-clause-header
 returns-then-mark-eq-MARK-clause-header g c =
@@ -26,7 +34,7 @@ returns-then-mark-eq-MARK-clause-header g c =
     let state : c.in_ok-state.state ≡ word m HEADER_PAGE STATE_WORD =
     c.in_ok-state.ensures.word
     ∙ ap (λ (l : List ℕ). word l HEADER_PAGE STATE_WORD)
-    (c.read.ensures.keeps.current_words ∙ sym c.requires.ready.same) in
+    (c.read.ensures.reads.keeps.current_words ∙ sym c.requires.ready.same) in
     by_state m c.in_ok-mark.mark mark c.in_ok-state.state state c.if-mark-eq-MARK.true
 
 pub returns-else-mark-eq-MARK-clause-header : goal.returns-else-mark-eq-MARK-clause-header

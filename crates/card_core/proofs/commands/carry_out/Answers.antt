@@ -18,7 +18,7 @@ returns-in_err-is_in_use-clause-carries g c =
     c.from_residual.ensures.1))
     (subst (λ (text : List ℕ). CarriesOut bytes old x new x text (Err c.in_err-is_in_use.field-0.0)) (sym c.requires.empty)
     (failed-reading bytes old new x c.requires.card c.requires.current x c.in_err-is_in_use.field-0.0
-    c.in_err-is_in_use.ensures.reads c.in_err-is_in_use.ensures.tells))
+    c.in_err-is_in_use.ensures.store.only c.in_err-is_in_use.ensures.store.tells))
 
 pub returns-then-not-branch-clause-carries : goal.returns-then-not-branch-clause-carries
 returns-then-not-branch-clause-carries g c =
@@ -29,7 +29,7 @@ returns-then-not-branch-clause-carries g c =
     let ended = sym c.in_ok-is_in_use.ensures.in_use ∙ c.if-not-branch.true in
     subst (λ (text : List ℕ). CarriesOut bytes old x new x text (Ok CONDITIONS_NOT_SATISFIED)) (sym c.requires.empty)
     (use-ended bytes old new x c.requires.card c.requires.current (request_of c.in-Ok.command) c.in-Ok.ensures.asked ended
-    c.in_ok-is_in_use.ensures.reads c.in_ok-is_in_use.ensures.ready)
+    c.in_ok-is_in_use.ensures.store.only c.in_ok-is_in_use.ensures.store.ready)
 
 pub returns-clause-carries : goal.returns-clause-carries
 returns-clause-carries g c =
@@ -40,4 +40,4 @@ returns-clause-carries g c =
     carried c.args.command.now old c.serve.new.store x c.serve.new.current c.serve.new.text.items c.serve.result request
     c.in-Ok.ensures.asked in_use
     (serves-after request old c.is_in_use.new.store c.serve.new.store x c.serve.new.current c.serve.new.text.items
-    c.serve.result c.in_ok-is_in_use.ensures.reads c.serve.ensures.serves)
+    c.serve.result c.in_ok-is_in_use.ensures.store.only c.serve.ensures.serves)

@@ -41,7 +41,7 @@ returns-in_err-permits-clause-serves g c =
     subst (λ (r : Result Sw StoreErr). Serves request old x c.permits_in.new.store x [] r)
     (sym (err-is _ _ c.from_residual.ensures.1))
     (stopped request old x c.permits_in.new.store c.requires.card x [] c.in_err-permits.field-0.0
-    c.permits_in.ensures.reads c.in_err-permits.ensures.tells (omega arith))
+    c.permits_in.ensures.store.only c.in_err-permits.ensures.store.tells (omega arith))
 
 pub returns-then-permits-clause-serves : goal.returns-then-permits-clause-serves
 returns-then-permits-clause-serves g c =
@@ -49,14 +49,14 @@ returns-then-permits-clause-serves g c =
     let m = committed old in
     let x = c.args.current.now in
     let mid = c.permits_in.new.store in
-    let reads = c.permits_in.ensures.reads in
+    let reads = c.permits_in.ensures.store.only in
     let same = reads.keeps.committed_words in
     let request = create_file c.args.template.now in
     let permits_is : c.in_ok-permits.permits ≡ permits_of (card_in old) (session_in old x) =
     c.in_ok-permits.ensures.permits in
     let barred : is_barred (card_in old).tree (path_of (table m) x.df) ≡ true =
     sym (ap (λ (p : Permits). p.barred) permits_is) ∙ c.if-permits.true in
-    declined request old x mid c.requires.card CONDITIONS_NOT_SATISFIED reads c.in_ok-permits.ensures.ready c.requires.current
+    declined request old x mid c.requires.card CONDITIONS_NOT_SATISFIED reads c.in_ok-permits.ensures.store.ready c.requires.current
     (create-barred (card_in old) (session_in old x) c.args.template.now barred)
 
 pub returns-in_default-clause-serves : goal.returns-in_default-clause-serves
@@ -65,14 +65,14 @@ returns-in_default-clause-serves g c =
     let m = committed old in
     let x = c.args.current.now in
     let mid = c.permits_in.new.store in
-    let reads = c.permits_in.ensures.reads in
+    let reads = c.permits_in.ensures.store.only in
     let same = reads.keeps.committed_words in
     let request = create_file c.args.template.now in
     let permits_is : c.in_ok-permits.permits ≡ permits_of (card_in old) (session_in old x) =
     c.in_ok-permits.ensures.permits in
     let unbarred : is_barred (card_in old).tree (path_of (table m) x.df) ≡ false =
     sym (ap (λ (p : Permits). p.barred) permits_is) ∙ c.if-permits.false in
-    declined request old x mid c.requires.card WRONG_DATA reads c.in_ok-permits.ensures.ready c.requires.current
+    declined request old x mid c.requires.card WRONG_DATA reads c.in_ok-permits.ensures.store.ready c.requires.current
     (unread-step (card_in old) (session_in old x) c.args.template.now unbarred c.parse.result (sym c.parse.ensures.value)
     c.in_default.not-Ok)
 
@@ -82,7 +82,7 @@ returns-then-not-allows-clause-serves g c =
     let m = committed old in
     let x = c.args.current.now in
     let mid = c.permits_in.new.store in
-    let reads = c.permits_in.ensures.reads in
+    let reads = c.permits_in.ensures.store.only in
     let same = reads.keeps.committed_words in
     let request = create_file c.args.template.now in
     let permits_is : c.in_ok-permits.permits ≡ permits_of (card_in old) (session_in old x) =
@@ -95,7 +95,7 @@ returns-then-not-allows-clause-serves g c =
     c.allows.ensures ∙ ap (λ (p : Permits). permits_kind p fcp.kind) permits_is
     ∙ permits-is (card_in old) (session_in old x) fcp.kind in
     let no : c.allows.result ≡ false = search rules in
-    declined request old x mid c.requires.card ACCESS_DENIED reads c.in_ok-permits.ensures.ready c.requires.current
+    declined request old x mid c.requires.card ACCESS_DENIED reads c.in_ok-permits.ensures.store.ready c.requires.current
     (create-denied (card_in old) (session_in old x) c.args.template.now unbarred fcp told (sym allows ∙ no))
 
 pub returns-in_err-entry-clause-serves : goal.returns-in_err-entry-clause-serves
@@ -104,7 +104,7 @@ returns-in_err-entry-clause-serves g c =
     let m = committed old in
     let x = c.args.current.now in
     let mid = c.permits_in.new.store in
-    let reads = c.permits_in.ensures.reads in
+    let reads = c.permits_in.ensures.store.only in
     let same = reads.keeps.committed_words in
     let request = create_file c.args.template.now in
     let permits_is : c.in_ok-permits.permits ≡ permits_of (card_in old) (session_in old x) =
@@ -122,10 +122,10 @@ returns-in_err-entry-clause-serves g c =
     let after = committed c.create.new.store in
     let exit = subst (λ (l : List ℕ). SameTree l after ⊎ CreatesNew l x.df fcp after) same c.create.ensures.any_exit in
     let new = c.create.new.store in
-    let reports = reports_then old mid new reads.reports c.create.ensures.reports in
-    let spends = c.create.ensures.writes.writes in
+    let reports = reports_then old mid new reads.reports c.create.ensures.store.reports in
+    let spends = c.create.ensures.store.writes.writes in
     let spent = reads.board.writes in
-    let compares = compared-none _ mid.facts new.facts c.create.ensures.writes ∙ reads-compared old mid reads in
+    let compares = compared-none _ mid.facts new.facts c.create.ensures.store.writes ∙ reads-compared old mid reads in
     let idle = subst (λ (l : List ℕ). (status : Sw)
     → creation_refusal (tree_of l) (path_of (table l) x.df) fcp ≡ Some status → OnlyReads mid new) same
     c.create.ensures.idle in
@@ -135,7 +135,7 @@ returns-in_err-entry-clause-serves g c =
     let card = any-stands m sized c.requires.card x c.args.template.now fcp told unbarred permitted after exit in
     subst (λ (r : Result Sw StoreErr). Serves request old x new x [] r)
     (sym (err-is _ _ c.from_residual-in_err-entry.ensures.1))
-    (torn request old x new x [] c.in_err-entry.field-0.0 stage card reports c.in_err-entry.ensures.tells
+    (torn request old x new x [] c.in_err-entry.field-0.0 stage card reports c.in_err-entry.ensures.store.tells
     (omega arith) (omega (arith, spends, spent)) compares)
 
 pub returns-in-Refused-clause-serves : goal.returns-in-Refused-clause-serves
@@ -144,7 +144,7 @@ returns-in-Refused-clause-serves g c =
     let m = committed old in
     let x = c.args.current.now in
     let mid = c.permits_in.new.store in
-    let reads = c.permits_in.ensures.reads in
+    let reads = c.permits_in.ensures.store.only in
     let same = reads.keeps.committed_words in
     let request = create_file c.args.template.now in
     let permits_is : c.in_ok-permits.permits ≡ permits_of (card_in old) (session_in old x) =
@@ -166,7 +166,7 @@ returns-in-Refused-clause-serves g c =
     c.in_ok-entry.ensures.done in
     let reason = sym (ap (λ (l : List ℕ). creation_refusal (tree_of l) (path_of (table l) x.df) fcp) same) ∙ refuses.0 in
     let all = reads_then old mid new reads (c.create.ensures.idle c.in-Refused.refusal refuses.0) in
-    declined request old x new c.requires.card c.in-Refused.refusal all c.in_ok-entry.ensures.ready c.requires.current
+    declined request old x new c.requires.card c.in-Refused.refusal all c.in_ok-entry.ensures.store.ready c.requires.current
     (refused-step m sized c.requires.card x c.args.template.now fcp told unbarred permitted
     c.in-Refused.refusal reason)
 
@@ -176,7 +176,7 @@ read_entry-requires-clause-within g c =
     let m = committed old in
     let x = c.args.current.now in
     let mid = c.permits_in.new.store in
-    let reads = c.permits_in.ensures.reads in
+    let reads = c.permits_in.ensures.store.only in
     let same = reads.keeps.committed_words in
     let request = create_file c.args.template.now in
     let permits_is : c.in_ok-permits.permits ≡ permits_of (card_in old) (session_in old x) =
@@ -203,7 +203,7 @@ returns-in_err-entry-2-clause-serves g c =
     let m = committed old in
     let x = c.args.current.now in
     let mid = c.permits_in.new.store in
-    let reads = c.permits_in.ensures.reads in
+    let reads = c.permits_in.ensures.store.only in
     let same = reads.keeps.committed_words in
     let request = create_file c.args.template.now in
     let permits_is : c.in_ok-permits.permits ≡ permits_of (card_in old) (session_in old x) =
@@ -224,14 +224,14 @@ returns-in_err-entry-2-clause-serves g c =
     (subst (λ (l : List ℕ). TellsCreation l x.df fcp c.in_ok-entry.field-0 after) same c.in_ok-entry.ensures.done) in
     let wrote = c.create.new.store in
     let new = c.read_entry.new.store in
-    let more = c.read_entry.ensures.reads in
+    let more = c.read_entry.ensures.store.only in
     let still = more.keeps.committed_words in
     let reports = reports_then old mid new reads.reports
-    (reports_then mid wrote new c.create.ensures.reports more.reports) in
-    let spends = c.create.ensures.writes.writes in
+    (reports_then mid wrote new c.create.ensures.store.reports more.reports) in
+    let spends = c.create.ensures.store.writes.writes in
     let spent = reads.board.writes in
     let spent_more = more.board.writes in
-    let compares = reads-compared wrote new more ∙ compared-none _ mid.facts wrote.facts c.create.ensures.writes
+    let compares = reads-compared wrote new more ∙ compared-none _ mid.facts wrote.facts c.create.ensures.store.writes
     ∙ reads-compared old mid reads in
     let stage = subst (λ (l : List ℕ). IsDoing (card_in old) (session_in old x) request (card_of l)) (sym still)
     (any-creating m sized c.requires.card x c.args.template.now fcp told unbarred permitted made.none after (inr made.creates)) in
@@ -240,7 +240,7 @@ returns-in_err-entry-2-clause-serves g c =
     c.in-Created.blocks after made) in
     subst (λ (r : Result Sw StoreErr). Serves request old x new x [] r)
     (sym (err-is _ _ c.from_residual-in_err-entry-2.ensures.1))
-    (torn request old x new x [] c.in_err-entry-2.field-0.0 (inr stage) card reports c.in_err-entry-2.ensures.tells
+    (torn request old x new x [] c.in_err-entry-2.field-0.0 (inr stage) card reports c.in_err-entry-2.ensures.store.tells
     (omega arith) (omega (arith, spends, spent, spent_more)) compares)
 
 pub overflow_sub-free : goal.overflow_sub-free
@@ -249,7 +249,7 @@ overflow_sub-free g c =
     let m = committed old in
     let x = c.args.current.now in
     let mid = c.permits_in.new.store in
-    let reads = c.permits_in.ensures.reads in
+    let reads = c.permits_in.ensures.store.only in
     let same = reads.keeps.committed_words in
     let request = create_file c.args.template.now in
     let permits_is : c.in_ok-permits.permits ≡ permits_of (card_in old) (session_in old x) =
@@ -277,7 +277,7 @@ overflow_sub-free-2 g c =
     let m = committed old in
     let x = c.args.current.now in
     let mid = c.permits_in.new.store in
-    let reads = c.permits_in.ensures.reads in
+    let reads = c.permits_in.ensures.store.only in
     let same = reads.keeps.committed_words in
     let request = create_file c.args.template.now in
     let permits_is : c.in_ok-permits.permits ≡ permits_of (card_in old) (session_in old x) =
@@ -305,7 +305,7 @@ returns-clause-serves g c =
     let m = committed old in
     let x = c.args.current.now in
     let mid = c.permits_in.new.store in
-    let reads = c.permits_in.ensures.reads in
+    let reads = c.permits_in.ensures.store.only in
     let same = reads.keeps.committed_words in
     let request = create_file c.args.template.now in
     let permits_is : c.in_ok-permits.permits ≡ permits_of (card_in old) (session_in old x) =
@@ -326,14 +326,14 @@ returns-clause-serves g c =
     (subst (λ (l : List ℕ). TellsCreation l x.df fcp c.in_ok-entry.field-0 after) same c.in_ok-entry.ensures.done) in
     let wrote = c.create.new.store in
     let new = c.read_entry.new.store in
-    let more = c.read_entry.ensures.reads in
+    let more = c.read_entry.ensures.store.only in
     let still = more.keeps.committed_words in
     let reports = reports_then old mid new reads.reports
-    (reports_then mid wrote new c.create.ensures.reports more.reports) in
-    let spends = c.create.ensures.writes.writes in
+    (reports_then mid wrote new c.create.ensures.store.reports more.reports) in
+    let spends = c.create.ensures.store.writes.writes in
     let spent = reads.board.writes in
     let spent_more = more.board.writes in
-    let compares = reads-compared wrote new more ∙ compared-none _ mid.facts wrote.facts c.create.ensures.writes
+    let compares = reads-compared wrote new more ∙ compared-none _ mid.facts wrote.facts c.create.ensures.store.writes
     ∙ reads-compared old mid reads in
     let stage = subst (λ (l : List ℕ). IsDoing (card_in old) (session_in old x) request (card_of l)) (sym still)
     (any-creating m sized c.requires.card x c.args.template.now fcp told unbarred permitted made.none after (inr made.creates)) in
@@ -350,7 +350,7 @@ returns-clause-serves g c =
     let done = created-step m sized c.requires.card x c.args.template.now fcp told unbarred permitted e
     c.in-Created.blocks after made
     ∙ (λ i. outcome (card_of (sym still i)) (session_of (table (sym still i)) (current i)) [] DONE) in
-    written request old x new c.at.result [] DONE (inr stage) card reports c.in_ok-entry-2.ensures.ready at_file
+    written request old x new c.at.result [] DONE (inr stage) card reports c.in_ok-entry-2.ensures.store.ready at_file
     (omega arith) (omega (arith, spends, spent, spent_more)) compares done
 
 pub returns-clause-space : goal.returns-clause-space
@@ -359,7 +359,7 @@ returns-clause-space g c =
     let m = committed old in
     let x = c.args.current.now in
     let mid = c.permits_in.new.store in
-    let reads = c.permits_in.ensures.reads in
+    let reads = c.permits_in.ensures.store.only in
     let same = reads.keeps.committed_words in
     let request = create_file c.args.template.now in
     let permits_is : c.in_ok-permits.permits ≡ permits_of (card_in old) (session_in old x) =
@@ -378,7 +378,7 @@ returns-clause-space g c =
     let exit = subst (λ (l : List ℕ). SameTree l after ⊎ CreatesNew l x.df fcp after) same c.create.ensures.any_exit in
     let made = subst (λ (creation : Creation). TellsCreation m x.df fcp creation after) c.in-Created.is
     (subst (λ (l : List ℕ). TellsCreation l x.df fcp c.in_ok-entry.field-0 after) same c.in_ok-entry.ensures.done) in
-    let still = c.read_entry.ensures.reads.keeps.committed_words in
+    let still = c.read_entry.ensures.store.only.keeps.committed_words in
     created-space m m after c.args.free.now (record { blocks = c.in-Created.blocks; entries = 1 }) c.requires.space refl
     made.space
     ∙ ap (λ (l : List ℕ). free_space (card_of l).tree) (sym still)

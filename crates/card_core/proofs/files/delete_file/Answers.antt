@@ -22,7 +22,7 @@ returns-in_err-file-clause-serves g c =
     subst (λ (r : Result Sw StoreErr). Serves (delete_file c.args.subject) old x c.find_deletable.new.store x [] r)
     (sym (err-is _ _ c.from_residual.ensures.1))
     (stopped (delete_file c.args.subject) old x c.find_deletable.new.store c.requires.card x [] c.in_err-file.field-0.0
-    c.find_deletable.ensures.reads c.in_err-file.ensures.tells (omega arith))
+    c.find_deletable.ensures.store.only c.in_err-file.ensures.store.tells (omega arith))
 
 pub returns-in-Err-clause-serves : goal.returns-in-Err-clause-serves
 returns-in-Err-clause-serves g c =
@@ -30,7 +30,7 @@ returns-in-Err-clause-serves g c =
     let x = c.args.current.now in
     let refused = said_err _ _ c.in_ok-file.field-0 c.in-Err.refusal c.in-Err.is c.in_ok-file.ensures.found in
     declined (delete_file c.args.subject) old x c.find_deletable.new.store c.requires.card c.in-Err.refusal
-    c.find_deletable.ensures.reads c.in_ok-file.ensures.ready c.requires.current
+    c.find_deletable.ensures.store.only c.in_ok-file.ensures.store.ready c.requires.current
     (delete-refused (card_in old) (session_in old x) c.args.subject c.in-Err.refusal refused)
 
 pub returns-in_err-freed-clause-serves : goal.returns-in_err-freed-clause-serves
@@ -42,20 +42,20 @@ returns-in_err-freed-clause-serves g c =
     let mid = c.find_deletable.new.store in
     let new = c.delete.new.store in
     let found = said_ok _ _ c.in_ok-file.field-0 c.in-Ok.file c.in-Ok.is c.in_ok-file.ensures.found in
-    let same = c.find_deletable.ensures.reads.keeps.committed_words in
-    let reads = c.find_deletable.ensures.reads in
+    let same = c.find_deletable.ensures.store.only.keeps.committed_words in
+    let reads = c.find_deletable.ensures.store.only in
     let request = delete_file c.args.subject in
     let stage = any-deleting m sized c.requires.card x c.args.subject c.in-Ok.file.number found.below found.used
     found.place (committed mid) (committed new) same found.unrefused c.delete.ensures.any_exit in
     let card = any-stands m sized c.requires.card x c.args.subject c.in-Ok.file.number found.below found.used
     found.place (committed mid) (committed new) same c.delete.ensures.any_exit in
-    let reports = reports_then old mid new reads.reports c.delete.ensures.reports in
-    let spends = c.delete.ensures.writes.writes in
+    let reports = reports_then old mid new reads.reports c.delete.ensures.store.reports in
+    let spends = c.delete.ensures.store.writes.writes in
     let spent = reads.board.writes in
-    let compares = compared-none _ mid.facts new.facts c.delete.ensures.writes ∙ reads-compared old mid reads in
+    let compares = compared-none _ mid.facts new.facts c.delete.ensures.store.writes ∙ reads-compared old mid reads in
     subst (λ (r : Result Sw StoreErr). Serves request old x new x [] r)
     (sym (err-is _ _ c.from_residual-in_err-freed.ensures.1))
-    (torn request old x new x [] c.in_err-freed.field-0.0 (inr stage) card reports c.in_err-freed.ensures.tells
+    (torn request old x new x [] c.in_err-freed.field-0.0 (inr stage) card reports c.in_err-freed.ensures.store.tells
     (omega arith) (omega (arith, spends, spent)) compares)
 
 pub returns-clause-serves : goal.returns-clause-serves
@@ -67,17 +67,17 @@ returns-clause-serves g c =
     let mid = c.find_deletable.new.store in
     let new = c.delete.new.store in
     let found = said_ok _ _ c.in_ok-file.field-0 c.in-Ok.file c.in-Ok.is c.in_ok-file.ensures.found in
-    let same = c.find_deletable.ensures.reads.keeps.committed_words in
-    let reads = c.find_deletable.ensures.reads in
+    let same = c.find_deletable.ensures.store.only.keeps.committed_words in
+    let reads = c.find_deletable.ensures.store.only in
     let request = delete_file c.args.subject in
     let stage = any-deleting m sized c.requires.card x c.args.subject c.in-Ok.file.number found.below found.used
     found.place (committed mid) (committed new) same found.unrefused c.delete.ensures.any_exit in
     let card = any-stands m sized c.requires.card x c.args.subject c.in-Ok.file.number found.below found.used
     found.place (committed mid) (committed new) same c.delete.ensures.any_exit in
-    let reports = reports_then old mid new reads.reports c.delete.ensures.reports in
-    let spends = c.delete.ensures.writes.writes in
+    let reports = reports_then old mid new reads.reports c.delete.ensures.store.reports in
+    let spends = c.delete.ensures.store.writes.writes in
     let spent = reads.board.writes in
-    let compares = compared-none _ mid.facts new.facts c.delete.ensures.writes ∙ reads-compared old mid reads in
+    let compares = compared-none _ mid.facts new.facts c.delete.ensures.store.writes ∙ reads-compared old mid reads in
     let done = done-step m sized c.requires.card x c.args.subject c.in-Ok.file.number found.below found.used
     found.place (committed mid) (committed new) same found.unrefused c.in_ok-freed.ensures.done in
     let current = done-current m sized c.requires.card x c.args.subject c.in-Ok.file.number found.below found.used
@@ -85,11 +85,11 @@ returns-clause-serves g c =
     c.in_ok-freed.ensures.done in
     subst (λ (y : Entry). Serves request old x new (record x { df = y.parent; ef = None; pointer = None }) [] (Ok DONE))
     (sym found.entry_is)
-    (written request old x new _ [] DONE (inr stage) card reports c.in_ok-freed.ensures.ready current (omega arith)
+    (written request old x new _ [] DONE (inr stage) card reports c.in_ok-freed.ensures.store.ready current (omega arith)
     (omega (arith, spends, spent)) compares done)
 
 pub returns-clause-space : goal.returns-clause-space
 returns-clause-space g c =
     let m = committed c.args.store.now in
     deleted-space m (committed c.find_deletable.new.store) (committed c.delete.new.store) c.args.free.now
-    c.in_ok-freed.freed c.requires.space c.find_deletable.ensures.reads.keeps.committed_words c.in_ok-freed.ensures.space
+    c.in_ok-freed.freed c.requires.space c.find_deletable.ensures.store.only.keeps.committed_words c.in_ok-freed.ensures.space

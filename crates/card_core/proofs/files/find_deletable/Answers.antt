@@ -11,6 +11,7 @@ use Rattle.card_core.specs.Working.{session_of}
 use Rattle.card_core.proofs.Deletions.{deletable, deletion_verdict, file-verdict}
 use Rattle.card_core.proofs.FileSteps.{delete-master}
 use Rattle.card_core.proofs.Readings.{card_still, current_still, used_still}
+use Rattle.undo_journal.specs.laws.Told.{reads_on, reads_handed}
 use Rattle.card_core.proofs.files.find_deletable.Goals as goal
 
 pub returns-then-number-eq0-clause-found : goal.returns-then-number-eq0-clause-found
@@ -28,33 +29,28 @@ read_entry-requires-clause-within g c =
     used_small m c.in-Some.number
     (subst (λ (o : Option ℕ). IfSome o (IsUsed (table m))) c.in-Some.is c.in_ok-number.ensures.used)
 
-pub returns-in_err-refusal-clause-reads : goal.returns-in_err-refusal-clause-reads
-returns-in_err-refusal-clause-reads g c =
-    reads_then c.args.store.now c.find_subject.new.store c.deletion_refusal.new.store c.find_subject.ensures.reads
-    (reads_then c.find_subject.new.store c.read_entry.new.store c.deletion_refusal.new.store c.read_entry.ensures.reads
-    c.deletion_refusal.ensures.reads)
+pub returns-in_err-refusal-clause-store : goal.returns-in_err-refusal-clause-store
+returns-in_err-refusal-clause-store g c =
+    reads_handed _ _ _ _ c.from_residual-in_err-refusal.ensures.1
+    (reads_on _ _ _ _ (reads_then _ _ _ c.find_subject.ensures.store.only c.read_entry.ensures.store.only) c.in_err-refusal.ensures.store)
 
-pub returns-in-Some-2-clause-reads : goal.returns-in-Some-2-clause-reads
-returns-in-Some-2-clause-reads g c =
-    reads_then c.args.store.now c.find_subject.new.store c.deletion_refusal.new.store c.find_subject.ensures.reads
-    (reads_then c.find_subject.new.store c.read_entry.new.store c.deletion_refusal.new.store c.read_entry.ensures.reads
-    c.deletion_refusal.ensures.reads)
+pub returns-in-Some-2-clause-store : goal.returns-in-Some-2-clause-store
+returns-in-Some-2-clause-store g c =
+    reads_on _ _ _ _ (reads_then _ _ _ c.find_subject.ensures.store.only c.read_entry.ensures.store.only) c.in_ok-refusal.ensures.store
 
-pub returns-in-None-clause-reads : goal.returns-in-None-clause-reads
-returns-in-None-clause-reads g c =
-    reads_then c.args.store.now c.find_subject.new.store c.deletion_refusal.new.store c.find_subject.ensures.reads
-    (reads_then c.find_subject.new.store c.read_entry.new.store c.deletion_refusal.new.store c.read_entry.ensures.reads
-    c.deletion_refusal.ensures.reads)
+pub returns-in-None-clause-store : goal.returns-in-None-clause-store
+returns-in-None-clause-store g c =
+    reads_on _ _ _ _ (reads_then _ _ _ c.find_subject.ensures.store.only c.read_entry.ensures.store.only) c.in_ok-refusal.ensures.store
 
 pub deletion_refusal-requires-clause-above : goal.deletion_refusal-requires-clause-above
 deletion_refusal-requires-clause-above g c =
     let m = committed c.args.store.now in
     let e = c.in-Some.number in
     let used = subst (λ (o : Option ℕ). IfSome o (IsUsed (table m))) c.in-Some.is c.in_ok-number.ensures.used in
-    let same = c.read_entry.ensures.reads.keeps.committed_words ∙ c.find_subject.ensures.reads.keeps.committed_words in
+    let same = c.read_entry.ensures.store.only.keeps.committed_words ∙ c.find_subject.ensures.store.only.keeps.committed_words in
     let entry : c.in_ok-entry.entry ≡ entry_in (table m) e =
     c.in_ok-entry.ensures.entry ∙ ap (λ (l : List ℕ). entry_in (table l) e)
-    c.find_subject.ensures.reads.keeps.committed_words in
+    c.find_subject.ensures.store.only.keeps.committed_words in
     let below : 0 < e = omega arith in
     subst (λ (l : List ℕ). IsUsed (table l) c.in_ok-entry.entry.parent) (sym same)
     (subst (λ (y : Entry). IsUsed (table m) y.parent) (sym entry)
@@ -68,10 +64,10 @@ returns-in-Some-2-clause-found g c =
     let e = c.in-Some.number in
     let used = subst (λ (o : Option ℕ). IfSome o (IsUsed t)) c.in-Some.is c.in_ok-number.ensures.used in
     let place = c.in_ok-number.ensures.found ∙ ap (λ (o : Option ℕ). option_map (path_of t) o) c.in-Some.is in
-    let same = c.read_entry.ensures.reads.keeps.committed_words ∙ c.find_subject.ensures.reads.keeps.committed_words in
+    let same = c.read_entry.ensures.store.only.keeps.committed_words ∙ c.find_subject.ensures.store.only.keeps.committed_words in
     let entry : c.in_ok-entry.entry ≡ entry_in t e =
     c.in_ok-entry.ensures.entry ∙ ap (λ (l : List ℕ). entry_in (table l) e)
-    c.find_subject.ensures.reads.keeps.committed_words in
+    c.find_subject.ensures.store.only.keeps.committed_words in
     let below : 0 < e = omega arith in
     file-verdict m c.requires.ready.usable.committed_size c.requires.card x c.args.subject e below used place
     ∙ ap (λ (y : Entry). deletion_verdict m x e y.parent) (sym entry)
@@ -86,10 +82,10 @@ returns-in-None-clause-found g c =
     let e = c.in-Some.number in
     let used = subst (λ (o : Option ℕ). IfSome o (IsUsed t)) c.in-Some.is c.in_ok-number.ensures.used in
     let place = c.in_ok-number.ensures.found ∙ ap (λ (o : Option ℕ). option_map (path_of t) o) c.in-Some.is in
-    let same = c.read_entry.ensures.reads.keeps.committed_words ∙ c.find_subject.ensures.reads.keeps.committed_words in
+    let same = c.read_entry.ensures.store.only.keeps.committed_words ∙ c.find_subject.ensures.store.only.keeps.committed_words in
     let entry : c.in_ok-entry.entry ≡ entry_in t e =
     c.in_ok-entry.ensures.entry ∙ ap (λ (l : List ℕ). entry_in (table l) e)
-    c.find_subject.ensures.reads.keeps.committed_words in
+    c.find_subject.ensures.store.only.keeps.committed_words in
     let below : 0 < e = omega arith in
     deletable m c.requires.ready.usable.committed_size c.requires.card x c.args.subject e below used place
     (file-verdict m c.requires.ready.usable.committed_size c.requires.card x c.args.subject e below used place
@@ -98,24 +94,25 @@ returns-in-None-clause-found g c =
     ∙ sym c.in_ok-refusal.ensures.found ∙ c.in-None.is)
     c.in_ok-entry.entry entry
 
-pub returns-in_err-entry-clause-reads : goal.returns-in_err-entry-clause-reads
-returns-in_err-entry-clause-reads g c =
-    reads_then c.args.store.now c.find_subject.new.store c.read_entry.new.store c.find_subject.ensures.reads c.read_entry.ensures.reads
+pub returns-in_err-entry-clause-store : goal.returns-in_err-entry-clause-store
+returns-in_err-entry-clause-store g c =
+    reads_handed _ _ _ _ c.from_residual-in_err-entry.ensures.1
+    (reads_on _ _ _ _ c.find_subject.ensures.store.only c.in_err-entry.ensures.store)
 
 pub deletion_refusal-requires-clause-card : goal.deletion_refusal-requires-clause-card
 deletion_refusal-requires-clause-card g c =
     card_still c.args.store.now c.read_entry.new.store
-    (reads_then c.args.store.now c.find_subject.new.store c.read_entry.new.store c.find_subject.ensures.reads c.read_entry.ensures.reads)
+    (reads_then c.args.store.now c.find_subject.new.store c.read_entry.new.store c.find_subject.ensures.store.only c.read_entry.ensures.store.only)
     c.requires.card
 
 pub deletion_refusal-requires-clause-current : goal.deletion_refusal-requires-clause-current
 deletion_refusal-requires-clause-current g c =
     current_still c.args.store.now c.read_entry.new.store c.args.current.now
-    (reads_then c.args.store.now c.find_subject.new.store c.read_entry.new.store c.find_subject.ensures.reads c.read_entry.ensures.reads)
+    (reads_then c.args.store.now c.find_subject.new.store c.read_entry.new.store c.find_subject.ensures.store.only c.read_entry.ensures.store.only)
     c.requires.current
 
 pub deletion_refusal-requires-clause-used : goal.deletion_refusal-requires-clause-used
 deletion_refusal-requires-clause-used g c =
     used_still c.args.store.now c.read_entry.new.store c.in-Some.number
-    (reads_then c.args.store.now c.find_subject.new.store c.read_entry.new.store c.find_subject.ensures.reads c.read_entry.ensures.reads)
+    (reads_then c.args.store.now c.find_subject.new.store c.read_entry.new.store c.find_subject.ensures.store.only c.read_entry.ensures.store.only)
     (subst (λ (o : Option ℕ). IfSome o (IsUsed (table (committed c.args.store.now)))) c.in-Some.is c.in_ok-number.ensures.used)

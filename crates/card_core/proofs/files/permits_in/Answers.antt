@@ -12,14 +12,14 @@ use Rattle.card_core.specs.Standing.{card_of}
 use Rattle.card_core.specs.Working.{session_of}
 use Rattle.card_core.proofs.Entries.{card-tree}
 use Rattle.card_core.proofs.Verified.{marks-are}
-use Rattle.card_core.proofs.Readings.{df_used, three_reads, tree_still, used_still}
+use Rattle.card_core.proofs.Readings.{df_used, tree_still, used_still}
+use Rattle.undo_journal.specs.laws.Told.{reads_on, reads_handed}
 use Rattle.card_core.proofs.files.permits_in.Goals as goal
 
-pub returns-in_err-elementary-clause-reads : goal.returns-in_err-elementary-clause-reads
-returns-in_err-elementary-clause-reads g c =
-    reads_then c.args.store.now c.is_barred.new.store c.is_allowed-2.new.store c.is_barred.ensures.reads
-    (reads_then c.is_barred.new.store c.is_allowed.new.store c.is_allowed-2.new.store c.is_allowed.ensures.reads
-    c.is_allowed-2.ensures.reads)
+pub returns-in_err-elementary-clause-store : goal.returns-in_err-elementary-clause-store
+returns-in_err-elementary-clause-store g c =
+    reads_handed _ _ _ _ c.from_residual-in_err-elementary.ensures.1
+    (reads_on _ _ _ _ (reads_then _ _ _ c.is_barred.ensures.store.only c.is_allowed.ensures.store.only) c.in_err-elementary.ensures.store)
 
 pub returns-clause-permits : goal.returns-clause-permits
 returns-clause-permits g c =
@@ -27,8 +27,8 @@ returns-clause-permits g c =
     let t = table m in
     let x = c.args.current.now in
     let marks = marks-are t x c.requires.current.marks in
-    let same = c.is_barred.ensures.reads.keeps.committed_words in
-    let still = c.is_allowed.ensures.reads.keeps.committed_words ∙ same in
+    let same = c.is_barred.ensures.store.only.keeps.committed_words in
+    let still = c.is_allowed.ensures.store.only.keeps.committed_words ∙ same in
     let shown = c.verified.ensures ∙ sym marks in
     let shown_again = c.verified-2.ensures ∙ sym marks in
     let barred : c.in_ok-barred.barred ≡ is_barred (card_of m).tree (path_of t x.df) =
@@ -51,29 +51,29 @@ is_barred-requires-clause-used g c =
 
 pub is_allowed-requires-clause-tree : goal.is_allowed-requires-clause-tree
 is_allowed-requires-clause-tree g c =
-    tree_still c.args.store.now c.is_barred.new.store c.is_barred.ensures.reads c.requires.card
+    tree_still c.args.store.now c.is_barred.new.store c.is_barred.ensures.store.only c.requires.card
 
 pub is_allowed-requires-clause-used : goal.is_allowed-requires-clause-used
 is_allowed-requires-clause-used g c =
-    used_still c.args.store.now c.is_barred.new.store c.args.current.now.df c.is_barred.ensures.reads (df_used
+    used_still c.args.store.now c.is_barred.new.store c.args.current.now.df c.is_barred.ensures.store.only (df_used
     (table (committed c.args.store.now)) c.args.current.now c.requires.current)
 
 pub is_allowed-requires-2-clause-tree : goal.is_allowed-requires-2-clause-tree
 is_allowed-requires-2-clause-tree g c =
     tree_still c.args.store.now c.is_allowed.new.store (reads_then c.args.store.now c.is_barred.new.store
-    c.is_allowed.new.store c.is_barred.ensures.reads c.is_allowed.ensures.reads) c.requires.card
+    c.is_allowed.new.store c.is_barred.ensures.store.only c.is_allowed.ensures.store.only) c.requires.card
 
 pub is_allowed-requires-2-clause-used : goal.is_allowed-requires-2-clause-used
 is_allowed-requires-2-clause-used g c =
     used_still c.args.store.now c.is_allowed.new.store c.args.current.now.df
-    (reads_then c.args.store.now c.is_barred.new.store c.is_allowed.new.store c.is_barred.ensures.reads
-    c.is_allowed.ensures.reads) (df_used (table (committed c.args.store.now)) c.args.current.now c.requires.current)
+    (reads_then c.args.store.now c.is_barred.new.store c.is_allowed.new.store c.is_barred.ensures.store.only
+    c.is_allowed.ensures.store.only) (df_used (table (committed c.args.store.now)) c.args.current.now c.requires.current)
 
-pub returns-in_err-dedicated-clause-reads : goal.returns-in_err-dedicated-clause-reads
-returns-in_err-dedicated-clause-reads g c =
-    reads_then c.args.store.now c.is_barred.new.store c.is_allowed.new.store c.is_barred.ensures.reads c.is_allowed.ensures.reads
+pub returns-in_err-dedicated-clause-store : goal.returns-in_err-dedicated-clause-store
+returns-in_err-dedicated-clause-store g c =
+    reads_handed _ _ _ _ c.from_residual-in_err-dedicated.ensures.1
+    (reads_on _ _ _ _ c.is_barred.ensures.store.only c.in_err-dedicated.ensures.store)
 
-pub returns-clause-reads : goal.returns-clause-reads
-returns-clause-reads g c =
-    three_reads c.args.store.now c.is_barred.new.store c.is_allowed.new.store c.is_allowed-2.new.store c.is_barred.ensures.reads
-    c.is_allowed.ensures.reads c.is_allowed-2.ensures.reads
+pub returns-clause-store : goal.returns-clause-store
+returns-clause-store g c =
+    reads_on _ _ _ _ (reads_then _ _ _ c.is_barred.ensures.store.only c.is_allowed.ensures.store.only) c.in_ok-elementary.ensures.store

@@ -35,7 +35,7 @@ returns-in-Err-clause-serves g c =
     let x = c.args.current.now in
     let barred = said_err _ _ c.in_ok-file.field-0 c.in-Err.refusal c.in-Err.is c.in_ok-file.ensures.found in
     declined-empty (increase c.args.amount.now c.args.expected) old x c.find_records.new.store c.args.text.now.items
-    c.requires.empty c.requires.card c.in-Err.refusal c.find_records.ensures.reads c.in_ok-file.ensures.ready
+    c.requires.empty c.requires.card c.in-Err.refusal c.find_records.ensures.store.only c.in_ok-file.ensures.store.ready
     c.requires.current
     (increase-barred (card_in old) (session_in old x) c.in-Err.refusal c.args.amount.now c.args.expected barred)
 
@@ -53,7 +53,7 @@ returns-then-is_too_long-clause-serves g c =
     let found = found-cyclic m x target.Current _ e c.in-Ok.file.body body c.cyclic-body.ensures said in
     let unrefused = said.named.unrefused in
     declined-empty (increase sent expected) old x c.find_records.new.store c.args.text.now.items
-    c.requires.empty c.requires.card WRONG_LENGTH c.find_records.ensures.reads c.in_ok-file.ensures.ready
+    c.requires.empty c.requires.card WRONG_LENGTH c.find_records.ensures.store.only c.in_ok-file.ensures.store.ready
     c.requires.current
     (increase-long m sized c.requires.card x _ e body found sent expected unrefused (sym c.is_too_long.ensures
     ∙ c.if-is_too_long.true))
@@ -72,19 +72,19 @@ raised-requires-clause-body g c =
     let found = found-cyclic m x target.Current _ e c.in-Ok.file.body body c.cyclic-body.ensures said in
     let unrefused = said.named.unrefused in
     let stands = (agree m sized c.requires.card x target.Current _ e (bodies.Cyclic body) found).stands in
-    subst (λ (l : List ℕ). IsCyclic l body) (sym c.find_records.ensures.reads.keeps.committed_words) stands
+    subst (λ (l : List ℕ). IsCyclic l body) (sym c.find_records.ensures.store.only.keeps.committed_words) stands
 
 pub returns-in_err-refused-clause-serves : goal.returns-in_err-refused-clause-serves
 returns-in_err-refused-clause-serves g c =
     let old = c.args.store.now in
     let x = c.args.current.now in
-    let reads = reads_then old c.find_records.new.store c.raised.new.store c.find_records.ensures.reads
-    c.raised.ensures.reads in
+    let reads = reads_then old c.find_records.new.store c.raised.new.store c.find_records.ensures.store.only
+    c.raised.ensures.store.only in
     let none_yet : length c.args.text.now.items ≡ 0 = ap (λ (l : List ℕ). length l) c.requires.empty in
     subst (λ (r : Result Sw StoreErr). Serves (increase c.args.amount.now c.args.expected) old x c.raised.new.store x
     c.args.text.now.items r) (sym (err-is _ _ c.from_residual-in_err-refused.ensures.1))
     (stopped (increase c.args.amount.now c.args.expected) old x c.raised.new.store c.requires.card x
-    c.args.text.now.items c.in_err-refused.field-0.0 reads c.in_err-refused.ensures.tells (omega (arith, none_yet)))
+    c.args.text.now.items c.in_err-refused.field-0.0 reads c.in_err-refused.ensures.store.tells (omega (arith, none_yet)))
 
 pub returns-in-Some-clause-serves : goal.returns-in-Some-clause-serves
 returns-in-Some-clause-serves g c =
@@ -99,15 +99,15 @@ returns-in-Some-clause-serves g c =
     let said = said_ok _ _ c.in_ok-file.field-0 c.in-Ok.file c.in-Ok.is c.in_ok-file.ensures.found in
     let found = found-cyclic m x target.Current _ e c.in-Ok.file.body body c.cyclic-body.ensures said in
     let unrefused = said.named.unrefused in
-    let same = c.find_records.ensures.reads.keeps.committed_words in
+    let same = c.find_records.ensures.store.only.keeps.committed_words in
     let long : ℕ = body.record_length in
     let short = sym c.is_too_long.ensures ∙ c.if-is_too_long.false in
-    let reads = reads_then old c.find_records.new.store c.raised.new.store c.find_records.ensures.reads
-    c.raised.ensures.reads in
+    let reads = reads_then old c.find_records.new.store c.raised.new.store c.find_records.ensures.store.only
+    c.raised.ensures.store.only in
     let is = ap (λ (l : List ℕ). unraised long (cyclic_records l body) sent) (sym same)
     ∙ c.in_ok-refused.ensures.refusal ∙ c.in-Some.is in
     declined-empty (increase sent expected) old x c.raised.new.store c.args.text.now.items c.requires.empty
-    c.requires.card c.in-Some.refusal reads c.in_ok-refused.ensures.ready c.requires.current
+    c.requires.card c.in-Some.refusal reads c.in_ok-refused.ensures.store.ready c.requires.current
     (increase-unraised m sized c.requires.card x _ e body found sent expected unrefused short c.in-Some.refusal is)
 
 pub answer_of-found-requires : goal.answer_of-found-requires
@@ -134,11 +134,11 @@ returns-then-asks_less-clause-serves g c =
     let said = said_ok _ _ c.in_ok-file.field-0 c.in-Ok.file c.in-Ok.is c.in_ok-file.ensures.found in
     let found = found-cyclic m x target.Current _ e c.in-Ok.file.body body c.cyclic-body.ensures said in
     let unrefused = said.named.unrefused in
-    let same = c.find_records.ensures.reads.keeps.committed_words in
+    let same = c.find_records.ensures.store.only.keeps.committed_words in
     let long : ℕ = body.record_length in
     let short = sym c.is_too_long.ensures ∙ c.if-is_too_long.false in
-    let reads = reads_then old c.find_records.new.store c.raised.new.store c.find_records.ensures.reads
-    c.raised.ensures.reads in
+    let reads = reads_then old c.find_records.new.store c.raised.new.store c.find_records.ensures.store.only
+    c.raised.ensures.store.only in
     let free = ap (λ (l : List ℕ). unraised long (cyclic_records l body) sent) (sym same)
     ∙ c.in_ok-refused.ensures.refusal ∙ c.in-None.is in
     let sum_is : c.raised.new.sum.items ≡ spelled long (raised_number (cyclic_records m body) sent) =
@@ -150,7 +150,7 @@ returns-then-asks_less-clause-serves g c =
     ∙ c.if-asks_less.true in
     let status = ap right_length (sym (c.deref-then-asks_less.ensures.0 ∙ data_is)) ∙ sym c.right_length.ensures in
     declined-empty (increase sent expected) old x c.raised.new.store c.args.text.now.items c.requires.empty
-    c.requires.card c.right_length.result reads c.in_ok-refused.ensures.ready c.requires.current
+    c.requires.card c.right_length.result reads c.in_ok-refused.ensures.store.ready c.requires.current
     (increase-less m sized c.requires.card x _ e body found sent expected unrefused short free less
     ∙ ap (refused (card_in old) (session_in old x)) status)
 
@@ -168,8 +168,8 @@ put_sum-requires-clause-body g c =
     let found = found-cyclic m x target.Current _ e c.in-Ok.file.body body c.cyclic-body.ensures said in
     let unrefused = said.named.unrefused in
     let stands = (agree m sized c.requires.card x target.Current _ e (bodies.Cyclic body) found).stands in
-    subst (λ (l : List ℕ). IsCyclic l body) (sym (c.raised.ensures.reads.keeps.committed_words
-    ∙ c.find_records.ensures.reads.keeps.committed_words)) stands
+    subst (λ (l : List ℕ). IsCyclic l body) (sym (c.raised.ensures.store.only.keeps.committed_words
+    ∙ c.find_records.ensures.store.only.keeps.committed_words)) stands
 
 pub returns-in_err-put_sum-clause-serves : goal.returns-in_err-put_sum-clause-serves
 returns-in_err-put_sum-clause-serves g c =
@@ -184,12 +184,12 @@ returns-in_err-put_sum-clause-serves g c =
     let said = said_ok _ _ c.in_ok-file.field-0 c.in-Ok.file c.in-Ok.is c.in_ok-file.ensures.found in
     let found = found-cyclic m x target.Current _ e c.in-Ok.file.body body c.cyclic-body.ensures said in
     let unrefused = said.named.unrefused in
-    let same = c.find_records.ensures.reads.keeps.committed_words in
+    let same = c.find_records.ensures.store.only.keeps.committed_words in
     let long : ℕ = body.record_length in
     let stands = (agree m sized c.requires.card x target.Current _ e (bodies.Cyclic body) found).stands in
     let short = sym c.is_too_long.ensures ∙ c.if-is_too_long.false in
-    let reads = reads_then old c.find_records.new.store c.raised.new.store c.find_records.ensures.reads
-    c.raised.ensures.reads in
+    let reads = reads_then old c.find_records.new.store c.raised.new.store c.find_records.ensures.store.only
+    c.raised.ensures.store.only in
     let free = ap (λ (l : List ℕ). unraised long (cyclic_records l body) sent) (sym same)
     ∙ c.in_ok-refused.ensures.refusal ∙ c.in-None.is in
     let sum_is : c.raised.new.sum.items ≡ spelled long (raised_number (cyclic_records m body) sent) =
@@ -201,7 +201,7 @@ returns-in_err-put_sum-clause-serves g c =
     ∙ c.if-asks_less.false in
     let mid = c.raised.new.store in
     let new = c.put_sum.new.store in
-    let by : committed mid ≡ m = c.raised.ensures.reads.keeps.committed_words ∙ same in
+    let by : committed mid ≡ m = c.raised.ensures.store.only.keeps.committed_words ∙ same in
     let records_in : List ℕ → List (List ℕ) = λ l. front (length (cyclic_records l body)) (spelled long (raised_number
     (cyclic_records l body) sent)) (cyclic_records l body) in
     let records_is : records_in (committed mid) ≡ records_in m = ap records_in by in
@@ -215,8 +215,8 @@ returns-in_err-put_sum-clause-serves g c =
     (sym (err-is _ _ c.from_residual-in_err-put_sum.ensures.1))
     (records-torn old mid new c.requires.ready c.requires.card x c.requires.current target.Current _ e
     (bodies.Cyclic body) found (increase sent expected) (records_in m) none lasting fits refl refl reads left
-    c.put_sum.ensures.reports c.put_sum.ensures.writes
-    c.args.text.now.items (omega (arith, none_yet)) c.in_err-put_sum.field-0.0 c.in_err-put_sum.ensures.tells)
+    c.put_sum.ensures.store.reports c.put_sum.ensures.store.writes
+    c.args.text.now.items (omega (arith, none_yet)) c.in_err-put_sum.field-0.0 c.in_err-put_sum.ensures.store.tells)
 
 pub returns-clause-serves : goal.returns-clause-serves
 returns-clause-serves g c =
@@ -231,12 +231,12 @@ returns-clause-serves g c =
     let said = said_ok _ _ c.in_ok-file.field-0 c.in-Ok.file c.in-Ok.is c.in_ok-file.ensures.found in
     let found = found-cyclic m x target.Current _ e c.in-Ok.file.body body c.cyclic-body.ensures said in
     let unrefused = said.named.unrefused in
-    let same = c.find_records.ensures.reads.keeps.committed_words in
+    let same = c.find_records.ensures.store.only.keeps.committed_words in
     let long : ℕ = body.record_length in
     let stands = (agree m sized c.requires.card x target.Current _ e (bodies.Cyclic body) found).stands in
     let short = sym c.is_too_long.ensures ∙ c.if-is_too_long.false in
-    let reads = reads_then old c.find_records.new.store c.raised.new.store c.find_records.ensures.reads
-    c.raised.ensures.reads in
+    let reads = reads_then old c.find_records.new.store c.raised.new.store c.find_records.ensures.store.only
+    c.raised.ensures.store.only in
     let free = ap (λ (l : List ℕ). unraised long (cyclic_records l body) sent) (sym same)
     ∙ c.in_ok-refused.ensures.refusal ∙ c.in-None.is in
     let sum_is : c.raised.new.sum.items ≡ spelled long (raised_number (cyclic_records m body) sent) =
@@ -248,7 +248,7 @@ returns-clause-serves g c =
     ∙ c.if-asks_less.false in
     let mid = c.raised.new.store in
     let new = c.put_sum.new.store in
-    let by : committed mid ≡ m = c.raised.ensures.reads.keeps.committed_words ∙ same in
+    let by : committed mid ≡ m = c.raised.ensures.store.only.keeps.committed_words ∙ same in
     let records_in : List ℕ → List (List ℕ) = λ l. front (length (cyclic_records l body)) (spelled long (raised_number
     (cyclic_records l body) sent)) (cyclic_records l body) in
     let records_is : records_in (committed mid) ≡ records_in m = ap records_in by in
@@ -269,8 +269,8 @@ returns-clause-serves g c =
     (sym c.pointing.ensures)
     (records-made old mid new c.requires.ready c.requires.card x c.requires.current target.Current _ e
     (bodies.Cyclic body) found (increase sent expected) (records_in m) none lasting fits refl refl reads left
-    c.put_sum.ensures.reports c.put_sum.ensures.writes
-    becomes c.in_ok-put_sum.ensures.ready (Some 1) c.hand.new.text.items c.hand.ensures.room effect_is)
+    c.put_sum.ensures.store.reports c.put_sum.ensures.store.writes
+    becomes c.in_ok-put_sum.ensures.store.ready (Some 1) c.hand.new.text.items c.hand.ensures.room effect_is)
 
 pub returns-clause-space : goal.returns-clause-space
 returns-clause-space g c =
@@ -285,12 +285,12 @@ returns-clause-space g c =
     let said = said_ok _ _ c.in_ok-file.field-0 c.in-Ok.file c.in-Ok.is c.in_ok-file.ensures.found in
     let found = found-cyclic m x target.Current _ e c.in-Ok.file.body body c.cyclic-body.ensures said in
     let unrefused = said.named.unrefused in
-    let same = c.find_records.ensures.reads.keeps.committed_words in
+    let same = c.find_records.ensures.store.only.keeps.committed_words in
     let long : ℕ = body.record_length in
     let stands = (agree m sized c.requires.card x target.Current _ e (bodies.Cyclic body) found).stands in
     let short = sym c.is_too_long.ensures ∙ c.if-is_too_long.false in
-    let reads = reads_then old c.find_records.new.store c.raised.new.store c.find_records.ensures.reads
-    c.raised.ensures.reads in
+    let reads = reads_then old c.find_records.new.store c.raised.new.store c.find_records.ensures.store.only
+    c.raised.ensures.store.only in
     let free = ap (λ (l : List ℕ). unraised long (cyclic_records l body) sent) (sym same)
     ∙ c.in_ok-refused.ensures.refusal ∙ c.in-None.is in
     let sum_is : c.raised.new.sum.items ≡ spelled long (raised_number (cyclic_records m body) sent) =
@@ -302,7 +302,7 @@ returns-clause-space g c =
     ∙ c.if-asks_less.false in
     let mid = c.raised.new.store in
     let new = c.put_sum.new.store in
-    let by : committed mid ≡ m = c.raised.ensures.reads.keeps.committed_words ∙ same in
+    let by : committed mid ≡ m = c.raised.ensures.store.only.keeps.committed_words ∙ same in
     let records_in : List ℕ → List (List ℕ) = λ l. front (length (cyclic_records l body)) (spelled long (raised_number
     (cyclic_records l body) sent)) (cyclic_records l body) in
     let records_is : records_in (committed mid) ≡ records_in m = ap records_in by in
@@ -315,23 +315,23 @@ returns-clause-space g c =
     records_is c.in_ok-put_sum.ensures.done in
     records-space old mid new c.requires.ready c.requires.card x c.requires.current target.Current _ e
     (bodies.Cyclic body) found (increase sent expected) (records_in m) none lasting fits refl refl reads left
-    c.put_sum.ensures.reports c.put_sum.ensures.writes
+    c.put_sum.ensures.store.reports c.put_sum.ensures.store.writes
     becomes
 
 pub returns-in-Err-clause-space : goal.returns-in-Err-clause-space
 returns-in-Err-clause-space g c =
-    space-same c.args.store.now c.find_records.new.store c.find_records.ensures.reads.keeps.committed_words
+    space-same c.args.store.now c.find_records.new.store c.find_records.ensures.store.only.keeps.committed_words
 
 pub returns-then-is_too_long-clause-space : goal.returns-then-is_too_long-clause-space
 returns-then-is_too_long-clause-space g c =
-    space-same c.args.store.now c.find_records.new.store c.find_records.ensures.reads.keeps.committed_words
+    space-same c.args.store.now c.find_records.new.store c.find_records.ensures.store.only.keeps.committed_words
 
 pub returns-in-Some-clause-space : goal.returns-in-Some-clause-space
 returns-in-Some-clause-space g c =
-    space-same c.args.store.now c.raised.new.store (c.raised.ensures.reads.keeps.committed_words
-    ∙ c.find_records.ensures.reads.keeps.committed_words)
+    space-same c.args.store.now c.raised.new.store (c.raised.ensures.store.only.keeps.committed_words
+    ∙ c.find_records.ensures.store.only.keeps.committed_words)
 
 pub returns-then-asks_less-clause-space : goal.returns-then-asks_less-clause-space
 returns-then-asks_less-clause-space g c =
-    space-same c.args.store.now c.raised.new.store (c.raised.ensures.reads.keeps.committed_words
-    ∙ c.find_records.ensures.reads.keeps.committed_words)
+    space-same c.args.store.now c.raised.new.store (c.raised.ensures.store.only.keeps.committed_words
+    ∙ c.find_records.ensures.store.only.keeps.committed_words)

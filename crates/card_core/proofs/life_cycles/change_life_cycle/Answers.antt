@@ -16,8 +16,8 @@ returns-in-Err-clause-serves g c =
     let old = c.args.store.now in
     let x = c.args.current.now in
     let refused = said_err _ _ c.in_ok-changed.field-0 c.in-Err.refusal c.in-Err.is c.in_ok-changed.ensures.found in
-    declined (change_life_cycle c.args.change c.args.subject) old x c.find_change.new.store c.requires.card c.in-Err.refusal c.find_change.ensures.reads
-    c.in_ok-changed.ensures.ready c.requires.current
+    declined (change_life_cycle c.args.change c.args.subject) old x c.find_change.new.store c.requires.card c.in-Err.refusal c.find_change.ensures.store.only
+    c.in_ok-changed.ensures.store.ready c.requires.current
     (change-refused (card_in old) (session_in old x) c.args.change c.args.subject c.in-Err.refusal refused)
 
 pub returns-in_err-set_life_cycle-clause-serves : goal.returns-in_err-set_life_cycle-clause-serves
@@ -29,8 +29,8 @@ returns-in_err-set_life_cycle-clause-serves g c =
     let found = said_ok _ _ c.in_ok-changed.field-0 c.in-Ok.changed c.in-Ok.is c.in_ok-changed.ensures.found in
     let tells : new.failed ≡ result_err c.from_residual-in_err-set_life_cycle.result = search rules in
     change-torn old mid new c.requires.ready c.requires.card x c.requires.current c.args.change c.args.subject
-    c.in-Ok.changed found c.find_change.ensures.reads c.set_life_cycle.ensures.any_exit c.set_life_cycle.ensures.stays
-    c.set_life_cycle.ensures.reports c.set_life_cycle.ensures.writes
+    c.in-Ok.changed found c.find_change.ensures.store.only c.set_life_cycle.ensures.any_exit c.set_life_cycle.ensures.stays
+    c.set_life_cycle.ensures.store.reports c.set_life_cycle.ensures.store.writes
     c.from_residual-in_err-set_life_cycle.result c.from_residual-in_err-set_life_cycle.ensures.0 tells
 
 pub returns-clause-serves : goal.returns-clause-serves
@@ -43,9 +43,9 @@ returns-clause-serves g c =
     subst (λ (y : Current). Serves (change_life_cycle c.args.change c.args.subject) old x new y [] (Ok DONE))
     (sym c.at.ensures)
     (change-made old mid new c.requires.ready c.requires.card x c.requires.current c.args.change c.args.subject
-    c.in-Ok.changed found c.find_change.ensures.reads c.set_life_cycle.ensures.any_exit c.set_life_cycle.ensures.stays
-    c.set_life_cycle.ensures.reports c.set_life_cycle.ensures.writes c.in_ok-set_life_cycle.ensures.done
-    c.in_ok-set_life_cycle.ensures.ready)
+    c.in-Ok.changed found c.find_change.ensures.store.only c.set_life_cycle.ensures.any_exit c.set_life_cycle.ensures.stays
+    c.set_life_cycle.ensures.store.reports c.set_life_cycle.ensures.store.writes c.in_ok-set_life_cycle.ensures.done
+    c.in_ok-set_life_cycle.ensures.store.ready)
 
 pub returns-clause-space : goal.returns-clause-space
 returns-clause-space g c =
@@ -55,9 +55,9 @@ returns-clause-space g c =
     let new = c.set_life_cycle.new.store in
     let found = said_ok _ _ c.in_ok-changed.field-0 c.in-Ok.changed c.in-Ok.is c.in_ok-changed.ensures.found in
     change-space old mid new c.requires.ready c.requires.card x c.requires.current c.args.change c.args.subject
-    c.in-Ok.changed found c.find_change.ensures.reads c.set_life_cycle.ensures.any_exit c.set_life_cycle.ensures.stays
-    c.set_life_cycle.ensures.reports c.set_life_cycle.ensures.writes c.in_ok-set_life_cycle.ensures.done
+    c.in-Ok.changed found c.find_change.ensures.store.only c.set_life_cycle.ensures.any_exit c.set_life_cycle.ensures.stays
+    c.set_life_cycle.ensures.store.reports c.set_life_cycle.ensures.store.writes c.in_ok-set_life_cycle.ensures.done
 
 pub returns-in-Err-clause-space : goal.returns-in-Err-clause-space
 returns-in-Err-clause-space g c =
-    space-same c.args.store.now c.find_change.new.store c.find_change.ensures.reads.keeps.committed_words
+    space-same c.args.store.now c.find_change.new.store c.find_change.ensures.store.only.keeps.committed_words

@@ -9,8 +9,8 @@ use Rattle.card_core.specs.Standing.{card_of}
 use Rattle.card_core.specs.Working.{session_of}
 use Rattle.card_core.proofs.Living.{found-is}
 use Rattle.card_core.proofs.Missing.{change-missed}
-use Rattle.undo_journal.specs.laws.Calls.{reads_then}
 use Rattle.card_core.proofs.Readings.{card_still, used_still}
+use Rattle.undo_journal.specs.laws.Told.{reads_on}
 use Rattle.card_core.proofs.life_cycles.find_change.Goals as goal
 
 pub returns-clause-found : goal.returns-clause-found
@@ -18,7 +18,7 @@ returns-clause-found g c =
     let m = committed c.args.store.now in
     let x = c.args.current.now in
     let e = c.in-Some.number in
-    let same = c.find_changed.ensures.reads.keeps.committed_words in
+    let same = c.find_changed.ensures.store.only.keeps.committed_words in
     let place =
     c.in_ok-number.ensures.found ∙ ap (λ (found : Option ℕ). option_map (path_of (table m)) found) c.in-Some.is in
     let used = subst (λ (found : Option ℕ). IfSome found (IsUsed (table m))) c.in-Some.is c.in_ok-number.ensures.used in
@@ -28,17 +28,17 @@ returns-clause-found g c =
     (is ∙ ap (λ (l : List ℕ). change_at l x c.args.change e) same))
     c.read_change.ensures.found
 
-pub returns-clause-reads : goal.returns-clause-reads
-returns-clause-reads g c =
-    reads_then c.args.store.now c.find_changed.new.store c.read_change.new.store c.find_changed.ensures.reads c.read_change.ensures.reads
+pub returns-clause-store : goal.returns-clause-store
+returns-clause-store g c =
+    reads_on _ _ _ _ c.find_changed.ensures.store.only c.read_change.ensures.store
 
 pub read_change-requires-clause-card : goal.read_change-requires-clause-card
 read_change-requires-clause-card g c =
-    card_still c.args.store.now c.find_changed.new.store c.find_changed.ensures.reads c.requires.card
+    card_still c.args.store.now c.find_changed.new.store c.find_changed.ensures.store.only c.requires.card
 
 pub read_change-requires-clause-used : goal.read_change-requires-clause-used
 read_change-requires-clause-used g c =
-    used_still c.args.store.now c.find_changed.new.store c.in-Some.number c.find_changed.ensures.reads
+    used_still c.args.store.now c.find_changed.new.store c.in-Some.number c.find_changed.ensures.store.only
     (subst (λ (o : Option ℕ). IfSome o (IsUsed (table (committed c.args.store.now)))) c.in-Some.is
     c.in_ok-number.ensures.used)
 

@@ -2,7 +2,7 @@ use Rattle.undo_journal.specs.Memory.{committed}
 use Rattle.undo_journal.specs.laws.Calls.{reads_then}
 use Rattle.file_tree.specs.laws.Nodes.{used_small}
 use Rattle.std.proofs.Common.{◌≡◌, ◌∙◌, ap}
-use Rattle.card_core.proofs.Readings.{three_reads, tree_still, used_still}
+use Rattle.card_core.proofs.Readings.{tree_still, used_still}
 use Rattle.card_rules.specs.declared.life_cycle.LifeCycleCommand.{LifeCycleCommand}
 use Rattle.file_tree.specs.States.{is_allowed, next_life}
 use Rattle.file_tree.specs.Table.{table, entry_in, path_of}
@@ -10,38 +10,40 @@ use Rattle.file_tree.specs.Trees.{tree_of}
 use Rattle.card_core.specs.Changing.{changed_by}
 use Rattle.card_core.specs.LifeCycles.{change_bit, command_of}
 use Rattle.card_core.specs.Working.{verified_in}
+use Rattle.undo_journal.specs.laws.Told.{reads_on, reads_handed}
 use Rattle.card_core.proofs.life_cycles.read_change.Goals as goal
 
 pub read_entry-requires-clause-within : goal.read_entry-requires-clause-within
 read_entry-requires-clause-within g c = used_small (committed c.args.store.now) c.args.number c.requires.used
 
-pub returns-in_err-entry-clause-reads : goal.returns-in_err-entry-clause-reads
-returns-in_err-entry-clause-reads g c =
-    reads_then _ _ _ c.next_life_cycle.ensures.reads (reads_then _ _ _ c.is_allowed.ensures.reads c.read_entry.ensures.reads)
+pub returns-in_err-entry-clause-store : goal.returns-in_err-entry-clause-store
+returns-in_err-entry-clause-store g c =
+    reads_handed _ _ _ _ c.from_residual-in_err-entry.ensures.1
+    (reads_on _ _ _ _ (reads_then _ _ _ c.next_life_cycle.ensures.store.only c.is_allowed.ensures.store.only) c.in_err-entry.ensures.store)
 
 pub is_allowed-requires-clause-tree : goal.is_allowed-requires-clause-tree
 is_allowed-requires-clause-tree g c =
-    tree_still c.args.store.now c.next_life_cycle.new.store c.next_life_cycle.ensures.reads c.requires.card
+    tree_still c.args.store.now c.next_life_cycle.new.store c.next_life_cycle.ensures.store.only c.requires.card
 
 pub is_allowed-requires-clause-used : goal.is_allowed-requires-clause-used
 is_allowed-requires-clause-used g c =
-    used_still c.args.store.now c.next_life_cycle.new.store c.args.number c.next_life_cycle.ensures.reads c.requires.used
+    used_still c.args.store.now c.next_life_cycle.new.store c.args.number c.next_life_cycle.ensures.store.only c.requires.used
 
-pub returns-in_err-allowed-clause-reads : goal.returns-in_err-allowed-clause-reads
-returns-in_err-allowed-clause-reads g c =
-    reads_then c.args.store.now c.next_life_cycle.new.store c.is_allowed.new.store c.next_life_cycle.ensures.reads c.is_allowed.ensures.reads
+pub returns-in_err-allowed-clause-store : goal.returns-in_err-allowed-clause-store
+returns-in_err-allowed-clause-store g c =
+    reads_handed _ _ _ _ c.from_residual-in_err-allowed.ensures.1
+    (reads_on _ _ _ _ c.next_life_cycle.ensures.store.only c.in_err-allowed.ensures.store)
 
-pub returns-clause-reads : goal.returns-clause-reads
-returns-clause-reads g c =
-    three_reads c.args.store.now c.next_life_cycle.new.store c.is_allowed.new.store c.read_entry.new.store c.next_life_cycle.ensures.reads
-    c.is_allowed.ensures.reads c.read_entry.ensures.reads
+pub returns-clause-store : goal.returns-clause-store
+returns-clause-store g c =
+    reads_on _ _ _ _ (reads_then _ _ _ c.next_life_cycle.ensures.store.only c.is_allowed.ensures.store.only) c.in_ok-entry.ensures.store
 
 pub returns-clause-found : goal.returns-clause-found
 returns-clause-found g c =
     let m = committed c.args.store.now in
     let e = c.args.number in
-    let same = c.next_life_cycle.ensures.reads.keeps.committed_words in
-    let still = c.is_allowed.ensures.reads.keeps.committed_words ∙ same in
+    let same = c.next_life_cycle.ensures.store.only.keeps.committed_words in
+    let still = c.is_allowed.ensures.store.only.keeps.committed_words ∙ same in
     let next : c.in_ok-next.next ≡ next_life (tree_of m) (path_of (table m) e) (command_of c.args.change) =
     c.in_ok-next.ensures.next
     ∙ ap (λ (k : LifeCycleCommand). next_life (tree_of m) (path_of (table m) e) k) c.command_of.ensures in

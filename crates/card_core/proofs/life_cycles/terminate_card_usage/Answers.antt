@@ -17,8 +17,8 @@ returns-then-not-branch-clause-serves g c =
     let old = c.args.store.now in
     let x = c.args.current.now in
     let denied : c.in_ok-is_allowed.field-0 ≡ false = c.if-not-branch.true in
-    declined terminate_card_usage old x c.is_allowed.new.store c.requires.card ACCESS_DENIED c.is_allowed.ensures.reads
-    c.in_ok-is_allowed.ensures.ready c.requires.current
+    declined terminate_card_usage old x c.is_allowed.new.store c.requires.card ACCESS_DENIED c.is_allowed.ensures.store.only
+    c.in_ok-is_allowed.ensures.store.ready c.requires.current
     (end-refused (committed old) x c.requires.current c.verified.result c.verified.ensures c.in_ok-is_allowed.field-0
     c.in_ok-is_allowed.ensures.allowed denied)
 
@@ -28,11 +28,11 @@ returns-in_err-terminate_card-clause-serves g c =
     let mid = c.is_allowed.new.store in
     let new = c.terminate_card.new.store in
     let granted : c.in_ok-is_allowed.field-0 ≡ true = c.if-not-branch.false in
-    let tells = c.in_err-terminate_card.ensures.tells ∙ sym (ap (λ (r : Result Sw StoreErr). result_err r)
+    let tells = c.in_err-terminate_card.ensures.store.tells ∙ sym (ap (λ (r : Result Sw StoreErr). result_err r)
     (err-is _ _ c.from_residual-in_err-terminate_card.ensures.1)) in
     end-torn old mid new c.requires.ready c.requires.card c.args.current.now c.requires.current c.verified.result
-    c.verified.ensures (sym granted ∙ c.in_ok-is_allowed.ensures.allowed) c.is_allowed.ensures.reads
-    c.terminate_card.ensures.any_exit c.terminate_card.ensures.reports c.terminate_card.ensures.writes
+    c.verified.ensures (sym granted ∙ c.in_ok-is_allowed.ensures.allowed) c.is_allowed.ensures.store.only
+    c.terminate_card.ensures.any_exit c.terminate_card.ensures.store.reports c.terminate_card.ensures.store.writes
     c.from_residual-in_err-terminate_card.result c.from_residual-in_err-terminate_card.ensures.0 tells
 
 pub returns-clause-serves : goal.returns-clause-serves
@@ -42,9 +42,9 @@ returns-clause-serves g c =
     let new = c.terminate_card.new.store in
     let granted : c.in_ok-is_allowed.field-0 ≡ true = c.if-not-branch.false in
     end-made old mid new c.requires.ready c.requires.card c.args.current.now c.requires.current c.verified.result
-    c.verified.ensures (sym granted ∙ c.in_ok-is_allowed.ensures.allowed) c.is_allowed.ensures.reads
-    c.terminate_card.ensures.any_exit c.terminate_card.ensures.reports c.terminate_card.ensures.writes
-    c.in_ok-terminate_card.ensures.done c.in_ok-terminate_card.ensures.ready
+    c.verified.ensures (sym granted ∙ c.in_ok-is_allowed.ensures.allowed) c.is_allowed.ensures.store.only
+    c.terminate_card.ensures.any_exit c.terminate_card.ensures.store.reports c.terminate_card.ensures.store.writes
+    c.in_ok-terminate_card.ensures.done c.in_ok-terminate_card.ensures.store.ready
 
 pub returns-clause-space : goal.returns-clause-space
 returns-clause-space g c =
@@ -53,8 +53,8 @@ returns-clause-space g c =
     let new = c.terminate_card.new.store in
     let granted : c.in_ok-is_allowed.field-0 ≡ true = c.if-not-branch.false in
     end-space old mid new c.requires.ready c.requires.card c.args.current.now c.requires.current c.verified.result
-    c.verified.ensures (sym granted ∙ c.in_ok-is_allowed.ensures.allowed) c.is_allowed.ensures.reads
-    c.terminate_card.ensures.any_exit c.terminate_card.ensures.reports c.terminate_card.ensures.writes
+    c.verified.ensures (sym granted ∙ c.in_ok-is_allowed.ensures.allowed) c.is_allowed.ensures.store.only
+    c.terminate_card.ensures.any_exit c.terminate_card.ensures.store.reports c.terminate_card.ensures.store.writes
     c.in_ok-terminate_card.ensures.done
 
 pub returns-in_err-is_allowed-clause-serves : goal.returns-in_err-is_allowed-clause-serves
@@ -64,9 +64,9 @@ returns-in_err-is_allowed-clause-serves g c =
     let mid = c.is_allowed.new.store in
     subst (λ (r : Result Sw StoreErr). Serves terminate_card_usage old x mid x [] r) (sym (err-is _ _
     c.from_residual.ensures.1))
-    (stopped terminate_card_usage old x mid c.requires.card x [] c.in_err-is_allowed.field-0.0 c.is_allowed.ensures.reads
-    c.in_err-is_allowed.ensures.tells (omega arith))
+    (stopped terminate_card_usage old x mid c.requires.card x [] c.in_err-is_allowed.field-0.0 c.is_allowed.ensures.store.only
+    c.in_err-is_allowed.ensures.store.tells (omega arith))
 
 pub returns-then-not-branch-clause-space : goal.returns-then-not-branch-clause-space
 returns-then-not-branch-clause-space g c =
-    space-same c.args.store.now c.is_allowed.new.store c.is_allowed.ensures.reads.keeps.committed_words
+    space-same c.args.store.now c.is_allowed.new.store c.is_allowed.ensures.store.only.keeps.committed_words

@@ -15,6 +15,7 @@ use Rattle.card_core.proofs.NamedEntries.{entry-named, entry-refusal}
 use Rattle.card_core.specs.Standing.{IsCard}
 use Rattle.card_core.specs.Working.{IsCurrent}
 use Rattle.file_tree.specs.Table.{IsUsed}
+use Rattle.undo_journal.specs.laws.Told.{reads_on, reads_handed}
 use Rattle.card_core.proofs.named.find_file.Goals as goal
 
 pub read_entry-requires-clause-within : goal.read_entry-requires-clause-within
@@ -24,11 +25,10 @@ read_entry-requires-clause-within g c =
     c.in_ok-number.ensures.child in
     used_small (committed c.args.store.now) c.in-Some.number file.child.used
 
-pub returns-in_err-refusal-clause-reads : goal.returns-in_err-refusal-clause-reads
-returns-in_err-refusal-clause-reads g c =
-    reads_then c.args.store.now c.find_target.new.store c.refusal_of.new.store c.find_target.ensures.reads
-    (reads_then c.find_target.new.store c.read_entry.new.store c.refusal_of.new.store c.read_entry.ensures.reads
-    c.refusal_of.ensures.reads)
+pub returns-in_err-refusal-clause-store : goal.returns-in_err-refusal-clause-store
+returns-in_err-refusal-clause-store g c =
+    reads_handed _ _ _ _ c.from_residual-in_err-refusal.ensures.1
+    (reads_on _ _ _ _ (reads_then _ _ _ c.find_target.ensures.store.only c.read_entry.ensures.store.only) c.in_err-refusal.ensures.store)
 
 pub returns-in-Some-2-clause-found : goal.returns-in-Some-2-clause-found
 returns-in-Some-2-clause-found g c =
@@ -38,10 +38,10 @@ returns-in-Some-2-clause-found g c =
     let file = subst (λ (o : Option ℕ). IfSome o (IsElementary t c.args.current.now.df)) c.in-Some.is
     c.in_ok-number.ensures.child in
     let place = c.in_ok-number.ensures.found ∙ ap (λ (o : Option ℕ). option_map (path_of t) o) c.in-Some.is in
-    let same = c.read_entry.ensures.reads.keeps.committed_words ∙ c.find_target.ensures.reads.keeps.committed_words in
+    let same = c.read_entry.ensures.store.only.keeps.committed_words ∙ c.find_target.ensures.store.only.keeps.committed_words in
     let entry : c.in_ok-entry.entry ≡ entry_in t e =
     c.in_ok-entry.ensures.entry ∙ ap (λ (l : List ℕ). entry_in (table l) e)
-    c.find_target.ensures.reads.keeps.committed_words in
+    c.find_target.ensures.store.only.keeps.committed_words in
     entry-refusal m c.requires.ready.usable.committed_size c.requires.card c.args.current.now c.args.target c.args.need e
     file place
     ∙ ap (λ (y : Entry). file_refusal (is_barred (card_of m).tree (path_of t e)) (fits_kind c.args.need.structure y.kind)
@@ -59,10 +59,10 @@ returns-in-None-clause-found g c =
     let file = subst (λ (o : Option ℕ). IfSome o (IsElementary t c.args.current.now.df)) c.in-Some.is
     c.in_ok-number.ensures.child in
     let place = c.in_ok-number.ensures.found ∙ ap (λ (o : Option ℕ). option_map (path_of t) o) c.in-Some.is in
-    let same = c.read_entry.ensures.reads.keeps.committed_words ∙ c.find_target.ensures.reads.keeps.committed_words in
+    let same = c.read_entry.ensures.store.only.keeps.committed_words ∙ c.find_target.ensures.store.only.keeps.committed_words in
     let entry : c.in_ok-entry.entry ≡ entry_in t e =
     c.in_ok-entry.ensures.entry ∙ ap (λ (l : List ℕ). entry_in (table l) e)
-    c.find_target.ensures.reads.keeps.committed_words in
+    c.find_target.ensures.store.only.keeps.committed_words in
     let none = entry-refusal m c.requires.ready.usable.committed_size c.requires.card c.args.current.now c.args.target
     c.args.need e file place
     ∙ ap (λ (y : Entry). file_refusal (is_barred (card_of m).tree (path_of t e)) (fits_kind c.args.need.structure y.kind)
@@ -76,37 +76,33 @@ returns-in-None-clause-found g c =
 
 pub refusal_of-requires-clause-card : goal.refusal_of-requires-clause-card
 refusal_of-requires-clause-card g c =
-    let same = c.read_entry.ensures.reads.keeps.committed_words ∙ c.find_target.ensures.reads.keeps.committed_words in
+    let same = c.read_entry.ensures.store.only.keeps.committed_words ∙ c.find_target.ensures.store.only.keeps.committed_words in
     subst IsCard (sym same) c.requires.card
 
 pub refusal_of-requires-clause-current : goal.refusal_of-requires-clause-current
 refusal_of-requires-clause-current g c =
-    let same = c.read_entry.ensures.reads.keeps.committed_words ∙ c.find_target.ensures.reads.keeps.committed_words in
+    let same = c.read_entry.ensures.store.only.keeps.committed_words ∙ c.find_target.ensures.store.only.keeps.committed_words in
     subst (λ (l : List ℕ). IsCurrent (table l) c.args.current.now) (sym same) c.requires.current
 
 pub refusal_of-requires-clause-used : goal.refusal_of-requires-clause-used
 refusal_of-requires-clause-used g c =
-    let same = c.read_entry.ensures.reads.keeps.committed_words ∙ c.find_target.ensures.reads.keeps.committed_words in
+    let same = c.read_entry.ensures.store.only.keeps.committed_words ∙ c.find_target.ensures.store.only.keeps.committed_words in
     let file = subst (λ (o : Option ℕ). IfSome o (IsElementary (table (committed c.args.store.now)) c.args.current.now.df))
     c.in-Some.is c.in_ok-number.ensures.child in
     subst (λ (l : List ℕ). IsUsed (table l) c.in-Some.number) (sym same) file.child.used
 
-pub returns-in_err-entry-clause-reads : goal.returns-in_err-entry-clause-reads
-returns-in_err-entry-clause-reads g c =
-    reads_then c.args.store.now c.find_target.new.store c.read_entry.new.store c.find_target.ensures.reads
-    c.read_entry.ensures.reads
+pub returns-in_err-entry-clause-store : goal.returns-in_err-entry-clause-store
+returns-in_err-entry-clause-store g c =
+    reads_handed _ _ _ _ c.from_residual-in_err-entry.ensures.1
+    (reads_on _ _ _ _ c.find_target.ensures.store.only c.in_err-entry.ensures.store)
 
-pub returns-in-Some-2-clause-reads : goal.returns-in-Some-2-clause-reads
-returns-in-Some-2-clause-reads g c =
-    reads_then c.args.store.now c.find_target.new.store c.refusal_of.new.store c.find_target.ensures.reads
-    (reads_then c.find_target.new.store c.read_entry.new.store c.refusal_of.new.store c.read_entry.ensures.reads
-    c.refusal_of.ensures.reads)
+pub returns-in-Some-2-clause-store : goal.returns-in-Some-2-clause-store
+returns-in-Some-2-clause-store g c =
+    reads_on _ _ _ _ (reads_then _ _ _ c.find_target.ensures.store.only c.read_entry.ensures.store.only) c.in_ok-refusal.ensures.store
 
-pub returns-in-None-clause-reads : goal.returns-in-None-clause-reads
-returns-in-None-clause-reads g c =
-    reads_then c.args.store.now c.find_target.new.store c.refusal_of.new.store c.find_target.ensures.reads
-    (reads_then c.find_target.new.store c.read_entry.new.store c.refusal_of.new.store c.read_entry.ensures.reads
-    c.refusal_of.ensures.reads)
+pub returns-in-None-clause-store : goal.returns-in-None-clause-store
+returns-in-None-clause-store g c =
+    reads_on _ _ _ _ (reads_then _ _ _ c.find_target.ensures.store.only c.read_entry.ensures.store.only) c.in_ok-refusal.ensures.store
 
 pub returns-in_default-clause-found : goal.returns-in_default-clause-found
 returns-in_default-clause-found g c =

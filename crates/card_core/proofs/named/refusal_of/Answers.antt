@@ -10,8 +10,8 @@ use Rattle.card_core.specs.Standing.{card_of}
 use Rattle.card_core.specs.Working.{file_refusal, session_of}
 use Rattle.card_core.proofs.Entries.{card-tree}
 use Rattle.card_core.proofs.Verified.{marks-are}
-use Rattle.undo_journal.specs.laws.Calls.{reads_then}
 use Rattle.card_core.proofs.Readings.{tree_still, used_still}
+use Rattle.undo_journal.specs.laws.Told.{reads_on, reads_handed}
 use Rattle.card_core.proofs.named.refusal_of.Goals as goal
 
 pub returns-clause-found : goal.returns-clause-found
@@ -22,7 +22,7 @@ returns-clause-found g c =
     let bit = c.args.need.bit in
     let barred : c.in_ok-barred.barred ≡ is_barred (card_of m).tree path =
     c.in_ok-barred.ensures.barred ∙ sym (ap (λ (tree : Tree). is_barred tree path) (card-tree m)) in
-    let same = c.is_barred.ensures.reads.keeps.committed_words in
+    let same = c.is_barred.ensures.store.only.keeps.committed_words in
     let marks = c.verified.ensures ∙ sym (marks-are t c.args.current.now c.requires.current.marks) in
     let permitted : c.in_ok-allowed.allowed ≡ allowed (card_of m) (session_of t c.args.current.now) path bit =
     c.in_ok-allowed.ensures.allowed
@@ -32,16 +32,17 @@ returns-clause-found g c =
 
 pub is_allowed-requires-clause-tree : goal.is_allowed-requires-clause-tree
 is_allowed-requires-clause-tree g c =
-    tree_still c.args.store.now c.is_barred.new.store c.is_barred.ensures.reads c.requires.card
+    tree_still c.args.store.now c.is_barred.new.store c.is_barred.ensures.store.only c.requires.card
 
 pub is_allowed-requires-clause-used : goal.is_allowed-requires-clause-used
 is_allowed-requires-clause-used g c =
-    used_still c.args.store.now c.is_barred.new.store c.args.number c.is_barred.ensures.reads c.requires.used
+    used_still c.args.store.now c.is_barred.new.store c.args.number c.is_barred.ensures.store.only c.requires.used
 
-pub returns-in_err-allowed-clause-reads : goal.returns-in_err-allowed-clause-reads
-returns-in_err-allowed-clause-reads g c =
-    reads_then c.args.store.now c.is_barred.new.store c.is_allowed.new.store c.is_barred.ensures.reads c.is_allowed.ensures.reads
+pub returns-in_err-allowed-clause-store : goal.returns-in_err-allowed-clause-store
+returns-in_err-allowed-clause-store g c =
+    reads_handed _ _ _ _ c.from_residual-in_err-allowed.ensures.1
+    (reads_on _ _ _ _ c.is_barred.ensures.store.only c.in_err-allowed.ensures.store)
 
-pub returns-clause-reads : goal.returns-clause-reads
-returns-clause-reads g c =
-    reads_then c.args.store.now c.is_barred.new.store c.is_allowed.new.store c.is_barred.ensures.reads c.is_allowed.ensures.reads
+pub returns-clause-store : goal.returns-clause-store
+returns-clause-store g c =
+    reads_on _ _ _ _ c.is_barred.ensures.store.only c.in_ok-allowed.ensures.store

@@ -8,13 +8,13 @@ returns-in_err-charged-clause-serves g c =
     charge-torn _ _ (changes c.args.pin c.requires.pin c.args.values.shown.now c.args.values.new.now) 10 refl c.args.store.now c.args.current.now
     c.requires.ready c.requires.card c.requires.current c.take_try.new.store c.from_residual.result
     c.in_err-charged.field-0.0 c.from_residual.ensures.1 c.take_try.ensures.any_exit c.take_try.ensures.kept
-    c.take_try.ensures.pages c.take_try.ensures.reports c.in_err-charged.ensures.tells c.take_try.ensures.writes
+    c.take_try.ensures.pages c.take_try.ensures.store.reports c.in_err-charged.ensures.store.tells c.take_try.ensures.store.writes
 
 pub returns-in-None-clause-serves : goal.returns-in-None-clause-serves
 returns-in-None-clause-serves g c =
     charge-blocked _ _ (changes c.args.pin c.requires.pin c.args.values.shown.now c.args.values.new.now) 10 refl c.args.store.now c.args.current.now
     c.requires.ready c.requires.card c.requires.current c.take_try.new.store c.in_ok-charged.field-0 c.in-None.is
-    c.in_ok-charged.ensures.done c.take_try.ensures.kept c.in_ok-charged.ensures.ready
+    c.in_ok-charged.ensures.done c.take_try.ensures.kept c.in_ok-charged.ensures.store.ready
 
 pub returns-in_err-outcome-clause-serves : goal.returns-in_err-outcome-clause-serves
 returns-in_err-outcome-clause-serves g c =
@@ -23,10 +23,10 @@ returns-in_err-outcome-clause-serves g c =
     let small : c.args.pin - 1 < 8 = omega (arith, first, last) in
     end-torn _ _ (changes c.args.pin c.requires.pin c.args.values.shown.now c.args.values.new.now) 10 refl c.args.store.now c.args.current.now
     c.requires.ready c.requires.card c.requires.current c.take_try.new.store c.change.new.store c.in_ok-charged.field-0
-    c.in-Some.charged c.in-Some.is c.in_ok-charged.ensures.done c.take_try.ensures.pages c.take_try.ensures.writes
-    c.take_try.ensures.reports (λ p. changed_ends (c.args.pin - 1) c.args.values.new.now p small) c.change.ensures.any_exit
-    c.change.ensures.spends c.change.ensures.pages c.change.ensures.reports c.from_residual-in_err-outcome.result
-    c.in_err-outcome.field-0.0 c.from_residual-in_err-outcome.ensures.1 c.in_err-outcome.ensures.tells
+    c.in-Some.charged c.in-Some.is c.in_ok-charged.ensures.done c.take_try.ensures.pages c.take_try.ensures.store.writes
+    c.take_try.ensures.store.reports (λ p. changed_ends (c.args.pin - 1) c.args.values.new.now p small) c.change.ensures.any_exit
+    c.change.ensures.spends c.change.ensures.pages c.change.ensures.store.reports c.from_residual-in_err-outcome.result
+    c.in_err-outcome.field-0.0 c.from_residual-in_err-outcome.ensures.1 c.in_err-outcome.ensures.store.tells
 
 pub returns-clause-serves : goal.returns-clause-serves
 returns-clause-serves g c =
@@ -35,10 +35,10 @@ returns-clause-serves g c =
     let small : c.args.pin - 1 < 8 = omega (arith, first, last) in
     end-made _ _ (changes c.args.pin c.requires.pin c.args.values.shown.now c.args.values.new.now) 10 refl c.args.store.now c.args.current.now
     c.requires.ready c.requires.card c.requires.current c.take_try.new.store c.change.new.store c.in_ok-charged.field-0
-    c.in-Some.charged c.in-Some.is c.in_ok-charged.ensures.done c.take_try.ensures.pages c.take_try.ensures.writes
-    c.take_try.ensures.reports (λ p. changed_ends (c.args.pin - 1) c.args.values.new.now p small) c.change.ensures.any_exit
-    c.change.ensures.spends c.change.ensures.pages c.change.ensures.reports c.in_ok-outcome.outcome
-    c.in_ok-outcome.ensures.done c.in_ok-outcome.ensures.ready c.after_attempt.result c.after_attempt.ensures
+    c.in-Some.charged c.in-Some.is c.in_ok-charged.ensures.done c.take_try.ensures.pages c.take_try.ensures.store.writes
+    c.take_try.ensures.store.reports (λ p. changed_ends (c.args.pin - 1) c.args.values.new.now p small) c.change.ensures.any_exit
+    c.change.ensures.spends c.change.ensures.pages c.change.ensures.store.reports c.in_ok-outcome.outcome
+    c.in_ok-outcome.ensures.done c.in_ok-outcome.ensures.store.ready c.after_attempt.result c.after_attempt.ensures
     c.status_of.result c.status_of.ensures
 
 pub returns-clause-space : goal.returns-clause-space
@@ -48,6 +48,6 @@ returns-clause-space g c =
     let small : c.args.pin - 1 < 8 = omega (arith, first, last) in
     made-space _ _ (changes c.args.pin c.requires.pin c.args.values.shown.now c.args.values.new.now) 10 refl c.args.store.now c.args.current.now
     c.requires.ready c.requires.card c.requires.current c.take_try.new.store c.change.new.store c.in_ok-charged.field-0
-    c.in-Some.charged c.in-Some.is c.in_ok-charged.ensures.done c.take_try.ensures.pages c.take_try.ensures.writes
-    c.take_try.ensures.reports (λ p. changed_ends (c.args.pin - 1) c.args.values.new.now p small) c.change.ensures.any_exit
-    c.change.ensures.spends c.change.ensures.pages c.change.ensures.reports
+    c.in-Some.charged c.in-Some.is c.in_ok-charged.ensures.done c.take_try.ensures.pages c.take_try.ensures.store.writes
+    c.take_try.ensures.store.reports (λ p. changed_ends (c.args.pin - 1) c.args.values.new.now p small) c.change.ensures.any_exit
+    c.change.ensures.spends c.change.ensures.pages c.change.ensures.store.reports

@@ -10,5 +10,5 @@ returns-in-None-clause-serves g c =
     subst (λ (shown : Option (List ℕ)). Serves (verify c.args.pin shown) c.args.store.now c.args.current.now
     c.tell_tries.new.store c.args.current.now [] c.tell_tries.result) (sym none)
     (question-answered _ c.args.pin (c.args.pin - 1) (asks-value c.args.pin c.requires.pin) c.args.store.now
-    c.args.current.now c.requires.card c.requires.current c.tell_tries.new.store c.tell_tries.ensures.reads
-    c.tell_tries.result c.tell_tries.ensures.told c.tell_tries.ensures.ready c.tell_tries.ensures.tells)
+    c.args.current.now c.requires.card c.requires.current c.tell_tries.new.store c.tell_tries.result
+    c.tell_tries.ensures.told c.tell_tries.ensures.store)

@@ -25,7 +25,7 @@ returns-in-Err-clause-serves g c =
     let x = c.args.current.now in
     let refused = said_err _ _ c.in_ok-file.field-0 c.in-Err.refusal c.in-Err.is c.in_ok-file.ensures.found in
     declined (append_record c.args.target c.args.bytes.now) old x c.find_records.new.store c.requires.card
-    c.in-Err.refusal c.find_records.ensures.reads c.in_ok-file.ensures.ready c.requires.current
+    c.in-Err.refusal c.find_records.ensures.store.only c.in_ok-file.ensures.store.ready c.requires.current
     (append-refused (card_in old) (session_in old x) c.args.target c.in-Err.refusal c.args.bytes.now refused)
 
 pub returns-then-is_full-clause-serves : goal.returns-then-is_full-clause-serves
@@ -40,7 +40,7 @@ returns-then-is_full-clause-serves g c =
     let e = c.in-Ok.file.number in
     let found = said_ok _ _ c.in_ok-file.field-0 c.in-Ok.file c.in-Ok.is c.in_ok-file.ensures.found in
     declined (append_record target bytes) old x c.find_records.new.store c.requires.card NO_ROOM
-    c.find_records.ensures.reads c.in_ok-file.ensures.ready c.requires.current
+    c.find_records.ensures.store.only c.in_ok-file.ensures.store.ready c.requires.current
     (append-full m sized c.requires.card x target _ e body found bytes found.named.unrefused (sym c.is_full.ensures
     ∙ c.if-is_full.true))
 
@@ -56,7 +56,7 @@ returns-then-not-takes-clause-serves g c =
     let e = c.in-Ok.file.number in
     let found = said_ok _ _ c.in_ok-file.field-0 c.in-Ok.file c.in-Ok.is c.in_ok-file.ensures.found in
     declined (append_record target bytes) old x c.find_records.new.store c.requires.card WRONG_LENGTH
-    c.find_records.ensures.reads c.in_ok-file.ensures.ready c.requires.current
+    c.find_records.ensures.store.only c.in_ok-file.ensures.store.ready c.requires.current
     (append-other m sized c.requires.card x target _ e body found bytes found.named.unrefused (sym c.is_full.ensures
     ∙ c.if-is_full.false) (sym c.takes.ensures ∙ c.if-not-takes.true))
 
@@ -72,7 +72,7 @@ append-requires-clause-body g c =
     let e = c.in-Ok.file.number in
     let found = said_ok _ _ c.in_ok-file.field-0 c.in-Ok.file c.in-Ok.is c.in_ok-file.ensures.found in
     let stands = (agree m sized c.requires.card x target _ e body found).stands in
-    subst (λ (l : List ℕ). IsBodyIn l body) (sym c.find_records.ensures.reads.keeps.committed_words) stands
+    subst (λ (l : List ℕ). IsBodyIn l body) (sym c.find_records.ensures.store.only.keeps.committed_words) stands
 
 pub append-requires-clause-room : goal.append-requires-clause-room
 append-requires-clause-room g c = sym c.is_full.ensures ∙ c.if-is_full.false
@@ -94,7 +94,7 @@ returns-in_err-append-clause-serves g c =
     let stands = (agree m sized c.requires.card x target _ e body found).stands in
     let room = sym c.is_full.ensures ∙ c.if-is_full.false in
     let long = sym c.takes.ensures ∙ c.if-not-takes.false in
-    let same = c.find_records.ensures.reads.keeps.committed_words in
+    let same = c.find_records.ensures.store.only.keeps.committed_words in
     let mid = c.find_records.new.store in
     let new = c.append.new.store in
     let records_is : appended_in (committed mid) body bytes ≡ appended_in m body bytes =
@@ -107,9 +107,9 @@ returns-in_err-append-clause-serves g c =
     subst (λ (r : Result Sw StoreErr). Serves (append_record target bytes) old x new x [] r)
     (sym (err-is _ _ c.from_residual-in_err-append.ensures.1))
     (records-torn old mid new c.requires.ready c.requires.card x c.requires.current target _ e body found
-    (append_record target bytes) (appended_in m body bytes) none lasting fits refl refl c.find_records.ensures.reads
-    left c.append.ensures.reports c.append.ensures.writes
-    [] (omega arith) c.in_err-append.field-0.0 c.in_err-append.ensures.tells)
+    (append_record target bytes) (appended_in m body bytes) none lasting fits refl refl c.find_records.ensures.store.only
+    left c.append.ensures.store.reports c.append.ensures.store.writes
+    [] (omega arith) c.in_err-append.field-0.0 c.in_err-append.ensures.store.tells)
 
 pub added-number-requires : goal.added-number-requires
 added-number-requires g c =
@@ -138,7 +138,7 @@ returns-clause-serves g c =
     let stands = (agree m sized c.requires.card x target _ e body found).stands in
     let room = sym c.is_full.ensures ∙ c.if-is_full.false in
     let long = sym c.takes.ensures ∙ c.if-not-takes.false in
-    let same = c.find_records.ensures.reads.keeps.committed_words in
+    let same = c.find_records.ensures.store.only.keeps.committed_words in
     let mid = c.find_records.new.store in
     let new = c.append.new.store in
     let records_is : appended_in (committed mid) body bytes ≡ appended_in m body bytes =
@@ -154,9 +154,9 @@ returns-clause-serves g c =
     c.pointing.ensures ∙ ap (λ (n : ℕ). pointing_from x target e (Some n)) c.added-number.ensures in
     subst (λ (y : Current). Serves (append_record target bytes) old x new y [] (Ok DONE)) (sym y_is)
     (records-made old mid new c.requires.ready c.requires.card x c.requires.current target _ e body found
-    (append_record target bytes) (appended_in m body bytes) none lasting fits refl refl c.find_records.ensures.reads
-    left c.append.ensures.reports c.append.ensures.writes
-    becomes c.in_ok-append.ensures.ready (Some (number_added_in body)) [] (omega arith)
+    (append_record target bytes) (appended_in m body bytes) none lasting fits refl refl c.find_records.ensures.store.only
+    left c.append.ensures.store.reports c.append.ensures.store.writes
+    becomes c.in_ok-append.ensures.store.ready (Some (number_added_in body)) [] (omega arith)
     (append-effect m sized c.requires.card x target _ e body found bytes found.named.unrefused))
 
 pub returns-clause-space : goal.returns-clause-space
@@ -173,7 +173,7 @@ returns-clause-space g c =
     let stands = (agree m sized c.requires.card x target _ e body found).stands in
     let room = sym c.is_full.ensures ∙ c.if-is_full.false in
     let long = sym c.takes.ensures ∙ c.if-not-takes.false in
-    let same = c.find_records.ensures.reads.keeps.committed_words in
+    let same = c.find_records.ensures.store.only.keeps.committed_words in
     let mid = c.find_records.new.store in
     let new = c.append.new.store in
     let records_is : appended_in (committed mid) body bytes ≡ appended_in m body bytes =
@@ -186,18 +186,18 @@ returns-clause-space g c =
     let becomes = subst (λ (rs : List (List ℕ)). BodyBecomes (committed mid) body rs (committed new)) records_is
     c.in_ok-append.ensures.done in
     records-space old mid new c.requires.ready c.requires.card x c.requires.current target _ e body found
-    (append_record target bytes) (appended_in m body bytes) none lasting fits refl refl c.find_records.ensures.reads
-    left c.append.ensures.reports c.append.ensures.writes
+    (append_record target bytes) (appended_in m body bytes) none lasting fits refl refl c.find_records.ensures.store.only
+    left c.append.ensures.store.reports c.append.ensures.store.writes
     becomes
 
 pub returns-in-Err-clause-space : goal.returns-in-Err-clause-space
 returns-in-Err-clause-space g c =
-    space-same c.args.store.now c.find_records.new.store c.find_records.ensures.reads.keeps.committed_words
+    space-same c.args.store.now c.find_records.new.store c.find_records.ensures.store.only.keeps.committed_words
 
 pub returns-then-is_full-clause-space : goal.returns-then-is_full-clause-space
 returns-then-is_full-clause-space g c =
-    space-same c.args.store.now c.find_records.new.store c.find_records.ensures.reads.keeps.committed_words
+    space-same c.args.store.now c.find_records.new.store c.find_records.ensures.store.only.keeps.committed_words
 
 pub returns-then-not-takes-clause-space : goal.returns-then-not-takes-clause-space
 returns-then-not-takes-clause-space g c =
-    space-same c.args.store.now c.find_records.new.store c.find_records.ensures.reads.keeps.committed_words
+    space-same c.args.store.now c.find_records.new.store c.find_records.ensures.store.only.keeps.committed_words

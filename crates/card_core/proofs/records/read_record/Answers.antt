@@ -27,8 +27,8 @@ returns-in-Err-clause-serves g c =
     let x = c.args.current.now in
     let refused = said_err _ _ c.in_ok-file.field-0 c.in-Err.refusal c.in-Err.is c.in_ok-file.ensures.found in
     declined-empty (read_record c.args.target c.args.choice c.args.expected) old x c.find_records.new.store
-    c.args.text.now.items c.requires.empty c.requires.card c.in-Err.refusal c.find_records.ensures.reads
-    c.in_ok-file.ensures.ready c.requires.current
+    c.args.text.now.items c.requires.empty c.requires.card c.in-Err.refusal c.find_records.ensures.store.only
+    c.in_ok-file.ensures.store.ready c.requires.current
     (read-refused (card_in old) (session_in old x) c.args.target c.in-Err.refusal refused c.args.choice c.args.expected)
 
 pub returns-then-not-has_record-clause-serves : goal.returns-then-not-has_record-clause-serves
@@ -41,8 +41,8 @@ returns-then-not-has_record-clause-serves g c =
     c.chosen-number.ensures ∙ ap (λ p. chosen_in body p c.args.choice) c.pointer_at-pointer.ensures in
     let gone = sym (ap (has_in body) number) ∙ sym c.has_record.ensures ∙ c.if-not-has_record.true in
     declined-empty (read_record c.args.target c.args.choice c.args.expected) old x c.find_records.new.store
-    c.args.text.now.items c.requires.empty c.requires.card RECORD_NOT_FOUND c.find_records.ensures.reads
-    c.in_ok-file.ensures.ready c.requires.current
+    c.args.text.now.items c.requires.empty c.requires.card RECORD_NOT_FOUND c.find_records.ensures.store.only
+    c.in_ok-file.ensures.store.ready c.requires.current
     (read-gone (committed old) c.requires.ready.usable.committed_size c.requires.card x c.args.target _
     c.in-Ok.file.number body found found.named.unrefused c.args.choice c.args.expected gone)
 
@@ -51,7 +51,7 @@ read-requires-clause-body g c =
     let old = c.args.store.now in
     let body = c.in-Ok.file.body in
     let found = said_ok _ _ c.in_ok-file.field-0 c.in-Ok.file c.in-Ok.is c.in_ok-file.ensures.found in
-    subst (λ (l : List ℕ). IsBodyIn l body) (sym c.find_records.ensures.reads.keeps.committed_words)
+    subst (λ (l : List ℕ). IsBodyIn l body) (sym c.find_records.ensures.store.only.keeps.committed_words)
     (agree (committed old) c.requires.ready.usable.committed_size c.requires.card c.args.current.now c.args.target _
     c.in-Ok.file.number body found).stands
 
@@ -64,15 +64,15 @@ returns-in_err-read-clause-serves g c =
     c.read.new.store x c.args.text.now.items r) (sym (err-is _ _ c.from_residual-in_err-read.ensures.1))
     (stopped (read_record c.args.target c.args.choice c.args.expected) old x c.read.new.store c.requires.card x
     c.args.text.now.items c.in_err-read.field-0.0
-    (reads_then old c.find_records.new.store c.read.new.store c.find_records.ensures.reads c.read.ensures.reads)
-    c.in_err-read.ensures.tells (omega (arith, none)))
+    (reads_then old c.find_records.new.store c.read.new.store c.find_records.ensures.store.only c.read.ensures.store.only)
+    c.in_err-read.ensures.store.tells (omega (arith, none)))
 
 pub returns-then-is_other_length-clause-serves : goal.returns-then-is_other_length-clause-serves
 returns-then-is_other_length-clause-serves g c =
     let old = c.args.store.now in
     let x = c.args.current.now in
     let body = c.in-Ok.file.body in
-    let same = c.find_records.ensures.reads.keeps.committed_words in
+    let same = c.find_records.ensures.store.only.keeps.committed_words in
     let found = said_ok _ _ c.in_ok-file.field-0 c.in-Ok.file c.in-Ok.is c.in_ok-file.ensures.found in
     let number : c.chosen-number.result ≡ chosen_in body (pointer_from x c.args.target) c.args.choice =
     c.chosen-number.ensures ∙ ap (λ p. chosen_in body p c.args.choice) c.pointer_at-pointer.ensures in
@@ -85,8 +85,8 @@ returns-then-is_other_length-clause-serves g c =
     let status = ap right_length (sym (c.deref.ensures.0 ∙ text)) ∙ sym c.right_length.ensures in
     declined-empty (read_record c.args.target c.args.choice c.args.expected) old x c.read.new.store
     c.args.text.now.items c.requires.empty c.requires.card c.right_length.result
-    (reads_then old c.find_records.new.store c.read.new.store c.find_records.ensures.reads c.read.ensures.reads)
-    c.in_ok-read.ensures.ready c.requires.current
+    (reads_then old c.find_records.new.store c.read.new.store c.find_records.ensures.store.only c.read.ensures.store.only)
+    c.in_ok-read.ensures.store.ready c.requires.current
     (read-other (committed old) c.requires.ready.usable.committed_size c.requires.card x c.args.target _
     c.in-Ok.file.number body found found.named.unrefused c.args.choice c.args.expected has other
     ∙ ap (refused (card_in old) (session_in old x)) status)
@@ -109,7 +109,7 @@ returns-clause-serves g c =
     let body = c.in-Ok.file.body in
     let e = c.in-Ok.file.number in
     let sized = c.requires.ready.usable.committed_size in
-    let same = c.find_records.ensures.reads.keeps.committed_words in
+    let same = c.find_records.ensures.store.only.keeps.committed_words in
     let found = said_ok _ _ c.in_ok-file.field-0 c.in-Ok.file c.in-Ok.is c.in_ok-file.ensures.found in
     let number : c.chosen-number.result ≡ chosen_in body (pointer_from x c.args.target) c.args.choice =
     c.chosen-number.ensures ∙ ap (λ p. chosen_in body p c.args.choice) c.pointer_at-pointer.ensures in
@@ -131,8 +131,8 @@ returns-clause-serves g c =
     c.args.choice)) in
     answered (read_record c.args.target c.args.choice c.args.expected) old x c.read.new.store c.requires.card
     c.pointing.result c.hand.new.text.items DONE
-    (reads_then old c.find_records.new.store c.read.new.store c.find_records.ensures.reads c.read.ensures.reads)
-    c.in_ok-read.ensures.ready
+    (reads_then old c.find_records.new.store c.read.new.store c.find_records.ensures.store.only c.read.ensures.store.only)
+    c.in_ok-read.ensures.store.ready
     (subst (λ (y : Current). IsCurrent (table_in old) y) (sym y_is) current)
     c.hand.ensures.room
     (read-whole (committed old) sized c.requires.card x c.args.target _ e body found found.named.unrefused
@@ -141,18 +141,18 @@ returns-clause-serves g c =
 
 pub returns-in-Err-clause-space : goal.returns-in-Err-clause-space
 returns-in-Err-clause-space g c =
-    space-same c.args.store.now c.find_records.new.store c.find_records.ensures.reads.keeps.committed_words
+    space-same c.args.store.now c.find_records.new.store c.find_records.ensures.store.only.keeps.committed_words
 
 pub returns-then-not-has_record-clause-space : goal.returns-then-not-has_record-clause-space
 returns-then-not-has_record-clause-space g c =
-    space-same c.args.store.now c.find_records.new.store c.find_records.ensures.reads.keeps.committed_words
+    space-same c.args.store.now c.find_records.new.store c.find_records.ensures.store.only.keeps.committed_words
 
 pub returns-then-is_other_length-clause-space : goal.returns-then-is_other_length-clause-space
 returns-then-is_other_length-clause-space g c =
-    space-same c.args.store.now c.read.new.store (c.read.ensures.reads.keeps.committed_words
-    ∙ c.find_records.ensures.reads.keeps.committed_words)
+    space-same c.args.store.now c.read.new.store (c.read.ensures.store.only.keeps.committed_words
+    ∙ c.find_records.ensures.store.only.keeps.committed_words)
 
 pub returns-clause-space : goal.returns-clause-space
 returns-clause-space g c =
-    space-same c.args.store.now c.read.new.store (c.read.ensures.reads.keeps.committed_words
-    ∙ c.find_records.ensures.reads.keeps.committed_words)
+    space-same c.args.store.now c.read.new.store (c.read.ensures.store.only.keeps.committed_words
+    ∙ c.find_records.ensures.store.only.keeps.committed_words)

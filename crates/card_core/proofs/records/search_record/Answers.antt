@@ -27,7 +27,7 @@ returns-in-Err-clause-serves g c =
     let refused = said_err _ _ c.in_ok-file.field-0 c.in-Err.refusal c.in-Err.is c.in_ok-file.ensures.found in
     declined-empty (search_record c.args.target c.args.first c.args.direction c.args.text.now c.args.expected) old x
     c.find_records.new.store c.args.answer.now.items c.requires.empty c.requires.card c.in-Err.refusal
-    c.find_records.ensures.reads c.in_ok-file.ensures.ready c.requires.current
+    c.find_records.ensures.store.only c.in_ok-file.ensures.store.ready c.requires.current
     (search-refused (card_in old) (session_in old x) c.args.target c.in-Err.refusal refused c.args.first c.args.direction
     c.args.text.now c.args.expected)
 
@@ -42,7 +42,7 @@ returns-then-not-has_record-clause-serves g c =
     let gone = sym (ap (has_in body) number) ∙ sym c.has_record.ensures ∙ c.if-not-has_record.true in
     declined-empty (search_record c.args.target c.args.first c.args.direction c.args.text.now c.args.expected) old x
     c.find_records.new.store c.args.answer.now.items c.requires.empty c.requires.card RECORD_NOT_FOUND
-    c.find_records.ensures.reads c.in_ok-file.ensures.ready c.requires.current
+    c.find_records.ensures.store.only c.in_ok-file.ensures.store.ready c.requires.current
     (search-gone (committed old) c.requires.ready.usable.committed_size c.requires.card x c.args.target _
     c.in-Ok.file.number body found found.named.unrefused c.args.first c.args.direction c.args.text.now c.args.expected
     gone)
@@ -52,7 +52,7 @@ search-requires-clause-body g c =
     let old = c.args.store.now in
     let body = c.in-Ok.file.body in
     let found = said_ok _ _ c.in_ok-file.field-0 c.in-Ok.file c.in-Ok.is c.in_ok-file.ensures.found in
-    subst (λ (l : List ℕ). IsBodyIn l body) (sym c.find_records.ensures.reads.keeps.committed_words)
+    subst (λ (l : List ℕ). IsBodyIn l body) (sym c.find_records.ensures.store.only.keeps.committed_words)
     (agree (committed old) c.requires.ready.usable.committed_size c.requires.card c.args.current.now c.args.target _
     c.in-Ok.file.number body found).stands
 
@@ -66,15 +66,15 @@ returns-in_err-search-clause-serves g c =
     (sym (err-is _ _ c.from_residual-in_err-search.ensures.1))
     (stopped (search_record c.args.target c.args.first c.args.direction c.args.text.now c.args.expected) old x
     c.search.new.store c.requires.card x c.args.answer.now.items c.in_err-search.field-0.0
-    (reads_then old c.find_records.new.store c.search.new.store c.find_records.ensures.reads c.search.ensures.reads)
-    c.in_err-search.ensures.tells (omega (arith, none)))
+    (reads_then old c.find_records.new.store c.search.new.store c.find_records.ensures.store.only c.search.ensures.store.only)
+    c.in_err-search.ensures.store.tells (omega (arith, none)))
 
 pub returns-then-asks_less-clause-serves : goal.returns-then-asks_less-clause-serves
 returns-then-asks_less-clause-serves g c =
     let old = c.args.store.now in
     let x = c.args.current.now in
     let body = c.in-Ok.file.body in
-    let same = c.find_records.ensures.reads.keeps.committed_words in
+    let same = c.find_records.ensures.store.only.keeps.committed_words in
     let found = said_ok _ _ c.in_ok-file.field-0 c.in-Ok.file c.in-Ok.is c.in_ok-file.ensures.found in
     let number : c.place_number-number.result ≡ place_number c.args.first (pointer_from x c.args.target) =
     c.place_number-number.ensures ∙ ap (place_number c.args.first) c.pointer_at-pointer.ensures in
@@ -88,8 +88,8 @@ returns-then-asks_less-clause-serves g c =
     let status = ap right_length (sym (c.deref-then-asks_less.ensures.0 ∙ numbers)) ∙ sym c.right_length.ensures in
     declined-empty (search_record c.args.target c.args.first c.args.direction c.args.text.now c.args.expected) old x
     c.search.new.store c.args.answer.now.items c.requires.empty c.requires.card c.right_length.result
-    (reads_then old c.find_records.new.store c.search.new.store c.find_records.ensures.reads c.search.ensures.reads)
-    c.in_ok-search.ensures.ready c.requires.current
+    (reads_then old c.find_records.new.store c.search.new.store c.find_records.ensures.store.only c.search.ensures.store.only)
+    c.in_ok-search.ensures.store.ready c.requires.current
     (search-less (committed old) c.requires.ready.usable.committed_size c.requires.card x c.args.target _
     c.in-Ok.file.number body found found.named.unrefused c.args.first c.args.direction c.args.text.now c.args.expected
     has less
@@ -102,7 +102,7 @@ returns-clause-serves g c =
     let body = c.in-Ok.file.body in
     let e = c.in-Ok.file.number in
     let sized = c.requires.ready.usable.committed_size in
-    let same = c.find_records.ensures.reads.keeps.committed_words in
+    let same = c.find_records.ensures.store.only.keeps.committed_words in
     let found = said_ok _ _ c.in_ok-file.field-0 c.in-Ok.file c.in-Ok.is c.in_ok-file.ensures.found in
     let number : c.place_number-number.result ≡ place_number c.args.first (pointer_from x c.args.target) =
     c.place_number-number.ensures ∙ ap (place_number c.args.first) c.pointer_at-pointer.ensures in
@@ -125,8 +125,8 @@ returns-clause-serves g c =
     (pointer_found (pointer_from x c.args.target) all) in
     answered (search_record c.args.target c.args.first c.args.direction c.args.text.now c.args.expected) old x
     c.search.new.store c.requires.card c.pointing.result c.hand.new.text.items c.status_of.result
-    (reads_then old c.find_records.new.store c.search.new.store c.find_records.ensures.reads c.search.ensures.reads)
-    c.in_ok-search.ensures.ready
+    (reads_then old c.find_records.new.store c.search.new.store c.find_records.ensures.store.only c.search.ensures.store.only)
+    c.in_ok-search.ensures.store.ready
     (subst (λ (y : Current). IsCurrent (table_in old) y) (sym y_is) current)
     c.hand.ensures.room
     (search-whole (committed old) sized c.requires.card x c.args.target _ e body found found.named.unrefused
@@ -135,18 +135,18 @@ returns-clause-serves g c =
 
 pub returns-in-Err-clause-space : goal.returns-in-Err-clause-space
 returns-in-Err-clause-space g c =
-    space-same c.args.store.now c.find_records.new.store c.find_records.ensures.reads.keeps.committed_words
+    space-same c.args.store.now c.find_records.new.store c.find_records.ensures.store.only.keeps.committed_words
 
 pub returns-then-not-has_record-clause-space : goal.returns-then-not-has_record-clause-space
 returns-then-not-has_record-clause-space g c =
-    space-same c.args.store.now c.find_records.new.store c.find_records.ensures.reads.keeps.committed_words
+    space-same c.args.store.now c.find_records.new.store c.find_records.ensures.store.only.keeps.committed_words
 
 pub returns-then-asks_less-clause-space : goal.returns-then-asks_less-clause-space
 returns-then-asks_less-clause-space g c =
-    space-same c.args.store.now c.search.new.store (c.search.ensures.reads.keeps.committed_words
-    ∙ c.find_records.ensures.reads.keeps.committed_words)
+    space-same c.args.store.now c.search.new.store (c.search.ensures.store.only.keeps.committed_words
+    ∙ c.find_records.ensures.store.only.keeps.committed_words)
 
 pub returns-clause-space : goal.returns-clause-space
 returns-clause-space g c =
-    space-same c.args.store.now c.search.new.store (c.search.ensures.reads.keeps.committed_words
-    ∙ c.find_records.ensures.reads.keeps.committed_words)
+    space-same c.args.store.now c.search.new.store (c.search.ensures.store.only.keeps.committed_words
+    ∙ c.find_records.ensures.store.only.keeps.committed_words)

@@ -36,7 +36,7 @@ returns-in-Err-clause-serves g c =
     let by = need-replaces (card_in old) (session_in old x) c.args.target c.args.choice c.replacing.result
     c.replacing.ensures.structure c.replacing.ensures.bit in
     declined (update_record c.args.target c.args.choice c.args.bytes.now) old x c.find_records.new.store c.requires.card
-    c.in-Err.refusal c.find_records.ensures.reads c.in_ok-file.ensures.ready c.requires.current
+    c.in-Err.refusal c.find_records.ensures.store.only c.in_ok-file.ensures.store.ready c.requires.current
     (update-refused (card_in old) (session_in old x) c.args.target c.in-Err.refusal c.args.choice c.args.bytes.now
     (sym by ∙ refused))
 
@@ -62,7 +62,7 @@ returns-then-not-has_record-clause-serves g c =
     c.replaced-number.ensures ∙ ap (λ p. number_replaced_in body p choice) c.pointer_at-pointer.ensures in
     let gone = sym (ap (has_in body) n_is) ∙ sym c.has_record.ensures ∙ c.if-not-has_record.true in
     declined (update_record target choice bytes) old x c.find_records.new.store c.requires.card
-    RECORD_NOT_FOUND c.find_records.ensures.reads c.in_ok-file.ensures.ready c.requires.current
+    RECORD_NOT_FOUND c.find_records.ensures.store.only c.in_ok-file.ensures.store.ready c.requires.current
     (update-gone m sized c.requires.card x target _ e body found bytes choice free gone)
 
 pub returns-then-not-takes-clause-serves : goal.returns-then-not-takes-clause-serves
@@ -88,7 +88,7 @@ returns-then-not-takes-clause-serves g c =
     let has = sym (ap (has_in body) n_is) ∙ sym c.has_record.ensures ∙ c.if-not-has_record.false in
     let other = sym c.takes.ensures ∙ c.if-not-takes.true in
     declined (update_record target choice bytes) old x c.find_records.new.store c.requires.card
-    WRONG_LENGTH c.find_records.ensures.reads c.in_ok-file.ensures.ready c.requires.current
+    WRONG_LENGTH c.find_records.ensures.store.only c.in_ok-file.ensures.store.ready c.requires.current
     (update-other m sized c.requires.card x target _ e body found bytes choice free has other)
 
 pub update-requires-clause-body : goal.update-requires-clause-body
@@ -103,7 +103,7 @@ update-requires-clause-body g c =
     let e = c.in-Ok.file.number in
     let found = said_ok _ _ c.in_ok-file.field-0 c.in-Ok.file c.in-Ok.is c.in_ok-file.ensures.found in
     let stands = (agree m sized c.requires.card x target _ e body found).stands in
-    subst (λ (l : List ℕ). IsBodyIn l body) (sym c.find_records.ensures.reads.keeps.committed_words) stands
+    subst (λ (l : List ℕ). IsBodyIn l body) (sym c.find_records.ensures.store.only.keeps.committed_words) stands
 
 pub update-requires-clause-record : goal.update-requires-clause-record
 update-requires-clause-record g c =
@@ -138,7 +138,7 @@ returns-in_err-update-clause-serves g c =
     let has = sym (ap (has_in body) n_is) ∙ sym c.has_record.ensures ∙ c.if-not-has_record.false in
     let stands = (agree m sized c.requires.card x target _ e body found).stands in
     let long = sym c.takes.ensures ∙ c.if-not-takes.false in
-    let same = c.find_records.ensures.reads.keeps.committed_words in
+    let same = c.find_records.ensures.store.only.keeps.committed_words in
     let mid = c.find_records.new.store in
     let new = c.update.new.store in
     let records_is : replaced_in (committed mid) body c.replaced-number.result bytes ≡ replaced_in m body n bytes =
@@ -151,9 +151,9 @@ returns-in_err-update-clause-serves g c =
     subst (λ (r : Result Sw StoreErr). Serves (update_record target choice bytes) old x new x [] r)
     (sym (err-is _ _ c.from_residual-in_err-update.ensures.1))
     (records-torn old mid new c.requires.ready c.requires.card x c.requires.current target _ e body found
-    (update_record target choice bytes) (replaced_in m body n bytes) none lasting fits refl refl c.find_records.ensures.reads
-    left c.update.ensures.reports c.update.ensures.writes
-    [] (omega arith) c.in_err-update.field-0.0 c.in_err-update.ensures.tells)
+    (update_record target choice bytes) (replaced_in m body n bytes) none lasting fits refl refl c.find_records.ensures.store.only
+    left c.update.ensures.store.reports c.update.ensures.store.writes
+    [] (omega arith) c.in_err-update.field-0.0 c.in_err-update.ensures.store.tells)
 
 pub pointer_replaced-after-requires : goal.pointer_replaced-after-requires
 pointer_replaced-after-requires g c =
@@ -193,7 +193,7 @@ returns-clause-serves g c =
     let has = sym (ap (has_in body) n_is) ∙ sym c.has_record.ensures ∙ c.if-not-has_record.false in
     let stands = (agree m sized c.requires.card x target _ e body found).stands in
     let long = sym c.takes.ensures ∙ c.if-not-takes.false in
-    let same = c.find_records.ensures.reads.keeps.committed_words in
+    let same = c.find_records.ensures.store.only.keeps.committed_words in
     let mid = c.find_records.new.store in
     let new = c.update.new.store in
     let records_is : replaced_in (committed mid) body c.replaced-number.result bytes ≡ replaced_in m body n bytes =
@@ -213,9 +213,9 @@ returns-clause-serves g c =
     c.pointing.ensures ∙ ap (pointing_from x target e) pointer_is in
     subst (λ (y : Current). Serves (update_record target choice bytes) old x new y [] (Ok DONE)) (sym y_is)
     (records-made old mid new c.requires.ready c.requires.card x c.requires.current target _ e body found
-    (update_record target choice bytes) (replaced_in m body n bytes) none lasting fits refl refl c.find_records.ensures.reads
-    left c.update.ensures.reports c.update.ensures.writes
-    becomes c.in_ok-update.ensures.ready pointer [] (omega arith)
+    (update_record target choice bytes) (replaced_in m body n bytes) none lasting fits refl refl c.find_records.ensures.store.only
+    left c.update.ensures.store.reports c.update.ensures.store.writes
+    becomes c.in_ok-update.ensures.store.ready pointer [] (omega arith)
     (update-effect m sized c.requires.card x target _ e body found bytes choice free))
 
 pub returns-clause-space : goal.returns-clause-space
@@ -241,7 +241,7 @@ returns-clause-space g c =
     let has = sym (ap (has_in body) n_is) ∙ sym c.has_record.ensures ∙ c.if-not-has_record.false in
     let stands = (agree m sized c.requires.card x target _ e body found).stands in
     let long = sym c.takes.ensures ∙ c.if-not-takes.false in
-    let same = c.find_records.ensures.reads.keeps.committed_words in
+    let same = c.find_records.ensures.store.only.keeps.committed_words in
     let mid = c.find_records.new.store in
     let new = c.update.new.store in
     let records_is : replaced_in (committed mid) body c.replaced-number.result bytes ≡ replaced_in m body n bytes =
@@ -254,18 +254,18 @@ returns-clause-space g c =
     let becomes = subst (λ (rs : List (List ℕ)). BodyBecomes (committed mid) body rs (committed new)) records_is
     c.in_ok-update.ensures.done in
     records-space old mid new c.requires.ready c.requires.card x c.requires.current target _ e body found
-    (update_record target choice bytes) (replaced_in m body n bytes) none lasting fits refl refl c.find_records.ensures.reads
-    left c.update.ensures.reports c.update.ensures.writes
+    (update_record target choice bytes) (replaced_in m body n bytes) none lasting fits refl refl c.find_records.ensures.store.only
+    left c.update.ensures.store.reports c.update.ensures.store.writes
     becomes
 
 pub returns-in-Err-clause-space : goal.returns-in-Err-clause-space
 returns-in-Err-clause-space g c =
-    space-same c.args.store.now c.find_records.new.store c.find_records.ensures.reads.keeps.committed_words
+    space-same c.args.store.now c.find_records.new.store c.find_records.ensures.store.only.keeps.committed_words
 
 pub returns-then-not-has_record-clause-space : goal.returns-then-not-has_record-clause-space
 returns-then-not-has_record-clause-space g c =
-    space-same c.args.store.now c.find_records.new.store c.find_records.ensures.reads.keeps.committed_words
+    space-same c.args.store.now c.find_records.new.store c.find_records.ensures.store.only.keeps.committed_words
 
 pub returns-then-not-takes-clause-space : goal.returns-then-not-takes-clause-space
 returns-then-not-takes-clause-space g c =
-    space-same c.args.store.now c.find_records.new.store c.find_records.ensures.reads.keeps.committed_words
+    space-same c.args.store.now c.find_records.new.store c.find_records.ensures.store.only.keeps.committed_words

@@ -36,7 +36,7 @@ returns-in_err-e-clause-serves g c =
     subst (λ (r : Result Sw StoreErr). Serves request old x c.find_selected.new.store x c.args.text.now.items r)
     (sym (err-is _ _ c.from_residual.ensures.1))
     (stopped request old x c.find_selected.new.store c.requires.card x c.args.text.now.items c.in_err-e.field-0.0
-    c.find_selected.ensures.reads c.in_err-e.ensures.tells (omega (arith, none)))
+    c.find_selected.ensures.store.only c.in_err-e.ensures.store.tells (omega (arith, none)))
 
 pub returns-in_default-clause-serves : goal.returns-in_default-clause-serves
 returns-in_default-clause-serves g c =
@@ -47,8 +47,8 @@ returns-in_default-clause-serves g c =
     let s = session_of t x in
     let request = select (selection_of c.args.selector) c.args.returned c.args.expected in
     subst (λ (l : List ℕ). Serves request old x c.find_selected.new.store x l (Ok FILE_NOT_FOUND)) (sym c.requires.empty)
-    (declined request old x c.find_selected.new.store c.requires.card FILE_NOT_FOUND c.find_selected.ensures.reads
-    c.in_ok-e.ensures.ready c.requires.current
+    (declined request old x c.find_selected.new.store c.requires.card FILE_NOT_FOUND c.find_selected.ensures.store.only
+    c.in_ok-e.ensures.store.ready c.requires.current
     (select-missed (card_of m) s (selection_of c.args.selector) c.args.returned c.args.expected
     (c.in_ok-e.ensures.found ∙ ap (λ (o : Option ℕ). option_map (path_of t) o) c.in_default.is)))
 
@@ -61,9 +61,9 @@ returns-in_err-entry-clause-serves g c =
     subst (λ (r : Result Sw StoreErr). Serves request old x c.read_entry.new.store x c.args.text.now.items r)
     (sym (err-is _ _ c.from_residual-in_err-entry.ensures.1))
     (stopped request old x c.read_entry.new.store c.requires.card x c.args.text.now.items c.in_err-entry.field-0.0
-    (reads_then old c.find_selected.new.store c.read_entry.new.store c.find_selected.ensures.reads
-    c.read_entry.ensures.reads)
-    c.in_err-entry.ensures.tells (omega (arith, none)))
+    (reads_then old c.find_selected.new.store c.read_entry.new.store c.find_selected.ensures.store.only
+    c.read_entry.ensures.store.only)
+    c.in_err-entry.ensures.store.tells (omega (arith, none)))
 
 pub read_entry-requires-clause-within : goal.read_entry-requires-clause-within
 read_entry-requires-clause-within g c =
@@ -77,7 +77,7 @@ data_of-data-requires g c =
     let used = subst (λ (o : Option ℕ). IfSome o (IsUsed (table m))) c.in-Some.is c.in_ok-e.ensures.used in
     let entry : c.in_ok-entry.entry ≡ entry_in (table m) e =
     c.in_ok-entry.ensures.entry ∙ ap (λ (l : List ℕ). entry_in (table l) e)
-    c.find_selected.ensures.reads.keeps.committed_words in
+    c.find_selected.ensures.store.only.keeps.committed_words in
     subst IsToldEntry (sym entry) (told-entry m c.requires.ready.usable.committed_size c.requires.card e used)
 
 pub returns-then-asks_less-clause-serves : goal.returns-then-asks_less-clause-serves
@@ -89,13 +89,13 @@ returns-then-asks_less-clause-serves g c =
     let x = c.args.current.now in
     let expected = c.args.expected in
     let request = select (selection_of c.args.selector) c.args.returned expected in
-    let reads = reads_then old c.find_selected.new.store c.read_entry.new.store c.find_selected.ensures.reads
-    c.read_entry.ensures.reads in
+    let reads = reads_then old c.find_selected.new.store c.read_entry.new.store c.find_selected.ensures.store.only
+    c.read_entry.ensures.store.only in
     let used = subst (λ (o : Option ℕ). IfSome o (IsUsed t)) c.in-Some.is c.in_ok-e.ensures.used in
     let place = c.in_ok-e.ensures.found ∙ ap (λ (o : Option ℕ). option_map (path_of t) o) c.in-Some.is in
     let entry : c.in_ok-entry.entry ≡ entry_in t e =
     c.in_ok-entry.ensures.entry ∙ ap (λ (l : List ℕ). entry_in (table l) e)
-    c.find_selected.ensures.reads.keeps.committed_words in
+    c.find_selected.ensures.store.only.keeps.committed_words in
     let told : c.data_of-data.result.items ≡ data_in c.args.returned (entry_in t e) =
     c.data_of-data.ensures.data ∙ ap (λ (y : Entry). data_in c.args.returned y) entry in
     let tested = c.deref.ensures.0 ∙ told in
@@ -103,7 +103,7 @@ returns-then-asks_less-clause-serves g c =
     let less = ap (asks_less expected) (sym tested) ∙ sym c.asks_less.ensures ∙ c.if-asks_less.true in
     let status = ap right_length (sym named) ∙ sym c.right_length.ensures in
     subst (λ (l : List ℕ). Serves request old x c.read_entry.new.store x l (Ok c.right_length.result)) (sym c.requires.empty)
-    (declined request old x c.read_entry.new.store c.requires.card c.right_length.result reads c.in_ok-entry.ensures.ready
+    (declined request old x c.read_entry.new.store c.requires.card c.right_length.result reads c.in_ok-entry.ensures.store.ready
     c.requires.current
     (select-entry-less m c.requires.card e used c.requires.ready.usable.committed_size x (selection_of c.args.selector)
     c.args.returned expected place less
@@ -118,13 +118,13 @@ returns-clause-serves g c =
     let x = c.args.current.now in
     let expected = c.args.expected in
     let request = select (selection_of c.args.selector) c.args.returned expected in
-    let reads = reads_then old c.find_selected.new.store c.read_entry.new.store c.find_selected.ensures.reads
-    c.read_entry.ensures.reads in
+    let reads = reads_then old c.find_selected.new.store c.read_entry.new.store c.find_selected.ensures.store.only
+    c.read_entry.ensures.store.only in
     let used = subst (λ (o : Option ℕ). IfSome o (IsUsed t)) c.in-Some.is c.in_ok-e.ensures.used in
     let place = c.in_ok-e.ensures.found ∙ ap (λ (o : Option ℕ). option_map (path_of t) o) c.in-Some.is in
     let entry : c.in_ok-entry.entry ≡ entry_in t e =
     c.in_ok-entry.ensures.entry ∙ ap (λ (l : List ℕ). entry_in (table l) e)
-    c.find_selected.ensures.reads.keeps.committed_words in
+    c.find_selected.ensures.store.only.keeps.committed_words in
     let told : c.data_of-data.result.items ≡ data_in c.args.returned (entry_in t e) =
     c.data_of-data.ensures.data ∙ ap (λ (y : Entry). data_in c.args.returned y) entry in
     let tested = c.deref.ensures.0 ∙ told in
@@ -139,7 +139,7 @@ returns-clause-serves g c =
     let few : length (data_in c.args.returned (entry_in t e)) ≤ 256 = omega (arith, short, size) in
     let room = given-short expected (data_in c.args.returned (entry_in t e)) few in
     answered request old x c.read_entry.new.store c.requires.card c.at.result c.give.new.text.items c.status_of.result
-    reads c.in_ok-entry.ensures.ready
+    reads c.in_ok-entry.ensures.store.ready
     (subst (λ (y : Current). IsCurrent t y) current (current-entry m c.requires.card e used x c.requires.current.marks))
     (subst (λ (l : List ℕ). length l ≤ 256) text room)
     (select-entry m c.requires.card e used c.requires.ready.usable.committed_size x (selection_of c.args.selector)

@@ -4,6 +4,7 @@ use Rattle.std.proofs.lemmas.List.{length-take-le, take_all}
 use Rattle.std.specs.List.{filter}
 use Rattle.undo_journal.specs.Memory.{committed}
 use Rattle.undo_journal.specs.laws.Calls.{reads_same, reads_then}
+use Rattle.undo_journal.specs.laws.Told.{reads_on, reads_handed}
 use Rattle.ef_body.specs.Records.{record_of}
 use Rattle.ef_body.specs.Searching.{stands_in, numbers_on}
 use Rattle.ef_body.specs.Bodies.{cyclic_records, IsCyclic}
@@ -23,9 +24,10 @@ record_holds-requires-clause-body g c =
     subst (λ (m : List ℕ). IsCyclic m c.args.body) (sym c.loop-step.invariant.reads.keeps.committed_words)
     c.requires.body
 
-pub returns-in_err-holds-clause-reads : goal.returns-in_err-holds-clause-reads
-returns-in_err-holds-clause-reads g c =
-    reads_then _ _ _ c.loop-step.invariant.reads c.record_holds.ensures.reads
+pub returns-in_err-holds-clause-store : goal.returns-in_err-holds-clause-store
+returns-in_err-holds-clause-store g c =
+    reads_handed _ _ _ _ c.from_residual.ensures.1
+    (reads_on _ _ _ _ c.loop-step.invariant.reads c.in_err-holds.ensures.store)
 
 -- what is looked at in the step
 pub note-requires : goal.note-requires
@@ -65,8 +67,8 @@ loop-step-preserved g c =
     ≡ cond (test (slice_index numbers c.loop-step.step)) (slice_index numbers c.loop-step.step ∷ []) [] =
     ap₂ (λ (b : Bool) (n : ℕ). cond b (n ∷ []) []) holds number in
     record {
-      ready = c.in_ok-holds.ensures.ready;
-      reads = reads_then _ _ _ c.loop-step.invariant.reads c.record_holds.ensures.reads;
+      ready = c.in_ok-holds.ensures.store.ready;
+      reads = reads_then _ _ _ c.loop-step.invariant.reads c.record_holds.ensures.store.only;
       so_far = c.note.ensures ∙ ap₂ (λ (front back : List ℕ). front ++ back) c.loop-step.invariant.so_far here
           ∙ sym (filter-next test numbers c.loop-step.step lt);
     }

@@ -1,11 +1,12 @@
 use Rattle.std.specs.Prelude.{◌*◌, ◌+◌, ◌≤◌, length}
-use Rattle.std.proofs.Common.{◌≡◌, ℕ, List, OnOk, sym, ◌∙◌, ap, subst, inl, arith}
+use Rattle.std.proofs.Common.{◌≡◌, ℕ, List, sym, ◌∙◌, ap, subst, inl, arith}
 use Rattle.std.proofs.Math.Logic.{⊎_map}
 use Rattle.std.proofs.lemmas.Result.{on_ok_weaker}
 use Rattle.undo_journal.specs.Lent.{memory_of}
-use Rattle.undo_journal.specs.Memory.{Memory, committed, current, IsOpen, IsReady}
+use Rattle.undo_journal.specs.Memory.{Memory, committed, current, IsOpen}
 use Rattle.undo_journal.specs.laws.Exits.{on_error}
-use Rattle.undo_journal.specs.laws.Transactions.{begun, commits, stays, reports_ended, writes_ended, stays_spends}
+use Rattle.undo_journal.specs.laws.Transactions.{begun, commits, stays}
+use Rattle.undo_journal.specs.laws.Told.{spent, spent_failed}
 use Rattle.block_chain.specs.declared.layout.TheConstants.{BLOCK_BYTES}
 use Rattle.block_chain.specs.Chains.{chain_of, IsChain}
 use Rattle.block_chain.specs.Changes.{Overwrites, touched_words}
@@ -14,88 +15,55 @@ use Rattle.ef_body.proofs.writing.put_bytes.Goals as goal
 
 pub returns-in-Ok-clause-any_exit : goal.returns-in-Ok-clause-any_exit
 returns-in-Ok-clause-any_exit g c =
-    let last = c.store-1.given.1 (sym (c.set_bytes.ensures.sets.same_store ∙ c.begin-txn.ensures.same_store)) in
-    ⊎_map (λ still. stays _ _ (memory_of c.set_bytes.new.txn) _ _ c.begin-txn.ensures.same last c.set_bytes.ensures.sets.kept still)
+    let sets = c.set_bytes.ensures.store.sets in
+    let last = c.store-1.given.1 (sym (sets.same_store ∙ c.begin-txn.ensures.same_store)) in
+    ⊎_map
+    (λ still. stays _ _ (memory_of c.set_bytes.new.txn) _ _ c.begin-txn.ensures.same last sets.kept still)
     (λ made. commits
     (λ (m after : List ℕ). Overwrites m (chain_of m c.args.chain) c.args.offset c.args.bytes.now after)
-    _ _ _ _ c.begin-txn.ensures.same c.requires.ready c.in-Ok.ensures.done (ap (λ (m : Memory). committed m) last ∙ made.0))
+    _ _ _ _ c.begin-txn.ensures.same c.requires.ready c.in-Ok.ensures.done
+    (ap (λ (m : Memory). committed m) last ∙ made.0))
     c.commit.ensures.any_exit
 
 pub returns-in-Ok-clause-done : goal.returns-in-Ok-clause-done
 returns-in-Ok-clause-done g c =
-    let last = c.store-1.given.1 (sym (c.set_bytes.ensures.sets.same_store ∙ c.begin-txn.ensures.same_store)) in
+    let sets = c.set_bytes.ensures.store.sets in
+    let last = c.store-1.given.1 (sym (sets.same_store ∙ c.begin-txn.ensures.same_store)) in
     on_ok_weaker c.commit.result
     (λ (made : committed c.commit.new.self.0 ≡ current (memory_of c.set_bytes.new.txn)). commits
     (λ (m after : List ℕ). Overwrites m (chain_of m c.args.chain) c.args.offset c.args.bytes.now after)
-    _ _ _ _ c.begin-txn.ensures.same c.requires.ready c.in-Ok.ensures.done (ap (λ (m : Memory). committed m) last ∙ made))
+    _ _ _ _ c.begin-txn.ensures.same c.requires.ready c.in-Ok.ensures.done
+    (ap (λ (m : Memory). committed m) last ∙ made))
     c.commit.ensures.done
 
-pub returns-in-Ok-clause-ready : goal.returns-in-Ok-clause-ready
-returns-in-Ok-clause-ready g c =
-    let last = c.store-1.given.1 (sym (c.set_bytes.ensures.sets.same_store ∙ c.begin-txn.ensures.same_store)) in
-    subst (λ (m : Memory). OnOk c.commit.result (IsReady m)) (sym last) c.commit.ensures.ready
-
-pub returns-in-Ok-clause-idle : goal.returns-in-Ok-clause-idle
-returns-in-Ok-clause-idle g c =
-    let last = c.store-1.given.1 (sym (c.set_bytes.ensures.sets.same_store ∙ c.begin-txn.ensures.same_store)) in
-    ap (λ (m : Memory). m.used) last ∙ c.commit.ensures.idle
-
-pub returns-in-Ok-clause-reports : goal.returns-in-Ok-clause-reports
-returns-in-Ok-clause-reports g c =
-    let last = c.store-1.given.1 (sym (c.set_bytes.ensures.sets.same_store ∙ c.begin-txn.ensures.same_store)) in
-    reports_ended _ _ _ _ _ c.begin-txn.ensures.same last c.set_bytes.ensures.sets.reports c.commit.ensures.reports
-
-pub returns-in-Ok-clause-tells : goal.returns-in-Ok-clause-tells
-returns-in-Ok-clause-tells g c =
-    let last = c.store-1.given.1 (sym (c.set_bytes.ensures.sets.same_store ∙ c.begin-txn.ensures.same_store)) in
-    ap (λ (m : Memory). m.failed) last ∙ c.commit.ensures.tells
-
-pub returns-in-Ok-clause-writes : goal.returns-in-Ok-clause-writes
-returns-in-Ok-clause-writes g c =
-    let last = c.store-1.given.1 (sym (c.set_bytes.ensures.sets.same_store ∙ c.begin-txn.ensures.same_store)) in
-    let fits : 3 * (touched_words c.args.offset (length c.args.bytes.now)) + 1 ≤ 3 * touched_words c.args.offset (length c.args.bytes.now) + 1 = omega arith in
-    writes_ended (3 * (touched_words c.args.offset (length c.args.bytes.now))) 1 (3 * touched_words c.args.offset
-    (length c.args.bytes.now) + 1) _ _ (memory_of c.set_bytes.new.txn) _ _ fits c.begin-txn.ensures.same last
-    c.set_bytes.ensures.sets.writes c.commit.ensures.writes
+pub returns-in-Ok-clause-store : goal.returns-in-Ok-clause-store
+returns-in-Ok-clause-store g c =
+    let words = touched_words c.args.offset (length c.args.bytes.now) in
+    let sets = c.set_bytes.ensures.store.sets in
+    let last = c.store-1.given.1 (sym (sets.same_store ∙ c.begin-txn.ensures.same_store)) in
+    spent (3 * words) 1 (3 * words + 1) _ _ (memory_of c.set_bytes.new.txn) _ _ _ (omega arith)
+    c.begin-txn.ensures.same last sets.reports sets.writes c.commit.ensures.store
 
 pub returns-in-Err-clause-any_exit : goal.returns-in-Err-clause-any_exit
 returns-in-Err-clause-any_exit g c =
-    let last = c.store-in-Err-1.given.1 (sym (c.set_bytes.ensures.sets.same_store ∙ c.begin-txn.ensures.same_store)) in
-    inl (stays _ _ (memory_of c.set_bytes.new.txn) _ _ c.begin-txn.ensures.same last c.set_bytes.ensures.sets.kept c.abandon.ensures.kept)
+    let sets = c.set_bytes.ensures.store.sets in
+    let last = c.store-in-Err-1.given.1 (sym (sets.same_store ∙ c.begin-txn.ensures.same_store)) in
+    inl (stays _ _ (memory_of c.set_bytes.new.txn) _ _ c.begin-txn.ensures.same last sets.kept c.abandon.ensures.kept)
 
 pub returns-in-Err-clause-done : goal.returns-in-Err-clause-done
 returns-in-Err-clause-done g c =
-    let last = c.store-in-Err-1.given.1 (sym (c.set_bytes.ensures.sets.same_store ∙ c.begin-txn.ensures.same_store)) in
-    on_error _ c.abandon.result c.in-Err.field-0 (sym c.abandon.ensures.tells ∙ (c.abandon.ensures.reports.stuck c.in-Err.field-0 c.in-Err.ensures.tells).0)
+    let told = c.in-Err.field-0 in
+    on_error _ c.abandon.result told
+    (sym c.abandon.ensures.store.tells ∙ (c.abandon.ensures.store.reports.stuck told c.in-Err.ensures.store.tells).0)
 
-pub returns-in-Err-clause-ready : goal.returns-in-Err-clause-ready
-returns-in-Err-clause-ready g c =
-    let last = c.store-in-Err-1.given.1 (sym (c.set_bytes.ensures.sets.same_store ∙ c.begin-txn.ensures.same_store)) in
-    subst (λ (m : Memory). OnOk c.abandon.result (IsReady m)) (sym last) c.abandon.ensures.ready
-
-pub returns-in-Err-clause-idle : goal.returns-in-Err-clause-idle
-returns-in-Err-clause-idle g c =
-    let last = c.store-in-Err-1.given.1 (sym (c.set_bytes.ensures.sets.same_store ∙ c.begin-txn.ensures.same_store)) in
-    ap (λ (m : Memory). m.used) last ∙ c.abandon.ensures.idle
-
-pub returns-in-Err-clause-reports : goal.returns-in-Err-clause-reports
-returns-in-Err-clause-reports g c =
-    let last = c.store-in-Err-1.given.1 (sym (c.set_bytes.ensures.sets.same_store ∙ c.begin-txn.ensures.same_store)) in
-    reports_ended _ _ _ _ _ c.begin-txn.ensures.same last c.set_bytes.ensures.sets.reports c.abandon.ensures.reports
-
-pub returns-in-Err-clause-tells : goal.returns-in-Err-clause-tells
-returns-in-Err-clause-tells g c =
-    let last = c.store-in-Err-1.given.1 (sym (c.set_bytes.ensures.sets.same_store ∙ c.begin-txn.ensures.same_store)) in
-    ap (λ (m : Memory). m.failed) last ∙ c.abandon.ensures.tells
-
-pub returns-in-Err-clause-writes : goal.returns-in-Err-clause-writes
-returns-in-Err-clause-writes g c =
-    let last = c.store-in-Err-1.given.1 (sym (c.set_bytes.ensures.sets.same_store ∙ c.begin-txn.ensures.same_store)) in
-    let fits : 3 * (touched_words c.args.offset (length c.args.bytes.now)) + 0 ≤ 3 * touched_words c.args.offset (length c.args.bytes.now) + 1 = omega arith in
-    writes_ended (3 * (touched_words c.args.offset (length c.args.bytes.now))) 0 (3 * touched_words c.args.offset
-    (length c.args.bytes.now) + 1) _ _ (memory_of c.set_bytes.new.txn) _ _ fits c.begin-txn.ensures.same last
-    c.set_bytes.ensures.sets.writes (stays_spends _ _ (c.abandon.ensures.reports.stuck c.in-Err.field-0
-    c.in-Err.ensures.tells).1)
+pub returns-in-Err-clause-store : goal.returns-in-Err-clause-store
+returns-in-Err-clause-store g c =
+    let words = touched_words c.args.offset (length c.args.bytes.now) in
+    let sets = c.set_bytes.ensures.store.sets in
+    let last = c.store-in-Err-1.given.1 (sym (sets.same_store ∙ c.begin-txn.ensures.same_store)) in
+    spent_failed (3 * words) _ (3 * words + 1) _ _ (memory_of c.set_bytes.new.txn) _ _ _ c.in-Err.field-0
+    (omega arith) c.begin-txn.ensures.same last sets.reports sets.writes
+    c.in-Err.ensures.store.tells c.abandon.ensures.store
 
 pub set_bytes-requires-clause-ready : goal.set_bytes-requires-clause-ready
 set_bytes-requires-clause-ready g c =

@@ -2,19 +2,27 @@ use Rattle.std.proofs.Common.{◌≡◌, arith, slice_set, length}
 use Rattle.std.proofs.lemmas.Result.{on_ok_weaker}
 use Rattle.undo_journal.specs.Memory.{current}
 use Rattle.undo_journal.specs.Lent.{memory_of}
-use Rattle.undo_journal.specs.laws.Calls.{sets_then}
+use Rattle.undo_journal.specs.laws.Calls.{sets_weaker}
+use Rattle.undo_journal.specs.laws.Told.{sets_in_on, sets_in_handed}
 use Rattle.block_chain.specs.Changes.{touched_words}
 use Rattle.ef_body.proofs.Putting.{puts}
 use Rattle.ef_body.proofs.writing.set_record.Goals as goal
 
 pub set_word-requires-clause-room : goal.set_word-requires-clause-room
 set_word-requires-clause-room g c =
-    let left = c.set_bytes.ensures.sets.room in omega (arith, left, c.requires.room)
+    let left = c.set_bytes.ensures.store.sets.room in omega (arith, left, c.requires.room)
 
-pub returns-clause-sets : goal.returns-clause-sets
-returns-clause-sets g c =
-    sets_then (touched_words c.args.offset (length c.args.bytes.now)) 1 _ _ _ _ (omega arith) c.set_bytes.ensures.sets
-    c.set_word.ensures.sets
+pub returns-in_err-set_bytes-clause-store : goal.returns-in_err-set_bytes-clause-store
+returns-in_err-set_bytes-clause-store g c =
+    let words = touched_words c.args.offset (length c.args.bytes.now) in
+    let failed = c.in_err-set_bytes.ensures.store in
+    sets_in_handed _ _ _ _ _ c.from_residual.ensures.1
+    (record { sets = sets_weaker words _ _ _ (omega arith) failed.sets; ready = tt; tells = failed.tells })
+
+pub returns-clause-store : goal.returns-clause-store
+returns-clause-store g c =
+    sets_in_on (touched_words c.args.offset (length c.args.bytes.now)) 1 _ _ _ _ _ (omega arith)
+    c.set_bytes.ensures.store.sets c.set_word.ensures.store
 
 pub returns-clause-done : goal.returns-clause-done
 returns-clause-done g c =

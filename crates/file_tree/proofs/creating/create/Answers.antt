@@ -1,9 +1,6 @@
-use Rattle.undo_journal.specs.laws.Memory.{reports_then}
-use Rattle.undo_journal.specs.laws.Calls.{reads_spend}
-use Rattle.undo_journal.specs.laws.Calls.{writes_after}
 use Rattle.undo_journal.specs.laws.Calls.{reads_then}
 use Rattle.file_tree.specs.Table.{IsUsed}
-use Rattle.undo_journal.specs.laws.Exits.{none_ok, error_tells}
+use Rattle.undo_journal.specs.laws.Exits.{none_ok}
 use Rattle.std.proofs.Common.{◌≡◌, ℕ, List, length, take, Option, None, Some, is_some, sym, ◌∙◌, ap, subst, arith, inl, inr}
 use Rattle.std.proofs.Common.{⊎_elim, true≢false, refl}
 use Rattle.file_tree.specs.Changes.{SameTree}
@@ -26,6 +23,7 @@ use Rattle.file_tree.specs.laws.NewEntries.{entry_for, no_chain, short_option, s
 use Rattle.file_tree.specs.laws.Rewriting.{filled}
 use Rattle.file_tree.specs.laws.Created.{FindsPlace, FillsAndAdds}
 use Rattle.file_tree.specs.laws.Made.{is_created}
+use Rattle.undo_journal.specs.laws.Told.{changes_after, changes_handed, reads_change, reads_on}
 use Rattle.file_tree.proofs.creating.create.Goals as goal
 
 -- a dedicated file is a used entry's
@@ -85,43 +83,31 @@ write_file-requires-clause-few g c =
     let most = size_most c.args.fcp.now.kind c.requires.fcp.ranges.kind in
     omega (arith, most, c.size.ensures, c.blocks_for-blocks.ensures)
 
-pub returns-clause-idle : goal.returns-clause-idle
-returns-clause-idle g c = λ status is.
-    let m = committed c.args.store.now in
-    let found = place_at m c.args.df c.args.fcp.now _ c.in-At.entry c.in-At.is c.in_ok-entry.ensures.found in
-    absurd (none_some status (sym (not_refused m c.args.df c.args.fcp.now c.in-At.entry found) ∙ is))
-
-pub returns-in_err-write_file-clause-idle : goal.returns-in_err-write_file-clause-idle
-returns-in_err-write_file-clause-idle g c = λ status is.
-    let m = committed c.args.store.now in
-    let found = place_at m c.args.df c.args.fcp.now _ c.in-At.entry c.in-At.is c.in_ok-entry.ensures.found in
-    absurd (none_some status (sym (not_refused m c.args.df c.args.fcp.now c.in-At.entry found) ∙ is))
-
 pub returns-clause-done : goal.returns-clause-done
 returns-clause-done g c =
     let m = committed c.args.store.now in
     let fcp = c.args.fcp.now in
-    let read = c.find_place.ensures.reads.keeps.committed_words in
+    let read = c.find_place.ensures.store.only.keeps.committed_words in
     created m (committed c.short_of.new.store) (committed c.write_file.new.store) c.args.df c.in_ok-short.short c.in-At.entry
     c.blocks_for-blocks.result fcp c.entry_for.result
     c.requires.ready.usable.committed_size c.requires.tree c.requires.df c.requires.fcp
     (place_at m c.args.df fcp _ c.in-At.entry c.in-At.is c.in_ok-entry.ensures.found)
     (short_before m (committed c.find_place.new.store) c.args.df c.in_ok-short.short fcp read c.in_ok-short.ensures.short)
-    (c.short_of.ensures.reads.keeps.committed_words ∙ read)
+    (c.short_of.ensures.store.only.keeps.committed_words ∙ read)
     c.entry_for.ensures (c.blocks_for-blocks.ensures ∙ ap blocks_for c.size.ensures) c.in_ok-write_file.ensures.done
 
 pub returns-clause-any_exit : goal.returns-clause-any_exit
 returns-clause-any_exit g c =
     let m = committed c.args.store.now in
     let fcp = c.args.fcp.now in
-    let read = c.find_place.ensures.reads.keeps.committed_words in
+    let read = c.find_place.ensures.store.only.keeps.committed_words in
     let is =
     created m (committed c.short_of.new.store) (committed c.write_file.new.store) c.args.df c.in_ok-short.short c.in-At.entry
     c.blocks_for-blocks.result fcp c.entry_for.result
     c.requires.ready.usable.committed_size c.requires.tree c.requires.df c.requires.fcp
     (place_at m c.args.df fcp _ c.in-At.entry c.in-At.is c.in_ok-entry.ensures.found)
     (short_before m (committed c.find_place.new.store) c.args.df c.in_ok-short.short fcp read c.in_ok-short.ensures.short)
-    (c.short_of.ensures.reads.keeps.committed_words ∙ read)
+    (c.short_of.ensures.store.only.keeps.committed_words ∙ read)
     c.entry_for.ensures (c.blocks_for-blocks.ensures ∙ ap blocks_for c.size.ensures) c.in_ok-write_file.ensures.done in
     inr is.creates
 
@@ -130,8 +116,8 @@ returns-in_err-write_file-clause-any_exit g c =
     let m = committed c.args.store.now in
     let fcp = c.args.fcp.now in
     let sized = c.requires.ready.usable.committed_size in
-    let read = c.find_place.ensures.reads.keeps.committed_words in
-    let words = c.short_of.ensures.reads.keeps.committed_words ∙ read in
+    let read = c.find_place.ensures.store.only.keeps.committed_words in
+    let words = c.short_of.ensures.store.only.keeps.committed_words ∙ read in
     let after = committed c.write_file.new.store in
     ⊎_elim
     (λ (fills : OnlyContent (committed c.short_of.new.store)
@@ -163,62 +149,41 @@ find_place-requires-clause-fcp g c = c.requires.fcp
 
 pub returns-in_err-entry-clause-any_exit : goal.returns-in_err-entry-clause-any_exit
 returns-in_err-entry-clause-any_exit g c =
-    inl (same_tree (committed c.args.store.now) _ c.requires.tree c.find_place.ensures.reads.keeps.committed_words)
-
-pub returns-in_err-entry-clause-idle : goal.returns-in_err-entry-clause-idle
-returns-in_err-entry-clause-idle g c = λ status is. c.find_place.ensures.reads
+    inl (same_tree (committed c.args.store.now) _ c.requires.tree c.find_place.ensures.store.only.keeps.committed_words)
 
 pub returns-in_err-entry-clause-done : goal.returns-in_err-entry-clause-done
 returns-in_err-entry-clause-done g c = none_ok _ _ _ c.from_residual.ensures.1
 
-pub returns-in_err-entry-clause-ready : goal.returns-in_err-entry-clause-ready
-returns-in_err-entry-clause-ready g c = none_ok _ _ _ c.from_residual.ensures.1
-
-pub returns-in_err-entry-clause-reports : goal.returns-in_err-entry-clause-reports
-returns-in_err-entry-clause-reports g c = c.find_place.ensures.reads.reports
-
-pub returns-in_err-entry-clause-tells : goal.returns-in_err-entry-clause-tells
-returns-in_err-entry-clause-tells g c = error_tells _ _ _ c.from_residual.ensures.1 c.in_err-entry.ensures.tells
-
-pub returns-in_err-entry-clause-writes : goal.returns-in_err-entry-clause-writes
-returns-in_err-entry-clause-writes g c = reads_spend _ _ _ c.find_place.ensures.reads
+pub returns-in_err-entry-clause-store : goal.returns-in_err-entry-clause-store
+returns-in_err-entry-clause-store g c =
+    changes_handed _ _ _ _ _ c.from_residual.ensures.1
+    (reads_change _ _ _ _ c.requires.ready.idle c.in_err-entry.ensures.store)
 
 pub returns-in-Refused-clause-any_exit : goal.returns-in-Refused-clause-any_exit
 returns-in-Refused-clause-any_exit g c =
-    inl (same_tree (committed c.args.store.now) _ c.requires.tree c.find_place.ensures.reads.keeps.committed_words)
-
-pub returns-in-Refused-clause-idle : goal.returns-in-Refused-clause-idle
-returns-in-Refused-clause-idle g c = λ status is. c.find_place.ensures.reads
+    inl (same_tree (committed c.args.store.now) _ c.requires.tree c.find_place.ensures.store.only.keeps.committed_words)
 
 pub returns-in-Refused-clause-done : goal.returns-in-Refused-clause-done
 returns-in-Refused-clause-done g c = (
   subst (λ (p : Place). FindsPlace (committed c.args.store.now) c.args.df c.args.fcp.now p) c.in-Refused.is
       c.in_ok-entry.ensures.found,
-  c.find_place.ensures.reads.keeps.committed_words,
+  c.find_place.ensures.store.only.keeps.committed_words,
 )
 
-pub returns-in-Refused-clause-ready : goal.returns-in-Refused-clause-ready
-returns-in-Refused-clause-ready g c = c.in_ok-entry.ensures.ready
-
-pub returns-in-Refused-clause-reports : goal.returns-in-Refused-clause-reports
-returns-in-Refused-clause-reports g c = c.find_place.ensures.reads.reports
-
-pub returns-in-Refused-clause-tells : goal.returns-in-Refused-clause-tells
-returns-in-Refused-clause-tells g c = c.in_ok-entry.ensures.ready.usable.works
-
-pub returns-in-Refused-clause-writes : goal.returns-in-Refused-clause-writes
-returns-in-Refused-clause-writes g c = reads_spend _ _ _ c.find_place.ensures.reads
+pub returns-in-Refused-clause-store : goal.returns-in-Refused-clause-store
+returns-in-Refused-clause-store g c =
+    reads_change _ _ _ _ c.requires.ready.idle c.in_ok-entry.ensures.store
 
 pub short_of-requires-clause-ready : goal.short_of-requires-clause-ready
-short_of-requires-clause-ready g c = c.in_ok-entry.ensures.ready
+short_of-requires-clause-ready g c = c.in_ok-entry.ensures.store.ready
 
 pub short_of-requires-clause-tree : goal.short_of-requires-clause-tree
 short_of-requires-clause-tree g c =
-    subst (λ (l : List ℕ). TreeStands l) (sym (c.find_place.ensures.reads.keeps.committed_words)) c.requires.tree
+    subst (λ (l : List ℕ). TreeStands l) (sym (c.find_place.ensures.store.only.keeps.committed_words)) c.requires.tree
 
 pub short_of-requires-clause-df : goal.short_of-requires-clause-df
 short_of-requires-clause-df g c =
-    subst (λ (l : List ℕ). IsUsed (table l) c.args.df) (sym (c.find_place.ensures.reads.keeps.committed_words)) (used_df
+    subst (λ (l : List ℕ). IsUsed (table l) c.args.df) (sym (c.find_place.ensures.store.only.keeps.committed_words)) (used_df
     (committed c.args.store.now) c.args.df c.requires.df)
 
 pub short_of-requires-clause-fcp : goal.short_of-requires-clause-fcp
@@ -226,66 +191,57 @@ short_of-requires-clause-fcp g c = c.requires.fcp
 
 pub returns-in_err-short-clause-any_exit : goal.returns-in_err-short-clause-any_exit
 returns-in_err-short-clause-any_exit g c =
-    inl (same_tree (committed c.args.store.now) _ c.requires.tree (c.short_of.ensures.reads.keeps.committed_words
-    ∙ c.find_place.ensures.reads.keeps.committed_words))
-
-pub returns-in_err-short-clause-idle : goal.returns-in_err-short-clause-idle
-returns-in_err-short-clause-idle g c = λ status is. reads_then _ _ _ c.find_place.ensures.reads c.short_of.ensures.reads
+    inl (same_tree (committed c.args.store.now) _ c.requires.tree (c.short_of.ensures.store.only.keeps.committed_words
+    ∙ c.find_place.ensures.store.only.keeps.committed_words))
 
 pub returns-in_err-short-clause-done : goal.returns-in_err-short-clause-done
 returns-in_err-short-clause-done g c = none_ok _ _ _ c.from_residual-in_err-short.ensures.1
 
-pub returns-in_err-short-clause-ready : goal.returns-in_err-short-clause-ready
-returns-in_err-short-clause-ready g c = none_ok _ _ _ c.from_residual-in_err-short.ensures.1
-
-pub returns-in_err-short-clause-reports : goal.returns-in_err-short-clause-reports
-returns-in_err-short-clause-reports g c = reports_then _ _ _ c.find_place.ensures.reads.reports c.short_of.ensures.reads.reports
-
-pub returns-in_err-short-clause-tells : goal.returns-in_err-short-clause-tells
-returns-in_err-short-clause-tells g c = error_tells _ _ _ c.from_residual-in_err-short.ensures.1 c.in_err-short.ensures.tells
-
-pub returns-in_err-short-clause-writes : goal.returns-in_err-short-clause-writes
-returns-in_err-short-clause-writes g c =
-    reads_spend _ _ _ (reads_then _ _ _ c.find_place.ensures.reads c.short_of.ensures.reads)
+pub returns-in_err-short-clause-store : goal.returns-in_err-short-clause-store
+returns-in_err-short-clause-store g c =
+    changes_handed _ _ _ _ _ c.from_residual-in_err-short.ensures.1
+    (reads_change _ _ _ _ c.requires.ready.idle
+    (reads_on _ _ _ _ c.find_place.ensures.store.only c.in_err-short.ensures.store))
 
 pub write_file-requires-clause-ready : goal.write_file-requires-clause-ready
-write_file-requires-clause-ready g c = c.in_ok-short.ensures.ready
+write_file-requires-clause-ready g c = c.in_ok-short.ensures.store.ready
 
 pub write_file-requires-clause-tree : goal.write_file-requires-clause-tree
 write_file-requires-clause-tree g c =
-    subst (λ (l : List ℕ). TreeStands l) (sym (c.short_of.ensures.reads.keeps.committed_words
-    ∙ c.find_place.ensures.reads.keeps.committed_words)) c.requires.tree
+    subst (λ (l : List ℕ). TreeStands l) (sym (c.short_of.ensures.store.only.keeps.committed_words
+    ∙ c.find_place.ensures.store.only.keeps.committed_words)) c.requires.tree
 
 pub returns-in_err-write_file-clause-done : goal.returns-in_err-write_file-clause-done
 returns-in_err-write_file-clause-done g c = none_ok _ _ _ c.from_residual-in_err-write_file.ensures.1
 
-pub returns-in_err-write_file-clause-ready : goal.returns-in_err-write_file-clause-ready
-returns-in_err-write_file-clause-ready g c = none_ok _ _ _ c.from_residual-in_err-write_file.ensures.1
+pub returns-in_err-write_file-clause-store : goal.returns-in_err-write_file-clause-store
+returns-in_err-write_file-clause-store g c =
+    changes_handed _ _ _ _ _ c.from_residual-in_err-write_file.ensures.1
+    (changes_after _ _ _ _ _ (reads_then _ _ _ c.find_place.ensures.store.only c.short_of.ensures.store.only)
+    c.in_err-write_file.ensures.store)
 
-pub returns-in_err-write_file-clause-reports : goal.returns-in_err-write_file-clause-reports
-returns-in_err-write_file-clause-reports g c =
-    reports_then _ _ _ (reports_then _ _ _ c.find_place.ensures.reads.reports c.short_of.ensures.reads.reports)
-    c.write_file.ensures.reports
+pub returns-clause-store : goal.returns-clause-store
+returns-clause-store g c =
+    changes_after _ _ _ _ _ (reads_then _ _ _ c.find_place.ensures.store.only c.short_of.ensures.store.only)
+    c.in_ok-write_file.ensures.store
 
-pub returns-in_err-write_file-clause-tells : goal.returns-in_err-write_file-clause-tells
-returns-in_err-write_file-clause-tells g c =
-    error_tells _ _ _ c.from_residual-in_err-write_file.ensures.1 c.in_err-write_file.ensures.tells
+pub returns-clause-idle : goal.returns-clause-idle
+returns-clause-idle g c = λ status is.
+    let m = committed c.args.store.now in
+    let found = place_at m c.args.df c.args.fcp.now _ c.in-At.entry c.in-At.is c.in_ok-entry.ensures.found in
+    absurd (none_some status (sym (not_refused m c.args.df c.args.fcp.now c.in-At.entry found) ∙ is))
 
-pub returns-in_err-write_file-clause-writes : goal.returns-in_err-write_file-clause-writes
-returns-in_err-write_file-clause-writes g c =
-    writes_after _ _ _ _ (reads_then _ _ _ c.find_place.ensures.reads c.short_of.ensures.reads) c.write_file.ensures.writes
+pub returns-in_err-write_file-clause-idle : goal.returns-in_err-write_file-clause-idle
+returns-in_err-write_file-clause-idle g c = λ status is.
+    let m = committed c.args.store.now in
+    let found = place_at m c.args.df c.args.fcp.now _ c.in-At.entry c.in-At.is c.in_ok-entry.ensures.found in
+    absurd (none_some status (sym (not_refused m c.args.df c.args.fcp.now c.in-At.entry found) ∙ is))
 
-pub returns-clause-ready : goal.returns-clause-ready
-returns-clause-ready g c = c.in_ok-write_file.ensures.ready
+pub returns-in_err-entry-clause-idle : goal.returns-in_err-entry-clause-idle
+returns-in_err-entry-clause-idle g c = λ status is. c.find_place.ensures.store.only
 
-pub returns-clause-reports : goal.returns-clause-reports
-returns-clause-reports g c =
-    reports_then _ _ _ (reports_then _ _ _ c.find_place.ensures.reads.reports c.short_of.ensures.reads.reports)
-    c.write_file.ensures.reports
+pub returns-in-Refused-clause-idle : goal.returns-in-Refused-clause-idle
+returns-in-Refused-clause-idle g c = λ status is. c.find_place.ensures.store.only
 
-pub returns-clause-tells : goal.returns-clause-tells
-returns-clause-tells g c = c.in_ok-write_file.ensures.ready.usable.works
-
-pub returns-clause-writes : goal.returns-clause-writes
-returns-clause-writes g c =
-    writes_after _ _ _ _ (reads_then _ _ _ c.find_place.ensures.reads c.short_of.ensures.reads) c.write_file.ensures.writes
+pub returns-in_err-short-clause-idle : goal.returns-in_err-short-clause-idle
+returns-in_err-short-clause-idle g c = λ status is. reads_then _ _ _ c.find_place.ensures.store.only c.short_of.ensures.store.only

@@ -1,4 +1,12 @@
-use Rattle.undo_journal.specs.laws.Calls.{reads_same}
+use Rattle.std.proofs.Common.{◌≡◌, ◌≢◌, IfOk, sym, ◌∙◌, ap, subst, arith}
+use Rattle.undo_journal.specs.Memory.{committed}
+use Rattle.fcp_template.specs.declared.fcp.ShortIdentifier.{ShortIdentifier}
+use Rattle.fcp_template.specs.Ranges.{IsShort}
+use Rattle.file_tree.specs.NewFiles.{short_for}
+use Rattle.file_tree.specs.Table.{table, path_of}
+use Rattle.file_tree.specs.Trees.{tree_of}
+use Rattle.file_tree.specs.laws.NewEntries.{short_option, some_option}
+use Rattle.undo_journal.specs.laws.Told.{reads_none}
 use Rattle.file_tree.proofs.creating.short_number.Goals as goal
 
 pub short_by_default-requires-clause-ready : goal.short_by_default-requires-clause-ready
@@ -10,29 +18,32 @@ short_by_default-requires-clause-tree g c = c.requires.tree
 pub short_by_default-requires-clause-df : goal.short_by_default-requires-clause-df
 short_by_default-requires-clause-df g c = c.requires.df
 
-pub returns-in-Absent-clause-ready : goal.returns-in-Absent-clause-ready
-returns-in-Absent-clause-ready g c = c.short_by_default.ensures.ready
+pub returns-in-Absent-clause-store : goal.returns-in-Absent-clause-store
+returns-in-Absent-clause-store g c =
+    c.short_by_default.ensures.store
 
-pub returns-in-Absent-clause-reads : goal.returns-in-Absent-clause-reads
-returns-in-Absent-clause-reads g c = c.short_by_default.ensures.reads
+pub returns-in-Empty-clause-store : goal.returns-in-Empty-clause-store
+returns-in-Empty-clause-store g c =
+    reads_none _ c.requires.ready
 
-pub returns-in-Absent-clause-tells : goal.returns-in-Absent-clause-tells
-returns-in-Absent-clause-tells g c = c.short_by_default.ensures.tells
+pub returns-in-Given-clause-store : goal.returns-in-Given-clause-store
+returns-in-Given-clause-store g c =
+    reads_none _ c.requires.ready
 
-pub returns-in-Empty-clause-ready : goal.returns-in-Empty-clause-ready
-returns-in-Empty-clause-ready g c = c.requires.ready
+pub returns-in-Absent-clause-short : goal.returns-in-Absent-clause-short
+returns-in-Absent-clause-short g c =
+    subst (λ (s : ShortIdentifier). IfOk c.short_by_default.result (λ n. short_option n ≡ short_for
+    (tree_of (committed c.args.store.now)) (path_of (table (committed c.args.store.now)) c.args.df) c.args.identifier s)) (sym c.in-Absent.is) c.short_by_default.ensures.short
 
-pub returns-in-Empty-clause-reads : goal.returns-in-Empty-clause-reads
-returns-in-Empty-clause-reads g c = reads_same _
+pub returns-in-Empty-clause-short : goal.returns-in-Empty-clause-short
+returns-in-Empty-clause-short g c =
+    ap (λ (s : ShortIdentifier). short_for (tree_of (committed c.args.store.now)) (path_of (table (committed c.args.store.now)) c.args.df) c.args.identifier s)
+    (sym c.in-Empty.is)
 
-pub returns-in-Empty-clause-tells : goal.returns-in-Empty-clause-tells
-returns-in-Empty-clause-tells g c = c.requires.ready.usable.works
-
-pub returns-in-Given-clause-ready : goal.returns-in-Given-clause-ready
-returns-in-Given-clause-ready g c = c.requires.ready
-
-pub returns-in-Given-clause-reads : goal.returns-in-Given-clause-reads
-returns-in-Given-clause-reads g c = reads_same _
-
-pub returns-in-Given-clause-tells : goal.returns-in-Given-clause-tells
-returns-in-Given-clause-tells g c = c.requires.ready.usable.works
+pub returns-in-Given-clause-short : goal.returns-in-Given-clause-short
+returns-in-Given-clause-short g c =
+    let range = subst (λ (s : ShortIdentifier). IsShort s) c.in-Given.is c.requires.short in
+    let some : c.in-Given.number ≢ 0 = λ z. omega (arith, z, range.0) in
+    some_option c.in-Given.number some
+    ∙ ap (λ (s : ShortIdentifier). short_for (tree_of (committed c.args.store.now)) (path_of (table (committed c.args.store.now)) c.args.df) c.args.identifier s)
+    (sym c.in-Given.is)

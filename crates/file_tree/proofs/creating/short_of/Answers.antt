@@ -1,5 +1,51 @@
-use Rattle.undo_journal.specs.laws.Calls.{reads_same}
+use Rattle.std.proofs.Common.{◌≡◌, ◌≢◌, None, refl, sym, ◌∙◌, ap, subst, arith}
+use Rattle.undo_journal.specs.Memory.{committed}
+use Rattle.fcp_template.specs.declared.fcp.Fcp.{Fcp}
+use Rattle.fcp_template.specs.declared.fcp.FileKind.{FileKind}
+use Rattle.fcp_template.specs.declared.fcp.FileKind.TheVariants as kinds
+use Rattle.fcp_template.specs.declared.fcp.ShortIdentifier.{ShortIdentifier}
+use Rattle.fcp_template.specs.Ranges.{IsShort}
+use Rattle.fcp_template.specs.Views.{short_of_kind}
+use Rattle.file_tree.specs.Cards.{Path, Tree}
+use Rattle.file_tree.specs.NewFiles.{short_for, short_of_new}
+use Rattle.file_tree.specs.Table.{table, path_of}
+use Rattle.file_tree.specs.Trees.{tree_of}
+use Rattle.file_tree.specs.laws.Allowed.{creatable_short}
+use Rattle.file_tree.specs.laws.NewEntries.{kind_number}
+use Rattle.undo_journal.specs.laws.Exits.{none_ok}
+use Rattle.undo_journal.specs.laws.Told.{reads_none, reads_handed}
 use Rattle.file_tree.proofs.creating.short_of.Goals as goal
+
+-- a dedicated file has none; of another the template says it
+none_of_dedicated : (tree : Tree) (df : Path) (fcp : Fcp) → kind_number fcp.kind ≡ 1 → None ≡ short_of_new tree df fcp
+none_of_dedicated tree df fcp is = by_kind fcp.kind is
+  where
+    by_kind : (kind : FileKind) → kind_number kind ≡ 1
+        → None ≡ short_of_new tree df (record { identifier = fcp.identifier; life_cycle = fcp.life_cycle; rule = fcp.rule; kind = kind })
+    by_kind (kinds.Df name) is = refl
+    by_kind (kinds.Transparent short size) is = absurd (omega (arith, is))
+    by_kind (kinds.Linear short records) is = absurd (omega (arith, is))
+    by_kind (kinds.Cyclic short records) is = absurd (omega (arith, is))
+
+as_told : (tree : Tree) (df : Path) (fcp : Fcp) → kind_number fcp.kind ≢ 1
+    → short_for tree df fcp.identifier (short_of_kind fcp.kind) ≡ short_of_new tree df fcp
+as_told tree df fcp other = by_kind fcp.kind other
+  where
+    by_kind : (kind : FileKind) → kind_number kind ≢ 1 → short_for tree df fcp.identifier (short_of_kind kind)
+        ≡ short_of_new tree df (record { identifier = fcp.identifier; life_cycle = fcp.life_cycle; rule = fcp.rule; kind = kind })
+    by_kind (kinds.Df name) other = absurd (other refl)
+    by_kind (kinds.Transparent short size) other = refl
+    by_kind (kinds.Linear short records) other = refl
+    by_kind (kinds.Cyclic short records) other = refl
+
+pub returns-then-kind_number-eq1-clause-short : goal.returns-then-kind_number-eq1-clause-short
+returns-then-kind_number-eq1-clause-short g c =
+    let m = committed c.args.store.now in
+    none_of_dedicated (tree_of m) (path_of (table m) c.args.df) c.args.fcp.now (sym c.kind_number.ensures ∙ c.if-kind_number-eq1.true)
+
+pub returns-then-kind_number-eq1-clause-store : goal.returns-then-kind_number-eq1-clause-store
+returns-then-kind_number-eq1-clause-store g c =
+    reads_none _ c.requires.ready
 
 pub short_number-requires-clause-ready : goal.short_number-requires-clause-ready
 short_number-requires-clause-ready g c = c.requires.ready
@@ -10,56 +56,25 @@ short_number-requires-clause-tree g c = c.requires.tree
 pub short_number-requires-clause-df : goal.short_number-requires-clause-df
 short_number-requires-clause-df g c = c.requires.df
 
-pub short_number-requires-in-Linear-clause-ready : goal.short_number-requires-in-Linear-clause-ready
-short_number-requires-in-Linear-clause-ready g c = c.requires.ready
+pub short_number-requires-clause-short : goal.short_number-requires-clause-short
+short_number-requires-clause-short g c =
+    subst (λ (s : ShortIdentifier). IsShort s) (sym c.short.ensures)
+    (creatable_short c.args.fcp.now.kind c.requires.fcp.ranges.kind)
 
-pub short_number-requires-in-Linear-clause-tree : goal.short_number-requires-in-Linear-clause-tree
-short_number-requires-in-Linear-clause-tree g c = c.requires.tree
+pub returns-in_err-number-clause-short : goal.returns-in_err-number-clause-short
+returns-in_err-number-clause-short g c = none_ok _ _ _ c.from_residual.ensures.1
 
-pub short_number-requires-in-Linear-clause-df : goal.short_number-requires-in-Linear-clause-df
-short_number-requires-in-Linear-clause-df g c = c.requires.df
+pub returns-in_err-number-clause-store : goal.returns-in_err-number-clause-store
+returns-in_err-number-clause-store g c =
+    reads_handed _ _ _ _ c.from_residual.ensures.1 c.in_err-number.ensures.store
 
-pub short_number-requires-in-Cyclic-clause-ready : goal.short_number-requires-in-Cyclic-clause-ready
-short_number-requires-in-Cyclic-clause-ready g c = c.requires.ready
+pub returns-clause-short : goal.returns-clause-short
+returns-clause-short g c =
+    let m = committed c.args.store.now in
+    let path = path_of (table m) c.args.df in
+    c.in_ok-number.ensures.short
+    ∙ ap (λ (s : ShortIdentifier). short_for (tree_of m) path c.args.fcp.now.identifier s) c.short.ensures
+    ∙ as_told (tree_of m) path c.args.fcp.now (λ is. c.if-kind_number-eq1.false (c.kind_number.ensures ∙ is))
 
-pub short_number-requires-in-Cyclic-clause-tree : goal.short_number-requires-in-Cyclic-clause-tree
-short_number-requires-in-Cyclic-clause-tree g c = c.requires.tree
-
-pub short_number-requires-in-Cyclic-clause-df : goal.short_number-requires-in-Cyclic-clause-df
-short_number-requires-in-Cyclic-clause-df g c = c.requires.df
-
-pub returns-in-Df-clause-ready : goal.returns-in-Df-clause-ready
-returns-in-Df-clause-ready g c = c.requires.ready
-
-pub returns-in-Df-clause-reads : goal.returns-in-Df-clause-reads
-returns-in-Df-clause-reads g c = reads_same _
-
-pub returns-in-Df-clause-tells : goal.returns-in-Df-clause-tells
-returns-in-Df-clause-tells g c = c.requires.ready.usable.works
-
-pub returns-in-Transparent-clause-ready : goal.returns-in-Transparent-clause-ready
-returns-in-Transparent-clause-ready g c = c.short_number.ensures.ready
-
-pub returns-in-Transparent-clause-reads : goal.returns-in-Transparent-clause-reads
-returns-in-Transparent-clause-reads g c = c.short_number.ensures.reads
-
-pub returns-in-Transparent-clause-tells : goal.returns-in-Transparent-clause-tells
-returns-in-Transparent-clause-tells g c = c.short_number.ensures.tells
-
-pub returns-in-Linear-clause-ready : goal.returns-in-Linear-clause-ready
-returns-in-Linear-clause-ready g c = c.short_number-in-Linear.ensures.ready
-
-pub returns-in-Linear-clause-reads : goal.returns-in-Linear-clause-reads
-returns-in-Linear-clause-reads g c = c.short_number-in-Linear.ensures.reads
-
-pub returns-in-Linear-clause-tells : goal.returns-in-Linear-clause-tells
-returns-in-Linear-clause-tells g c = c.short_number-in-Linear.ensures.tells
-
-pub returns-in-Cyclic-clause-ready : goal.returns-in-Cyclic-clause-ready
-returns-in-Cyclic-clause-ready g c = c.short_number-in-Cyclic.ensures.ready
-
-pub returns-in-Cyclic-clause-reads : goal.returns-in-Cyclic-clause-reads
-returns-in-Cyclic-clause-reads g c = c.short_number-in-Cyclic.ensures.reads
-
-pub returns-in-Cyclic-clause-tells : goal.returns-in-Cyclic-clause-tells
-returns-in-Cyclic-clause-tells g c = c.short_number-in-Cyclic.ensures.tells
+pub returns-clause-store : goal.returns-clause-store
+returns-clause-store g c = c.in_ok-number.ensures.store

@@ -1,8 +1,7 @@
-use Rattle.std.proofs.Common.{rules, ◌≡◌, ◌+◌, ◌*◌, ℕ, List, OnOk, length, take, replicate, sym, ◌∙◌, ap, subst, inl, inr, ⊎_elim}
+use Rattle.std.proofs.Common.{rules, ◌≡◌, ◌*◌, ℕ, List, length, take, replicate, sym, ◌∙◌, ap, subst, inl, inr, ⊎_elim}
 use Rattle.std.proofs.Common.{lit<, arith}
 use Rattle.undo_journal.specs.Lent.{memory_of}
-use Rattle.undo_journal.specs.Memory.{Memory, committed, current, IsReady}
-use Rattle.undo_journal.specs.laws.Memory.{reports_then, writes_then}
+use Rattle.undo_journal.specs.Memory.{committed, current, IsReady}
 use Rattle.block_chain.specs.declared.layout.TheConstants.{BLOCK_BYTES}
 use Rattle.block_chain.specs.Chains.{HasFree, free_chain, bytes_of}
 use Rattle.block_chain.specs.Changes.{OnlyContent}
@@ -14,9 +13,9 @@ use Rattle.file_tree.specs.Table.{table, extents}
 use Rattle.file_tree.specs.laws.Created.{AddsFile, FillsAndAdds}
 use Rattle.file_tree.specs.laws.Rewriting.{filled}
 use Rattle.undo_journal.specs.laws.Exits.{on_then, on_error}
-use Rattle.undo_journal.specs.laws.Calls.{within_more}
-use Rattle.undo_journal.specs.laws.Transactions.{stays, reports_ended, writes_ended, stays_spends}
+use Rattle.undo_journal.specs.laws.Transactions.{stays}
 use Rattle.file_tree.proofs.Transactions.{lasts, stays_or_lasts}
+use Rattle.undo_journal.specs.laws.Told.{changes_within, changes_handed, changes_on, spent, spent_failed}
 use Rattle.file_tree.proofs.creating.write_file.Goals as goal
 
 -- blocks that were filled, and nothing added
@@ -61,96 +60,59 @@ add_file-requires-clause-enough g c =
 pub returns-in-Ok-clause-any_exit : goal.returns-in-Ok-clause-any_exit
 returns-in-Ok-clause-any_exit g c =
     let m = committed c.args.store.now in
-    let last = c.store-1.given.1 (sym (c.add_file.ensures.sets.same_store ∙ c.begin-txn.ensures.same_store)) in
+    let last = c.store-1.given.1 (sym (c.add_file.ensures.store.sets.same_store ∙ c.begin-txn.ensures.same_store)) in
     ⊎_elim (λ still. inl (left_filled m (take c.args.blocks (free_chain m))
     (committed c.fill.new.store) _ still c.fill.ensures.any_exit))
     (λ adds. inr (filled_and_added m c.args.e c.args.entry c.args.blocks
     (committed c.fill.new.store) _ c.fill.ensures.any_exit c.in_ok-fill.ensures.done adds))
     (stays_or_lasts (λ m after. AddsFile m c.args.e c.args.entry c.args.blocks after) _ _ _
-    (memory_of c.add_file.new.txn) _ _ c.begin-txn.ensures.same last c.in_ok-fill.ensures.ready
-    c.add_file.ensures.sets.kept c.in-Ok.ensures.done c.commit.ensures.any_exit)
+    (memory_of c.add_file.new.txn) _ _ c.begin-txn.ensures.same last c.in_ok-fill.ensures.store.ready
+    c.add_file.ensures.store.sets.kept c.in-Ok.ensures.done c.commit.ensures.any_exit)
 
 pub returns-in-Ok-clause-done : goal.returns-in-Ok-clause-done
 returns-in-Ok-clause-done g c =
     let m = committed c.args.store.now in
-    let last = c.store-1.given.1 (sym (c.add_file.ensures.sets.same_store ∙ c.begin-txn.ensures.same_store)) in
+    let last = c.store-1.given.1 (sym (c.add_file.ensures.store.sets.same_store ∙ c.begin-txn.ensures.same_store)) in
     on_then _ _ c.commit.result
     (λ made. filled_and_added m c.args.e c.args.entry c.args.blocks
     (committed c.fill.new.store) _ c.fill.ensures.any_exit c.in_ok-fill.ensures.done
     (lasts (λ m after. AddsFile m c.args.e c.args.entry c.args.blocks after) _ _
-    (memory_of c.add_file.new.txn) _ _ c.begin-txn.ensures.same last c.in_ok-fill.ensures.ready c.in-Ok.ensures.done made))
+    (memory_of c.add_file.new.txn) _ _ c.begin-txn.ensures.same last c.in_ok-fill.ensures.store.ready c.in-Ok.ensures.done made))
     c.commit.ensures.done
 
-pub returns-in-Ok-clause-ready : goal.returns-in-Ok-clause-ready
-returns-in-Ok-clause-ready g c =
-    let last = c.store-1.given.1 (sym (c.add_file.ensures.sets.same_store ∙ c.begin-txn.ensures.same_store)) in
-    subst (λ (m : Memory). OnOk c.commit.result (IsReady m)) (sym last) c.commit.ensures.ready
+pub returns-in-Ok-clause-store : goal.returns-in-Ok-clause-store
+returns-in-Ok-clause-store g c =
+    let last = c.store-1.given.1 (sym (c.add_file.ensures.store.sets.same_store ∙ c.begin-txn.ensures.same_store)) in
+    changes_on c.args.blocks 40 CREATE_WRITES _ _ _ _ (omega (arith, c.requires.few)) c.in_ok-fill.ensures.store
+    (spent 39 1 40 _ _ (memory_of c.add_file.new.txn) _ _ _ (lit< tt) c.begin-txn.ensures.same last
+    c.add_file.ensures.store.sets.reports c.add_file.ensures.store.sets.writes c.commit.ensures.store)
 
-pub returns-in-Ok-clause-reports : goal.returns-in-Ok-clause-reports
-returns-in-Ok-clause-reports g c =
-    let last = c.store-1.given.1 (sym (c.add_file.ensures.sets.same_store ∙ c.begin-txn.ensures.same_store)) in
-    reports_then _ _ _ c.fill.ensures.reports
-    (reports_ended _ _ _ _ _ c.begin-txn.ensures.same last c.add_file.ensures.sets.reports c.commit.ensures.reports)
-
-pub returns-in-Ok-clause-tells : goal.returns-in-Ok-clause-tells
-returns-in-Ok-clause-tells g c =
-    let last = c.store-1.given.1 (sym (c.add_file.ensures.sets.same_store ∙ c.begin-txn.ensures.same_store)) in
-    ap (λ (m : Memory). m.failed) last ∙ c.commit.ensures.tells
-
-pub returns-in-Err-clause-ready : goal.returns-in-Err-clause-ready
-returns-in-Err-clause-ready g c =
-    let last = c.store-in-Err-1.given.1 (sym (c.add_file.ensures.sets.same_store ∙ c.begin-txn.ensures.same_store)) in
-    subst (λ (m : Memory). OnOk c.abandon.result (IsReady m)) (sym last) c.abandon.ensures.ready
-
-pub returns-in-Err-clause-reports : goal.returns-in-Err-clause-reports
-returns-in-Err-clause-reports g c =
-    let last = c.store-in-Err-1.given.1 (sym (c.add_file.ensures.sets.same_store ∙ c.begin-txn.ensures.same_store)) in
-    reports_then _ _ _ c.fill.ensures.reports
-    (reports_ended _ _ _ _ _ c.begin-txn.ensures.same last c.add_file.ensures.sets.reports c.abandon.ensures.reports)
-
-pub returns-in-Err-clause-tells : goal.returns-in-Err-clause-tells
-returns-in-Err-clause-tells g c =
-    let last = c.store-in-Err-1.given.1 (sym (c.add_file.ensures.sets.same_store ∙ c.begin-txn.ensures.same_store)) in
-    ap (λ (m : Memory). m.failed) last ∙ c.abandon.ensures.tells
-
-pub returns-in-Ok-clause-writes : goal.returns-in-Ok-clause-writes
-returns-in-Ok-clause-writes g c =
-    let last = c.store-1.given.1 (sym (c.add_file.ensures.sets.same_store ∙ c.begin-txn.ensures.same_store)) in
-    within_more (c.args.blocks + 40) CREATE_WRITES _ _ (omega (arith, c.requires.few))
-    (writes_then c.args.blocks 40 _ _ _ c.fill.ensures.writes
-    (writes_ended 39 1 40 _ _ (memory_of c.add_file.new.txn) _ _
-    (lit< tt) c.begin-txn.ensures.same last c.add_file.ensures.sets.writes c.commit.ensures.writes))
-
-pub returns-in-Err-clause-writes : goal.returns-in-Err-clause-writes
-returns-in-Err-clause-writes g c =
-    let last = c.store-in-Err-1.given.1 (sym (c.add_file.ensures.sets.same_store ∙ c.begin-txn.ensures.same_store)) in
-    within_more (c.args.blocks + 40) CREATE_WRITES _ _ (omega (arith, c.requires.few))
-    (writes_then c.args.blocks 40 _ _ _ c.fill.ensures.writes
-    (writes_ended 39 0 40 _ _ (memory_of c.add_file.new.txn) _ _
-    (lit< tt) c.begin-txn.ensures.same last c.add_file.ensures.sets.writes (stays_spends _ _
-    (c.abandon.ensures.reports.stuck c.in-Err.field-0 c.in-Err.ensures.tells).1)))
+pub returns-in-Err-clause-store : goal.returns-in-Err-clause-store
+returns-in-Err-clause-store g c =
+    let last = c.store-in-Err-1.given.1 (sym (c.add_file.ensures.store.sets.same_store ∙ c.begin-txn.ensures.same_store)) in
+    changes_on c.args.blocks 40 CREATE_WRITES _ _ _ _ (omega (arith, c.requires.few)) c.in_ok-fill.ensures.store
+    (spent_failed 39 _ 40 _ _ (memory_of c.add_file.new.txn) _ _ _ _ (lit< tt) c.begin-txn.ensures.same last
+    c.add_file.ensures.store.sets.reports c.add_file.ensures.store.sets.writes c.in-Err.ensures.store.tells
+    c.abandon.ensures.store)
 
 pub returns-in-Err-clause-any_exit : goal.returns-in-Err-clause-any_exit
 returns-in-Err-clause-any_exit g c =
     let m = committed c.args.store.now in
-    let last = c.store-in-Err-1.given.1 (sym (c.add_file.ensures.sets.same_store ∙ c.begin-txn.ensures.same_store)) in
+    let last = c.store-in-Err-1.given.1 (sym (c.add_file.ensures.store.sets.same_store ∙ c.begin-txn.ensures.same_store)) in
     inl (left_filled m (take c.args.blocks (free_chain m)) (committed c.fill.new.store) _
-    (stays _ _ (memory_of c.add_file.new.txn) _ _ c.begin-txn.ensures.same last c.add_file.ensures.sets.kept
+    (stays _ _ (memory_of c.add_file.new.txn) _ _ c.begin-txn.ensures.same last c.add_file.ensures.store.sets.kept
     c.abandon.ensures.kept) c.fill.ensures.any_exit)
 
 pub returns-in-Err-clause-done : goal.returns-in-Err-clause-done
 returns-in-Err-clause-done g c =
-    on_error _ c.abandon.result c.in-Err.field-0 (sym c.abandon.ensures.tells ∙
-    (c.abandon.ensures.reports.stuck c.in-Err.field-0 c.in-Err.ensures.tells).0)
+    on_error _ c.abandon.result c.in-Err.field-0 (sym c.abandon.ensures.store.tells ∙
+    (c.abandon.ensures.store.reports.stuck c.in-Err.field-0 c.in-Err.ensures.store.tells).0)
 
 pub returns-in_err-fill-clause-any_exit : goal.returns-in_err-fill-clause-any_exit
 returns-in_err-fill-clause-any_exit g c =
     inl c.fill.ensures.any_exit
 
-pub returns-in_err-fill-clause-reports : goal.returns-in_err-fill-clause-reports
-returns-in_err-fill-clause-reports g c =
-    c.fill.ensures.reports
-
-pub returns-in_err-fill-clause-writes : goal.returns-in_err-fill-clause-writes
-returns-in_err-fill-clause-writes g c =
-    within_more c.args.blocks CREATE_WRITES _ _ (omega (arith, c.requires.few)) c.fill.ensures.writes
+pub returns-in_err-fill-clause-store : goal.returns-in_err-fill-clause-store
+returns-in_err-fill-clause-store g c =
+    changes_handed _ _ _ _ _ c.from_residual.ensures.1
+    (changes_within _ CREATE_WRITES _ _ _ (omega (arith, c.requires.few)) c.in_err-fill.ensures.store)

@@ -1,7 +1,4 @@
-use Rattle.undo_journal.specs.laws.Memory.{reports_then}
-use Rattle.undo_journal.specs.laws.Calls.{reads_spend}
-use Rattle.undo_journal.specs.laws.Calls.{writes_after}
-use Rattle.undo_journal.specs.laws.Exits.{none_ok, error_tells}
+use Rattle.undo_journal.specs.laws.Exits.{none_ok}
 use Rattle.std.proofs.Common.{◌≡◌, ℕ, List, length, sym, ◌∙◌, ap, subst, inl, inr, ⊎_elim}
 use Rattle.undo_journal.specs.Memory.{committed}
 use Rattle.file_tree.specs.declared.entry.Entry.{Entry}
@@ -9,6 +6,7 @@ use Rattle.file_tree.specs.laws.Parting.{length-part}
 use Rattle.file_tree.specs.Table.{table}
 use Rattle.file_tree.specs.laws.Deleting.{CanGive, Removes}
 use Rattle.file_tree.specs.laws.Removals.{can_give, removed_deletes, removed_space}
+use Rattle.undo_journal.specs.laws.Told.{changes_after, reads_change, changes_handed}
 use Rattle.file_tree.proofs.deleting.delete.Goals as goal
 
 pub remove-requires-clause-size : goal.remove-requires-clause-size
@@ -24,7 +22,7 @@ remove-requires-clause-apart g c =
     let part = c.as_slice.ensures.value ∙ removal.part in
     let chains = c.as_slice-2.ensures.value ∙ removal.chains in
     let sized = c.requires.ready.usable.committed_size in
-    let read = c.removal_of.ensures.reads.keeps.committed_words in
+    let read = c.removal_of.ensures.store.only.keeps.committed_words in
     let family : List ℕ → Type 0 = λ l. CanGive l c.as_slice.result.now c.as_slice-2.result.now in
     subst family (sym read) (can_give m c.args.e sized c.requires.tree c.requires.below c.requires.used _ _ part chains)
 
@@ -35,7 +33,7 @@ returns-in_err-remove-clause-any_exit g c =
     let part = c.as_slice.ensures.value ∙ removal.part in
     let chains = c.as_slice-2.ensures.value ∙ removal.chains in
     let sized = c.requires.ready.usable.committed_size in
-    let read = c.removal_of.ensures.reads.keeps.committed_words in
+    let read = c.removal_of.ensures.store.only.keeps.committed_words in
     let family : List ℕ → Type 0 = λ l. Removes l c.as_slice.result.now c.as_slice-2.result.now
     (committed c.remove.new.store) in
     ⊎_elim
@@ -52,7 +50,7 @@ returns-clause-done g c =
     let part = c.as_slice.ensures.value ∙ removal.part in
     let chains = c.as_slice-2.ensures.value ∙ removal.chains in
     let sized = c.requires.ready.usable.committed_size in
-    let read = c.removal_of.ensures.reads.keeps.committed_words in
+    let read = c.removal_of.ensures.store.only.keeps.committed_words in
     let family : List ℕ → Type 0 = λ l. Removes l c.as_slice.result.now c.as_slice-2.result.now
     (committed c.remove.new.store) in
     removed_deletes m c.args.e sized c.requires.tree c.requires.below c.requires.used _ _ part chains _
@@ -65,7 +63,7 @@ returns-clause-any_exit g c =
     let part = c.as_slice.ensures.value ∙ removal.part in
     let chains = c.as_slice-2.ensures.value ∙ removal.chains in
     let sized = c.requires.ready.usable.committed_size in
-    let read = c.removal_of.ensures.reads.keeps.committed_words in
+    let read = c.removal_of.ensures.store.only.keeps.committed_words in
     let family : List ℕ → Type 0 = λ l. Removes l c.as_slice.result.now c.as_slice-2.result.now
     (committed c.remove.new.store) in
     inr (removed_deletes m c.args.e sized c.requires.tree c.requires.below c.requires.used _ _ part chains _
@@ -78,7 +76,7 @@ returns-clause-space g c =
     let part = c.as_slice.ensures.value ∙ removal.part in
     let chains = c.as_slice-2.ensures.value ∙ removal.chains in
     let sized = c.requires.ready.usable.committed_size in
-    let read = c.removal_of.ensures.reads.keeps.committed_words in
+    let read = c.removal_of.ensures.store.only.keeps.committed_words in
     let family : List ℕ → Type 0 = λ l. Removes l c.as_slice.result.now c.as_slice-2.result.now
     (committed c.remove.new.store) in
     removed_space m c.args.e sized c.requires.tree c.requires.below c.requires.used _ _ part chains _
@@ -97,7 +95,7 @@ pub removal_of-requires-clause-below : goal.removal_of-requires-clause-below
 removal_of-requires-clause-below g c = c.requires.below
 
 pub returns-in_err-removal-clause-any_exit : goal.returns-in_err-removal-clause-any_exit
-returns-in_err-removal-clause-any_exit g c = inl c.removal_of.ensures.reads.keeps.committed_words
+returns-in_err-removal-clause-any_exit g c = inl c.removal_of.ensures.store.only.keeps.committed_words
 
 pub returns-in_err-removal-clause-done : goal.returns-in_err-removal-clause-done
 returns-in_err-removal-clause-done g c = none_ok _ _ _ c.from_residual.ensures.1
@@ -105,20 +103,12 @@ returns-in_err-removal-clause-done g c = none_ok _ _ _ c.from_residual.ensures.1
 pub returns-in_err-removal-clause-space : goal.returns-in_err-removal-clause-space
 returns-in_err-removal-clause-space g c = none_ok _ _ _ c.from_residual.ensures.1
 
-pub returns-in_err-removal-clause-ready : goal.returns-in_err-removal-clause-ready
-returns-in_err-removal-clause-ready g c = none_ok _ _ _ c.from_residual.ensures.1
-
-pub returns-in_err-removal-clause-reports : goal.returns-in_err-removal-clause-reports
-returns-in_err-removal-clause-reports g c = c.removal_of.ensures.reads.reports
-
-pub returns-in_err-removal-clause-tells : goal.returns-in_err-removal-clause-tells
-returns-in_err-removal-clause-tells g c = error_tells _ _ _ c.from_residual.ensures.1 c.in_err-removal.ensures.tells
-
-pub returns-in_err-removal-clause-writes : goal.returns-in_err-removal-clause-writes
-returns-in_err-removal-clause-writes g c = reads_spend _ _ _ c.removal_of.ensures.reads
+pub returns-in_err-removal-clause-store : goal.returns-in_err-removal-clause-store
+returns-in_err-removal-clause-store g c =
+    changes_handed _ _ _ _ _ c.from_residual.ensures.1 (reads_change _ _ _ _ c.requires.ready.idle c.in_err-removal.ensures.store)
 
 pub remove-requires-clause-ready : goal.remove-requires-clause-ready
-remove-requires-clause-ready g c = c.in_ok-removal.ensures.ready
+remove-requires-clause-ready g c = c.in_ok-removal.ensures.store.ready
 
 pub returns-in_err-remove-clause-done : goal.returns-in_err-remove-clause-done
 returns-in_err-remove-clause-done g c = none_ok _ _ _ c.from_residual-in_err-remove.ensures.1
@@ -126,27 +116,10 @@ returns-in_err-remove-clause-done g c = none_ok _ _ _ c.from_residual-in_err-rem
 pub returns-in_err-remove-clause-space : goal.returns-in_err-remove-clause-space
 returns-in_err-remove-clause-space g c = none_ok _ _ _ c.from_residual-in_err-remove.ensures.1
 
-pub returns-in_err-remove-clause-ready : goal.returns-in_err-remove-clause-ready
-returns-in_err-remove-clause-ready g c = none_ok _ _ _ c.from_residual-in_err-remove.ensures.1
+pub returns-in_err-remove-clause-store : goal.returns-in_err-remove-clause-store
+returns-in_err-remove-clause-store g c =
+    changes_handed _ _ _ _ _ c.from_residual-in_err-remove.ensures.1 (changes_after _ _ _ _ _ c.removal_of.ensures.store.only c.in_err-remove.ensures.store)
 
-pub returns-in_err-remove-clause-reports : goal.returns-in_err-remove-clause-reports
-returns-in_err-remove-clause-reports g c = reports_then _ _ _ c.removal_of.ensures.reads.reports c.remove.ensures.reports
-
-pub returns-in_err-remove-clause-tells : goal.returns-in_err-remove-clause-tells
-returns-in_err-remove-clause-tells g c =
-    error_tells _ _ _ c.from_residual-in_err-remove.ensures.1 c.in_err-remove.ensures.tells
-
-pub returns-in_err-remove-clause-writes : goal.returns-in_err-remove-clause-writes
-returns-in_err-remove-clause-writes g c = writes_after _ _ _ _ c.removal_of.ensures.reads c.remove.ensures.writes
-
-pub returns-clause-ready : goal.returns-clause-ready
-returns-clause-ready g c = c.in_ok-remove.ensures.ready
-
-pub returns-clause-reports : goal.returns-clause-reports
-returns-clause-reports g c = reports_then _ _ _ c.removal_of.ensures.reads.reports c.remove.ensures.reports
-
-pub returns-clause-tells : goal.returns-clause-tells
-returns-clause-tells g c = c.in_ok-remove.ensures.ready.usable.works
-
-pub returns-clause-writes : goal.returns-clause-writes
-returns-clause-writes g c = writes_after _ _ _ _ c.removal_of.ensures.reads c.remove.ensures.writes
+pub returns-clause-store : goal.returns-clause-store
+returns-clause-store g c =
+    changes_after _ _ _ _ _ c.removal_of.ensures.store.only c.in_ok-remove.ensures.store

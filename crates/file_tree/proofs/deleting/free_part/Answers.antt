@@ -9,11 +9,14 @@ use Rattle.file_tree.specs.declared.layout.TheConstants.{FIRST_ENTRY_PAGE}
 use Rattle.file_tree.specs.Table.{entry_in}
 use Rattle.file_tree.specs.laws.Tables.{entry_within}
 use Rattle.file_tree.specs.laws.Deleting.{FreesUpTo, frees_next, frees_skip}
+use Rattle.undo_journal.specs.laws.Told.{sets_in_on, sets_in_handed}
 use Rattle.file_tree.proofs.deleting.free_part.Goals as goal
 use Rattle.file_tree.proofs.deleting.free_part.Goals.{then-part-from-ne0+in_ok-put, else-part-from-ne0}
 
-pub returns-in_err-put-clause-sets : goal.returns-in_err-put-clause-sets
-returns-in_err-put-clause-sets g c = sets_then _ 1 64 _ _ _ (omega (arith, c.loop-e-test.true)) c.loop-e.invariant.sets c.put.ensures.sets
+pub returns-in_err-put-clause-store : goal.returns-in_err-put-clause-store
+returns-in_err-put-clause-store g c =
+    sets_in_handed _ _ _ _ _ c.from_residual.ensures.1
+    (sets_in_on _ 1 64 _ _ _ _ (omega (arith, c.loop-e-test.true)) c.loop-e.invariant.sets c.in_err-put.ensures.store)
 
 pub loop-e-preserved : goal.loop-e-preserved
 loop-e-preserved g c =
@@ -34,8 +37,8 @@ loop-e-preserved g c =
           let next = frees_next m now part e c.requires.ready.current_size c.loop-e-test.true before some in
           let family : List ℕ → Type 0 = λ l. FreesUpTo m part (e + 1) l in
           record {
-            ready = (let ready : IsOpen (memory_of w.put.new.txn) = w.in_ok-put.ensures.ready in subst (λ t. IsOpen (memory_of t)) (sym w.txn-is) ready);
-            sets = subst (λ t. Sets (e + 1) c.args.txn.now t) (sym w.txn-is) (sets_then _ 1 _ _ _ _ (omega arith) c.loop-e.invariant.sets w.put.ensures.sets);
+            ready = (let ready : IsOpen (memory_of w.put.new.txn) = w.in_ok-put.ensures.store.ready in subst (λ t. IsOpen (memory_of t)) (sym w.txn-is) ready);
+            sets = subst (λ t. Sets (e + 1) c.args.txn.now t) (sym w.txn-is) (sets_then _ 1 _ _ _ _ (omega arith) c.loop-e.invariant.sets w.put.ensures.store.sets);
             so_far = subst (λ t. FreesUpTo m part (e + 1) (current (memory_of t))) (sym w.txn-is) (subst family (sym done) next);
           }
       | else-part-from-ne0 w ↦

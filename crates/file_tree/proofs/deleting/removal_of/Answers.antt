@@ -1,4 +1,4 @@
-use Rattle.undo_journal.specs.laws.Exits.{none_ok, error_tells}
+use Rattle.undo_journal.specs.laws.Exits.{none_ok}
 use Rattle.std.proofs.Common.{◌≤◌, List, length, sym, ◌∙◌, ap, subst, arith}
 use Rattle.std.specs.List.{sum_by}
 use Rattle.undo_journal.specs.Memory.{committed}
@@ -10,6 +10,7 @@ use Rattle.file_tree.specs.Table.{table, extents, free_entries}
 use Rattle.file_tree.specs.laws.Tables.{length-table}
 use Rattle.file_tree.specs.laws.Parting.{part_below, length-part, most_free}
 use Rattle.file_tree.specs.laws.Removals.{part_blocks}
+use Rattle.undo_journal.specs.laws.Told.{reads_handed}
 use Rattle.file_tree.proofs.deleting.removal_of.Goals as goal
 
 pub part_of-part-requires : goal.part_of-part-requires
@@ -54,20 +55,9 @@ read_table-requires g c = record { ready = c.requires.ready }
 pub returns-in_err-entries-clause-removal : goal.returns-in_err-entries-clause-removal
 returns-in_err-entries-clause-removal g c = none_ok _ _ _ c.from_residual.ensures.1
 
-pub returns-in_err-entries-clause-ready : goal.returns-in_err-entries-clause-ready
-returns-in_err-entries-clause-ready g c = none_ok _ _ _ c.from_residual.ensures.1
+pub returns-in_err-entries-clause-store : goal.returns-in_err-entries-clause-store
+returns-in_err-entries-clause-store g c =
+    reads_handed _ _ _ _ c.from_residual.ensures.1 c.in_err-entries.ensures.store
 
-pub returns-in_err-entries-clause-reads : goal.returns-in_err-entries-clause-reads
-returns-in_err-entries-clause-reads g c = c.read_table.ensures.reads
-
-pub returns-in_err-entries-clause-tells : goal.returns-in_err-entries-clause-tells
-returns-in_err-entries-clause-tells g c = error_tells _ _ _ c.from_residual.ensures.1 c.in_err-entries.ensures.tells
-
-pub returns-clause-ready : goal.returns-clause-ready
-returns-clause-ready g c = c.in_ok-entries.ensures.ready
-
-pub returns-clause-reads : goal.returns-clause-reads
-returns-clause-reads g c = c.read_table.ensures.reads
-
-pub returns-clause-tells : goal.returns-clause-tells
-returns-clause-tells g c = c.in_ok-entries.ensures.ready.usable.works
+pub returns-clause-store : goal.returns-clause-store
+returns-clause-store g c = c.in_ok-entries.ensures.store

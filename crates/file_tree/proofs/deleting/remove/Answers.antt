@@ -1,88 +1,48 @@
-use Rattle.std.proofs.Common.{◌+◌, ◌*◌, length, OnOk, sym, ◌∙◌, ap, subst, inl, arith}
+use Rattle.std.proofs.Common.{◌+◌, ◌*◌, length, sym, ◌∙◌, inl, arith}
 use Rattle.undo_journal.specs.Lent.{memory_of}
-use Rattle.undo_journal.specs.Memory.{Memory, IsReady}
 use Rattle.file_tree.specs.declared.layout.TheConstants.{DELETE_WRITES}
 use Rattle.file_tree.specs.laws.Deleting.{Removes}
 use Rattle.undo_journal.specs.laws.Exits.{on_then, on_error}
-use Rattle.undo_journal.specs.laws.Transactions.{stays, reports_ended, writes_ended, stays_spends}
+use Rattle.undo_journal.specs.laws.Transactions.{stays}
 use Rattle.file_tree.proofs.Transactions.{lasts, stays_or_lasts}
+use Rattle.undo_journal.specs.laws.Told.{spent, spent_failed}
 use Rattle.file_tree.proofs.deleting.remove.Goals as goal
 
 pub returns-in-Ok-clause-any_exit : goal.returns-in-Ok-clause-any_exit
 returns-in-Ok-clause-any_exit g c =
-    let last = c.store-1.given.1 (sym (c.take_away.ensures.sets.same_store ∙ c.begin-txn.ensures.same_store)) in
+    let last = c.store-1.given.1 (sym (c.take_away.ensures.store.sets.same_store ∙ c.begin-txn.ensures.same_store)) in
     stays_or_lasts (λ m after. Removes m c.args.part.now c.args.chains.now after) _ _ _
-    (memory_of c.take_away.new.txn) _ _ c.begin-txn.ensures.same last c.requires.ready c.take_away.ensures.sets.kept
+    (memory_of c.take_away.new.txn) _ _ c.begin-txn.ensures.same last c.requires.ready c.take_away.ensures.store.sets.kept
     c.in-Ok.ensures.done c.commit.ensures.any_exit
 
 pub returns-in-Ok-clause-done : goal.returns-in-Ok-clause-done
 returns-in-Ok-clause-done g c =
-    let last = c.store-1.given.1 (sym (c.take_away.ensures.sets.same_store ∙ c.begin-txn.ensures.same_store)) in
+    let last = c.store-1.given.1 (sym (c.take_away.ensures.store.sets.same_store ∙ c.begin-txn.ensures.same_store)) in
     on_then _ _ c.commit.result
     (λ made. lasts (λ m after. Removes m c.args.part.now c.args.chains.now after) _ _
     (memory_of c.take_away.new.txn) _ _ c.begin-txn.ensures.same last c.requires.ready c.in-Ok.ensures.done made)
     c.commit.ensures.done
 
-pub returns-in-Ok-clause-idle : goal.returns-in-Ok-clause-idle
-returns-in-Ok-clause-idle g c =
-    let last = c.store-1.given.1 (sym (c.take_away.ensures.sets.same_store ∙ c.begin-txn.ensures.same_store)) in
-    ap (λ (m : Memory). m.used) last ∙ c.commit.ensures.idle
+pub returns-in-Ok-clause-store : goal.returns-in-Ok-clause-store
+returns-in-Ok-clause-store g c =
+    let last = c.store-1.given.1 (sym (c.take_away.ensures.store.sets.same_store ∙ c.begin-txn.ensures.same_store)) in
+    spent (3 * (64 + (length c.args.chains.now + 1))) 1 DELETE_WRITES _ _ (memory_of c.take_away.new.txn) _ _ _ (omega (arith, c.requires.few)) c.begin-txn.ensures.same last
+    c.take_away.ensures.store.sets.reports c.take_away.ensures.store.sets.writes c.commit.ensures.store
 
-pub returns-in-Ok-clause-ready : goal.returns-in-Ok-clause-ready
-returns-in-Ok-clause-ready g c =
-    let last = c.store-1.given.1 (sym (c.take_away.ensures.sets.same_store ∙ c.begin-txn.ensures.same_store)) in
-    subst (λ (m : Memory). OnOk c.commit.result (IsReady m)) (sym last) c.commit.ensures.ready
-
-pub returns-in-Ok-clause-reports : goal.returns-in-Ok-clause-reports
-returns-in-Ok-clause-reports g c =
-    let last = c.store-1.given.1 (sym (c.take_away.ensures.sets.same_store ∙ c.begin-txn.ensures.same_store)) in
-    reports_ended _ _ _ _ _ c.begin-txn.ensures.same last c.take_away.ensures.sets.reports c.commit.ensures.reports
-
-pub returns-in-Ok-clause-tells : goal.returns-in-Ok-clause-tells
-returns-in-Ok-clause-tells g c =
-    let last = c.store-1.given.1 (sym (c.take_away.ensures.sets.same_store ∙ c.begin-txn.ensures.same_store)) in
-    ap (λ (m : Memory). m.failed) last ∙ c.commit.ensures.tells
-
-pub returns-in-Err-clause-idle : goal.returns-in-Err-clause-idle
-returns-in-Err-clause-idle g c =
-    let last = c.store-in-Err-1.given.1 (sym (c.take_away.ensures.sets.same_store ∙ c.begin-txn.ensures.same_store)) in
-    ap (λ (m : Memory). m.used) last ∙ c.abandon.ensures.idle
-
-pub returns-in-Err-clause-ready : goal.returns-in-Err-clause-ready
-returns-in-Err-clause-ready g c =
-    let last = c.store-in-Err-1.given.1 (sym (c.take_away.ensures.sets.same_store ∙ c.begin-txn.ensures.same_store)) in
-    subst (λ (m : Memory). OnOk c.abandon.result (IsReady m)) (sym last) c.abandon.ensures.ready
-
-pub returns-in-Err-clause-reports : goal.returns-in-Err-clause-reports
-returns-in-Err-clause-reports g c =
-    let last = c.store-in-Err-1.given.1 (sym (c.take_away.ensures.sets.same_store ∙ c.begin-txn.ensures.same_store)) in
-    reports_ended _ _ _ _ _ c.begin-txn.ensures.same last c.take_away.ensures.sets.reports c.abandon.ensures.reports
-
-pub returns-in-Err-clause-tells : goal.returns-in-Err-clause-tells
-returns-in-Err-clause-tells g c =
-    let last = c.store-in-Err-1.given.1 (sym (c.take_away.ensures.sets.same_store ∙ c.begin-txn.ensures.same_store)) in
-    ap (λ (m : Memory). m.failed) last ∙ c.abandon.ensures.tells
-
-pub returns-in-Ok-clause-writes : goal.returns-in-Ok-clause-writes
-returns-in-Ok-clause-writes g c =
-    let last = c.store-1.given.1 (sym (c.take_away.ensures.sets.same_store ∙ c.begin-txn.ensures.same_store)) in
-    writes_ended (3 * (64 + (length c.args.chains.now + 1))) 1 DELETE_WRITES _ _ (memory_of c.take_away.new.txn) _ _ (omega
-    (arith, c.requires.few)) c.begin-txn.ensures.same last c.take_away.ensures.sets.writes c.commit.ensures.writes
-
-pub returns-in-Err-clause-writes : goal.returns-in-Err-clause-writes
-returns-in-Err-clause-writes g c =
-    let last = c.store-in-Err-1.given.1 (sym (c.take_away.ensures.sets.same_store ∙ c.begin-txn.ensures.same_store)) in
-    writes_ended (3 * (64 + (length c.args.chains.now + 1))) 0 DELETE_WRITES _ _ (memory_of c.take_away.new.txn) _ _ (omega
-    (arith, c.requires.few)) c.begin-txn.ensures.same last c.take_away.ensures.sets.writes
-    (stays_spends _ _ (c.abandon.ensures.reports.stuck c.in-Err.field-0 c.in-Err.ensures.tells).1)
+pub returns-in-Err-clause-store : goal.returns-in-Err-clause-store
+returns-in-Err-clause-store g c =
+    let last = c.store-in-Err-1.given.1 (sym (c.take_away.ensures.store.sets.same_store ∙ c.begin-txn.ensures.same_store)) in
+    spent_failed (3 * (64 + (length c.args.chains.now + 1))) _ DELETE_WRITES _ _ (memory_of c.take_away.new.txn) _ _ _ _ (omega (arith, c.requires.few)) c.begin-txn.ensures.same last
+    c.take_away.ensures.store.sets.reports c.take_away.ensures.store.sets.writes c.in-Err.ensures.store.tells
+    c.abandon.ensures.store
 
 pub returns-in-Err-clause-any_exit : goal.returns-in-Err-clause-any_exit
 returns-in-Err-clause-any_exit g c =
-    let last = c.store-in-Err-1.given.1 (sym (c.take_away.ensures.sets.same_store ∙ c.begin-txn.ensures.same_store)) in
-    inl (stays _ _ (memory_of c.take_away.new.txn) _ _ c.begin-txn.ensures.same last c.take_away.ensures.sets.kept
+    let last = c.store-in-Err-1.given.1 (sym (c.take_away.ensures.store.sets.same_store ∙ c.begin-txn.ensures.same_store)) in
+    inl (stays _ _ (memory_of c.take_away.new.txn) _ _ c.begin-txn.ensures.same last c.take_away.ensures.store.sets.kept
     c.abandon.ensures.kept)
 
 pub returns-in-Err-clause-done : goal.returns-in-Err-clause-done
 returns-in-Err-clause-done g c =
-    on_error _ c.abandon.result c.in-Err.field-0 (sym c.abandon.ensures.tells ∙
-    (c.abandon.ensures.reports.stuck c.in-Err.field-0 c.in-Err.ensures.tells).0)
+    on_error _ c.abandon.result c.in-Err.field-0 (sym c.abandon.ensures.store.tells ∙
+    (c.abandon.ensures.store.reports.stuck c.in-Err.field-0 c.in-Err.ensures.store.tells).0)

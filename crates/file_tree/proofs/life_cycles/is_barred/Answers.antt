@@ -1,6 +1,5 @@
 use Rattle.std.proofs.Common.{subst}
-use Rattle.undo_journal.specs.laws.Calls.{reads_then}
-use Rattle.undo_journal.specs.laws.Exits.{none_ok, error_tells}
+use Rattle.undo_journal.specs.laws.Exits.{none_ok}
 use Rattle.std.proofs.Common.{◌≡◌, ◌||◌, ℕ, List, Bool, true, false, sym, ◌∙◌, ap, ap₂}
 use Rattle.undo_journal.specs.Memory.{committed}
 use Rattle.file_tree.specs.declared.entry.Entry.{Entry}
@@ -9,6 +8,7 @@ use Rattle.file_tree.specs.Table.{table, entry_in, path_of, IsUsed}
 use Rattle.file_tree.specs.Trees.{tree_of, TreeStands}
 use Rattle.file_tree.specs.laws.Barring.{barred_up, barred_told, life_told, life_told_there}
 use Rattle.file_tree.specs.laws.Nodes.{used_small}
+use Rattle.undo_journal.specs.laws.Told.{reads_handed, reads_on}
 use Rattle.file_tree.proofs.life_cycles.is_barred.Goals as goal
 
 -- what the entry's own state and the way up tell
@@ -36,7 +36,7 @@ returns-clause-barred g c =
     told m e c.in_ok-entry.entry false c.in_ok-barred.barred c.requires.tree c.requires.used c.in_ok-entry.ensures.entry
     (sym c.if-bars.false ∙ c.bars.ensures ∙ ap bars c.life_of.ensures)
     (c.in_ok-barred.ensures.barred ∙ ap (λ (l : List ℕ). barred_up
-    (table l) 7 e) c.read_entry.ensures.reads.keeps.committed_words)
+    (table l) 7 e) c.read_entry.ensures.store.only.keeps.committed_words)
 
 pub read_entry-requires-clause-ready : goal.read_entry-requires-clause-ready
 read_entry-requires-clause-ready g c = c.requires.ready
@@ -44,53 +44,31 @@ read_entry-requires-clause-ready g c = c.requires.ready
 pub returns-in_err-entry-clause-barred : goal.returns-in_err-entry-clause-barred
 returns-in_err-entry-clause-barred g c = none_ok _ _ _ c.from_residual.ensures.1
 
-pub returns-in_err-entry-clause-ready : goal.returns-in_err-entry-clause-ready
-returns-in_err-entry-clause-ready g c = none_ok _ _ _ c.from_residual.ensures.1
+pub returns-in_err-entry-clause-store : goal.returns-in_err-entry-clause-store
+returns-in_err-entry-clause-store g c =
+    reads_handed _ _ _ _ c.from_residual.ensures.1 c.in_err-entry.ensures.store
 
-pub returns-in_err-entry-clause-reads : goal.returns-in_err-entry-clause-reads
-returns-in_err-entry-clause-reads g c = c.read_entry.ensures.reads
-
-pub returns-in_err-entry-clause-tells : goal.returns-in_err-entry-clause-tells
-returns-in_err-entry-clause-tells g c = error_tells _ _ _ c.from_residual.ensures.1 c.in_err-entry.ensures.tells
-
-pub returns-then-bars-clause-ready : goal.returns-then-bars-clause-ready
-returns-then-bars-clause-ready g c = c.in_ok-entry.ensures.ready
-
-pub returns-then-bars-clause-reads : goal.returns-then-bars-clause-reads
-returns-then-bars-clause-reads g c = c.read_entry.ensures.reads
-
-pub returns-then-bars-clause-tells : goal.returns-then-bars-clause-tells
-returns-then-bars-clause-tells g c = c.in_ok-entry.ensures.ready.usable.works
+pub returns-then-bars-clause-store : goal.returns-then-bars-clause-store
+returns-then-bars-clause-store g c = c.in_ok-entry.ensures.store
 
 pub is_below_barred-requires-clause-ready : goal.is_below_barred-requires-clause-ready
-is_below_barred-requires-clause-ready g c = c.in_ok-entry.ensures.ready
+is_below_barred-requires-clause-ready g c = c.in_ok-entry.ensures.store.ready
 
 pub is_below_barred-requires-clause-tree : goal.is_below_barred-requires-clause-tree
 is_below_barred-requires-clause-tree g c =
-    subst (λ (l : List ℕ). TreeStands l) (sym (c.read_entry.ensures.reads.keeps.committed_words)) c.requires.tree
+    subst (λ (l : List ℕ). TreeStands l) (sym (c.read_entry.ensures.store.only.keeps.committed_words)) c.requires.tree
 
 pub is_below_barred-requires-clause-used : goal.is_below_barred-requires-clause-used
 is_below_barred-requires-clause-used g c =
-    subst (λ (l : List ℕ). IsUsed (table l) c.args.e) (sym (c.read_entry.ensures.reads.keeps.committed_words)) c.requires.used
+    subst (λ (l : List ℕ). IsUsed (table l) c.args.e) (sym (c.read_entry.ensures.store.only.keeps.committed_words)) c.requires.used
 
 pub returns-in_err-barred-clause-barred : goal.returns-in_err-barred-clause-barred
 returns-in_err-barred-clause-barred g c = none_ok _ _ _ c.from_residual-in_err-barred.ensures.1
 
-pub returns-in_err-barred-clause-ready : goal.returns-in_err-barred-clause-ready
-returns-in_err-barred-clause-ready g c = none_ok _ _ _ c.from_residual-in_err-barred.ensures.1
+pub returns-in_err-barred-clause-store : goal.returns-in_err-barred-clause-store
+returns-in_err-barred-clause-store g c =
+    reads_handed _ _ _ _ c.from_residual-in_err-barred.ensures.1 (reads_on _ _ _ _ c.read_entry.ensures.store.only c.in_err-barred.ensures.store)
 
-pub returns-in_err-barred-clause-reads : goal.returns-in_err-barred-clause-reads
-returns-in_err-barred-clause-reads g c = reads_then _ _ _ c.read_entry.ensures.reads c.is_below_barred.ensures.reads
-
-pub returns-in_err-barred-clause-tells : goal.returns-in_err-barred-clause-tells
-returns-in_err-barred-clause-tells g c =
-    error_tells _ _ _ c.from_residual-in_err-barred.ensures.1 c.in_err-barred.ensures.tells
-
-pub returns-clause-ready : goal.returns-clause-ready
-returns-clause-ready g c = c.in_ok-barred.ensures.ready
-
-pub returns-clause-reads : goal.returns-clause-reads
-returns-clause-reads g c = reads_then _ _ _ c.read_entry.ensures.reads c.is_below_barred.ensures.reads
-
-pub returns-clause-tells : goal.returns-clause-tells
-returns-clause-tells g c = c.in_ok-barred.ensures.ready.usable.works
+pub returns-clause-store : goal.returns-clause-store
+returns-clause-store g c =
+    reads_on _ _ _ _ c.read_entry.ensures.store.only c.in_ok-barred.ensures.store

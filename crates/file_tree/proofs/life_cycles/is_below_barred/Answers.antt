@@ -1,4 +1,4 @@
-use Rattle.undo_journal.specs.laws.Exits.{none_ok, error_tells}
+use Rattle.undo_journal.specs.laws.Exits.{none_ok}
 use Rattle.std.proofs.Common.{◌≡◌, ◌≢◌, ◌<◌, ◌+◌, ◌-◌, ◌||◌, ℕ, suc, true, false, Bool, List, sym, ◌∙◌, ap, subst, arith}
 use Rattle.undo_journal.specs.Memory.{committed}
 use Rattle.undo_journal.specs.laws.Calls.{reads_then}
@@ -8,6 +8,7 @@ use Rattle.file_tree.specs.Table.{table, entry_in, IsUsed, IsTable}
 use Rattle.file_tree.specs.laws.Barring.{barred_up, barred_up-master, barred_up-none, barred_up-step, life_told}
 use Rattle.file_tree.specs.laws.Nodes.{used_small}
 use Rattle.file_tree.specs.laws.Paths.{parent_used}
+use Rattle.undo_journal.specs.laws.Told.{reads_so_far, reads_handed, reads_on}
 use Rattle.file_tree.proofs.life_cycles.is_below_barred.Goals as goal
 
 -- the file above one that was met is used too
@@ -59,8 +60,8 @@ loop-step-preserved g c =
     let there = read_there m (committed c.loop-step.store) c.loop-step.above c.in_ok-entry.entry
     c.loop-step.invariant.reads.keeps.committed_words c.in_ok-entry.ensures.entry in
     record {
-      ready = c.in_ok-entry.ensures.ready;
-      reads = reads_then _ _ _ c.loop-step.invariant.reads c.read_entry.ensures.reads;
+      ready = c.in_ok-entry.ensures.store.ready;
+      reads = reads_then _ _ _ c.loop-step.invariant.reads c.read_entry.ensures.store.only;
       used = used_above (table m) c.loop-step.at c.loop-step.above c.requires.tree.entries c.if-at-eq0.false
           c.loop-step.invariant.used c.loop-step.invariant.parent;
       parent = ap (λ (x : Entry). x.parent) there;
@@ -76,14 +77,9 @@ returns-clause-barred g c =
     let none : 7 - c.loop-step._step ≡ 0 = omega (arith, c.loop-step-test.false) in
     sym (c.loop-step.invariant.left ∙ barred_up-none t (7 - c.loop-step._step) c.loop-step.at none)
 
-pub returns-then-at-eq0-clause-ready : goal.returns-then-at-eq0-clause-ready
-returns-then-at-eq0-clause-ready g c = c.loop-step.invariant.ready
-
-pub returns-then-at-eq0-clause-reads : goal.returns-then-at-eq0-clause-reads
-returns-then-at-eq0-clause-reads g c = c.loop-step.invariant.reads
-
-pub returns-then-at-eq0-clause-tells : goal.returns-then-at-eq0-clause-tells
-returns-then-at-eq0-clause-tells g c = c.loop-step.invariant.ready.usable.works
+pub returns-then-at-eq0-clause-store : goal.returns-then-at-eq0-clause-store
+returns-then-at-eq0-clause-store g c =
+    reads_so_far _ _ c.loop-step.invariant.reads c.loop-step.invariant.ready
 
 pub read_entry-requires-clause-ready : goal.read_entry-requires-clause-ready
 read_entry-requires-clause-ready g c = c.loop-step.invariant.ready
@@ -91,29 +87,14 @@ read_entry-requires-clause-ready g c = c.loop-step.invariant.ready
 pub returns-in_err-entry-clause-barred : goal.returns-in_err-entry-clause-barred
 returns-in_err-entry-clause-barred g c = none_ok _ _ _ c.from_residual.ensures.1
 
-pub returns-in_err-entry-clause-ready : goal.returns-in_err-entry-clause-ready
-returns-in_err-entry-clause-ready g c = none_ok _ _ _ c.from_residual.ensures.1
+pub returns-in_err-entry-clause-store : goal.returns-in_err-entry-clause-store
+returns-in_err-entry-clause-store g c =
+    reads_handed _ _ _ _ c.from_residual.ensures.1 (reads_on _ _ _ _ c.loop-step.invariant.reads c.in_err-entry.ensures.store)
 
-pub returns-in_err-entry-clause-reads : goal.returns-in_err-entry-clause-reads
-returns-in_err-entry-clause-reads g c = reads_then _ _ _ c.loop-step.invariant.reads c.read_entry.ensures.reads
+pub returns-then-bars-clause-store : goal.returns-then-bars-clause-store
+returns-then-bars-clause-store g c =
+    reads_on _ _ _ _ c.loop-step.invariant.reads c.in_ok-entry.ensures.store
 
-pub returns-in_err-entry-clause-tells : goal.returns-in_err-entry-clause-tells
-returns-in_err-entry-clause-tells g c = error_tells _ _ _ c.from_residual.ensures.1 c.in_err-entry.ensures.tells
-
-pub returns-then-bars-clause-ready : goal.returns-then-bars-clause-ready
-returns-then-bars-clause-ready g c = c.in_ok-entry.ensures.ready
-
-pub returns-then-bars-clause-reads : goal.returns-then-bars-clause-reads
-returns-then-bars-clause-reads g c = reads_then _ _ _ c.loop-step.invariant.reads c.read_entry.ensures.reads
-
-pub returns-then-bars-clause-tells : goal.returns-then-bars-clause-tells
-returns-then-bars-clause-tells g c = c.in_ok-entry.ensures.ready.usable.works
-
-pub returns-clause-ready : goal.returns-clause-ready
-returns-clause-ready g c = c.loop-step.invariant.ready
-
-pub returns-clause-reads : goal.returns-clause-reads
-returns-clause-reads g c = c.loop-step.invariant.reads
-
-pub returns-clause-tells : goal.returns-clause-tells
-returns-clause-tells g c = c.loop-step.invariant.ready.usable.works
+pub returns-clause-store : goal.returns-clause-store
+returns-clause-store g c =
+    reads_so_far _ _ c.loop-step.invariant.reads c.loop-step.invariant.ready

@@ -1,8 +1,7 @@
 use Rattle.std.proofs.Common.{subst}
-use Rattle.undo_journal.specs.laws.Calls.{reads_then}
 use Rattle.file_tree.specs.Table.{IsUsed}
 use Rattle.file_tree.specs.Trees.{TreeStands}
-use Rattle.undo_journal.specs.laws.Exits.{none_ok, error_tells}
+use Rattle.undo_journal.specs.laws.Exits.{none_ok}
 use Rattle.std.proofs.Common.{None, ℕ, List, Bool, if◌then◌else◌, sym, ◌∙◌, ap, ap₂}
 use Rattle.undo_journal.specs.Memory.{committed}
 use Rattle.card_rules.specs.LifeCycle.{state_after}
@@ -11,6 +10,7 @@ use Rattle.file_tree.specs.declared.entry.Entry.{Entry}
 use Rattle.file_tree.specs.Table.{table}
 use Rattle.file_tree.specs.laws.Barring.{barred_up, barred_told, life_told, life_told_there}
 use Rattle.file_tree.specs.laws.Nodes.{used_small}
+use Rattle.undo_journal.specs.laws.Told.{reads_handed, reads_on}
 use Rattle.file_tree.proofs.life_cycles.next_life_cycle.Goals as goal
 
 pub read_entry-requires-clause-within : goal.read_entry-requires-clause-within
@@ -24,7 +24,7 @@ returns-clause-next g c =
     c.next_of.ensures
     ∙ ap₂ (λ (b : Bool) (life : LifeCycle). if b then None else state_after c.args.command life)
     (c.in_ok-barred.ensures.barred ∙ ap (λ (l : List ℕ). barred_up
-    (table l) 7 e) c.read_entry.ensures.reads.keeps.committed_words
+    (table l) 7 e) c.read_entry.ensures.store.only.keeps.committed_words
     ∙ barred_told m rules e c.requires.used)
     (ap (λ (x : Entry). life_told x) c.in_ok-entry.ensures.entry ∙ sym (life_told_there m rules e c.requires.used))
 
@@ -34,44 +34,28 @@ read_entry-requires-clause-ready g c = c.requires.ready
 pub returns-in_err-entry-clause-next : goal.returns-in_err-entry-clause-next
 returns-in_err-entry-clause-next g c = none_ok _ _ _ c.from_residual.ensures.1
 
-pub returns-in_err-entry-clause-ready : goal.returns-in_err-entry-clause-ready
-returns-in_err-entry-clause-ready g c = none_ok _ _ _ c.from_residual.ensures.1
-
-pub returns-in_err-entry-clause-reads : goal.returns-in_err-entry-clause-reads
-returns-in_err-entry-clause-reads g c = c.read_entry.ensures.reads
-
-pub returns-in_err-entry-clause-tells : goal.returns-in_err-entry-clause-tells
-returns-in_err-entry-clause-tells g c = error_tells _ _ _ c.from_residual.ensures.1 c.in_err-entry.ensures.tells
+pub returns-in_err-entry-clause-store : goal.returns-in_err-entry-clause-store
+returns-in_err-entry-clause-store g c =
+    reads_handed _ _ _ _ c.from_residual.ensures.1 c.in_err-entry.ensures.store
 
 pub is_below_barred-requires-clause-ready : goal.is_below_barred-requires-clause-ready
-is_below_barred-requires-clause-ready g c = c.in_ok-entry.ensures.ready
+is_below_barred-requires-clause-ready g c = c.in_ok-entry.ensures.store.ready
 
 pub is_below_barred-requires-clause-tree : goal.is_below_barred-requires-clause-tree
 is_below_barred-requires-clause-tree g c =
-    subst (λ (l : List ℕ). TreeStands l) (sym (c.read_entry.ensures.reads.keeps.committed_words)) c.requires.tree
+    subst (λ (l : List ℕ). TreeStands l) (sym (c.read_entry.ensures.store.only.keeps.committed_words)) c.requires.tree
 
 pub is_below_barred-requires-clause-used : goal.is_below_barred-requires-clause-used
 is_below_barred-requires-clause-used g c =
-    subst (λ (l : List ℕ). IsUsed (table l) c.args.e) (sym (c.read_entry.ensures.reads.keeps.committed_words)) c.requires.used
+    subst (λ (l : List ℕ). IsUsed (table l) c.args.e) (sym (c.read_entry.ensures.store.only.keeps.committed_words)) c.requires.used
 
 pub returns-in_err-barred-clause-next : goal.returns-in_err-barred-clause-next
 returns-in_err-barred-clause-next g c = none_ok _ _ _ c.from_residual-in_err-barred.ensures.1
 
-pub returns-in_err-barred-clause-ready : goal.returns-in_err-barred-clause-ready
-returns-in_err-barred-clause-ready g c = none_ok _ _ _ c.from_residual-in_err-barred.ensures.1
+pub returns-in_err-barred-clause-store : goal.returns-in_err-barred-clause-store
+returns-in_err-barred-clause-store g c =
+    reads_handed _ _ _ _ c.from_residual-in_err-barred.ensures.1 (reads_on _ _ _ _ c.read_entry.ensures.store.only c.in_err-barred.ensures.store)
 
-pub returns-in_err-barred-clause-reads : goal.returns-in_err-barred-clause-reads
-returns-in_err-barred-clause-reads g c = reads_then _ _ _ c.read_entry.ensures.reads c.is_below_barred.ensures.reads
-
-pub returns-in_err-barred-clause-tells : goal.returns-in_err-barred-clause-tells
-returns-in_err-barred-clause-tells g c =
-    error_tells _ _ _ c.from_residual-in_err-barred.ensures.1 c.in_err-barred.ensures.tells
-
-pub returns-clause-ready : goal.returns-clause-ready
-returns-clause-ready g c = c.in_ok-barred.ensures.ready
-
-pub returns-clause-reads : goal.returns-clause-reads
-returns-clause-reads g c = reads_then _ _ _ c.read_entry.ensures.reads c.is_below_barred.ensures.reads
-
-pub returns-clause-tells : goal.returns-clause-tells
-returns-clause-tells g c = c.in_ok-barred.ensures.ready.usable.works
+pub returns-clause-store : goal.returns-clause-store
+returns-clause-store g c =
+    reads_on _ _ _ _ c.read_entry.ensures.store.only c.in_ok-barred.ensures.store

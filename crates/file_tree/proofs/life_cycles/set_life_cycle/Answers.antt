@@ -1,7 +1,4 @@
-use Rattle.undo_journal.specs.laws.Memory.{reports_then}
-use Rattle.undo_journal.specs.laws.Calls.{reads_spend}
-use Rattle.undo_journal.specs.laws.Calls.{writes_after}
-use Rattle.undo_journal.specs.laws.Exits.{none_ok, error_tells}
+use Rattle.undo_journal.specs.laws.Exits.{none_ok}
 use Rattle.std.proofs.Common.{◌≡◌, ◌+◌, ℕ, List, slice_set, sym, ◌∙◌, ap, subst, inl, inr, ⊎_elim}
 use Rattle.nvm_board.specs.Facts.{address}
 use Rattle.undo_journal.specs.Memory.{committed}
@@ -16,6 +13,7 @@ use Rattle.file_tree.specs.Table.{table, entry_in, path_of, IsUsed}
 use Rattle.file_tree.specs.Trees.{tree_of, TreeStands}
 use Rattle.file_tree.specs.laws.Nodes.{used_small}
 use Rattle.file_tree.specs.laws.Living.{TellsLife, life_written, life_changed, life_stays, byte_of_state}
+use Rattle.undo_journal.specs.laws.Told.{changes_after, reads_change, changes_handed}
 use Rattle.file_tree.proofs.life_cycles.set_life_cycle.Goals as goal
 
 -- the word that is written changes the state of the words as they were
@@ -35,7 +33,7 @@ pub returns-then-entry-life-clause-done : goal.returns-then-entry-life-clause-do
 returns-then-entry-life-clause-done g c =
     let m = committed c.args.store.now in
     let by_words : List ℕ → Type 0 = λ l. ChangesLife m c.args.e c.args.state l in
-    subst by_words (sym c.read_entry.ensures.reads.keeps.committed_words)
+    subst by_words (sym c.read_entry.ensures.store.only.keeps.committed_words)
     (life_stays m c.requires.tree c.args.e c.args.state c.requires.used
     (ap (λ (x : Entry). x.life) (sym c.in_ok-entry.ensures.entry) ∙ c.if-entry-life.true ∙ c.to_byte-life.ensures.value))
 
@@ -51,7 +49,7 @@ returns-clause-done g c =
     changed m (committed c.read_entry.new.store)
     (committed c.write_life.new.store) c.args.e c.life_word.result c.to_byte-life.result
     c.args.state c.in_ok-entry.entry c.requires.ready.usable.committed_size c.requires.tree c.requires.used
-    c.read_entry.ensures.reads.keeps.committed_words c.in_ok-entry.ensures.entry c.to_byte-life.ensures.value
+    c.read_entry.ensures.store.only.keeps.committed_words c.in_ok-entry.ensures.entry c.to_byte-life.ensures.value
     c.life_word.ensures
     c.in_ok-write_life.ensures.done
 
@@ -61,7 +59,7 @@ returns-clause-any_exit g c =
     inr (changed m (committed c.read_entry.new.store)
     (committed c.write_life.new.store) c.args.e c.life_word.result c.to_byte-life.result
     c.args.state c.in_ok-entry.entry c.requires.ready.usable.committed_size c.requires.tree c.requires.used
-    c.read_entry.ensures.reads.keeps.committed_words c.in_ok-entry.ensures.entry c.to_byte-life.ensures.value
+    c.read_entry.ensures.store.only.keeps.committed_words c.in_ok-entry.ensures.entry c.to_byte-life.ensures.value
     c.life_word.ensures
     c.in_ok-write_life.ensures.done)
 
@@ -70,13 +68,13 @@ returns-in_err-write_life-clause-any_exit g c =
     let m = committed c.args.store.now in
     ⊎_elim
     (λ (same : committed c.write_life.new.store ≡ committed c.read_entry.new.store).
-    inl (same ∙ c.read_entry.ensures.reads.keeps.committed_words))
+    inl (same ∙ c.read_entry.ensures.store.only.keeps.committed_words))
     (λ (set : committed c.write_life.new.store
     ≡ slice_set (committed c.read_entry.new.store) (address (FIRST_ENTRY_PAGE + c.args.e) 0) c.life_word.result).
     inr (changed m (committed c.read_entry.new.store)
     (committed c.write_life.new.store) c.args.e c.life_word.result c.to_byte-life.result
     c.args.state c.in_ok-entry.entry c.requires.ready.usable.committed_size c.requires.tree c.requires.used
-    c.read_entry.ensures.reads.keeps.committed_words c.in_ok-entry.ensures.entry c.to_byte-life.ensures.value
+    c.read_entry.ensures.store.only.keeps.committed_words c.in_ok-entry.ensures.entry c.to_byte-life.ensures.value
     c.life_word.ensures
     set))
     c.write_life.ensures.any_exit
@@ -102,72 +100,38 @@ pub read_entry-requires-clause-ready : goal.read_entry-requires-clause-ready
 read_entry-requires-clause-ready g c = c.requires.ready
 
 pub returns-in_err-entry-clause-any_exit : goal.returns-in_err-entry-clause-any_exit
-returns-in_err-entry-clause-any_exit g c = inl c.read_entry.ensures.reads.keeps.committed_words
+returns-in_err-entry-clause-any_exit g c = inl c.read_entry.ensures.store.only.keeps.committed_words
 
 pub returns-in_err-entry-clause-done : goal.returns-in_err-entry-clause-done
 returns-in_err-entry-clause-done g c = none_ok _ _ _ c.from_residual.ensures.1
 
 pub returns-in_err-entry-clause-stays : goal.returns-in_err-entry-clause-stays
-returns-in_err-entry-clause-stays g c = λ here. c.read_entry.ensures.reads
+returns-in_err-entry-clause-stays g c = λ here. c.read_entry.ensures.store.only
 
-pub returns-in_err-entry-clause-ready : goal.returns-in_err-entry-clause-ready
-returns-in_err-entry-clause-ready g c = none_ok _ _ _ c.from_residual.ensures.1
-
-pub returns-in_err-entry-clause-reports : goal.returns-in_err-entry-clause-reports
-returns-in_err-entry-clause-reports g c = c.read_entry.ensures.reads.reports
-
-pub returns-in_err-entry-clause-tells : goal.returns-in_err-entry-clause-tells
-returns-in_err-entry-clause-tells g c = error_tells _ _ _ c.from_residual.ensures.1 c.in_err-entry.ensures.tells
-
-pub returns-in_err-entry-clause-writes : goal.returns-in_err-entry-clause-writes
-returns-in_err-entry-clause-writes g c = reads_spend _ _ _ c.read_entry.ensures.reads
+pub returns-in_err-entry-clause-store : goal.returns-in_err-entry-clause-store
+returns-in_err-entry-clause-store g c =
+    changes_handed _ _ _ _ _ c.from_residual.ensures.1 (reads_change _ _ _ _ c.requires.ready.idle c.in_err-entry.ensures.store)
 
 pub returns-then-entry-life-clause-any_exit : goal.returns-then-entry-life-clause-any_exit
-returns-then-entry-life-clause-any_exit g c = inl c.read_entry.ensures.reads.keeps.committed_words
+returns-then-entry-life-clause-any_exit g c = inl c.read_entry.ensures.store.only.keeps.committed_words
 
 pub returns-then-entry-life-clause-stays : goal.returns-then-entry-life-clause-stays
-returns-then-entry-life-clause-stays g c = λ here. c.read_entry.ensures.reads
+returns-then-entry-life-clause-stays g c = λ here. c.read_entry.ensures.store.only
 
-pub returns-then-entry-life-clause-ready : goal.returns-then-entry-life-clause-ready
-returns-then-entry-life-clause-ready g c = c.in_ok-entry.ensures.ready
-
-pub returns-then-entry-life-clause-reports : goal.returns-then-entry-life-clause-reports
-returns-then-entry-life-clause-reports g c = c.read_entry.ensures.reads.reports
-
-pub returns-then-entry-life-clause-tells : goal.returns-then-entry-life-clause-tells
-returns-then-entry-life-clause-tells g c = c.in_ok-entry.ensures.ready.usable.works
-
-pub returns-then-entry-life-clause-writes : goal.returns-then-entry-life-clause-writes
-returns-then-entry-life-clause-writes g c = reads_spend _ _ _ c.read_entry.ensures.reads
+pub returns-then-entry-life-clause-store : goal.returns-then-entry-life-clause-store
+returns-then-entry-life-clause-store g c =
+    reads_change _ _ _ _ c.requires.ready.idle c.in_ok-entry.ensures.store
 
 pub write_life-requires-clause-ready : goal.write_life-requires-clause-ready
-write_life-requires-clause-ready g c = c.in_ok-entry.ensures.ready
+write_life-requires-clause-ready g c = c.in_ok-entry.ensures.store.ready
 
 pub returns-in_err-write_life-clause-done : goal.returns-in_err-write_life-clause-done
 returns-in_err-write_life-clause-done g c = none_ok _ _ _ c.from_residual-in_err-write_life.ensures.1
 
-pub returns-in_err-write_life-clause-ready : goal.returns-in_err-write_life-clause-ready
-returns-in_err-write_life-clause-ready g c = none_ok _ _ _ c.from_residual-in_err-write_life.ensures.1
+pub returns-in_err-write_life-clause-store : goal.returns-in_err-write_life-clause-store
+returns-in_err-write_life-clause-store g c =
+    changes_handed _ _ _ _ _ c.from_residual-in_err-write_life.ensures.1 (changes_after _ _ _ _ _ c.read_entry.ensures.store.only c.in_err-write_life.ensures.store)
 
-pub returns-in_err-write_life-clause-reports : goal.returns-in_err-write_life-clause-reports
-returns-in_err-write_life-clause-reports g c =
-    reports_then _ _ _ c.read_entry.ensures.reads.reports c.write_life.ensures.reports
-
-pub returns-in_err-write_life-clause-tells : goal.returns-in_err-write_life-clause-tells
-returns-in_err-write_life-clause-tells g c =
-    error_tells _ _ _ c.from_residual-in_err-write_life.ensures.1 c.in_err-write_life.ensures.tells
-
-pub returns-in_err-write_life-clause-writes : goal.returns-in_err-write_life-clause-writes
-returns-in_err-write_life-clause-writes g c = writes_after _ _ _ _ c.read_entry.ensures.reads c.write_life.ensures.writes
-
-pub returns-clause-ready : goal.returns-clause-ready
-returns-clause-ready g c = c.in_ok-write_life.ensures.ready
-
-pub returns-clause-reports : goal.returns-clause-reports
-returns-clause-reports g c = reports_then _ _ _ c.read_entry.ensures.reads.reports c.write_life.ensures.reports
-
-pub returns-clause-tells : goal.returns-clause-tells
-returns-clause-tells g c = c.in_ok-write_life.ensures.ready.usable.works
-
-pub returns-clause-writes : goal.returns-clause-writes
-returns-clause-writes g c = writes_after _ _ _ _ c.read_entry.ensures.reads c.write_life.ensures.writes
+pub returns-clause-store : goal.returns-clause-store
+returns-clause-store g c =
+    changes_after _ _ _ _ _ c.read_entry.ensures.store.only c.in_ok-write_life.ensures.store

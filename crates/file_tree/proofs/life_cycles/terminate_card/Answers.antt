@@ -1,4 +1,5 @@
-use Rattle.undo_journal.specs.laws.Exits.{none_ok, error_tells}
+use Rattle.undo_journal.specs.laws.Exits.{none_ok}
+use Rattle.undo_journal.specs.laws.Told.{changes_handed}
 use Rattle.file_tree.proofs.life_cycles.terminate_card.Goals as goal
 
 pub write_word-requires-clause-ready : goal.write_word-requires-clause-ready
@@ -7,29 +8,12 @@ write_word-requires-clause-ready g c = c.requires.ready
 pub returns-in_err-write_word-clause-done : goal.returns-in_err-write_word-clause-done
 returns-in_err-write_word-clause-done g c = none_ok _ _ _ c.from_residual.ensures.1
 
-pub returns-in_err-write_word-clause-ready : goal.returns-in_err-write_word-clause-ready
-returns-in_err-write_word-clause-ready g c = none_ok _ _ _ c.from_residual.ensures.1
+pub returns-in_err-write_word-clause-store : goal.returns-in_err-write_word-clause-store
+returns-in_err-write_word-clause-store g c =
+    changes_handed _ _ _ _ _ c.from_residual.ensures.1 c.in_err-write_word.ensures.store
 
-pub returns-in_err-write_word-clause-reports : goal.returns-in_err-write_word-clause-reports
-returns-in_err-write_word-clause-reports g c = c.write_word.ensures.reports
-
-pub returns-in_err-write_word-clause-tells : goal.returns-in_err-write_word-clause-tells
-returns-in_err-write_word-clause-tells g c = error_tells _ _ _ c.from_residual.ensures.1 c.in_err-write_word.ensures.tells
-
-pub returns-in_err-write_word-clause-writes : goal.returns-in_err-write_word-clause-writes
-returns-in_err-write_word-clause-writes g c = c.write_word.ensures.writes
-
-pub returns-clause-ready : goal.returns-clause-ready
-returns-clause-ready g c = c.in_ok-write_word.ensures.ready
-
-pub returns-clause-reports : goal.returns-clause-reports
-returns-clause-reports g c = c.write_word.ensures.reports
-
-pub returns-clause-tells : goal.returns-clause-tells
-returns-clause-tells g c = c.in_ok-write_word.ensures.ready.usable.works
-
-pub returns-clause-writes : goal.returns-clause-writes
-returns-clause-writes g c = c.write_word.ensures.writes
+pub returns-clause-store : goal.returns-clause-store
+returns-clause-store g c = c.in_ok-write_word.ensures.store
 
 pub returns-in_err-write_word-clause-any_exit : goal.returns-in_err-write_word-clause-any_exit
 returns-in_err-write_word-clause-any_exit g c = c.write_word.ensures.any_exit

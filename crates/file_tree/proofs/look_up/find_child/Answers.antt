@@ -1,10 +1,11 @@
 use Rattle.undo_journal.specs.laws.Calls.{reads_then}
-use Rattle.undo_journal.specs.laws.Exits.{none_ok, error_tells}
+use Rattle.undo_journal.specs.laws.Exits.{none_ok}
 use Rattle.std.proofs.Common.{rules, ◌<◌, ◌≤◌, ◌∙◌, ℕ, List, sym, ap, arith, below_more, true≢false}
 use Rattle.file_tree.specs.Table.{table, entry_in}
 use Rattle.file_tree.specs.laws.LookUps.{child_there, no_child_there}
 use Rattle.undo_journal.specs.Memory.{committed}
 use Rattle.file_tree.specs.laws.Nodes.{used_small}
+use Rattle.undo_journal.specs.laws.Told.{reads_so_far, reads_handed, reads_on}
 use Rattle.file_tree.proofs.look_up.find_child.Goals as goal
 
 pub returns-clause-found : goal.returns-clause-found
@@ -19,32 +20,17 @@ read_entry-requires-clause-ready g c = c.loop-e.invariant.ready
 pub returns-in_err-entry-clause-found : goal.returns-in_err-entry-clause-found
 returns-in_err-entry-clause-found g c = none_ok _ _ _ c.from_residual.ensures.1
 
-pub returns-in_err-entry-clause-ready : goal.returns-in_err-entry-clause-ready
-returns-in_err-entry-clause-ready g c = none_ok _ _ _ c.from_residual.ensures.1
+pub returns-in_err-entry-clause-store : goal.returns-in_err-entry-clause-store
+returns-in_err-entry-clause-store g c =
+    reads_handed _ _ _ _ c.from_residual.ensures.1 (reads_on _ _ _ _ c.loop-e.invariant.reads c.in_err-entry.ensures.store)
 
-pub returns-in_err-entry-clause-reads : goal.returns-in_err-entry-clause-reads
-returns-in_err-entry-clause-reads g c = reads_then _ _ _ c.loop-e.invariant.reads c.read_entry.ensures.reads
+pub returns-then-is_child-clause-store : goal.returns-then-is_child-clause-store
+returns-then-is_child-clause-store g c =
+    reads_on _ _ _ _ c.loop-e.invariant.reads c.in_ok-entry.ensures.store
 
-pub returns-in_err-entry-clause-tells : goal.returns-in_err-entry-clause-tells
-returns-in_err-entry-clause-tells g c = error_tells _ _ _ c.from_residual.ensures.1 c.in_err-entry.ensures.tells
-
-pub returns-then-is_child-clause-ready : goal.returns-then-is_child-clause-ready
-returns-then-is_child-clause-ready g c = c.in_ok-entry.ensures.ready
-
-pub returns-then-is_child-clause-reads : goal.returns-then-is_child-clause-reads
-returns-then-is_child-clause-reads g c = reads_then _ _ _ c.loop-e.invariant.reads c.read_entry.ensures.reads
-
-pub returns-then-is_child-clause-tells : goal.returns-then-is_child-clause-tells
-returns-then-is_child-clause-tells g c = c.in_ok-entry.ensures.ready.usable.works
-
-pub returns-clause-ready : goal.returns-clause-ready
-returns-clause-ready g c = c.loop-e.invariant.ready
-
-pub returns-clause-reads : goal.returns-clause-reads
-returns-clause-reads g c = c.loop-e.invariant.reads
-
-pub returns-clause-tells : goal.returns-clause-tells
-returns-clause-tells g c = c.loop-e.invariant.ready.usable.works
+pub returns-clause-store : goal.returns-clause-store
+returns-clause-store g c =
+    reads_so_far _ _ c.loop-e.invariant.reads c.loop-e.invariant.ready
 
 pub returns-then-is_child-clause-found : goal.returns-then-is_child-clause-found
 returns-then-is_child-clause-found g c =
@@ -60,8 +46,8 @@ loop-e-preserved g c =
     let e = c.loop-e.e in
     let is = c.in_ok-entry.ensures.entry ∙ ap (λ (l : List ℕ). entry_in (table l) e) c.loop-e.invariant.reads.keeps.committed_words in
     record {
-      ready = c.in_ok-entry.ensures.ready;
-      reads = reads_then _ _ _ c.loop-e.invariant.reads c.read_entry.ensures.reads;
+      ready = c.in_ok-entry.ensures.store.ready;
+      reads = reads_then _ _ _ c.loop-e.invariant.reads c.read_entry.ensures.store.only;
       none = below_more _ _ c.loop-e.invariant.none
           (no_child_there (table m) c.args.df c.args.identifier e c.in_ok-entry.entry is
           (λ names. true≢false (sym (c.is_child.ensures.1 names) ∙ c.if-is_child.false)));

@@ -1,7 +1,12 @@
-use Rattle.undo_journal.specs.laws.Exits.{none_ok, error_tells}
+use Rattle.std.proofs.Common.{ℕ, List, Option, None, Some, IfSome}
+use Rattle.file_tree.specs.declared.entry.Entry.{Entry}
+use Rattle.file_tree.specs.Table.{table, IsChild}
+use Rattle.file_tree.specs.laws.LookUps.{TellsShort}
+use Rattle.undo_journal.specs.laws.Exits.{none_ok}
 use Rattle.std.proofs.Common.{◌≢◌, arith}
 use Rattle.undo_journal.specs.Memory.{committed}
 use Rattle.file_tree.specs.laws.Shorts.{short_named, short_found}
+use Rattle.undo_journal.specs.laws.Told.{reads_handed}
 use Rattle.file_tree.proofs.look_up.find_short.Goals as goal
 
 pub returns-clause-found : goal.returns-clause-found
@@ -28,20 +33,18 @@ returns-in_err-found-clause-child g c = none_ok _ _ _ c.from_residual.ensures.1
 pub returns-in_err-found-clause-elementary : goal.returns-in_err-found-clause-elementary
 returns-in_err-found-clause-elementary g c = none_ok _ _ _ c.from_residual.ensures.1
 
-pub returns-in_err-found-clause-ready : goal.returns-in_err-found-clause-ready
-returns-in_err-found-clause-ready g c = none_ok _ _ _ c.from_residual.ensures.1
+pub returns-in_err-found-clause-store : goal.returns-in_err-found-clause-store
+returns-in_err-found-clause-store g c =
+    reads_handed _ _ _ _ c.from_residual.ensures.1 c.in_err-found.ensures.store
 
-pub returns-in_err-found-clause-reads : goal.returns-in_err-found-clause-reads
-returns-in_err-found-clause-reads g c = c.find_short_child.ensures.reads
+pub returns-clause-store : goal.returns-clause-store
+returns-clause-store g c = c.in_ok-found.ensures.store
 
-pub returns-in_err-found-clause-tells : goal.returns-in_err-found-clause-tells
-returns-in_err-found-clause-tells g c = error_tells _ _ _ c.from_residual.ensures.1 c.in_err-found.ensures.tells
+-- what is told is a child
+told_is_child : (t : List Entry) (df n : ℕ) (found : Option ℕ) → TellsShort t df n found → IfSome found (IsChild t df)
+told_is_child t df n None told = tt
+told_is_child t df n (Some e) told = told.0
 
-pub returns-clause-ready : goal.returns-clause-ready
-returns-clause-ready g c = c.in_ok-found.ensures.ready
-
-pub returns-clause-reads : goal.returns-clause-reads
-returns-clause-reads g c = c.find_short_child.ensures.reads
-
-pub returns-clause-tells : goal.returns-clause-tells
-returns-clause-tells g c = c.in_ok-found.ensures.ready.usable.works
+pub returns-clause-child : goal.returns-clause-child
+returns-clause-child g c =
+    told_is_child (table (committed c.args.store.now)) c.args.df c.args.short c.in_ok-found.found c.in_ok-found.ensures.found

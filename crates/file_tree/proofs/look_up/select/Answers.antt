@@ -1,12 +1,13 @@
 use Rattle.std.proofs.Common.{List, ℕ, sym, ◌∙◌, subst}
 use Rattle.file_tree.specs.Table.{IsUsed}
 use Rattle.file_tree.specs.Trees.{TreeStands}
-use Rattle.undo_journal.specs.laws.Exits.{none_ok, error_tells}
+use Rattle.undo_journal.specs.laws.Exits.{none_ok}
 use Rattle.std.proofs.Common.{rules, None, Some}
 use Rattle.undo_journal.specs.laws.Calls.{reads_then}
 use Rattle.undo_journal.specs.Memory.{committed}
 use Rattle.file_tree.specs.Table.{table}
 use Rattle.file_tree.specs.laws.LookUps.{TellsChild, TellsBeside, TellsAbove, reached_child, reached_beside, reached_above}
+use Rattle.undo_journal.specs.laws.Told.{reads_handed, reads_on}
 use Rattle.file_tree.proofs.look_up.select.Goals as goal
 
 pub returns-in-Some-clause-found : goal.returns-in-Some-clause-found
@@ -30,10 +31,6 @@ returns-clause-found g c =
     let told : TellsAbove (table m) c.args.df c.args.identifier c.in_ok-above.above = search rules in
     reached_above m c.requires.tree.entries c.args.df c.args.identifier c.requires.df c.in_ok-above.above none none_there told
 
-pub returns-in_err-above-clause-reads : goal.returns-in_err-above-clause-reads
-returns-in_err-above-clause-reads g c =
-    reads_then _ _ _ (reads_then _ _ _ c.find_child.ensures.reads c.find_beside.ensures.reads) c.find_above.ensures.reads
-
 pub find_child-requires : goal.find_child-requires
 find_child-requires g c = record { ready = c.requires.ready }
 
@@ -43,34 +40,23 @@ returns-in_err-child-clause-found g c = none_ok _ _ _ c.from_residual.ensures.1
 pub returns-in_err-child-clause-used : goal.returns-in_err-child-clause-used
 returns-in_err-child-clause-used g c = none_ok _ _ _ c.from_residual.ensures.1
 
-pub returns-in_err-child-clause-ready : goal.returns-in_err-child-clause-ready
-returns-in_err-child-clause-ready g c = none_ok _ _ _ c.from_residual.ensures.1
+pub returns-in_err-child-clause-store : goal.returns-in_err-child-clause-store
+returns-in_err-child-clause-store g c =
+    reads_handed _ _ _ _ c.from_residual.ensures.1 c.in_err-child.ensures.store
 
-pub returns-in_err-child-clause-reads : goal.returns-in_err-child-clause-reads
-returns-in_err-child-clause-reads g c = c.find_child.ensures.reads
-
-pub returns-in_err-child-clause-tells : goal.returns-in_err-child-clause-tells
-returns-in_err-child-clause-tells g c = error_tells _ _ _ c.from_residual.ensures.1 c.in_err-child.ensures.tells
-
-pub returns-in-Some-clause-ready : goal.returns-in-Some-clause-ready
-returns-in-Some-clause-ready g c = c.in_ok-child.ensures.ready
-
-pub returns-in-Some-clause-reads : goal.returns-in-Some-clause-reads
-returns-in-Some-clause-reads g c = c.find_child.ensures.reads
-
-pub returns-in-Some-clause-tells : goal.returns-in-Some-clause-tells
-returns-in-Some-clause-tells g c = c.in_ok-child.ensures.ready.usable.works
+pub returns-in-Some-clause-store : goal.returns-in-Some-clause-store
+returns-in-Some-clause-store g c = c.in_ok-child.ensures.store
 
 pub find_beside-requires-clause-ready : goal.find_beside-requires-clause-ready
-find_beside-requires-clause-ready g c = c.in_ok-child.ensures.ready
+find_beside-requires-clause-ready g c = c.in_ok-child.ensures.store.ready
 
 pub find_beside-requires-clause-tree : goal.find_beside-requires-clause-tree
 find_beside-requires-clause-tree g c =
-    subst (λ (l : List ℕ). TreeStands l) (sym (c.find_child.ensures.reads.keeps.committed_words)) c.requires.tree
+    subst (λ (l : List ℕ). TreeStands l) (sym (c.find_child.ensures.store.only.keeps.committed_words)) c.requires.tree
 
 pub find_beside-requires-clause-df : goal.find_beside-requires-clause-df
 find_beside-requires-clause-df g c =
-    subst (λ (l : List ℕ). IsUsed (table l) c.args.df) (sym (c.find_child.ensures.reads.keeps.committed_words)) c.requires.df
+    subst (λ (l : List ℕ). IsUsed (table l) c.args.df) (sym (c.find_child.ensures.store.only.keeps.committed_words)) c.requires.df
 
 pub returns-in_err-beside-clause-found : goal.returns-in_err-beside-clause-found
 returns-in_err-beside-clause-found g c = none_ok _ _ _ c.from_residual-in_err-beside.ensures.1
@@ -78,37 +64,26 @@ returns-in_err-beside-clause-found g c = none_ok _ _ _ c.from_residual-in_err-be
 pub returns-in_err-beside-clause-used : goal.returns-in_err-beside-clause-used
 returns-in_err-beside-clause-used g c = none_ok _ _ _ c.from_residual-in_err-beside.ensures.1
 
-pub returns-in_err-beside-clause-ready : goal.returns-in_err-beside-clause-ready
-returns-in_err-beside-clause-ready g c = none_ok _ _ _ c.from_residual-in_err-beside.ensures.1
+pub returns-in_err-beside-clause-store : goal.returns-in_err-beside-clause-store
+returns-in_err-beside-clause-store g c =
+    reads_handed _ _ _ _ c.from_residual-in_err-beside.ensures.1 (reads_on _ _ _ _ c.find_child.ensures.store.only c.in_err-beside.ensures.store)
 
-pub returns-in_err-beside-clause-reads : goal.returns-in_err-beside-clause-reads
-returns-in_err-beside-clause-reads g c = reads_then _ _ _ c.find_child.ensures.reads c.find_beside.ensures.reads
-
-pub returns-in_err-beside-clause-tells : goal.returns-in_err-beside-clause-tells
-returns-in_err-beside-clause-tells g c =
-    error_tells _ _ _ c.from_residual-in_err-beside.ensures.1 c.in_err-beside.ensures.tells
-
-pub returns-in-Some-2-clause-ready : goal.returns-in-Some-2-clause-ready
-returns-in-Some-2-clause-ready g c = c.in_ok-beside.ensures.ready
-
-pub returns-in-Some-2-clause-reads : goal.returns-in-Some-2-clause-reads
-returns-in-Some-2-clause-reads g c = reads_then _ _ _ c.find_child.ensures.reads c.find_beside.ensures.reads
-
-pub returns-in-Some-2-clause-tells : goal.returns-in-Some-2-clause-tells
-returns-in-Some-2-clause-tells g c = c.in_ok-beside.ensures.ready.usable.works
+pub returns-in-Some-2-clause-store : goal.returns-in-Some-2-clause-store
+returns-in-Some-2-clause-store g c =
+    reads_on _ _ _ _ c.find_child.ensures.store.only c.in_ok-beside.ensures.store
 
 pub find_above-requires-clause-ready : goal.find_above-requires-clause-ready
-find_above-requires-clause-ready g c = c.in_ok-beside.ensures.ready
+find_above-requires-clause-ready g c = c.in_ok-beside.ensures.store.ready
 
 pub find_above-requires-clause-tree : goal.find_above-requires-clause-tree
 find_above-requires-clause-tree g c =
-    subst (λ (l : List ℕ). TreeStands l) (sym (c.find_beside.ensures.reads.keeps.committed_words
-    ∙ c.find_child.ensures.reads.keeps.committed_words)) c.requires.tree
+    subst (λ (l : List ℕ). TreeStands l) (sym (c.find_beside.ensures.store.only.keeps.committed_words
+    ∙ c.find_child.ensures.store.only.keeps.committed_words)) c.requires.tree
 
 pub find_above-requires-clause-df : goal.find_above-requires-clause-df
 find_above-requires-clause-df g c =
-    subst (λ (l : List ℕ). IsUsed (table l) c.args.df) (sym (c.find_beside.ensures.reads.keeps.committed_words
-    ∙ c.find_child.ensures.reads.keeps.committed_words)) c.requires.df
+    subst (λ (l : List ℕ). IsUsed (table l) c.args.df) (sym (c.find_beside.ensures.store.only.keeps.committed_words
+    ∙ c.find_child.ensures.store.only.keeps.committed_words)) c.requires.df
 
 pub returns-in_err-above-clause-found : goal.returns-in_err-above-clause-found
 returns-in_err-above-clause-found g c = none_ok _ _ _ c.from_residual-in_err-above.ensures.1
@@ -116,18 +91,10 @@ returns-in_err-above-clause-found g c = none_ok _ _ _ c.from_residual-in_err-abo
 pub returns-in_err-above-clause-used : goal.returns-in_err-above-clause-used
 returns-in_err-above-clause-used g c = none_ok _ _ _ c.from_residual-in_err-above.ensures.1
 
-pub returns-in_err-above-clause-ready : goal.returns-in_err-above-clause-ready
-returns-in_err-above-clause-ready g c = none_ok _ _ _ c.from_residual-in_err-above.ensures.1
+pub returns-in_err-above-clause-store : goal.returns-in_err-above-clause-store
+returns-in_err-above-clause-store g c =
+    reads_handed _ _ _ _ c.from_residual-in_err-above.ensures.1 (reads_on _ _ _ _ (reads_then _ _ _ c.find_child.ensures.store.only c.find_beside.ensures.store.only) c.in_err-above.ensures.store)
 
-pub returns-in_err-above-clause-tells : goal.returns-in_err-above-clause-tells
-returns-in_err-above-clause-tells g c = error_tells _ _ _ c.from_residual-in_err-above.ensures.1 c.in_err-above.ensures.tells
-
-pub returns-clause-ready : goal.returns-clause-ready
-returns-clause-ready g c = c.in_ok-above.ensures.ready
-
-pub returns-clause-reads : goal.returns-clause-reads
-returns-clause-reads g c =
-    reads_then _ _ _ (reads_then _ _ _ c.find_child.ensures.reads c.find_beside.ensures.reads) c.find_above.ensures.reads
-
-pub returns-clause-tells : goal.returns-clause-tells
-returns-clause-tells g c = c.in_ok-above.ensures.ready.usable.works
+pub returns-clause-store : goal.returns-clause-store
+returns-clause-store g c =
+    reads_on _ _ _ _ (reads_then _ _ _ c.find_child.ensures.store.only c.find_beside.ensures.store.only) c.in_ok-above.ensures.store

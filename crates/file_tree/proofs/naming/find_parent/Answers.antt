@@ -1,5 +1,4 @@
-use Rattle.undo_journal.specs.laws.Calls.{reads_same}
-use Rattle.undo_journal.specs.laws.Exits.{none_ok, error_tells}
+use Rattle.undo_journal.specs.laws.Exits.{none_ok}
 use Rattle.std.proofs.Common.{◌≡◌, ℕ, Some, sym, ◌∙◌, ap, subst}
 use Rattle.undo_journal.specs.Memory.{committed}
 use Rattle.file_tree.specs.declared.entry.Entry.{Entry}
@@ -7,6 +6,7 @@ use Rattle.file_tree.specs.Table.{table, entry_in, path_of, IsUsed}
 use Rattle.file_tree.specs.laws.Nodes.{used_small}
 use Rattle.file_tree.specs.laws.LookUps.{above_used}
 use Rattle.file_tree.specs.laws.Selecting.{parent_reached, parent_of_master}
+use Rattle.undo_journal.specs.laws.Told.{reads_none, reads_handed}
 use Rattle.file_tree.proofs.naming.find_parent.Goals as goal
 
 pub returns-then-df-eq0-clause-found : goal.returns-then-df-eq0-clause-found
@@ -31,14 +31,9 @@ returns-clause-used g c =
     let family : ℕ → Type 0 = λ e. IsUsed (table m) e in
     subst family (sym parent) (above_used m c.requires.tree.entries c.args.df 0 c.requires.df)
 
-pub returns-then-df-eq0-clause-ready : goal.returns-then-df-eq0-clause-ready
-returns-then-df-eq0-clause-ready g c = c.requires.ready
-
-pub returns-then-df-eq0-clause-reads : goal.returns-then-df-eq0-clause-reads
-returns-then-df-eq0-clause-reads g c = reads_same _
-
-pub returns-then-df-eq0-clause-tells : goal.returns-then-df-eq0-clause-tells
-returns-then-df-eq0-clause-tells g c = c.requires.ready.usable.works
+pub returns-then-df-eq0-clause-store : goal.returns-then-df-eq0-clause-store
+returns-then-df-eq0-clause-store g c =
+    reads_none _ c.requires.ready
 
 pub read_entry-requires-clause-ready : goal.read_entry-requires-clause-ready
 read_entry-requires-clause-ready g c = c.requires.ready
@@ -49,20 +44,9 @@ returns-in_err-entry-clause-found g c = none_ok _ _ _ c.from_residual.ensures.1
 pub returns-in_err-entry-clause-used : goal.returns-in_err-entry-clause-used
 returns-in_err-entry-clause-used g c = none_ok _ _ _ c.from_residual.ensures.1
 
-pub returns-in_err-entry-clause-ready : goal.returns-in_err-entry-clause-ready
-returns-in_err-entry-clause-ready g c = none_ok _ _ _ c.from_residual.ensures.1
+pub returns-in_err-entry-clause-store : goal.returns-in_err-entry-clause-store
+returns-in_err-entry-clause-store g c =
+    reads_handed _ _ _ _ c.from_residual.ensures.1 c.in_err-entry.ensures.store
 
-pub returns-in_err-entry-clause-reads : goal.returns-in_err-entry-clause-reads
-returns-in_err-entry-clause-reads g c = c.read_entry.ensures.reads
-
-pub returns-in_err-entry-clause-tells : goal.returns-in_err-entry-clause-tells
-returns-in_err-entry-clause-tells g c = error_tells _ _ _ c.from_residual.ensures.1 c.in_err-entry.ensures.tells
-
-pub returns-clause-ready : goal.returns-clause-ready
-returns-clause-ready g c = c.in_ok-entry.ensures.ready
-
-pub returns-clause-reads : goal.returns-clause-reads
-returns-clause-reads g c = c.read_entry.ensures.reads
-
-pub returns-clause-tells : goal.returns-clause-tells
-returns-clause-tells g c = c.in_ok-entry.ensures.ready.usable.works
+pub returns-clause-store : goal.returns-clause-store
+returns-clause-store g c = c.in_ok-entry.ensures.store

@@ -1,4 +1,4 @@
-use Rattle.undo_journal.specs.laws.Exits.{none_ok, error_tells}
+use Rattle.undo_journal.specs.laws.Exits.{none_ok}
 use Rattle.std.proofs.Common.{◌≡◌, ◌≤◌, ◌<◌, ◌+◌, ◌∷◌, ℕ, List, Option, None, length, drop, slice_index, subst, arith}
 use Rattle.std.proofs.lemmas.List.{drop_more, drop_all}
 use Rattle.undo_journal.specs.Memory.{committed}
@@ -7,6 +7,7 @@ use Rattle.file_tree.specs.Cards.{Path}
 use Rattle.file_tree.specs.Table.{table}
 use Rattle.file_tree.specs.laws.LookUps.{TellsChild, told_child}
 use Rattle.file_tree.specs.laws.Selecting.{IsOnWay, way_goes_on, way_ends, way_is_lost}
+use Rattle.undo_journal.specs.laws.Told.{reads_so_far, reads_handed, reads_on}
 use Rattle.file_tree.proofs.naming.find_path.Goals as goal
 
 -- what is left of the way begins with the next identifier
@@ -42,8 +43,8 @@ loop-k-preserved g c =
     let id = slice_index path c.loop-k.k in
     let lt : c.loop-k.k < length path = c.loop-k-test.true in
     record {
-      ready = c.in_ok-child.ensures.ready;
-      reads = reads_then _ _ _ c.loop-k.invariant.reads c.find_child.ensures.reads;
+      ready = c.in_ok-child.ensures.store.ready;
+      reads = reads_then _ _ _ c.loop-k.invariant.reads c.find_child.ensures.store.only;
       way = way_goes_on m c.requires.tree.entries c.args.df c.loop-k.at id c.in-Some.child path (drop (c.loop-k.k + 1) path)
           (next_left m c.args.df c.loop-k.at c.loop-k.k path lt c.loop-k.invariant.way)
           (told_child m (committed c.loop-k.store) c.loop-k.at c.loop-k.at id c.in_ok-child.field-0 c.in-Some.child
@@ -68,29 +69,14 @@ returns-in_err-child-clause-found g c = none_ok _ _ _ c.from_residual.ensures.1
 pub returns-in_err-child-clause-used : goal.returns-in_err-child-clause-used
 returns-in_err-child-clause-used g c = none_ok _ _ _ c.from_residual.ensures.1
 
-pub returns-in_err-child-clause-ready : goal.returns-in_err-child-clause-ready
-returns-in_err-child-clause-ready g c = none_ok _ _ _ c.from_residual.ensures.1
+pub returns-in_err-child-clause-store : goal.returns-in_err-child-clause-store
+returns-in_err-child-clause-store g c =
+    reads_handed _ _ _ _ c.from_residual.ensures.1 (reads_on _ _ _ _ c.loop-k.invariant.reads c.in_err-child.ensures.store)
 
-pub returns-in_err-child-clause-reads : goal.returns-in_err-child-clause-reads
-returns-in_err-child-clause-reads g c = reads_then _ _ _ c.loop-k.invariant.reads c.find_child.ensures.reads
+pub returns-in-None-clause-store : goal.returns-in-None-clause-store
+returns-in-None-clause-store g c =
+    reads_on _ _ _ _ c.loop-k.invariant.reads c.in_ok-child.ensures.store
 
-pub returns-in_err-child-clause-tells : goal.returns-in_err-child-clause-tells
-returns-in_err-child-clause-tells g c = error_tells _ _ _ c.from_residual.ensures.1 c.in_err-child.ensures.tells
-
-pub returns-in-None-clause-ready : goal.returns-in-None-clause-ready
-returns-in-None-clause-ready g c = c.in_ok-child.ensures.ready
-
-pub returns-in-None-clause-reads : goal.returns-in-None-clause-reads
-returns-in-None-clause-reads g c = reads_then _ _ _ c.loop-k.invariant.reads c.find_child.ensures.reads
-
-pub returns-in-None-clause-tells : goal.returns-in-None-clause-tells
-returns-in-None-clause-tells g c = c.in_ok-child.ensures.ready.usable.works
-
-pub returns-clause-ready : goal.returns-clause-ready
-returns-clause-ready g c = c.loop-k.invariant.ready
-
-pub returns-clause-reads : goal.returns-clause-reads
-returns-clause-reads g c = c.loop-k.invariant.reads
-
-pub returns-clause-tells : goal.returns-clause-tells
-returns-clause-tells g c = c.loop-k.invariant.ready.usable.works
+pub returns-clause-store : goal.returns-clause-store
+returns-clause-store g c =
+    reads_so_far _ _ c.loop-k.invariant.reads c.loop-k.invariant.ready

@@ -1,9 +1,10 @@
-use Rattle.undo_journal.specs.laws.Exits.{none_ok, error_tells}
+use Rattle.undo_journal.specs.laws.Exits.{none_ok}
 use Rattle.std.proofs.Common.{◌∙◌}
 use Rattle.undo_journal.specs.Memory.{committed}
 use Rattle.file_tree.specs.Table.{table}
 use Rattle.file_tree.specs.laws.Paths.{master_used}
 use Rattle.file_tree.specs.laws.Selecting.{path_below_master}
+use Rattle.undo_journal.specs.laws.Told.{reads_handed}
 use Rattle.file_tree.proofs.naming.find_path_from_master.Goals as goal
 
 pub returns-clause-found : goal.returns-clause-found
@@ -25,20 +26,9 @@ returns-in_err-found-clause-found g c = none_ok _ _ _ c.from_residual.ensures.1
 pub returns-in_err-found-clause-used : goal.returns-in_err-found-clause-used
 returns-in_err-found-clause-used g c = none_ok _ _ _ c.from_residual.ensures.1
 
-pub returns-in_err-found-clause-ready : goal.returns-in_err-found-clause-ready
-returns-in_err-found-clause-ready g c = none_ok _ _ _ c.from_residual.ensures.1
+pub returns-in_err-found-clause-store : goal.returns-in_err-found-clause-store
+returns-in_err-found-clause-store g c =
+    reads_handed _ _ _ _ c.from_residual.ensures.1 c.in_err-found.ensures.store
 
-pub returns-in_err-found-clause-reads : goal.returns-in_err-found-clause-reads
-returns-in_err-found-clause-reads g c = c.find_path.ensures.reads
-
-pub returns-in_err-found-clause-tells : goal.returns-in_err-found-clause-tells
-returns-in_err-found-clause-tells g c = error_tells _ _ _ c.from_residual.ensures.1 c.in_err-found.ensures.tells
-
-pub returns-clause-ready : goal.returns-clause-ready
-returns-clause-ready g c = c.in_ok-found.ensures.ready
-
-pub returns-clause-reads : goal.returns-clause-reads
-returns-clause-reads g c = c.find_path.ensures.reads
-
-pub returns-clause-tells : goal.returns-clause-tells
-returns-clause-tells g c = c.in_ok-found.ensures.ready.usable.works
+pub returns-clause-store : goal.returns-clause-store
+returns-clause-store g c = c.in_ok-found.ensures.store

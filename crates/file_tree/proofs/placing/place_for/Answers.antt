@@ -1,5 +1,4 @@
-use Rattle.undo_journal.specs.laws.Calls.{reads_then}
-use Rattle.undo_journal.specs.laws.Exits.{none_ok, error_tells}
+use Rattle.undo_journal.specs.laws.Exits.{none_ok}
 use Rattle.std.proofs.Common.{rules, ◌≡◌, ◌≢◌, ℕ, Bool, false, List, length, Option, None, Some, IsTrue, sym, ◌∙◌, ap, subst, arith, true≢false, inl, inr}
 use Rattle.std.proofs.lemmas.Bool.Decides.{eqb_tells}
 use Rattle.undo_journal.specs.Memory.{committed}
@@ -11,6 +10,7 @@ use Rattle.file_tree.specs.Table.{table, ancestor, extents}
 use Rattle.file_tree.specs.laws.Tables.{length-table}
 use Rattle.file_tree.specs.laws.Refusing.{TellsFreeEntry}
 use Rattle.file_tree.specs.laws.Places.{place_deepest, place_none, place_small, place_there}
+use Rattle.undo_journal.specs.laws.Told.{reads_handed, reads_on}
 use Rattle.file_tree.proofs.placing.place_for.Goals as goal
 
 -- what is not on the last level
@@ -55,7 +55,7 @@ returns-in_default-clause-place g c =
 pub free_count-requires-clause-free : goal.free_count-requires-clause-free
 free_count-requires-clause-free g c =
     let m = committed c.args.store.now in
-    let read = c.read_table.ensures.reads.keeps.committed_words in
+    let read = c.read_table.ensures.store.only.keeps.committed_words in
     let family : List ℕ → Type 0 = λ l. HasFree l in
     subst family (sym read) (laid_has_free m (extents (table m)) c.requires.tree.blocks)
 
@@ -73,7 +73,7 @@ returns-then-free-blocks_for-clause-place g c =
     let free = subst (λ (t : List Entry). told (Some c.in-Some.e) t) again
     (subst (λ (o : Option ℕ). told o c.as_slice-2.result.now) c.in-Some.is c.first_free.ensures) in
     let count = c.in_ok-free.ensures.count ∙ ap (λ (l : List ℕ). length
-    (free_chain l)) c.read_table.ensures.reads.keeps.committed_words in
+    (free_chain l)) c.read_table.ensures.store.only.keeps.committed_words in
     let blocks = c.blocks_for.ensures ∙ ap blocks_for c.size.ensures in
     sym (place_small m sized c.requires.tree c.args.df c.requires.df c.args.fcp.now.kind c.in-Some.e level free
     (omega (arith, count, blocks, c.if-free-blocks_for.true)))
@@ -92,7 +92,7 @@ returns-clause-place g c =
     let free = subst (λ (t : List Entry). told (Some c.in-Some.e) t) again
     (subst (λ (o : Option ℕ). told o c.as_slice-2.result.now) c.in-Some.is c.first_free.ensures) in
     let count = c.in_ok-free.ensures.count ∙ ap (λ (l : List ℕ). length
-    (free_chain l)) c.read_table.ensures.reads.keeps.committed_words in
+    (free_chain l)) c.read_table.ensures.store.only.keeps.committed_words in
     let blocks = c.blocks_for.ensures ∙ ap blocks_for c.size.ensures in
     place_there m sized c.requires.tree c.args.df c.requires.df c.args.fcp.now.kind c.in-Some.e level free
     (omega (arith, count, blocks, c.if-free-blocks_for.false))
@@ -103,62 +103,30 @@ read_table-requires g c = record { ready = c.requires.ready }
 pub returns-in_err-entries-clause-place : goal.returns-in_err-entries-clause-place
 returns-in_err-entries-clause-place g c = none_ok _ _ _ c.from_residual.ensures.1
 
-pub returns-in_err-entries-clause-ready : goal.returns-in_err-entries-clause-ready
-returns-in_err-entries-clause-ready g c = none_ok _ _ _ c.from_residual.ensures.1
+pub returns-in_err-entries-clause-store : goal.returns-in_err-entries-clause-store
+returns-in_err-entries-clause-store g c =
+    reads_handed _ _ _ _ c.from_residual.ensures.1 c.in_err-entries.ensures.store
 
-pub returns-in_err-entries-clause-reads : goal.returns-in_err-entries-clause-reads
-returns-in_err-entries-clause-reads g c = c.read_table.ensures.reads
+pub returns-then-is_deepest-clause-store : goal.returns-then-is_deepest-clause-store
+returns-then-is_deepest-clause-store g c = c.in_ok-entries.ensures.store
 
-pub returns-in_err-entries-clause-tells : goal.returns-in_err-entries-clause-tells
-returns-in_err-entries-clause-tells g c = error_tells _ _ _ c.from_residual.ensures.1 c.in_err-entries.ensures.tells
-
-pub returns-then-is_deepest-clause-ready : goal.returns-then-is_deepest-clause-ready
-returns-then-is_deepest-clause-ready g c = c.in_ok-entries.ensures.ready
-
-pub returns-then-is_deepest-clause-reads : goal.returns-then-is_deepest-clause-reads
-returns-then-is_deepest-clause-reads g c = c.read_table.ensures.reads
-
-pub returns-then-is_deepest-clause-tells : goal.returns-then-is_deepest-clause-tells
-returns-then-is_deepest-clause-tells g c = c.in_ok-entries.ensures.ready.usable.works
-
-pub returns-in_default-clause-ready : goal.returns-in_default-clause-ready
-returns-in_default-clause-ready g c = c.in_ok-entries.ensures.ready
-
-pub returns-in_default-clause-reads : goal.returns-in_default-clause-reads
-returns-in_default-clause-reads g c = c.read_table.ensures.reads
-
-pub returns-in_default-clause-tells : goal.returns-in_default-clause-tells
-returns-in_default-clause-tells g c = c.in_ok-entries.ensures.ready.usable.works
+pub returns-in_default-clause-store : goal.returns-in_default-clause-store
+returns-in_default-clause-store g c = c.in_ok-entries.ensures.store
 
 pub free_count-requires-clause-ready : goal.free_count-requires-clause-ready
-free_count-requires-clause-ready g c = c.in_ok-entries.ensures.ready
+free_count-requires-clause-ready g c = c.in_ok-entries.ensures.store.ready
 
 pub returns-in_err-free-clause-place : goal.returns-in_err-free-clause-place
 returns-in_err-free-clause-place g c = none_ok _ _ _ c.from_residual-in_err-free.ensures.1
 
-pub returns-in_err-free-clause-ready : goal.returns-in_err-free-clause-ready
-returns-in_err-free-clause-ready g c = none_ok _ _ _ c.from_residual-in_err-free.ensures.1
+pub returns-in_err-free-clause-store : goal.returns-in_err-free-clause-store
+returns-in_err-free-clause-store g c =
+    reads_handed _ _ _ _ c.from_residual-in_err-free.ensures.1 (reads_on _ _ _ _ c.read_table.ensures.store.only c.in_err-free.ensures.store)
 
-pub returns-in_err-free-clause-reads : goal.returns-in_err-free-clause-reads
-returns-in_err-free-clause-reads g c = reads_then _ _ _ c.read_table.ensures.reads c.free_count.ensures.reads
+pub returns-then-free-blocks_for-clause-store : goal.returns-then-free-blocks_for-clause-store
+returns-then-free-blocks_for-clause-store g c =
+    reads_on _ _ _ _ c.read_table.ensures.store.only c.in_ok-free.ensures.store
 
-pub returns-in_err-free-clause-tells : goal.returns-in_err-free-clause-tells
-returns-in_err-free-clause-tells g c = error_tells _ _ _ c.from_residual-in_err-free.ensures.1 c.in_err-free.ensures.tells
-
-pub returns-then-free-blocks_for-clause-ready : goal.returns-then-free-blocks_for-clause-ready
-returns-then-free-blocks_for-clause-ready g c = c.in_ok-free.ensures.ready
-
-pub returns-then-free-blocks_for-clause-reads : goal.returns-then-free-blocks_for-clause-reads
-returns-then-free-blocks_for-clause-reads g c = reads_then _ _ _ c.read_table.ensures.reads c.free_count.ensures.reads
-
-pub returns-then-free-blocks_for-clause-tells : goal.returns-then-free-blocks_for-clause-tells
-returns-then-free-blocks_for-clause-tells g c = c.in_ok-free.ensures.ready.usable.works
-
-pub returns-clause-ready : goal.returns-clause-ready
-returns-clause-ready g c = c.in_ok-free.ensures.ready
-
-pub returns-clause-reads : goal.returns-clause-reads
-returns-clause-reads g c = reads_then _ _ _ c.read_table.ensures.reads c.free_count.ensures.reads
-
-pub returns-clause-tells : goal.returns-clause-tells
-returns-clause-tells g c = c.in_ok-free.ensures.ready.usable.works
+pub returns-clause-store : goal.returns-clause-store
+returns-clause-store g c =
+    reads_on _ _ _ _ c.read_table.ensures.store.only c.in_ok-free.ensures.store

@@ -1,9 +1,10 @@
-use Rattle.undo_journal.specs.laws.Exits.{none_ok, error_tells}
+use Rattle.undo_journal.specs.laws.Exits.{none_ok}
 use Rattle.std.proofs.Common.{◌+◌, sym, ◌∙◌, arith}
 use Rattle.undo_journal.specs.Memory.{committed}
 use Rattle.block_chain.specs.Words.{page_words}
 use Rattle.block_chain.specs.laws.Words.{index-page_words}
 use Rattle.file_tree.specs.laws.Tables.{entry_of-same, entry_in-table}
+use Rattle.undo_journal.specs.laws.Told.{reads_handed}
 use Rattle.file_tree.proofs.reading.read_entry.Goals as goal
 
 pub returns-clause-entry : goal.returns-clause-entry
@@ -21,20 +22,9 @@ read_words-requires-clause-ready g c = c.requires.ready
 pub returns-in_err-words-clause-entry : goal.returns-in_err-words-clause-entry
 returns-in_err-words-clause-entry g c = none_ok _ _ _ c.from_residual.ensures.1
 
-pub returns-in_err-words-clause-ready : goal.returns-in_err-words-clause-ready
-returns-in_err-words-clause-ready g c = none_ok _ _ _ c.from_residual.ensures.1
+pub returns-in_err-words-clause-store : goal.returns-in_err-words-clause-store
+returns-in_err-words-clause-store g c =
+    reads_handed _ _ _ _ c.from_residual.ensures.1 c.in_err-words.ensures.store
 
-pub returns-in_err-words-clause-reads : goal.returns-in_err-words-clause-reads
-returns-in_err-words-clause-reads g c = c.read_words.ensures.reads
-
-pub returns-in_err-words-clause-tells : goal.returns-in_err-words-clause-tells
-returns-in_err-words-clause-tells g c = error_tells _ _ _ c.from_residual.ensures.1 c.in_err-words.ensures.tells
-
-pub returns-clause-ready : goal.returns-clause-ready
-returns-clause-ready g c = c.in_ok-words.ensures.ready
-
-pub returns-clause-reads : goal.returns-clause-reads
-returns-clause-reads g c = c.read_words.ensures.reads
-
-pub returns-clause-tells : goal.returns-clause-tells
-returns-clause-tells g c = c.in_ok-words.ensures.ready.usable.works
+pub returns-clause-store : goal.returns-clause-store
+returns-clause-store g c = c.in_ok-words.ensures.store

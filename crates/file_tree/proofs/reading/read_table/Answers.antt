@@ -1,4 +1,4 @@
-use Rattle.undo_journal.specs.laws.Exits.{none_ok, error_tells}
+use Rattle.undo_journal.specs.laws.Exits.{none_ok}
 use Rattle.std.proofs.Common.{rules, ◌≡◌, ◌<◌, ℕ, List, [], ◌∷◌, ◌++◌, length, take, sym, ◌∙◌, ap, ap₂, arith}
 use Rattle.std.proofs.lemmas.List.{take_more}
 use Rattle.std.proofs.Math.Seq.{take-length}
@@ -8,6 +8,7 @@ use Rattle.file_tree.specs.declared.entry.Entry.{Entry}
 use Rattle.file_tree.specs.Entries.{free_entry}
 use Rattle.file_tree.specs.Table.{table, entry_in}
 use Rattle.file_tree.specs.laws.Tables.{length-table}
+use Rattle.undo_journal.specs.laws.Told.{reads_so_far, reads_handed, reads_on}
 use Rattle.file_tree.proofs.reading.read_table.Goals as goal
 
 pub loop-e-preserved : goal.loop-e-preserved
@@ -42,20 +43,10 @@ read_entry-requires-clause-ready g c = c.loop-e.invariant.ready
 pub returns-in_err-read_entry-clause-table : goal.returns-in_err-read_entry-clause-table
 returns-in_err-read_entry-clause-table g c = none_ok _ _ _ c.from_residual.ensures.1
 
-pub returns-in_err-read_entry-clause-ready : goal.returns-in_err-read_entry-clause-ready
-returns-in_err-read_entry-clause-ready g c = none_ok _ _ _ c.from_residual.ensures.1
+pub returns-in_err-read_entry-clause-store : goal.returns-in_err-read_entry-clause-store
+returns-in_err-read_entry-clause-store g c =
+    reads_handed _ _ _ _ c.from_residual.ensures.1 (reads_on _ _ _ _ c.loop-e.invariant.reads c.in_err-read_entry.ensures.store)
 
-pub returns-in_err-read_entry-clause-reads : goal.returns-in_err-read_entry-clause-reads
-returns-in_err-read_entry-clause-reads g c = reads_then _ _ _ c.loop-e.invariant.reads c.read_entry.ensures.reads
-
-pub returns-in_err-read_entry-clause-tells : goal.returns-in_err-read_entry-clause-tells
-returns-in_err-read_entry-clause-tells g c = error_tells _ _ _ c.from_residual.ensures.1 c.in_err-read_entry.ensures.tells
-
-pub returns-clause-ready : goal.returns-clause-ready
-returns-clause-ready g c = c.loop-e.invariant.ready
-
-pub returns-clause-reads : goal.returns-clause-reads
-returns-clause-reads g c = c.loop-e.invariant.reads
-
-pub returns-clause-tells : goal.returns-clause-tells
-returns-clause-tells g c = c.loop-e.invariant.ready.usable.works
+pub returns-clause-store : goal.returns-clause-store
+returns-clause-store g c =
+    reads_so_far _ _ c.loop-e.invariant.reads c.loop-e.invariant.ready

@@ -1,4 +1,4 @@
-use Rattle.undo_journal.specs.laws.Exits.{none_ok, error_tells}
+use Rattle.undo_journal.specs.laws.Exits.{none_ok}
 use Rattle.std.proofs.Common.{rules, ◌≡◌, ◌+◌, ◌<◌, ◌≤◌, ℕ, List, slice_index, slice_set, sym, ◌∙◌, ap, ap₂, arith}
 use Rattle.std.proofs.Common.{⊎_elim, get_or-set_same, get_or-set_other, length-set}
 use Rattle.std.proofs.lemmas.Bool.{cases_lt}
@@ -6,6 +6,7 @@ use Rattle.nvm_board.specs.Facts.{address}
 use Rattle.undo_journal.specs.Memory.{committed}
 use Rattle.undo_journal.specs.laws.Calls.{reads_then}
 use Rattle.block_chain.specs.Words.{word}
+use Rattle.undo_journal.specs.laws.Told.{reads_so_far, reads_handed, reads_on}
 use Rattle.file_tree.proofs.reading.read_words.Goals as goal
 
 pub loop-k-preserved : goal.loop-k-preserved
@@ -39,20 +40,10 @@ loop-k-preserved g c =
 pub returns-in_err-words-clause-words : goal.returns-in_err-words-clause-words
 returns-in_err-words-clause-words g c = none_ok _ _ _ c.from_residual.ensures.1
 
-pub returns-in_err-words-clause-ready : goal.returns-in_err-words-clause-ready
-returns-in_err-words-clause-ready g c = none_ok _ _ _ c.from_residual.ensures.1
+pub returns-in_err-words-clause-store : goal.returns-in_err-words-clause-store
+returns-in_err-words-clause-store g c =
+    reads_handed _ _ _ _ c.from_residual.ensures.1 (reads_on _ _ _ _ c.loop-k.invariant.reads (c.in_err-words.ensures.store c.loop-k.invariant.ready.idle))
 
-pub returns-in_err-words-clause-reads : goal.returns-in_err-words-clause-reads
-returns-in_err-words-clause-reads g c = reads_then _ _ _ c.loop-k.invariant.reads c.read.ensures.reads
-
-pub returns-in_err-words-clause-tells : goal.returns-in_err-words-clause-tells
-returns-in_err-words-clause-tells g c = error_tells _ _ _ c.from_residual.ensures.1 c.in_err-words.ensures.tells
-
-pub returns-clause-ready : goal.returns-clause-ready
-returns-clause-ready g c = c.loop-k.invariant.ready
-
-pub returns-clause-reads : goal.returns-clause-reads
-returns-clause-reads g c = c.loop-k.invariant.reads
-
-pub returns-clause-tells : goal.returns-clause-tells
-returns-clause-tells g c = c.loop-k.invariant.ready.usable.works
+pub returns-clause-store : goal.returns-clause-store
+returns-clause-store g c =
+    reads_so_far _ _ c.loop-k.invariant.reads c.loop-k.invariant.ready

@@ -1,4 +1,13 @@
-use Rattle.undo_journal.specs.laws.Exits.{none_ok, error_tells}
+use Rattle.std.proofs.Common.{◌≡◌, ℕ, Option, None, Some, is_some, option_map, refl, sym, ◌∙◌, ap, subst}
+use Rattle.undo_journal.specs.Memory.{committed}
+use Rattle.fcp_template.specs.declared.fcp.ShortIdentifier.{ShortIdentifier}
+use Rattle.fcp_template.specs.Ranges.{IsShort}
+use Rattle.file_tree.specs.Cards.{Path}
+use Rattle.file_tree.specs.NewFiles.{has_short_given}
+use Rattle.file_tree.specs.Table.{table, path_of}
+use Rattle.file_tree.specs.Trees.{tree_of}
+use Rattle.undo_journal.specs.laws.Exits.{none_ok}
+use Rattle.undo_journal.specs.laws.Told.{reads_handed}
 use Rattle.file_tree.proofs.refusing.is_short_taken.Goals as goal
 
 pub find_short-requires-clause-ready : goal.find_short-requires-clause-ready
@@ -13,21 +22,24 @@ find_short-requires-clause-df g c = c.requires.df
 pub returns-in_err-found-in-Given-clause-taken : goal.returns-in_err-found-in-Given-clause-taken
 returns-in_err-found-in-Given-clause-taken g c = none_ok _ _ _ c.from_residual.ensures.1
 
-pub returns-in_err-found-in-Given-clause-ready : goal.returns-in_err-found-in-Given-clause-ready
-returns-in_err-found-in-Given-clause-ready g c = none_ok _ _ _ c.from_residual.ensures.1
+pub returns-in_err-found-in-Given-clause-store : goal.returns-in_err-found-in-Given-clause-store
+returns-in_err-found-in-Given-clause-store g c =
+    reads_handed _ _ _ _ c.from_residual.ensures.1 c.in_err-found-in-Given.ensures.store
 
-pub returns-in_err-found-in-Given-clause-reads : goal.returns-in_err-found-in-Given-clause-reads
-returns-in_err-found-in-Given-clause-reads g c = c.find_short.ensures.reads
+pub returns-in_ok-found-in-Given-clause-store : goal.returns-in_ok-found-in-Given-clause-store
+returns-in_ok-found-in-Given-clause-store g c = c.in_ok-found-in-Given.ensures.store
 
-pub returns-in_err-found-in-Given-clause-tells : goal.returns-in_err-found-in-Given-clause-tells
-returns-in_err-found-in-Given-clause-tells g c =
-    error_tells _ _ _ c.from_residual.ensures.1 c.in_err-found-in-Given.ensures.tells
+-- what is found by its entry is found by its path
+found_path : (path : ℕ → Path) (found : Option ℕ) → is_some found ≡ is_some (option_map path found)
+found_path path None = refl
+found_path path (Some e) = refl
 
-pub returns-in_ok-found-in-Given-clause-ready : goal.returns-in_ok-found-in-Given-clause-ready
-returns-in_ok-found-in-Given-clause-ready g c = c.in_ok-found-in-Given.ensures.ready
+pub find_short-requires-clause-some : goal.find_short-requires-clause-some
+find_short-requires-clause-some g c = (subst (λ (s : ShortIdentifier). IsShort s) c.in-Given.is c.requires.short).0
 
-pub returns-in_ok-found-in-Given-clause-reads : goal.returns-in_ok-found-in-Given-clause-reads
-returns-in_ok-found-in-Given-clause-reads g c = c.find_short.ensures.reads
-
-pub returns-in_ok-found-in-Given-clause-tells : goal.returns-in_ok-found-in-Given-clause-tells
-returns-in_ok-found-in-Given-clause-tells g c = c.in_ok-found-in-Given.ensures.ready.usable.works
+pub returns-in_ok-found-in-Given-clause-taken : goal.returns-in_ok-found-in-Given-clause-taken
+returns-in_ok-found-in-Given-clause-taken g c =
+    let m = committed c.args.store.now in
+    c.is_some.ensures ∙ found_path (path_of (table m)) c.in_ok-found-in-Given.found
+    ∙ ap (λ (o : Option Path). is_some o) c.in_ok-found-in-Given.ensures.found
+    ∙ ap (λ (s : ShortIdentifier). has_short_given (tree_of m) (path_of (table m) c.args.df) s) (sym c.in-Given.is)

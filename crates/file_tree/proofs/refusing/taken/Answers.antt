@@ -1,5 +1,5 @@
 use Rattle.file_tree.specs.Table.{IsUsed}
-use Rattle.undo_journal.specs.laws.Exits.{none_ok, error_tells}
+use Rattle.undo_journal.specs.laws.Exits.{none_ok}
 use Rattle.std.proofs.Common.{◌≡◌, Bool, List, ℕ, [], ◌∷◌, ◌++◌, length, Option, is_some, sym, ◌∙◌, ap, subst, arith}
 use Rattle.undo_journal.specs.Memory.{committed}
 use Rattle.undo_journal.specs.laws.Calls.{reads_then}
@@ -14,6 +14,7 @@ use Rattle.file_tree.specs.NewFiles.{has_name, has_short_given}
 use Rattle.file_tree.specs.laws.Tables.{length-table}
 use Rattle.file_tree.specs.laws.Refusing.{TellsNamed, child_told, name_told}
 use Rattle.file_tree.specs.laws.Allowed.{taken_is, creatable_short}
+use Rattle.undo_journal.specs.laws.Told.{reads_handed, reads_on}
 use Rattle.file_tree.proofs.refusing.taken.Goals as goal
 
 -- whether a name is taken, by what a look-up in the entries that were read found
@@ -33,7 +34,7 @@ entry_named-named-requires g c =
 
 pub is_short_taken-requires-clause-tree : goal.is_short_taken-requires-clause-tree
 is_short_taken-requires-clause-tree g c =
-    let read = c.read_table.ensures.reads.keeps.committed_words ∙ c.find_child.ensures.reads.keeps.committed_words in
+    let read = c.read_table.ensures.store.only.keeps.committed_words ∙ c.find_child.ensures.store.only.keeps.committed_words in
     let family : List ℕ → Type 0 = λ l. TreeStands l in
     subst family (sym read) c.requires.tree
 
@@ -41,14 +42,6 @@ pub is_short_taken-requires-clause-short : goal.is_short_taken-requires-clause-s
 is_short_taken-requires-clause-short g c =
     let family : ShortIdentifier → Type 0 = λ s. IsShort s in
     subst family (sym c.short.ensures) (creatable_short c.args.fcp.now.kind c.requires.fcp.ranges.kind)
-
-pub returns-in_err-short-clause-reads : goal.returns-in_err-short-clause-reads
-returns-in_err-short-clause-reads g c =
-    reads_then _ _ _ (reads_then _ _ _ c.find_child.ensures.reads c.read_table.ensures.reads) c.is_short_taken.ensures.reads
-
-pub returns-clause-reads : goal.returns-clause-reads
-returns-clause-reads g c =
-    reads_then _ _ _ (reads_then _ _ _ c.find_child.ensures.reads c.read_table.ensures.reads) c.is_short_taken.ensures.reads
 
 pub returns-clause-taken : goal.returns-clause-taken
 returns-clause-taken g c =
@@ -61,11 +54,11 @@ returns-clause-taken g c =
     child_told m rules c.args.df fcp.identifier c.in_ok-child.child c.requires.df c.in_ok-child.ensures.found
     ∙ sym c.is_some.ensures in
     let entries = c.as_slice.ensures.value ∙ c.in_ok-entries.ensures.table
-    ∙ ap table c.find_child.ensures.reads.keeps.committed_words in
+    ∙ ap table c.find_child.ensures.store.only.keeps.committed_words in
     let named : has_name tree (name_bytes fcp.kind) ≡ c.is_some-2.result =
     name_is_taken m rules _ (name_bytes fcp.kind) _ c.entry_named-named.result c.is_some-2.result entries c.name.ensures
     c.is_some-2.ensures c.entry_named-named.ensures in
-    let read = c.read_table.ensures.reads.keeps.committed_words ∙ c.find_child.ensures.reads.keeps.committed_words in
+    let read = c.read_table.ensures.store.only.keeps.committed_words ∙ c.find_child.ensures.store.only.keeps.committed_words in
     let short : has_short_given tree path (short_of_kind fcp.kind) ≡ c.in_ok-short.short =
     sym (c.in_ok-short.ensures.taken
     ∙ (λ i. has_short_given (tree_of (read i)) (path_of (table (read i)) c.args.df) (c.short.ensures i))) in
@@ -77,50 +70,35 @@ find_child-requires g c = record { ready = c.requires.ready }
 pub returns-in_err-child-clause-taken : goal.returns-in_err-child-clause-taken
 returns-in_err-child-clause-taken g c = none_ok _ _ _ c.from_residual.ensures.1
 
-pub returns-in_err-child-clause-ready : goal.returns-in_err-child-clause-ready
-returns-in_err-child-clause-ready g c = none_ok _ _ _ c.from_residual.ensures.1
-
-pub returns-in_err-child-clause-reads : goal.returns-in_err-child-clause-reads
-returns-in_err-child-clause-reads g c = c.find_child.ensures.reads
-
-pub returns-in_err-child-clause-tells : goal.returns-in_err-child-clause-tells
-returns-in_err-child-clause-tells g c = error_tells _ _ _ c.from_residual.ensures.1 c.in_err-child.ensures.tells
+pub returns-in_err-child-clause-store : goal.returns-in_err-child-clause-store
+returns-in_err-child-clause-store g c =
+    reads_handed _ _ _ _ c.from_residual.ensures.1 c.in_err-child.ensures.store
 
 pub read_table-requires : goal.read_table-requires
-read_table-requires g c = record { ready = c.in_ok-child.ensures.ready }
+read_table-requires g c = record { ready = c.in_ok-child.ensures.store.ready }
 
 pub returns-in_err-entries-clause-taken : goal.returns-in_err-entries-clause-taken
 returns-in_err-entries-clause-taken g c = none_ok _ _ _ c.from_residual-in_err-entries.ensures.1
 
-pub returns-in_err-entries-clause-ready : goal.returns-in_err-entries-clause-ready
-returns-in_err-entries-clause-ready g c = none_ok _ _ _ c.from_residual-in_err-entries.ensures.1
-
-pub returns-in_err-entries-clause-reads : goal.returns-in_err-entries-clause-reads
-returns-in_err-entries-clause-reads g c = reads_then _ _ _ c.find_child.ensures.reads c.read_table.ensures.reads
-
-pub returns-in_err-entries-clause-tells : goal.returns-in_err-entries-clause-tells
-returns-in_err-entries-clause-tells g c =
-    error_tells _ _ _ c.from_residual-in_err-entries.ensures.1 c.in_err-entries.ensures.tells
+pub returns-in_err-entries-clause-store : goal.returns-in_err-entries-clause-store
+returns-in_err-entries-clause-store g c =
+    reads_handed _ _ _ _ c.from_residual-in_err-entries.ensures.1 (reads_on _ _ _ _ c.find_child.ensures.store.only c.in_err-entries.ensures.store)
 
 pub is_short_taken-requires-clause-ready : goal.is_short_taken-requires-clause-ready
-is_short_taken-requires-clause-ready g c = c.in_ok-entries.ensures.ready
+is_short_taken-requires-clause-ready g c = c.in_ok-entries.ensures.store.ready
 
 pub is_short_taken-requires-clause-df : goal.is_short_taken-requires-clause-df
 is_short_taken-requires-clause-df g c =
-    subst (λ (l : List ℕ). IsUsed (table l) c.args.df) (sym (c.read_table.ensures.reads.keeps.committed_words
-    ∙ c.find_child.ensures.reads.keeps.committed_words)) c.requires.df
+    subst (λ (l : List ℕ). IsUsed (table l) c.args.df) (sym (c.read_table.ensures.store.only.keeps.committed_words
+    ∙ c.find_child.ensures.store.only.keeps.committed_words)) c.requires.df
 
 pub returns-in_err-short-clause-taken : goal.returns-in_err-short-clause-taken
 returns-in_err-short-clause-taken g c = none_ok _ _ _ c.from_residual-in_err-short.ensures.1
 
-pub returns-in_err-short-clause-ready : goal.returns-in_err-short-clause-ready
-returns-in_err-short-clause-ready g c = none_ok _ _ _ c.from_residual-in_err-short.ensures.1
+pub returns-in_err-short-clause-store : goal.returns-in_err-short-clause-store
+returns-in_err-short-clause-store g c =
+    reads_handed _ _ _ _ c.from_residual-in_err-short.ensures.1 (reads_on _ _ _ _ (reads_then _ _ _ c.find_child.ensures.store.only c.read_table.ensures.store.only) c.in_err-short.ensures.store)
 
-pub returns-in_err-short-clause-tells : goal.returns-in_err-short-clause-tells
-returns-in_err-short-clause-tells g c = error_tells _ _ _ c.from_residual-in_err-short.ensures.1 c.in_err-short.ensures.tells
-
-pub returns-clause-ready : goal.returns-clause-ready
-returns-clause-ready g c = c.in_ok-short.ensures.ready
-
-pub returns-clause-tells : goal.returns-clause-tells
-returns-clause-tells g c = c.in_ok-short.ensures.ready.usable.works
+pub returns-clause-store : goal.returns-clause-store
+returns-clause-store g c =
+    reads_on _ _ _ _ (reads_then _ _ _ c.find_child.ensures.store.only c.read_table.ensures.store.only) c.in_ok-short.ensures.store

@@ -1,5 +1,4 @@
-use Rattle.undo_journal.specs.laws.Calls.{reads_then}
-use Rattle.undo_journal.specs.laws.Exits.{none_ok, error_tells}
+use Rattle.undo_journal.specs.laws.Exits.{none_ok}
 use Rattle.std.proofs.Common.{rules, ℕ, List, Option, length, IsTrue, sym, ◌∙◌, ap, subst}
 use Rattle.block_chain.specs.Layout.{TellsFree}
 use Rattle.undo_journal.specs.Memory.{committed}
@@ -7,6 +6,7 @@ use Rattle.file_tree.specs.declared.entry.Entry.{Entry}
 use Rattle.file_tree.specs.Table.{extents, free_entries}
 use Rattle.file_tree.specs.laws.Tables.{length-table}
 use Rattle.file_tree.specs.laws.Telling.{tells_space}
+use Rattle.undo_journal.specs.laws.Told.{reads_handed, reads_on}
 use Rattle.file_tree.proofs.tree.is_tree.Goals as goal
 
 pub is_table-requires : goal.is_table-requires
@@ -26,7 +26,7 @@ returns-in-Some-clause-tree g c =
     tells_space (committed c.args.store.now) (committed c.read_table.new.store) c.as_slice.result.now c.as_slice-3.result.now
     c.in-Some.blocks c.count_free-entries.result
     c.requires.ready.usable.committed_size
-    c.read_table.ensures.reads.keeps.committed_words
+    c.read_table.ensures.store.only.keeps.committed_words
     (c.as_slice.ensures.value ∙ c.in_ok-entries.ensures.table)
     (c.as_slice-3.ensures.value ∙ c.extents_of-extents.ensures ∙ ap extents (c.as_slice-2.ensures.value
     ∙ sym c.as_slice.ensures.value))
@@ -40,50 +40,24 @@ read_table-requires g c = record { ready = c.requires.ready }
 pub returns-in_err-entries-clause-tree : goal.returns-in_err-entries-clause-tree
 returns-in_err-entries-clause-tree g c = none_ok _ _ _ c.from_residual.ensures.1
 
-pub returns-in_err-entries-clause-ready : goal.returns-in_err-entries-clause-ready
-returns-in_err-entries-clause-ready g c = none_ok _ _ _ c.from_residual.ensures.1
+pub returns-in_err-entries-clause-store : goal.returns-in_err-entries-clause-store
+returns-in_err-entries-clause-store g c =
+    reads_handed _ _ _ _ c.from_residual.ensures.1 c.in_err-entries.ensures.store
 
-pub returns-in_err-entries-clause-reads : goal.returns-in_err-entries-clause-reads
-returns-in_err-entries-clause-reads g c = c.read_table.ensures.reads
-
-pub returns-in_err-entries-clause-tells : goal.returns-in_err-entries-clause-tells
-returns-in_err-entries-clause-tells g c = error_tells _ _ _ c.from_residual.ensures.1 c.in_err-entries.ensures.tells
-
-pub returns-then-not-is_table-clause-ready : goal.returns-then-not-is_table-clause-ready
-returns-then-not-is_table-clause-ready g c = c.in_ok-entries.ensures.ready
-
-pub returns-then-not-is_table-clause-reads : goal.returns-then-not-is_table-clause-reads
-returns-then-not-is_table-clause-reads g c = c.read_table.ensures.reads
-
-pub returns-then-not-is_table-clause-tells : goal.returns-then-not-is_table-clause-tells
-returns-then-not-is_table-clause-tells g c = c.in_ok-entries.ensures.ready.usable.works
+pub returns-then-not-is_table-clause-store : goal.returns-then-not-is_table-clause-store
+returns-then-not-is_table-clause-store g c = c.in_ok-entries.ensures.store
 
 pub returns-in_err-lay-clause-tree : goal.returns-in_err-lay-clause-tree
 returns-in_err-lay-clause-tree g c = none_ok _ _ _ c.from_residual-in_err-lay.ensures.1
 
-pub returns-in_err-lay-clause-ready : goal.returns-in_err-lay-clause-ready
-returns-in_err-lay-clause-ready g c = none_ok _ _ _ c.from_residual-in_err-lay.ensures.1
+pub returns-in_err-lay-clause-store : goal.returns-in_err-lay-clause-store
+returns-in_err-lay-clause-store g c =
+    reads_handed _ _ _ _ c.from_residual-in_err-lay.ensures.1 (reads_on _ _ _ _ c.read_table.ensures.store.only c.in_err-lay.ensures.store)
 
-pub returns-in_err-lay-clause-reads : goal.returns-in_err-lay-clause-reads
-returns-in_err-lay-clause-reads g c = reads_then _ _ _ c.read_table.ensures.reads c.lay.ensures.reads
+pub returns-in-None-clause-store : goal.returns-in-None-clause-store
+returns-in-None-clause-store g c =
+    reads_on _ _ _ _ c.read_table.ensures.store.only c.in_ok-lay.ensures.store
 
-pub returns-in_err-lay-clause-tells : goal.returns-in_err-lay-clause-tells
-returns-in_err-lay-clause-tells g c = error_tells _ _ _ c.from_residual-in_err-lay.ensures.1 c.in_err-lay.ensures.tells
-
-pub returns-in-None-clause-ready : goal.returns-in-None-clause-ready
-returns-in-None-clause-ready g c = c.in_ok-lay.ensures.ready
-
-pub returns-in-None-clause-reads : goal.returns-in-None-clause-reads
-returns-in-None-clause-reads g c = reads_then _ _ _ c.read_table.ensures.reads c.lay.ensures.reads
-
-pub returns-in-None-clause-tells : goal.returns-in-None-clause-tells
-returns-in-None-clause-tells g c = c.in_ok-lay.ensures.ready.usable.works
-
-pub returns-in-Some-clause-ready : goal.returns-in-Some-clause-ready
-returns-in-Some-clause-ready g c = c.in_ok-lay.ensures.ready
-
-pub returns-in-Some-clause-reads : goal.returns-in-Some-clause-reads
-returns-in-Some-clause-reads g c = reads_then _ _ _ c.read_table.ensures.reads c.lay.ensures.reads
-
-pub returns-in-Some-clause-tells : goal.returns-in-Some-clause-tells
-returns-in-Some-clause-tells g c = c.in_ok-lay.ensures.ready.usable.works
+pub returns-in-Some-clause-store : goal.returns-in-Some-clause-store
+returns-in-Some-clause-store g c =
+    reads_on _ _ _ _ c.read_table.ensures.store.only c.in_ok-lay.ensures.store

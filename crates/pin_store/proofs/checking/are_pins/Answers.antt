@@ -3,6 +3,7 @@ use Rattle.undo_journal.specs.Memory.{committed}
 use Rattle.undo_journal.specs.laws.Calls.{reads_same, reads_then}
 use Rattle.pin_store.specs.declared.layout.TheConstants.{PINS}
 use Rattle.pin_store.specs.Pages.{IsPinPage}
+use Rattle.undo_journal.specs.laws.Told.{reads_handed, reads_on}
 use Rattle.pin_store.proofs.checking.are_pins.Goals as goal
 
 pub loop-pin-init : goal.loop-pin-init
@@ -19,18 +20,19 @@ loop-pin-preserved g c =
     subst (λ (l : List ℕ). IsPinPage l c.loop-pin.pin) c.loop-pin.invariant.reads.keeps.committed_words
     (c.in_ok-is_pin_page.ensures.page.0 c.if-not-branch.false) in
     record {
-      ready = c.in_ok-is_pin_page.ensures.ready;
-      reads = reads_then _ _ _ c.loop-pin.invariant.reads c.is_pin_page.ensures.reads;
+      ready = c.in_ok-is_pin_page.ensures.store.ready;
+      reads = reads_then _ _ _ c.loop-pin.invariant.reads c.is_pin_page.ensures.store.only;
       so_far = below_more (λ (pin : ℕ). IsPinPage m pin) c.loop-pin.pin c.loop-pin.invariant.so_far here;
     }
 
-pub returns-in_err-is_pin_page-clause-reads : goal.returns-in_err-is_pin_page-clause-reads
-returns-in_err-is_pin_page-clause-reads g c =
-    reads_then _ _ _ c.loop-pin.invariant.reads c.is_pin_page.ensures.reads
+pub returns-in_err-is_pin_page-clause-store : goal.returns-in_err-is_pin_page-clause-store
+returns-in_err-is_pin_page-clause-store g c =
+    reads_handed _ _ _ _ c.from_residual.ensures.1
+    (reads_on _ _ _ _ c.loop-pin.invariant.reads c.in_err-is_pin_page.ensures.store)
 
-pub returns-then-not-branch-clause-reads : goal.returns-then-not-branch-clause-reads
-returns-then-not-branch-clause-reads g c =
-    reads_then _ _ _ c.loop-pin.invariant.reads c.is_pin_page.ensures.reads
+pub returns-then-not-branch-clause-store : goal.returns-then-not-branch-clause-store
+returns-then-not-branch-clause-store g c =
+    reads_on _ _ _ _ c.loop-pin.invariant.reads c.in_ok-is_pin_page.ensures.store
 
 pub returns-then-not-branch-clause-pins : goal.returns-then-not-branch-clause-pins
 returns-then-not-branch-clause-pins g c =

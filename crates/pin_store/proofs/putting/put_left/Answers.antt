@@ -11,9 +11,6 @@ use Rattle.undo_journal.specs.laws.Exits.{on_then}
 use Rattle.pin_store.proofs.putting.put_left.Given.{Over}
 use Rattle.pin_store.proofs.putting.put_left.Goals as goal
 
-pub returns-clause-writes : goal.returns-clause-writes
-returns-clause-writes g c = c.put_alone.ensures.writes
-
 set : (g : Over) (c : goal.After-put_alone g) (after : List ℕ)
     → after ≡ slice_set (committed c.args.store.now) c.address_of.result c.from.result
     → SetsPin (committed c.args.store.now) (owner c.args.secret)
@@ -47,5 +44,5 @@ returns-clause-pages g c =
     left_pages m after c.args.secret c.args.left c.requires.fewer c.requires.pages (set g c after done))
     c.put_alone.ensures.any_exit
 
-pub returns-clause-reports : goal.returns-clause-reports
-returns-clause-reports g c = c.put_alone.ensures.reports
+pub returns-clause-store : goal.returns-clause-store
+returns-clause-store g c = c.put_alone.ensures.store

@@ -1,17 +1,19 @@
-use Rattle.std.proofs.Common.{◌≡◌, ℕ, List, OnOk, sym, ◌∙◌, ap, subst, inl, arith, lit<}
+use Rattle.std.proofs.Common.{ℕ, List, sym, ◌∙◌, ap, subst, inl, arith, lit<}
 use Rattle.std.proofs.Math.Logic.{⊎_map}
 use Rattle.undo_journal.specs.Lent.{memory_of}
-use Rattle.undo_journal.specs.Memory.{Memory, committed, IsOpen, IsReady}
+use Rattle.undo_journal.specs.Memory.{Memory, committed, IsOpen}
 use Rattle.pin_store.specs.Pins.{changed_pin, owner}
-use Rattle.undo_journal.specs.laws.Transactions.{commits, stays, reports_ended, writes_ended, stays_spends}
+use Rattle.undo_journal.specs.laws.Transactions.{commits, stays}
 use Rattle.pin_store.specs.Pages.{pin_at, SetsPin}
 use Rattle.undo_journal.specs.laws.Exits.{on_then, on_error}
+use Rattle.undo_journal.specs.laws.Told.{spent, spent_failed}
 use Rattle.pin_store.proofs.putting.put_value.Goals as goal
 
 pub returns-in-Ok-clause-any_exit : goal.returns-in-Ok-clause-any_exit
 returns-in-Ok-clause-any_exit g c =
-    let last = c.store-1.given.1 (sym (c.set_value.ensures.sets.same_store ∙ c.begin-txn.ensures.same_store)) in
-    ⊎_map (λ still. stays _ _ (memory_of c.set_value.new.txn) _ _ c.begin-txn.ensures.same last c.set_value.ensures.sets.kept still)
+    let last = c.store-1.given.1 (sym (c.set_value.ensures.store.sets.same_store ∙ c.begin-txn.ensures.same_store)) in
+    ⊎_map (λ still. stays _ _ (memory_of c.set_value.new.txn) _ _ c.begin-txn.ensures.same last
+    c.set_value.ensures.store.sets.kept still)
     (λ made. commits (λ (m after : List ℕ). SetsPin m (owner c.args.secret) ((changed_pin c.args.new.now) (pin_at m
     (owner c.args.secret))) after) _ _ _ _ c.begin-txn.ensures.same c.requires.ready c.in-Ok.ensures.done (ap (λ
     (m : Memory). committed m) last ∙ made.0))
@@ -19,73 +21,38 @@ returns-in-Ok-clause-any_exit g c =
 
 pub returns-in-Ok-clause-done : goal.returns-in-Ok-clause-done
 returns-in-Ok-clause-done g c =
-    let last = c.store-1.given.1 (sym (c.set_value.ensures.sets.same_store ∙ c.begin-txn.ensures.same_store)) in
+    let last = c.store-1.given.1 (sym (c.set_value.ensures.store.sets.same_store ∙ c.begin-txn.ensures.same_store)) in
     on_then _ _ c.commit.result
     (λ made. commits (λ (m after : List ℕ). SetsPin m (owner c.args.secret) ((changed_pin c.args.new.now) (pin_at m
     (owner c.args.secret))) after) _ _ _ _ c.begin-txn.ensures.same c.requires.ready c.in-Ok.ensures.done (ap (λ
     (m : Memory). committed m) last ∙ made))
     c.commit.ensures.done
 
-pub returns-in-Ok-clause-ready : goal.returns-in-Ok-clause-ready
-returns-in-Ok-clause-ready g c =
-    let last = c.store-1.given.1 (sym (c.set_value.ensures.sets.same_store ∙ c.begin-txn.ensures.same_store)) in
-    subst (λ (m : Memory). OnOk c.commit.result (IsReady m)) (sym last) c.commit.ensures.ready
-
-pub returns-in-Ok-clause-idle : goal.returns-in-Ok-clause-idle
-returns-in-Ok-clause-idle g c =
-    let last = c.store-1.given.1 (sym (c.set_value.ensures.sets.same_store ∙ c.begin-txn.ensures.same_store)) in
-    ap (λ (m : Memory). m.used) last ∙ c.commit.ensures.idle
-
-pub returns-in-Ok-clause-reports : goal.returns-in-Ok-clause-reports
-returns-in-Ok-clause-reports g c =
-    let last = c.store-1.given.1 (sym (c.set_value.ensures.sets.same_store ∙ c.begin-txn.ensures.same_store)) in
-    reports_ended _ _ _ _ _ c.begin-txn.ensures.same last c.set_value.ensures.sets.reports c.commit.ensures.reports
-
-pub returns-in-Ok-clause-tells : goal.returns-in-Ok-clause-tells
-returns-in-Ok-clause-tells g c =
-    let last = c.store-1.given.1 (sym (c.set_value.ensures.sets.same_store ∙ c.begin-txn.ensures.same_store)) in
-    ap (λ (m : Memory). m.failed) last ∙ c.commit.ensures.tells
-
-pub returns-in-Ok-clause-writes : goal.returns-in-Ok-clause-writes
-returns-in-Ok-clause-writes g c =
-    let last = c.store-1.given.1 (sym (c.set_value.ensures.sets.same_store ∙ c.begin-txn.ensures.same_store)) in
-    writes_ended 9 1 10 _ _ (memory_of c.set_value.new.txn) _ _ (lit< tt) c.begin-txn.ensures.same last c.set_value.ensures.sets.writes c.commit.ensures.writes
+pub returns-in-Ok-clause-store : goal.returns-in-Ok-clause-store
+returns-in-Ok-clause-store g c =
+    let last = c.store-1.given.1 (sym (c.set_value.ensures.store.sets.same_store ∙ c.begin-txn.ensures.same_store)) in
+    spent 9 1 10 _ _ (memory_of c.set_value.new.txn) _ _ _ (lit< tt) c.begin-txn.ensures.same last
+    c.set_value.ensures.store.sets.reports c.set_value.ensures.store.sets.writes c.commit.ensures.store
 
 pub returns-in-Err-clause-any_exit : goal.returns-in-Err-clause-any_exit
 returns-in-Err-clause-any_exit g c =
-    let last = c.store-in-Err-1.given.1 (sym (c.set_value.ensures.sets.same_store ∙ c.begin-txn.ensures.same_store)) in
-    inl (stays _ _ (memory_of c.set_value.new.txn) _ _ c.begin-txn.ensures.same last c.set_value.ensures.sets.kept c.abandon.ensures.kept)
+    let last =
+    c.store-in-Err-1.given.1 (sym (c.set_value.ensures.store.sets.same_store ∙ c.begin-txn.ensures.same_store)) in
+    inl (stays _ _ (memory_of c.set_value.new.txn) _ _ c.begin-txn.ensures.same last
+    c.set_value.ensures.store.sets.kept c.abandon.ensures.kept)
 
 pub returns-in-Err-clause-done : goal.returns-in-Err-clause-done
 returns-in-Err-clause-done g c =
-    let last = c.store-in-Err-1.given.1 (sym (c.set_value.ensures.sets.same_store ∙ c.begin-txn.ensures.same_store)) in
-    on_error _ c.abandon.result c.in-Err.field-0 (sym c.abandon.ensures.tells ∙ (c.abandon.ensures.reports.stuck c.in-Err.field-0 c.in-Err.ensures.tells).0)
+    on_error _ c.abandon.result c.in-Err.field-0 (sym c.abandon.ensures.store.tells
+    ∙ (c.abandon.ensures.store.reports.stuck c.in-Err.field-0 c.in-Err.ensures.store.tells).0)
 
-pub returns-in-Err-clause-ready : goal.returns-in-Err-clause-ready
-returns-in-Err-clause-ready g c =
-    let last = c.store-in-Err-1.given.1 (sym (c.set_value.ensures.sets.same_store ∙ c.begin-txn.ensures.same_store)) in
-    subst (λ (m : Memory). OnOk c.abandon.result (IsReady m)) (sym last) c.abandon.ensures.ready
-
-pub returns-in-Err-clause-idle : goal.returns-in-Err-clause-idle
-returns-in-Err-clause-idle g c =
-    let last = c.store-in-Err-1.given.1 (sym (c.set_value.ensures.sets.same_store ∙ c.begin-txn.ensures.same_store)) in
-    ap (λ (m : Memory). m.used) last ∙ c.abandon.ensures.idle
-
-pub returns-in-Err-clause-reports : goal.returns-in-Err-clause-reports
-returns-in-Err-clause-reports g c =
-    let last = c.store-in-Err-1.given.1 (sym (c.set_value.ensures.sets.same_store ∙ c.begin-txn.ensures.same_store)) in
-    reports_ended _ _ _ _ _ c.begin-txn.ensures.same last c.set_value.ensures.sets.reports c.abandon.ensures.reports
-
-pub returns-in-Err-clause-tells : goal.returns-in-Err-clause-tells
-returns-in-Err-clause-tells g c =
-    let last = c.store-in-Err-1.given.1 (sym (c.set_value.ensures.sets.same_store ∙ c.begin-txn.ensures.same_store)) in
-    ap (λ (m : Memory). m.failed) last ∙ c.abandon.ensures.tells
-
-pub returns-in-Err-clause-writes : goal.returns-in-Err-clause-writes
-returns-in-Err-clause-writes g c =
-    let last = c.store-in-Err-1.given.1 (sym (c.set_value.ensures.sets.same_store ∙ c.begin-txn.ensures.same_store)) in
-    writes_ended 9 0 10 _ _ (memory_of c.set_value.new.txn) _ _ (lit< tt) c.begin-txn.ensures.same last c.set_value.ensures.sets.writes
-    (stays_spends _ _ (c.abandon.ensures.reports.stuck c.in-Err.field-0 c.in-Err.ensures.tells).1)
+pub returns-in-Err-clause-store : goal.returns-in-Err-clause-store
+returns-in-Err-clause-store g c =
+    let last =
+    c.store-in-Err-1.given.1 (sym (c.set_value.ensures.store.sets.same_store ∙ c.begin-txn.ensures.same_store)) in
+    spent_failed 9 _ 10 _ _ (memory_of c.set_value.new.txn) _ _ _ _ (lit< tt) c.begin-txn.ensures.same last
+    c.set_value.ensures.store.sets.reports c.set_value.ensures.store.sets.writes c.in-Err.ensures.store.tells
+    c.abandon.ensures.store
 
 pub set_value-requires-clause-ready : goal.set_value-requires-clause-ready
 set_value-requires-clause-ready g c =

@@ -3,12 +3,12 @@ use Rattle.nvm_board.specs.Facts.{address}
 use Rattle.nvm_board.specs.Torn.{written}
 use Rattle.undo_journal.specs.Lent.{memory_of}
 use Rattle.undo_journal.specs.Memory.{current}
-use Rattle.undo_journal.specs.laws.Calls.{sets_then}
 use Rattle.pin_store.specs.declared.layout.TheConstants.{PINS, TRIES}
 use Rattle.pin_store.specs.Pins.{owner, changed_pin}
 use Rattle.pin_store.specs.Pages.{pin_page, pin_at, SetsPin}
 use Rattle.pin_store.specs.laws.PinPages.{sets_value}
 use Rattle.undo_journal.specs.laws.Exits.{on_then}
+use Rattle.undo_journal.specs.laws.Told.{sets_in_on}
 use Rattle.pin_store.proofs.putting.set_value.Goals as goal
 
 pub returns-clause-done : goal.returns-clause-done
@@ -30,5 +30,6 @@ returns-clause-done g c =
     (sets_value m new pin first second c.requires.ready.current_size small c.words_of.ensures))
     c.put_run-2.ensures.done
 
-pub returns-clause-sets : goal.returns-clause-sets
-returns-clause-sets g c = sets_then 1 2 3 _ _ _ (lit< tt) c.put_run.ensures.sets c.put_run-2.ensures.sets
+pub returns-clause-store : goal.returns-clause-store
+returns-clause-store g c =
+    sets_in_on 1 2 3 _ _ _ _ (lit< tt) c.put_run.ensures.store.sets c.put_run-2.ensures.store

@@ -1,10 +1,10 @@
 use Rattle.std.proofs.Common.{inl}
-use Rattle.undo_journal.specs.laws.Memory.{reports_then}
 use Rattle.pin_store.specs.Pins.{reset_pin}
 use Rattle.pin_store.specs.Trials.{pin_in}
 use Rattle.pin_store.specs.laws.AllPins.{reset_pages}
 use Rattle.pin_store.proofs.Settled.{pages_stay, compares_more, compares_then, match_told, matched_sets}
 use Rattle.pin_store.proofs.Settled.{matched_sets_or_not, end_told}
+use Rattle.undo_journal.specs.laws.Told.{ends_on, ends_handed, changes_end}
 use Rattle.pin_store.proofs.settling.reset_counter.Goals as goal
 
 pub returns-in_err-outcome-clause-any_exit : goal.returns-in_err-outcome-clause-any_exit
@@ -20,7 +20,8 @@ pub returns-in_err-put_all-clause-any_exit : goal.returns-in_err-put_all-clause-
 returns-in_err-put_all-clause-any_exit g c =
     matched_sets_or_not 13 c.args.charged c.secret-secret.result c.args.shown.now (reset_pin c.args.new.now) _ _ _
     c.secret-secret.ensures.secret (match_told c.args.charged c.args.shown.now c.args.store.now c.compare.new.store
-    c.in_ok-outcome.outcome c.in-Matched.is c.in_ok-outcome.ensures.done) c.compare.ensures.kept c.put_all.ensures.writes
+    c.in_ok-outcome.outcome c.in-Matched.is c.in_ok-outcome.ensures.done) c.compare.ensures.kept
+    c.put_all.ensures.store.writes
     c.put_all.ensures.any_exit
 
 pub returns-in_err-put_all-clause-pages : goal.returns-in_err-put_all-clause-pages
@@ -28,26 +29,31 @@ returns-in_err-put_all-clause-pages g c =
     reset_pages _ _ c.args.new.now c.secret-secret.result (pages_stay _ _ c.compare.ensures.kept c.requires.pages)
     c.put_all.ensures.any_exit
 
-pub returns-in_err-put_all-clause-reports : goal.returns-in_err-put_all-clause-reports
-returns-in_err-put_all-clause-reports g c = reports_then _ _ _ c.compare.ensures.reports c.put_all.ensures.reports
+pub returns-in_err-put_all-clause-store : goal.returns-in_err-put_all-clause-store
+returns-in_err-put_all-clause-store g c =
+    ends_handed _ _ _ _ c.from_residual-in_err-put_all.ensures.1
+    (ends_on _ _ _ _ c.compare.ensures.store.reports (changes_end _ _ _ _ c.in_err-put_all.ensures.store))
 
 pub returns-in_err-put_all-clause-spends : goal.returns-in_err-put_all-clause-spends
-returns-in_err-put_all-clause-spends g c = compares_then 13 _ _ _ _ c.compare.ensures.spends c.put_all.ensures.writes
+returns-in_err-put_all-clause-spends g c =
+    compares_then 13 _ _ _ _ c.compare.ensures.spends c.put_all.ensures.store.writes
 
 pub returns-in_ok-put_all-clause-any_exit : goal.returns-in_ok-put_all-clause-any_exit
 returns-in_ok-put_all-clause-any_exit g c =
     matched_sets_or_not 13 c.args.charged c.secret-secret.result c.args.shown.now (reset_pin c.args.new.now) _ _ _
     c.secret-secret.ensures.secret (match_told c.args.charged c.args.shown.now c.args.store.now c.compare.new.store
-    c.in_ok-outcome.outcome c.in-Matched.is c.in_ok-outcome.ensures.done) c.compare.ensures.kept c.put_all.ensures.writes
+    c.in_ok-outcome.outcome c.in-Matched.is c.in_ok-outcome.ensures.done) c.compare.ensures.kept
+    c.put_all.ensures.store.writes
     c.put_all.ensures.any_exit
 
 pub returns-in_ok-put_all-clause-done : goal.returns-in_ok-put_all-clause-done
 returns-in_ok-put_all-clause-done g c =
-    end_told c.args.charged c.args.shown.now ((reset_pin c.args.new.now) (pin_in c.args.store.now c.args.charged)) c.args.store.now
-    c.put_all.new.store c.in_ok-outcome.outcome c.in-Matched.is
+    end_told c.args.charged c.args.shown.now (reset_pin c.args.new.now (pin_in c.args.store.now c.args.charged))
+    c.args.store.now c.put_all.new.store c.in_ok-outcome.outcome c.in-Matched.is
     (matched_sets 13 c.args.charged c.secret-secret.result c.args.shown.now (reset_pin c.args.new.now) _ _ _
     c.secret-secret.ensures.secret (match_told c.args.charged c.args.shown.now c.args.store.now c.compare.new.store
-    c.in_ok-outcome.outcome c.in-Matched.is c.in_ok-outcome.ensures.done) c.compare.ensures.kept c.put_all.ensures.writes
+    c.in_ok-outcome.outcome c.in-Matched.is c.in_ok-outcome.ensures.done) c.compare.ensures.kept
+    c.put_all.ensures.store.writes
     c.in_ok-put_all.ensures.done)
 
 pub returns-in_ok-put_all-clause-pages : goal.returns-in_ok-put_all-clause-pages
@@ -55,11 +61,13 @@ returns-in_ok-put_all-clause-pages g c =
     reset_pages _ _ c.args.new.now c.secret-secret.result (pages_stay _ _ c.compare.ensures.kept c.requires.pages)
     c.put_all.ensures.any_exit
 
-pub returns-in_ok-put_all-clause-reports : goal.returns-in_ok-put_all-clause-reports
-returns-in_ok-put_all-clause-reports g c = reports_then _ _ _ c.compare.ensures.reports c.put_all.ensures.reports
+pub returns-in_ok-put_all-clause-store : goal.returns-in_ok-put_all-clause-store
+returns-in_ok-put_all-clause-store g c =
+    ends_on _ _ _ _ c.compare.ensures.store.reports (changes_end _ _ _ _ c.in_ok-put_all.ensures.store)
 
 pub returns-in_ok-put_all-clause-spends : goal.returns-in_ok-put_all-clause-spends
-returns-in_ok-put_all-clause-spends g c = compares_then 13 _ _ _ _ c.compare.ensures.spends c.put_all.ensures.writes
+returns-in_ok-put_all-clause-spends g c =
+    compares_then 13 _ _ _ _ c.compare.ensures.spends c.put_all.ensures.store.writes
 
 pub returns-in_default-clause-any_exit : goal.returns-in_default-clause-any_exit
 returns-in_default-clause-any_exit g c = inl c.compare.ensures.kept

@@ -1,9 +1,9 @@
 use Rattle.std.proofs.Common.{inl}
-use Rattle.undo_journal.specs.laws.Memory.{reports_then}
 use Rattle.pin_store.specs.Pins.{verified_pin}
 use Rattle.pin_store.specs.Trials.{pin_in}
 use Rattle.pin_store.proofs.Settled.{pages_stay, compares_more, compares_then, match_told, matched_sets}
 use Rattle.pin_store.proofs.Settled.{matched_sets_or_not, end_told}
+use Rattle.undo_journal.specs.laws.Told.{ends_on, ends_handed, changes_end}
 use Rattle.pin_store.proofs.settling.settle.Goals as goal
 
 pub returns-in_err-outcome-clause-any_exit : goal.returns-in_err-outcome-clause-any_exit
@@ -22,20 +22,25 @@ pub returns-in_err-put_tries-clause-any_exit : goal.returns-in_err-put_tries-cla
 returns-in_err-put_tries-clause-any_exit g c =
     matched_sets_or_not 1 c.args.charged c.secret-secret.result c.args.shown.now verified_pin _ _ _
     c.secret-secret.ensures.secret (match_told c.args.charged c.args.shown.now c.args.store.now c.compare.new.store
-    c.in_ok-outcome.outcome c.in-Matched.is c.in_ok-outcome.ensures.done) c.compare.ensures.kept c.put_tries.ensures.writes
+    c.in_ok-outcome.outcome c.in-Matched.is c.in_ok-outcome.ensures.done) c.compare.ensures.kept
+    c.put_tries.ensures.store.writes
     c.put_tries.ensures.any_exit
 
-pub returns-in_err-put_tries-clause-reports : goal.returns-in_err-put_tries-clause-reports
-returns-in_err-put_tries-clause-reports g c = reports_then _ _ _ c.compare.ensures.reports c.put_tries.ensures.reports
+pub returns-in_err-put_tries-clause-store : goal.returns-in_err-put_tries-clause-store
+returns-in_err-put_tries-clause-store g c =
+    ends_handed _ _ _ _ c.from_residual-in_err-put_tries.ensures.1
+    (ends_on _ _ _ _ c.compare.ensures.store.reports (changes_end _ _ _ _ c.in_err-put_tries.ensures.store))
 
 pub returns-in_err-put_tries-clause-spends : goal.returns-in_err-put_tries-clause-spends
-returns-in_err-put_tries-clause-spends g c = compares_then 1 _ _ _ _ c.compare.ensures.spends c.put_tries.ensures.writes
+returns-in_err-put_tries-clause-spends g c =
+    compares_then 1 _ _ _ _ c.compare.ensures.spends c.put_tries.ensures.store.writes
 
 pub returns-in_ok-put_tries-clause-any_exit : goal.returns-in_ok-put_tries-clause-any_exit
 returns-in_ok-put_tries-clause-any_exit g c =
     matched_sets_or_not 1 c.args.charged c.secret-secret.result c.args.shown.now verified_pin _ _ _
     c.secret-secret.ensures.secret (match_told c.args.charged c.args.shown.now c.args.store.now c.compare.new.store
-    c.in_ok-outcome.outcome c.in-Matched.is c.in_ok-outcome.ensures.done) c.compare.ensures.kept c.put_tries.ensures.writes
+    c.in_ok-outcome.outcome c.in-Matched.is c.in_ok-outcome.ensures.done) c.compare.ensures.kept
+    c.put_tries.ensures.store.writes
     c.put_tries.ensures.any_exit
 
 pub returns-in_ok-put_tries-clause-done : goal.returns-in_ok-put_tries-clause-done
@@ -44,14 +49,17 @@ returns-in_ok-put_tries-clause-done g c =
     c.put_tries.new.store c.in_ok-outcome.outcome c.in-Matched.is
     (matched_sets 1 c.args.charged c.secret-secret.result c.args.shown.now verified_pin _ _ _
     c.secret-secret.ensures.secret (match_told c.args.charged c.args.shown.now c.args.store.now c.compare.new.store
-    c.in_ok-outcome.outcome c.in-Matched.is c.in_ok-outcome.ensures.done) c.compare.ensures.kept c.put_tries.ensures.writes
+    c.in_ok-outcome.outcome c.in-Matched.is c.in_ok-outcome.ensures.done) c.compare.ensures.kept
+    c.put_tries.ensures.store.writes
     c.in_ok-put_tries.ensures.done)
 
-pub returns-in_ok-put_tries-clause-reports : goal.returns-in_ok-put_tries-clause-reports
-returns-in_ok-put_tries-clause-reports g c = reports_then _ _ _ c.compare.ensures.reports c.put_tries.ensures.reports
+pub returns-in_ok-put_tries-clause-store : goal.returns-in_ok-put_tries-clause-store
+returns-in_ok-put_tries-clause-store g c =
+    ends_on _ _ _ _ c.compare.ensures.store.reports (changes_end _ _ _ _ c.in_ok-put_tries.ensures.store)
 
 pub returns-in_ok-put_tries-clause-spends : goal.returns-in_ok-put_tries-clause-spends
-returns-in_ok-put_tries-clause-spends g c = compares_then 1 _ _ _ _ c.compare.ensures.spends c.put_tries.ensures.writes
+returns-in_ok-put_tries-clause-spends g c =
+    compares_then 1 _ _ _ _ c.compare.ensures.spends c.put_tries.ensures.store.writes
 
 pub returns-in_default-clause-any_exit : goal.returns-in_default-clause-any_exit
 returns-in_default-clause-any_exit g c = inl c.compare.ensures.kept

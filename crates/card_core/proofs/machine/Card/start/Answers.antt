@@ -17,16 +17,16 @@ returns-in-Err-space_of-clause-stopped g c =
     let first = g.B.Board.facts c.args.board in
     subst (λ (now : Facts). StopsBy c.in-Err-space_of.fault first now) (sym c.into_board.ensures)
     (stops-found first c.in-Ok.store c.find_card.new.store c.in-Ok.ensures.light c.in-Ok.ensures.sound
-    c.in-Ok.ensures.found c.in-Ok.ensures.ready.usable.works c.find_card.ensures.reads.reports c.find_card.result
+    c.in-Ok.ensures.found c.in-Ok.ensures.ready.usable.works c.find_card.ensures.store.only.reports c.find_card.result
     c.space_of.result c.in-Err-space_of.fault c.space_of.ensures c.in-Err-space_of.is c.find_card.ensures.card
-    c.find_card.ensures.tells)
+    c.find_card.ensures.store.tells)
 
 pub returns-in-Ok-space_of-clause-started : goal.returns-in-Ok-space_of-clause-started
 returns-in-Ok-space_of-clause-started g c =
     let there = found-there c.find_card.result c.space_of.result c.in-Ok-space_of.free c.space_of.ensures
     c.in-Ok-space_of.is in
-    let works = c.find_card.ensures.tells ∙ ap (λ (r : Result (Option FreeSpace) StoreErr). result_err r) there in
-    let same = (c.find_card.ensures.reads.reports.works works).1 in
+    let works = c.find_card.ensures.store.tells ∙ ap (λ (r : Result (Option FreeSpace) StoreErr). result_err r) there in
+    let same = (c.find_card.ensures.store.only.reports.works works).1 in
     let steady = c.in-Ok.ensures.light in
     let told = subst (λ (r : Result (Option FreeSpace) StoreErr). IfOk r (TellsCard (committed c.in-Ok.store))) there
     c.find_card.ensures.card in

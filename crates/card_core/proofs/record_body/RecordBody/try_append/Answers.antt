@@ -71,3 +71,11 @@ returns-in-Cyclic-clause-refusal g c =
     decides c.args.self _ c.in-Cyclic.is (committed c.args.store.now) (committed c.append-in-Cyclic.new.store)
     c.args.bytes.now c.append-in-Cyclic.result
     c.append-in-Cyclic.ensures.refusal
+
+pub returns-in-Linear-clause-store : goal.returns-in-Linear-clause-store
+returns-in-Linear-clause-store g c =
+    c.append.ensures.store
+
+pub returns-in-Cyclic-clause-store : goal.returns-in-Cyclic-clause-store
+returns-in-Cyclic-clause-store g c =
+    c.append-in-Cyclic.ensures.store

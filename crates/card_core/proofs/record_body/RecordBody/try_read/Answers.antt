@@ -30,3 +30,11 @@ pub returns-in-Cyclic-clause-refusal : goal.returns-in-Cyclic-clause-refusal
 returns-in-Cyclic-clause-refusal g c =
     subst (λ (it : RecordBody). Decides (missing_record (records_at (committed c.args.store.now) it) c.args.number)
     (result_err c.read-in-Cyclic.result)) (sym c.in-Cyclic.is) c.read-in-Cyclic.ensures.refusal
+
+pub returns-in-Linear-clause-store : goal.returns-in-Linear-clause-store
+returns-in-Linear-clause-store g c =
+    c.read.ensures.store
+
+pub returns-in-Cyclic-clause-store : goal.returns-in-Cyclic-clause-store
+returns-in-Cyclic-clause-store g c =
+    c.read-in-Cyclic.ensures.store

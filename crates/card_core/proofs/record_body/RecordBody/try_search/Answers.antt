@@ -30,3 +30,11 @@ pub returns-in-Cyclic-clause-refusal : goal.returns-in-Cyclic-clause-refusal
 returns-in-Cyclic-clause-refusal g c =
     subst (λ (it : RecordBody). Decides (missing_record (records_at (committed c.args.store.now) it) c.args.first)
     (result_err c.search-in-Cyclic.result)) (sym c.in-Cyclic.is) c.search-in-Cyclic.ensures.refusal
+
+pub returns-in-Linear-clause-store : goal.returns-in-Linear-clause-store
+returns-in-Linear-clause-store g c =
+    c.search.ensures.store
+
+pub returns-in-Cyclic-clause-store : goal.returns-in-Cyclic-clause-store
+returns-in-Cyclic-clause-store g c =
+    c.search-in-Cyclic.ensures.store

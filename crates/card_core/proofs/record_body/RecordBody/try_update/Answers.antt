@@ -5,6 +5,8 @@ use Rattle.ef_body.specs.declared.error.BodyErr.{BodyErr}
 use Rattle.ef_body.specs.Refusals.{missing_record, Decides}
 use Rattle.card_core.specs.declared.record_body.RecordBody.{RecordBody}
 use Rattle.card_core.specs.Working.{length_in, looked_at, records_at, replaced_in, BodyBecomes, IsBodyIn}
+use Rattle.undo_journal.specs.laws.Told.{changes_within}
+use Rattle.ef_body.specs.declared.layout.TheConstants.{UPDATE_WRITES, RECORD_WRITES}
 use Rattle.card_core.proofs.record_body.RecordBody.try_update.Goals as goal
 
 -- the answer of the body of each kind is that of the body
@@ -76,7 +78,10 @@ returns-in-Cyclic-clause-refusal g c =
     c.args.bytes.now c.update_oldest.result
     c.args.number c.update_oldest.ensures.refusal
 
-pub returns-in-Linear-clause-writes : goal.returns-in-Linear-clause-writes
-returns-in-Linear-clause-writes g c =
-    let spends = c.update.ensures.writes in
-    record { writes = omega (arith, spends.writes); compares = spends.compares; matches = spends.matches }
+pub returns-in-Linear-clause-store : goal.returns-in-Linear-clause-store
+returns-in-Linear-clause-store g c =
+    changes_within UPDATE_WRITES RECORD_WRITES _ _ _ (omega arith) c.update.ensures.store
+
+pub returns-in-Cyclic-clause-store : goal.returns-in-Cyclic-clause-store
+returns-in-Cyclic-clause-store g c =
+    c.update_oldest.ensures.store

@@ -1,6 +1,10 @@
 use Rattle.undo_journal.specs.Memory.{committed}
 use Rattle.card_core.specs.Working.{looked_at}
 use Rattle.card_core.proofs.RecordBodies.{decides-none, none-missing, ok-then}
+use Rattle.undo_journal.specs.declared.error.StoreErr.{StoreErr}
+use Rattle.undo_journal.specs.Calls.{Changes}
+use Rattle.std.proofs.Common.{Option, sym, subst}
+use Rattle.ef_body.specs.declared.layout.TheConstants.{RECORD_WRITES}
 use Rattle.card_core.proofs.record_body.RecordBody.update.Goals as goal
 
 pub unrefused-requires : goal.unrefused-requires
@@ -14,3 +18,8 @@ returns-clause-done g c =
     (decides-none _ _ (none-missing (committed c.args.store.now) c.args.self c.requires.body (looked_at c.args.self c.args.number) c.requires.record)
     c.try_update.ensures.refusal)
     c.unrefused.ensures c.try_update.ensures.done
+
+pub returns-clause-store : goal.returns-clause-store
+returns-clause-store g c =
+    subst (λ (told : Option StoreErr). Changes RECORD_WRITES c.args.store.now c.try_update.new.store told) (sym c.unrefused.ensures)
+    c.try_update.ensures.store

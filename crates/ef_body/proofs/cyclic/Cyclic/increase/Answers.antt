@@ -1,20 +1,20 @@
 use Rattle.std.proofs.Common.{◌≡◌, List, ℕ, arith, ap, ◌∙◌, sym, subst, length, inl}
 use Rattle.std.proofs.Math.Logic.{⊎_map}
 use Rattle.undo_journal.specs.Memory.{committed}
-use Rattle.undo_journal.specs.laws.Calls.{reads_spend}
-use Rattle.undo_journal.specs.laws.Memory.{reports_then, writes_then}
+use Rattle.undo_journal.specs.laws.Told.{reads_change, changes_after}
 use Rattle.ef_body.specs.Records.{front}
 use Rattle.ef_body.specs.Bodies.{cyclic_records, IsCyclic}
 use Rattle.ef_body.specs.Changes.{CyclicBecomes}
 use Rattle.ef_body.specs.Refusals.{raised_number}
 use Rattle.ef_body.proofs.Becoming.{length-cyclic}
+use Rattle.ef_body.proofs.Refusing.{changes_fail}
 use Rattle.ef_body.proofs.Increasing.{not_both, length-spelled, raised_there, increases}
 use Rattle.ef_body.proofs.cyclic.Cyclic.increase.Goals as goal
 
 pub put_front-requires-clause-body : goal.put_front-requires-clause-body
 put_front-requires-clause-body g c =
     let family : List ℕ → Type 0 = λ l. IsCyclic l c.args.self in
-    subst family (sym c.sum.ensures.reads.keeps.committed_words) c.requires.body
+    subst family (sym c.sum.ensures.store.only.keeps.committed_words) c.requires.body
 
 pub put_front-requires-clause-size : goal.put_front-requires-clause-size
 put_front-requires-clause-size g c =
@@ -35,7 +35,7 @@ returns-in_err-put_front-clause-any_exit g c =
     let m = committed c.args.store.now in
     let now = committed c.sum.new.store in
     let after = committed c.put_front.new.store in
-    let same = c.sum.ensures.reads.keeps.committed_words in
+    let same = c.sum.ensures.store.only.keeps.committed_words in
     ⊎_map (λ (kept : after ≡ now). kept ∙ same) (λ
     (becomes : CyclicBecomes now c.args.self (front c.args.self.records c.deref.result.now
     (cyclic_records now c.args.self)) after).
@@ -47,7 +47,7 @@ returns-clause-any_exit g c =
     let m = committed c.args.store.now in
     let now = committed c.sum.new.store in
     let after = committed c.put_front.new.store in
-    let same = c.sum.ensures.reads.keeps.committed_words in
+    let same = c.sum.ensures.store.only.keeps.committed_words in
     ⊎_map (λ (kept : after ≡ now). kept ∙ same) (λ
     (becomes : CyclicBecomes now c.args.self (front c.args.self.records c.deref.result.now
     (cyclic_records now c.args.self)) after).
@@ -58,12 +58,12 @@ pub returns-clause-done : goal.returns-clause-done
 returns-clause-done g c =
     let m = committed c.args.store.now in
     let now = committed c.sum.new.store in
-    let same = c.sum.ensures.reads.keeps.committed_words in
+    let same = c.sum.ensures.store.only.keeps.committed_words in
     increases m now (committed c.put_front.new.store) c.args.self c.deref.result.now c.args.sent.now same
     c.requires.body (c.deref.ensures.0 ∙ c.in_ok-sum.ensures.bytes) c.in_ok-put_front.ensures.done
 
 pub returns-in_err-sum-clause-refused : goal.returns-in_err-sum-clause-refused
-returns-in_err-sum-clause-refused g c status is = c.sum.ensures.reads
+returns-in_err-sum-clause-refused g c status is = c.sum.ensures.store.only
 
 pub returns-in_err-put_front-clause-refused : goal.returns-in_err-put_front-clause-refused
 returns-in_err-put_front-clause-refused g c status is = absurd (not_both _ status is c.in_ok-sum.ensures.refusal)
@@ -72,27 +72,18 @@ pub returns-clause-refused : goal.returns-clause-refused
 returns-clause-refused g c status is = absurd (not_both _ status is c.in_ok-sum.ensures.refusal)
 
 pub returns-in_err-sum-clause-any_exit : goal.returns-in_err-sum-clause-any_exit
-returns-in_err-sum-clause-any_exit g c = inl c.sum.ensures.reads.keeps.committed_words
+returns-in_err-sum-clause-any_exit g c = inl c.sum.ensures.store.only.keeps.committed_words
 
-pub returns-in_err-sum-clause-idle : goal.returns-in_err-sum-clause-idle
-returns-in_err-sum-clause-idle g c = c.sum.ensures.reads.keeps.used ∙ c.requires.ready.idle
+pub returns-in_err-sum-clause-store : goal.returns-in_err-sum-clause-store
+returns-in_err-sum-clause-store g c =
+    changes_fail _ _ _ _ _ c.from_residual.ensures.1
+    (reads_change _ _ _ _ c.requires.ready.idle c.in_err-sum.ensures.store)
 
-pub returns-in_err-sum-clause-reports : goal.returns-in_err-sum-clause-reports
-returns-in_err-sum-clause-reports g c = c.sum.ensures.reads.reports
+pub returns-in_err-put_front-clause-store : goal.returns-in_err-put_front-clause-store
+returns-in_err-put_front-clause-store g c =
+    changes_fail _ _ _ _ _ c.from_residual-in_err-put_front.ensures.1
+    (changes_after _ _ _ _ _ c.sum.ensures.store.only c.in_err-put_front.ensures.store)
 
-pub returns-in_err-sum-clause-writes : goal.returns-in_err-sum-clause-writes
-returns-in_err-sum-clause-writes g c = reads_spend _ _ _ c.sum.ensures.reads
-
-pub returns-in_err-put_front-clause-reports : goal.returns-in_err-put_front-clause-reports
-returns-in_err-put_front-clause-reports g c = reports_then _ _ _ c.sum.ensures.reads.reports
-    c.put_front.ensures.reports
-
-pub returns-clause-reports : goal.returns-clause-reports
-returns-clause-reports g c = reports_then _ _ _ c.sum.ensures.reads.reports c.put_front.ensures.reports
-
-pub returns-in_err-put_front-clause-writes : goal.returns-in_err-put_front-clause-writes
-returns-in_err-put_front-clause-writes g c =
-    writes_then 0 _ _ _ _ (reads_spend 0 _ _ c.sum.ensures.reads) c.put_front.ensures.writes
-
-pub returns-clause-writes : goal.returns-clause-writes
-returns-clause-writes g c = writes_then 0 _ _ _ _ (reads_spend 0 _ _ c.sum.ensures.reads) c.put_front.ensures.writes
+pub returns-clause-store : goal.returns-clause-store
+returns-clause-store g c =
+    changes_after _ _ _ _ _ c.sum.ensures.store.only c.in_ok-put_front.ensures.store

@@ -5,8 +5,8 @@ use Rattle.block_chain.specs.Chains.{chain_of}
 use Rattle.block_chain.specs.Changes.{Overwrites}
 use Rattle.ef_body.specs.Bodies.{linear_records}
 use Rattle.ef_body.proofs.Becoming.{length-linear, linear_put}
-use Rattle.ef_body.proofs.Refusing.{missing, present, store_decides}
-use Rattle.ef_body.proofs.Putting.{update_spends}
+use Rattle.ef_body.proofs.Refusing.{missing, present, store_decides, changes_fail}
+use Rattle.ef_body.proofs.Putting.{update_within}
 use Rattle.ef_body.proofs.linear.Linear.update.Goals as goal
 
 pub returns-then-not-has_record-clause-refusal : goal.returns-then-not-has_record-clause-refusal
@@ -61,14 +61,15 @@ returns-in_err-put_bytes-clause-refusal g c =
     (present (linear_records m c.args.self) c.args.self.records c.args.number c.has_record.result
     (length-linear m c.args.self c.requires.body) c.has_record.ensures c.if-not-has_record.false)
 
-pub returns-in_err-put_bytes-clause-writes : goal.returns-in_err-put_bytes-clause-writes
-returns-in_err-put_bytes-clause-writes g c =
+pub returns-in_err-put_bytes-clause-store : goal.returns-in_err-put_bytes-clause-store
+returns-in_err-put_bytes-clause-store g c =
     let short = c.requires.body.slots.short in
-    update_spends ((c.args.number - 1) * c.args.self.record_length) (length c.args.bytes.now) _ _
-    (omega (arith, short, c.requires.size)) c.put_bytes.ensures.writes
+    changes_fail _ _ _ _ _ c.from_residual.ensures.1
+    (update_within ((c.args.number - 1) * c.args.self.record_length) (length c.args.bytes.now) _ _ _
+    (omega (arith, short, c.requires.size)) c.in_err-put_bytes.ensures.store)
 
-pub returns-clause-writes : goal.returns-clause-writes
-returns-clause-writes g c =
+pub returns-clause-store : goal.returns-clause-store
+returns-clause-store g c =
     let short = c.requires.body.slots.short in
-    update_spends ((c.args.number - 1) * c.args.self.record_length) (length c.args.bytes.now) _ _
-    (omega (arith, short, c.requires.size)) c.put_bytes.ensures.writes
+    update_within ((c.args.number - 1) * c.args.self.record_length) (length c.args.bytes.now) _ _ _
+    (omega (arith, short, c.requires.size)) c.in_ok-put_bytes.ensures.store

@@ -1,4 +1,4 @@
-use Rattle.std.proofs.Common.{◌<◌, List, ℕ, length, refl, ap, ◌∙◌, inr, arith}
+use Rattle.std.proofs.Common.{rules, ◌<◌, List, ℕ, length, refl, ap, ◌∙◌, inr, arith}
 use Rattle.std.proofs.Math.Logic.{⊎_map}
 use Rattle.undo_journal.specs.declared.layout.TheConstants.{GATE}
 use Rattle.undo_journal.specs.Undo.{gate, undo, data_words}
@@ -29,13 +29,6 @@ returns-in-Ok-clause-done g c =
     let within : GATE < length words = omega (arith, g.met.B.Board.sized c.self.inside.board) in
     gate-commits words _ within c.in-Ok.ensures.done ∙ ap current c.self.view_is
 
-pub returns-in-Ok-clause-ready : goal.returns-in-Ok-clause-ready
-returns-in-Ok-clause-ready g c =
-    let words = (g.B.Board.facts c.self.inside.board).words in
-    let within : GATE < length words = omega (arith, g.met.B.Board.sized c.self.inside.board) in
-    ready-from _ c.in_default.is (c.in-Ok.ensures.light.ok refl).lit (g.met.B.Board.sized _) (g.met.B.Board.words_fit _)
-    (ap gate c.in-Ok.ensures.done ∙ gate-shut words within) refl
-
 pub returns-in-Err-clause-any_exit : goal.returns-in-Err-clause-any_exit
 returns-in-Err-clause-any_exit g c =
     let words = (g.B.Board.facts c.self.inside.board).words in
@@ -45,24 +38,43 @@ returns-in-Err-clause-any_exit g c =
     (λ new. (gate-commits words _ within new ∙ ap current c.self.view_is, ap gate new ∙ gate-shut words within))
     c.in-Err.ensures.torn
 
-pub returns-in-Some-clause-reports : goal.returns-in-Some-clause-reports
-returns-in-Some-clause-reports g c = reports_unused _ _ 0 c.self.view_is
-
-pub returns-in-Ok-clause-reports : goal.returns-in-Ok-clause-reports
-returns-in-Ok-clause-reports g c =
-    let words = (g.B.Board.facts c.self.inside.board).words in
-    let within : GATE < length words = omega (arith, g.met.B.Board.sized c.self.inside.board) in
-    reports_ok _ _ _ c.self.view_is c.self.invariant c.in_default.is c.in_default.is (c.in-Ok.ensures.light.ok refl)
-    (commit-sound words _ within (c.self.invariant.works c.in_default.is).sound c.in-Ok.ensures.torn)
-
-pub returns-in-Err-clause-reports : goal.returns-in-Err-clause-reports
-returns-in-Err-clause-reports g c =
-    let words = (g.B.Board.facts c.self.inside.board).words in
-    let within : GATE < length words = omega (arith, g.met.B.Board.sized c.self.inside.board) in
-    reports_err _ _ _ c.self.view_is c.self.invariant c.in_default.is _ _ c.fail.ensures.failed c.fail.ensures.error
-    c.in-Err.ensures.light (commit-sound words _ within (c.self.invariant.works c.in_default.is).sound c.in-Err.ensures.torn)
-
 pub invariant_of-self-in-Err : goal.invariant_of-self-in-Err
 invariant_of-self-in-Err g c =
     true-failed _ _ _ c.self.view_is c.self.invariant c.in_default.is _ _ c.fail.ensures.failed c.fail.ensures.error
     c.in-Err.ensures.light
+
+pub returns-in-Some-clause-store : goal.returns-in-Some-clause-store
+returns-in-Some-clause-store g c = record {
+  reports = reports_unused _ _ 0 c.self.view_is;
+  idle = search rules;
+  ready = tt;
+  tells = search rules;
+  writes = search rules;
+}
+
+pub returns-in-Ok-clause-store : goal.returns-in-Ok-clause-store
+returns-in-Ok-clause-store g c = record {
+  reports = (let words = (g.B.Board.facts c.self.inside.board).words in
+    let within : GATE < length words = omega (arith, g.met.B.Board.sized c.self.inside.board) in
+    reports_ok _ _ _ c.self.view_is c.self.invariant c.in_default.is c.in_default.is (c.in-Ok.ensures.light.ok refl)
+    (commit-sound words _ within (c.self.invariant.works c.in_default.is).sound c.in-Ok.ensures.torn));
+  idle = search rules;
+  ready = (let words = (g.B.Board.facts c.self.inside.board).words in
+    let within : GATE < length words = omega (arith, g.met.B.Board.sized c.self.inside.board) in
+    ready-from _ c.in_default.is (c.in-Ok.ensures.light.ok refl).lit (g.met.B.Board.sized _) (g.met.B.Board.words_fit _)
+    (ap gate c.in-Ok.ensures.done ∙ gate-shut words within) refl);
+  tells = search rules;
+  writes = search rules;
+}
+
+pub returns-in-Err-clause-store : goal.returns-in-Err-clause-store
+returns-in-Err-clause-store g c = record {
+  reports = (let words = (g.B.Board.facts c.self.inside.board).words in
+    let within : GATE < length words = omega (arith, g.met.B.Board.sized c.self.inside.board) in
+    reports_err _ _ _ c.self.view_is c.self.invariant c.in_default.is _ _ c.fail.ensures.failed c.fail.ensures.error
+    c.in-Err.ensures.light (commit-sound words _ within (c.self.invariant.works c.in_default.is).sound c.in-Err.ensures.torn));
+  idle = search rules;
+  ready = tt;
+  tells = search rules;
+  writes = search rules;
+}

@@ -1,4 +1,4 @@
-use Rattle.std.proofs.Common.{refl, inr, arith}
+use Rattle.std.proofs.Common.{rules, refl, inr, arith}
 use Rattle.undo_journal.specs.Undo.{IsDataAddress}
 use Rattle.undo_journal.proofs.Standing.{ready-from, true-shut}
 use Rattle.undo_journal.proofs.Lasting.{unused-within, place-within, one-gate, one-sound, one-torn, one-written}
@@ -28,34 +28,46 @@ pub returns-in-Ok-clause-done : goal.returns-in-Ok-clause-done
 returns-in-Ok-clause-done g c = one-written _ _ c.self.view_is c.self.invariant c.in_default.is c.requires.idle
     c.args.at c.args.word c.requires.place _ c.in-Ok.ensures.done
 
-pub returns-in-Ok-clause-ready : goal.returns-in-Ok-clause-ready
-returns-in-Ok-clause-ready g c =
-    let shut = one-gate _ _ c.self.view_is c.self.invariant c.in_default.is c.requires.idle c.args.at c.args.word
-    c.requires.place _ c.in-Ok.ensures.done in
-    let unused = unused-within _ _ c.self.view_is c.self.invariant c.in_default.is c.requires.idle in
-    ready-from _ c.in_default.is (c.in-Ok.ensures.light.ok refl).lit (g.met.B.Board.sized _) (g.met.B.Board.words_fit _)
-    shut unused
-
 pub returns-in-Err-clause-any_exit : goal.returns-in-Err-clause-any_exit
 returns-in-Err-clause-any_exit g c = one-torn _ _ c.self.view_is c.self.invariant c.in_default.is c.requires.idle
     c.args.at c.args.word c.requires.place _ c.in-Err.ensures.torn
-
-pub returns-in-Some-clause-reports : goal.returns-in-Some-clause-reports
-returns-in-Some-clause-reports g c = reports_same _
-
-pub returns-in-Ok-clause-reports : goal.returns-in-Ok-clause-reports
-returns-in-Ok-clause-reports g c =
-    reports_ok _ _ _ c.self.view_is c.self.invariant c.in_default.is c.in_default.is (c.in-Ok.ensures.light.ok refl)
-    (one-sound _ _ c.self.view_is c.self.invariant c.in_default.is c.requires.idle
-    c.args.at c.args.word c.requires.place _ c.in-Ok.ensures.torn)
-
-pub returns-in-Err-clause-reports : goal.returns-in-Err-clause-reports
-returns-in-Err-clause-reports g c =
-    reports_err _ _ _ c.self.view_is c.self.invariant c.in_default.is _ _ c.fail.ensures.failed c.fail.ensures.error
-    c.in-Err.ensures.light (one-sound _ _ c.self.view_is c.self.invariant c.in_default.is c.requires.idle
-    c.args.at c.args.word c.requires.place _ c.in-Err.ensures.torn)
 
 pub invariant_of-self-in-Err : goal.invariant_of-self-in-Err
 invariant_of-self-in-Err g c =
     true-failed _ _ _ c.self.view_is c.self.invariant c.in_default.is _ _ c.fail.ensures.failed c.fail.ensures.error
     c.in-Err.ensures.light
+
+pub returns-in-Some-clause-store : goal.returns-in-Some-clause-store
+returns-in-Some-clause-store g c = record {
+  reports = reports_same _;
+  idle = search rules;
+  ready = tt;
+  tells = search rules;
+  writes = search rules;
+}
+
+pub returns-in-Ok-clause-store : goal.returns-in-Ok-clause-store
+returns-in-Ok-clause-store g c = record {
+  reports = reports_ok _ _ _ c.self.view_is c.self.invariant c.in_default.is c.in_default.is (c.in-Ok.ensures.light.ok refl)
+    (one-sound _ _ c.self.view_is c.self.invariant c.in_default.is c.requires.idle
+    c.args.at c.args.word c.requires.place _ c.in-Ok.ensures.torn);
+  idle = search rules;
+  ready = (let shut = one-gate _ _ c.self.view_is c.self.invariant c.in_default.is c.requires.idle c.args.at c.args.word
+    c.requires.place _ c.in-Ok.ensures.done in
+    let unused = unused-within _ _ c.self.view_is c.self.invariant c.in_default.is c.requires.idle in
+    ready-from _ c.in_default.is (c.in-Ok.ensures.light.ok refl).lit (g.met.B.Board.sized _) (g.met.B.Board.words_fit _)
+    shut unused);
+  tells = search rules;
+  writes = search rules;
+}
+
+pub returns-in-Err-clause-store : goal.returns-in-Err-clause-store
+returns-in-Err-clause-store g c = record {
+  reports = reports_err _ _ _ c.self.view_is c.self.invariant c.in_default.is _ _ c.fail.ensures.failed c.fail.ensures.error
+    c.in-Err.ensures.light (one-sound _ _ c.self.view_is c.self.invariant c.in_default.is c.requires.idle
+    c.args.at c.args.word c.requires.place _ c.in-Err.ensures.torn);
+  idle = search rules;
+  ready = tt;
+  tells = search rules;
+  writes = search rules;
+}

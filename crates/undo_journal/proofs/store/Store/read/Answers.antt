@@ -4,7 +4,6 @@ use Rattle.undo_journal.specs.laws.Undo.{data_words-outside}
 use Rattle.undo_journal.specs.Memory.{Memory, current}
 use Rattle.undo_journal.proofs.Standing.{board-place, open-from, ready-from}
 use Rattle.undo_journal.specs.laws.Calls.{reads_same}
-use Rattle.undo_journal.specs.laws.Memory.{reports_same}
 use Rattle.undo_journal.proofs.Telling.{reports_ok, reports_err, reads_board, true-kept, true-failed}
 use Rattle.undo_journal.proofs.store.Store.read.Goals as goal
 
@@ -27,46 +26,28 @@ pub returns-in-Ok-clause-usable : goal.returns-in-Ok-clause-usable
 returns-in-Ok-clause-usable g c = open-from _ c.in_default.is (c.in-Ok.ensures.light.ok refl).lit
     (g.met.B.Board.sized _) (g.met.B.Board.words_fit _)
 
-pub returns-in-Ok-clause-ready : goal.returns-in-Ok-clause-ready
-returns-in-Ok-clause-ready g c = λ idle.
-    let unused = ap (λ (m : Memory). m.used) c.self.view_is ∙ idle in
-    let shut = ap gate c.in-Ok.ensures.words ∙ (c.self.invariant.works c.in_default.is).counts ∙ unused in
-    ready-from _ c.in_default.is (c.in-Ok.ensures.light.ok refl).lit (g.met.B.Board.sized _) (g.met.B.Board.words_fit _)
-    shut unused
-
-pub returns-in-Some-clause-reports : goal.returns-in-Some-clause-reports
-returns-in-Some-clause-reports g c = reports_same _
-
 pub returns-in-Some-clause-reads : goal.returns-in-Some-clause-reads
 returns-in-Some-clause-reads g c = reads_same _
-
-pub returns-in-Ok-clause-reports : goal.returns-in-Ok-clause-reports
-returns-in-Ok-clause-reports g c =
-    let held = c.self.invariant.works c.in_default.is in
-    let family : List ℕ → Type 0 = λ l. IsSound l in
-    reports_ok _ _ _ c.self.view_is c.self.invariant c.in_default.is c.in_default.is (c.in-Ok.ensures.light.ok refl)
-    (subst family (sym c.in-Ok.ensures.words) held.sound)
 
 pub returns-in-Ok-clause-reads : goal.returns-in-Ok-clause-reads
 returns-in-Ok-clause-reads g c =
     let kept = c.in-Ok.ensures in
-    reads_board _ _ _ c.self.view_is c.self.invariant c.in_default.is
-    (record { words = kept.words; writes = kept.writes; compares = kept.compares; matches = kept.matches }) refl
-    (returns-in-Ok-clause-reports g c)
-
-pub returns-in-Err-clause-reports : goal.returns-in-Err-clause-reports
-returns-in-Err-clause-reports g c =
     let held = c.self.invariant.works c.in_default.is in
     let family : List ℕ → Type 0 = λ l. IsSound l in
-    reports_err _ _ _ c.self.view_is c.self.invariant c.in_default.is _ _ c.fail.ensures.failed c.fail.ensures.error
-    c.in-Err.ensures.light (subst family (sym c.in-Err.ensures.words) held.sound)
+    reads_board _ _ _ c.self.view_is c.self.invariant c.in_default.is
+    (record { words = kept.words; writes = kept.writes; compares = kept.compares; matches = kept.matches }) refl
+    (reports_ok _ _ _ c.self.view_is c.self.invariant c.in_default.is c.in_default.is (c.in-Ok.ensures.light.ok refl)
+    (subst family (sym c.in-Ok.ensures.words) held.sound))
 
 pub returns-in-Err-clause-reads : goal.returns-in-Err-clause-reads
 returns-in-Err-clause-reads g c =
     let kept = c.in-Err.ensures in
+    let held = c.self.invariant.works c.in_default.is in
+    let family : List ℕ → Type 0 = λ l. IsSound l in
     reads_board _ _ _ c.self.view_is c.self.invariant c.in_default.is
     (record { words = kept.words; writes = kept.writes; compares = kept.compares; matches = kept.matches }) refl
-    (returns-in-Err-clause-reports g c)
+    (reports_err _ _ _ c.self.view_is c.self.invariant c.in_default.is _ _ c.fail.ensures.failed c.fail.ensures.error
+    c.in-Err.ensures.light (subst family (sym c.in-Err.ensures.words) held.sound))
 
 pub invariant_of-self : goal.invariant_of-self
 invariant_of-self g c =
@@ -77,3 +58,15 @@ pub invariant_of-self-in-Err : goal.invariant_of-self-in-Err
 invariant_of-self-in-Err g c =
     true-failed _ _ _ c.self.view_is c.self.invariant c.in_default.is _ _ c.fail.ensures.failed c.fail.ensures.error
     c.in-Err.ensures.light
+
+pub returns-in-Ok-clause-store : goal.returns-in-Ok-clause-store
+returns-in-Ok-clause-store g c = λ idle.
+    let unused = ap (λ (m : Memory). m.used) c.self.view_is ∙ idle in
+    let shut = ap gate c.in-Ok.ensures.words ∙ (c.self.invariant.works c.in_default.is).counts ∙ unused in
+    let ready = ready-from _ c.in_default.is (c.in-Ok.ensures.light.ok refl).lit (g.met.B.Board.sized _)
+    (g.met.B.Board.words_fit _) shut unused in
+    record { only = returns-in-Ok-clause-reads g c; ready = ready; tells = c.in_default.is }
+
+pub returns-in-Err-clause-store : goal.returns-in-Err-clause-store
+returns-in-Err-clause-store g c = λ idle. record
+    { only = returns-in-Err-clause-reads g c; ready = tt; tells = c.fail.ensures.failed }

@@ -1,4 +1,4 @@
-use Rattle.std.proofs.Common.{length, refl, ap, arith}
+use Rattle.std.proofs.Common.{rules, length, refl, ap, arith}
 use Rattle.nvm_board.specs.Facts.{address}
 use Rattle.nvm_board.specs.laws.Torn.{Torn-none}
 use Rattle.undo_journal.specs.Memory.{Memory}
@@ -33,34 +33,46 @@ pub returns-in-Ok-clause-done : goal.returns-in-Ok-clause-done
 returns-in-Ok-clause-done g c = run-written _ _ c.self.view_is c.self.invariant c.in_default.is c.requires.idle
     (address c.args.page c.args.first) c.args.words.now c.requires.place _ c.in-Ok.ensures.done
 
-pub returns-in-Ok-clause-ready : goal.returns-in-Ok-clause-ready
-returns-in-Ok-clause-ready g c =
-    let shut = run-gate _ _ c.self.view_is c.self.invariant c.in_default.is c.requires.idle
-    (address c.args.page c.args.first) c.args.words.now c.requires.place _ c.in-Ok.ensures.torn in
-    let unused = unused-within _ _ c.self.view_is c.self.invariant c.in_default.is c.requires.idle in
-    ready-from _ c.in_default.is (c.in-Ok.ensures.light.ok refl).lit (g.met.B.Board.sized _) (g.met.B.Board.words_fit _)
-    shut unused
-
 pub returns-in-Err-clause-any_exit : goal.returns-in-Err-clause-any_exit
 returns-in-Err-clause-any_exit g c = run-torn _ _ c.self.view_is c.self.invariant c.in_default.is c.requires.idle
     (address c.args.page c.args.first) c.args.words.now c.requires.place _ c.requires.some c.in-Err.ensures.torn
-
-pub returns-in-Some-clause-reports : goal.returns-in-Some-clause-reports
-returns-in-Some-clause-reports g c = reports_same _
-
-pub returns-in-Ok-clause-reports : goal.returns-in-Ok-clause-reports
-returns-in-Ok-clause-reports g c =
-    reports_ok _ _ _ c.self.view_is c.self.invariant c.in_default.is c.in_default.is (c.in-Ok.ensures.light.ok refl)
-    (run-sound _ _ c.self.view_is c.self.invariant c.in_default.is c.requires.idle
-    (address c.args.page c.args.first) c.args.words.now c.requires.place _ c.in-Ok.ensures.torn)
-
-pub returns-in-Err-clause-reports : goal.returns-in-Err-clause-reports
-returns-in-Err-clause-reports g c =
-    reports_err _ _ _ c.self.view_is c.self.invariant c.in_default.is _ _ c.fail.ensures.failed c.fail.ensures.error
-    c.in-Err.ensures.light (run-sound _ _ c.self.view_is c.self.invariant c.in_default.is c.requires.idle
-    (address c.args.page c.args.first) c.args.words.now c.requires.place _ c.in-Err.ensures.torn)
 
 pub invariant_of-self-in-Err : goal.invariant_of-self-in-Err
 invariant_of-self-in-Err g c =
     true-failed _ _ _ c.self.view_is c.self.invariant c.in_default.is _ _ c.fail.ensures.failed c.fail.ensures.error
     c.in-Err.ensures.light
+
+pub returns-in-Some-clause-store : goal.returns-in-Some-clause-store
+returns-in-Some-clause-store g c = record {
+  reports = reports_same _;
+  idle = search rules;
+  ready = tt;
+  tells = search rules;
+  writes = search rules;
+}
+
+pub returns-in-Ok-clause-store : goal.returns-in-Ok-clause-store
+returns-in-Ok-clause-store g c = record {
+  reports = reports_ok _ _ _ c.self.view_is c.self.invariant c.in_default.is c.in_default.is (c.in-Ok.ensures.light.ok refl)
+    (run-sound _ _ c.self.view_is c.self.invariant c.in_default.is c.requires.idle
+    (address c.args.page c.args.first) c.args.words.now c.requires.place _ c.in-Ok.ensures.torn);
+  idle = search rules;
+  ready = (let shut = run-gate _ _ c.self.view_is c.self.invariant c.in_default.is c.requires.idle
+    (address c.args.page c.args.first) c.args.words.now c.requires.place _ c.in-Ok.ensures.torn in
+    let unused = unused-within _ _ c.self.view_is c.self.invariant c.in_default.is c.requires.idle in
+    ready-from _ c.in_default.is (c.in-Ok.ensures.light.ok refl).lit (g.met.B.Board.sized _) (g.met.B.Board.words_fit _)
+    shut unused);
+  tells = search rules;
+  writes = search rules;
+}
+
+pub returns-in-Err-clause-store : goal.returns-in-Err-clause-store
+returns-in-Err-clause-store g c = record {
+  reports = reports_err _ _ _ c.self.view_is c.self.invariant c.in_default.is _ _ c.fail.ensures.failed c.fail.ensures.error
+    c.in-Err.ensures.light (run-sound _ _ c.self.view_is c.self.invariant c.in_default.is c.requires.idle
+    (address c.args.page c.args.first) c.args.words.now c.requires.place _ c.in-Err.ensures.torn);
+  idle = search rules;
+  ready = tt;
+  tells = search rules;
+  writes = search rules;
+}

@@ -1,27 +1,21 @@
 use Rattle.std.proofs.Common.{◌<◌, ◌+◌, ℕ, List, length, get_or, slice_set, ap, ◌∙◌, arith}
 use Rattle.nvm_board.specs.laws.Torn.{written-more}
-use Rattle.undo_journal.specs.laws.Memory.{reports_then}
+use Rattle.undo_journal.specs.laws.Calls.{sets_then}
+use Rattle.undo_journal.specs.laws.Told.{sets_in_on, sets_in_handed}
 use Rattle.undo_journal.proofs.txn.Txn.set_run.Goals as goal
 
-pub returns-in_err-set-clause-reports : goal.returns-in_err-set-clause-reports
-returns-in_err-set-clause-reports g c = reports_then _ _ _ c.loop-i.invariant.reports c.in_err-set.ensures.reports
+pub returns-in_err-set-clause-store : goal.returns-in_err-set-clause-store
+returns-in_err-set-clause-store g c =
+    sets_in_handed _ _ _ _ _ c.from_residual-in_err-set.ensures.1
+    (sets_in_on c.loop-i.i 1 _ _ _ _ _ (omega arith) c.loop-i.invariant.sets c.in_err-set.ensures.store)
 
 pub loop-i-preserved : goal.loop-i-preserved
 loop-i-preserved g c =
     let so_far = c.loop-i.invariant in
-    let set = c.in_ok-set.ensures in
     let lt : c.loop-i.i < length c.args.words.now = omega arith in
     let put : List ℕ → List ℕ = λ l. slice_set l (c.args.at + c.loop-i.i) (get_or c.args.words.now c.loop-i.i 0) in
     record {
-      same_store = set.same_store ∙ so_far.same_store;
-      usable = set.ready;
-      kept = set.kept ∙ so_far.kept;
-      done = set.done ∙ ap put so_far.done ∙ written-more _ _ _ _ lt;
-      room = omega (arith, set.room, so_far.room);
-      reports = reports_then _ _ _ so_far.reports set.reports;
-      writes = record {
-        writes = omega (arith, set.writes.writes, so_far.writes.writes);
-        compares = set.writes.compares ∙ so_far.writes.compares;
-        matches = set.writes.matches ∙ so_far.writes.matches;
-      };
+      usable = c.in_ok-set.ensures.store.ready;
+      done = c.in_ok-set.ensures.done ∙ ap put so_far.done ∙ written-more _ _ _ _ lt;
+      sets = sets_then c.loop-i.i 1 _ _ _ _ (omega arith) so_far.sets c.in_ok-set.ensures.store.sets;
     }
