@@ -5,7 +5,9 @@ use Rattle.std.proofs.lemmas.List.{append-nil, take_all}
 use Rattle.t1_link.specs.declared.block.ErrorKind.{ErrorKind}
 use Rattle.t1_link.specs.declared.block.ErrorKind.TheVariants.{ErrorFree}
 use Rattle.t1_link.specs.declared.block.Fault.{Fault}
-use Rattle.t1_link.specs.Blocks.{Block, frame, heard, information, receive_ready, resynch_request, resynch_response, same}
+use Rattle.t1_link.specs.declared.sequence_number.SequenceNumber.{SequenceNumber}
+use Rattle.t1_link.specs.Blocks.{Block, frame, heard, information, receive_ready, resynch_request, resynch_response}
+use Rattle.t1_link.specs.SequenceNumbers.{other_number, same}
 use Rattle.t1_link.specs.CardTable.{Link, Taken, card_takes, fresh, joined, refusing, replies, replying, runs, sending, sent_block, sent_more, sent_number}
 use Rattle.t1_link.specs.CardRows.{card_takes-fault, card_takes-joins, card_takes-resynch, card_takes-runs}
 use Rattle.card_bench.specs.Worlds.{Machine, World, quiet, toward_card, toward_reader}
@@ -22,7 +24,7 @@ RunsNone t = (command : List ℕ) → t.reaction ≡ runs command → ⊥
 replies-none : (b : Block) (command : List ℕ) → replies b ≡ runs command → ⊥
 replies-none b command e = absurd cc
 
-none-ready : (l : Link) (number : Bool) (error : ErrorKind) → RunsNone (card_takes l (Ok (receive_ready number error)))
+none-ready : (l : Link) (number : SequenceNumber) (error : ErrorKind) → RunsNone (card_takes l (Ok (receive_ready number error)))
 unfolding card_takes
 none-ready l number error =
     either-if RunsNone (sent_number l number) (replying l (sent_block l)) (if sent_more l then sending l l.rest else refusing l ErrorFree)
@@ -54,16 +56,16 @@ runs-same a b e = cc
 module _ {M : Type 0} (machine : Machine M) (start : M) where
   -- the last block of the command, or one of which more follow
   offered-given : (w : World M) (more : Bool) (command : List ℕ) → not (length w.reader.rest == 0) ≡ more → CommandOffered machine start (core w)
-      → (card_takes w.card (Ok (information (not w.reader.ns) more w.reader.field))).reaction ≡ runs command → command ≡ newest w.sent
+      → (card_takes w.card (Ok (information (other_number w.reader.ns) more w.reader.field))).reaction ≡ runs command → command ≡ newest w.sent
   offered-given w true command more at e =
-      let expected : same (not w.reader.ns) w.card.nr ≡ true = same_as (not w.reader.ns) w.card.nr (sym at.number) in
+      let expected : same (other_number w.reader.ns) w.card.nr ≡ true = same_as (other_number w.reader.ns) w.card.nr (sym at.number) in
       let row = ap (λ (t : Taken). t.reaction)
-      (card_takes-joins w.card (not w.reader.ns) w.reader.field (ap (λ (xs : List ℕ). not (length xs == 0)) at.unsent) expected) in
+      (card_takes-joins w.card (other_number w.reader.ns) w.reader.field (ap (λ (xs : List ℕ). not (length xs == 0)) at.unsent) expected) in
       absurd (replies-none _ command (sym row ∙ e))
   offered-given w false command more at e =
-      let expected : same (not w.reader.ns) w.card.nr ≡ true = same_as (not w.reader.ns) w.card.nr (sym at.number) in
+      let expected : same (other_number w.reader.ns) w.card.nr ≡ true = same_as (other_number w.reader.ns) w.card.nr (sym at.number) in
       let row = ap (λ (t : Taken). t.reaction)
-      (card_takes-runs w.card (not w.reader.ns) w.reader.field (ap (λ (xs : List ℕ). not (length xs == 0)) at.unsent) expected) in
+      (card_takes-runs w.card (other_number w.reader.ns) w.reader.field (ap (λ (xs : List ℕ). not (length xs == 0)) at.unsent) expected) in
       let all : w.reader.rest ≡ [] = none_left w.reader.rest more in
       let split : w.card.held ++ w.reader.field ≡ at.command = ap (λ (xs : List ℕ). w.card.held ++ xs)
       (sym (append-nil w.reader.field) ∙ ap (λ (xs : List ℕ). w.reader.field ++ xs) (sym all)) ∙ at.whole in

@@ -12,8 +12,11 @@ use Rattle.t1_link.specs.declared.block.Fault.{Fault}
 use Rattle.t1_link.specs.declared.reader_end.Phase.TheVariants.{Busy, Idle}
 use Rattle.t1_link.specs.declared.reader_end.Failure.{Failure}
 use Rattle.t1_link.specs.declared.reader_end.Failure.TheVariants.{BadAnswer, LinkLost}
+use Rattle.t1_link.specs.declared.sequence_number.SequenceNumber.{SequenceNumber}
+use Rattle.t1_link.specs.declared.sequence_number.SequenceNumber.TheVariants.{Zero, One}
 use Rattle.t1_link.specs.Blocks.{Block, IsSpellable, control_byte, error_code, exclusive_or, field_of, frame, front, information, receive_ready}
-use Rattle.t1_link.specs.Blocks.{resynch_request, resynch_response, ifs_request, ifs_response, same, told_as}
+use Rattle.t1_link.specs.Blocks.{resynch_request, resynch_response, ifs_request, ifs_response, told_as}
+use Rattle.t1_link.specs.SequenceNumbers.{at_bit, other_number, same}
 use Rattle.t1_link.specs.BlockLaws.{length-field}
 use Rattle.t1_link.specs.CardTable.{Link, Reaction, Taken, card_takes, joined, refusing, replies, replying, runs, sending, sent_block, sent_more, sent_number}
 use Rattle.t1_link.specs.CardTable.{takes_information, takes_receive_ready}
@@ -73,7 +76,7 @@ no_bytes = All-nil (λ number. number < 256)
 short : (limit : ℕ) (bytes : List ℕ) → limit ≤ 254 → length (take limit bytes) ≤ 254
 short limit bytes small = let n = length-take limit bytes in omega (arith, n, small)
 
-sound-ready : (number : Bool) (error : ErrorKind) → IsSound (receive_ready number error)
+sound-ready : (number : SequenceNumber) (error : ErrorKind) → IsSound (receive_ready number error)
 sound-ready number error = record { spellable = tt; bytes = no_bytes }
 
 -- the card's end
@@ -94,24 +97,25 @@ sound-sending l bytes s all =
       reaction = record { spellable = short l.ifsd bytes s.size; bytes = first };
     }
 
-sound-asked : (l : Link) (number : Bool) → IsSoundLink l → IsSoundTaken (takes_receive_ready l number)
+sound-asked : (l : Link) (number : SequenceNumber) → IsSoundLink l → IsSoundTaken (takes_receive_ready l number)
 sound-asked l number s =
     let again : IsSoundTaken (replying l (sent_block l)) = record { link = s; reaction = record { spellable = s.sent; bytes = s.sent_bytes } } in
     either-if IsSoundTaken (sent_number l number) (replying l (sent_block l)) (if sent_more l then sending l l.rest else refusing l ErrorFree) again
     (either-if IsSoundTaken (sent_more l) (sending l l.rest) (refusing l ErrorFree) (sound-sending l l.rest s s.rest) (sound-refusing l ErrorFree s))
 
-sound-information : (l : Link) (number more : Bool) (field : List ℕ) → IsSoundLink l → AreBytes field → IsSoundTaken (takes_information l number more field)
+sound-information : (l : Link) (number : SequenceNumber) (more : Bool) (field : List ℕ) → IsSoundLink l → AreBytes field
+    → IsSoundTaken (takes_information l number more field)
 sound-information l number more field s all =
     let both : AreBytes (joined l field) = All-take (λ number. number < 256) 262 (l.held ++ field)
     (All-append (λ number. number < 256) l.held field s.held all) in
     let refused : Taken = refusing l OtherError in
     let refused-sound : IsSoundTaken refused = sound-refusing l OtherError s in
-    let joins : Taken = refusing (record l { nr = not l.nr; held = joined l field }) ErrorFree in
+    let joins : Taken = refusing (record l { nr = other_number l.nr; held = joined l field }) ErrorFree in
     let joins-sound : IsSoundTaken joins = record {
       link = record { size = s.size; sent = s.sent; sent_bytes = s.sent_bytes; rest = s.rest; held = both };
-      reaction = sound-ready (not l.nr) ErrorFree;
+      reaction = sound-ready (other_number l.nr) ErrorFree;
     } in
-    let whole : Taken = record { link = record l { nr = not l.nr; held = [] }; reaction = runs (joined l field) } in
+    let whole : Taken = record { link = record l { nr = other_number l.nr; held = [] }; reaction = runs (joined l field) } in
     let whole-sound : IsSoundTaken whole = record {
       link = record { size = s.size; sent = s.sent; sent_bytes = s.sent_bytes; rest = s.rest; held = no_bytes };
       reaction = both;
@@ -167,9 +171,9 @@ sound-failing r failure s = record { reader = record { size = s.size; field = s.
 sound-again : (r : Reader) → IsSoundReader r → IsSoundTurned (requesting_again r)
 sound-again r s = either-if IsSoundTurned (nat_lt r.resynchs 3) (requesting r) (failing r LinkLost) (sound-requesting r s) (sound-failing r LinkLost s)
 
-sound-next : (r : Reader) (number : Bool) → IsSoundReader r → IsSoundTurned (turns_receive_ready r number)
+sound-next : (r : Reader) (number : SequenceNumber) → IsSoundReader r → IsSoundTurned (turns_receive_ready r number)
 sound-next r number s =
-    either-if IsSoundTurned (same number (not r.ns)) (trying r (last_block r)) (if has_more r then advancing r r.rest else asking r OtherError)
+    either-if IsSoundTurned (same number (other_number r.ns)) (trying r (last_block r)) (if has_more r then advancing r r.rest else asking r OtherError)
     (sound-trying r (last_block r) s (record { spellable = s.size; bytes = s.field }))
     (either-if IsSoundTurned (has_more r) (advancing r r.rest) (asking r OtherError) (sound-advancing r r.rest s.rest) (sound-asking r OtherError s))
 
@@ -177,21 +181,21 @@ sound-answer : (r : Reader) (more : Bool) (bytes : List ℕ) → IsSoundReader r
 sound-answer r more bytes s =
     let bad : Turned = failing r BadAnswer in
     let joins : Turned = record {
-      reader = record r { nr = not r.nr; tries = 0; answer = bytes };
-      outcome = sends (receive_ready (not r.nr) ErrorFree);
+      reader = record r { nr = other_number r.nr; tries = 0; answer = bytes };
+      outcome = sends (receive_ready (other_number r.nr) ErrorFree);
     } in
     let joins-sound : IsSoundTurned joins = record {
       reader = record { size = s.size; field = s.field; rest = s.rest };
-      outcome = sound-ready (not r.nr) ErrorFree;
+      outcome = sound-ready (other_number r.nr) ErrorFree;
     } in
-    let done : Turned = record { reader = record r { nr = not r.nr; answer = []; phase = Idle }; outcome = gives bytes } in
+    let done : Turned = record { reader = record r { nr = other_number r.nr; answer = []; phase = Idle }; outcome = gives bytes } in
     let done-sound : IsSoundTurned done = record { reader = record { size = s.size; field = s.field; rest = s.rest }; outcome = tt } in
     let whole : Turned = if nat_lt (length bytes) 2 then bad else done in
     either-if IsSoundTurned (nat_lt 258 (length bytes)) bad (if more then joins else whole) (sound-failing r BadAnswer s)
     (either-if IsSoundTurned more joins whole joins-sound
     (either-if IsSoundTurned (nat_lt (length bytes) 2) bad done (sound-failing r BadAnswer s) done-sound))
 
-sound-joined : (r : Reader) (number more : Bool) (field : List ℕ) → IsSoundReader r → IsSoundTurned (turns_information r number more field)
+sound-joined : (r : Reader) (number : SequenceNumber) (more : Bool) (field : List ℕ) → IsSoundReader r → IsSoundTurned (turns_information r number more field)
 sound-joined r number more field s =
     either-if IsSoundTurned (has_more r || not (same number r.nr)) (asking r OtherError) (turns_answer r more (r.answer ++ field))
     (sound-asking r OtherError s) (sound-answer r more (r.answer ++ field) s)
@@ -229,19 +233,19 @@ sound-sends r command s all =
     (record { reader = s; outcome = tt }) (sound-advancing ready command all)
 
 -- the bytes of a sound block
-number-bit : (a b : Bool) → (if a then 0x40 else 0) + (if b then 0x20 else 0) < 256
-number-bit true true = omega arith
-number-bit true false = omega arith
-number-bit false true = omega arith
-number-bit false false = omega arith
+number-bit : (a : SequenceNumber) (b : Bool) → at_bit 0x40 a + (if b then 0x20 else 0) < 256
+number-bit One true = omega arith
+number-bit One false = omega arith
+number-bit Zero true = omega arith
+number-bit Zero false = omega arith
 
-ready-bits : (a : Bool) (error : ErrorKind) → 0x80 + (if a then 0x10 else 0) + error_code error < 256
-ready-bits true ErrorFree = omega arith
-ready-bits true RedundancyError = omega arith
-ready-bits true OtherError = omega arith
-ready-bits false ErrorFree = omega arith
-ready-bits false RedundancyError = omega arith
-ready-bits false OtherError = omega arith
+ready-bits : (a : SequenceNumber) (error : ErrorKind) → 0x80 + at_bit 0x10 a + error_code error < 256
+ready-bits One ErrorFree = omega arith
+ready-bits One RedundancyError = omega arith
+ready-bits One OtherError = omega arith
+ready-bits Zero ErrorFree = omega arith
+ready-bits Zero RedundancyError = omega arith
+ready-bits Zero OtherError = omega arith
 
 control-byte : (b : Block) → control_byte b < 256
 control-byte (information number more field) = number-bit number more

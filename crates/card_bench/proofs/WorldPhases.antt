@@ -1,8 +1,10 @@
 -- The phases of an exchange: what holds in the world after each event.
-use Rattle.std.specs.Prelude.{◌⊎◌, ◌≡◌, ◌≢◌, ◌≤◌, ◌+◌, ◌*◌, ℕ, Bool, true, not, ◌==◌, List, [], ◌∷◌, ◌++◌, length, Some, Ok}
+use Rattle.std.specs.Prelude.{◌⊎◌, ◌≡◌, ◌≢◌, ◌≤◌, ◌+◌, ◌*◌, ℕ, true, not, ◌==◌, List, [], ◌∷◌, ◌++◌, length, Some, Ok}
 use Rattle.t1_link.specs.declared.block.ErrorKind.{ErrorKind}
 use Rattle.t1_link.specs.declared.reader_end.Phase.TheVariants.{Idle, Busy, Dead}
+use Rattle.t1_link.specs.declared.sequence_number.SequenceNumber.{SequenceNumber}
 use Rattle.t1_link.specs.Blocks.{Block, frame, heard, information, receive_ready, resynch_request, resynch_response}
+use Rattle.t1_link.specs.SequenceNumbers.{other_number}
 use Rattle.t1_link.specs.CardTable.{Link, fresh, sent_block, sent_more}
 use Rattle.card_bench.specs.Worlds.{Carried, carrying, Line, Machine, Report, Unknown, World, is_command, quiet, toward_card, toward_reader}
 use Rattle.card_bench.specs.WorldRepairs.{Counts, NoneFailed, Repaired, answer_blocks, command_blocks, newest}
@@ -18,8 +20,8 @@ pub record History (M : Type 0) : Type 0 where
 
 -- what a try and a lost block leave as it was
 pub record Core (M : Type 0) : Type 0 where
-  pub ns : Bool
-  pub nr : Bool
+  pub ns : SequenceNumber
+  pub nr : SequenceNumber
   pub field : List ℕ
   pub rest : List ℕ
   pub answer : List ℕ
@@ -61,7 +63,7 @@ pub record CommandOffered {M : Type 0} (machine : Machine M) (start : M) (k : Co
   pub command : List ℕ
   pub sound : is_command command ≡ true
   pub history : Before machine start k.past command
-  pub number : k.card.nr ≡ not k.ns
+  pub number : k.card.nr ≡ other_number k.ns
   pub answered : k.card.ns ≡ k.nr
   pub empty : k.answer ≡ []
   pub unsent : k.card.rest ≡ []
@@ -89,7 +91,7 @@ pub record AnswerOffered {M : Type 0} (machine : Machine M) (start : M) (k : Cor
   pub at_most : length answer ≤ 258
   pub history : After machine start k.past answer
   pub number : k.card.nr ≡ k.ns
-  pub answered : k.card.ns ≡ not k.nr
+  pub answered : k.card.ns ≡ other_number k.nr
   pub held : k.card.held ≡ []
   pub sent_all : k.rest ≡ []
   pub size : k.card.ifsd ≡ 32
@@ -126,7 +128,7 @@ At machine start answer_taken k = AnswerTaken machine start k
 
 -- the I-block that may be under way toward the card, and toward the reader
 abbrev pub OfferedByReader : {M : Type 0} → Stage → Core M → Block → Type 0
-OfferedByReader command_offered k b = b ≡ information (not k.ns) (not (length k.rest == 0)) k.field
+OfferedByReader command_offered k b = b ≡ information (other_number k.ns) (not (length k.rest == 0)) k.field
 OfferedByReader command_taken k b = ⊥
 OfferedByReader answer_offered k b = ⊥
 OfferedByReader answer_taken k b = ⊥

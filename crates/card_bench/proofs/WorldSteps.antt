@@ -9,8 +9,11 @@ use Rattle.t1_link.specs.declared.block.ErrorKind.TheVariants.{ErrorFree, OtherE
 use Rattle.t1_link.specs.declared.block.Fault.{Fault}
 use Rattle.t1_link.specs.declared.reader_end.Phase.TheVariants.{Busy}
 use Rattle.t1_link.specs.declared.reader_end.Failure.TheVariants.{LinkLost}
-use Rattle.t1_link.specs.Blocks.{Block, IsSpellable, frame, heard, information, receive_ready, resynch_request, resynch_response, same, told_as}
-use Rattle.t1_link.specs.BlockLaws.{heard-frame, not-not, same-not, same-refl}
+use Rattle.t1_link.specs.declared.sequence_number.SequenceNumber.{SequenceNumber}
+use Rattle.t1_link.specs.Blocks.{Block, IsSpellable, frame, heard, information, receive_ready, resynch_request, resynch_response, told_as}
+use Rattle.t1_link.specs.SequenceNumbers.{other_number, same}
+use Rattle.t1_link.specs.BlockLaws.{heard-frame}
+use Rattle.t1_link.specs.SequenceNumberLaws.{other-other, same-other, same-refl}
 use Rattle.t1_link.specs.CardTable.{Link, Taken, card_takes, fresh, joined, refusing, sending, sent_block, sent_more}
 use Rattle.t1_link.specs.CardRows.{card_takes-again, card_takes-fault, card_takes-joins, card_takes-next, card_takes-nothing}
 use Rattle.t1_link.specs.CardRows.{card_takes-resynch, card_takes-runs}
@@ -38,14 +41,14 @@ none_left [] e = refl
 none_left (x ∷ xs) e = let n : length (x ∷ xs) ≡ 0 = eqb-true (length (x ∷ xs)) 0 (not-false _ e) in absurd (omega (arith, n))
 
 -- numbers, by an equation between them
-pub same_as : (a b : Bool) → a ≡ b → same a b ≡ true
-same_as a b e = subst (λ (c : Bool). same a c ≡ true) e (same-refl a)
+pub same_as : (a b : SequenceNumber) → a ≡ b → same a b ≡ true
+same_as a b e = subst (λ (c : SequenceNumber). same a c ≡ true) e (same-refl a)
 
-other_than : (a b : Bool) → a ≡ b → same a (not b) ≡ false
-other_than a b e = subst (λ (c : Bool). same a (not c) ≡ false) e (same-not a)
+other_than : (a b : SequenceNumber) → a ≡ b → same a (other_number b) ≡ false
+other_than a b e = subst (λ (c : SequenceNumber). same a (other_number c) ≡ false) e (same-other a)
 
-turned_back : (a b : Bool) → a ≡ not b → not a ≡ b
-turned_back a b e = ap not e ∙ not-not b
+turned_back : (a b : SequenceNumber) → a ≡ other_number b → other_number a ≡ b
+turned_back a b e = ap other_number e ∙ other-other b
 
 both_true : (a b : Bool) → (a && b) ≡ true → (a ≡ true) × (b ≡ true)
 both_true true b e = (refl, e)
@@ -250,7 +253,7 @@ module _ {M : Type 0} (machine : Machine M) (start : M) (Invariant : M → Type 
           at_most = high;
           history = history;
           number = number;
-          answered = ap not answered;
+          answered = ap other_number answered;
           held = held;
           sent_all = sent_all;
           size = size;
@@ -260,7 +263,7 @@ module _ {M : Type 0} (machine : Machine M) (start : M) (Invariant : M → Type 
           whole = ap (λ (xs : List ℕ). w.reader.answer ++ xs) (take-append-drop w.card.ifsd bytes) ∙ whole;
         };
         awaits = record { phase = awaits.phase; resynchs = awaits.resynchs; only = awaits.only; requested = awaits.requested };
-        way = inr (_, refl, inr (λ i. information (sym (not-not w.card.ns) i) (not (length (drop w.card.ifsd bytes) == 0)) (take w.card.ifsd bytes)));
+        way = inr (_, refl, inr (λ i. information (sym (other-other w.card.ns) i) (not (length (drop w.card.ifsd bytes) == 0)) (take w.card.ifsd bytes)));
       }) budget
 
   -- the reader's end offers the first of these bytes of the command
@@ -276,7 +279,7 @@ module _ {M : Type 0} (machine : Machine M) (start : M) (Invariant : M → Type 
           command = command;
           sound = sound;
           history = history;
-          number = number ∙ sym (not-not w.reader.ns);
+          number = number ∙ sym (other-other w.reader.ns);
           answered = answered;
           empty = empty;
           unsent = unsent;
@@ -285,7 +288,7 @@ module _ {M : Type 0} (machine : Machine M) (start : M) (Invariant : M → Type 
           whole = ap (λ (xs : List ℕ). w.card.held ++ xs) (take-append-drop 254 bytes) ∙ whole;
         };
         awaits = record { phase = phase; resynchs = resynchs; only = (λ some. absurd (omega (arith, some, requested_none)), only); requested = requested_none };
-        way = inl (_, refl, inr (λ i. information (sym (not-not w.reader.ns) i) (not (length (drop 254 bytes) == 0)) (take 254 bytes)));
+        way = inl (_, refl, inr (λ i. information (sym (other-other w.reader.ns) i) (not (length (drop 254 bytes) == 0)) (take 254 bytes)));
       }) budget
 
   -- the machine's answer begins where the command ends
@@ -330,7 +333,8 @@ module _ {M : Type 0} (machine : Machine M) (start : M) (Invariant : M → Type 
   asked c answer_offered w error at awaits budget =
       card-gets (passed c) w (receive_ready w.reader.nr error) _ tt
       (card_takes-again w.card w.reader.nr error
-      (and_from (is_some w.card.sent) _ (ap is_some at.last) (same_as w.reader.nr (not w.card.ns) (sym (turned_back w.card.ns w.reader.nr at.answered)))))
+      (and_from (is_some w.card.sent) _ (ap is_some at.last)
+      (same_as w.reader.nr (other_number w.card.ns) (sym (turned_back w.card.ns w.reader.nr at.answered)))))
       (exchange (record {
         stage = answer_offered;
         at = at;
@@ -371,16 +375,16 @@ module _ {M : Type 0} (machine : Machine M) (start : M) (Invariant : M → Type 
   -- the card's end gets the block of the command that is offered, of which more follows or not
   offered : (c : Counts) (more : Bool) (w : World M) → not (length w.reader.rest == 0) ≡ more → CommandOffered machine start (core w) → Awaits w
       → Budget c command_offered offers_card (core w) w.reader.tries
-      → Good machine start (passed c) (arriving machine w (at_card (frame (information (not w.reader.ns) more w.reader.field))))
+      → Good machine start (passed c) (arriving machine w (at_card (frame (information (other_number w.reader.ns) more w.reader.field))))
   offered c true w more at awaits budget =
-      let expected : same (not w.reader.ns) w.card.nr ≡ true = same_as (not w.reader.ns) w.card.nr (sym at.number) in
+      let expected : same (other_number w.reader.ns) w.card.nr ≡ true = same_as (other_number w.reader.ns) w.card.nr (sym at.number) in
       let split : w.card.held ++ w.reader.field ++ w.reader.rest ≡ at.command = append_assoc w.card.held w.reader.field w.reader.rest ∙ at.whole in
       let size : length (w.card.held ++ w.reader.field) ≤ 262 =
       let n = length-append (w.card.held ++ w.reader.field) w.reader.rest in let l = ap length split in
       let most = (command_size at.command at.sound).1 in omega (arith, n, l, most) in
       let kept : joined w.card w.reader.field ≡ w.card.held ++ w.reader.field = take_all 262 (w.card.held ++ w.reader.field) size in
-      card-gets (passed c) w (information (not w.reader.ns) true w.reader.field) _ at.field
-      (card_takes-joins w.card (not w.reader.ns) w.reader.field (ap (λ (xs : List ℕ). not (length xs == 0)) at.unsent) expected)
+      card-gets (passed c) w (information (other_number w.reader.ns) true w.reader.field) _ at.field
+      (card_takes-joins w.card (other_number w.reader.ns) w.reader.field (ap (λ (xs : List ℕ). not (length xs == 0)) at.unsent) expected)
       (exchange (record {
         stage = command_taken;
         at = record {
@@ -399,16 +403,16 @@ module _ {M : Type 0} (machine : Machine M) (start : M) (Invariant : M → Type 
         way = inr (_, refl, inl (ErrorFree, refl));
       }) (passes_on budget command_taken asks_reader _ w.reader.tries (omega arith) (λ t s. (t, omega (arith, s)))))
   offered c false w more at awaits budget =
-      let expected : same (not w.reader.ns) w.card.nr ≡ true = same_as (not w.reader.ns) w.card.nr (sym at.number) in
+      let expected : same (other_number w.reader.ns) w.card.nr ≡ true = same_as (other_number w.reader.ns) w.card.nr (sym at.number) in
       let all : w.reader.rest ≡ [] = none_left w.reader.rest more in
       let split : w.card.held ++ w.reader.field ≡ at.command = ap (λ (xs : List ℕ). w.card.held ++ xs)
       (sym (append-nil w.reader.field) ∙ ap (λ (xs : List ℕ). w.reader.field ++ xs) (sym all)) ∙ at.whole in
       let size : length (w.card.held ++ w.reader.field) ≤ 262 = let l = ap length split in let most = (command_size at.command at.sound).1 in
       omega (arith, l, most) in
       let kept : joined w.card w.reader.field ≡ at.command = take_all 262 (w.card.held ++ w.reader.field) size ∙ split in
-      let taken : World M = record w { card = record w.card { nr = not w.card.nr; held = [] } } in
-      card-gets (passed c) w (information (not w.reader.ns) false w.reader.field) _ at.field
-      (card_takes-runs w.card (not w.reader.ns) w.reader.field (ap (λ (xs : List ℕ). not (length xs == 0)) at.unsent) expected)
+      let taken : World M = record w { card = record w.card { nr = other_number w.card.nr; held = [] } } in
+      card-gets (passed c) w (information (other_number w.reader.ns) false w.reader.field) _ at.field
+      (card_takes-runs w.card (other_number w.reader.ns) w.reader.field (ap (λ (xs : List ℕ). not (length xs == 0)) at.unsent) expected)
       (subst (λ (x : List ℕ). Good machine start (passed c) (running machine taken x)) (sym kept)
       (runs-it (passed c) taken at.command at.sound
       at.history
@@ -423,7 +427,7 @@ module _ {M : Type 0} (machine : Machine M) (start : M) (Invariant : M → Type 
       → Good machine start (passed c) (arriving machine w (at_reader (frame (receive_ready w.card.nr error))))
   asked_back c command_offered w error at awaits budget =
       reader-gets (passed c) w (receive_ready w.card.nr error) _ tt awaits.resynchs
-      (turns_block-again w.reader w.card.nr error (same_as w.card.nr (not w.reader.ns) at.number))
+      (turns_block-again w.reader w.card.nr error (same_as w.card.nr (other_number w.reader.ns) at.number))
       (try (passed c) command_offered w (last_block w.reader) at awaits (inr refl) awaits.requested
       (passes_on budget command_offered offers_card (core w) (w.reader.tries + 1) (omega arith) (λ t s. absurd s)))
   asked_back c command_taken w error at awaits budget =
@@ -509,7 +513,7 @@ module _ {M : Type 0} (machine : Machine M) (start : M) (Invariant : M → Type 
   answered : (c : Counts) (w : World M) → AnswerOffered machine start (core w) → Awaits w → Budget c answer_offered offers_reader (core w) w.reader.tries
       → Good machine start (passed c) (arriving machine w (at_reader (frame (sent_block w.card))))
   answered c w at awaits budget =
-      let number : not w.card.ns ≡ w.reader.nr = turned_back w.card.ns w.reader.nr at.answered in
+      let number : other_number w.card.ns ≡ w.reader.nr = turned_back w.card.ns w.reader.nr at.answered in
       let field : unwrap_or w.card.sent [] ≡ at.field = ap (λ (s : Option (List ℕ)). unwrap_or s []) at.last in
       subst (λ (b : Block). Good machine start (passed c) (arriving machine w (at_reader (frame b))))
       (λ i. information (sym number i) (sent_more w.card) (sym field i))

@@ -7,22 +7,20 @@ use Rattle.t1_link.specs.declared.block.ErrorKind.{ErrorKind}
 use Rattle.t1_link.specs.declared.block.ErrorKind.TheVariants.{ErrorFree, RedundancyError, OtherError}
 use Rattle.t1_link.specs.declared.block.Fault.{Fault}
 use Rattle.t1_link.specs.declared.block.Fault.TheVariants.{WrongLength, WrongCheck, UnknownBlock}
+use Rattle.t1_link.specs.declared.sequence_number.SequenceNumber.{SequenceNumber}
+use Rattle.t1_link.specs.declared.sequence_number.SequenceNumber.TheVariants.{Zero, One}
+use Rattle.t1_link.specs.SequenceNumbers.{at_bit}
 
 -- What a block says (11.3.2.2). An I-block has its number N(S), the bit M that says that more blocks of the chain follow,
 -- and its information field; an R-block has the number N(R) of the I-block that is expected, and the kind of error;
 -- S-blocks request RESYNCH or an information field size, or respond to such a request.
 pub data Block : Type 0 where
-  information : Bool → Bool → List ℕ → Block
-  receive_ready : Bool → ErrorKind → Block
+  information : SequenceNumber → Bool → List ℕ → Block
+  receive_ready : SequenceNumber → ErrorKind → Block
   resynch_request : Block
   resynch_response : Block
   ifs_request : ℕ → Block
   ifs_response : ℕ → Block
-
--- whether the numbers of two blocks are the same
-abbrev pub same : Bool → Bool → Bool
-same true b = b
-same false b = not b
 
 -- the information field of a block
 abbrev pub field_of : Block → List ℕ
@@ -41,8 +39,8 @@ error_code OtherError = 2
 
 -- the protocol control byte: an I-block has N(S) in bit 7 and M in bit 6, an R-block N(R) in bit 5
 abbrev pub control_byte : Block → ℕ
-control_byte (information number more field) = (if number then 0x40 else 0) + (if more then 0x20 else 0)
-control_byte (receive_ready number error) = 0x80 + (if number then 0x10 else 0) + error_code error
+control_byte (information number more field) = at_bit 0x40 number + (if more then 0x20 else 0)
+control_byte (receive_ready number error) = 0x80 + at_bit 0x10 number + error_code error
 control_byte resynch_request = 0xC0
 control_byte resynch_response = 0xE0
 control_byte (ifs_request size) = 0xC1
@@ -72,16 +70,16 @@ size_told field = if length field == 1 && (nat_le 1 (slice_index field 0) && nat
 -- each control byte, and the block that it makes of an information field, if its kind has such a field
 abbrev pub kinds : List ℕ → List (ℕ × Option Block)
 kinds field =
-    (0x00, Some (information false false field))
-    ∷ (0x20, Some (information false true field))
-    ∷ (0x40, Some (information true false field))
-    ∷ (0x60, Some (information true true field))
-    ∷ (0x80, bare field (receive_ready false ErrorFree))
-    ∷ (0x81, bare field (receive_ready false RedundancyError))
-    ∷ (0x82, bare field (receive_ready false OtherError))
-    ∷ (0x90, bare field (receive_ready true ErrorFree))
-    ∷ (0x91, bare field (receive_ready true RedundancyError))
-    ∷ (0x92, bare field (receive_ready true OtherError))
+    (0x00, Some (information Zero false field))
+    ∷ (0x20, Some (information Zero true field))
+    ∷ (0x40, Some (information One false field))
+    ∷ (0x60, Some (information One true field))
+    ∷ (0x80, bare field (receive_ready Zero ErrorFree))
+    ∷ (0x81, bare field (receive_ready Zero RedundancyError))
+    ∷ (0x82, bare field (receive_ready Zero OtherError))
+    ∷ (0x90, bare field (receive_ready One ErrorFree))
+    ∷ (0x91, bare field (receive_ready One RedundancyError))
+    ∷ (0x92, bare field (receive_ready One OtherError))
     ∷ (0xC0, bare field resynch_request)
     ∷ (0xE0, bare field resynch_response)
     ∷ (0xC1, option_map ifs_request (size_told field))

@@ -1,21 +1,24 @@
 -- The card's end of T=1: what it holds between blocks, and its reaction to each (ISO/IEC 7816-3, clause 11.6).
 -- Its rows are numbered as in the table of docs/LINK.md.
-use Rattle.std.specs.Prelude.{ℕ, Bool, false, not, List, [], ◌∷◌, ◌++◌, length, take, drop, ◌==◌, ◌&&◌, Option, None}
+use Rattle.std.specs.Prelude.{ℕ, Bool, not, List, [], ◌∷◌, ◌++◌, length, take, drop, ◌==◌, ◌&&◌, Option, None}
 use Rattle.std.specs.Prelude.{Some, Result, Ok, Err, unwrap_or, is_some}
 use Rattle.t1_link.specs.declared.block.ErrorKind.{ErrorKind}
 use Rattle.t1_link.specs.declared.block.ErrorKind.TheVariants.{ErrorFree, OtherError}
 use Rattle.t1_link.specs.declared.block.Fault.{Fault}
 use Rattle.t1_link.specs.declared.card_end.Action.{Action}
 use Rattle.t1_link.specs.declared.card_end.Action.TheVariants.{Reply, Run}
+use Rattle.t1_link.specs.declared.sequence_number.SequenceNumber.{SequenceNumber}
+use Rattle.t1_link.specs.declared.sequence_number.SequenceNumber.TheVariants.{Zero}
 use Rattle.t1_link.specs.Blocks.{Block, information, receive_ready, resynch_request, resynch_response, ifs_request}
-use Rattle.t1_link.specs.Blocks.{ifs_response, frame, heard, first_of, same, told_as}
+use Rattle.t1_link.specs.Blocks.{ifs_response, frame, heard, first_of, told_as}
+use Rattle.t1_link.specs.SequenceNumbers.{other_number, same}
 
 -- What the card's end holds: the number of the next I-block that it sends and of the one that it expects, the size of
 -- information field that the reader takes, the information field of the last I-block sent, the bytes of the answer that
 -- are not sent yet, and the bytes of the command that have come.
 pub record Link : Type 0 where
-  pub ns : Bool
-  pub nr : Bool
+  pub ns : SequenceNumber
+  pub nr : SequenceNumber
   pub ifsd : ℕ
   pub sent : Option (List ℕ)
   pub rest : List ℕ
@@ -23,19 +26,19 @@ pub record Link : Type 0 where
 
 -- after power-on and after RESYNCH
 abbrev pub fresh : Link
-fresh = record { ns = false; nr = false; ifsd = 32; sent = None; rest = []; held = [] }
+fresh = record { ns = Zero; nr = Zero; ifsd = 32; sent = None; rest = []; held = [] }
 
 -- M of the last I-block sent: more of its answer follows
 abbrev pub sent_more : Link → Bool
 sent_more l = not (length l.rest == 0)
 
 -- the last I-block sent has this number
-abbrev pub sent_number : Link → Bool → Bool
-sent_number l number = is_some l.sent && same number (not l.ns)
+abbrev pub sent_number : Link → SequenceNumber → Bool
+sent_number l number = is_some l.sent && same number (other_number l.ns)
 
 -- the last I-block sent, once more
 abbrev pub sent_block : Link → Block
-sent_block l = information (not l.ns) (sent_more l) (unwrap_or l.sent [])
+sent_block l = information (other_number l.ns) (sent_more l) (unwrap_or l.sent [])
 
 -- the command bytes with those of a block: the first 262 are kept
 abbrev pub joined : Link → List ℕ → List ℕ
@@ -60,11 +63,11 @@ refusing l error = replying l (receive_ready l.nr error)
 -- the next I-block of these bytes: as many as the reader takes, with M where more follow; its number turns
 abbrev pub sending : Link → List ℕ → Taken
 sending l bytes = replying
-    (record l { ns = not l.ns; sent = Some (take l.ifsd bytes); rest = drop l.ifsd bytes })
+    (record l { ns = other_number l.ns; sent = Some (take l.ifsd bytes); rest = drop l.ifsd bytes })
     (information l.ns (not (length (drop l.ifsd bytes) == 0)) (take l.ifsd bytes))
 
 -- An R-block came, by which the reader asks for the block with this number. The first row that fits counts.
-abbrev pub takes_receive_ready : Link → Bool → Taken
+abbrev pub takes_receive_ready : Link → SequenceNumber → Taken
 takes_receive_ready l number = first_of (
     -- 7. the last I-block sent has this number: that block again
     (sent_number l number, replying l (sent_block l))
@@ -75,17 +78,17 @@ takes_receive_ready l number = first_of (
     (refusing l ErrorFree)
 
 -- An I-block came. The first row that fits counts.
-abbrev pub takes_information : Link → Bool → Bool → List ℕ → Taken
+abbrev pub takes_information : Link → SequenceNumber → Bool → List ℕ → Taken
 takes_information l number more field = first_of (
     -- 10. more of an answer is to be sent: R-block, other error
     (sent_more l, refusing l OtherError)
     -- 11. not the number that is expected: R-block, other error
     ∷ (not (same number l.nr), refusing l OtherError)
     -- 12. more blocks follow: its bytes join the command, and an R-block without error expects the next number
-    ∷ (more, refusing (record l { nr = not l.nr; held = joined l field }) ErrorFree)
+    ∷ (more, refusing (record l { nr = other_number l.nr; held = joined l field }) ErrorFree)
     ∷ [])
     -- 13. else its bytes join, and the command is to run; no bytes are held any more
-    (record { link = record l { nr = not l.nr; held = [] }; reaction = runs (joined l field) })
+    (record { link = record l { nr = other_number l.nr; held = [] }; reaction = runs (joined l field) })
 
 -- The reaction to what was heard, row by row.
 unfoldable pub card_takes : Link → Result Block Fault → Taken

@@ -4,8 +4,10 @@ pub mod CardTable
 pub mod Cut
 pub mod ReaderFields
 pub mod ReaderTable
+pub mod SequenceNumbers
 pub mod Spoken
 pub mod laws
 pub use Rattle.t1_link.specs.laws.Blocks as BlockLaws
 pub use Rattle.t1_link.specs.laws.CardRows
 pub use Rattle.t1_link.specs.laws.ReaderRows
+pub use Rattle.t1_link.specs.laws.SequenceNumbers as SequenceNumberLaws

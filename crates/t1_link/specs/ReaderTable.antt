@@ -9,15 +9,18 @@ use Rattle.t1_link.specs.declared.reader_end.Phase.{Phase}
 use Rattle.t1_link.specs.declared.reader_end.Phase.TheVariants.{Idle, Busy, Dead}
 use Rattle.t1_link.specs.declared.reader_end.Failure.{Failure}
 use Rattle.t1_link.specs.declared.reader_end.Failure.TheVariants.{LinkLost, BadAnswer}
+use Rattle.t1_link.specs.declared.sequence_number.SequenceNumber.{SequenceNumber}
+use Rattle.t1_link.specs.declared.sequence_number.SequenceNumber.TheVariants.{Zero}
 use Rattle.t1_link.specs.Blocks.{Block, information, receive_ready, resynch_request, resynch_response, ifs_request}
-use Rattle.t1_link.specs.Blocks.{ifs_response, heard, first_of, same, told_as}
+use Rattle.t1_link.specs.Blocks.{ifs_response, heard, first_of, told_as}
+use Rattle.t1_link.specs.SequenceNumbers.{other_number, same}
 
 -- What the reader's end holds: the number of the next I-block that it sends and of the one that it expects, how often it
 -- tried in vain, the information field of its last I-block, the bytes of the command that are not sent yet, the bytes of
 -- the answer that have come, how often it requested RESYNCH, and whether a command is in hand or the link is given up.
 pub record Reader : Type 0 where
-  pub ns : Bool
-  pub nr : Bool
+  pub ns : SequenceNumber
+  pub nr : SequenceNumber
   pub tries : ℕ
   pub field : List ℕ
   pub rest : List ℕ
@@ -28,8 +31,8 @@ pub record Reader : Type 0 where
 -- after power-on and after a RESYNCH that was answered
 abbrev pub fresh_reader : Reader
 fresh_reader = record {
-  ns = false;
-  nr = false;
+  ns = Zero;
+  nr = Zero;
   tries = 0;
   field = [];
   rest = [];
@@ -56,7 +59,7 @@ has_more r = not (length r.rest == 0)
 
 -- its last I-block
 abbrev pub last_block : Reader → Block
-last_block r = information (not r.ns) (has_more r) r.field
+last_block r = information (other_number r.ns) (has_more r) r.field
 
 -- RESYNCH is requested
 abbrev pub requesting : Reader → Turned
@@ -78,15 +81,15 @@ failing r failure = record { reader = record r { phase = Dead }; outcome = fails
 -- the next I-block of these bytes: at most 254, with M where more follow; its number turns, and no try is counted yet
 abbrev pub advancing : Reader → List ℕ → Turned
 advancing r bytes = record {
-  reader = record r { ns = not r.ns; tries = 0; field = take 254 bytes; rest = drop 254 bytes };
+  reader = record r { ns = other_number r.ns; tries = 0; field = take 254 bytes; rest = drop 254 bytes };
   outcome = sends (information r.ns (not (length (drop 254 bytes) == 0)) (take 254 bytes));
 }
 
 -- An R-block came, by which the card asks for the block with this number. The first row that fits counts.
-abbrev pub turns_receive_ready : Reader → Bool → Turned
+abbrev pub turns_receive_ready : Reader → SequenceNumber → Turned
 turns_receive_ready r number = first_of (
     -- 4. the number of its last I-block: that block again, a try
-    (same number (not r.ns), trying r (last_block r))
+    (same number (other_number r.ns), trying r (last_block r))
     -- 5. the other number, and its last I-block has M: the next I-block
     ∷ (has_more r, advancing r r.rest)
     ∷ [])
@@ -102,19 +105,19 @@ turns_answer r more bytes = first_of (
     ∷ (
       more,
       record {
-        reader = record r { nr = not r.nr; tries = 0; answer = bytes };
+        reader = record r { nr = other_number r.nr; tries = 0; answer = bytes };
         outcome =
-            sends (receive_ready (not r.nr) ErrorFree);
+            sends (receive_ready (other_number r.nr) ErrorFree);
       },
     )
     -- 9. an answer has at least 2 bytes
     ∷ (nat_lt (length bytes) 2, failing r BadAnswer)
     ∷ [])
     -- 9. else this is the answer
-    (record { reader = record r { nr = not r.nr; answer = []; phase = Idle }; outcome = gives bytes })
+    (record { reader = record r { nr = other_number r.nr; answer = []; phase = Idle }; outcome = gives bytes })
 
 -- An I-block came.
-abbrev pub turns_information : Reader → Bool → Bool → List ℕ → Turned
+abbrev pub turns_information : Reader → SequenceNumber → Bool → List ℕ → Turned
 turns_information r number more field = first_of (
     -- 7. its last I-block has M, or it isn't the number that is expected: R-block, other error, a try
     (has_more r || not (same number r.nr), asking r OtherError)

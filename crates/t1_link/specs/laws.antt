@@ -3,3 +3,4 @@ pub mod Blocks
 pub mod CardRows
 pub mod ReaderRows
 pub mod ReaderBusy
+pub mod SequenceNumbers

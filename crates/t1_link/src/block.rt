@@ -7,6 +7,7 @@ ghost use Rattle.t1_link.specs.Blocks.{IsSpellable, at_byte, bare, control_byte,
 ghost use Rattle.t1_link.specs.Blocks.{kinds, size_told, told_as};
 ghost use Rattle.t1_link.specs.Spoken.{block_of, spoken};
 
+use crate::sequence_number::SequenceNumber;
 use arrayvec::ArrayVec;
 
 /// The bytes of a block: at most prologue, 254 bytes of information and the check byte.
@@ -95,12 +96,12 @@ impl Fault {
 #[derive(Clone, Copy)]
 pub(crate) enum Block<'a> {
     Information {
-        number: bool,
+        number: SequenceNumber,
         more: bool,
         field: &'a [u8],
     },
     ReceiveReady {
-        number: bool,
+        number: SequenceNumber,
         error: ErrorKind,
     },
     ResynchRequest,
@@ -145,16 +146,16 @@ impl<'a> Block<'a> {
         });
         let ready = |number, error| bare(field, Block::ReceiveReady { number, error });
         match control {
-            INFORMATION_0 => information(false, false),
-            INFORMATION_0_MORE => information(false, true),
-            INFORMATION_1 => information(true, false),
-            INFORMATION_1_MORE => information(true, true),
-            READY_0 => ready(false, ErrorKind::ErrorFree),
-            READY_0_REDUNDANCY => ready(false, ErrorKind::RedundancyError),
-            READY_0_OTHER => ready(false, ErrorKind::OtherError),
-            READY_1 => ready(true, ErrorKind::ErrorFree),
-            READY_1_REDUNDANCY => ready(true, ErrorKind::RedundancyError),
-            READY_1_OTHER => ready(true, ErrorKind::OtherError),
+            INFORMATION_0 => information(SequenceNumber::Zero, false),
+            INFORMATION_0_MORE => information(SequenceNumber::Zero, true),
+            INFORMATION_1 => information(SequenceNumber::One, false),
+            INFORMATION_1_MORE => information(SequenceNumber::One, true),
+            READY_0 => ready(SequenceNumber::Zero, ErrorKind::ErrorFree),
+            READY_0_REDUNDANCY => ready(SequenceNumber::Zero, ErrorKind::RedundancyError),
+            READY_0_OTHER => ready(SequenceNumber::Zero, ErrorKind::OtherError),
+            READY_1 => ready(SequenceNumber::One, ErrorKind::ErrorFree),
+            READY_1_REDUNDANCY => ready(SequenceNumber::One, ErrorKind::RedundancyError),
+            READY_1_OTHER => ready(SequenceNumber::One, ErrorKind::OtherError),
             RESYNCH_REQUEST => bare(field, Block::ResynchRequest),
             RESYNCH_RESPONSE => bare(field, Block::ResynchResponse),
             IFS_REQUEST => Ok(Block::IfsRequest(size_told(field)?)),
@@ -181,9 +182,7 @@ impl<'a> Block<'a> {
     {
         match self {
             Block::Information { number, more, .. } => {
-                INFORMATION_0
-                    + (if number { NUMBER_SENT } else { 0 })
-                    + (if more { MORE } else { 0 })
+                INFORMATION_0 + number.at_bit(NUMBER_SENT) + (if more { MORE } else { 0 })
             }
             Block::ReceiveReady { number, error } => {
                 let ready = match error {
@@ -191,7 +190,7 @@ impl<'a> Block<'a> {
                     ErrorKind::RedundancyError => READY_0_REDUNDANCY,
                     ErrorKind::OtherError => READY_0_OTHER,
                 };
-                ready + (if number { NUMBER_EXPECTED } else { 0 })
+                ready + number.at_bit(NUMBER_EXPECTED)
             }
             Block::ResynchRequest => RESYNCH_REQUEST,
             Block::ResynchResponse => RESYNCH_RESPONSE,

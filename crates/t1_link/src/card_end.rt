@@ -8,6 +8,7 @@ ghost use Rattle.t1_link.specs.Spoken.{block_of};
 
 use crate::block::{Block, BlockBytes, ErrorKind};
 use crate::outgoing::Outgoing;
+use crate::sequence_number::SequenceNumber;
 use arrayvec::ArrayVec;
 use std::marker::Model;
 
@@ -32,8 +33,8 @@ pub enum Action {
 /// The card's end of T=1: what was sent, what is expected, and the bytes on their way.
 #[derive(Drop)]
 pub struct CardEnd {
-    number: bool,
-    expected: bool,
+    number: SequenceNumber,
+    expected: SequenceNumber,
     ifsd: u8,
     has_sent: bool,
     answer: Outgoing,
@@ -59,8 +60,8 @@ impl CardEnd {
         ensures { result ≡ record { link = fresh; waiting = None } }
     {
         CardEnd {
-            number: false,
-            expected: false,
+            number: SequenceNumber::Zero,
+            expected: SequenceNumber::Zero,
             ifsd: FIRST_IFSD,
             has_sent: false,
             answer: Outgoing::new(),
@@ -149,7 +150,7 @@ impl CardEnd {
     /// An I-block came.
     fn take_information(
         &mut self,
-        number: bool,
+        number: SequenceNumber,
         more: bool,
         field: &[u8],
         out: &mut BlockBytes,
@@ -163,7 +164,7 @@ impl CardEnd {
             return self.receive_ready(ErrorKind::OtherError, out);
         }
         keep(&mut self.command, field);
-        self.expected = !self.expected;
+        self.expected = self.expected.other();
         if more {
             return self.receive_ready(ErrorKind::ErrorFree, out);
         }
@@ -173,7 +174,7 @@ impl CardEnd {
     }
 
     /// An R-block came.
-    fn take_receive_ready(&mut self, number: bool, out: &mut BlockBytes) -> Action
+    fn take_receive_ready(&mut self, number: SequenceNumber, out: &mut BlockBytes) -> Action
         requires { self.old.waiting ≡ None }
         ensures state { self.new ≡ after (takes_receive_ready self.old.link number) }
         ensures action { result ≡ action_of (takes_receive_ready self.old.link number).reaction }
@@ -207,7 +208,7 @@ impl CardEnd {
         ensures action { result ≡ Action.Reply }
         ensures block { out.new.items ≡ frame (sent_block self.now.link) }
     {
-        let number = !self.number;
+        let number = self.number.other();
         let more = self.answer.has_more();
         Block::Information {
             number,
@@ -226,7 +227,7 @@ impl CardEnd {
         ensures block { out.new.items ≡ bytes_of (sending self.old.link self.old.link.rest).reaction }
     {
         self.answer.cut(self.ifsd as usize);
-        self.number = !self.number;
+        self.number = self.number.other();
         self.has_sent = true;
         self.send_again(out)
     }

@@ -6,7 +6,9 @@ mod card_end;
 pub mod laws;
 mod outgoing;
 mod reader_end;
+mod sequence_number;
 
 pub use block::{BlockBytes, ErrorKind, Fault};
 pub use card_end::{Action, AnswerBytes, CardEnd};
 pub use reader_end::{Failure, Next, Phase, ReaderEnd};
+pub use sequence_number::SequenceNumber;

@@ -12,6 +12,7 @@ ghost use Rattle.t1_link.specs.Spoken.{block_of, spoken};
 use crate::block::{Block, BlockBytes, ErrorKind, FIELD_LIMIT, Fault};
 use crate::card_end::AnswerBytes;
 use crate::outgoing::Outgoing;
+use crate::sequence_number::SequenceNumber;
 use arrayvec::ArrayVec;
 use std::marker::Model;
 use std::mem;
@@ -61,8 +62,8 @@ pub enum Next {
 /// The reader's end of T=1: what was sent, what is expected, and the bytes on their way.
 #[derive(Drop)]
 pub struct ReaderEnd {
-    number: bool,
-    expected: bool,
+    number: SequenceNumber,
+    expected: SequenceNumber,
     tries: u8,
     resynchs: u8,
     command: Outgoing,
@@ -88,8 +89,8 @@ impl ReaderEnd {
         ensures { result ≡ fresh_reader }
     {
         ReaderEnd {
-            number: false,
-            expected: false,
+            number: SequenceNumber::Zero,
+            expected: SequenceNumber::Zero,
             tries: 0,
             resynchs: 0,
             command: Outgoing::new(),
@@ -196,7 +197,7 @@ impl ReaderEnd {
     }
 
     /// An R-block came.
-    fn take_receive_ready(&mut self, number: bool) -> Next
+    fn take_receive_ready(&mut self, number: SequenceNumber) -> Next
         requires { self.old.resynchs ≡ 0 }
         ensures state { self.new ≡ (turns_receive_ready self.old number).reader }
         ensures next { result ≡ next_of (turns_receive_ready self.old number).outcome }
@@ -211,7 +212,7 @@ impl ReaderEnd {
     }
 
     /// An I-block came.
-    fn take_information(&mut self, number: bool, more: bool, field: &[u8]) -> Next
+    fn take_information(&mut self, number: SequenceNumber, more: bool, field: &[u8]) -> Next
         requires { self.old.resynchs ≡ 0 }
         ensures state { self.new ≡ (turns_information self.old number more field.now).reader }
         ensures next { result ≡ next_of (turns_information self.old number more field.now).outcome }
@@ -232,7 +233,7 @@ impl ReaderEnd {
             return self.fail(Failure::BadAnswer);
         }
         let _ = self.answer.try_extend_from_slice(field);
-        self.expected = !self.expected;
+        self.expected = self.expected.other();
         if more {
             self.tries = 0;
             return sent(Block::ReceiveReady {
@@ -250,7 +251,7 @@ impl ReaderEnd {
         ensures next { result ≡ next_of (advancing self.old self.old.rest).outcome }
     {
         self.command.cut(FIELD_LIMIT);
-        self.number = !self.number;
+        self.number = self.number.other();
         self.tries = 0;
         self.last_block()
     }
@@ -259,7 +260,7 @@ impl ReaderEnd {
     fn last_block(&self) -> Next
         ensures { result ≡ next_of (sends (last_block self.now)) }
     {
-        let number = !self.number;
+        let number = self.number.other();
         let more = self.command.has_more();
         sent(Block::Information {
             number,

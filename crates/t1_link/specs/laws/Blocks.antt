@@ -14,28 +14,11 @@ use Rattle.std.proofs.Math.Seq.{take-append_seam}
 use Rattle.t1_link.specs.declared.block.ErrorKind.TheVariants.{ErrorFree, RedundancyError, OtherError}
 use Rattle.t1_link.specs.declared.block.Fault.{Fault}
 use Rattle.t1_link.specs.declared.block.Fault.TheVariants.{WrongLength, WrongCheck, UnknownBlock}
-use Rattle.t1_link.specs.Blocks.{Block, same, information, receive_ready, resynch_request, resynch_response}
+use Rattle.t1_link.specs.declared.sequence_number.SequenceNumber.TheVariants.{Zero, One}
+use Rattle.t1_link.specs.Blocks.{Block, information, receive_ready, resynch_request, resynch_response}
 use Rattle.t1_link.specs.Blocks.{ifs_request, ifs_response, field_of, control_byte}
 use Rattle.t1_link.specs.Blocks.{exclusive_or, front, frame, bare, size_told, kinds, at_byte, has_wrong_length, heard}
 use Rattle.t1_link.specs.Blocks.{IsSpellable}
-
--- a number is the same as itself
-pub same-refl : (a : Bool) → same a a ≡ true
-same-refl true = refl
-same-refl false = refl
-
--- and is not the same as the other one
-pub same-not : (a : Bool) → same a (not a) ≡ false
-same-not true = refl
-same-not false = refl
-
-pub not-same : (a : Bool) → same (not a) a ≡ false
-not-same true = refl
-not-same false = refl
-
-pub not-not : (a : Bool) → not (not a) ≡ a
-not-not true = refl
-not-not false = refl
 
 -- bytes with no fault but in their kind
 pub heard-no_fault : (bytes : List ℕ) → has_wrong_length bytes ≡ false → (exclusive_or bytes == 0) ≡ true
@@ -113,16 +96,16 @@ size_told-one size low high = simp (le-leb 1 size low, le-leb size 254 high) ref
 
 -- a block that has bytes is read again as itself
 pub heard-frame : (b : Block) → IsSpellable b → heard (frame b) ≡ Ok b
-heard-frame (information false false field) h = heard-kind (information false false field) h
-heard-frame (information false true field) h = heard-kind (information false true field) h
-heard-frame (information true false field) h = heard-kind (information true false field) h
-heard-frame (information true true field) h = heard-kind (information true true field) h
-heard-frame (receive_ready false ErrorFree) h = heard-kind (receive_ready false ErrorFree) (omega arith)
-heard-frame (receive_ready false RedundancyError) h = heard-kind (receive_ready false RedundancyError) (omega arith)
-heard-frame (receive_ready false OtherError) h = heard-kind (receive_ready false OtherError) (omega arith)
-heard-frame (receive_ready true ErrorFree) h = heard-kind (receive_ready true ErrorFree) (omega arith)
-heard-frame (receive_ready true RedundancyError) h = heard-kind (receive_ready true RedundancyError) (omega arith)
-heard-frame (receive_ready true OtherError) h = heard-kind (receive_ready true OtherError) (omega arith)
+heard-frame (information Zero false field) h = heard-kind (information Zero false field) h
+heard-frame (information Zero true field) h = heard-kind (information Zero true field) h
+heard-frame (information One false field) h = heard-kind (information One false field) h
+heard-frame (information One true field) h = heard-kind (information One true field) h
+heard-frame (receive_ready Zero ErrorFree) h = heard-kind (receive_ready Zero ErrorFree) (omega arith)
+heard-frame (receive_ready Zero RedundancyError) h = heard-kind (receive_ready Zero RedundancyError) (omega arith)
+heard-frame (receive_ready Zero OtherError) h = heard-kind (receive_ready Zero OtherError) (omega arith)
+heard-frame (receive_ready One ErrorFree) h = heard-kind (receive_ready One ErrorFree) (omega arith)
+heard-frame (receive_ready One RedundancyError) h = heard-kind (receive_ready One RedundancyError) (omega arith)
+heard-frame (receive_ready One OtherError) h = heard-kind (receive_ready One OtherError) (omega arith)
 heard-frame resynch_request h = heard-kind resynch_request (omega arith)
 heard-frame resynch_response h = heard-kind resynch_response (omega arith)
 heard-frame (ifs_request size) h = heard-kind (ifs_request size) (omega arith)
@@ -202,34 +185,34 @@ all_read : (field : List ℕ) → length field ≤ 254 → AllRead field (kinds 
 all_read field h =
     let bare_one = λ (control : ℕ) (a : Block) (r : Reads control [] a). λ (b : Block) (e : bare field a ≡ Some b).
     reads_bare control field a b r e in (
-      λ b e. reads_some 0x00 field (information false false field) b
+      λ b e. reads_some 0x00 field (information Zero false field) b
           (record { control_is = refl; field_is = refl; spellable = h }) e,
       (
-        λ b e. reads_some 0x20 field (information false true field) b
+        λ b e. reads_some 0x20 field (information Zero true field) b
             (record { control_is = refl; field_is = refl; spellable = h }) e,
         (
-          λ b e. reads_some 0x40 field (information true false field) b
+          λ b e. reads_some 0x40 field (information One false field) b
               (record { control_is = refl; field_is = refl; spellable = h }) e,
           (
-            λ b e. reads_some 0x60 field (information true true field) b
+            λ b e. reads_some 0x60 field (information One true field) b
                 (record { control_is = refl; field_is = refl; spellable = h }) e,
             (
-              bare_one 0x80 (receive_ready false ErrorFree)
+              bare_one 0x80 (receive_ready Zero ErrorFree)
                   (record { control_is = refl; field_is = refl; spellable = tt }),
               (
-                bare_one 0x81 (receive_ready false RedundancyError)
+                bare_one 0x81 (receive_ready Zero RedundancyError)
                     (record { control_is = refl; field_is = refl; spellable = tt }),
                 (
-                  bare_one 0x82 (receive_ready false OtherError)
+                  bare_one 0x82 (receive_ready Zero OtherError)
                       (record { control_is = refl; field_is = refl; spellable = tt }),
                   (
-                    bare_one 0x90 (receive_ready true ErrorFree)
+                    bare_one 0x90 (receive_ready One ErrorFree)
                         (record { control_is = refl; field_is = refl; spellable = tt }),
                     (
-                      bare_one 0x91 (receive_ready true RedundancyError)
+                      bare_one 0x91 (receive_ready One RedundancyError)
                           (record { control_is = refl; field_is = refl; spellable = tt }),
                       (
-                        bare_one 0x92 (receive_ready true OtherError)
+                        bare_one 0x92 (receive_ready One OtherError)
                             (record { control_is = refl; field_is = refl; spellable = tt }),
                         (
                           bare_one 0xC0 resynch_request (record { control_is = refl; field_is = refl; spellable = tt }),

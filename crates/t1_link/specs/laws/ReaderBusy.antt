@@ -8,8 +8,10 @@ use Rattle.t1_link.specs.declared.block.Fault.{Fault}
 use Rattle.t1_link.specs.declared.reader_end.Phase.{Phase}
 use Rattle.t1_link.specs.declared.reader_end.Phase.TheVariants.{Idle, Busy, Dead}
 use Rattle.t1_link.specs.declared.reader_end.Failure.TheVariants.{BadAnswer, LinkLost}
+use Rattle.t1_link.specs.declared.sequence_number.SequenceNumber.{SequenceNumber}
 use Rattle.t1_link.specs.Blocks.{Block, information, receive_ready, resynch_request, resynch_response, ifs_request}
-use Rattle.t1_link.specs.Blocks.{ifs_response, same, told_as}
+use Rattle.t1_link.specs.Blocks.{ifs_response, told_as}
+use Rattle.t1_link.specs.SequenceNumbers.{other_number, same}
 use Rattle.t1_link.specs.declared.reader_end.Next.{Next}
 use Rattle.t1_link.specs.ReaderFields.{IsSend, next_of}
 use Rattle.t1_link.specs.ReaderTable.{Outcome, Reader, Turned, advancing, asking, failing, fails, gives, has_more}
@@ -42,8 +44,8 @@ module _ (r : Reader) (busy : r.phase ≡ Busy) where
   agrees-asking : (error : ErrorKind) → Agrees (asking r error)
   agrees-asking error = agrees-trying (receive_ready r.nr error)
 
-  agrees-receive_ready : (number : Bool) → Agrees (turns_receive_ready r number)
-  agrees-receive_ready number = agrees-if (same number (not r.ns)) (trying r (last_block r))
+  agrees-receive_ready : (number : SequenceNumber) → Agrees (turns_receive_ready r number)
+  agrees-receive_ready number = agrees-if (same number (other_number r.ns)) (trying r (last_block r))
       (if has_more r then advancing r r.rest else asking r OtherError)
       (agrees-trying (last_block r))
       (agrees-if (has_more r) (advancing r r.rest) (asking r OtherError) in_hand (agrees-asking OtherError))
@@ -51,12 +53,12 @@ module _ (r : Reader) (busy : r.phase ≡ Busy) where
   agrees-answer : (more : Bool) (bytes : List ℕ) → Agrees (turns_answer r more bytes)
   agrees-answer more bytes =
       let joined : Turned = record {
-        reader = record r { nr = not r.nr; tries = 0; answer = bytes };
+        reader = record r { nr = other_number r.nr; tries = 0; answer = bytes };
         outcome =
-            sends (receive_ready (not r.nr) ErrorFree);
+            sends (receive_ready (other_number r.nr) ErrorFree);
       } in
       let done : Turned = record {
-        reader = record r { nr = not r.nr; answer = []; phase = Idle };
+        reader = record r { nr = other_number r.nr; answer = []; phase = Idle };
         outcome =
             gives bytes;
       } in
@@ -64,7 +66,8 @@ module _ (r : Reader) (busy : r.phase ≡ Busy) where
       agrees-if (nat_lt 258 (length bytes)) (failing r BadAnswer) (if more then joined else whole) refl
       (agrees-if more joined whole in_hand (agrees-if (nat_lt (length bytes) 2) (failing r BadAnswer) done refl refl))
 
-  agrees-information : (number more : Bool) (field : List ℕ) → Agrees (turns_information r number more field)
+  agrees-information : (number : SequenceNumber) (more : Bool) (field : List ℕ)
+      → Agrees (turns_information r number more field)
   agrees-information number more field =
       agrees-if (has_more r || not (same number r.nr)) (asking r OtherError) (turns_answer r more (r.answer ++ field))
       (agrees-asking OtherError) (agrees-answer more (r.answer ++ field))

@@ -8,9 +8,11 @@ use Rattle.t1_link.specs.declared.block.ErrorKind.TheVariants.{ErrorFree, OtherE
 use Rattle.t1_link.specs.declared.block.Fault.{Fault}
 use Rattle.t1_link.specs.declared.reader_end.Phase.TheVariants.{Idle, Busy, Dead}
 use Rattle.t1_link.specs.declared.reader_end.Failure.TheVariants.{LinkLost, BadAnswer}
+use Rattle.t1_link.specs.declared.sequence_number.SequenceNumber.{SequenceNumber}
 use Rattle.t1_link.specs.Blocks.{Block, information, receive_ready, resynch_request, resynch_response, ifs_request}
-use Rattle.t1_link.specs.Blocks.{ifs_response, same, told_as}
-use Rattle.t1_link.specs.laws.Blocks.{not-not}
+use Rattle.t1_link.specs.Blocks.{ifs_response, told_as}
+use Rattle.t1_link.specs.SequenceNumbers.{other_number, same}
+use Rattle.t1_link.specs.laws.SequenceNumbers.{other-other}
 use Rattle.t1_link.specs.ReaderTable.{Reader, advancing, asking, failing, fails, fresh_reader, gives, has_more}
 use Rattle.t1_link.specs.ReaderTable.{last_block, reader_sends, reader_takes}
 use Rattle.t1_link.specs.ReaderTable.{reader_times_out, requesting, requesting_again, sends, trying, turns_answer}
@@ -29,7 +31,7 @@ reader_sends-dead r command dead = simp dead refl
 pub last_block-advancing : (r : Reader) (bytes : List ℕ)
     → (advancing r bytes).outcome ≡ sends (last_block (advancing r bytes).reader)
 last_block-advancing r bytes = λ i. sends
-    (information (sym (not-not r.ns) i) (not (length (drop 254 bytes) == 0)) (take 254 bytes))
+    (information (sym (other-other r.ns) i) (not (length (drop 254 bytes) == 0)) (take 254 bytes))
 
 -- a try
 pub trying-more : (r : Reader) (b : Block) → r.tries < 3
@@ -70,39 +72,40 @@ unfolding turns_block
 turns_block-ifs_response r size = refl
 
 -- row 4
-pub turns_block-again : (r : Reader) (number : Bool) (error : ErrorKind) → same number (not r.ns) ≡ true
+pub turns_block-again : (r : Reader) (number : SequenceNumber) (error : ErrorKind)
+    → same number (other_number r.ns) ≡ true
     → turns_block r (Ok (receive_ready number error)) ≡ trying r (last_block r)
 unfolding turns_block
 turns_block-again r number error asked = simp asked refl
 
 -- row 5
-pub turns_block-next : (r : Reader) (number : Bool) (error : ErrorKind) → same number (not r.ns) ≡ false
-    → has_more r ≡ true
+pub turns_block-next : (r : Reader) (number : SequenceNumber) (error : ErrorKind)
+    → same number (other_number r.ns) ≡ false → has_more r ≡ true
     → turns_block r (Ok (receive_ready number error)) ≡ advancing r r.rest
 unfolding turns_block
 turns_block-next r number error other more = simp (other, more) refl
 
 -- row 6
-pub turns_block-nothing : (r : Reader) (number : Bool) (error : ErrorKind) → same number (not r.ns) ≡ false
-    → has_more r ≡ false
+pub turns_block-nothing : (r : Reader) (number : SequenceNumber) (error : ErrorKind)
+    → same number (other_number r.ns) ≡ false → has_more r ≡ false
     → turns_block r (Ok (receive_ready number error)) ≡ asking r OtherError
 unfolding turns_block
 turns_block-nothing r number error other last = simp (other, last) refl
 
 -- row 7
-pub turns_block-interrupted : (r : Reader) (number more : Bool) (field : List ℕ) → has_more r ≡ true
+pub turns_block-interrupted : (r : Reader) (number : SequenceNumber) (more : Bool) (field : List ℕ) → has_more r ≡ true
     → turns_block r (Ok (information number more field)) ≡ asking r OtherError
 unfolding turns_block
 turns_block-interrupted r number more field unsent = simp unsent refl
 
-pub turns_block-repeated : (r : Reader) (number more : Bool) (field : List ℕ) → has_more r ≡ false
+pub turns_block-repeated : (r : Reader) (number : SequenceNumber) (more : Bool) (field : List ℕ) → has_more r ≡ false
     → same number r.nr ≡ false
     → turns_block r (Ok (information number more field)) ≡ asking r OtherError
 unfolding turns_block
 turns_block-repeated r number more field sent other = simp (sent, other) refl
 
 -- rows 8 and 9
-pub turns_block-joins : (r : Reader) (number more : Bool) (field : List ℕ) → has_more r ≡ false
+pub turns_block-joins : (r : Reader) (number : SequenceNumber) (more : Bool) (field : List ℕ) → has_more r ≡ false
     → same number r.nr ≡ true
     → turns_block r (Ok (information number more field)) ≡ turns_answer r more (r.answer ++ field)
 unfolding turns_block
@@ -115,9 +118,9 @@ turns_answer-long r more bytes long = simp (lt-ltb 258 (length bytes) long) refl
 -- row 8
 pub turns_answer-more : (r : Reader) (bytes : List ℕ) → length bytes ≤ 258
     → turns_answer r true bytes ≡ record {
-      reader = record r { nr = not r.nr; tries = 0; answer = bytes };
+      reader = record r { nr = other_number r.nr; tries = 0; answer = bytes };
       outcome =
-          sends (receive_ready (not r.nr) ErrorFree);
+          sends (receive_ready (other_number r.nr) ErrorFree);
     }
 turns_answer-more r bytes fits = simp (le-ltb 258 (length bytes) fits) refl
 
@@ -129,7 +132,7 @@ turns_answer-short r bytes short = let fits : length bytes ≤ 258 = omega arith
 
 pub turns_answer-done : (r : Reader) (bytes : List ℕ) → 2 ≤ length bytes → length bytes ≤ 258
     → turns_answer r false bytes ≡ record
-    { reader = record r { nr = not r.nr; answer = []; phase = Idle }; outcome = gives bytes }
+    { reader = record r { nr = other_number r.nr; answer = []; phase = Idle }; outcome = gives bytes }
 turns_answer-done r bytes long fits = simp (le-ltb 258 (length bytes) fits, le-ltb (length bytes) 2 long) refl
 
 -- after a request for RESYNCH

@@ -1,4 +1,4 @@
-use Rattle.std.proofs.Common.{◌≡◌, ◌≤◌, ◌++◌, ℕ, List, [], OnOk, length, take, length-take-le, arith, refl, subst, rules}
+use Rattle.std.proofs.Common.{◌≡◌, ◌≤◌, ◌++◌, [], OnOk, length, take, length-take-le, arith, refl, subst, rules}
 use Rattle.std.specs.Io.BufRead.{FillKeeps}
 use Rattle.std.proofs.KnownBytes.{Consumes-nil, Consumes-kept}
 use Rattle.card_bench.proofs.PartsTaken.{taken-of, taken-fed}

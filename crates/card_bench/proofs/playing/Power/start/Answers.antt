@@ -1,6 +1,6 @@
-use Rattle.std.specs.Prelude.{◌≡◌, false, true}
+use Rattle.std.specs.Prelude.{◌≡◌, false}
 use Rattle.std.proofs.Common.{rules, subst, sym}
-use Rattle.nvm_board.specs.Facts.{Facts, IsWornOut}
+use Rattle.nvm_board.specs.Facts.{IsWornOut}
 use Rattle.card_bench.proofs.PowerTurns.{starts, stays_mute, ends_dark, ends_mute}
 use Rattle.card_bench.specs.declared.playing.PowerOn.{PowerOn}
 use Rattle.card_bench.specs.declared.playing.Turn.TheVariants.{On}

@@ -1,11 +1,11 @@
 use Rattle.undo_journal.specs.Spending.{KeepsBoard}
-use Rattle.std.specs.Prelude.{◌≡◌, ◌⊎◌, OnOk, ◌≢◌, ℕ, List, [], Option, Some, unwrap_or}
+use Rattle.std.specs.Prelude.{◌≡◌, ◌⊎◌, ◌≢◌, ℕ, List, [], Option, Some, unwrap_or}
 use Rattle.std.proofs.Common.{rules, ap, sym, refl, subst, ◌∙◌}
 use Rattle.card_core.specs.declared.card_state.CardState.TheVariants.{Working, Dark}
 use Rattle.apdu_core.specs.Asked.{asked}
 use Rattle.t1_link.specs.CardTable.{answers, bytes_of, command_of, link_step, CardLink, Link, Reaction, replies, runs}
 use Rattle.card_core.specs.Comparing.{comparisons, ComparesAsked}
-use Rattle.card_core.specs.Running.{FailsIn, Steps, card_found}
+use Rattle.card_core.specs.Running.{card_found}
 use Rattle.card_core.specs.laws.CompareLaws.{asked-none}
 use Rattle.card_bench.specs.CardBlocks.{BlockChangesNothing, BlockCompares, FailsAt, IsBlockStage, IsCutAt, Powered, Replies}
 use Rattle.card_bench.proofs.BlockRuns.{cut-at, of-run, run-replies}
