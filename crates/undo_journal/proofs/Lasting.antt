@@ -129,13 +129,13 @@ module _ (m : List ℕ) (a w : ℕ) (shut : gate m ≡ 0) (place : IsDataAddress
       ∙ ap (λ (l : List ℕ). slice_set l a w) (sym (committed-shut m shut))
 
 -- A store that works, with no transaction: its value from within, and as its caller has it.
-module _ (inside m : Memory) (seen : inside ≡ m) (held : IsTrueToBoard inside) (works : inside.failed ≡ None)
+module _ (inside m : Memory) (seen : inside ≡ m) (held : IsTrueToBoard inside) (works : m.failed ≡ None)
     (idle : IsIdle m) where
   pub unused-within : inside.used ≡ 0
   unused-within = ap (λ (x : Memory). x.used) seen ∙ idle
 
   shut-within : gate inside.facts.words ≡ 0
-  shut-within = (held.works works).counts ∙ unused-within
+  shut-within = (held.works (ap (λ (x : Memory). x.failed) seen ∙ works)).counts ∙ unused-within
 
   words-within : inside.facts.words ≡ m.facts.words
   words-within = ap (λ (x : Memory). x.facts.words) seen

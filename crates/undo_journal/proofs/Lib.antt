@@ -4,3 +4,4 @@ pub mod Restore
 pub mod Standing
 pub mod Lasting
 pub mod Telling
+pub mod Noted

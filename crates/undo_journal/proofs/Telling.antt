@@ -1,19 +1,21 @@
 -- What an answer tells of a board and of a store, at the exits of their calls.
-use Rattle.std.specs.Prelude.{Some, None, Result, Ok, Err, IsErrAnd}
-use Rattle.std.proofs.Common.{◌≡◌, ◌+◌, ℕ, true, false, List, refl, sym, ◌∙◌, ap, subst, inl}
+use Rattle.std.specs.Prelude.{Result, Ok, Err, OnOk, OnErr, IsErrAnd}
+use Rattle.std.proofs.Common.{◌≡◌, ◌⊎◌, ◌+◌, ℕ, true, false, refl, sym, ◌∙◌, ap, subst, inl, arith}
 use Rattle.std.proofs.Math.Logic.{⊎_elim, ⊎_map}
 use Rattle.nvm_board.specs.declared.board.DeviceErr.{DeviceErr}
 use Rattle.nvm_board.specs.declared.board.DeviceErr.TheVariants as device
 use Rattle.nvm_board.specs.Facts.{Facts, Answered, Steady, GoesDark}
-use Rattle.undo_journal.specs.declared.error.StoreErr.{StoreErr}
 use Rattle.undo_journal.specs.declared.error.StoreErr.TheVariants.{PowerLost}
-use Rattle.undo_journal.specs.Undo.{gate, undo, data_words, IsSound}
 use Rattle.undo_journal.specs.declared.error.OpenFault.{OpenFault}
-use Rattle.undo_journal.specs.Memory.{Memory, IsHeld, IsTrueToBoard, Reports, FailsBy, OpensNot, committed, current}
+use Rattle.undo_journal.specs.Memory.{Memory, Reports, FailsBy, OpensNot}
 use Rattle.undo_journal.specs.Memory.{store_err_of, open_fault_of}
 use Rattle.undo_journal.specs.laws.Memory.{reports_same}
-use Rattle.undo_journal.specs.Spending.{KeepsBoard}
-use Rattle.undo_journal.specs.Calls.{OnlyReads}
+use Rattle.undo_journal.specs.Spending.{WritesAtMost}
+
+-- what follows where a call went well
+pub ok_then : {T E : Type 0} (r : Result T E) (P Q : Type 0) → OnOk r P → (P → Q) → OnOk r Q
+ok_then (Ok v) P Q h f = f h
+ok_then (Err e) P Q h f = tt
 
 -- an error tells the same of the board, whatever the answer would have been without it
 pub answered_err : {S T : Type 0} (old new : Facts) (e : DeviceErr) (result : Result T DeviceErr)
@@ -63,15 +65,24 @@ answered_after a b c result first told = record {
   };
 }
 
+-- what a write costs
+pub write_costs : {T : Type 0} (old new : Facts) (result : Result T DeviceErr) → OnOk result (new.writes ≡ old.writes + 1)
+    → OnErr result ((new.writes ≡ old.writes) ⊎ (new.writes ≡ old.writes + 1)) → new.compares ≡ old.compares
+    → new.matches ≡ old.matches → WritesAtMost 1 old new
+write_costs old new (Ok x) ok err compares matches = record
+    { writes = omega (arith, ok); compares = compares; matches = matches }
+write_costs old new (Err e) ok err compares matches = record
+    { writes = omega (arith, err); compares = compares; matches = matches }
+
 -- what an error tells of a lit board
-fails_by : {T : Type 0} (e : DeviceErr) (old new : Facts) → old.dark ≡ false → Answered {T = T} old new (Err e)
+pub fails_by : {T : Type 0} (e : DeviceErr) (old new : Facts) → old.dark ≡ false → Answered {T = T} old new (Err e)
     → FailsBy (store_err_of e) old new
 fails_by device.PowerLost old new lit told =
     ⊎_elim (λ dark. dark) (λ off. let dark : old.dark ≡ true = off.0 in absurd cc) (told.lost refl)
 fails_by device.Fault old new lit told = told.fault refl
 
 -- and of one that has lost power
-is_dark_by : {T : Type 0} (e : DeviceErr) (old new : Facts) → store_err_of e ≡ PowerLost
+pub is_dark_by : {T : Type 0} (e : DeviceErr) (old new : Facts) → store_err_of e ≡ PowerLost
     → Answered {T = T} old new (Err e) → new.dark ≡ true
 is_dark_by device.PowerLost old new is told =
     ⊎_elim (λ dark. dark.dark) (λ off. ap (λ (f : Facts). f.dark) off.1 ∙ off.0) (told.lost refl)
@@ -92,72 +103,3 @@ reports_unused inside m used seen =
     let family : Memory → Type 0 = λ x. Reports x (record inside { used = used }) in
     subst family seen
     (record { stuck = same.stuck; works = same.works; fails = same.fails; sound = same.sound })
-
--- a store that works
-pub true-held : (m : Memory) → m.failed ≡ None → IsHeld m.facts m.used → IsTrueToBoard m
-true-held m works held = record {
-  works = λ h. held;
-  lost = λ h. let some : m.failed ≡ Some PowerLost = h in absurd cc;
-}
-
--- A store that works, its value from within and as its caller has it, before a call and after it.
-module _ (inside m new : Memory) (seen : inside ≡ m) (held : IsTrueToBoard inside) (works : inside.failed ≡ None) where
-  -- the call went well
-  pub reports_ok : new.failed ≡ None → Steady inside.facts new.facts → IsSound new.facts.words → Reports m new
-  reports_ok fine light sound =
-      let family : Memory → Type 0 = λ x. Reports x new in
-      subst family seen (record {
-        stuck = λ e h. let some : inside.failed ≡ Some e = h in absurd cc;
-        works = λ h. (
-          works,
-          record { dark = light.lit ∙ sym light.was_lit; faults = light.faults; cuts = light.cuts; due = light.due },
-        );
-        fails = λ e none h. let some : new.failed ≡ Some e = h in absurd cc;
-        sound = λ h. sound;
-      })
-
-  -- the device did not carry it out
-  pub reports_err : {T : Type 0} (e : DeviceErr) (x : StoreErr) → new.failed ≡ Some x → x ≡ store_err_of e
-      → Answered {T = T} inside.facts new.facts (Err e) → IsSound new.facts.words → Reports m new
-  reports_err e x failed is told sound =
-      let family : Memory → Type 0 = λ l. Reports l new in
-      subst family seen (record {
-        stuck = λ y h. let some : inside.failed ≡ Some y = h in absurd cc;
-        works = λ h. let none : new.failed ≡ None = h in absurd cc;
-        fails = λ y none h.
-            let same : store_err_of e ≡ y = cc in
-            let by : StoreErr → Type 0 = λ z. FailsBy z inside.facts new.facts in
-            subst by same (fails_by e inside.facts new.facts (held.works works).lit told);
-        sound = λ h. sound;
-      })
-
-  -- what reads leave
-  pub reads_board : KeepsBoard inside.facts new.facts → new.used ≡ inside.used → Reports m new → OnlyReads m new
-  reads_board kept used reports = record {
-    board = (let family : Memory → Type 0 = λ x. KeepsBoard x.facts new.facts in subst family seen kept);
-    keeps = record {
-      committed_words = ap (λ (l : List ℕ). data_words (undo l)) kept.words ∙ ap committed seen;
-      current_words = ap data_words kept.words ∙ ap current seen;
-      used = used ∙ ap (λ (x : Memory). x.used) seen;
-    };
-    reports = reports;
-  }
-
-  -- the words stay, and the board stays lit
-  pub true-kept : new.failed ≡ None → new.facts.words ≡ inside.facts.words → new.used ≡ inside.used
-      → new.facts.dark ≡ false → IsTrueToBoard new
-  true-kept fine words used lit =
-      let before = held.works works in
-      true-held new fine (record {
-        sound = (let family : List ℕ → Type 0 = λ l. IsSound l in subst family (sym words) before.sound);
-        counts = ap gate words ∙ before.counts ∙ sym used;
-        lit = lit;
-      })
-
-  -- the device did not carry the call out
-  pub true-failed : {T : Type 0} (e : DeviceErr) (x : StoreErr) → new.failed ≡ Some x → x ≡ store_err_of e
-      → Answered {T = T} inside.facts new.facts (Err e) → IsTrueToBoard new
-  true-failed e x failed is told = record {
-    works = λ h. let none : new.failed ≡ None = h in absurd cc;
-    lost = λ h. let lost : store_err_of e ≡ PowerLost = cc in is_dark_by e inside.facts new.facts lost told;
-  }

@@ -1,4 +1,4 @@
--- What calls in a row leave of a store, and of a transaction, as it was, and what they leave of it with what they tell.
+-- What calls leave of a store, or of a transaction: what stays as it was, and what they tell.
 use Rattle.std.specs.Prelude.{◌≡◌, ◌+◌, ◌*◌, ◌≤◌, ℕ, Option, Some, None}
 use Rattle.undo_journal.specs.declared.error.StoreErr.{StoreErr}
 use Rattle.undo_journal.specs.declared.txn.Txn.{Txn}
@@ -30,20 +30,20 @@ abbrev pub UnlessFailed : Option StoreErr → Type 0 → Type 0
 UnlessFailed None fact = fact
 UnlessFailed (Some e) fact = Unit {0}
 
--- Calls that only read a ready store: it stays ready, or it has failed as they tell.
+-- Calls that only read, with no transaction open: the store is ready, or it has failed as they tell.
 pub record Reads (old new : Memory) (told : Option StoreErr) : Type 0 where
   pub only : OnlyReads old new
   pub ready : UnlessFailed told (IsReady new)
   pub tells : new.failed ≡ told
 
--- Calls that may write to a ready store, and end with no transaction: it is ready again, or it has failed as they tell.
-pub record Ends (old new : Memory) (told : Option StoreErr) : Type 0 where
+-- Calls that may write, and leave no transaction open: afterwards the store is ready, or it has failed as they tell.
+pub record Leaves (old new : Memory) (told : Option StoreErr) : Type 0 where
   pub reports : Reports old new
   pub idle : IsIdle new
   pub ready : UnlessFailed told (IsReady new)
   pub tells : new.failed ≡ told
 
--- and make at most n device writes, and no comparison
+-- The same, with at most n device writes, and no comparison.
 pub record Changes (n : ℕ) (old new : Memory) (told : Option StoreErr) : Type 0 where
   pub reports : Reports old new
   pub idle : IsIdle new
@@ -57,7 +57,7 @@ pub record ReadsIn {B : Type 0} (old new : Txn B) (told : Option StoreErr) : Typ
   pub ready : UnlessFailed told (IsOpen (memory_of new))
   pub tells : (memory_of new).failed ≡ told
 
--- Calls in a transaction that make at most n sets.
+-- Calls that make at most n sets in a transaction, and nothing else but reads: the same of its store.
 pub record SetsIn {B : Type 0} (n : ℕ) (old new : Txn B) (told : Option StoreErr) : Type 0 where
   pub sets : Sets n old new
   pub ready : UnlessFailed told (IsOpen (memory_of new))

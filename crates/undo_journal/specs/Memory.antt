@@ -1,5 +1,6 @@
 -- What contracts know of a store: its value, the two lists of words that it is, and how its calls report.
-use Rattle.std.specs.Prelude.{◌≡◌, ◌⊎◌, ◌-◌, ℕ, true, false, List, length, Option, Some, None}
+use Rattle.std.specs.Prelude.{◌≡◌, ◌⊎◌, ◌-◌, ℕ, true, false, List, length, Option, Some, None, Result}
+use Rattle.std.specs.Result.{result_map_both}
 use Rattle.nvm_board.specs.declared.board.TheConstants.{WORDS}
 use Rattle.nvm_board.specs.declared.board.DeviceErr.{DeviceErr}
 use Rattle.nvm_board.specs.declared.board.DeviceErr.TheVariants as device
@@ -70,6 +71,10 @@ pub record IsTrueToBoard (m : Memory) : Type 0 where
 abbrev pub store_err_of : DeviceErr → StoreErr
 store_err_of device.PowerLost = PowerLost
 store_err_of device.Fault = Fault
+
+-- the store's answer for a device's: the same, with its word for the error
+abbrev pub store_result_of : {T : Type 0} → Result T DeviceErr → Result T StoreErr
+store_result_of answer = result_map_both (λ v. v) store_err_of answer
 
 -- the word of an open that fails for a device's error
 abbrev pub open_fault_of : DeviceErr → OpenFault

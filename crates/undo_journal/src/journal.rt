@@ -9,21 +9,22 @@ ghost use Rattle.undo_journal.specs.Undo.{gate, pair_at, undo, data_words, IsOut
 ghost use Rattle.undo_journal.specs.Undo.{IsBadJournal};
 ghost use Rattle.undo_journal.specs.Spending.{WritesAtMost, KeepsBoard, rollback_writes};
 
+use crate::address::Address;
 use crate::layout::{GATE, JOURNAL, JOURNAL_END, PAIRS};
-use nvm_board::{Board, DeviceErr, PAGE_WORDS, WORDS};
+use nvm_board::{Board, DeviceErr, WORDS};
 
 /// Writes one word.
-pub(crate) fn write_word<B: Board>(board: &mut B, at: u16, word: u32) -> Result<(), DeviceErr>
-    requires { at < WORDS }
-    ensures done { OnOk result ((B.facts board.new).words ≡ slice_set (B.facts board.old).words at word) }
+pub(crate) fn write_word<B: Board>(board: &mut B, at: Address, word: u32) -> Result<(), DeviceErr>
+    requires { at.number < WORDS }
+    ensures done { OnOk result ((B.facts board.new).words ≡ slice_set (B.facts board.old).words at.number word) }
     ensures torn { ((B.facts board.new).words ≡ (B.facts board.old).words)
-        ⊎ ((B.facts board.new).words ≡ slice_set (B.facts board.old).words at word) }
+        ⊎ ((B.facts board.new).words ≡ slice_set (B.facts board.old).words at.number word) }
     ensures light { Answered (B.facts board.old) (B.facts board.new) result }
     ensures counted { OnOk result ((B.facts board.new).writes ≡ (B.facts board.old).writes + 1) }
     ensures writes { WritesAtMost 1 (B.facts board.old) (B.facts board.new) }
 {
-    board.write(at / PAGE_WORDS, (at % PAGE_WORDS) as u8, &[word])?;
-    Ok(())
+    let (page, place) = at.page_and_place();
+    board.write(page, place, &[word])
 }
 
 /// Writes how many pairs count.
@@ -34,60 +35,56 @@ pub(crate) fn write_gate<B: Board>(board: &mut B, count: u16) -> Result<(), Devi
     ensures light { Answered (B.facts board.old) (B.facts board.new) result }
     ensures writes { WritesAtMost 1 (B.facts board.old) (B.facts board.new) }
 {
-    write_word(board, GATE, u32::from(count))?;
-    Ok(())
+    write_word(board, Address { number: GATE }, u32::from(count))
 }
 
 /// The address of a pair of the journal.
-fn pair_address(i: u16) -> u16
+fn pair_address(i: u16) -> Address
     requires { i < PAIRS }
-    ensures { result ≡ JOURNAL + 2 * i }
+    ensures { result.number ≡ JOURNAL + 2 * i }
 {
-    JOURNAL + 2 * i
+    Address {
+        number: JOURNAL + 2 * i,
+    }
 }
 
 /// Writes a pair into the journal.
-fn write_pair<B: Board>(board: &mut B, i: u16, at: u16, earlier: u32) -> Result<(), DeviceErr>
+fn write_pair<B: Board>(board: &mut B, i: u16, at: Address, earlier: u32) -> Result<(), DeviceErr>
     requires { i < PAIRS }
     ensures done { OnOk result ((B.facts board.new).words ≡ written (B.facts board.old).words (JOURNAL + 2 * i)
-        (at ∷ earlier ∷ [])) }
-    ensures torn { Torn (B.facts board.old).words (JOURNAL + 2 * i) (at ∷ earlier ∷ []) (B.facts board.new).words }
+        (at.number ∷ earlier ∷ [])) }
+    ensures torn { Torn (B.facts board.old).words (JOURNAL + 2 * i) (at.number ∷ earlier ∷ [])
+        (B.facts board.new).words }
     ensures light { Answered (B.facts board.old) (B.facts board.new) result }
     ensures writes { WritesAtMost 1 (B.facts board.old) (B.facts board.new) }
 {
-    let place = pair_address(i);
-    board.write(
-        place / PAGE_WORDS,
-        (place % PAGE_WORDS) as u8,
-        &[u32::from(at), earlier],
-    )?;
-    Ok(())
+    let (page, place) = pair_address(i).page_and_place();
+    board.write(page, place, &[u32::from(at.number), earlier])
 }
 
 /// Sets a data word behind its earlier word: first the pair, then the gate that counts it, then the word.
 pub(crate) fn save_and_write<B: Board>(
     board: &mut B,
     used: u16,
-    at: u16,
+    at: Address,
     word: u32,
 ) -> Result<(), DeviceErr>
     requires sound { IsSound (B.facts board.old).words }
     requires counts { gate (B.facts board.old).words ≡ used }
     requires room { used < PAIRS }
-    requires place { IsDataAddress (B.facts board.old).words at }
+    requires place { IsDataAddress (B.facts board.old).words at.number }
     ensures kept { data_words (undo (B.facts board.new).words) ≡ data_words (undo (B.facts board.old).words) }
     ensures done { OnOk result (data_words (B.facts board.new).words ≡ slice_set (data_words (B.facts board.old).words)
-        at word) }
+        at.number word) }
     ensures sound { IsSound (B.facts board.new).words }
     ensures counts { OnOk result (gate (B.facts board.new).words ≡ used + 1) }
     ensures light { Answered (B.facts board.old) (B.facts board.new) result }
     ensures writes { WritesAtMost 3 (B.facts board.old) (B.facts board.new) }
 {
-    let earlier = board.read(at)?;
+    let earlier = board.read(at.number)?;
     write_pair(board, used, at, earlier)?;
     write_gate(board, used + 1)?;
-    write_word(board, at, word)?;
-    Ok(())
+    write_word(board, at, word)
 }
 
 /// Whether an address is that of a data word.
@@ -107,7 +104,7 @@ fn names_data_words<B: Board>(board: &mut B, count: u16) -> Result<bool, DeviceE
     ensures reads { KeepsBoard (B.facts board.old) (B.facts board.new) }
 {
     for i in 0..count {
-        let at = board.read(pair_address(i))?;
+        let at = board.read(pair_address(i).number)?;
         if !is_data_address(at) {
             return Ok(false);
         }
@@ -143,10 +140,10 @@ fn put_back<B: Board>(board: &mut B, i: u16) -> Result<(), DeviceErr>
     ensures light { Answered (B.facts board.old) (B.facts board.new) result }
     ensures writes { WritesAtMost 1 (B.facts board.old) (B.facts board.new) }
 {
-    let at = board.read(pair_address(i))?;
-    let earlier = board.read(pair_address(i) + 1)?;
-    write_word(board, at as u16, earlier)?;
-    Ok(())
+    let pair = pair_address(i);
+    let at = board.read(pair.number)?;
+    let earlier = board.read(pair.number + 1)?;
+    write_word(board, Address { number: at as u16 }, earlier)
 }
 
 /// Puts back the earlier words, from the last pair to the first, and then sets the gate to 0. With no pair it
@@ -170,6 +167,5 @@ pub(crate) fn roll_back<B: Board>(board: &mut B, count: u16) -> Result<(), Devic
         left -= 1;
         put_back(board, left)?;
     }
-    write_gate(board, 0)?;
-    Ok(())
+    write_gate(board, 0)
 }

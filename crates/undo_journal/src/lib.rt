@@ -2,6 +2,7 @@
 //! committed one. A journal of earlier words takes back what was not committed.
 #![tactic(auto)]
 
+mod address;
 mod error;
 mod journal;
 pub mod laws;

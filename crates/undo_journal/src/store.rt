@@ -1,6 +1,7 @@
 //! The store: two lists of words over a board.
 ghost use Rattle.std.specs.Prelude.{◌≡◌, ◌⊎◌, ◌↔◌, ◌+◌, ◌-◌, ◌<◌, ◌≤◌, if◌then◌else◌, length, IsTrue, IfOk, IfErr};
 ghost use Rattle.std.specs.Prelude.{OnOk, OnErr, IsErrOf, Some, true, slice_index, slice_set};
+ghost use Rattle.std.specs.Option.{option_or};
 ghost use Rattle.std.specs.Result.{result_err};
 ghost use Rattle.nvm_board.specs.declared.board.TheConstants.{PAGE_WORDS, SECRETS};
 ghost use Rattle.nvm_board.specs.Facts.{Steady, RisesAt, address, raised};
@@ -9,9 +10,10 @@ ghost use Rattle.undo_journal.specs.declared.layout.TheConstants.{PAIRS};
 ghost use Rattle.undo_journal.specs.declared.error.StoreErr.TheVariants.{PowerLost};
 ghost use Rattle.undo_journal.specs.Undo.{gate, undo, data_words, IsDataAddress, IsDataRun, IsSound};
 ghost use Rattle.undo_journal.specs.Spending.{KeepsBoard, WritesAtMost, rollback_writes, start_writes};
-ghost use Rattle.undo_journal.specs.Memory.{committed, current, room, store_err_of, IsOpen, IsIdle, IsReady};
-ghost use Rattle.undo_journal.specs.Memory.{KeepsWords, OpensNot, Reports};
+ghost use Rattle.undo_journal.specs.Memory.{committed, current, room, store_err_of, store_result_of, IsOpen, IsIdle};
+ghost use Rattle.undo_journal.specs.Memory.{IsReady, KeepsWords, OpensNot, Reports};
 
+use crate::address::Address;
 use crate::error::{OpenFault, StoreErr};
 use crate::journal::{roll_back, save_and_write, sound_pairs, write_gate, write_word};
 use crate::layout::PAIRS;
@@ -88,13 +90,9 @@ impl<B: Board> Store<B> {
         ensures tells { self.new.failed ≡ result_err result }
         ensures dark { IsErrOf result PowerLost → self.new.facts.dark ≡ true }
     {
-        if let Some(e) = self.failed {
-            return Err(e);
-        }
-        match self.board.read(at) {
-            Ok(word) => Ok(word),
-            Err(e) => Err(fail(&mut self.failed, e)),
-        }
+        self.check()?;
+        let answer = self.board.read(at);
+        noted(&mut self.failed, answer)
     }
 
     /// Begins a transaction.
@@ -118,13 +116,9 @@ impl<B: Board> Store<B> {
         ensures dark { IsErrOf result PowerLost → self.new.facts.dark ≡ true }
         ensures counted { OnOk result (self.new.facts.writes ≡ self.old.facts.writes + 1) }
     {
-        if let Some(e) = self.failed {
-            return Err(e);
-        }
-        match write_word(&mut self.board, at, word) {
-            Ok(()) => Ok(()),
-            Err(e) => Err(fail(&mut self.failed, e)),
-        }
+        self.check()?;
+        let answer = write_word(&mut self.board, Address { number: at }, word);
+        noted(&mut self.failed, answer)
     }
 
     /// Writes 1 to 16 words of one page in one device write, without undo: after an error each of them is old
@@ -139,13 +133,9 @@ impl<B: Board> Store<B> {
         ensures store { Changes 1 self.old self.new (result_err result) }
         ensures dark { IsErrOf result PowerLost → self.new.facts.dark ≡ true }
     {
-        if let Some(e) = self.failed {
-            return Err(e);
-        }
-        match self.board.write(page, first, words) {
-            Ok(()) => Ok(()),
-            Err(e) => Err(fail(&mut self.failed, e)),
-        }
+        self.check()?;
+        let answer = self.board.write(page, first, words);
+        noted(&mut self.failed, answer)
     }
 
     /// Hands a comparison on to the board, and writes nothing.
@@ -167,13 +157,9 @@ impl<B: Board> Store<B> {
             (if e then raised self.old.facts.matches secret else self.old.facts.matches)) }
         ensures matched_err { OnErr result (RisesAt self.old.facts.matches secret self.new.facts.matches) }
     {
-        if let Some(e) = self.failed {
-            return Err(e);
-        }
-        match self.board.compare(secret, kept, shown) {
-            Ok(equal) => Ok(equal),
-            Err(e) => Err(fail(&mut self.failed, e)),
-        }
+        self.check()?;
+        let answer = self.board.compare(secret, kept, shown);
+        noted(&mut self.failed, answer)
     }
 
     /// The board, as it is.
@@ -220,16 +206,12 @@ impl<B: Board> Store<B> {
         ensures dark { IsErrOf result PowerLost → self.new.facts.dark ≡ true }
         ensures writes { WritesAtMost 3 self.old.facts self.new.facts }
     {
-        if let Some(e) = self.failed {
-            return Err(e);
-        }
-        match save_and_write(&mut self.board, self.used, at, word) {
-            Ok(()) => {
-                self.used += 1;
-                Ok(())
-            }
-            Err(e) => Err(fail(&mut self.failed, e)),
-        }
+        self.check()?;
+        // The pair counts as used where the set fails, too: the gate may have risen over it.
+        let pair = self.used;
+        self.used += 1;
+        let answer = save_and_write(&mut self.board, pair, Address { number: at }, word);
+        noted(&mut self.failed, answer)
     }
 
     /// Makes the current words the committed ones: the gate turns to 0.
@@ -240,14 +222,12 @@ impl<B: Board> Store<B> {
         ensures store { Changes 1 self.old self.new (result_err result) }
         ensures dark { IsErrOf result PowerLost → self.new.facts.dark ≡ true }
     {
+        let checked = self.check();
+        // The transaction is over, also on a store that has failed.
         self.used = 0;
-        if let Some(e) = self.failed {
-            return Err(e);
-        }
-        match write_gate(&mut self.board, 0) {
-            Ok(()) => Ok(()),
-            Err(e) => Err(fail(&mut self.failed, e)),
-        }
+        checked?;
+        let answer = write_gate(&mut self.board, 0);
+        noted(&mut self.failed, answer)
     }
 
     /// Makes the committed words the current ones again.
@@ -257,15 +237,13 @@ impl<B: Board> Store<B> {
         ensures store { Changes (rollback_writes self.old.used) self.old self.new (result_err result) }
         ensures dark { IsErrOf result PowerLost → self.new.facts.dark ≡ true }
     {
+        let checked = self.check();
+        // The transaction is over, also on a store that has failed.
         let count = self.used;
         self.used = 0;
-        if let Some(e) = self.failed {
-            return Err(e);
-        }
-        match roll_back(&mut self.board, count) {
-            Ok(()) => Ok(()),
-            Err(e) => Err(fail(&mut self.failed, e)),
-        }
+        checked?;
+        let answer = roll_back(&mut self.board, count);
+        noted(&mut self.failed, answer)
     }
 }
 
@@ -296,12 +274,17 @@ impl<B: Faultless> Store<B> {
     }
 }
 
-/// Remembers why the store has failed.
-fn fail(failed: &mut Option<StoreErr>, e: DeviceErr) -> StoreErr
-    ensures failed { failed.new ≡ Some result }
-    ensures error { result ≡ store_err_of e }
+/// The device's answer, with the store's word for its error. An error is noted as the store's failure.
+fn noted<T>(failed: &mut Option<StoreErr>, answer: Result<T, DeviceErr>) -> Result<T, StoreErr>
+    ensures answer { result ≡ store_result_of answer }
+    ensures failed { failed.new ≡ option_or (result_err result) failed.old }
 {
-    let error = StoreErr::from(e);
-    *failed = Some(error);
-    error
+    match answer {
+        Ok(value) => Ok(value),
+        Err(e) => {
+            let error = StoreErr::from(e);
+            *failed = Some(error);
+            Err(error)
+        }
+    }
 }

@@ -61,10 +61,6 @@ reads_then a b c first rest = record {
   reports = reports_then a b c first.reports rest.reports;
 }
 
--- no read at all in a transaction
-pub txn_reads_same : {B : Type 0} (a : Txn B) → TxnReads a a
-txn_reads_same a = record { same_store = refl; reads = reads_same _ }
-
 -- reads in a row in a transaction
 pub txn_reads_then : {B : Type 0} (a b c : Txn B) → TxnReads a b → TxnReads b c → TxnReads a c
 txn_reads_then a b c first rest = record

@@ -2,15 +2,15 @@
 -- them, `c` after them; `r` is what is answered.
 use Rattle.std.specs.Prelude.{Option, Some, None, Result, Ok, Err, IsErrAnd}
 use Rattle.std.specs.Result.{result_err}
-use Rattle.std.proofs.Common.{◌≡◌, ◌≤◌, ◌+◌, ℕ, refl, sym, ap, subst, ◌∙◌, arith}
+use Rattle.std.proofs.Common.{◌≡◌, ◌≤◌, ◌+◌, ℕ, sym, ap, subst, ◌∙◌, arith}
 use Rattle.undo_journal.specs.declared.error.StoreErr.{StoreErr}
 use Rattle.undo_journal.specs.declared.txn.Txn.{Txn}
 use Rattle.undo_journal.specs.Memory.{Memory, Reports, IsIdle, IsReady}
 use Rattle.undo_journal.specs.Spending.{WritesAtMost}
-use Rattle.undo_journal.specs.Calls.{OnlyReads, TxnReads, Sets, UnlessFailed, Reads, Ends, Changes, ReadsIn, SetsIn}
+use Rattle.undo_journal.specs.Calls.{OnlyReads, TxnReads, Sets, UnlessFailed, Reads, Leaves, Changes, ReadsIn, SetsIn}
 use Rattle.undo_journal.specs.laws.Memory.{reports_then, writes_then}
 use Rattle.undo_journal.specs.laws.Calls.{reads_then, reads_same, reads_spend, writes_after, within_more}
-use Rattle.undo_journal.specs.laws.Calls.{txn_reads_then, sets_then, reads_sets, sets_weaker}
+use Rattle.undo_journal.specs.laws.Calls.{txn_reads_then, sets_then, sets_weaker}
 use Rattle.undo_journal.specs.laws.Transactions.{stays_spends}
 
 -- the error that is answered is the one that was handed on
@@ -36,13 +36,17 @@ pub reads_handed : {T : Type 0} (a b : Memory) (r : Result T StoreErr) (e : Stor
     → Reads a b (Some e) → Reads a b (result_err r)
 reads_handed a b r e is reads = subst (λ (told : Option StoreErr). Reads a b told) (told_is r e is) reads
 
+-- what reads so far left ready
+pub reads_so_far : (a b : Memory) → OnlyReads a b → IsReady b → Reads a b None
+reads_so_far a b reads ready = record { only = reads; ready = ready; tells = ready.usable.works }
+
 -- no call at all
 pub reads_none : (a : Memory) → IsReady a → Reads a a None
-reads_none a ready = record { only = reads_same a; ready = ready; tells = ready.usable.works }
+reads_none a ready = reads_so_far a a (reads_same a) ready
 
 -- reads leave a store idle, and cost nothing
-pub reads_end : (a b : Memory) (told : Option StoreErr) → IsIdle a → Reads a b told → Ends a b told
-reads_end a b told idle reads = record {
+pub reads_leave : (a b : Memory) (told : Option StoreErr) → IsIdle a → Reads a b told → Leaves a b told
+reads_leave a b told idle reads = record {
   reports = reads.only.reports;
   idle = reads.only.keeps.used ∙ idle;
   ready = reads.ready;
@@ -59,8 +63,8 @@ reads_change n a b told idle reads = record {
 }
 
 -- calls that may write, after others
-pub ends_on : (a b c : Memory) (told : Option StoreErr) → Reports a b → Ends b c told → Ends a c told
-ends_on a b c told first rest = record {
+pub leaves_on : (a b c : Memory) (told : Option StoreErr) → Reports a b → Leaves b c told → Leaves a c told
+leaves_on a b c told first rest = record {
   reports = reports_then a b c first rest.reports;
   idle = rest.idle;
   ready = rest.ready;
@@ -88,6 +92,12 @@ changes_on i k n a b c told fits first rest = record {
       (writes_then i k a.facts b.facts c.facts first.writes rest.writes);
 }
 
+-- reads after calls that may write
+pub reads_after : (n : ℕ) (a b c : Memory) (told : Option StoreErr) → Changes n a b None → Reads b c told
+    → Changes n a c told
+reads_after n a b c told first reads =
+    changes_on n 0 n a b c told (omega arith) first (reads_change 0 b c told first.idle reads)
+
 -- a bound may be higher
 pub changes_within : (n k : ℕ) (a b : Memory) (told : Option StoreErr) → n ≤ k → Changes n a b told → Changes k a b told
 changes_within n k a b told fits changes = record {
@@ -98,17 +108,17 @@ changes_within n k a b told fits changes = record {
   writes = within_more n k a.facts b.facts fits changes.writes;
 }
 
-pub changes_end : (n : ℕ) (a b : Memory) (told : Option StoreErr) → Changes n a b told → Ends a b told
-changes_end n a b told changes = record {
+pub changes_leave : (n : ℕ) (a b : Memory) (told : Option StoreErr) → Changes n a b told → Leaves a b told
+changes_leave n a b told changes = record {
   reports = changes.reports;
   idle = changes.idle;
   ready = changes.ready;
   tells = changes.tells;
 }
 
-pub ends_handed : {T : Type 0} (a b : Memory) (r : Result T StoreErr) (e : StoreErr) → IsErrAnd r (λ f. f ≡ e)
-    → Ends a b (Some e) → Ends a b (result_err r)
-ends_handed a b r e is ends = subst (λ (told : Option StoreErr). Ends a b told) (told_is r e is) ends
+pub leaves_handed : {T : Type 0} (a b : Memory) (r : Result T StoreErr) (e : StoreErr) → IsErrAnd r (λ f. f ≡ e)
+    → Leaves a b (Some e) → Leaves a b (result_err r)
+leaves_handed a b r e is leaves = subst (λ (told : Option StoreErr). Leaves a b told) (told_is r e is) leaves
 
 pub changes_handed : {T : Type 0} (n : ℕ) (a b : Memory) (r : Result T StoreErr) (e : StoreErr)
     → IsErrAnd r (λ f. f ≡ e) → Changes n a b (Some e) → Changes n a b (result_err r)
@@ -135,12 +145,13 @@ sets_in_on i k n a b c told fits first rest = record {
   tells = rest.tells;
 }
 
--- reads are no sets
-pub reads_set : {B : Type 0} (n : ℕ) (a b : Txn B) (told : Option StoreErr) → ReadsIn a b told → SetsIn n a b told
-reads_set n a b told reads = record {
-  sets = reads_sets n a b reads.only;
-  ready = reads.ready;
-  tells = reads.tells;
+-- a bound on sets may be higher
+pub sets_in_within : {B : Type 0} (i n : ℕ) (a b : Txn B) (told : Option StoreErr) → i ≤ n → SetsIn i a b told
+    → SetsIn n a b told
+sets_in_within i n a b told fits calls = record {
+  sets = sets_weaker i n a b fits calls.sets;
+  ready = calls.ready;
+  tells = calls.tells;
 }
 
 pub sets_in_handed : {B T : Type 0} (n : ℕ) (a b : Txn B) (r : Result T StoreErr) (e : StoreErr)
@@ -161,12 +172,6 @@ spent i n k a b t c x told fits same last first costs rest =
       writes = within_more (i + n) k b.facts c.facts fits (writes_then i n b.facts t.facts c.facts costs rest.writes);
     }))
 
--- reads after calls that may write
-pub reads_after : (n : ℕ) (a b c : Memory) (told : Option StoreErr) → Changes n a b None → Reads b c told
-    → Changes n a c told
-reads_after n a b c told first reads =
-    changes_on n 0 n a b c told (omega arith) first (reads_change 0 b c told first.idle reads)
-
 -- one whose work failed: what abandoning it does is nothing
 pub spent_failed : (i n k : ℕ) (a b t c x : Memory) (told : Option StoreErr) (e : StoreErr) → i ≤ k → b ≡ a → x ≡ c
     → Reports b t → WritesAtMost i b.facts t.facts → t.failed ≡ Some e → Changes n t c told → Changes k a x told
@@ -178,16 +183,3 @@ spent_failed i n k a b t c x told e fits same last first costs failed rest =
       tells = rest.tells;
       writes = stays_spends t.facts c.facts (rest.reports.stuck e failed).1;
     })
-
--- what reads so far left ready
-pub reads_so_far : (a b : Memory) → OnlyReads a b → IsReady b → Reads a b None
-reads_so_far a b reads ready = record { only = reads; ready = ready; tells = ready.usable.works }
-
--- a bound on sets may be higher
-pub sets_in_weaker : {B : Type 0} (i n : ℕ) (a b : Txn B) (told : Option StoreErr) → i ≤ n → SetsIn i a b told
-    → SetsIn n a b told
-sets_in_weaker i n a b told fits calls = record {
-  sets = sets_weaker i n a b fits calls.sets;
-  ready = calls.ready;
-  tells = calls.tells;
-}

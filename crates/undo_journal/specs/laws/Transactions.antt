@@ -1,10 +1,9 @@
 -- Laws of a transaction that is begun on a ready store and spent: `a` is the store before it, `b` as it is begun, `t` after the
 -- work, `c` as commit or abandon leaves it, and `x` the store afterwards.
-use Rattle.std.proofs.Common.{◌≡◌, ◌≤◌, ◌+◌, ℕ, List, refl, sym, ◌∙◌, ap, subst, arith}
+use Rattle.std.proofs.Common.{◌≡◌, ℕ, List, refl, sym, ◌∙◌, ap, subst, arith}
 use Rattle.nvm_board.specs.Facts.{Facts}
-use Rattle.undo_journal.specs.Memory.{Memory, committed, current, IsReady, Reports}
+use Rattle.undo_journal.specs.Memory.{Memory, committed, current, IsReady}
 use Rattle.undo_journal.specs.Spending.{WritesAtMost}
-use Rattle.undo_journal.specs.laws.Memory.{reports_then}
 
 -- it begins with the words that are committed
 pub begun : (a b : Memory) → b ≡ a → IsReady a → committed a ≡ current b
@@ -23,23 +22,6 @@ pub stays : (a b t c x : Memory) → b ≡ a → x ≡ c → committed t ≡ com
     → committed x ≡ committed a
 stays a b t c x same last kept still =
     ap (λ (m : Memory). committed m) last ∙ still ∙ kept ∙ ap (λ (m : Memory). committed m) same
-
--- how all its calls report
-pub reports_ended : (a b t c x : Memory) → b ≡ a → x ≡ c → Reports b t → Reports t c → Reports a x
-reports_ended a b t c x same last first rest =
-    subst (λ (m : Memory). Reports a m) (sym last)
-    (reports_then a t c (subst (λ (m : Memory). Reports m t) same first) rest)
-
--- what all its calls spend
-pub writes_ended : (i n k : ℕ) (a b t c x : Memory) → i + n ≤ k → b ≡ a → x ≡ c → WritesAtMost i b.facts t.facts
-    → WritesAtMost n t.facts c.facts → WritesAtMost k a.facts x.facts
-writes_ended i n k a b t c x fits same last first rest =
-    subst (λ (m : Memory). WritesAtMost k m.facts x.facts) same
-    (subst (λ (m : Memory). WritesAtMost k b.facts m.facts) (sym last) (record {
-      writes = omega (arith, fits, first.writes, rest.writes);
-      compares = rest.compares ∙ first.compares;
-      matches = rest.matches ∙ first.matches;
-    }))
 
 -- a board that stays costs nothing
 pub stays_spends : (f g : Facts) → g ≡ f → WritesAtMost 0 f g

@@ -4,7 +4,7 @@ use Rattle.undo_journal.specs.Undo.{gate}
 use Rattle.undo_journal.specs.laws.Undo.{undo_shut}
 use Rattle.undo_journal.proofs.Restore.{put_back_from, put_back-none, turn-place, turn-done, turn-kept, turn-sound}
 use Rattle.undo_journal.proofs.Restore.{end-done, end-kept, end-sound}
-use Rattle.undo_journal.proofs.Telling.{answered_err, answered_after, answered_ok, steady_then}
+use Rattle.undo_journal.proofs.Telling.{ok_then, answered_err, answered_after}
 use Rattle.undo_journal.proofs.journal.roll_back.Goals as goal
 
 pub returns-then-count-eq0-clause-done : goal.returns-then-count-eq0-clause-done
@@ -62,29 +62,21 @@ returns-in_err-put_back-clause-kept g c =
     turn-kept m _ c.requires.sound c.loop-left.left c.loop-left.invariant.so_far (c.loop-left.left - 1) _ next lt
     c.in_err-put_back.ensures.torn
 
-pub returns-in_err-write_gate-clause-kept : goal.returns-in_err-write_gate-clause-kept
-returns-in_err-write_gate-clause-kept g c =
-    let m = (g.B.Board.facts c.args.board.now).words in
-    let within : GATE < length m = omega (arith, g.met.B.Board.sized c.args.board.now) in
-    let none : c.loop-left.left ≡ 0 = omega arith in
-    end-kept m _ c.requires.sound c.loop-left.left c.loop-left.invariant.so_far _ within none
-    c.in_err-write_gate.ensures.torn
-
 pub returns-clause-kept : goal.returns-clause-kept
 returns-clause-kept g c =
     let m = (g.B.Board.facts c.args.board.now).words in
     let within : GATE < length m = omega (arith, g.met.B.Board.sized c.args.board.now) in
     let none : c.loop-left.left ≡ 0 = omega arith in
     end-kept m _ c.requires.sound c.loop-left.left c.loop-left.invariant.so_far _ within none
-    c.in_ok-write_gate.ensures.torn
+    c.write_gate.ensures.torn
 
 pub returns-clause-done : goal.returns-clause-done
 returns-clause-done g c =
     let m = (g.B.Board.facts c.args.board.now).words in
     let within : GATE < length m = omega (arith, g.met.B.Board.sized c.args.board.now) in
     let none : c.loop-left.left ≡ 0 = omega arith in
-    end-done m _ c.requires.sound c.loop-left.left c.loop-left.invariant.so_far _ within none
-    c.in_ok-write_gate.ensures.done
+    ok_then c.write_gate.result _ _ c.write_gate.ensures.done (λ done.
+    end-done m _ c.requires.sound c.loop-left.left c.loop-left.invariant.so_far _ within none done)
 
 pub returns-in_err-put_back-clause-sound : goal.returns-in_err-put_back-clause-sound
 returns-in_err-put_back-clause-sound g c =
@@ -94,33 +86,19 @@ returns-in_err-put_back-clause-sound g c =
     turn-sound m _ c.requires.sound c.loop-left.left c.loop-left.invariant.so_far (c.loop-left.left - 1) _ next lt
     c.in_err-put_back.ensures.torn
 
-pub returns-in_err-write_gate-clause-sound : goal.returns-in_err-write_gate-clause-sound
-returns-in_err-write_gate-clause-sound g c =
-    let m = (g.B.Board.facts c.args.board.now).words in
-    let within : GATE < length m = omega (arith, g.met.B.Board.sized c.args.board.now) in
-    let none : c.loop-left.left ≡ 0 = omega arith in
-    end-sound m _ c.requires.sound c.loop-left.left c.loop-left.invariant.so_far _ within none
-    c.in_err-write_gate.ensures.torn
-
 pub returns-clause-sound : goal.returns-clause-sound
 returns-clause-sound g c =
     let m = (g.B.Board.facts c.args.board.now).words in
     let within : GATE < length m = omega (arith, g.met.B.Board.sized c.args.board.now) in
     let none : c.loop-left.left ≡ 0 = omega arith in
     end-sound m _ c.requires.sound c.loop-left.left c.loop-left.invariant.so_far _ within none
-    c.in_ok-write_gate.ensures.torn
+    c.write_gate.ensures.torn
 
 pub returns-in_err-put_back-clause-light : goal.returns-in_err-put_back-clause-light
 returns-in_err-put_back-clause-light g c =
     answered_err _ _ _ _ c.from_residual.ensures.1
     (answered_after _ _ _ _ c.loop-left.invariant.steady c.in_err-put_back.ensures.light)
 
-pub returns-in_err-write_gate-clause-light : goal.returns-in_err-write_gate-clause-light
-returns-in_err-write_gate-clause-light g c =
-    answered_err _ _ _ _ c.from_residual-in_err-write_gate.ensures.1
-    (answered_after _ _ _ _ c.loop-left.invariant.steady c.in_err-write_gate.ensures.light)
-
 pub returns-clause-light : goal.returns-clause-light
 returns-clause-light g c =
-    answered_ok _ _ _
-    (steady_then _ _ _ c.loop-left.invariant.steady (c.in_ok-write_gate.ensures.light.ok refl))
+    answered_after _ _ _ _ c.loop-left.invariant.steady c.write_gate.ensures.light

@@ -1,7 +1,7 @@
 use Rattle.std.proofs.Common.{refl, sym}
 use Rattle.undo_journal.proofs.Saving.{pair-torn, pair-sound, gate-torn, gate-sound, word-torn, word-current}
 use Rattle.undo_journal.proofs.Saving.{word-sound}
-use Rattle.undo_journal.proofs.Telling.{answered_err, answered_after, steady_then}
+use Rattle.undo_journal.proofs.Telling.{ok_then, answered_err, answered_after, steady_then}
 use Rattle.undo_journal.proofs.journal.save_and_write.Goals as goal
 
 pub returns-in_err-write_pair-clause-kept : goal.returns-in_err-write_pair-clause-kept
@@ -19,29 +19,21 @@ returns-in_err-write_gate-clause-kept g c =
     c.in_ok-write_pair.ensures.done
     _ c.in_err-write_gate.ensures.torn
 
-pub returns-in_err-write_word-clause-kept : goal.returns-in_err-write_word-clause-kept
-returns-in_err-write_word-clause-kept g c =
-    let r = c.requires in
-    let read = c.in_ok-earlier.ensures in
-    word-torn _ _ _ _ _ read.words read.word r.sound r.counts r.room r.place (g.met.B.Board.sized _) _
-    c.in_ok-write_pair.ensures.done
-    _ c.in_ok-write_gate.ensures.done c.args.word _ c.in_err-write_word.ensures.torn
-
 pub returns-clause-kept : goal.returns-clause-kept
 returns-clause-kept g c =
     let r = c.requires in
     let read = c.in_ok-earlier.ensures in
     word-torn _ _ _ _ _ read.words read.word r.sound r.counts r.room r.place (g.met.B.Board.sized _) _
     c.in_ok-write_pair.ensures.done
-    _ c.in_ok-write_gate.ensures.done c.args.word _ c.in_ok-write_word.ensures.torn
+    _ c.in_ok-write_gate.ensures.done c.args.word _ c.write_word.ensures.torn
 
 pub returns-clause-done : goal.returns-clause-done
 returns-clause-done g c =
     let r = c.requires in
     let read = c.in_ok-earlier.ensures in
+    ok_then c.write_word.result _ _ c.write_word.ensures.done (λ done.
     word-current _ _ _ _ _ read.words read.word r.sound r.counts r.room r.place (g.met.B.Board.sized _) _
-    c.in_ok-write_pair.ensures.done
-    _ c.in_ok-write_gate.ensures.done c.args.word _ c.in_ok-write_word.ensures.done
+    c.in_ok-write_pair.ensures.done _ c.in_ok-write_gate.ensures.done c.args.word _ done)
 
 pub returns-in_err-write_pair-clause-sound : goal.returns-in_err-write_pair-clause-sound
 returns-in_err-write_pair-clause-sound g c =
@@ -58,21 +50,13 @@ returns-in_err-write_gate-clause-sound g c =
     c.in_ok-write_pair.ensures.done
     _ c.in_err-write_gate.ensures.torn
 
-pub returns-in_err-write_word-clause-sound : goal.returns-in_err-write_word-clause-sound
-returns-in_err-write_word-clause-sound g c =
-    let r = c.requires in
-    let read = c.in_ok-earlier.ensures in
-    word-sound _ _ _ _ _ read.words read.word r.sound r.counts r.room r.place (g.met.B.Board.sized _) _
-    c.in_ok-write_pair.ensures.done
-    _ c.in_ok-write_gate.ensures.done c.args.word _ c.in_err-write_word.ensures.torn
-
 pub returns-clause-sound : goal.returns-clause-sound
 returns-clause-sound g c =
     let r = c.requires in
     let read = c.in_ok-earlier.ensures in
     word-sound _ _ _ _ _ read.words read.word r.sound r.counts r.room r.place (g.met.B.Board.sized _) _
     c.in_ok-write_pair.ensures.done
-    _ c.in_ok-write_gate.ensures.done c.args.word _ c.in_ok-write_word.ensures.torn
+    _ c.in_ok-write_gate.ensures.done c.args.word _ c.write_word.ensures.torn
 
 pub returns-in_err-earlier-clause-light : goal.returns-in_err-earlier-clause-light
 returns-in_err-earlier-clause-light g c =
@@ -89,9 +73,8 @@ returns-in_err-write_gate-clause-light g c =
     answered_err _ _ _ _ c.from_residual-in_err-write_gate.ensures.1
     (answered_after _ _ _ _ paired c.in_err-write_gate.ensures.light)
 
-pub returns-in_err-write_word-clause-light : goal.returns-in_err-write_word-clause-light
-returns-in_err-write_word-clause-light g c =
+pub returns-clause-light : goal.returns-clause-light
+returns-clause-light g c =
     let paired = steady_then _ _ _ (c.in_ok-earlier.ensures.light.ok refl) (c.in_ok-write_pair.ensures.light.ok refl) in
     let counted = steady_then _ _ _ paired (c.in_ok-write_gate.ensures.light.ok refl) in
-    answered_err _ _ _ _ c.from_residual-in_err-write_word.ensures.1
-    (answered_after _ _ _ _ counted c.in_err-write_word.ensures.light)
+    answered_after _ _ _ _ counted c.write_word.ensures.light

@@ -1,48 +1,33 @@
-use Rattle.std.proofs.Common.{rules, refl, ap, ◌∙◌}
+use Rattle.std.proofs.Common.{refl, ap, ◌∙◌, subst}
 use Rattle.undo_journal.specs.Undo.{gate}
+use Rattle.undo_journal.specs.Memory.{Memory}
+use Rattle.undo_journal.specs.Spending.{WritesAtMost, rollback_writes}
 use Rattle.undo_journal.specs.laws.Undo.{gate_undone}
-use Rattle.undo_journal.proofs.Standing.{ready-from, true-shut}
-use Rattle.undo_journal.proofs.Telling.{reports_ok, reports_err, reports_unused, true-failed}
+use Rattle.undo_journal.proofs.Telling.{ok_then}
+use Rattle.undo_journal.proofs.Noted.{on_dark, stuck, noted-true, noted-changes}
 use Rattle.undo_journal.proofs.store.Store.abandon.Goals as goal
 
-pub invariant_of-self-in-Ok : goal.invariant_of-self-in-Ok
-invariant_of-self-in-Ok g c =
+pub returns-in_err-checked-clause-store : goal.returns-in_err-checked-clause-store
+returns-in_err-checked-clause-store g c =
+    stuck _ _ _ 0 _ _ c.self.view_is refl c.from_residual.ensures.1 c.in_err-checked.ensures.tells
+
+pub invariant_of-self-2 : goal.invariant_of-self-2
+invariant_of-self-2 g c =
     let words = (g.B.Board.facts c.self.inside.board).words in
-    true-shut _ c.in_default.is (ap gate c.in-Ok.ensures.done ∙ gate_undone words) refl
-    (c.in-Ok.ensures.light.ok refl).lit
+    let undone = c.roll_back-answer.ensures in
+    noted-true _ _ _ c.self.view_is c.self.invariant c.in_ok-checked.ensures.ready.works _ _ c.noted.ensures.answer
+    c.noted.ensures.failed undone.light undone.sound
+    (ok_then c.roll_back-answer.result _ _ undone.done (λ done. ap gate done ∙ gate_undone words))
 
-pub invariant_of-self-in-Err : goal.invariant_of-self-in-Err
-invariant_of-self-in-Err g c =
-    true-failed _ _ _ c.self.view_is c.self.invariant c.in_default.is _ _ c.fail.ensures.failed c.fail.ensures.error
-    c.in-Err.ensures.light
+pub returns-clause-store : goal.returns-clause-store
+returns-clause-store g c =
+    let before = g.B.Board.facts c.self.inside.board in
+    let after = g.B.Board.facts c.roll_back-answer.new.board in
+    let undone = c.roll_back-answer.ensures in
+    noted-changes _ _ _ c.self.view_is c.self.invariant c.in_ok-checked.ensures.ready.works _ _ c.noted.ensures.answer
+    c.noted.ensures.failed undone.light _ (g.met.B.Board.sized _) (g.met.B.Board.words_fit _) undone.sound
+    (ok_then c.roll_back-answer.result _ _ undone.done (λ done. ap gate done ∙ gate_undone before.words)) refl
+    (subst (λ (m : Memory). WritesAtMost (rollback_writes m.used) before after) c.self.view_is undone.writes)
 
-pub returns-in-Some-clause-store : goal.returns-in-Some-clause-store
-returns-in-Some-clause-store g c = record {
-  reports = reports_unused _ _ 0 c.self.view_is;
-  idle = search rules;
-  ready = tt;
-  tells = search rules;
-  writes = search rules;
-}
-
-pub returns-in-Ok-clause-store : goal.returns-in-Ok-clause-store
-returns-in-Ok-clause-store g c = record {
-  reports = reports_ok _ _ _ c.self.view_is c.self.invariant c.in_default.is c.in_default.is (c.in-Ok.ensures.light.ok refl)
-    c.in-Ok.ensures.sound;
-  idle = search rules;
-  ready = (let words = (g.B.Board.facts c.self.inside.board).words in
-    ready-from _ c.in_default.is (c.in-Ok.ensures.light.ok refl).lit (g.met.B.Board.sized _) (g.met.B.Board.words_fit _)
-    (ap gate c.in-Ok.ensures.done ∙ gate_undone words) refl);
-  tells = search rules;
-  writes = search rules;
-}
-
-pub returns-in-Err-clause-store : goal.returns-in-Err-clause-store
-returns-in-Err-clause-store g c = record {
-  reports = reports_err _ _ _ c.self.view_is c.self.invariant c.in_default.is _ _ c.fail.ensures.failed c.fail.ensures.error
-    c.in-Err.ensures.light c.in-Err.ensures.sound;
-  idle = search rules;
-  ready = tt;
-  tells = search rules;
-  writes = search rules;
-}
+pub returns-clause-dark : goal.returns-clause-dark
+returns-clause-dark g c = on_dark _ _ c.noted.ensures.answer _ _ c.roll_back-answer.ensures.light

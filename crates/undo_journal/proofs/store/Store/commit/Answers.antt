@@ -1,80 +1,56 @@
-use Rattle.std.proofs.Common.{rules, ◌<◌, List, ℕ, length, refl, ap, ◌∙◌, inr, arith}
+use Rattle.std.proofs.Common.{◌<◌, List, ℕ, length, refl, ap, ◌∙◌, arith}
 use Rattle.std.proofs.Math.Logic.{⊎_map}
 use Rattle.undo_journal.specs.declared.layout.TheConstants.{GATE}
 use Rattle.undo_journal.specs.Undo.{gate, undo, data_words}
-use Rattle.undo_journal.specs.Memory.{committed, current}
+use Rattle.undo_journal.specs.Memory.{Memory, committed, current}
 use Rattle.undo_journal.proofs.Saving.{gate-shut}
-use Rattle.undo_journal.proofs.Standing.{ready-from, true-shut}
 use Rattle.undo_journal.proofs.Lasting.{gate-commits, commit-sound}
-use Rattle.undo_journal.proofs.Telling.{reports_ok, reports_err, reports_unused, true-failed}
+use Rattle.undo_journal.proofs.Telling.{ok_then}
+use Rattle.undo_journal.proofs.Noted.{on_ok, on_dark, stuck, noted-true, noted-changes}
 use Rattle.undo_journal.proofs.store.Store.commit.Goals as goal
 
-pub invariant_of-self-in-Ok : goal.invariant_of-self-in-Ok
-invariant_of-self-in-Ok g c =
+pub returns-in_err-checked-clause-store : goal.returns-in_err-checked-clause-store
+returns-in_err-checked-clause-store g c =
+    stuck _ _ _ 0 _ _ c.self.view_is refl c.from_residual.ensures.1 c.in_err-checked.ensures.tells
+
+pub invariant_of-self-2 : goal.invariant_of-self-2
+invariant_of-self-2 g c =
     let words = (g.B.Board.facts c.self.inside.board).words in
     let within : GATE < length words = omega (arith, g.met.B.Board.sized c.self.inside.board) in
-    true-shut _ c.in_default.is (ap gate c.in-Ok.ensures.done ∙ gate-shut words within) refl
-    (c.in-Ok.ensures.light.ok refl).lit
+    let works = c.in_ok-checked.ensures.ready.works in
+    let held = c.self.invariant.works (ap (λ (m : Memory). m.failed) c.self.view_is ∙ works) in
+    let answered = c.write_gate-answer.ensures in
+    noted-true _ _ _ c.self.view_is c.self.invariant works _ _ c.noted.ensures.answer c.noted.ensures.failed answered.light
+    (commit-sound words _ within held.sound answered.torn)
+    (ok_then c.write_gate-answer.result _ _ answered.done (λ done. ap gate done ∙ gate-shut words within))
 
-pub returns-in-Ok-clause-any_exit : goal.returns-in-Ok-clause-any_exit
-returns-in-Ok-clause-any_exit g c =
-    let words = (g.B.Board.facts c.self.inside.board).words in
-    let within : GATE < length words = omega (arith, g.met.B.Board.sized c.self.inside.board) in
-    let done = c.in-Ok.ensures.done in
-    inr (gate-commits words _ within done ∙ ap current c.self.view_is, ap gate done ∙ gate-shut words within)
-
-pub returns-in-Ok-clause-done : goal.returns-in-Ok-clause-done
-returns-in-Ok-clause-done g c =
-    let words = (g.B.Board.facts c.self.inside.board).words in
-    let within : GATE < length words = omega (arith, g.met.B.Board.sized c.self.inside.board) in
-    gate-commits words _ within c.in-Ok.ensures.done ∙ ap current c.self.view_is
-
-pub returns-in-Err-clause-any_exit : goal.returns-in-Err-clause-any_exit
-returns-in-Err-clause-any_exit g c =
+pub returns-clause-any_exit : goal.returns-clause-any_exit
+returns-clause-any_exit g c =
     let words = (g.B.Board.facts c.self.inside.board).words in
     let within : GATE < length words = omega (arith, g.met.B.Board.sized c.self.inside.board) in
     ⊎_map
     (λ old. ap (λ (l : List ℕ). data_words (undo l)) old ∙ ap committed c.self.view_is)
     (λ new. (gate-commits words _ within new ∙ ap current c.self.view_is, ap gate new ∙ gate-shut words within))
-    c.in-Err.ensures.torn
+    c.write_gate-answer.ensures.torn
 
-pub invariant_of-self-in-Err : goal.invariant_of-self-in-Err
-invariant_of-self-in-Err g c =
-    true-failed _ _ _ c.self.view_is c.self.invariant c.in_default.is _ _ c.fail.ensures.failed c.fail.ensures.error
-    c.in-Err.ensures.light
-
-pub returns-in-Some-clause-store : goal.returns-in-Some-clause-store
-returns-in-Some-clause-store g c = record {
-  reports = reports_unused _ _ 0 c.self.view_is;
-  idle = search rules;
-  ready = tt;
-  tells = search rules;
-  writes = search rules;
-}
-
-pub returns-in-Ok-clause-store : goal.returns-in-Ok-clause-store
-returns-in-Ok-clause-store g c = record {
-  reports = (let words = (g.B.Board.facts c.self.inside.board).words in
+pub returns-clause-done : goal.returns-clause-done
+returns-clause-done g c =
+    let words = (g.B.Board.facts c.self.inside.board).words in
     let within : GATE < length words = omega (arith, g.met.B.Board.sized c.self.inside.board) in
-    reports_ok _ _ _ c.self.view_is c.self.invariant c.in_default.is c.in_default.is (c.in-Ok.ensures.light.ok refl)
-    (commit-sound words _ within (c.self.invariant.works c.in_default.is).sound c.in-Ok.ensures.torn));
-  idle = search rules;
-  ready = (let words = (g.B.Board.facts c.self.inside.board).words in
-    let within : GATE < length words = omega (arith, g.met.B.Board.sized c.self.inside.board) in
-    ready-from _ c.in_default.is (c.in-Ok.ensures.light.ok refl).lit (g.met.B.Board.sized _) (g.met.B.Board.words_fit _)
-    (ap gate c.in-Ok.ensures.done ∙ gate-shut words within) refl);
-  tells = search rules;
-  writes = search rules;
-}
+    on_ok _ _ c.noted.ensures.answer _ _ (λ done. gate-commits words _ within done ∙ ap current c.self.view_is)
+    c.write_gate-answer.ensures.done
 
-pub returns-in-Err-clause-store : goal.returns-in-Err-clause-store
-returns-in-Err-clause-store g c = record {
-  reports = (let words = (g.B.Board.facts c.self.inside.board).words in
+pub returns-clause-store : goal.returns-clause-store
+returns-clause-store g c =
+    let words = (g.B.Board.facts c.self.inside.board).words in
     let within : GATE < length words = omega (arith, g.met.B.Board.sized c.self.inside.board) in
-    reports_err _ _ _ c.self.view_is c.self.invariant c.in_default.is _ _ c.fail.ensures.failed c.fail.ensures.error
-    c.in-Err.ensures.light (commit-sound words _ within (c.self.invariant.works c.in_default.is).sound c.in-Err.ensures.torn));
-  idle = search rules;
-  ready = tt;
-  tells = search rules;
-  writes = search rules;
-}
+    let works = c.in_ok-checked.ensures.ready.works in
+    let held = c.self.invariant.works (ap (λ (m : Memory). m.failed) c.self.view_is ∙ works) in
+    let answered = c.write_gate-answer.ensures in
+    noted-changes _ _ _ c.self.view_is c.self.invariant works _ _ c.noted.ensures.answer c.noted.ensures.failed
+    answered.light 1 (g.met.B.Board.sized _) (g.met.B.Board.words_fit _)
+    (commit-sound words _ within held.sound answered.torn)
+    (ok_then c.write_gate-answer.result _ _ answered.done (λ done. ap gate done ∙ gate-shut words within)) refl answered.writes
+
+pub returns-clause-dark : goal.returns-clause-dark
+returns-clause-dark g c = on_dark _ _ c.noted.ensures.answer _ _ c.write_gate-answer.ensures.light

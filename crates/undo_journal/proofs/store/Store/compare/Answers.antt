@@ -1,45 +1,86 @@
-use Rattle.std.proofs.Common.{ℕ, List, refl, sym, ap, ◌∙◌, subst}
+use Rattle.std.proofs.Common.{ℕ, List, sym, ap, ◌∙◌, subst}
+use Rattle.std.specs.Prelude.{if◌then◌else◌, OnErr}
+use Rattle.nvm_board.specs.Facts.{RisesAt, raised}
 use Rattle.undo_journal.specs.Undo.{gate, IsSound}
 use Rattle.undo_journal.specs.Memory.{Memory}
-use Rattle.undo_journal.proofs.Standing.{open-from, ready-from}
+use Rattle.undo_journal.specs.laws.Exits.{error_tells}
 use Rattle.undo_journal.specs.laws.Memory.{reports_same}
-use Rattle.undo_journal.proofs.Telling.{reports_ok, reports_err, true-kept, true-failed}
+use Rattle.undo_journal.proofs.Saving.{committed-shut}
+use Rattle.undo_journal.proofs.Telling.{ok_then}
+use Rattle.undo_journal.proofs.Noted.{always, if_ok, on_ok, on_err, on_dark, noted_tells, noted-true, noted-open}
+use Rattle.undo_journal.proofs.Noted.{noted-reports}
 use Rattle.undo_journal.proofs.store.Store.compare.Goals as goal
 
-pub returns-in-Ok-clause-usable : goal.returns-in-Ok-clause-usable
-returns-in-Ok-clause-usable g c = open-from _ c.in_default.is (c.in-Ok.ensures.light.ok refl).lit
-    (g.met.B.Board.sized _) (g.met.B.Board.words_fit _)
+pub returns-in_err-check-clause-tells : goal.returns-in_err-check-clause-tells
+returns-in_err-check-clause-tells g c = error_tells _ _ _ c.from_residual.ensures.1 c.in_err-check.ensures.tells
 
-pub returns-in-Ok-clause-ready : goal.returns-in-Ok-clause-ready
-returns-in-Ok-clause-ready g c = λ idle.
-    let unused = ap (λ (m : Memory). m.used) c.self.view_is ∙ idle in
-    let shut = ap gate c.in-Ok.ensures.words ∙ (c.self.invariant.works c.in_default.is).counts ∙ unused in
-    ready-from _ c.in_default.is (c.in-Ok.ensures.light.ok refl).lit (g.met.B.Board.sized _) (g.met.B.Board.words_fit _)
-    shut unused
-
-pub returns-in-Some-clause-reports : goal.returns-in-Some-clause-reports
-returns-in-Some-clause-reports g c = reports_same _
-
-pub returns-in-Ok-clause-reports : goal.returns-in-Ok-clause-reports
-returns-in-Ok-clause-reports g c =
-    let family : List ℕ → Type 0 = λ l. IsSound l in
-    reports_ok _ _ _ c.self.view_is c.self.invariant c.in_default.is c.in_default.is (c.in-Ok.ensures.light.ok refl)
-    (subst family (sym c.in-Ok.ensures.words)
-    (c.self.invariant.works c.in_default.is).sound)
-
-pub returns-in-Err-clause-reports : goal.returns-in-Err-clause-reports
-returns-in-Err-clause-reports g c =
-    let family : List ℕ → Type 0 = λ l. IsSound l in
-    reports_err _ _ _ c.self.view_is c.self.invariant c.in_default.is _ _ c.fail.ensures.failed c.fail.ensures.error
-    c.in-Err.ensures.light (subst family (sym c.in-Err.ensures.words)
-    (c.self.invariant.works c.in_default.is).sound)
+pub returns-in_err-check-clause-reports : goal.returns-in_err-check-clause-reports
+returns-in_err-check-clause-reports g c = reports_same _
 
 pub invariant_of-self : goal.invariant_of-self
 invariant_of-self g c =
-    true-kept _ _ _ c.self.view_is c.self.invariant c.in_default.is c.in_default.is c.in-Ok.ensures.words refl
-    (c.in-Ok.ensures.light.ok refl).lit
+    let kept = c.compare-answer.ensures in
+    let works = c.in_ok-check.ensures.ready.works in
+    let held = c.self.invariant.works (ap (λ (m : Memory). m.failed) c.self.view_is ∙ works) in
+    noted-true _ _ _ c.self.view_is c.self.invariant works _ _ c.noted.ensures.answer c.noted.ensures.failed kept.light
+    (subst (λ (l : List ℕ). IsSound l) (sym kept.words) held.sound) (always _ _ (ap gate kept.words ∙ held.counts))
 
-pub invariant_of-self-in-Err : goal.invariant_of-self-in-Err
-invariant_of-self-in-Err g c =
-    true-failed _ _ _ c.self.view_is c.self.invariant c.in_default.is _ _ c.fail.ensures.failed c.fail.ensures.error
-    c.in-Err.ensures.light
+pub returns-clause-equal : goal.returns-clause-equal
+returns-clause-equal g c = if_ok _ _ c.noted.ensures.answer _ _ (λ e h. h) c.compare-answer.ensures.equal
+
+pub returns-clause-usable : goal.returns-clause-usable
+returns-clause-usable g c =
+    noted-open _ _ _ c.self.view_is c.self.invariant c.in_ok-check.ensures.ready.works _ _ c.noted.ensures.answer
+    c.noted.ensures.failed c.compare-answer.ensures.light (g.met.B.Board.sized _) (g.met.B.Board.words_fit _)
+
+pub returns-clause-ready : goal.returns-clause-ready
+returns-clause-ready g c =
+    let kept = c.compare-answer.ensures in
+    let works = c.in_ok-check.ensures.ready.works in
+    let held = c.self.invariant.works (ap (λ (m : Memory). m.failed) c.self.view_is ∙ works) in
+    ok_then c.noted.result _ _ (returns-clause-usable g c) (λ usable idle.
+    let unused = ap (λ (m : Memory). m.used) c.self.view_is ∙ idle in
+    let shut = ap gate kept.words ∙ held.counts ∙ unused in
+    record { usable = usable; idle = unused; shut = shut; same = committed-shut _ shut })
+
+pub returns-clause-reports : goal.returns-clause-reports
+returns-clause-reports g c =
+    let works = c.in_ok-check.ensures.ready.works in
+    let kept = c.compare-answer.ensures in
+    let held = c.self.invariant.works (ap (λ (m : Memory). m.failed) c.self.view_is ∙ works) in
+    noted-reports _ _ _ c.self.view_is c.self.invariant works _ _ c.noted.ensures.answer c.noted.ensures.failed kept.light
+    (subst (λ (l : List ℕ). IsSound l) (sym kept.words) held.sound)
+
+pub returns-clause-tells : goal.returns-clause-tells
+returns-clause-tells g c =
+    noted_tells _ _ _ (ap (λ (m : Memory). m.failed) c.self.view_is ∙ c.in_ok-check.ensures.ready.works)
+    c.noted.ensures.failed
+
+pub returns-clause-dark : goal.returns-clause-dark
+returns-clause-dark g c = on_dark _ _ c.noted.ensures.answer _ _ c.compare-answer.ensures.light
+
+pub returns-clause-writes : goal.returns-clause-writes
+returns-clause-writes g c =
+    c.compare-answer.ensures.writes ∙ ap (λ (m : Memory). m.facts.writes) c.self.view_is
+
+pub returns-clause-compared : goal.returns-clause-compared
+returns-clause-compared g c = on_ok _ _ c.noted.ensures.answer _ _
+    (λ more. more ∙ ap (λ (m : Memory). raised m.facts.compares c.args.secret) c.self.view_is)
+    c.compare-answer.ensures.compared
+
+pub returns-clause-compared_err : goal.returns-clause-compared_err
+returns-clause-compared_err g c =
+    let after = (g.B.Board.facts c.compare-answer.new.self).compares in
+    subst (λ (m : Memory). OnErr c.noted.result (RisesAt m.facts.compares c.args.secret after)) c.self.view_is
+    (on_err _ _ c.noted.ensures.answer _ c.compare-answer.ensures.compared_err)
+
+pub returns-clause-matched : goal.returns-clause-matched
+returns-clause-matched g c = if_ok _ _ c.noted.ensures.answer _ _
+    (λ e more. more ∙ ap (λ (m : Memory). if e then raised m.facts.matches c.args.secret else m.facts.matches) c.self.view_is)
+    c.compare-answer.ensures.matched
+
+pub returns-clause-matched_err : goal.returns-clause-matched_err
+returns-clause-matched_err g c =
+    let after = (g.B.Board.facts c.compare-answer.new.self).matches in
+    subst (λ (m : Memory). OnErr c.noted.result (RisesAt m.facts.matches c.args.secret after)) c.self.view_is
+    (on_err _ _ c.noted.ensures.answer _ c.compare-answer.ensures.matched_err)

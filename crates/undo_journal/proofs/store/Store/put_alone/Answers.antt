@@ -1,73 +1,59 @@
-use Rattle.std.proofs.Common.{rules, refl, inr, arith}
+use Rattle.std.proofs.Common.{◌+◌, refl, sym, ap, ◌∙◌, arith}
 use Rattle.undo_journal.specs.Undo.{IsDataAddress}
-use Rattle.undo_journal.proofs.Standing.{ready-from, true-shut}
+use Rattle.undo_journal.specs.Memory.{Memory}
 use Rattle.undo_journal.proofs.Lasting.{unused-within, place-within, one-gate, one-sound, one-torn, one-written}
-use Rattle.undo_journal.specs.laws.Memory.{reports_same}
-use Rattle.undo_journal.proofs.Telling.{reports_ok, reports_err, true-failed}
+use Rattle.undo_journal.proofs.Telling.{ok_then}
+use Rattle.undo_journal.proofs.Noted.{on_ok, on_dark, stuck, noted-true, noted-changes}
 use Rattle.undo_journal.proofs.store.Store.put_alone.Goals as goal
 
-pub write_word-requires : goal.write_word-requires
-write_word-requires g c =
+pub write_word-answer-requires : goal.write_word-answer-requires
+write_word-answer-requires g c =
+    let works = c.in_ok-check.ensures.ready.works in
     let place : IsDataAddress (g.B.Board.facts c.self.inside.board).words c.args.at =
-    place-within _ _ c.self.view_is c.self.invariant c.in_default.is c.requires.idle c.args.at c.args.word
-    c.requires.place in
+    place-within _ _ c.self.view_is c.self.invariant works c.requires.idle c.args.at c.args.word c.requires.place in
     omega (arith, place.1, g.met.B.Board.sized c.self.inside.board)
+
+pub returns-in_err-check-clause-store : goal.returns-in_err-check-clause-store
+returns-in_err-check-clause-store g c =
+    stuck _ _ _ _ _ _ refl c.requires.idle c.from_residual.ensures.1 c.in_err-check.ensures.tells
 
 pub invariant_of-self : goal.invariant_of-self
 invariant_of-self g c =
-    let shut = one-gate _ _ c.self.view_is c.self.invariant c.in_default.is c.requires.idle c.args.at c.args.word
-    c.requires.place _ c.in-Ok.ensures.done in
-    let unused = unused-within _ _ c.self.view_is c.self.invariant c.in_default.is c.requires.idle in
-    true-shut _ c.in_default.is shut unused (c.in-Ok.ensures.light.ok refl).lit
+    let works = c.in_ok-check.ensures.ready.works in
+    let unused = unused-within _ _ c.self.view_is c.self.invariant works c.requires.idle in
+    noted-true _ _ _ c.self.view_is c.self.invariant works _ _ c.noted.ensures.answer c.noted.ensures.failed
+    c.write_word-answer.ensures.light
+    (one-sound _ _ c.self.view_is c.self.invariant works c.requires.idle c.args.at c.args.word c.requires.place _
+    c.write_word-answer.ensures.torn)
+    (ok_then c.write_word-answer.result _ _ c.write_word-answer.ensures.done (λ done. one-gate _ _ c.self.view_is
+    c.self.invariant works c.requires.idle c.args.at c.args.word c.requires.place _ done ∙ sym unused))
 
-pub returns-in-Ok-clause-any_exit : goal.returns-in-Ok-clause-any_exit
-returns-in-Ok-clause-any_exit g c = inr (one-written _ _ c.self.view_is c.self.invariant c.in_default.is c.requires.idle
-    c.args.at c.args.word c.requires.place _ c.in-Ok.ensures.done)
+pub returns-clause-any_exit : goal.returns-clause-any_exit
+returns-clause-any_exit g c =
+    one-torn _ _ c.self.view_is c.self.invariant c.in_ok-check.ensures.ready.works c.requires.idle c.args.at c.args.word
+    c.requires.place _ c.write_word-answer.ensures.torn
 
-pub returns-in-Ok-clause-done : goal.returns-in-Ok-clause-done
-returns-in-Ok-clause-done g c = one-written _ _ c.self.view_is c.self.invariant c.in_default.is c.requires.idle
-    c.args.at c.args.word c.requires.place _ c.in-Ok.ensures.done
+pub returns-clause-done : goal.returns-clause-done
+returns-clause-done g c =
+    on_ok _ _ c.noted.ensures.answer _ _ (λ done. one-written _ _ c.self.view_is c.self.invariant
+    c.in_ok-check.ensures.ready.works c.requires.idle c.args.at c.args.word c.requires.place _ done)
+    c.write_word-answer.ensures.done
 
-pub returns-in-Err-clause-any_exit : goal.returns-in-Err-clause-any_exit
-returns-in-Err-clause-any_exit g c = one-torn _ _ c.self.view_is c.self.invariant c.in_default.is c.requires.idle
-    c.args.at c.args.word c.requires.place _ c.in-Err.ensures.torn
+pub returns-clause-store : goal.returns-clause-store
+returns-clause-store g c =
+    let works = c.in_ok-check.ensures.ready.works in
+    noted-changes _ _ _ c.self.view_is c.self.invariant works _ _ c.noted.ensures.answer c.noted.ensures.failed
+    c.write_word-answer.ensures.light 1 (g.met.B.Board.sized _) (g.met.B.Board.words_fit _)
+    (one-sound _ _ c.self.view_is c.self.invariant works c.requires.idle c.args.at c.args.word c.requires.place _
+    c.write_word-answer.ensures.torn)
+    (ok_then c.write_word-answer.result _ _ c.write_word-answer.ensures.done (λ done. one-gate _ _ c.self.view_is
+    c.self.invariant works c.requires.idle c.args.at c.args.word c.requires.place _ done))
+    (unused-within _ _ c.self.view_is c.self.invariant works c.requires.idle) c.write_word-answer.ensures.writes
 
-pub invariant_of-self-in-Err : goal.invariant_of-self-in-Err
-invariant_of-self-in-Err g c =
-    true-failed _ _ _ c.self.view_is c.self.invariant c.in_default.is _ _ c.fail.ensures.failed c.fail.ensures.error
-    c.in-Err.ensures.light
+pub returns-clause-dark : goal.returns-clause-dark
+returns-clause-dark g c = on_dark _ _ c.noted.ensures.answer _ _ c.write_word-answer.ensures.light
 
-pub returns-in-Some-clause-store : goal.returns-in-Some-clause-store
-returns-in-Some-clause-store g c = record {
-  reports = reports_same _;
-  idle = search rules;
-  ready = tt;
-  tells = search rules;
-  writes = search rules;
-}
-
-pub returns-in-Ok-clause-store : goal.returns-in-Ok-clause-store
-returns-in-Ok-clause-store g c = record {
-  reports = reports_ok _ _ _ c.self.view_is c.self.invariant c.in_default.is c.in_default.is (c.in-Ok.ensures.light.ok refl)
-    (one-sound _ _ c.self.view_is c.self.invariant c.in_default.is c.requires.idle
-    c.args.at c.args.word c.requires.place _ c.in-Ok.ensures.torn);
-  idle = search rules;
-  ready = (let shut = one-gate _ _ c.self.view_is c.self.invariant c.in_default.is c.requires.idle c.args.at c.args.word
-    c.requires.place _ c.in-Ok.ensures.done in
-    let unused = unused-within _ _ c.self.view_is c.self.invariant c.in_default.is c.requires.idle in
-    ready-from _ c.in_default.is (c.in-Ok.ensures.light.ok refl).lit (g.met.B.Board.sized _) (g.met.B.Board.words_fit _)
-    shut unused);
-  tells = search rules;
-  writes = search rules;
-}
-
-pub returns-in-Err-clause-store : goal.returns-in-Err-clause-store
-returns-in-Err-clause-store g c = record {
-  reports = reports_err _ _ _ c.self.view_is c.self.invariant c.in_default.is _ _ c.fail.ensures.failed c.fail.ensures.error
-    c.in-Err.ensures.light (one-sound _ _ c.self.view_is c.self.invariant c.in_default.is c.requires.idle
-    c.args.at c.args.word c.requires.place _ c.in-Err.ensures.torn);
-  idle = search rules;
-  ready = tt;
-  tells = search rules;
-  writes = search rules;
-}
+pub returns-clause-counted : goal.returns-clause-counted
+returns-clause-counted g c =
+    on_ok _ _ c.noted.ensures.answer _ _
+    (λ counted. counted ∙ ap (λ (m : Memory). m.facts.writes + 1) c.self.view_is) c.write_word-answer.ensures.counted

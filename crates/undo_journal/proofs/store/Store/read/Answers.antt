@@ -1,72 +1,82 @@
-use Rattle.std.proofs.Common.{slice_index, ℕ, List, refl, sym, ap, ◌∙◌, subst, arith}
+use Rattle.std.proofs.Common.{slice_index, ℕ, List, subst, refl, sym, ap, ◌∙◌, arith}
 use Rattle.undo_journal.specs.Undo.{gate, IsDataAddress, IsSound}
+use Rattle.undo_journal.specs.laws.Exits.{error_tells}
+use Rattle.undo_journal.specs.laws.Told.{none_ready}
+use Rattle.undo_journal.specs.laws.Calls.{reads_same}
 use Rattle.undo_journal.specs.laws.Undo.{data_words-outside}
 use Rattle.undo_journal.specs.Memory.{Memory, current}
-use Rattle.undo_journal.proofs.Standing.{board-place, open-from, ready-from}
-use Rattle.undo_journal.specs.laws.Calls.{reads_same}
-use Rattle.undo_journal.proofs.Telling.{reports_ok, reports_err, reads_board, true-kept, true-failed}
+use Rattle.undo_journal.proofs.Standing.{board-place}
+use Rattle.undo_journal.proofs.Noted.{always, if_ok, on_dark, noted_tells, noted-true, noted-open, noted-ready, noted-reads}
 use Rattle.undo_journal.proofs.store.Store.read.Goals as goal
 
-pub read-requires : goal.read-requires
-read-requires g c =
+pub read-answer-requires : goal.read-answer-requires
+read-answer-requires g c =
     let words = (g.B.Board.facts c.self.inside.board).words in
     let place : IsDataAddress words c.args.at =
     board-place c.args.self.now words c.args.at (ap (λ (m : Memory). m.facts.words) c.self.view_is) c.requires in
     omega (arith, place.1, g.met.B.Board.sized c.self.inside.board)
 
-pub returns-in-Ok-clause-word : goal.returns-in-Ok-clause-word
-returns-in-Ok-clause-word g c =
-    let words = (g.B.Board.facts c.self.inside.board).words in
-    let place : IsDataAddress words c.args.at =
-    board-place c.args.self.now words c.args.at (ap (λ (m : Memory). m.facts.words) c.self.view_is) c.requires in
-    c.in-Ok.ensures.word ∙ sym (data_words-outside words c.args.at place.1 place.0)
-    ∙ ap (λ (m : Memory). slice_index (current m) c.args.at) c.self.view_is
+pub returns-in_err-check-clause-reads : goal.returns-in_err-check-clause-reads
+returns-in_err-check-clause-reads g c = reads_same _
 
-pub returns-in-Ok-clause-usable : goal.returns-in-Ok-clause-usable
-returns-in-Ok-clause-usable g c = open-from _ c.in_default.is (c.in-Ok.ensures.light.ok refl).lit
-    (g.met.B.Board.sized _) (g.met.B.Board.words_fit _)
+pub returns-in_err-check-clause-tells : goal.returns-in_err-check-clause-tells
+returns-in_err-check-clause-tells g c = error_tells _ _ _ c.from_residual.ensures.1 c.in_err-check.ensures.tells
 
-pub returns-in-Some-clause-reads : goal.returns-in-Some-clause-reads
-returns-in-Some-clause-reads g c = reads_same _
-
-pub returns-in-Ok-clause-reads : goal.returns-in-Ok-clause-reads
-returns-in-Ok-clause-reads g c =
-    let kept = c.in-Ok.ensures in
-    let held = c.self.invariant.works c.in_default.is in
-    let family : List ℕ → Type 0 = λ l. IsSound l in
-    reads_board _ _ _ c.self.view_is c.self.invariant c.in_default.is
-    (record { words = kept.words; writes = kept.writes; compares = kept.compares; matches = kept.matches }) refl
-    (reports_ok _ _ _ c.self.view_is c.self.invariant c.in_default.is c.in_default.is (c.in-Ok.ensures.light.ok refl)
-    (subst family (sym c.in-Ok.ensures.words) held.sound))
-
-pub returns-in-Err-clause-reads : goal.returns-in-Err-clause-reads
-returns-in-Err-clause-reads g c =
-    let kept = c.in-Err.ensures in
-    let held = c.self.invariant.works c.in_default.is in
-    let family : List ℕ → Type 0 = λ l. IsSound l in
-    reads_board _ _ _ c.self.view_is c.self.invariant c.in_default.is
-    (record { words = kept.words; writes = kept.writes; compares = kept.compares; matches = kept.matches }) refl
-    (reports_err _ _ _ c.self.view_is c.self.invariant c.in_default.is _ _ c.fail.ensures.failed c.fail.ensures.error
-    c.in-Err.ensures.light (subst family (sym c.in-Err.ensures.words) held.sound))
+pub returns-in_err-check-clause-store : goal.returns-in_err-check-clause-store
+returns-in_err-check-clause-store g c = λ idle. record {
+  only = reads_same _;
+  ready = none_ready _ _ _ c.from_residual.ensures.1;
+  tells = returns-in_err-check-clause-tells g c;
+}
 
 pub invariant_of-self : goal.invariant_of-self
 invariant_of-self g c =
-    true-kept _ _ _ c.self.view_is c.self.invariant c.in_default.is c.in_default.is c.in-Ok.ensures.words refl
-    (c.in-Ok.ensures.light.ok refl).lit
+    let kept = c.read-answer.ensures in
+    let works = c.in_ok-check.ensures.ready.works in
+    let held = c.self.invariant.works (ap (λ (m : Memory). m.failed) c.self.view_is ∙ works) in
+    noted-true _ _ _ c.self.view_is c.self.invariant works _ _ c.noted.ensures.answer c.noted.ensures.failed kept.light
+    (subst (λ (l : List ℕ). IsSound l) (sym kept.words) held.sound) (always _ _ (ap gate kept.words ∙ held.counts))
 
-pub invariant_of-self-in-Err : goal.invariant_of-self-in-Err
-invariant_of-self-in-Err g c =
-    true-failed _ _ _ c.self.view_is c.self.invariant c.in_default.is _ _ c.fail.ensures.failed c.fail.ensures.error
-    c.in-Err.ensures.light
+pub returns-clause-word : goal.returns-clause-word
+returns-clause-word g c =
+    let words = (g.B.Board.facts c.self.inside.board).words in
+    let place : IsDataAddress words c.args.at =
+    board-place c.args.self.now words c.args.at (ap (λ (m : Memory). m.facts.words) c.self.view_is) c.requires in
+    if_ok _ _ c.noted.ensures.answer _ _
+    (λ w word. word ∙ sym (data_words-outside words c.args.at place.1 place.0)
+    ∙ ap (λ (m : Memory). slice_index (current m) c.args.at) c.self.view_is)
+    c.read-answer.ensures.word
 
-pub returns-in-Ok-clause-store : goal.returns-in-Ok-clause-store
-returns-in-Ok-clause-store g c = λ idle.
+pub returns-clause-reads : goal.returns-clause-reads
+returns-clause-reads g c =
+    let kept = c.read-answer.ensures in
+    noted-reads _ _ _ c.self.view_is c.self.invariant c.in_ok-check.ensures.ready.works _ _ c.noted.ensures.answer
+    c.noted.ensures.failed kept.light
+    (record { words = kept.words; writes = kept.writes; compares = kept.compares; matches = kept.matches }) refl
+
+pub returns-clause-tells : goal.returns-clause-tells
+returns-clause-tells g c =
+    noted_tells _ _ _ (ap (λ (m : Memory). m.failed) c.self.view_is ∙ c.in_ok-check.ensures.ready.works)
+    c.noted.ensures.failed
+
+pub returns-clause-dark : goal.returns-clause-dark
+returns-clause-dark g c = on_dark _ _ c.noted.ensures.answer _ _ c.read-answer.ensures.light
+
+pub returns-clause-usable : goal.returns-clause-usable
+returns-clause-usable g c =
+    noted-open _ _ _ c.self.view_is c.self.invariant c.in_ok-check.ensures.ready.works _ _ c.noted.ensures.answer
+    c.noted.ensures.failed c.read-answer.ensures.light (g.met.B.Board.sized _) (g.met.B.Board.words_fit _)
+
+pub returns-clause-store : goal.returns-clause-store
+returns-clause-store g c = λ idle.
+    let kept = c.read-answer.ensures in
+    let works = c.in_ok-check.ensures.ready.works in
+    let held = c.self.invariant.works (ap (λ (m : Memory). m.failed) c.self.view_is ∙ works) in
     let unused = ap (λ (m : Memory). m.used) c.self.view_is ∙ idle in
-    let shut = ap gate c.in-Ok.ensures.words ∙ (c.self.invariant.works c.in_default.is).counts ∙ unused in
-    let ready = ready-from _ c.in_default.is (c.in-Ok.ensures.light.ok refl).lit (g.met.B.Board.sized _)
-    (g.met.B.Board.words_fit _) shut unused in
-    record { only = returns-in-Ok-clause-reads g c; ready = ready; tells = c.in_default.is }
-
-pub returns-in-Err-clause-store : goal.returns-in-Err-clause-store
-returns-in-Err-clause-store g c = λ idle. record
-    { only = returns-in-Err-clause-reads g c; ready = tt; tells = c.fail.ensures.failed }
+    record {
+      only = returns-clause-reads g c;
+      ready = noted-ready _ _ _ c.self.view_is c.self.invariant works _ _ c.noted.ensures.answer c.noted.ensures.failed
+          kept.light (g.met.B.Board.sized _) (g.met.B.Board.words_fit _)
+          (always _ _ (ap gate kept.words ∙ held.counts ∙ unused)) unused;
+      tells = returns-clause-tells g c;
+    }
