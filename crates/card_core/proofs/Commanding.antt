@@ -2,6 +2,11 @@
 use Rattle.std.proofs.Common.{◌≡◌, ◌⊎◌, true, true≢false, List, ℕ, [], Result, Ok, Err, IsOk, IsErr, IfOk, OnOk}
 use Rattle.std.proofs.Common.{OnErr, refl, sym, ◌∙◌, ap, inl, inr}
 use Rattle.std.specs.Result.{IsErrOf}
+use Rattle.std.proofs.Common.{arith}
+use Rattle.apdu_core.specs.Asked.{asked}
+use Rattle.card_core.specs.Comparing.{comparisons, ComparesAsked}
+use Rattle.card_core.specs.Stages.{IsStage}
+use Rattle.card_core.specs.laws.CompareLaws.{asked-none}
 use Rattle.card_rules.specs.declared.status.Sw.{Sw}
 use Rattle.undo_journal.specs.declared.error.StoreErr.{StoreErr}
 use Rattle.undo_journal.specs.declared.error.StoreErr.TheVariants.{PowerLost, Fault}
@@ -12,7 +17,7 @@ use Rattle.card_core.specs.declared.card_state.CardState.TheVariants.{Working, F
 use Rattle.card_core.specs.declared.current.Current.{Current}
 use Rattle.card_core.specs.declared.faults.PowerLost.{PowerLost as Lost}
 use Rattle.card_core.specs.Outcomes.{answer_bytes, Outcome}
-use Rattle.card_core.specs.Running.{memory_failure, FailsIn, IsCutIn, Running, Steps}
+use Rattle.card_core.specs.Running.{card_found, memory_failure, FailsIn, IsCutIn, Running, Steps}
 use Rattle.card_core.specs.Served.{CarriesOut}
 use Rattle.card_core.specs.Sessions.{Session}
 use Rattle.card_core.specs.Steps.{carried_out}
@@ -134,3 +139,12 @@ module _ (old new : Memory) (x y : Current) (command text said : List ℕ) (read
     λ works. let never : Working ≡ Dark = sym works ∙ (ends.lost refl).1 in cc,
     λ dark. (cut-in carries ends).power.dark,
   )
+
+-- a card that carries nothing out stays, and nothing of it is spent
+module _ (r : Running) (command : List ℕ) where
+  pub still-stage : IsStage (card_found r) r.session command (card_found r)
+  still-stage = (0, (omega arith), refl)
+
+  pub still-compares : ComparesAsked (asked command) (card_found r) (comparisons r.facts) (card_found r) (comparisons r.facts)
+  still-compares =
+      asked-none (asked command) (card_found r) (comparisons r.facts) (card_found r) (comparisons r.facts) refl refl

@@ -5,12 +5,11 @@ use Rattle.std.specs.Prelude.{cond}
 use Rattle.std.specs.Cmp.Lexicographic.{nat_list_cmp_total}
 use Rattle.std.specs.FinMap.{get, get-insert}
 use Rattle.nvm_board.specs.declared.board.TheConstants.{WORDS}
+use Rattle.card_rules.specs.declared.access_mode.AccessBit.{AccessBit}
 use Rattle.card_rules.specs.declared.status.Sw.{Sw}
 use Rattle.card_rules.specs.declared.status.TheConstants.Sw.{DONE, WRONG_DATA}
 use Rattle.fcp_template.specs.declared.fault.FcpFault.{FcpFault}
 use Rattle.fcp_template.specs.declared.fcp.Fcp.{Fcp}
-use Rattle.fcp_template.specs.declared.fcp.FileKind.{FileKind}
-use Rattle.fcp_template.specs.declared.fcp.FileKind.TheVariants.{Df, Transparent, Linear, Cyclic}
 use Rattle.fcp_template.specs.Function.{fcp_read}
 use Rattle.apdu_core.specs.Requests.{create_file}
 use Rattle.file_tree.specs.declared.space.FreeSpace.{FreeSpace}
@@ -18,26 +17,26 @@ use Rattle.file_tree.specs.Changes.{SameTree, with_freed}
 use Rattle.file_tree.specs.Creations.{CreatesNew, IsCreated}
 use Rattle.file_tree.specs.NewFiles.{creation_refusal, new_file, short_of_new}
 use Rattle.file_tree.specs.Spaces.{free_space}
-use Rattle.file_tree.specs.States.{is_barred}
+use Rattle.file_tree.specs.States.{is_allowed, is_barred}
 use Rattle.file_tree.specs.Table.{table, entry_in, path_of}
 use Rattle.file_tree.specs.Trees.{tree_of}
 use Rattle.file_tree.specs.laws.Nodes.{file_in, get-used, same_of_one}
 use Rattle.card_core.specs.declared.current.Current.{Current as CurrentFiles}
 use Rattle.card_core.specs.Cards.{Card, File, Kind, Path, Tree, dedicated, elementary, no_file}
-use Rattle.card_core.specs.FileGuards.{permits_kind, permits_of}
-use Rattle.card_core.specs.Files.{creation_bit, with_new}
+use Rattle.card_core.specs.Files.{create_refusals, creation_bit, with_new}
 use Rattle.card_core.specs.Guards.{allowed}
-use Rattle.card_core.specs.Outcomes.{refused, only_status}
+use Rattle.card_core.specs.Outcomes.{refused, refused_by, only_status}
 use Rattle.card_core.specs.Selecting.{selecting}
-use Rattle.card_core.specs.Sessions.{Session}
+use Rattle.card_core.specs.Sessions.{Session, marks_of}
 use Rattle.card_core.specs.Standing.{card_of, IsCard}
 use Rattle.card_core.specs.Served.{IsDoing}
 use Rattle.card_core.specs.Steps.{served}
-use Rattle.card_core.specs.Working.{current_at, outcome, session_of, IsCurrent}
+use Rattle.card_core.specs.Working.{current_at, outcome, session_of, verified_in, IsCurrent}
 use Rattle.card_core.proofs.Entries.{card-tree, current-entry, selecting-entry}
 use Rattle.card_core.proofs.Doing.{doing-one}
 use Rattle.card_core.proofs.FileSteps.{create-commits, create-done, create-refused, create-unread, create-unrefused}
 use Rattle.card_core.proofs.Keeping.{files-stand, files-after}
+use Rattle.card_core.proofs.Verified.{marks-are}
 
 -- what was found of nothing that is there
 value_of : (one other : File) → Some one ≡ Some other → one ≡ other
@@ -59,17 +58,24 @@ selecting-any s r path (elementary short body) same = λ i. record (selecting s 
 -- a template that tells of no file
 pub unread-step : (c : Card) (s : Session) (template : List ℕ) → is_barred c.tree s.current_df ≡ false
     → (read : Result Fcp FcpFault) → fcp_read template ≡ read → ((fcp : Fcp) → read ≡ Ok fcp → ⊥)
-    → served c s (create_file template) ≡ refused c s WRONG_DATA
+    → refused_by (create_refusals c s template) ≡ Some WRONG_DATA
 unread-step c s template unbarred (Ok fcp) is never = absurd (never fcp refl)
 unread-step c s template unbarred (Err fault) is never = create-unread c s template unbarred fault is
 
--- what the rule of a dedicated file allows, by the kind of the new file
-pub permits-is : (c : Card) (s : Session) (kind : FileKind)
-    → permits_kind (permits_of c s) kind ≡ allowed c s s.current_df (creation_bit kind)
-permits-is c s (Df name) = refl
-permits-is c s (Transparent short size) = refl
-permits-is c s (Linear short records) = refl
-permits-is c s (Cyclic short records) = refl
+-- whether the current dedicated file is barred, and what its rule allows, as the code finds it
+pub barred-is : (m : List ℕ) (x : CurrentFiles) (barred : Bool) → barred ≡ is_barred (tree_of m) (path_of (table m) x.df)
+    → is_barred (card_of m).tree (path_of (table m) x.df) ≡ barred
+barred-is m x barred is = ap (λ (tree : Tree). is_barred tree (path_of (table m) x.df)) (card-tree m) ∙ sym is
+
+pub permits-is : (m now : List ℕ) (x : CurrentFiles) → length x.verified ≡ 8 → now ≡ m → (bit wanted : AccessBit)
+    → bit ≡ wanted → (verified : List Bool) → verified ≡ verified_in x → (permits : Bool)
+    → permits ≡ is_allowed (tree_of now) (path_of (table now) x.df) bit verified
+    → allowed (card_of m) (session_of (table m) x) (path_of (table m) x.df) wanted ≡ permits
+permits-is m now x eight same bit wanted bit_is verified verified_is permits is =
+    let marks = verified_is ∙ sym (marks-are (table m) x eight) in
+    ap (λ (tree : Tree). is_allowed tree (path_of (table m) x.df) wanted (marks_of (session_of (table m) x).verified))
+    (card-tree m)
+    ∙ sym (is ∙ (λ i. is_allowed (tree_of (same i)) (path_of (table (same i)) x.df) (bit_is i) (marks i)))
 
 -- what is free shrinks by what a file takes
 module _ (m now after : List ℕ) (old taken : FreeSpace) (is : old ≡ free_space (card_of m).tree) (same : now ≡ m)

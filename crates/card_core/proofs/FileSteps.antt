@@ -119,21 +119,21 @@ module _ (c : Card) (s : Session) (template : List ℕ) where
       → fcp_read template ≡ read → refused_by (create_refusals c s template) ≡ by_reading barred read
   create-verdict barred bars read is = λ i. by_reading (bars i) (is i)
 
-  create-refusal : (status : Sw) → refused_by (create_refusals c s template) ≡ Some status
+  pub create-refusal : (status : Sw) → refused_by (create_refusals c s template) ≡ Some status
       → served c s (create_file template) ≡ refused c s status
   unfolding refusals_of
   create-refusal status is = served-refused c s (create_file template) status is
 
   -- a dedicated file that is barred
   pub create-barred : is_barred c.tree s.current_df ≡ true
-      → served c s (create_file template) ≡ refused c s CONDITIONS_NOT_SATISFIED
-  create-barred bars = create-refusal CONDITIONS_NOT_SATISFIED (create-verdict true bars (fcp_read template) refl)
+      → refused_by (create_refusals c s template) ≡ Some CONDITIONS_NOT_SATISFIED
+  create-barred bars = create-verdict true bars (fcp_read template) refl
 
   module _ (unbarred : is_barred c.tree s.current_df ≡ false) where
     -- a template that tells of no file
     pub create-unread : (fault : FcpFault) → fcp_read template ≡ Err fault
-        → served c s (create_file template) ≡ refused c s WRONG_DATA
-    create-unread fault is = create-refusal WRONG_DATA (create-verdict false unbarred (Err fault) is)
+        → refused_by (create_refusals c s template) ≡ Some WRONG_DATA
+    create-unread fault is = create-verdict false unbarred (Err fault) is
 
     -- a template that tells of one
     module _ (fcp : Fcp) (is : fcp_read template ≡ Ok fcp) where
@@ -145,8 +145,8 @@ module _ (c : Card) (s : Session) (template : List ℕ) where
           ∙ ap (λ (b : Bool). by_guards false false b (first_applying (place_refusals c s.current_df fcp))) told
 
       pub create-denied : allowed c s s.current_df (creation_bit fcp.kind) ≡ false
-          → served c s (create_file template) ≡ refused c s ACCESS_DENIED
-      create-denied denied = create-refusal ACCESS_DENIED (by_rule false denied)
+          → refused_by (create_refusals c s template) ≡ Some ACCESS_DENIED
+      create-denied denied = by_rule false denied
 
       module _ (permitted : allowed c s s.current_df (creation_bit fcp.kind) ≡ true) where
         refusal-is : refused_by (create_refusals c s template) ≡ creation_refusal c.tree s.current_df fcp

@@ -8,6 +8,7 @@ pub mod FileSteps
 pub mod Above
 pub mod Deletions
 pub mod Creations
+pub mod CreateServes
 pub mod Answering
 pub mod Entries
 pub mod Contents
@@ -37,6 +38,9 @@ pub mod RecordTables
 pub mod RecordChanges
 pub mod RecordWrites
 pub mod RecordSums
+pub mod UpdateServes
+pub mod AppendServes
+pub mod IncreaseServes
 pub mod Readings
 pub mod Headers
 pub mod Missing

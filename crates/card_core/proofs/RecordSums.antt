@@ -24,14 +24,14 @@ use Rattle.card_core.specs.Cards.{Card, Kind}
 use Rattle.card_core.specs.Elementary.{file_refusals, target_kind, target_path}
 use Rattle.card_core.specs.Increasing.{increased_data}
 use Rattle.card_core.specs.Lengths.{asks_less, given, length_refusal, right_length}
-use Rattle.card_core.specs.Outcomes.{refused, refused_by, Refusal}
+use Rattle.card_core.specs.Outcomes.{refused_by, Refusal}
 use Rattle.card_core.specs.Records.{is_cyclic, no_record, pointing, record_length, records_of, with_records_at}
 use Rattle.card_core.specs.Sessions.{Session}
 use Rattle.card_core.specs.Stages.{commits}
 use Rattle.card_core.specs.Standing.{card_of, IsCard}
-use Rattle.card_core.specs.Steps.{effect, refusals_of, served}
+use Rattle.card_core.specs.Steps.{effect, refusals_of}
 use Rattle.card_core.specs.Working.{outcome, session_of, IsRecordFile}
-use Rattle.card_core.proofs.Guarding.{guarded-free, guarded-refused, served-refused}
+use Rattle.card_core.proofs.Guarding.{guarded-free, guarded-refused}
 use Rattle.card_core.proofs.RecordBodies.{Agree}
 use Rattle.card_core.proofs.Recording.{agree}
 
@@ -45,6 +45,13 @@ length-spelled (suc size) n = ap (λ (k : ℕ). suc k) (length-spelled size (n %
 or-right : (a b : Bool) → (a || b) ≡ false → b ≡ false
 or-right true b is = cc
 or-right false b is = is
+
+or-left : (a b : Bool) → (a || b) ≡ false → a ≡ false
+or-left true b is = is
+or-left false b is = refl
+
+pub short-sent : (long sent : ℕ) → (nat_lt long sent || nat_lt 256 (long + sent)) ≡ false → sent ≤ long
+short-sent long sent is = ltb-false long sent (or-left (nat_lt long sent) (nat_lt 256 (long + sent)) is)
 
 pub short-fits : (long sent : ℕ) → (nat_lt long sent || nat_lt 256 (long + sent)) ≡ false → long + sent ≤ 256
 short-fits long sent is = ltb-false 256 (long + sent) (or-right (nat_lt long sent) (nat_lt 256 (long + sent)) is)
@@ -66,10 +73,10 @@ sum_limits c s sent expected =
 -- what the file refuses
 pub increase-barred : (c : Card) (s : Session) (status : Sw) (sent : List ℕ) (expected : Option ℕ)
     → refused_by (file_refusals c s target.Current is_cyclic Update) ≡ Some status
-    → served c s (increase sent expected) ≡ refused c s status
+    → refused_by (refusals_of c s (increase sent expected)) ≡ Some status
 unfolding refusals_of
-increase-barred c s status sent expected is = served-refused c s (increase sent expected) status
-    (guarded-refused c s target.Current is_cyclic Update status is (sum_limits c s sent expected))
+increase-barred c s status sent expected is =
+    guarded-refused c s target.Current is_cyclic Update status is (sum_limits c s sent expected)
 
 module _ (m : List ℕ) (sized : length m ≡ WORDS) (words : IsCard m) (x : Current) (need : Need) (e : ℕ) (body : Cyclic)
     (found : IsRecordFile m x target.Current need e (bodies.Cyclic body)) (sent : List ℕ) (expected : Option ℕ)
@@ -133,18 +140,16 @@ module _ (m : List ℕ) (sized : length m ≡ WORDS) (words : IsCard m) (x : Cur
       ∙ (λ i. verdict (nat_lt (long i) (length sent) || nat_lt 256 (long i + length sent)) (has_record (rs i) 1)
       (nat_le (256 ^ long i) (raised_number (rs i) sent)) (spelled (long i) (raised_number (rs i) sent) ++ sent))
 
-  pub increase-long : too_long ≡ true → served c s (increase sent expected) ≡ refused c s WRONG_LENGTH
-  increase-long long = served-refused c s (increase sent expected) WRONG_LENGTH
-      (increase-is ∙ ap (λ (b : Bool). verdict b has_one is_over (new_record ++ sent)) long)
+  pub increase-long : too_long ≡ true → refused_by (refusals_of c s (increase sent expected)) ≡ Some WRONG_LENGTH
+  increase-long long = increase-is ∙ ap (λ (b : Bool). verdict b has_one is_over (new_record ++ sent)) long
 
   module _ (short : too_long ≡ false) where
     short-is : refused_by (refusals_of c s (increase sent expected)) ≡ verdict false has_one is_over (new_record ++ sent)
     short-is = increase-is ∙ ap (λ (b : Bool). verdict b has_one is_over (new_record ++ sent)) short
 
     pub increase-unraised : (status : Sw) → unraised body.record_length records sent ≡ Some status
-        → served c s (increase sent expected) ≡ refused c s status
-    increase-unraised status is = served-refused c s (increase sent expected) status
-        (short-is ∙ by-refusal has_one is_over status (new_record ++ sent) is)
+        → refused_by (refusals_of c s (increase sent expected)) ≡ Some status
+    increase-unraised status is = short-is ∙ by-refusal has_one is_over status (new_record ++ sent) is
 
     module _ (free : unraised body.record_length records sent ≡ None) where
       free-is : refused_by (refusals_of c s (increase sent expected))
@@ -152,9 +157,9 @@ module _ (m : List ℕ) (sized : length m ≡ WORDS) (words : IsCard m) (x : Cur
       free-is = short-is ∙ by-none has_one is_over (new_record ++ sent) free
 
       pub increase-less : asks_less expected (new_record ++ sent) ≡ true
-          → served c s (increase sent expected) ≡ refused c s (right_length (new_record ++ sent))
-      increase-less less = served-refused c s (increase sent expected) (right_length (new_record ++ sent))
-          (free-is ∙ ap (λ (b : Bool). if b then Some (right_length (new_record ++ sent)) else None) less)
+          → refused_by (refusals_of c s (increase sent expected)) ≡ Some (right_length (new_record ++ sent))
+      increase-less less =
+          free-is ∙ ap (λ (b : Bool). if b then Some (right_length (new_record ++ sent)) else None) less
 
       pub increase-free : asks_less expected (new_record ++ sent) ≡ false
           → refused_by (refusals_of c s (increase sent expected)) ≡ None

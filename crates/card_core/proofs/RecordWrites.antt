@@ -1,17 +1,17 @@
 -- The commands on records that write, by the entry of the file that is named.
 use Rattle.std.proofs.Common.{◌≡◌, ◌≢◌, ◌⊎◌, ◌==◌, ◌&&◌, ◌+◌, ◌-◌, ◌≤◌, ℕ, Bool, true, false, not, nat_le, List, []}
 use Rattle.std.proofs.Common.{◌∷◌, ◌++◌}
-use Rattle.std.proofs.Common.{length, slice_set, Option, Some, None, Ok, Err, if◌then◌else◌, refl, sym, ◌∙◌, ap, subst, arith}
+use Rattle.std.proofs.Common.{length, slice_set, Option, Some, None, Result, Ok, if◌then◌else◌, refl, sym, ◌∙◌, ap, subst, arith}
 use Rattle.std.proofs.Common.{inl, inr, ⊎_elim}
+use Rattle.std.specs.Result.{IsErrAnd}
 use Rattle.nvm_board.specs.declared.board.TheConstants.{WORDS}
 use Rattle.card_rules.specs.declared.access_mode.AccessBit.TheVariants.{Append, Update}
 use Rattle.card_rules.specs.declared.status.Sw.{Sw}
 use Rattle.card_rules.specs.declared.status.TheConstants.Sw.{DONE, NO_ROOM, RECORD_NOT_FOUND, WRONG_LENGTH}
 use Rattle.undo_journal.specs.declared.error.StoreErr.{StoreErr}
-use Rattle.undo_journal.specs.Calls.{OnlyReads}
-use Rattle.undo_journal.specs.Memory.{Memory, committed, IsReady, Reports}
-use Rattle.undo_journal.specs.Spending.{WritesAtMost}
-use Rattle.undo_journal.specs.laws.Memory.{reports_then}
+use Rattle.undo_journal.specs.Calls.{Changes, OnlyReads}
+use Rattle.undo_journal.specs.Memory.{Memory, committed, IsReady}
+use Rattle.undo_journal.specs.laws.Told.{changes_after}
 use Rattle.apdu_core.specs.Requests.{Request, append_record, update_record}
 use Rattle.apdu_core.specs.declared.binary.Target.{Target}
 use Rattle.apdu_core.specs.declared.records.RecordChoice.{RecordChoice}
@@ -28,7 +28,7 @@ use Rattle.card_core.specs.Cards.{Card, Kind, Path}
 use Rattle.card_core.specs.Comparing.{attempt_of, comparisons, ComparesBy, ComparesShown}
 use Rattle.card_core.specs.Pins.{Attempt}
 use Rattle.card_core.specs.Elementary.{file_refusals, target_kind, target_path}
-use Rattle.card_core.specs.Outcomes.{refused, refused_by, Refusal}
+use Rattle.card_core.specs.Outcomes.{refused_by, Refusal}
 use Rattle.card_core.specs.Records.{appended_records, capacity_of, has_records, is_linear, no_record}
 use Rattle.card_core.specs.Records.{no_record_length, pointer_after, pointing, records_of}
 use Rattle.card_core.specs.Records.{replaced_number, replaces, target_number, updated_records, with_records_at}
@@ -37,29 +37,37 @@ use Rattle.card_core.specs.Sessions.{Session}
 use Rattle.card_core.specs.Spending.{most_writes, record_writes}
 use Rattle.card_core.specs.Stages.{commits}
 use Rattle.card_core.specs.Standing.{card_of, IsCard}
-use Rattle.card_core.specs.Steps.{effect, refusals_of, served}
+use Rattle.card_core.specs.Steps.{effect, refusals_of}
 use Rattle.card_core.specs.Working.{appended_in, card_in, fits, has_in, is_full_in, length_in, number_added_in}
 use Rattle.card_core.specs.Working.{number_replaced_in, outcome, pointer_from, pointing_from, records_at, replaced_in}
 use Rattle.card_core.specs.Working.{room_in, session_in, session_of, space_in, structure_replaced, table_in, wraps_in}
 use Rattle.card_core.specs.Working.{BodyBecomes, IsCurrent, IsRecordFile}
 use Rattle.card_core.proofs.Doing.{doing-one}
-use Rattle.card_core.proofs.Guarding.{guarded-free, guarded-refused, served-done, served-refused}
+use Rattle.card_core.proofs.Guarding.{guarded-free, guarded-refused, served-done}
 use Rattle.card_core.proofs.RecordBodies.{Agree}
 use Rattle.card_core.proofs.RecordChanges.{body-become, Records}
 use Rattle.card_core.proofs.Recording.{agree, chosen-is, current-is, has-is, path-is, pointer-is, session-is}
-use Rattle.card_core.proofs.Serves.{compared-none, reads-compared, torn, written}
+use Rattle.card_core.proofs.Serves.{compared-none, torn, written}
+use Rattle.card_core.proofs.Stopping.{err-is}
 
--- A command that isn't refused puts other records in place of those of its file.
+-- A command that isn't refused puts these records in place of those of its file.
+pub record PutsRecords (old : Memory) (x : Current) (target : Target) (need : Need) (e : ℕ) (body : RecordBody)
+    (request : Request) (records : List (List ℕ)) : Type 0 where
+  pub found : IsRecordFile (committed old) x target need e body
+  pub none : refused_by (refusals_of (card_in old) (session_in old x) request) ≡ None
+  pub commits_is : commits (card_in old) (session_in old x) request
+      ≡ with_records_at (card_in old) (target_path (card_in old) (session_in old x) target) records ∷ []
+  pub few : length records ≤ room_in body
+  pub most : most_writes request ≡ record_writes
+  pub unshown : attempt_of request ≡ None
+
+-- First it only reads, up to the store `mid`; then it writes the records, as it finds them in that store.
 module _ (old mid new : Memory) (ready : IsReady old) (words : IsCard (committed old)) (x : Current)
     (current : IsCurrent (table_in old) x) (target : Target) (need : Need) (e : ℕ) (body : RecordBody)
-    (found : IsRecordFile (committed old) x target need e body) (request : Request) (records : List (List ℕ))
-    (none : refused_by (refusals_of (card_in old) (session_in old x) request) ≡ None)
-    (commits_is : commits (card_in old) (session_in old x) request
-    ≡ with_records_at (card_in old) (target_path (card_in old) (session_in old x) target) records ∷ [])
-    (few : length records ≤ room_in body) (most : most_writes request ≡ record_writes)
-    (unshown : attempt_of request ≡ None) (reads : OnlyReads old mid)
-    (any_exit : (committed new ≡ committed mid) ⊎ BodyBecomes (committed mid) body records (committed new))
-    (reports : Reports mid new) (spends : WritesAtMost RECORD_WRITES mid.facts new.facts) where
+    (request : Request) (records : List (List ℕ)) (puts : PutsRecords old x target need e body request records)
+    (reads : OnlyReads old mid) (put : List (List ℕ)) (put_are : put ≡ records)
+    (any_exit : (committed new ≡ committed mid) ⊎ BodyBecomes (committed mid) body put (committed new))
+    (told : Option StoreErr) (changes : Changes RECORD_WRITES mid new told) where
   abbrev m : List ℕ
   m = committed old
 
@@ -78,57 +86,59 @@ module _ (old mid new : Memory) (ready : IsReady old) (words : IsCard (committed
   same : committed mid ≡ m
   same = reads.keeps.committed_words
 
-  change : BodyBecomes (committed mid) body records after → Records m e records after
-  change becomes = body-become m after e sized words found.named.file.child.used records body found.body_is few
-      (subst (λ (l : List ℕ). BodyBecomes l body records after) same becomes)
+  all : Changes RECORD_WRITES old new told
+  all = changes_after RECORD_WRITES old mid new told reads changes
 
-  card-is : BodyBecomes (committed mid) body records after
+  change : BodyBecomes (committed mid) body put after → Records m e records after
+  change becomes = body-become m after e sized words puts.found.named.file.child.used records body puts.found.body_is
+      puts.few (subst (λ (l : List ℕ). BodyBecomes l body records after) same
+      (subst (λ (rs : List (List ℕ)). BodyBecomes (committed mid) body rs after) put_are becomes))
+
+  card-is : BodyBecomes (committed mid) body put after
       → card_of after ≡ with_records_at c (target_path c s target) records
   card-is becomes = (change becomes).card
-      ∙ ap (λ (p : Path). with_records_at c p records) (sym (path-is m sized words x target need e body found))
+      ∙ ap (λ (p : Path). with_records_at c p records) (sym (path-is m sized words x target need e body puts.found))
 
   stands : IsCard after
   stands = ⊎_elim (λ (kept : after ≡ committed mid). subst IsCard (sym (kept ∙ same)) words)
-      (λ (becomes : BodyBecomes (committed mid) body records after). (change becomes).stands) any_exit
+      (λ (becomes : BodyBecomes (committed mid) body put after). (change becomes).stands) any_exit
 
   stage : OnlyReads old new ⊎ IsDoing (card_in old) (session_in old x) request (card_in new)
-  stage = inr (doing-one c s request (with_records_at c (target_path c s target) records) (card_of after) none commits_is
+  stage = inr (doing-one c s request (with_records_at c (target_path c s target) records) (card_of after) puts.none
+      puts.commits_is
       (⊎_elim (λ (kept : after ≡ committed mid). inl (ap card_of (kept ∙ same)))
-      (λ (becomes : BodyBecomes (committed mid) body records after). inr (card-is becomes)) any_exit))
-
-  all-reports : Reports old new
-  all-reports = reports_then old mid new reads.reports reports
+      (λ (becomes : BodyBecomes (committed mid) body put after). inr (card-is becomes)) any_exit))
 
   compares : ComparesBy request c (comparisons old.facts) (card_in new) (comparisons new.facts)
   compares = subst (λ (shown : Option Attempt). ComparesShown shown c (comparisons old.facts) (card_in new) (comparisons
-      new.facts)) (sym unshown)
-      (compared-none RECORD_WRITES mid.facts new.facts spends ∙ reads-compared old mid reads)
+      new.facts)) (sym puts.unshown) (compared-none RECORD_WRITES old.facts new.facts all.writes)
 
   costs : new.facts.writes ≤ old.facts.writes + most_writes request
-  costs = let spent = spends.writes in let kept = reads.board.writes in omega (arith, spent, kept, most)
+  costs = let spent = all.writes.writes in let most = puts.most in omega (arith, spent, most)
 
   -- a write that stopped, before or after its commit
-  pub records-torn : (text : List ℕ) → length text ≤ 256 → (error : StoreErr) → new.failed ≡ Some error
-      → Serves request old x new x text (Err error)
-  records-torn text room error failed = torn request old x new x text error stage stands all-reports failed room costs
-      compares
+  pub records-torn : (text : List ℕ) → length text ≤ 256 → (r : Result Sw StoreErr) (error : StoreErr)
+      → IsErrAnd r (λ f. f ≡ error) → told ≡ Some error → Serves request old x new x text r
+  records-torn text room r error handed stopped =
+      subst (λ (answer : Result Sw StoreErr). Serves request old x new x text answer) (sym (err-is r error handed))
+      (torn request old x new x text error stage stands all.reports (all.tells ∙ stopped) room costs compares)
 
   -- a write that was made
-  pub records-made : BodyBecomes (committed mid) body records after → IsReady new → (pointer : Option ℕ) (text : List ℕ)
+  pub records-made : BodyBecomes (committed mid) body put after → IsReady new → (pointer : Option ℕ) (text : List ℕ)
       → length text ≤ 256
       → effect c s request ≡ outcome (with_records_at c (target_path c s target) records)
       (pointing s target (target_path c s target) pointer) text DONE
       → Serves request old x new (pointing_from x target e pointer) text (Ok DONE)
   records-made becomes ready_now pointer text room effect_is =
       let y = pointing_from x target e pointer in
-      let all = change becomes in
+      let these = change becomes in
       let card = sym (card-is becomes) in
-      let session = session-is m sized words x target need e body found pointer ∙ sym (all.session y) in
-      written request old x new y text DONE stage stands all-reports ready_now
-      (all.current y (current-is m sized words x target need e body found current pointer)) room costs compares
-      (served-done c s request none ∙ effect_is ∙ (λ i. outcome (card i) (session i) text DONE))
+      let session = session-is m sized words x target need e body puts.found pointer ∙ sym (these.session y) in
+      written request old x new y text DONE stage stands all.reports ready_now
+      (these.current y (current-is m sized words x target need e body puts.found current pointer)) room costs compares
+      (served-done c s request puts.none ∙ effect_is ∙ (λ i. outcome (card i) (session i) text DONE))
 
-  pub records-space : BodyBecomes (committed mid) body records after → space_in new ≡ space_in old
+  pub records-space : BodyBecomes (committed mid) body put after → space_in new ≡ space_in old
   records-space becomes = (change becomes).space
 
 -- UPDATE RECORD is for the structures that its choice replaces a record of
@@ -145,6 +155,16 @@ pub need-replaces : (c : Card) (s : Session) (target : Target) (choice : RecordC
     ≡ refused_by (file_refusals c s target (replaces choice) Update)
 need-replaces c s target choice need structure bit =
     (λ i. refused_by (file_refusals c s target (fits (structure i)) (bit i))) ∙ replaces-is c s target choice
+
+pub replaced-as : (m : List ℕ) (x : Current) (target : Target) (choice : RecordChoice) (e : ℕ) (body : RecordBody)
+    (need : Need) → need.structure ≡ structure_replaced choice → need.bit ≡ Update → IsRecordFile m x target need e body
+    → IsRecordFile m x target (record { structure = structure_replaced choice; bit = Update }) e body
+replaced-as m x target choice e body need structure bit found =
+    let is : need ≡ record { structure = structure_replaced choice; bit = Update } = λ i. record {
+      structure = structure i;
+      bit = bit i;
+    } in
+    subst (λ (n : Need). IsRecordFile m x target n e body) is found
 
 pub replaces-records : (choice : RecordChoice) → structure_replaced choice ≢ structures.Bytes
 replaces-records Next = λ is. cc
@@ -166,16 +186,16 @@ append_limits c s target bytes =
 module _ (c : Card) (s : Session) (target : Target) (status : Sw) where
   pub update-refused : (choice : RecordChoice) (bytes : List ℕ)
       → refused_by (file_refusals c s target (replaces choice) Update) ≡ Some status
-      → served c s (update_record target choice bytes) ≡ refused c s status
+      → refused_by (refusals_of c s (update_record target choice bytes)) ≡ Some status
   unfolding refusals_of
-  update-refused choice bytes is = served-refused c s (update_record target choice bytes) status
-      (guarded-refused c s target (replaces choice) Update status is (update_limits c s target choice bytes))
+  update-refused choice bytes is =
+      guarded-refused c s target (replaces choice) Update status is (update_limits c s target choice bytes)
 
   pub append-refused : (bytes : List ℕ) → refused_by (file_refusals c s target has_records Append) ≡ Some status
-      → served c s (append_record target bytes) ≡ refused c s status
+      → refused_by (refusals_of c s (append_record target bytes)) ≡ Some status
   unfolding refusals_of
-  append-refused bytes is = served-refused c s (append_record target bytes) status
-      (guarded-refused c s target has_records Append status is (append_limits c s target bytes))
+  append-refused bytes is =
+      guarded-refused c s target has_records Append status is (append_limits c s target bytes)
 
 -- the records after an update, and after an append, by the body
 replaced-by : (m : List ℕ) (body : RecordBody) (n : ℕ) (bytes : List ℕ)
@@ -234,14 +254,12 @@ module _ (m : List ℕ) (sized : length m ≡ WORDS) (words : IsCard m) (x : Cur
         ∙ (λ i. update_verdict (has i) (long i))
 
     pub update-gone : has_in body replaced ≡ false
-        → served cm sm (update_record target choice bytes) ≡ refused cm sm RECORD_NOT_FOUND
-    update-gone gone = served-refused cm sm (update_record target choice bytes) RECORD_NOT_FOUND
-        (update-is ∙ ap (λ (b : Bool). update_verdict b (length bytes == length_in body)) gone)
+        → refused_by (refusals_of cm sm (update_record target choice bytes)) ≡ Some RECORD_NOT_FOUND
+    update-gone gone = update-is ∙ ap (λ (b : Bool). update_verdict b (length bytes == length_in body)) gone
 
     pub update-other : has_in body replaced ≡ true → (length bytes == length_in body) ≡ false
-        → served cm sm (update_record target choice bytes) ≡ refused cm sm WRONG_LENGTH
-    update-other has other = served-refused cm sm (update_record target choice bytes) WRONG_LENGTH
-        (update-is ∙ (λ i. update_verdict (has i) (other i)))
+        → refused_by (refusals_of cm sm (update_record target choice bytes)) ≡ Some WRONG_LENGTH
+    update-other has other = update-is ∙ (λ i. update_verdict (has i) (other i))
 
     pub update-free : has_in body replaced ≡ true → (length bytes == length_in body) ≡ true
         → refused_by (refusals_of cm sm (update_record target choice bytes)) ≡ None
@@ -290,14 +308,12 @@ module _ (m : List ℕ) (sized : length m ≡ WORDS) (words : IsCard m) (x : Cur
         guarded-free cm sm target has_records Append unrefused (append_limits cm sm target bytes)
         ∙ (λ i. append_verdict (full i) (long i))
 
-    pub append-full : is_full_in body ≡ true → served cm sm (append_record target bytes) ≡ refused cm sm NO_ROOM
-    append-full full = served-refused cm sm (append_record target bytes) NO_ROOM
-        (append-is ∙ ap (λ (b : Bool). append_verdict b (length bytes == length_in body)) full)
+    pub append-full : is_full_in body ≡ true → refused_by (refusals_of cm sm (append_record target bytes)) ≡ Some NO_ROOM
+    append-full full = append-is ∙ ap (λ (b : Bool). append_verdict b (length bytes == length_in body)) full
 
     pub append-other : is_full_in body ≡ false → (length bytes == length_in body) ≡ false
-        → served cm sm (append_record target bytes) ≡ refused cm sm WRONG_LENGTH
-    append-other room other = served-refused cm sm (append_record target bytes) WRONG_LENGTH
-        (append-is ∙ (λ i. append_verdict (room i) (other i)))
+        → refused_by (refusals_of cm sm (append_record target bytes)) ≡ Some WRONG_LENGTH
+    append-other room other = append-is ∙ (λ i. append_verdict (room i) (other i))
 
     pub append-free : is_full_in body ≡ false → (length bytes == length_in body) ≡ true
         → refused_by (refusals_of cm sm (append_record target bytes)) ≡ None

@@ -1,8 +1,9 @@
 -- What a call that carries out a request leaves, by the kinds of its exits.
 use Rattle.std.proofs.Common.{◌≡◌, ◌⊎◌, ◌+◌, ◌≤◌, ℕ, List, [], length, Some, Result, Ok, Err, OnOk, sym, ◌∙◌, ap, subst, arith, inl}
+use Rattle.std.specs.Result.{IsErrAnd}
 use Rattle.card_rules.specs.declared.status.Sw.{Sw}
 use Rattle.undo_journal.specs.declared.error.StoreErr.{StoreErr}
-use Rattle.undo_journal.specs.Calls.{OnlyReads}
+use Rattle.undo_journal.specs.Calls.{OnlyReads, Reads}
 use Rattle.undo_journal.specs.Memory.{Memory, committed, IsReady, Reports}
 use Rattle.undo_journal.specs.Spending.{WritesAtMost}
 use Rattle.nvm_board.specs.Facts.{Facts}
@@ -18,6 +19,7 @@ use Rattle.card_core.specs.Standing.{IsCard, card_of}
 use Rattle.card_core.specs.Steps.{served}
 use Rattle.card_core.specs.laws.CompareLaws.{compares-none}
 use Rattle.card_core.specs.Working.{card_in, outcome, session_in, session_of, table_in, IsCurrent}
+use Rattle.card_core.proofs.Stopping.{err-is}
 
 -- at most so many writes and no comparison
 pub compared-none : (n : ℕ) (old new : Facts) → WritesAtMost n old new
@@ -55,6 +57,13 @@ module _ (request : Request) (old : Memory) (x : Current) (new : Memory) where
     writes = omega (arith, reads.board.writes);
     compares = reads-nothing reads;
   }
+
+  -- which is handed on
+  pub handed : IsCard (committed old) → (y : Current) (text : List ℕ) (r : Result Sw StoreErr) (e : StoreErr)
+      → IsErrAnd r (λ f. f ≡ e) → Reads old new (Some e) → length text ≤ 256 → Serves request old x new y text r
+  handed card y text r e is reads room =
+      subst (λ (s : Result Sw StoreErr). Serves request old x new y text s) (sym (err-is r e is))
+      (stopped card y text e reads.only reads.tells room)
 
   -- an answer after reads, which leaves the card
   pub answered : IsCard (committed old) → (y : Current) (text : List ℕ) (status : Sw) → OnlyReads old new → IsReady new

@@ -1,18 +1,15 @@
--- What the code finds of a file that may be deleted, and of the rules for new files. No public clause names this.
-use Rattle.std.specs.Prelude.{◌≡◌, ◌<◌, ℕ, Bool, List, None, Some}
-use Rattle.card_rules.specs.declared.access_mode.AccessBit.TheVariants.{CreateDf, CreateEf}
-use Rattle.fcp_template.specs.declared.fcp.FileKind.{FileKind}
-use Rattle.fcp_template.specs.declared.fcp.FileKind.TheVariants.{Df, Transparent, Linear, Cyclic}
+-- What the code finds of a file that may be deleted, and of one that may be created. No public clause names this.
+use Rattle.std.specs.Prelude.{◌≡◌, ◌<◌, ℕ, true, false, List, Ok, None, Some}
+use Rattle.fcp_template.specs.declared.fcp.Fcp.{Fcp}
+use Rattle.fcp_template.specs.Function.{fcp_read}
+use Rattle.fcp_template.specs.Ranges.{IsCreatable}
 use Rattle.file_tree.specs.States.{is_barred}
 use Rattle.apdu_core.specs.declared.files.Subject.{Subject}
 use Rattle.file_tree.specs.declared.entry.Entry.{Entry}
 use Rattle.file_tree.specs.Table.{table, entry_in, path_of, IsUsed}
 use Rattle.card_core.specs.declared.current.Current.{Current}
-use Rattle.card_core.specs.declared.files.Permits.{Permits}
-use Rattle.card_core.specs.Cards.{Card}
 use Rattle.card_core.specs.Guards.{allowed}
-use Rattle.card_core.specs.Sessions.{Session}
-use Rattle.card_core.specs.Files.{delete_refusals}
+use Rattle.card_core.specs.Files.{creation_bit, delete_refusals}
 use Rattle.card_core.specs.Outcomes.{refused_by}
 use Rattle.card_core.specs.Reaching.{subject_of}
 use Rattle.card_core.specs.Standing.{card_of}
@@ -26,17 +23,9 @@ pub record IsDeletable (m : List ℕ) (x : Current) (subject : Subject) (e : ℕ
   pub below : 0 < e
   pub unrefused : refused_by (delete_refusals (card_of m) (session_of (table m) x) subject) ≡ None
 
--- what the current dedicated file allows: whether it is barred, and whether its rule allows dedicated and elementary files in it
-abbrev pub permits_of : Card → Session → Permits
-permits_of c s = record {
-  barred = is_barred c.tree s.current_df;
-  dedicated = allowed c s s.current_df CreateDf;
-  elementary = allowed c s s.current_df CreateEf;
-}
-
--- whether it allows a file of a kind
-abbrev pub permits_kind : Permits → FileKind → Bool
-permits_kind permits (Df name) = permits.dedicated
-permits_kind permits (Transparent short size) = permits.elementary
-permits_kind permits (Linear short records) = permits.elementary
-permits_kind permits (Cyclic short records) = permits.elementary
+-- a file that a template tells of, and that the current dedicated file, which isn't barred, allows in it
+pub record IsNewFile (m : List ℕ) (x : Current) (template : List ℕ) (fcp : Fcp) : Type 0 where
+  pub told : fcp_read template ≡ Ok fcp
+  pub creatable : IsCreatable fcp
+  pub unbarred : is_barred (card_of m).tree (path_of (table m) x.df) ≡ false
+  pub permitted : allowed (card_of m) (session_of (table m) x) (path_of (table m) x.df) (creation_bit fcp.kind) ≡ true

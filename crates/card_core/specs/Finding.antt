@@ -1,6 +1,5 @@
 -- The card that is found in a memory, whatever its journal holds: that of the words after undo.
 use Rattle.std.specs.Prelude.{◌≡◌, ◌↔◌, List, ℕ}
-use Rattle.std.proofs.Common.{sym, ◌∙◌}
 use Rattle.undo_journal.specs.Undo.{undo, data_words, IsSound}
 use Rattle.card_core.specs.Cards.{Card}
 use Rattle.card_core.specs.Standing.{IsCard, card_of}
@@ -22,10 +21,6 @@ found m = card_of (words_found m)
 pub record Finds (m : List ℕ) (c : Card) : Type 0 where
   pub there : HasCard m
   pub card : found m ≡ c
-
--- one card is found
-pub one_card : (m : List ℕ) (c d : Card) → Finds m c → Finds m d → c ≡ d
-one_card m c d a b = sym a.card ∙ b.card
 
 -- what is found stays: the same words, and undo is defined where it was
 pub record FindsAgain (old new : List ℕ) : Type 0 where

@@ -29,4 +29,5 @@ pub mod Working
 pub mod Changing
 pub mod Served
 pub mod FileGuards
+pub mod RecordGuards
 pub mod laws

@@ -7,8 +7,8 @@ ghost use Rattle.apdu_core.specs.Requests.{create_file as creation, delete_file 
 ghost use Rattle.card_rules.specs.declared.access_mode.AccessBit.TheVariants.{DeleteChild, DeleteSelf};
 ghost use Rattle.file_tree.specs.States.{is_barred as is_barred_at};
 ghost use Rattle.file_tree.specs.Table.{path_of, IsUsed};
-ghost use Rattle.card_core.specs.FileGuards.{permits_kind, permits_of, IsDeletable};
-ghost use Rattle.card_core.specs.Files.{delete_refusals};
+ghost use Rattle.card_core.specs.FileGuards.{IsDeletable, IsNewFile};
+ghost use Rattle.card_core.specs.Files.{create_refusals, creation_bit, delete_refusals};
 ghost use Rattle.card_core.specs.Guards.{allowed};
 ghost use Rattle.card_core.specs.Outcomes.{refused_by};
 ghost use Rattle.card_core.specs.Reaching.{subject_of};
@@ -20,14 +20,13 @@ use crate::current::Current;
 use crate::named::{Named, refusal_by};
 use apdu_core::{Subject, Sw};
 use card_rules::AccessBit;
-use fcp_template::{FileKind, parse};
+use fcp_template::{Fcp, FileKind, parse};
 use file_tree::{Creation, FreeSpace, create, delete, is_allowed, is_barred, read_entry, select};
 use undo_journal::{Board, Store, StoreErr};
 
 /// CREATE FILE: the file that the template tells stands in the current dedicated file then, and is current. Its blocks are
 /// filled first, where no file is; then one transaction adds it, all or nothing. What is free shrinks by what it takes. The
 /// status word is the result.
-#[tactic(auto, using(undo_journal::specs::MemoryLaws::reports_then))]
 pub(crate) fn create_file<B: Board>(
     store: &mut Store<B>,
     current: &mut Current,
@@ -41,16 +40,10 @@ pub(crate) fn create_file<B: Board>(
     ensures serves { Serves (creation template.now) store.old current.old store.new current.new [] result }
     ensures space { OnOk result (free.new ≡ space_in store.new) }
 {
-    let permits = permits_in(store, current)?;
-    if permits.barred {
-        return Ok(Sw::CONDITIONS_NOT_SATISFIED);
-    }
-    let Ok(fcp) = parse(template) else {
-        return Ok(Sw::WRONG_DATA);
+    let fcp = match find_new_file(store, current, template)? {
+        Ok(fcp) => fcp,
+        Err(refusal) => return Ok(refusal),
     };
-    if !permits.allows(&fcp.kind) {
-        return Ok(Sw::ACCESS_DENIED);
-    }
     let (number, blocks) = match create(store, current.df, &fcp)? {
         Creation::Created { entry, blocks } => (entry, blocks),
         Creation::Refused(refusal) => return Ok(refusal),
@@ -64,44 +57,48 @@ pub(crate) fn create_file<B: Board>(
     Ok(Sw::DONE)
 }
 
-/// What the current dedicated file allows: whether it is barred, and whether its rule allows files of either kind in it.
-#[derive(Clone, Copy)]
-struct Permits {
-    barred: bool,
-    dedicated: bool,
-    elementary: bool,
-}
-
-impl Permits {
-    /// A file of a kind is allowed.
-    fn allows(self, kind: &FileKind<'_>) -> bool
-        ensures { result ≡ permits_kind self kind.now }
-    {
-        match kind {
-            FileKind::Df { .. } => self.dedicated,
-            FileKind::Transparent { .. } | FileKind::Linear { .. } | FileKind::Cyclic { .. } =>
-                self.elementary,
-        }
-    }
-}
-
-/// What the current dedicated file allows.
-#[tactic(auto, using(undo_journal::specs::laws::Calls::reads_then))]
-fn permits_in<B: Board>(store: &mut Store<B>, current: &Current) -> Result<Permits, StoreErr>
+/// The file that CREATE FILE is to create, as its template tells it, or else the refusal: the current dedicated file is
+/// barred; the template tells of no file; the rule of the current dedicated file doesn't allow a file of this kind.
+fn find_new_file<'a, B: Board>(
+    store: &mut Store<B>,
+    current: &Current,
+    template: &'a [u8],
+) -> Result<Result<Fcp<'a>, Sw>, StoreErr>
     requires ready { IsReady store.old }
     requires card { IsCard (committed store.old) }
     requires current { IsCurrent (table_in store.old) current.now }
-    ensures permits { IfOk result (λ permits. permits ≡ permits_of (card_in store.old) (session_in store.old current.now)) }
+    ensures found { IfOk result (λ answer. MatchResult answer
+        (λ fcp. IsNewFile (committed store.old) current.now template.now fcp)
+        (λ refusal. refused_by (create_refusals (card_in store.old) (session_in store.old current.now) template.now)
+        ≡ Some refusal)) }
     ensures store { Reads store.old store.new (result_err result) }
 {
-    let barred = is_barred(store, current.df)?;
-    let dedicated = is_allowed(store, current.df, AccessBit::CreateDf, &current.verified())?;
-    let elementary = is_allowed(store, current.df, AccessBit::CreateEf, &current.verified())?;
-    Ok(Permits {
-        barred,
-        dedicated,
-        elementary,
-    })
+    if is_barred(store, current.df)? {
+        return Ok(Err(Sw::CONDITIONS_NOT_SATISFIED));
+    }
+    let Ok(fcp) = parse(template) else {
+        return Ok(Err(Sw::WRONG_DATA));
+    };
+    if !is_allowed(
+        store,
+        current.df,
+        creation_bit(&fcp.kind),
+        &current.verified(),
+    )? {
+        return Ok(Err(Sw::ACCESS_DENIED));
+    }
+    Ok(Ok(fcp))
+}
+
+/// What the rule of a dedicated file must allow for a file of a kind to be created in it.
+fn creation_bit(kind: &FileKind<'_>) -> AccessBit
+    ensures { result ≡ creation_bit kind.now }
+{
+    match kind {
+        FileKind::Df { .. } => AccessBit::CreateDf,
+        FileKind::Transparent { .. } | FileKind::Linear { .. } | FileKind::Cyclic { .. } =>
+            AccessBit::CreateEf,
+    }
 }
 
 /// DELETE FILE: the file goes with all files below it, in one transaction, all or none. Its parent becomes the current

@@ -1,5 +1,5 @@
 //! INCREASE (ETSI TS 102 221, 11.1.8).
-ghost use Rattle.std.specs.Prelude.{◌≡◌, ◌≤◌, ◌+◌, ◌++◌, ◌||◌, ◌⊎◌, nat_lt, [], length, None, IfOk, OnOk};
+ghost use Rattle.std.specs.Prelude.{◌≡◌, ◌≤◌, ◌+◌, ◌++◌, ◌||◌, ◌⊎◌, nat_lt, [], length, None, Some, IfOk, OnOk, MatchResult};
 ghost use Rattle.std.specs.Result.{result_err};
 ghost use Rattle.undo_journal.specs.Calls.{Reads, Changes};
 ghost use Rattle.undo_journal.specs.Memory.{committed, IsReady};
@@ -9,9 +9,12 @@ ghost use Rattle.ef_body.specs.Bodies.{cyclic_records, IsCyclic};
 ghost use Rattle.ef_body.specs.Changes.{Increases};
 ghost use Rattle.ef_body.specs.Numbers.{spelled};
 ghost use Rattle.ef_body.specs.Refusals.{raised_number, unraised};
+ghost use Rattle.card_core.specs.Outcomes.{refused_by};
+ghost use Rattle.card_core.specs.RecordGuards.{IsIncreasable};
 ghost use Rattle.card_core.specs.Served.{Serves};
 ghost use Rattle.card_core.specs.Standing.{IsCard};
-ghost use Rattle.card_core.specs.Working.{space_in, table_in, IsCurrent};
+ghost use Rattle.card_core.specs.Steps.{refusals_of};
+ghost use Rattle.card_core.specs.Working.{card_in, session_in, space_in, table_in, IsCurrent};
 
 use crate::current::Current;
 use crate::named::{Need, Structure};
@@ -46,28 +49,64 @@ pub(crate) fn increase<B: Board>(
     ensures serves { Serves (increasing amount.now expected) store.old current.old store.new current.new text.new.items result }
     ensures space { OnOk result (space_in store.new ≡ space_in store.old) }
 {
-    let file = match find_records(store, current, Target::Current, INCREASING)? {
+    let mut found = RecordBytes::new();
+    let file = match find_increased(store, current, amount, expected, &mut found)? {
         Ok(file) => file,
         Err(refusal) => return Ok(refusal),
     };
+    put_sum(file.body, store, amount)?;
+    hand(expected, &found, text);
+    *current = current.pointing(Target::Current, file.number, Some(1));
+    Ok(Sw::DONE)
+}
+
+/// A cyclic file: the number of its entry, and its body.
+#[derive(Clone, Copy)]
+struct CyclicFile {
+    number: u8,
+    body: Cyclic,
+}
+
+/// The file that INCREASE is for, and what it answers, put into `bytes`; or else the refusal: by the current file; the
+/// sent number is too long; there is no record; the sum is too long; Le asks for less than the answer.
+fn find_increased<B: Board>(
+    store: &mut Store<B>,
+    current: &Current,
+    amount: &[u8],
+    expected: Option<u8>,
+    bytes: &mut RecordBytes,
+) -> Result<Result<CyclicFile, Sw>, StoreErr>
+    requires ready { IsReady store.old }
+    requires card { IsCard (committed store.old) }
+    requires current { IsCurrent (table_in store.old) current.now }
+    requires few { length amount.now ≤ 255 }
+    ensures found { IfOk result (λ answer. MatchResult answer
+        (λ file. IsIncreasable (committed store.old) current.now amount.now expected file.number file.body bytes.new.items)
+        (λ refusal. refused_by (refusals_of (card_in store.old) (session_in store.old current.now)
+        (increasing amount.now expected)) ≡ Some refusal)) }
+    ensures store { Reads store.old store.new (result_err result) }
+{
+    let file = match find_records(store, current, Target::Current, INCREASING)? {
+        Ok(file) => file,
+        Err(refusal) => return Ok(Err(refusal)),
+    };
     let body = file.body.cyclic();
     if is_too_long(body, amount) {
-        return Ok(Sw::WRONG_LENGTH);
+        return Ok(Err(Sw::WRONG_LENGTH));
     }
     let mut sum = RecordBytes::new();
     let refused = raised(body, store, amount, &mut sum)?;
     match refused {
-        Some(refusal) => return Ok(refusal),
+        Some(refusal) => return Ok(Err(refusal)),
         None => {}
     }
     let found = answer_of(&sum, amount);
     if asks_less(expected, &found) {
-        return Ok(right_length(&found));
+        return Ok(Err(right_length(&found)));
     }
-    put_sum(body, store, amount, &mut sum)?;
-    hand(expected, &found, text);
-    *current = current.pointing(Target::Current, file.number, Some(1));
-    Ok(Sw::DONE)
+    *bytes = found;
+    let number = file.number;
+    Ok(Ok(CyclicFile { number, body }))
 }
 
 /// Puts the new record into the buffer, in place of what stood there, or answers what refuses it.
@@ -94,12 +133,7 @@ fn raised<B: Board>(
 }
 
 /// Stores the new record in front, where nothing refuses it, and drops the oldest, in one transaction.
-fn put_sum<B: Board>(
-    body: Cyclic,
-    store: &mut Store<B>,
-    amount: &[u8],
-    sum: &mut RecordBytes,
-) -> Result<(), StoreErr>
+fn put_sum<B: Board>(body: Cyclic, store: &mut Store<B>, amount: &[u8]) -> Result<(), StoreErr>
     requires ready { IsReady store.old }
     requires body { IsCyclic (committed store.old) body }
     requires sent { length amount.now ≤ body.record_length }
@@ -109,7 +143,8 @@ fn put_sum<B: Board>(
     ensures done { OnOk result (Increases (committed store.old) body amount.now (committed store.new)) }
     ensures store { Changes RECORD_WRITES store.old store.new (result_err result) }
 {
-    unrefused(body.increase(store, amount, sum))
+    let mut sum = RecordBytes::new();
+    unrefused(body.increase(store, amount, &mut sum))
 }
 
 /// What INCREASE answers: the new record, and then what was sent.

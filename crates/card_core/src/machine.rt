@@ -129,7 +129,7 @@ impl<B: Board> Card<B> {
             ≡ []) }
         ensures unlit { OnErr result (self.new.facts.dark ≡ true) }
         ensures writes { self.new.facts.writes ≤ self.old.facts.writes + COMMAND_WRITES }
-        // Reads and refusals by form write nothing, UPDATE BINARY by the words that it touches.
+        // What the bytes ask for bounds the device writes: reads and refusals by form make none.
         ensures counted { self.new.facts.writes ≤ self.old.facts.writes + writes_of command.now }
         // A comparison costs a lasting try, and no command but those on PINs that carry data makes one.
         ensures compares { ComparesAsked (asked command.now) (card_found self.old) (comparisons self.old.facts)

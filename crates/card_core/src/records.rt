@@ -11,7 +11,9 @@ ghost use Rattle.card_core.specs.Outcomes.{refused_by};
 ghost use Rattle.apdu_core.specs.Requests.{update_record as updating};
 ghost use Rattle.card_core.specs.Elementary.{file_refusals};
 ghost use Rattle.card_core.specs.Standing.{IsCard};
+ghost use Rattle.card_core.specs.RecordGuards.{IsAppendable, IsReplaceable};
 ghost use Rattle.card_core.specs.Served.{Serves};
+ghost use Rattle.card_core.specs.Steps.{refusals_of};
 ghost use Rattle.card_core.specs.Working.{card_in, fits, session_in, space_in, table_in, IsCurrent, IsRecordFile};
 ghost use Rattle.card_core.specs.Lengths.{given};
 ghost use Rattle.card_core.specs.Records.{pointer_found, search_status, searching as searching_way};
@@ -153,22 +155,57 @@ pub(crate) fn update_record<B: Board>(
     ensures serves { Serves (updating target choice bytes.now) store.old current.old store.new current.new [] result }
     ensures space { OnOk result (space_in store.new ≡ space_in store.old) }
 {
-    let file = match find_records(store, current, target, replacing(choice))? {
-        Ok(file) => file,
+    let replaced = match find_replaced(store, current, target, choice, bytes)? {
+        Ok(replaced) => replaced,
         Err(refusal) => return Ok(refusal),
     };
+    let file = replaced.file;
+    file.body.update(store, replaced.number, bytes)?;
     let pointer = current.pointer_at(target);
-    let number = file.body.replaced(pointer, choice);
-    if !file.body.has_record(number) {
-        return Ok(Sw::RECORD_NOT_FOUND);
-    }
-    if !file.body.takes(bytes) {
-        return Ok(Sw::WRONG_LENGTH);
-    }
-    file.body.update(store, number, bytes)?;
-    let after = file.body.pointer_replaced(pointer, choice, number);
+    let after = file.body.pointer_replaced(pointer, choice, replaced.number);
     *current = current.pointing(target, file.number, after);
     Ok(Sw::DONE)
+}
+
+/// A record of a file: the file, and the number of the record.
+#[derive(Clone, Copy)]
+struct FileRecord {
+    file: RecordFile,
+    number: u16,
+}
+
+/// The record that UPDATE RECORD replaces by the bytes, or else the refusal: by the file; there is no such record; the
+/// bytes aren't as many as a record has.
+fn find_replaced<B: Board>(
+    store: &mut Store<B>,
+    current: &Current,
+    target: Target,
+    choice: RecordChoice,
+    bytes: &[u8],
+) -> Result<Result<FileRecord, Sw>, StoreErr>
+    requires ready { IsReady store.old }
+    requires card { IsCard (committed store.old) }
+    requires current { IsCurrent (table_in store.old) current.now }
+    requires target { IsTarget target }
+    ensures found { IfOk result (λ answer. MatchResult answer
+        (λ replaced. IsReplaceable (committed store.old) current.now target choice bytes.now replaced.file.number
+        replaced.file.body replaced.number)
+        (λ refusal. refused_by (refusals_of (card_in store.old) (session_in store.old current.now)
+        (updating target choice bytes.now)) ≡ Some refusal)) }
+    ensures store { Reads store.old store.new (result_err result) }
+{
+    let file = match find_records(store, current, target, replacing(choice))? {
+        Ok(file) => file,
+        Err(refusal) => return Ok(Err(refusal)),
+    };
+    let number = file.body.replaced(current.pointer_at(target), choice);
+    if !file.body.has_record(number) {
+        return Ok(Err(Sw::RECORD_NOT_FOUND));
+    }
+    if !file.body.takes(bytes) {
+        return Ok(Err(Sw::WRONG_LENGTH));
+    }
+    Ok(Ok(FileRecord { file, number }))
 }
 
 /// APPEND RECORD: the bytes are a new record, the last of a linear file, the first of a cyclic one, in one transaction. It
@@ -188,20 +225,45 @@ pub(crate) fn append_record<B: Board>(
     ensures serves { Serves (appending target bytes.now) store.old current.old store.new current.new [] result }
     ensures space { OnOk result (space_in store.new ≡ space_in store.old) }
 {
-    let file = match find_records(store, current, target, APPENDING)? {
+    let file = match find_appended(store, current, target, bytes)? {
         Ok(file) => file,
         Err(refusal) => return Ok(refusal),
     };
-    if file.body.is_full() {
-        return Ok(Sw::NO_ROOM);
-    }
-    if !file.body.takes(bytes) {
-        return Ok(Sw::WRONG_LENGTH);
-    }
     file.body.append(store, bytes)?;
     let number = file.body.added();
     *current = current.pointing(target, file.number, Some(number));
     Ok(Sw::DONE)
+}
+
+/// The file that APPEND RECORD adds the bytes to, or else the refusal: by the file; it is full; the bytes aren't as many
+/// as a record has.
+fn find_appended<B: Board>(
+    store: &mut Store<B>,
+    current: &Current,
+    target: Target,
+    bytes: &[u8],
+) -> Result<Result<RecordFile, Sw>, StoreErr>
+    requires ready { IsReady store.old }
+    requires card { IsCard (committed store.old) }
+    requires current { IsCurrent (table_in store.old) current.now }
+    requires target { IsTarget target }
+    ensures found { IfOk result (λ answer. MatchResult answer
+        (λ file. IsAppendable (committed store.old) current.now target bytes.now file.number file.body)
+        (λ refusal. refused_by (refusals_of (card_in store.old) (session_in store.old current.now)
+        (appending target bytes.now)) ≡ Some refusal)) }
+    ensures store { Reads store.old store.new (result_err result) }
+{
+    let file = match find_records(store, current, target, APPENDING)? {
+        Ok(file) => file,
+        Err(refusal) => return Ok(Err(refusal)),
+    };
+    if file.body.is_full() {
+        return Ok(Err(Sw::NO_ROOM));
+    }
+    if !file.body.takes(bytes) {
+        return Ok(Err(Sw::WRONG_LENGTH));
+    }
+    Ok(Ok(file))
 }
 
 /// SEARCH RECORD: the numbers of the records that hold the text go into `answer`, and the first of them becomes the current

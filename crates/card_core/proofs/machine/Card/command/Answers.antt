@@ -1,4 +1,4 @@
-use Rattle.std.proofs.Common.{◌≡◌, ◌⊎◌, ◌+◌, ◌≤◌, OnOk, OnErr, sym, ◌∙◌, ap, subst, arith}
+use Rattle.std.proofs.Common.{refl, ◌≡◌, ◌⊎◌, ◌+◌, ◌≤◌, OnOk, OnErr, sym, ◌∙◌, ap, subst, arith}
 use Rattle.undo_journal.specs.Spending.{KeepsBoard}
 use Rattle.apdu_core.specs.Asked.{asked}
 use Rattle.card_core.specs.declared.card_state.CardState.{CardState}
@@ -12,7 +12,7 @@ use Rattle.card_core.specs.Spending.{writes_of}
 use Rattle.card_core.specs.Stages.{ChangesNothing, IsStage}
 use Rattle.card_core.specs.Working.{card_in, session_while, table_in}
 use Rattle.card_core.specs.laws.SpendLaws.{few_writes}
-use Rattle.card_core.proofs.Commanding.{after, ended-done, ended-kept, ended-lost, ended-unlit, Ends}
+use Rattle.card_core.proofs.Commanding.{after, still-compares, still-stage, ended-done, ended-kept, ended-lost, ended-unlit, Ends}
 use Rattle.card_core.proofs.machine.Card.command.Given.{Over}
 use Rattle.card_core.proofs.machine.Card.command.Goals.{After-end_command}
 use Rattle.card_core.proofs.machine.Card.command.Goals as goal
@@ -132,3 +132,41 @@ returns-clause-compares g c =
     let new = c.carry_out-carried.new.store in
     subst (λ (r : Running). ComparesAsked (asked c.args.command.now) (card_found r) (comparisons r.facts) (card_in new)
     (comparisons new.facts)) c.self.view_is c.carry_out-carried.ensures.carries.compares
+
+pub returns-in-Failed-clause-has_card : goal.returns-in-Failed-clause-has_card
+returns-in-Failed-clause-has_card g c =
+    subst (λ (r : Running). HasCard r.facts.words) c.self.view_is c.self.invariant.0
+
+pub returns-in-Failed-clause-stage : goal.returns-in-Failed-clause-stage
+returns-in-Failed-clause-stage g c = still-stage c.args.self.now c.args.command.now
+
+pub returns-in-Failed-clause-idle : goal.returns-in-Failed-clause-idle
+returns-in-Failed-clause-idle g c = λ nothing. record { words = refl; writes = refl; compares = refl; matches = refl }
+
+pub returns-in-Failed-clause-writes : goal.returns-in-Failed-clause-writes
+returns-in-Failed-clause-writes g c = omega arith
+
+pub returns-in-Failed-clause-counted : goal.returns-in-Failed-clause-counted
+returns-in-Failed-clause-counted g c = omega arith
+
+pub returns-in-Failed-clause-compares : goal.returns-in-Failed-clause-compares
+returns-in-Failed-clause-compares g c = still-compares c.args.self.now c.args.command.now
+
+pub returns-in-Dark-clause-has_card : goal.returns-in-Dark-clause-has_card
+returns-in-Dark-clause-has_card g c =
+    subst (λ (r : Running). HasCard r.facts.words) c.self.view_is c.self.invariant.0
+
+pub returns-in-Dark-clause-stage : goal.returns-in-Dark-clause-stage
+returns-in-Dark-clause-stage g c = still-stage c.args.self.now c.args.command.now
+
+pub returns-in-Dark-clause-idle : goal.returns-in-Dark-clause-idle
+returns-in-Dark-clause-idle g c = λ nothing. record { words = refl; writes = refl; compares = refl; matches = refl }
+
+pub returns-in-Dark-clause-writes : goal.returns-in-Dark-clause-writes
+returns-in-Dark-clause-writes g c = omega arith
+
+pub returns-in-Dark-clause-counted : goal.returns-in-Dark-clause-counted
+returns-in-Dark-clause-counted g c = omega arith
+
+pub returns-in-Dark-clause-compares : goal.returns-in-Dark-clause-compares
+returns-in-Dark-clause-compares g c = still-compares c.args.self.now c.args.command.now
