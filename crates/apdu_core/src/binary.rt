@@ -56,8 +56,12 @@ pub(crate) fn parse_read_binary<'a>(p1: u8, p2: u8, rest: &'a [u8]) -> Result<Co
     ensures asked { Gives result (asked_by_row (Some read_binary_row) p1 p2 rest.now) }
     ensures ranges { IfOk result IsInRange }
 {
-    let place = Place::of(p1, p2).ok_or(Sw::WRONG_PARAMETERS)?;
-    let body = CommandBody::parse(rest).ok_or(Sw::WRONG_LENGTH)?;
+    let Some(place) = Place::of(p1, p2) else {
+        return Err(Sw::WRONG_PARAMETERS);
+    };
+    let Some(body) = CommandBody::parse(rest) else {
+        return Err(Sw::WRONG_LENGTH);
+    };
     match body.expected {
         Some(expected) if body.sent.is_empty() => Ok(Command::ReadBinary {
             target: place.target,
@@ -74,10 +78,11 @@ pub(crate) fn parse_update_binary<'a>(p1: u8, p2: u8, rest: &'a [u8]) -> Result<
     ensures asked { Gives result (asked_by_row (Some update_binary_row) p1 p2 rest.now) }
     ensures ranges { IfOk result IsInRange }
 {
-    let place = Place::of(p1, p2).ok_or(Sw::WRONG_PARAMETERS)?;
-    let body = CommandBody::parse(rest).ok_or(Sw::WRONG_LENGTH)?;
-    match body.expected {
-        None if !body.sent.is_empty() => Ok(Command::UpdateBinary {
+    let Some(place) = Place::of(p1, p2) else {
+        return Err(Sw::WRONG_PARAMETERS);
+    };
+    match CommandBody::parse(rest) {
+        Some(body) if body.is_text_alone() => Ok(Command::UpdateBinary {
             target: place.target,
             offset: place.offset,
             bytes: body.sent,

@@ -134,8 +134,10 @@ impl<'a> Command<'a> {
         if !is_known_class(*class) {
             return Err(Sw::UNKNOWN_CLASS);
         }
-        let known = Instruction::of(*class, *instruction).ok_or(Sw::UNKNOWN_INSTRUCTION)?;
-        known.parse_command(*p1, *p2, rest)
+        match Instruction::of(*class, *instruction) {
+            Some(known) => known.parse_command(*p1, *p2, rest),
+            None => Err(Sw::UNKNOWN_INSTRUCTION),
+        }
     }
 }
 

@@ -42,9 +42,8 @@ pub(crate) fn parse_create_file<'a>(p1: u8, p2: u8, rest: &'a [u8]) -> Result<Co
     if p1 != 0x00 || p2 != 0x00 {
         return Err(Sw::WRONG_PARAMETERS);
     }
-    let body = CommandBody::parse(rest).ok_or(Sw::WRONG_LENGTH)?;
-    match body.expected {
-        None if !body.sent.is_empty() => Ok(Command::CreateFile {
+    match CommandBody::parse(rest) {
+        Some(body) if body.is_text_alone() => Ok(Command::CreateFile {
             template: body.sent,
         }),
         _ => Err(Sw::WRONG_LENGTH),
@@ -60,10 +59,11 @@ pub(crate) fn parse_delete_file<'a>(p1: u8, p2: u8, rest: &'a [u8]) -> Result<Co
     if p1 != 0x00 || p2 != 0x00 {
         return Err(Sw::WRONG_PARAMETERS);
     }
-    let body = CommandBody::parse(rest).ok_or(Sw::WRONG_LENGTH)?;
-    if body.expected.is_some() {
+    let Some(body) = CommandBody::parse(rest) else {
         return Err(Sw::WRONG_LENGTH);
+    };
+    match Subject::of(body.sent) {
+        Some(subject) if body.expected.is_none() => Ok(Command::DeleteFile { subject }),
+        _ => Err(Sw::WRONG_LENGTH),
     }
-    let subject = Subject::of(body.sent).ok_or(Sw::WRONG_LENGTH)?;
-    Ok(Command::DeleteFile { subject })
 }

@@ -1,5 +1,6 @@
 //! The bytes after the header of a short command (ISO/IEC 7816-4, 5.2).
-ghost use Rattle.std.specs.Prelude.{◌≡◌, ◌≢◌, ◌≤◌, ◌∷◌, [], length, option_map, IfSome};
+ghost use Rattle.std.specs.Prelude.{◌≡◌, ◌≢◌, ◌≤◌, ◌∷◌, ◌&&◌, [], nat_le, not, length, option_map, IfSome};
+ghost use Rattle.std.specs.Prelude.{is_some};
 ghost use Rattle.apdu_core.specs.Bodies.{body_of};
 ghost use Rattle.apdu_core.specs.BodyView.{body_view};
 
@@ -11,6 +12,15 @@ pub(crate) struct CommandBody<'a> {
 }
 
 impl<'a> CommandBody<'a> {
+    /// Whether some bytes are sent, and Le does not stand.
+    pub fn is_text_alone(self) -> bool
+        requires { length self.sent.now ≤ 255 }
+        ensures { result ≡ (nat_le 1 (length self.entry.sent.now) && nat_le (length self.entry.sent.now) 255
+            && not (is_some self.entry.expected)) }
+    {
+        !self.sent.is_empty() && self.expected.is_none()
+    }
+
     /// Reads the bytes after a header, where they have one of the four forms.
     pub fn parse(bytes: &'a [u8]) -> Option<CommandBody<'a>>
         ensures form { option_map body_view result ≡ body_of bytes.now }

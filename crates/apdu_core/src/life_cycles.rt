@@ -37,12 +37,16 @@ pub(crate) fn parse_life_cycle_change<'a>(
     if p1 != 0x00 || p2 != 0x00 {
         return Err(Sw::WRONG_PARAMETERS);
     }
-    let body = CommandBody::parse(rest).ok_or(Sw::WRONG_LENGTH)?;
-    if body.expected.is_some() {
+    let Some(body) = CommandBody::parse(rest) else {
         return Err(Sw::WRONG_LENGTH);
+    };
+    match Subject::of(body.sent) {
+        Some(subject) if body.expected.is_none() => Ok(Command::ChangeLifeCycle {
+            change,
+            subject,
+        }),
+        _ => Err(Sw::WRONG_LENGTH),
     }
-    let subject = Subject::of(body.sent).ok_or(Sw::WRONG_LENGTH)?;
-    Ok(Command::ChangeLifeCycle { change, subject })
 }
 
 /// Reads P1, P2 and what follows the header of TERMINATE CARD USAGE. Other P1 and P2 than 00 00 are 6A86; data, or Le, are
@@ -58,9 +62,10 @@ pub(crate) fn parse_terminate_card_usage<'a>(
     if p1 != 0x00 || p2 != 0x00 {
         return Err(Sw::WRONG_PARAMETERS);
     }
-    let body = CommandBody::parse(rest).ok_or(Sw::WRONG_LENGTH)?;
-    match body.expected {
-        None if body.sent.is_empty() => Ok(Command::TerminateCardUsage),
+    match CommandBody::parse(rest) {
+        Some(body) if body.sent.is_empty() && body.expected.is_none() => Ok(
+            Command::TerminateCardUsage,
+        ),
         _ => Err(Sw::WRONG_LENGTH),
     }
 }

@@ -45,21 +45,14 @@ pub(crate) fn parse_verify<'a>(p1: u8, p2: u8, rest: &'a [u8]) -> Result<Command
     if !names_pin(p1, p2) {
         return Err(Sw::WRONG_PARAMETERS);
     }
-    let body = CommandBody::parse(rest).ok_or(Sw::WRONG_LENGTH)?;
-    if body.expected.is_some() {
+    let Some(body) = CommandBody::parse(rest) else {
+        return Err(Sw::WRONG_LENGTH);
+    };
+    let shown = body.sent.as_array::<8>();
+    if body.expected.is_some() || shown.is_none() && !body.sent.is_empty() {
         return Err(Sw::WRONG_LENGTH);
     }
-    if body.sent.is_empty() {
-        return Ok(Command::Verify {
-            pin: p2,
-            shown: None,
-        });
-    }
-    let shown = body.sent.as_array::<8>().ok_or(Sw::WRONG_LENGTH)?;
-    Ok(Command::Verify {
-        pin: p2,
-        shown: Some(shown),
-    })
+    Ok(Command::Verify { pin: p2, shown })
 }
 
 /// Reads P1, P2 and what follows the header of CHANGE REFERENCE DATA (ISO/IEC 7816-4, 11.5.7). P1 and P2 that name no PIN
@@ -75,12 +68,16 @@ pub(crate) fn parse_change_reference_data<'a>(
     if !names_pin(p1, p2) {
         return Err(Sw::WRONG_PARAMETERS);
     }
-    let body = CommandBody::parse(rest).ok_or(Sw::WRONG_LENGTH)?;
-    if body.expected.is_some() {
+    let Some(body) = CommandBody::parse(rest) else {
         return Err(Sw::WRONG_LENGTH);
+    };
+    match Replacement::of(body.sent) {
+        Some(values) if body.expected.is_none() => Ok(Command::ChangeReferenceData {
+            pin: p2,
+            values,
+        }),
+        _ => Err(Sw::WRONG_LENGTH),
     }
-    let values = Replacement::of(body.sent).ok_or(Sw::WRONG_LENGTH)?;
-    Ok(Command::ChangeReferenceData { pin: p2, values })
 }
 
 /// Reads P1, P2 and what follows the header of RESET RETRY COUNTER (ISO/IEC 7816-4, 11.5.10). P1 and P2 that name no PIN are
@@ -96,19 +93,12 @@ pub(crate) fn parse_reset_retry_counter<'a>(
     if !names_pin(p1, p2) {
         return Err(Sw::WRONG_PARAMETERS);
     }
-    let body = CommandBody::parse(rest).ok_or(Sw::WRONG_LENGTH)?;
-    if body.expected.is_some() {
+    let Some(body) = CommandBody::parse(rest) else {
+        return Err(Sw::WRONG_LENGTH);
+    };
+    let values = Replacement::of(body.sent);
+    if body.expected.is_some() || values.is_none() && !body.sent.is_empty() {
         return Err(Sw::WRONG_LENGTH);
     }
-    if body.sent.is_empty() {
-        return Ok(Command::ResetRetryCounter {
-            pin: p2,
-            values: None,
-        });
-    }
-    let values = Replacement::of(body.sent).ok_or(Sw::WRONG_LENGTH)?;
-    Ok(Command::ResetRetryCounter {
-        pin: p2,
-        values: Some(values),
-    })
+    Ok(Command::ResetRetryCounter { pin: p2, values })
 }

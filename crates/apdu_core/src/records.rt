@@ -125,8 +125,12 @@ pub(crate) fn parse_read_record<'a>(p1: u8, p2: u8, rest: &'a [u8]) -> Result<Co
     ensures asked { Gives result (asked_by_row (Some read_record_row) p1 p2 rest.now) }
     ensures ranges { IfOk result IsInRange }
 {
-    let name = RecordName::of(p1, p2).ok_or(Sw::WRONG_PARAMETERS)?;
-    let body = CommandBody::parse(rest).ok_or(Sw::WRONG_LENGTH)?;
+    let Some(name) = RecordName::of(p1, p2) else {
+        return Err(Sw::WRONG_PARAMETERS);
+    };
+    let Some(body) = CommandBody::parse(rest) else {
+        return Err(Sw::WRONG_LENGTH);
+    };
     match body.expected {
         Some(expected) if body.sent.is_empty() => Ok(Command::ReadRecord {
             target: name.target,
@@ -143,10 +147,11 @@ pub(crate) fn parse_update_record<'a>(p1: u8, p2: u8, rest: &'a [u8]) -> Result<
     ensures asked { Gives result (asked_by_row (Some update_record_row) p1 p2 rest.now) }
     ensures ranges { IfOk result IsInRange }
 {
-    let name = RecordName::of(p1, p2).ok_or(Sw::WRONG_PARAMETERS)?;
-    let body = CommandBody::parse(rest).ok_or(Sw::WRONG_LENGTH)?;
-    match body.expected {
-        None if !body.sent.is_empty() => Ok(Command::UpdateRecord {
+    let Some(name) = RecordName::of(p1, p2) else {
+        return Err(Sw::WRONG_PARAMETERS);
+    };
+    match CommandBody::parse(rest) {
+        Some(body) if body.is_text_alone() => Ok(Command::UpdateRecord {
             target: name.target,
             choice: name.choice,
             bytes: body.sent,
@@ -161,13 +166,14 @@ pub(crate) fn parse_append_record<'a>(p1: u8, p2: u8, rest: &'a [u8]) -> Result<
     ensures asked { Gives result (asked_by_row (Some append_record_row) p1 p2 rest.now) }
     ensures ranges { IfOk result IsInRange }
 {
-    let target = Target::of_records(p2).ok_or(Sw::WRONG_PARAMETERS)?;
     if p1 != 0 || p2 % 8 != 0 {
         return Err(Sw::WRONG_PARAMETERS);
     }
-    let body = CommandBody::parse(rest).ok_or(Sw::WRONG_LENGTH)?;
-    match body.expected {
-        None if !body.sent.is_empty() => Ok(Command::AppendRecord {
+    let Some(target) = Target::of_records(p2) else {
+        return Err(Sw::WRONG_PARAMETERS);
+    };
+    match CommandBody::parse(rest) {
+        Some(body) if body.is_text_alone() => Ok(Command::AppendRecord {
             target,
             bytes: body.sent,
         }),
@@ -181,19 +187,19 @@ pub(crate) fn parse_search_record<'a>(p1: u8, p2: u8, rest: &'a [u8]) -> Result<
     ensures asked { Gives result (asked_by_row (Some search_record_row) p1 p2 rest.now) }
     ensures ranges { IfOk result IsInRange }
 {
-    let target = Target::of_records(p2).ok_or(Sw::WRONG_PARAMETERS)?;
-    let direction = Direction::of(p2).ok_or(Sw::WRONG_PARAMETERS)?;
-    let body = CommandBody::parse(rest).ok_or(Sw::WRONG_LENGTH)?;
-    if body.sent.is_empty() {
-        return Err(Sw::WRONG_LENGTH);
+    let (Some(target), Some(direction)) = (Target::of_records(p2), Direction::of(p2)) else {
+        return Err(Sw::WRONG_PARAMETERS);
+    };
+    match CommandBody::parse(rest) {
+        Some(body) if !body.sent.is_empty() => Ok(Command::SearchRecord {
+            target,
+            first: RecordPlace::of(p1),
+            direction,
+            text: body.sent,
+            expected: body.expected,
+        }),
+        _ => Err(Sw::WRONG_LENGTH),
     }
-    Ok(Command::SearchRecord {
-        target,
-        first: RecordPlace::of(p1),
-        direction,
-        text: body.sent,
-        expected: body.expected,
-    })
 }
 
 /// Reads P1, P2 and what follows the header of INCREASE. Other P1 and P2 than 00 00 are 6A86; no data is 6700.
@@ -204,12 +210,11 @@ pub(crate) fn parse_increase<'a>(p1: u8, p2: u8, rest: &'a [u8]) -> Result<Comma
     if p1 != 0x00 || p2 != 0x00 {
         return Err(Sw::WRONG_PARAMETERS);
     }
-    let body = CommandBody::parse(rest).ok_or(Sw::WRONG_LENGTH)?;
-    if body.sent.is_empty() {
-        return Err(Sw::WRONG_LENGTH);
+    match CommandBody::parse(rest) {
+        Some(body) if !body.sent.is_empty() => Ok(Command::Increase {
+            amount: body.sent,
+            expected: body.expected,
+        }),
+        _ => Err(Sw::WRONG_LENGTH),
     }
-    Ok(Command::Increase {
-        amount: body.sent,
-        expected: body.expected,
-    })
 }

@@ -93,7 +93,7 @@ impl<'a> Selector<'a> {
             Way::ByName if 1 <= sent.len() && sent.len() <= 16 => Some(Selector::Name(sent)),
             Way::DownFromMaster => Some(Selector::PathFromMaster(FilePath::new(sent)?)),
             Way::DownFromCurrent => Some(Selector::PathFromCurrent(FilePath::new(sent)?)),
-            _ => None,
+            Way::ToParent | Way::ByName => None,
         }
     }
 
@@ -119,11 +119,15 @@ pub(crate) fn parse_select<'a>(p1: u8, p2: u8, rest: &'a [u8]) -> Result<Command
     let (Some(way), Some(returned)) = (Way::of(p1), Returned::of(p2)) else {
         return Err(Sw::WRONG_PARAMETERS);
     };
-    let body = CommandBody::parse(rest).ok_or(Sw::WRONG_LENGTH)?;
-    let selector = Selector::of(way, body.sent).ok_or(Sw::WRONG_LENGTH)?;
-    Ok(Command::Select {
-        selector,
-        returned,
-        expected: body.expected,
-    })
+    let Some(body) = CommandBody::parse(rest) else {
+        return Err(Sw::WRONG_LENGTH);
+    };
+    match Selector::of(way, body.sent) {
+        Some(selector) => Ok(Command::Select {
+            selector,
+            returned,
+            expected: body.expected,
+        }),
+        None => Err(Sw::WRONG_LENGTH),
+    }
 }

@@ -4,14 +4,14 @@ ghost use Rattle.std.specs.Prelude.{◌≡◌};
 ghost use Rattle.fcp_template.specs.Table.{plain_descriptor, structure_of, record_descriptor, descriptor_of};
 
 /// In which order the records of an elementary file are.
-#[derive(Clone, Copy, Debug, PartialEq, Eq)]
+#[derive(Clone, Copy)]
 pub(crate) enum Structure {
     Linear,
     Cyclic,
 }
 
 /// What a file descriptor tells of a file.
-#[derive(Clone, Copy, Debug, PartialEq, Eq)]
+#[derive(Clone, Copy)]
 pub(crate) enum Descriptor {
     Df,
     Transparent,

@@ -5,10 +5,10 @@ ghost use Rattle.std.specs.Option.{option_copied};
 ghost use Rattle.fcp_template.specs.declared.fault.FcpFault.{FcpFault};
 ghost use Rattle.fcp_template.specs.declared.fcp.Fcp.{Fcp};
 ghost use Rattle.fcp_template.specs.Table.{tag_byte, is_tag, identifier_of, name_of, short_of, number_of, size_of};
-ghost use Rattle.fcp_template.specs.Table.{records_of, life_cycle_of};
+ghost use Rattle.fcp_template.specs.Table.{records_of, life_cycle_of, rule_of, descriptor_of};
 ghost use Rattle.fcp_template.specs.Reads.{has, value_at, data_bytes, is_df_descriptor, tells_of_df, count_of};
 ghost use Rattle.fcp_template.specs.Reads.{is_again, is_missing, is_twice, has_unknown, df_of, transparent_of};
-ghost use Rattle.fcp_template.specs.Reads.{record_file_of, kind_of, fcp_of, meaning, FcpReads};
+ghost use Rattle.fcp_template.specs.Reads.{◌>>=◌ as and_then, record_file_of, kind_of, fcp_of, meaning, FcpReads};
 ghost use Rattle.fcp_template.specs.Function.{fcp_read};
 ghost use Rattle.fcp_template.specs.Ranges.{IsShort, IsSize, IsName, IsRecords, IsKind, IsCreatable};
 ghost use Rattle.card_rules.specs.declared.life_cycle.LifeCycle.TheVariants.{Terminated};
@@ -135,11 +135,11 @@ fn fcp_of<'a>(objects: &[Object<'a>]) -> Option<Fcp<'a>>
     ensures value { result ≡ fcp_of objects.now }
     ensures ranges { IfSome result IsCreatable }
 {
-    let descriptor = Descriptor::from_value(value_at(objects, Tag::FileDescriptor)?)?;
-    let identifier = identifier_of(value_at(objects, Tag::FileIdentifier)?)?;
+    let descriptor = descriptor_at(objects)?;
+    let identifier = identifier_at(objects)?;
     let kind = kind_of(descriptor, objects)?;
     let life_cycle = life_cycle_of(value_at(objects, Tag::LifeCycleStatus))?;
-    let rule = Compact::parse(value_at(objects, Tag::CompactRule)?)?;
+    let rule = rule_at(objects)?;
     if has_unknown(objects) {
         return None;
     }
@@ -149,6 +149,30 @@ fn fcp_of<'a>(objects: &[Object<'a>]) -> Option<Fcp<'a>>
         rule,
         kind,
     })
+}
+
+/// The descriptor in object 82.
+fn descriptor_at(objects: &[Object<'_>]) -> Option<Descriptor>
+    ensures { result ≡ and_then (value_at objects.now 0x82) descriptor_of }
+{
+    Descriptor::from_value(value_at(objects, Tag::FileDescriptor)?)
+}
+
+/// The identifier in object 83.
+fn identifier_at(objects: &[Object<'_>]) -> Option<u16>
+    ensures value { result ≡ and_then (value_at objects.now 0x83) identifier_of }
+    ensures below_mf { IfSome result (λ n. n ≢ 0x3F00) }
+    ensures current_df { IfSome result (λ n. n ≢ 0x3FFF) }
+    ensures reserved { IfSome result (λ n. n ≢ 0xFFFF) }
+{
+    identifier_of(value_at(objects, Tag::FileIdentifier)?)
+}
+
+/// The access rule in object 8C.
+fn rule_at(objects: &[Object<'_>]) -> Option<Compact>
+    ensures value { result ≡ and_then (value_at objects.now 0x8C) rule_of }
+{
+    Compact::parse(value_at(objects, Tag::CompactRule)?)
 }
 
 /// The kind of a file, by its descriptor.

@@ -4,7 +4,7 @@ ghost use Rattle.std.specs.Prelude.{◌≡◌, Some, None, option_map, if◌then
 ghost use Rattle.fcp_template.specs.Table.{tag_byte, is_tag};
 
 /// The tags of file control parameters (ISO/IEC 7816-4, 7.4.3).
-#[derive(Clone, Copy, Debug, PartialEq, Eq)]
+#[derive(Clone, Copy)]
 pub(crate) enum Tag {
     DataBytes,
     TotalBytes,
