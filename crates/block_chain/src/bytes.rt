@@ -133,7 +133,6 @@ fn fill_block<B: Board>(store: &mut Store<B>, page: u16, word: u32) -> Result<()
 ///
 /// # Errors
 /// What the store answers: power was lost, or the device failed. Then the blocks may hold anything.
-#[tactic(auto, using(undo_journal::specs::MemoryLaws::reports_then))]
 pub fn fill<B: Board>(store: &mut Store<B>, n: u16, byte: u8) -> Result<(), StoreErr>
     requires ready { IsReady store.old }
     requires free { HasFree (committed store.old) }

@@ -17,7 +17,6 @@ use undo_journal::{Board, PAGE_WORDS, Store, StoreErr, Txn};
 ///
 /// # Errors
 /// What the store answers: power was lost, or the device failed.
-#[tactic(auto, using(undo_journal::specs::laws::Calls::reads_then))]
 pub fn free_count<B: Board>(store: &mut Store<B>) -> Result<u16, StoreErr>
     requires ready { IsReady store.old }
     requires free { HasFree (committed store.old) }
@@ -34,7 +33,6 @@ pub fn free_count<B: Board>(store: &mut Store<B>) -> Result<u16, StoreErr>
 }
 
 /// The chain of the first n free blocks, and the page of the free block after them, or 0.
-#[tactic(auto, using(undo_journal::specs::laws::Calls::txn_reads_then))]
 fn first_free<B: Board>(txn: &mut Txn<'_, B>, n: u16) -> Result<(Chain, u16), StoreErr>
     requires ready { IsOpen (memory_of txn.old) }
     requires free { HasFree (current (memory_of txn.old)) }

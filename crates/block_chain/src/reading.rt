@@ -25,7 +25,6 @@ fn byte_of(word: u32, place: usize) -> u8
 }
 
 /// Block k of a chain, by its first block: one device read a link.
-#[tactic(auto, using(undo_journal::specs::laws::Calls::reads_then))]
 fn block_at<B: Board>(store: &mut Store<B>, first: u16, k: u16) -> Result<u16, StoreErr>
     requires ready { IsReady store.old }
     requires leads { Leads (committed store.old) first (chain (committed store.old) first) 0 }
@@ -54,7 +53,6 @@ fn read_word<B: Board>(store: &mut Store<B>, page: u16, offset: u16) -> Result<u
 ///
 /// # Errors
 /// What the store answers: power was lost, or the device failed.
-#[tactic(auto, using(undo_journal::specs::laws::Calls::reads_then))]
 pub fn byte_at<B: Board>(store: &mut Store<B>, chain: Chain, offset: u16) -> Result<u8, StoreErr>
     requires ready { IsReady store.old }
     requires leads { Leads (committed store.old) chain.first (chain_of (committed store.old) chain) 0 }
@@ -83,7 +81,6 @@ fn append_bytes<const N: usize>(out: &mut ArrayVec<u8, N>, word: u32, from: usiz
 ///
 /// # Errors
 /// What the store answers: power was lost, or the device failed.
-#[tactic(auto, using(undo_journal::specs::laws::Calls::reads_then))]
 pub fn read_bytes<B: Board, const N: usize>(
     store: &mut Store<B>,
     chain: Chain,

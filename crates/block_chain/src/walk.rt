@@ -41,7 +41,6 @@ fn mark(page: u32, seen: &mut [u8; BLOCKS as usize]) -> bool
 
 /// Walks over the chain from a page on, and marks its blocks. The answer is None where it does not end, leads out of the
 /// blocks, or comes to one that was marked.
-#[tactic(auto, using(undo_journal::specs::laws::Calls::reads_then))]
 fn walk_over<B: Board>(
     store: &mut Store<B>,
     first: u32,
@@ -79,7 +78,6 @@ fn walk_over<B: Board>(
 ///
 /// # Errors
 /// What the store answers: power was lost, or the device failed.
-#[tactic(auto, using(undo_journal::specs::laws::Calls::reads_then))]
 pub fn lay<B: Board>(store: &mut Store<B>, extents: &[Extent]) -> Result<Option<u16>, StoreErr>
     requires ready { IsReady store.old }
     ensures found { IfOk result (λ free. TellsFree (committed store.old) extents.now free) }

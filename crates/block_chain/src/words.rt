@@ -1,4 +1,4 @@
-// Links of blocks, read from a store or within a transaction.
+//! Links of blocks, read from a store or within a transaction.
 ghost use Rattle.std.specs.Prelude.{◌≡◌, ◌+◌, ◌*◌, ◌<◌, length, IfOk, OnOk, slice_index, slice_set};
 ghost use Rattle.std.specs.Result.{result_err};
 ghost use Rattle.nvm_board.specs.declared.board.TheConstants.{PAGES};
@@ -60,7 +60,6 @@ pub(crate) fn next<B: Board>(txn: &mut Txn<'_, B>, page: u16) -> Result<u16, Sto
 }
 
 /// Block k of a chain, by its first block.
-#[tactic(auto, using(undo_journal::specs::laws::Calls::txn_reads_then))]
 pub(crate) fn walk<B: Board>(txn: &mut Txn<'_, B>, first: u16, k: u16) -> Result<u16, StoreErr>
     requires ready { IsOpen (memory_of txn.old) }
     requires leads { Leads (current (memory_of txn.old)) first (chain (current (memory_of txn.old)) first) 0 }

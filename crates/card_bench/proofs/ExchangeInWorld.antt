@@ -17,7 +17,7 @@ use Rattle.card_bench.specs.WorldLaw.{comes_of, is_under_way}
 use Rattle.card_bench.specs.WorldRepairs.{counts_after, newest, watched}
 use Rattle.card_bench.proofs.ExchangeSteps.{IsReached, IsWay, LeadsTo, ShowsIn, is-way-under_way, passed, same-reader, shows-noted, stands-turned}
 use Rattle.card_bench.proofs.ExchangeSteps.{stepped, stepped-is}
-use Rattle.card_bench.proofs.LineFaults.{line_after-later, line_after-none}
+use Rattle.card_bench.proofs.BlocksOnLine.{line_after-later, line_after-none}
 use Rattle.card_bench.proofs.SoundWorlds.{AnswersByBytes, sound-powered, sound-step, sound-world}
 use Rattle.card_bench.proofs.TreeAnswers.{tree-answers}
 use Rattle.card_bench.proofs.WorldLawful.{good-world, world-lawful}

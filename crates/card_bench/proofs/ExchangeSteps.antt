@@ -29,7 +29,7 @@ use Rattle.card_bench.specs.Worlds.{toward_reader, turning, world_step}
 use Rattle.card_bench.specs.WorldLaw.{is_under_way}
 use Rattle.card_bench.specs.WorldRepairs.{Counts, newest}
 use Rattle.card_bench.proofs.CommandsGiven.{none-fault, runs-given}
-use Rattle.card_bench.proofs.LineFaults.{garbled-may_arrive, heard-garbled}
+use Rattle.card_bench.proofs.BlocksOnLine.{garbled-may_arrive, heard-garbled}
 use Rattle.card_bench.proofs.SoundBlocks.{IsSound, frame-bytes, told-bytes}
 use Rattle.card_bench.proofs.SoundWorlds.{IsSoundLine, IsSoundWorld}
 use Rattle.card_bench.proofs.WorldPhases.{Good}

@@ -1,4 +1,5 @@
 pub mod BlockRuns
+pub mod BlocksOnLine
 pub mod CardStates
 mod CommandsGiven
 pub mod ExchangeInWorld
@@ -7,7 +8,6 @@ pub mod ExchangeSteps
 pub mod FormatLemmas
 pub mod FreeTold
 pub mod HexLimits
-pub mod LineFaults
 pub mod Numbers
 pub mod PartsTaken
 pub mod PlayedTurns

@@ -25,7 +25,7 @@ use Rattle.card_bench.specs.Orders.{order_of}
 use Rattle.card_bench.specs.Performing.{Performs}
 use Rattle.card_bench.specs.Printouts.{Print, text_of}
 use Rattle.card_bench.specs.Prints.{IsFirstDesk, LinesPrint, PrintsLines}
-use Rattle.card_bench.specs.Scripts.{are_orders, Counts, FailsAtLine, IsInLine, IsTooLong, TakesLine, TakesTooMuch}
+use Rattle.card_bench.specs.Scripts.{AreOrders, Counts, FailsAtLine, IsInLine, IsTooLong, TakesLine, TakesTooMuch}
 
 -- whether a byte is a line feed
 abbrev ends : ℕ → Bool
@@ -134,8 +134,8 @@ some_bytes : (b : ℕ) (l : List ℕ) → (length (b ∷ l) == 0) ≡ false
 some_bytes b l = ne_eqb (length (b ∷ l)) 0 (λ none. let z : ⊥ = omega arith in z)
 
 -- a list of lines that goes on by one
-are_orders-more : (ls : List (List ℕ)) (line : List ℕ) → are_orders ls → is_some (order_of line) ≡ true → are_orders (ls ++ line ∷ [])
-are_orders-more ls line all one = list_all-append (λ l. is_some (order_of l)) ls (line ∷ []) ∙ ap₂ (λ (a b : Bool). a && (b && true)) all one
+orders-more : (ls : List (List ℕ)) (line : List ℕ) → AreOrders ls → is_some (order_of line) ≡ true → AreOrders (ls ++ line ∷ [])
+orders-more ls line all one = list_all-append (λ l. is_some (order_of l)) ls (line ∷ []) ∙ ap₂ (λ (a b : Bool). a && (b && true)) all one
 
 -- bytes that were taken are counted
 pub counts_of : (old new : Option (List ℕ)) (bytes : List ℕ) (before after : ℕ) → Consumes old new bytes → after ≡ before + length bytes
@@ -191,7 +191,7 @@ pub record Runs (script rest : List ℕ) (n taken : ℕ) (desk : Desk) (out : Li
   pub split : script ≡ front ++ rest
   pub goes : (more : List ℕ) → lines (front ++ more) ≡ done ++ lines more
   pub number : length done ≡ n
-  pub orders : are_orders done
+  pub orders : AreOrders done
   pub size : length front ≡ taken
   pub first : Desk
   pub begins : IsFirstDesk first
@@ -257,7 +257,7 @@ module _ (script rest rest' line : List ℕ) (n taken taken' : ℕ) (desk : Desk
       split = split_on;
       goes = fed;
       number = let sum = length-append run.done (line ∷ []) in let is_n = run.number in omega (arith, sum, is_n);
-      orders = are_orders-more run.done line run.orders (ap is_some good);
+      orders = orders-more run.done line run.orders (ap is_some good);
       size = size_on counted;
       first = run.first;
       begins = run.begins;
@@ -341,10 +341,10 @@ goes_on (Some script) (Some rest) (Some rest') n taken taken' line desk desk' he
 whole : (script rest rest' line : List ℕ) (n taken taken' : ℕ) (desk desk' : Desk) (out : List ℕ) (run : Runs script rest n taken desk out)
     (held before holds : Option (List ℕ)) (order : Order) (prints : Print) → rest ≡ line ++ rest' → rest' ≡ [] → IsInLine line
     → Appends held before out → order_of line ≡ Some order → Performs order desk desk' prints → Appends before holds (text_of prints)
-    → are_orders (lines script) × HasWritten held (lines script) holds
+    → AreOrders (lines script) × HasWritten held (lines script) holds
 whole script rest rest' [] n taken taken' desk desk' out run held before holds order prints is none inside held_out good performs wrote =
     let all : lines script ≡ run.done = last_lines script rest rest' [] n taken taken' desk out run is none inside ∙ append-nil run.done in (
-      subst are_orders (sym all) run.orders,
+      subst AreOrders (sym all) run.orders,
       (
         out,
         subst (λ (ls : List (List ℕ)). LinesPrint ls out) (sym all) (printed script rest n taken desk out run),
@@ -356,7 +356,7 @@ whole script rest rest' (b ∷ l) n taken taken' desk desk' out run held before 
     let all : lines script ≡ run.done ++ (b ∷ l) ∷ [] =
     last_lines script rest rest' (b ∷ l) n taken taken' desk out run is none inside
     ∙ ap (λ (e : Bool). run.done ++ cond e [] ((b ∷ l) ∷ [])) (some_bytes b l) in (
-      subst are_orders (sym all) (are_orders-more run.done (b ∷ l) run.orders (ap is_some good)),
+      subst AreOrders (sym all) (orders-more run.done (b ∷ l) run.orders (ap is_some good)),
       (
         out ++ text_of prints,
         subst (λ (ls : List (List ℕ)). LinesPrint ls (out ++ text_of prints)) (sym all) (record {

@@ -1,18 +1,14 @@
 -- The tree machine keeps proper cards proper, and their answers have 2 to 258 bytes.
-use Rattle.std.specs.Prelude.{◌≡◌, ◌&&◌, ℕ, Bool, true, false, List}
-use Rattle.std.proofs.Common.{refl}
+use Rattle.std.specs.Prelude.{◌≡◌, ℕ, true, List}
+use Rattle.std.proofs.lemmas.Bool.{and_parts}
 use Rattle.apdu_core.specs.OfBytes.{AreBytes}
 use Rattle.apdu_core.specs.laws.ByteLaws.{are_bytes-tell}
 use Rattle.card_core.specs.laws.AnswerLaws.{answers_are_short, step_keeps_proper}
 use Rattle.card_bench.specs.TreeMachine.{tree_machine, IsProperState}
 use Rattle.card_bench.specs.Worlds.{Answers, are_bytes, is_command}
 
-first_true : (a b : Bool) → (a && b) ≡ true → a ≡ true
-first_true true b e = refl
-first_true false b e = absurd cc
-
 pub command-bytes : (command : List ℕ) → is_command command ≡ true → AreBytes command
-command-bytes command sound = are_bytes-tell command (first_true (are_bytes command) _ sound)
+command-bytes command sound = are_bytes-tell command (and_parts (are_bytes command) _ sound).0
 
 pub tree-answers : Answers tree_machine IsProperState
 tree-answers = record {

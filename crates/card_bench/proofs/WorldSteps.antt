@@ -2,7 +2,7 @@
 use Rattle.std.specs.Prelude.{◌⊎◌, ◌≡◌, ◌≢◌, ◌≤◌, ◌<◌, ◌+◌, ◌*◌, ◌-◌, ℕ, Bool, true, false, not, ◌==◌, ◌&&◌, nat_lt, nat_le, if◌then◌else◌, List, [], ◌∷◌, ◌++◌}
 use Rattle.std.specs.Prelude.{length, take, drop, Option, is_some, unwrap_or, Result, Ok, Err, refl}
 use Rattle.std.proofs.Common.{inl, inr, ⊎_elim, sym, ◌∙◌, ap, subst, arith}
-use Rattle.std.proofs.lemmas.Bool.{leb-true, ltb-true, ltb-false, eqb-true, not-false, and_from, and_right}
+use Rattle.std.proofs.lemmas.Bool.{leb-true, ltb-true, ltb-false, eqb-true, not-false, and_from, and_parts, and_right}
 use Rattle.std.proofs.lemmas.List.{append_assoc, append-nil, length-append, length-drop, length-take, take_all, take-append-drop}
 use Rattle.t1_link.specs.declared.block.ErrorKind.{ErrorKind}
 use Rattle.t1_link.specs.declared.block.ErrorKind.TheVariants.{ErrorFree, OtherError}
@@ -13,7 +13,7 @@ use Rattle.t1_link.specs.declared.sequence_number.SequenceNumber.{SequenceNumber
 use Rattle.t1_link.specs.Blocks.{Block, IsSpellable, frame, heard, information, receive_ready, resynch_request, resynch_response, told_as}
 use Rattle.t1_link.specs.SequenceNumbers.{other_number, same}
 use Rattle.t1_link.specs.BlockLaws.{heard-frame}
-use Rattle.t1_link.specs.SequenceNumberLaws.{other-other, same-other, same-refl}
+use Rattle.t1_link.specs.laws.SequenceNumbers.{other-other, same-other, same-refl}
 use Rattle.t1_link.specs.CardTable.{Link, Taken, card_takes, fresh, joined, refusing, sending, sent_block, sent_more}
 use Rattle.t1_link.specs.CardRows.{card_takes-again, card_takes-fault, card_takes-joins, card_takes-next, card_takes-nothing}
 use Rattle.t1_link.specs.CardRows.{card_takes-resynch, card_takes-runs}
@@ -50,10 +50,6 @@ other_than a b e = subst (λ (c : SequenceNumber). same a (other_number c) ≡ f
 turned_back : (a b : SequenceNumber) → a ≡ other_number b → other_number a ≡ b
 turned_back a b e = ap other_number e ∙ other-other b
 
-both_true : (a b : Bool) → (a && b) ≡ true → (a ≡ true) × (b ≡ true)
-both_true true b e = (refl, e)
-both_true false b e = absurd cc
-
 not_true : (a : Bool) → not a ≡ true → a ≡ false
 not_true true e = absurd cc
 not_true false e = refl
@@ -62,14 +58,14 @@ not_true false e = refl
 busy_refuses : (r : Reader) (command : List ℕ) → r.phase ≡ Busy → may_send r command ≡ true → ⊥
 busy_refuses r command e may =
     let busy : is_busy r.phase ≡ true = ap is_busy e in
-    let free : is_busy r.phase ≡ false = not_true (is_busy r.phase) (both_true (not (is_busy r.phase)) (is_command command) may).0 in
+    let free : is_busy r.phase ≡ false = not_true (is_busy r.phase) (and_parts (not (is_busy r.phase)) (is_command command) may).0 in
     absurd (cc (busy, free))
 
 -- a command has 1 to 261 bytes
 pub command_size : (command : List ℕ) → is_command command ≡ true → (1 ≤ length command) × (length command ≤ 261)
 command_size command sound =
-    let size = both_true (nat_le 1 (length command)) (nat_le (length command) 261)
-    (both_true (are_bytes command) (nat_le 1 (length command) && nat_le (length command) 261) sound).1 in
+    let size = and_parts (nat_le 1 (length command)) (nat_le (length command) 261)
+    (and_parts (are_bytes command) (nat_le 1 (length command) && nat_le (length command) 261) sound).1 in
     (leb-true 1 (length command) size.0, leb-true (length command) 261 size.1)
 
 -- what the line makes of a block is a fault
@@ -78,7 +74,7 @@ fault_of (Err fault) e = (fault, refl)
 fault_of (Ok b) e = absurd cc
 
 garbled_fault : (bytes : List ℕ) → may_arrive bytes ≡ true → (fault : Fault) × (heard bytes ≡ Err fault)
-garbled_fault bytes may = fault_of (heard bytes) (both_true (are_bytes bytes) (is_garbled (heard bytes)) may).1
+garbled_fault bytes may = fault_of (heard bytes) (and_parts (are_bytes bytes) (is_garbled (heard bytes)) may).1
 
 -- a try, or a request in its place
 abbrev trying_so : Bool → Reader → Block → Turned
@@ -737,7 +733,7 @@ module _ {M : Type 0} (machine : Machine M) (start : M) (Invariant : M → Type 
       → Good machine start c w → Good machine start no_counts (giving w command)
   given c w command may (at_rest r repaired) =
       let ready : World M = record w { reader = record w.reader { answer = []; phase = Busy }; sent = command ∷ w.sent; offered = [] } in
-      let sound = (both_true (not (is_busy w.reader.phase)) (is_command command) may).1 in
+      let sound = (and_parts (not (is_busy w.reader.phase)) (is_command command) may).1 in
       let some : 1 ≤ length command = (command_size command sound).0 in
       let less : command_blocks command ≡ 1 + command_blocks (drop 254 command) = one_block_fewer command some in
       subst (λ (t : Turned). Good machine start no_counts (turning (record w { sent = command ∷ w.sent; offered = [] }) t))

@@ -1,5 +1,7 @@
 -- What the fields of an exchange stand for: blocks and answers stand in buffers.
 use Rattle.std.specs.Prelude.{Result, Ok, Err}
+use Rattle.core.specs.declared.ops.ControlFlow.{ControlFlow}
+use Rattle.core.specs.declared.ops.ControlFlow.TheVariants.{Continue, Break}
 use Rattle.card_bench.specs.declared.exchange.Toward.{Toward}
 use Rattle.card_bench.specs.declared.exchange.Toward.TheVariants.{Card, Reader}
 use Rattle.card_bench.specs.declared.exchange.Ending.{Ending}
@@ -20,6 +22,6 @@ ended_by Lost blocks = given_up
 ended_by Dark blocks = cut_off
 
 -- what follows
-abbrev pub follows_of : Result Toward Ending → Blocks → Result Way Ended
-follows_of (Ok toward) blocks = Ok (way_of toward blocks)
-follows_of (Err ending) blocks = Err (ended_by ending blocks)
+abbrev pub follows_of : ControlFlow Ending Toward → Blocks → Result Way Ended
+follows_of (Continue toward) blocks = Ok (way_of toward blocks)
+follows_of (Break ending) blocks = Err (ended_by ending blocks)

@@ -1,6 +1,6 @@
 -- The lines of a script, and what each asks for.
-use Rattle.std.specs.Prelude.{ℕ, ◌+◌, ◌-◌, ◌*◌, ◌≤◌, ◌==◌, ◌&&◌, ◌||◌, nat_le, nat_lt, nat_eq, Bool, List, [], ◌∷◌, length, drop, take, codes, slice_index, Option, Some, None, Result, Ok}
-use Rattle.std.specs.Prelude.{Err, option_map, if◌then◌else◌}
+use Rattle.std.specs.Prelude.{ℕ, ◌+◌, ◌-◌, ◌*◌, ◌≤◌, ◌==◌, ◌&&◌, ◌||◌, nat_le, nat_lt, nat_eq, Bool, List, [], ◌∷◌, length, drop, take}
+use Rattle.std.specs.Prelude.{codes, slice_index, Option, Some, None, Result, Ok, Err, option_map, if◌then◌else◌}
 use Rattle.std.specs.Char.{is_ascii_digit}
 use Rattle.std.specs.Cmp.Lexicographic.{pointwise}
 use Rattle.std.specs.List.{list_all}
@@ -43,7 +43,9 @@ cut_by number mask = None
 abbrev pub cut_in : List ℕ → Option Order
 cut_in words =
     let digits = length words - 5 in
-    if nat_le 5 (length words) && (slice_index words digits == 32) then cut_by (number_in (take digits words)) (mask_by (decode_of (drop (digits + 1) words))) else None
+    if nat_le 5 (length words) && (slice_index words digits == 32)
+    then cut_by (number_in (take digits words)) (mask_by (decode_of (drop (digits + 1) words)))
+    else None
 
 -- whether a line begins with a word
 abbrev pub begins : List ℕ → List ℕ → Bool

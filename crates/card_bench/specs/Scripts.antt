@@ -13,12 +13,12 @@ use Rattle.card_bench.specs.declared.order.TheConstants.{LINE_LIMIT}
 use Rattle.card_bench.specs.Orders.{order_of}
 
 -- lines that ask for something
-abbrev pub are_orders : List (List ℕ) → Type 0
-are_orders ls = list_all (λ line. is_some (order_of line)) ls ≡ true
+abbrev pub AreOrders : List (List ℕ) → Type 0
+AreOrders ls = list_all (λ line. is_some (order_of line)) ls ≡ true
 
 -- a script that can be run to its end
 pub record IsScript (script : List ℕ) : Type 0 where
-  pub orders : are_orders (lines script)
+  pub orders : AreOrders (lines script)
   pub size : length script ≤ SCRIPT_LIMIT
 
 -- the bytes that were looked at end a line, with a line feed or with the script
@@ -42,7 +42,7 @@ pub record FailsAtLine (script : List ℕ) (n : ℕ) : Type 0 where
   pub after : List (List ℕ)
   pub all : lines script ≡ before ++ line ∷ after
   pub number : length before + 1 ≡ n
-  pub orders : are_orders before
+  pub orders : AreOrders before
   pub bad : order_of line ≡ None
   pub seen : List ℕ
   pub rest : List ℕ

@@ -3,8 +3,8 @@ use Rattle.std.specs.Prelude.{◌⊎◌, ◌≡◌, ◌≢◌, ◌≤◌, ◌<�
 use Rattle.t1_link.specs.declared.reader_end.Failure.TheVariants.{LinkLost}
 use Rattle.t1_link.specs.Blocks.{Block, information, receive_ready, resynch_request, resynch_response, ifs_request, ifs_response, heard}
 use Rattle.t1_link.specs.ReaderTable.{is_busy}
-use Rattle.card_bench.specs.Worlds.{Arrival, Carried, Done, Event, Failed, Line, Machine, Report, Unknown, World, arrival, at_reader, carrying, in_vain, is_command, powered}
-use Rattle.card_bench.specs.Worlds.{quiet, toward_card, toward_reader, world, world_step}
+use Rattle.card_bench.specs.Worlds.{Arrival, Carried, Done, Event, Failed, Line, Machine, Report, Unknown, World, arrival, at_reader}
+use Rattle.card_bench.specs.Worlds.{carrying, in_vain, is_command, powered, quiet, toward_card, toward_reader, world, world_step}
 
 -- the report of a command that may have been carried out or not
 abbrev pub IsOpenEnded : Report → Type 0

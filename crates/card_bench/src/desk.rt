@@ -3,6 +3,8 @@ ghost use Rattle.std.specs.Prelude.{◌≡◌, ◌≢◌, ◌≤◌, ℕ, List, 
 ghost use Rattle.arrayvec.specs.ArrayVec.{ArrayVec};
 ghost use Rattle.std.specs.Option.{ForSome};
 ghost use Rattle.t1_link.specs.declared.reader_end.Phase.TheVariants.{Busy};
+ghost use Rattle.card_bench.specs.declared.order.TheConstants.{COMMAND_LIMIT};
+ghost use Rattle.card_bench.specs.declared.printing.TheConstants.{BYTES_ROOM};
 ghost use Rattle.card_bench.specs.BenchStates.{off};
 ghost use Rattle.card_bench.specs.Orders.{IsSized};
 ghost use Rattle.card_bench.specs.Performing.{Performs, PerformsCommand, free_shown, shown};
@@ -67,7 +69,7 @@ impl<B: Socket> Desk<B> {
     /// The bytes that the card sent last.
     pub(crate) fn bytes(&self) -> &[u8]
         ensures bytes { result.now ≡ self.now.blocks.toward_reader.items }
-        ensures fits { length result.now ≤ 258 }
+        ensures fits { length result.now ≤ BYTES_ROOM }
     {
         &self.blocks.toward_reader
     }
@@ -131,7 +133,7 @@ impl<B: Armed + Faultless> Desk<B> {
     /// A command through both ends of the link, where power is on and the reader's end is there.
     fn command(&mut self, command: &[u8]) -> Printed
         requires some { 1 ≤ length command.now }
-        requires size { length command.now ≤ 261 }
+        requires size { length command.now ≤ COMMAND_LIMIT }
         requires good { IsGood self.old.bench }
         ensures good { IsGood self.new.bench }
         ensures performs { PerformsCommand self.old.bench

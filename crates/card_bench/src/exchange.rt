@@ -2,6 +2,7 @@
 ghost use Rattle.std.specs.Prelude.{◌≡◌, ◌≢◌, ◌≤◌, length, IfErr, IsOk, OnOk, ◌↔◌};
 ghost use Rattle.t1_link.specs.declared.reader_end.Phase.TheVariants.{Busy};
 ghost use Rattle.t1_link.specs.ReaderFields.{IsSend};
+ghost use Rattle.card_bench.specs.declared.order.TheConstants.{COMMAND_LIMIT};
 ghost use Rattle.card_bench.specs.BenchStates.{IsOn};
 ghost use Rattle.card_bench.specs.Exchanges.{Exchanged, Exchanges, GoesOn, Passes, following};
 ghost use Rattle.card_bench.specs.ExchangeViews.{ended_by, follows_of, way_of};
@@ -10,6 +11,7 @@ ghost use Rattle.card_bench.specs.Plays.{IsGood};
 use crate::line::Line;
 use crate::playing::{Bench, Sent};
 use nvm_board::{Faultless, Socket};
+use std::ops::ControlFlow;
 use t1_link::{BlockBytes, Next, ReaderEnd};
 
 /// The most blocks that a command puts on the line, in both directions together.
@@ -52,7 +54,7 @@ pub(crate) fn exchange<B: Socket + Faultless>(
 ) -> Ending
     requires idle { reader.old.phase ≢ Busy }
     requires some { 1 ≤ length command.now }
-    requires size { length command.now ≤ 261 }
+    requires size { length command.now ≤ COMMAND_LIMIT }
     requires good { IsGood bench.old }
     requires power { IsOn bench.old }
     ensures exchanged { Exchanged
@@ -62,8 +64,15 @@ pub(crate) fn exchange<B: Socket + Faultless>(
     ensures idle { GoesOn (ended_by result blocks.new) → reader.new.phase ≢ Busy }
 {
     match saying(reader.send(command), blocks) {
-        Ok(first) => pass_blocks(bench, reader, line, blocks, first, LINE_BLOCKS),
-        Err(ending) => ending,
+        ControlFlow::Continue(first) => pass_blocks(
+            bench,
+            reader,
+            line,
+            blocks,
+            first,
+            LINE_BLOCKS,
+        ),
+        ControlFlow::Break(ending) => ending,
     }
 }
 
@@ -88,28 +97,29 @@ fn pass_blocks<B: Socket + Faultless>(
     let mut toward = first;
     for _ in 0..limit {
         match pass(bench, reader, line, blocks, toward) {
-            Ok(next) => toward = next,
-            Err(ending) => return ending,
+            ControlFlow::Continue(next) => toward = next,
+            ControlFlow::Break(ending) => return ending,
         }
     }
     Ending::Lost
 }
 
-/// Puts a block on the line. Where it doesn't arrive, the reader's end waits in vain.
+/// Puts a block on the line, and tells which end the next one goes to, or how the exchange ended. Where the block doesn't
+/// arrive, the reader's end waits in vain.
 fn pass<B: Socket + Faultless>(
     bench: &mut Bench<B>,
     reader: &mut ReaderEnd,
     line: &mut Line,
     blocks: &mut Blocks,
     toward: Toward,
-) -> Result<Toward, Ending>
+) -> ControlFlow<Ending, Toward>
     requires busy { reader.old.phase ≡ Busy }
     requires good { IsGood bench.old }
     requires power { IsOn bench.old }
     ensures good { IsGood bench.new }
-    ensures power { OnOk result (IsOn bench.new) }
-    ensures busy { OnOk result (reader.new.phase ≡ Busy) }
-    ensures idle { IfErr result (λ ending. GoesOn (ended_by ending blocks.new) → reader.new.phase ≢ Busy) }
+    ensures power { OnOk (follows_of result blocks.new) (IsOn bench.new) }
+    ensures busy { OnOk (follows_of result blocks.new) (reader.new.phase ≡ Busy) }
+    ensures idle { IfErr (follows_of result blocks.new) (λ ended. GoesOn ended → reader.new.phase ≢ Busy) }
     ensures passes { Passes
         (record { bench = bench.old; reader = reader.old; line = line.old }) (way_of toward blocks.old)
         (record { bench = bench.new; reader = reader.new; line = line.new }) (follows_of result blocks.new) }
@@ -120,8 +130,8 @@ fn pass<B: Socket + Faultless>(
                 return saying(reader.timed_out(), blocks);
             }
             match bench.good_send(&blocks.toward_card, &mut blocks.toward_reader) {
-                Sent::Reply => Ok(Toward::Reader),
-                Sent::Dark => Err(Ending::Dark),
+                Sent::Reply => ControlFlow::Continue(Toward::Reader),
+                Sent::Dark => ControlFlow::Break(Ending::Dark),
                 Sent::Mute => unreachable!(),
             }
         }
@@ -135,20 +145,20 @@ fn pass<B: Socket + Faultless>(
 }
 
 /// What follows from what the reader's end says. Its block and its answer go to their buffers.
-fn saying(next: Next, blocks: &mut Blocks) -> Result<Toward, Ending>
+fn saying(next: Next, blocks: &mut Blocks) -> ControlFlow<Ending, Toward>
     ensures follows { follows_of result blocks.new ≡ following next }
-    ensures send { IsSend next ↔ IsOk result }
+    ensures send { IsSend next ↔ IsOk (follows_of result blocks.new) }
 {
     match next {
         Next::Send(block) => {
             blocks.toward_card = block;
-            Ok(Toward::Card)
+            ControlFlow::Continue(Toward::Card)
         }
         Next::Done(answer) => {
             blocks.toward_reader = answer;
-            Err(Ending::Answered)
+            ControlFlow::Break(Ending::Answered)
         }
-        Next::Unknown => Err(Ending::SetBack),
-        Next::Failed(_) => Err(Ending::Lost),
+        Next::Unknown => ControlFlow::Break(Ending::SetBack),
+        Next::Failed(_) => ControlFlow::Break(Ending::Lost),
     }
 }

@@ -1,3 +1,4 @@
+//! Why a script was not run to its end, and the exit status that tells it.
 use thiserror::Error;
 
 /// Why a script was not run to its end. What was written before it stands.

@@ -77,7 +77,7 @@ fn falls_due(pending: &mut Option<u32>) -> bool
 }
 
 /// Turns bit 1 of the last byte of a block.
-#[tactic(auto, using(crate::proofs::LineFaults::last_bit_turned_at))]
+#[tactic(auto, using(crate::proofs::BlocksOnLine::last_bit_turned_at))]
 fn garble(block: &mut [u8])
     ensures { block.new ≡ last_bit_turned block.old }
 {

@@ -1,4 +1,4 @@
-// What a line of a script asks for.
+//! What a line of a script asks for.
 ghost use Rattle.std.specs.Prelude.{◌≡◌, ◌≤◌, length, true, IfSome};
 ghost use Rattle.std.specs.List.{list_all};
 ghost use Rattle.std.specs.Str.Parse.{digits_value};
@@ -83,18 +83,17 @@ impl Order {
 
 /// The bytes that hexadecimal digits spell, where they are 1 to `limit`.
 fn bytes_of(digits: &[u8], limit: usize) -> Option<GivenBytes>
-    requires { limit ≤ 300 }
+    requires { limit ≤ BLOCK_LIMIT }
     ensures bytes { result ≡ bytes_in digits.now limit }
     ensures sized { IfSome result (λ bytes. (1 ≤ length bytes.items) × (length bytes.items ≤ limit)) }
 {
     let size = digits.len() / 2;
-    if size < 1 || limit < size {
+    if !(1..=limit).contains(&size) {
         return None;
     }
-    let mut buffer = [0; BLOCK_LIMIT];
-    hex::decode_to_slice(digits, &mut buffer[..size]).ok()?;
-    let mut bytes = ArrayVec::new();
-    bytes.try_extend_from_slice(&buffer[..size]).unwrap();
+    let mut bytes = GivenBytes::from([0; BLOCK_LIMIT]);
+    bytes.truncate(size);
+    hex::decode_to_slice(digits, &mut bytes).ok()?;
     Some(bytes)
 }
 
@@ -148,7 +147,7 @@ fn value_of(digits: &[u8]) -> u32
 {
     let mut value = 0;
     for digit in digits {
-        value = value * 10 + (*digit - b'0') as u32;
+        value = value * 10 + u32::from(*digit - b'0');
     }
     value
 }

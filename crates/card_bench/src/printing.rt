@@ -77,8 +77,8 @@ fn spell(bytes: &[u8], line: &mut PrintedText)
     line.push(b'<');
     line.push(b' ');
     for byte in bytes {
-        line.push(DIGITS[(*byte / 16) as usize]);
-        line.push(DIGITS[(*byte % 16) as usize]);
+        line.push(DIGITS[usize::from(*byte / 16)]);
+        line.push(DIGITS[usize::from(*byte % 16)]);
     }
     line.push(b'\n');
 }

@@ -41,7 +41,7 @@ impl Cyclic {
     pub fn has_record(self, number: u16) -> bool
         ensures { IsTrue result ↔ ((1 ≤ number) × (number ≤ self.records)) }
     {
-        1 <= number && number <= self.records
+        (1..=self.records).contains(&number)
     }
 
     /// Reads the record of a number into the buffer, in place of what stood there (READ RECORD, ISO/IEC 7816-4,

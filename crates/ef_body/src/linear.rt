@@ -37,7 +37,7 @@ impl Linear {
     pub fn has_record(self, number: u16) -> bool
         ensures { IsTrue result ↔ ((1 ≤ number) × (number ≤ self.records)) }
     {
-        1 <= number && number <= self.records
+        (1..=self.records).contains(&number)
     }
 
     /// Whether there is no room for one more record.

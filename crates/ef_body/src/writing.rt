@@ -1,4 +1,4 @@
-// The words of bodies that are written, each time in one transaction.
+//! The words of bodies that are written, each time in one transaction.
 ghost use Rattle.std.specs.Prelude.{◌≡◌, ◌⊎◌, ◌≤◌, ◌<◌, ◌+◌, ◌*◌, ◌-◌, ◌%◌, length, slice_set, OnOk};
 ghost use Rattle.std.specs.Result.{result_err};
 ghost use Rattle.undo_journal.specs.Memory.{committed, current, room, IsOpen, IsReady};

@@ -58,7 +58,7 @@ fn low_short(identifier: u16) -> u8
         else 0) }
 {
     let low = (identifier % 32) as u8;
-    if 1 <= low && low <= MOST_SHORT {
+    if (1..=MOST_SHORT).contains(&low) {
         low
     } else {
         0
@@ -83,7 +83,6 @@ fn short_by_default<B: Board>(store: &mut Store<B>, df: u8, identifier: u16) -> 
 }
 
 /// The short identifier of a new file of a kind that has one; 0 for none.
-#[tactic(auto, using(undo_journal::specs::laws::Calls::reads_then))]
 fn short_number<B: Board>(
     store: &mut Store<B>,
     df: u8,
@@ -106,7 +105,6 @@ fn short_number<B: Board>(
 }
 
 /// The short identifier of a new file; 0 for none. A dedicated file has none.
-#[tactic(auto, using(undo_journal::specs::laws::Calls::reads_then))]
 fn short_of<B: Board>(store: &mut Store<B>, df: u8, fcp: &Fcp<'_>) -> Result<u8, StoreErr>
     requires ready { IsReady store.old }
     requires tree { TreeStands (committed store.old) }
@@ -116,11 +114,10 @@ fn short_of<B: Board>(store: &mut Store<B>, df: u8, fcp: &Fcp<'_>) -> Result<u8,
         ≡ short_of_new (tree_of (committed store.old)) (path_of (table (committed store.old)) df) fcp.now) }
     ensures store { Reads store.old store.new (result_err result) }
 {
-    if kind_number(&fcp.kind) == 1 {
-        return Ok(0);
+    match fcp.kind {
+        FileKind::Df { .. } => Ok(0),
+        _ => short_number(store, df, fcp.identifier, fcp.kind.short()),
     }
-    let number = short_number(store, df, fcp.identifier, fcp.kind.short())?;
-    Ok(number)
 }
 
 /// The number of a kind of file in its entry.
@@ -223,7 +220,6 @@ fn add_file<B: Board>(
 }
 
 /// Fills the blocks of a new file, and then adds it in a transaction.
-#[tactic(auto, using(undo_journal::specs::MemoryLaws::reports_then))]
 fn write_file<B: Board>(
     store: &mut Store<B>,
     e: u8,
@@ -249,7 +245,6 @@ fn write_file<B: Board>(
 }
 
 /// The place of a new file in a dedicated file, or the first reason why it is refused.
-#[tactic(auto, using(undo_journal::specs::laws::Calls::reads_then))]
 fn find_place<B: Board>(store: &mut Store<B>, df: u8, fcp: &Fcp<'_>) -> Result<Place, StoreErr>
     requires ready { IsReady store.old }
     requires tree { TreeStands (committed store.old) }
@@ -270,7 +265,6 @@ fn find_place<B: Board>(store: &mut Store<B>, df: u8, fcp: &Fcp<'_>) -> Result<P
 ///
 /// # Errors
 /// What the store answers: power was lost, or the device failed. The tree is then as it was, or as after the creation.
-#[tactic(auto, using(undo_journal::specs::MemoryLaws::reports_then, undo_journal::specs::laws::Calls::reads_then))]
 pub fn create<B: Board>(store: &mut Store<B>, df: u8, fcp: &Fcp<'_>) -> Result<Creation, StoreErr>
     requires ready { IsReady store.old }
     requires tree { TreeStands (committed store.old) }

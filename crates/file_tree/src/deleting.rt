@@ -48,7 +48,6 @@ fn is_within(entries: &[Entry], top: u8, e: u8) -> bool
 }
 
 /// An entry that goes with another one, as it is in the part that goes; else a free one.
-#[tactic(auto, using(crate::specs::laws::Tables::entry_within))]
 fn going_entry(entries: &[Entry], top: u8, e: u8) -> Entry
     requires { e < length entries.now }
     ensures { result ≡ going entries.now top e }
@@ -142,7 +141,6 @@ fn take_away<B: Board>(
 }
 
 /// The same, in a transaction: all of it, or nothing.
-#[tactic(auto, using(undo_journal::specs::MemoryLaws::reports_then))]
 fn remove<B: Board>(store: &mut Store<B>, part: &[Entry], chains: &[Chain]) -> Result<(), StoreErr>
     requires ready { IsReady store.old }
     requires size { length part.now ≡ 64 }
@@ -169,7 +167,6 @@ struct Removal {
 }
 
 /// What goes with the file of an entry.
-#[tactic(auto, using(undo_journal::specs::laws::Calls::reads_then))]
 fn removal_of<B: Board>(store: &mut Store<B>, e: u8) -> Result<Removal, StoreErr>
     requires ready { IsReady store.old }
     requires tree { TreeStands (committed store.old) }
@@ -198,7 +195,6 @@ fn removal_of<B: Board>(store: &mut Store<B>, e: u8) -> Result<Removal, StoreErr
 ///
 /// # Errors
 /// What the store answers: power was lost, or the device failed. The tree is then as it was, or as after the deletion.
-#[tactic(auto, using(undo_journal::specs::MemoryLaws::reports_then, undo_journal::specs::laws::Calls::reads_spend))]
 pub fn delete<B: Board>(store: &mut Store<B>, e: u8) -> Result<FreeSpace, StoreErr>
     requires ready { IsReady store.old }
     requires tree { TreeStands (committed store.old) }

@@ -48,7 +48,6 @@ fn life_of(entry: &Entry) -> LifeCycle
 /// A file above that of an entry is deactivated or terminated. By at most seven steps from child to parent all files above
 /// are met; each step reads one entry, and a file that bars ends the way. `parent` is the number that the entry tells of
 /// its parent.
-#[tactic(auto, using(undo_journal::specs::laws::Calls::reads_then))]
 fn is_below_barred<B: Board>(store: &mut Store<B>, e: u8, parent: u8) -> Result<bool, StoreErr>
     requires ready { IsReady store.old }
     requires tree { TreeStands (committed store.old) }
@@ -89,7 +88,6 @@ fn next_of(entry: &Entry, barred: bool, command: LifeCycleCommand) -> Option<Lif
 ///
 /// # Errors
 /// What the store answers: power was lost, or the device failed.
-#[tactic(auto, using(undo_journal::specs::laws::Calls::reads_then))]
 pub fn is_barred<B: Board>(store: &mut Store<B>, e: u8) -> Result<bool, StoreErr>
     requires ready { IsReady store.old }
     requires tree { TreeStands (committed store.old) }
@@ -102,8 +100,7 @@ pub fn is_barred<B: Board>(store: &mut Store<B>, e: u8) -> Result<bool, StoreErr
     if bars(life_of(&entry)) {
         return Ok(true);
     }
-    let barred = is_below_barred(store, e, entry.parent)?;
-    Ok(barred)
+    is_below_barred(store, e, entry.parent)
 }
 
 /// The state of an entry's file after a life cycle command. None where it is refused, as its conditions of use aren't
@@ -111,7 +108,6 @@ pub fn is_barred<B: Board>(store: &mut Store<B>, e: u8) -> Result<bool, StoreErr
 ///
 /// # Errors
 /// What the store answers: power was lost, or the device failed.
-#[tactic(auto, using(undo_journal::specs::laws::Calls::reads_then))]
 pub fn next_life_cycle<B: Board>(
     store: &mut Store<B>,
     e: u8,
@@ -137,7 +133,6 @@ fn life_word(entry: &Entry, life: u8) -> u32
 }
 
 /// Writes a word, in a transaction.
-#[tactic(auto, using(undo_journal::specs::MemoryLaws::reports_then))]
 fn write_word<B: Board>(store: &mut Store<B>, at: u16, word: u32) -> Result<(), StoreErr>
     requires ready { IsReady store.old }
     requires place { IsDataAddress (committed store.old) at }
@@ -163,8 +158,7 @@ fn write_life<B: Board>(store: &mut Store<B>, e: u8, word: u32) -> Result<(), St
         (committed store.new ≡ slice_set (committed store.old) (address (FIRST_ENTRY_PAGE + e) 0) word) }
     ensures store { Changes 4 store.old store.new (result_err result) }
 {
-    write_word(store, PAGE_WORDS * (FIRST_ENTRY_PAGE + u16::from(e)), word)?;
-    Ok(())
+    write_word(store, PAGE_WORDS * (FIRST_ENTRY_PAGE + u16::from(e)), word)
 }
 
 /// Brings the file of an entry into a state: ACTIVATE, DEACTIVATE and TERMINATE, once nothing refuses them. Where the file
@@ -173,7 +167,6 @@ fn write_life<B: Board>(store: &mut Store<B>, e: u8, word: u32) -> Result<(), St
 /// # Errors
 /// What the store answers: power was lost, or the device failed. The file is then in the state that it was in, or in the
 /// new one.
-#[tactic(auto, using(undo_journal::specs::MemoryLaws::reports_then, undo_journal::specs::laws::Calls::reads_then))]
 pub fn set_life_cycle<B: Board>(
     store: &mut Store<B>,
     e: u8,
@@ -194,8 +187,7 @@ pub fn set_life_cycle<B: Board>(
     if entry.life == life {
         return Ok(());
     }
-    write_life(store, e, life_word(&entry, life))?;
-    Ok(())
+    write_life(store, e, life_word(&entry, life))
 }
 
 /// Whether the rule that an entry has allows what the bit stands for, in the state that it tells.
@@ -214,7 +206,6 @@ fn allows_in(entry: &Entry, bit: AccessBit, verified: &Verified) -> bool
 ///
 /// # Errors
 /// What the store answers: power was lost, or the device failed.
-#[tactic(auto, using(undo_journal::specs::laws::Calls::reads_then))]
 pub fn is_allowed<B: Board>(
     store: &mut Store<B>,
     e: u8,
@@ -248,6 +239,5 @@ pub fn terminate_card<B: Board>(store: &mut Store<B>) -> Result<(), StoreErr>
         store,
         PAGE_WORDS * HEADER_PAGE + STATE_WORD,
         CARD_TERMINATED,
-    )?;
-    Ok(())
+    )
 }

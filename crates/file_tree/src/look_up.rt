@@ -24,7 +24,6 @@ fn is_child(entry: &Entry, df: u8, identifier: u16) -> bool
 }
 
 /// The entry of the child of a dedicated file with this identifier, if it has one.
-#[tactic(auto, using(undo_journal::specs::laws::Calls::reads_then))]
 pub fn find_child<B: Board>(
     store: &mut Store<B>,
     df: u8,
@@ -51,7 +50,6 @@ fn has_short_identifier(entry: &Entry, df: u8, short: u8) -> bool
 }
 
 /// The entry of the child of a dedicated file with this short identifier, 1 to 30, if it has one.
-#[tactic(auto, using(undo_journal::specs::laws::Calls::reads_then))]
 fn find_short_child<B: Board>(
     store: &mut Store<B>,
     df: u8,
@@ -74,7 +72,6 @@ fn find_short_child<B: Board>(
 ///
 /// # Errors
 /// What the store answers: power was lost, or the device failed.
-#[tactic(auto, using(undo_journal::specs::laws::Calls::reads_then))]
 pub fn find_short<B: Board>(store: &mut Store<B>, df: u8, short: u8) -> Result<Option<u8>, StoreErr>
     requires ready { IsReady store.old }
     requires tree { TreeStands (committed store.old) }
@@ -86,8 +83,7 @@ pub fn find_short<B: Board>(store: &mut Store<B>, df: u8, short: u8) -> Result<O
     ensures elementary { IfOk result (λ found. IfSome found (λ e. 2 ≤ (entry_in (table (committed store.old)) e).kind)) }
     ensures store { Reads store.old store.new (result_err result) }
 {
-    let found = find_short_child(store, df, short)?;
-    Ok(found)
+    find_short_child(store, df, short)
 }
 
 /// The number of an entry whose file is a dedicated one.
@@ -98,7 +94,6 @@ fn if_dedicated(e: u8, entry: &Entry) -> Option<u8>
 }
 
 /// A dedicated file beside this one with this identifier. The master file has none beside it.
-#[tactic(auto, using(undo_journal::specs::laws::Calls::reads_then))]
 fn find_beside<B: Board>(
     store: &mut Store<B>,
     df: u8,
@@ -139,7 +134,6 @@ fn named_above(df: u8, own: &Entry, above: &Entry, identifier: u16) -> Option<u8
 }
 
 /// The parent of a dedicated file, or itself, or the master file: the first that has this identifier.
-#[tactic(auto, using(undo_journal::specs::laws::Calls::reads_then))]
 fn find_above<B: Board>(
     store: &mut Store<B>,
     df: u8,
@@ -161,7 +155,6 @@ fn find_above<B: Board>(
 ///
 /// # Errors
 /// What the store answers: power was lost, or the device failed.
-#[tactic(auto, using(undo_journal::specs::laws::Calls::reads_then))]
 pub fn select<B: Board>(
     store: &mut Store<B>,
     df: u8,

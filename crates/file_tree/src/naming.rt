@@ -40,7 +40,6 @@ pub(crate) fn entry_named(entries: &[Entry], name: &[u8]) -> Option<u8>
 ///
 /// # Errors
 /// What the store answers: power was lost, or the device failed.
-#[tactic(auto, using(undo_journal::specs::laws::Calls::reads_then))]
 pub fn find_name<B: Board>(store: &mut Store<B>, name: &[u8]) -> Result<Option<u8>, StoreErr>
     requires ready { IsReady store.old }
     requires tree { TreeStands (committed store.old) }
@@ -57,7 +56,6 @@ pub fn find_name<B: Board>(store: &mut Store<B>, name: &[u8]) -> Result<Option<u
 ///
 /// # Errors
 /// What the store answers: power was lost, or the device failed.
-#[tactic(auto, using(undo_journal::specs::laws::Calls::reads_then))]
 pub fn find_parent<B: Board>(store: &mut Store<B>, df: u8) -> Result<Option<u8>, StoreErr>
     requires ready { IsReady store.old }
     requires tree { TreeStands (committed store.old) }
@@ -79,7 +77,6 @@ pub fn find_parent<B: Board>(store: &mut Store<B>, df: u8) -> Result<Option<u8>,
 ///
 /// # Errors
 /// What the store answers: power was lost, or the device failed.
-#[tactic(auto, using(undo_journal::specs::laws::Calls::reads_then))]
 pub fn find_path<B: Board>(
     store: &mut Store<B>,
     df: u8,
@@ -118,6 +115,5 @@ pub fn find_path_from_master<B: Board>(
     ensures used { IfOk result (λ found. IfSome found (IsUsed (table (committed store.old)))) }
     ensures store { Reads store.old store.new (result_err result) }
 {
-    let found = find_path(store, 0, path)?;
-    Ok(found)
+    find_path(store, 0, path)
 }

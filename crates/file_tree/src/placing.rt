@@ -11,7 +11,7 @@ ghost use Rattle.file_tree.specs.laws.Places.{TellsPlace};
 
 use crate::reading::read_table;
 use crate::refusing::{first_free, is_deepest};
-use block_chain::free_count;
+use block_chain::{BLOCK_BYTES, free_count};
 use card_rules::Sw;
 use fcp_template::Fcp;
 use undo_journal::{Board, Store, StoreErr};
@@ -27,11 +27,12 @@ pub(crate) enum Place {
 pub(crate) fn blocks_for(size: u16) -> u16
     ensures { result ≡ blocks_for size }
 {
-    ((u32::from(size) + 59) / 60) as u16
+    // in 32 bits: what is added may bring the greatest sizes past 65,535
+    let block = u32::from(BLOCK_BYTES);
+    ((u32::from(size) + block - 1) / block) as u16
 }
 
 /// The place of a new file in a dedicated file, if there is one.
-#[tactic(auto, using(undo_journal::specs::laws::Calls::reads_then))]
 pub(crate) fn place_for<B: Board>(
     store: &mut Store<B>,
     df: u8,

@@ -12,7 +12,6 @@ use crate::layout::{ENTRIES, FIRST_ENTRY_PAGE};
 use undo_journal::{Board, PAGE_WORDS, Store, StoreErr};
 
 /// The words of an entry's page that an entry takes, each read once.
-#[tactic(auto, using(undo_journal::specs::laws::Calls::reads_then))]
 fn read_words<B: Board>(store: &mut Store<B>, e: u8) -> Result<[u32; ENTRY_WORDS], StoreErr>
     requires ready { IsReady store.old }
     requires within { e < 64 }
@@ -29,7 +28,6 @@ fn read_words<B: Board>(store: &mut Store<B>, e: u8) -> Result<[u32; ENTRY_WORDS
 }
 
 /// An entry by its number, as its page tells it.
-#[tactic(auto, using(undo_journal::specs::laws::Calls::reads_then))]
 pub fn read_entry<B: Board>(store: &mut Store<B>, e: u8) -> Result<Entry, StoreErr>
     requires ready { IsReady store.old }
     requires within { e < 64 }
@@ -41,7 +39,6 @@ pub fn read_entry<B: Board>(store: &mut Store<B>, e: u8) -> Result<Entry, StoreE
 }
 
 /// All entries, in the order of their numbers. It reads eleven words of each.
-#[tactic(auto, using(undo_journal::specs::laws::Calls::reads_then))]
 pub fn read_table<B: Board>(store: &mut Store<B>) -> Result<Table, StoreErr>
     requires ready { IsReady store.old }
     ensures table { IfOk result (λ entries. entries.items ≡ table (committed store.old)) }

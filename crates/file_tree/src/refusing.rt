@@ -47,7 +47,6 @@ pub(crate) fn first_free(entries: &[Entry]) -> Option<u8>
 }
 
 /// A child of the dedicated file has the short identifier that is given.
-#[tactic(auto, using(undo_journal::specs::laws::Calls::reads_then))]
 fn is_short_taken<B: Board>(
     store: &mut Store<B>,
     df: u8,
@@ -88,7 +87,6 @@ fn first_taken(identifier: bool, name: bool, short: bool) -> Option<Sw>
 }
 
 /// Why a name of a new file is taken, if one is: its identifier, its name, or its short identifier.
-#[tactic(auto, using(undo_journal::specs::laws::Calls::reads_then))]
 pub(crate) fn taken<B: Board>(
     store: &mut Store<B>,
     df: u8,

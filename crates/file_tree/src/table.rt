@@ -12,7 +12,6 @@ use crate::layout::{DEEPEST, MASTER_FILE};
 use crate::rules::are_entries;
 
 /// The parent of an entry's file; past the table that of a free entry.
-#[tactic(auto, using(crate::specs::laws::Tables::entry_past))]
 pub(crate) fn parent_of(entries: &[Entry], e: u8) -> u8
     ensures { result ≡ (entry_in entries.now e).parent }
 {
@@ -42,7 +41,6 @@ fn is_master_file(entry: &Entry) -> bool
 }
 
 /// The file of an entry stands in a dedicated file, no more than seven steps below the master file.
-#[tactic(auto, using(crate::specs::laws::Tables::entry_past))]
 fn is_below_master(entries: &[Entry], e: u8) -> bool
     requires { e < length entries.now }
     ensures { IsTrue result ↔ IsBelowMaster entries.now e }
@@ -108,7 +106,6 @@ fn are_apart(entries: &[Entry]) -> bool
 }
 
 /// Whether entries hold to the rules that make a tree of them.
-#[tactic(auto, using(crate::specs::laws::Alikes::table_of, crate::specs::laws::Alikes::table_apart))]
 pub fn is_table(entries: &[Entry]) -> bool
     requires { length entries.now ≡ 64 }
     ensures { IsTrue result ↔ IsTable entries.now }

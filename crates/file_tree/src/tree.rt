@@ -14,7 +14,6 @@ use undo_journal::{Board, Store, StoreErr};
 
 /// What is free in a memory that stands for a tree of files, or None where it stands for none. It reads eleven words of
 /// each entry, one link of each block, and the header's word of the free chain, and nothing twice.
-#[tactic(auto, using(undo_journal::specs::laws::Calls::reads_then))]
 pub fn is_tree<B: Board>(store: &mut Store<B>) -> Result<Option<FreeSpace>, StoreErr>
     requires ready { IsReady store.old }
     ensures tree { IfOk result (TellsSpace (committed store.old)) }

@@ -4,7 +4,7 @@ use Rattle.std.proofs.Common.{◌≡◌, ◌⊎◌, ◌<◌, ℕ, List, sym, ◌
 use Rattle.std.proofs.Math.Logic.{⊎_map}
 use Rattle.nvm_board.specs.Facts.{Facts, RisesAt, raised}
 use Rattle.undo_journal.specs.declared.error.StoreErr.{StoreErr}
-use Rattle.undo_journal.specs.Calls.{Changes, Ends, OnlyReads, UnlessFailed}
+use Rattle.undo_journal.specs.Calls.{Changes, Leaves, OnlyReads, UnlessFailed}
 use Rattle.undo_journal.specs.Memory.{Memory, IsIdle, IsReady, KeepsWords, Reports, committed}
 use Rattle.undo_journal.specs.laws.Memory.{reports_then}
 use Rattle.undo_journal.specs.Spending.{WritesAtMost}
@@ -31,7 +31,7 @@ charge_handed {T} n a b (Err f) e is changes =
 
 -- a comparison after reads ends with no transaction
 pub compare_ends : (a b c : Memory) (told : Option StoreErr) → IsIdle a → OnlyReads a b → KeepsWords b c → Reports b c
-    → UnlessFailed told (IsReady c) → c.failed ≡ told → Ends a c told
+    → UnlessFailed told (IsReady c) → c.failed ≡ told → Leaves a c told
 compare_ends a b c told idle reads keeps reports ready tells = record {
   reports = reports_then a b c reads.reports reports;
   idle = keeps.used ∙ reads.keeps.used ∙ idle;

@@ -1,7 +1,7 @@
 //! The ends that follow a charge: each compares once, what was charged, and sets the PIN where it was right.
 ghost use Rattle.std.specs.Prelude.{◌≡◌, ◌⊎◌, ◌<◌, ◌≤◌, IfOk};
 ghost use Rattle.std.specs.Result.{result_err};
-ghost use Rattle.undo_journal.specs.Calls.{Reads, Ends};
+ghost use Rattle.undo_journal.specs.Calls.{Reads, Leaves};
 ghost use Rattle.undo_journal.specs.Memory.{committed, IsReady};
 ghost use Rattle.nvm_board.specs.declared.board.TheConstants.{SECRETS};
 ghost use Rattle.pin_store.specs.declared.layout.TheConstants.{PINS};
@@ -33,7 +33,7 @@ pub fn settle<B: Board>(
     ensures done { IfOk result (EndsByOutcome charged shown.now
         (verified_pin (pin_in store.old charged)) store.old store.new) }
     ensures pages { ArePinPages (committed store.new) }
-    ensures store { Ends store.old store.new (result_err result) }
+    ensures store { Leaves store.old store.new (result_err result) }
     ensures spends { ComparesOnce 1 charged store.old.facts store.new.facts }
 {
     let secret = charged.secret();
@@ -63,7 +63,7 @@ pub fn change<B: Board>(
     ensures done { IfOk result (EndsByOutcome charged shown.now
         (changed_pin new.now (pin_in store.old charged)) store.old store.new) }
     ensures pages { ArePinPages (committed store.new) }
-    ensures store { Ends store.old store.new (result_err result) }
+    ensures store { Leaves store.old store.new (result_err result) }
     ensures spends { ComparesOnce 10 charged store.old.facts store.new.facts }
 {
     let secret = charged.secret();
@@ -94,7 +94,7 @@ pub fn reset_counter<B: Board>(
     ensures done { IfOk result (EndsByOutcome charged shown.now
         (reset_pin new.now (pin_in store.old charged)) store.old store.new) }
     ensures pages { ArePinPages (committed store.new) }
-    ensures store { Ends store.old store.new (result_err result) }
+    ensures store { Leaves store.old store.new (result_err result) }
     ensures spends { ComparesOnce 13 charged store.old.facts store.new.facts }
 {
     let secret = charged.secret();
@@ -115,7 +115,7 @@ fn compare<B: Board>(
     requires pages { ArePinPages (committed store.old) }
     ensures done { IfOk result (Compared charged shown.now store.old store.new) }
     ensures kept { committed store.new ≡ committed store.old }
-    ensures store { Ends store.old store.new (result_err result) }
+    ensures store { Leaves store.old store.new (result_err result) }
     ensures spends { ComparesOnce 0 charged store.old.facts store.new.facts }
 {
     let Charged { secret } = charged;

@@ -10,4 +10,3 @@ pub mod laws
 pub use Rattle.t1_link.specs.laws.Blocks as BlockLaws
 pub use Rattle.t1_link.specs.laws.CardRows
 pub use Rattle.t1_link.specs.laws.ReaderRows
-pub use Rattle.t1_link.specs.laws.SequenceNumbers as SequenceNumberLaws

@@ -1,4 +1,4 @@
--- Sequence numbers of I-blocks, which are counted modulo 2 (ISO/IEC 7816-3, 11.3.2.2 and 11.6.2).
+-- Sequence numbers of I-blocks, which are counted modulo 2 (ISO/IEC 7816-3, 11.3.2.2).
 use Rattle.std.specs.Prelude.{ℕ, Bool, true, false}
 use Rattle.t1_link.specs.declared.sequence_number.SequenceNumber.{SequenceNumber}
 use Rattle.t1_link.specs.declared.sequence_number.SequenceNumber.TheVariants.{Zero, One}
@@ -15,7 +15,7 @@ same Zero One = false
 same One Zero = false
 same One One = true
 
--- what a number adds to a control byte that has it in this bit
+-- what a number adds to a control byte in which this is its bit
 abbrev pub at_bit : ℕ → SequenceNumber → ℕ
 at_bit bit Zero = 0
 at_bit bit One = bit

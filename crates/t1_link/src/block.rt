@@ -10,14 +10,17 @@ ghost use Rattle.t1_link.specs.Spoken.{block_of, spoken};
 use crate::sequence_number::SequenceNumber;
 use arrayvec::ArrayVec;
 
-/// The bytes of a block: at most prologue, 254 bytes of information and the check byte.
-pub type BlockBytes = ArrayVec<u8, 258>;
+/// The bytes of a block: prologue, information field and check byte.
+pub type BlockBytes = ArrayVec<u8, LONGEST_BLOCK>;
 
 /// The most bytes of an information field (11.4.2).
 pub(crate) const FIELD_LIMIT: usize = 254;
 
 /// Bytes of a block beside its information field: node address, control byte, length byte and check byte.
 const OVERHEAD: usize = 4;
+
+/// The most bytes of a block.
+const LONGEST_BLOCK: usize = FIELD_LIMIT + OVERHEAD;
 
 /// The node address of every block.
 const NODE_ADDRESS: u8 = 0x00;
@@ -120,7 +123,7 @@ impl<'a> Block<'a> {
         if bytes.len() < OVERHEAD {
             return Err(Fault::WrongLength);
         }
-        let len = bytes[2] as usize;
+        let len = usize::from(bytes[2]);
         if len > FIELD_LIMIT || bytes.len() != len + OVERHEAD {
             return Err(Fault::WrongLength);
         }
@@ -177,6 +180,7 @@ impl<'a> Block<'a> {
         out.push(exclusive_or(out.as_slice()));
     }
 
+    /// The control byte.
     fn control_byte(self) -> u8
         ensures { result ≡ control_byte (block_of self.entry) }
     {
@@ -218,9 +222,7 @@ impl<'a> Block<'a> {
         ensures { out.new.items ≡ out.old.items ++ field_of (block_of self.entry) }
     {
         match self {
-            Block::Information { field, .. } => {
-                let _ = out.try_extend_from_slice(field);
-            }
+            Block::Information { field, .. } => out.try_extend_from_slice(field).unwrap(),
             Block::IfsRequest(size) | Block::IfsResponse(size) => out.push(size),
             Block::ReceiveReady { .. } | Block::ResynchRequest | Block::ResynchResponse => {}
         }

@@ -7,16 +7,19 @@ ghost use Rattle.t1_link.specs.CardTable.{sending, sent_block, takes_information
 ghost use Rattle.t1_link.specs.Spoken.{block_of};
 
 use crate::block::{Block, BlockBytes, ErrorKind};
-use crate::outgoing::Outgoing;
+use crate::outgoing::{LONGEST_COMMAND, Outgoing};
 use crate::sequence_number::SequenceNumber;
 use arrayvec::ArrayVec;
 use std::marker::Model;
 
 /// The bytes of an answer.
-pub type AnswerBytes = ArrayVec<u8, 258>;
+pub type AnswerBytes = ArrayVec<u8, LONGEST_ANSWER>;
 
-/// The most command bytes that are kept: one more than a command has.
-const COMMAND_LIMIT: usize = 262;
+/// The most bytes of an answer: 256 of data and a status word.
+const LONGEST_ANSWER: usize = 258;
+
+/// The most bytes of a command that are kept: one more than it may have, which is enough to refuse it.
+const KEPT_COMMAND: usize = LONGEST_COMMAND + 1;
 
 /// The size of information field that a reader takes after power-on.
 const FIRST_IFSD: u8 = 32;
@@ -38,7 +41,7 @@ pub struct CardEnd {
     ifsd: u8,
     has_sent: bool,
     answer: Outgoing,
-    command: ArrayVec<u8, COMMAND_LIMIT>,
+    command: ArrayVec<u8, KEPT_COMMAND>,
     waits: bool,
 }
 
@@ -112,6 +115,7 @@ impl CardEnd {
         self.waits = false;
         self.command.clear();
         self.answer.load(answer.as_slice());
+        // It is always a reply, as `send_next` promises.
         let _ = self.send_next(out);
     }
 
@@ -226,7 +230,7 @@ impl CardEnd {
         ensures action { result ≡ Action.Reply }
         ensures block { out.new.items ≡ bytes_of (sending self.old.link self.old.link.rest).reaction }
     {
-        self.answer.cut(self.ifsd as usize);
+        self.answer.cut(usize::from(self.ifsd));
         self.number = self.number.other();
         self.has_sent = true;
         self.send_again(out)
@@ -234,9 +238,9 @@ impl CardEnd {
 }
 
 /// Joins the bytes of a block to those of a command; what is past the limit is dropped.
-fn keep(command: &mut ArrayVec<u8, COMMAND_LIMIT>, field: &[u8])
+fn keep(command: &mut ArrayVec<u8, KEPT_COMMAND>, field: &[u8])
     ensures { command.new.items ≡ take 262 (command.old.items ++ field.now) }
 {
     let kept = command.remaining_capacity().min(field.len());
-    let _ = command.try_extend_from_slice(&field[..kept]);
+    command.try_extend_from_slice(&field[..kept]).unwrap();
 }

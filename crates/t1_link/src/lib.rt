@@ -11,4 +11,3 @@ mod sequence_number;
 pub use block::{BlockBytes, ErrorKind, Fault};
 pub use card_end::{Action, AnswerBytes, CardEnd};
 pub use reader_end::{Failure, Next, Phase, ReaderEnd};
-pub use sequence_number::SequenceNumber;

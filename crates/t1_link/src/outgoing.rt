@@ -6,13 +6,13 @@ ghost use Rattle.t1_link.specs.Cut.{cut};
 use arrayvec::ArrayVec;
 use std::marker::Model;
 
-/// The most bytes that are sent in pieces: a command has at most 261, an answer at most 258.
-const LIMIT: usize = 261;
+/// The most bytes of a command, and so of what is sent in pieces: an answer has fewer.
+pub(crate) const LONGEST_COMMAND: usize = 261;
 
 /// Bytes that are sent in pieces: the last piece, and what is left.
 #[derive(Drop)]
 pub(crate) struct Outgoing {
-    bytes: ArrayVec<u8, LIMIT>,
+    bytes: ArrayVec<u8, LONGEST_COMMAND>,
     start: usize,
     end: usize,
 }
@@ -29,6 +29,7 @@ impl Model for Outgoing {
 }
 
 impl Outgoing {
+    /// No bytes.
     pub(crate) fn new() -> Outgoing
         ensures { result ≡ record { field = []; rest = [] } }
     {
@@ -41,13 +42,13 @@ impl Outgoing {
 
     /// Bytes of which nothing is sent yet.
     pub(crate) fn load(&mut self, bytes: &[u8])
-        requires { length bytes.now ≤ LIMIT }
+        requires { length bytes.now ≤ LONGEST_COMMAND }
         ensures { self.new ≡ record { field = []; rest = bytes.now } }
     {
         self.start = 0;
         self.end = 0;
         self.bytes.clear();
-        let _ = self.bytes.try_extend_from_slice(bytes);
+        self.bytes.try_extend_from_slice(bytes).unwrap();
     }
 
     /// Takes the next piece.

@@ -11,7 +11,7 @@ ghost use Rattle.t1_link.specs.Spoken.{block_of, spoken};
 
 use crate::block::{Block, BlockBytes, ErrorKind, FIELD_LIMIT, Fault};
 use crate::card_end::AnswerBytes;
-use crate::outgoing::Outgoing;
+use crate::outgoing::{LONGEST_COMMAND, Outgoing};
 use crate::sequence_number::SequenceNumber;
 use arrayvec::ArrayVec;
 use std::marker::Model;
@@ -113,7 +113,7 @@ impl ReaderEnd {
     pub fn send(&mut self, command: &[u8]) -> Next
         requires idle { self.old.phase ≢ Phase.Busy }
         requires some { 1 ≤ length command.now }
-        requires size { length command.now ≤ 261 }
+        requires size { length command.now ≤ LONGEST_COMMAND }
         ensures state { self.new ≡ (reader_sends self.old command.now).reader }
         ensures next { result ≡ next_of (reader_sends self.old command.now).outcome }
 
@@ -232,7 +232,7 @@ impl ReaderEnd {
         if is_short || self.answer.remaining_capacity() < field.len() {
             return self.fail(Failure::BadAnswer);
         }
-        let _ = self.answer.try_extend_from_slice(field);
+        self.answer.try_extend_from_slice(field).unwrap();
         self.expected = self.expected.other();
         if more {
             self.tries = 0;

@@ -3,9 +3,9 @@
 ghost use Rattle.std.specs.Prelude.{◌≡◌};
 ghost use Rattle.t1_link.specs.SequenceNumbers.{at_bit, other_number};
 
-/// The number of an I-block, N(S), or of the I-block that is expected, N(R): both are counted modulo 2 (11.6.2).
+/// The number of an I-block, N(S), or of the I-block that is expected, N(R): both are counted modulo 2.
 #[derive(Clone, Copy, Debug, PartialEq, Eq)]
-pub enum SequenceNumber {
+pub(crate) enum SequenceNumber {
     Zero,
     One,
 }
@@ -21,7 +21,7 @@ impl SequenceNumber {
         }
     }
 
-    /// What it adds to a control byte that has it in this bit.
+    /// What it adds to a control byte in which this is its bit.
     pub(crate) fn at_bit(self, bit: u8) -> u8
         ensures { result ≡ at_bit bit self }
     {

@@ -3,6 +3,7 @@ use Rattle.std.specs.Prelude.{◌≡◌, ◌≢◌, ◌⊎◌, ◌<◌, ◌==◌
 use Rattle.std.specs.Prelude.{map, find, Option, None, Some, IfSome, option_map}
 use Rattle.std.specs.FinMap.{entries}
 use Rattle.std.proofs.Common.{refl, sym, ◌∙◌, ap, subst, arith, inl, inr, ⊎_elim, true≢false}
+use Rattle.std.proofs.lemmas.Bool.{and_parts}
 use Rattle.std.proofs.lemmas.Bool.Decides.{eqb_tells}
 use Rattle.std.proofs.lemmas.List.{append_assoc, append-nil}
 use Rattle.file_tree.specs.declared.entry.Entry.{Entry}
@@ -16,7 +17,6 @@ use Rattle.file_tree.specs.laws.Paths.{path-zero, parent-push, identifier-push, 
 use Rattle.file_tree.specs.laws.Nodes.{Node, used_small, exists-used, exists-none}
 use Rattle.file_tree.specs.laws.Tables.{length-table}
 use Rattle.file_tree.specs.laws.LookUps.{TellsChild, picks, at_root, above_path}
-use Rattle.file_tree.specs.laws.Shorts.{first_of_both}
 use Rattle.file_tree.specs.laws.Refusing.{TellsNamed, child_told, name_found}
 use Rattle.file_tree.specs.laws.Standing.{stands_tree}
 
@@ -79,7 +79,7 @@ no_child : (tree : Tree) → IsTree tree → (path : Path) (id : ℕ) → exists
 no_child tree is path id none = by_test (exists tree (path ++ id ∷ [])) refl
   where
     by_test : (b : Bool) → exists tree (path ++ id ∷ []) ≡ b → exists tree (path ++ id ∷ []) ≡ false
-    by_test true there = absurd (true≢false (sym (first_of_both _ _ (is.parents (path ++ id ∷ []) there))
+    by_test true there = absurd (true≢false (sym (and_parts _ _ (is.parents (path ++ id ∷ []) there)).0
         ∙ ap (exists tree) (parent-push path id) ∙ none))
     by_test false there = there
 

@@ -11,6 +11,7 @@ use Rattle.std.specs.FinMap.{nat_cmp-IsAntisymmetric}
 use Rattle.std.specs.FinMap.Entries.{put, by_order}
 use Rattle.std.proofs.Common.{refl, sym, ◌∙◌, ap, ap₂, subst, arith, inl, inr, true≢false, Ordering, Less, Equal}
 use Rattle.std.proofs.Common.{Greater}
+use Rattle.std.proofs.lemmas.Bool.{and_parts}
 use Rattle.std.proofs.lemmas.Bool.Decides.{eqb_tells}
 use Rattle.file_tree.specs.declared.entry.Entry.{Entry}
 use Rattle.file_tree.specs.Cards.{Path, File, Body, dedicated, elementary, parent, short_of}
@@ -136,14 +137,6 @@ empty_path : (p : Path) → length p ≡ 0 → p ≡ []
 empty_path [] none = refl
 empty_path (id ∷ p) none = absurd (omega arith)
 
-pub first_of_both : (a b : Bool) → (a && b) ≡ true → a ≡ true
-first_of_both true b both = refl
-first_of_both false b both = absurd (true≢false (sym both))
-
-second_of : (a b : Bool) → (a && b) ≡ true → b ≡ true
-second_of true b both = both
-second_of false b both = absurd (true≢false (sym both))
-
 module _ (m : List ℕ) (rules : IsTable (table m)) (df n : ℕ) (used_df : IsUsed (table m) df) (some : n ≢ 0) where
   abbrev names_it : Node → Bool
   names_it x = is_child (path_of (table m) df) x.0 && has_short x.1 n
@@ -177,7 +170,7 @@ module _ (m : List ℕ) (rules : IsTable (table m)) (df n : ℕ) (used_df : IsUs
         (path-zero (table m) 7 e same.1)))
     | inr other ↦
         let above : 0 < e = (let d = other.1 in omega (arith, d)) in
-        let same : same_path (parent (path_of (table m) e)) (path_of (table m) df) ≡ true = second_of _ _ is in
+        let same : same_path (parent (path_of (table m) e)) (path_of (table m) df) ≡ true = (and_parts _ _ is).1 in
         record {
           below = above;
           used = used;
@@ -194,8 +187,8 @@ module _ (m : List ℕ) (rules : IsTable (table m)) (df n : ℕ) (used_df : IsUs
       let told = node_tells m e x.0 x.1 is in
       let here : (is_child (path_of (table m) df) (path_of (table m) e) && has_short (file_in m e) n) ≡ true =
       (λ i. is_child (path_of (table m) df) (sym told.1 i) && has_short (sym told.2 i) n) ∙ passes in
-      let short : ((entry_in (table m) e).short == n) ≡ true = sym (file_short e told.0) ∙ second_of _ _ here in (
-        path_child e told.0 (first_of_both _ _ here),
+      let short : ((entry_in (table m) e).short == n) ≡ true = sym (file_short e told.0) ∙ (and_parts _ _ here).1 in (
+        path_child e told.0 (and_parts _ _ here).0,
         elim (eqb_tells (entry_in (table m) e).short n) [
           | inl same ↦ same.1
           | inr other ↦ absurd (true≢false (sym short ∙ other.0))

@@ -5,7 +5,7 @@ use Rattle.std.specs.Prelude.{slice_index, slice_range, Option, None, Some, Resu
 use Rattle.std.specs.Option.{ok_or, option_map}
 use Rattle.std.specs.Int.Bits.{xor_self, xor_assoc, xor_zero_l, xor_zero_r}
 use Rattle.std.proofs.Common.{cond, ⊎_elim, sym, ◌∙◌, ap, subst, arith}
-use Rattle.std.proofs.lemmas.Bool.{le-ltb, ltb-false, eq-eqb, ne_eqb, eqb-true, le-leb, leb-true}
+use Rattle.std.proofs.lemmas.Bool.{and_parts, or_parts, le-ltb, ltb-false, eq-eqb, ne_eqb, eqb-true, le-leb, leb-true}
 use Rattle.std.proofs.lemmas.Grind.{elements, same_number_lists}
 use Rattle.std.proofs.lemmas.Bool.Decides.{eqb_tells}
 use Rattle.std.proofs.lemmas.List.{length-append, length-take}
@@ -113,8 +113,8 @@ heard-frame (ifs_request size) h = heard-kind (ifs_request size) (omega arith)
 heard-frame (ifs_response size) h = heard-kind (ifs_response size) (omega arith)
     ∙ ap (λ (s : Option ℕ). ok_or (option_map ifs_response s) UnknownBlock) (size_told-one size h.0 h.1)
 
--- what the bytes of a block that was read are
-pub record Reads (control : ℕ) (field : List ℕ) (b : Block) : Type 0 where
+-- a control byte and an information field are read as this block: they are its own, and it has bytes
+pub record IsReadAs (control : ℕ) (field : List ℕ) (b : Block) : Type 0 where
   pub control_is : control_byte b ≡ control
   pub field_is : field_of b ≡ field
   pub spellable : IsSpellable b
@@ -122,10 +122,6 @@ pub record Reads (control : ℕ) (field : List ℕ) (b : Block) : Type 0 where
 passed : {A : Type 0} (test : Bool) (a x : A) → cond test (Some a) None ≡ Some x → (test ≡ true) × (a ≡ x)
 passed true a x e = (refl, cc)
 passed false a x e = absurd cc
-
-both : (a b : Bool) → (a && b) ≡ true → (a ≡ true) × (b ≡ true)
-both true b e = (refl, e)
-both false b e = absurd cc
 
 is_empty : (field : List ℕ) → length field ≡ 0 → field ≡ []
 is_empty [] e = refl
@@ -135,16 +131,16 @@ is_one : (field : List ℕ) → length field ≡ 1 → field ≡ slice_index fie
 is_one [] e = absurd (omega (arith, e))
 is_one (x ∷ field) e = ap (λ (xs : List ℕ). x ∷ xs) (is_empty field (omega (arith, e)))
 
-reads_some : (control : ℕ) (field : List ℕ) (a b : Block) → Reads control field a → Some a ≡ Some b
-    → Reads control field b
-reads_some control field a b h e = let same : a ≡ b = cc in subst (Reads control field) same h
+reads_some : (control : ℕ) (field : List ℕ) (a b : Block) → IsReadAs control field a → Some a ≡ Some b
+    → IsReadAs control field b
+reads_some control field a b h e = let same : a ≡ b = cc in subst (IsReadAs control field) same h
 
-reads_bare : (control : ℕ) (field : List ℕ) (a b : Block) → Reads control [] a → bare field a ≡ Some b
-    → Reads control field b
+reads_bare : (control : ℕ) (field : List ℕ) (a b : Block) → IsReadAs control [] a → bare field a ≡ Some b
+    → IsReadAs control field b
 reads_bare control field a b h e =
     let p = passed (length field == 0) a b e in
     let none : [] ≡ field = sym (is_empty field (eqb-true _ 0 p.0)) in
-    subst (λ (xs : List ℕ). Reads control xs b) none (subst (Reads control []) p.1 h)
+    subst (λ (xs : List ℕ). IsReadAs control xs b) none (subst (IsReadAs control []) p.1 h)
 
 passed_map : (make : ℕ → Block) (test : Bool) (v : ℕ) (b : Block) → option_map make (cond test (Some v) None) ≡ Some b
     → (test ≡ true) × (make v ≡ b)
@@ -152,29 +148,29 @@ passed_map make true v b e = (refl, cc)
 passed_map make false v b e = absurd cc
 
 reads_size : (control : ℕ) (field : List ℕ) (make : ℕ → Block) (b : Block)
-    → ((size : ℕ) → 1 ≤ size → size ≤ 254 → Reads control (size ∷ []) (make size))
-    → option_map make (size_told field) ≡ Some b → Reads control field b
+    → ((size : ℕ) → 1 ≤ size → size ≤ 254 → IsReadAs control (size ∷ []) (make size))
+    → option_map make (size_told field) ≡ Some b → IsReadAs control field b
 reads_size control field make b h e =
     let v = slice_index field 0 in
     let p = passed_map make (length field == 1 && (nat_le 1 v && nat_le v 254)) v b e in
-    let one = both (length field == 1) (nat_le 1 v && nat_le v 254) p.0 in
-    let range = both (nat_le 1 v) (nat_le v 254) one.1 in
+    let one = and_parts (length field == 1) (nat_le 1 v && nat_le v 254) p.0 in
+    let range = and_parts (nat_le 1 v) (nat_le v 254) one.1 in
     let alone : v ∷ [] ≡ field = sym (is_one field (eqb-true (length field) 1 one.0)) in
-    subst (λ (xs : List ℕ). Reads control xs b) alone
-    (subst (Reads control (v ∷ [])) p.1 (h v (leb-true 1 v range.0) (leb-true v 254 range.1)))
+    subst (λ (xs : List ℕ). IsReadAs control xs b) alone
+    (subst (IsReadAs control (v ∷ [])) p.1 (h v (leb-true 1 v range.0) (leb-true v 254 range.1)))
 
 -- the entries of a table at a control byte
 abbrev pub AllRead : List ℕ → List (ℕ × Option Block) → Type 0
 AllRead field [] = Unit {0}
-AllRead field (k ∷ ks) = ((b : Block) → k.1 ≡ Some b → Reads k.0 field b) × AllRead field ks
+AllRead field (k ∷ ks) = ((b : Block) → k.1 ≡ Some b → IsReadAs k.0 field b) × AllRead field ks
 
 at_byte-reads : (control : ℕ) (field : List ℕ) (ks : List (ℕ × Option Block)) (b : Block) → AllRead field ks
-    → at_byte control ks ≡ Some b → Reads control field b
+    → at_byte control ks ≡ Some b → IsReadAs control field b
 at_byte-reads control field [] b all e = absurd cc
 at_byte-reads control field (k ∷ ks) b all e = ⊎_elim
     (λ (here : ((control == k.0) ≡ true) × (control ≡ k.0)).
     let found : k.1 ≡ Some b = subst (λ (t : Bool). cond t k.1 (at_byte control ks) ≡ Some b) here.0 e in
-    subst (λ (n : ℕ). Reads n field b) (sym here.1) (all.0 b found))
+    subst (λ (n : ℕ). IsReadAs n field b) (sym here.1) (all.0 b found))
     (λ (there : ((control == k.0) ≡ false) × (control ≢ k.0)).
     let found : at_byte control ks ≡ Some b =
     subst (λ (t : Bool). cond t k.1 (at_byte control ks) ≡ Some b) there.0 e in
@@ -183,7 +179,7 @@ at_byte-reads control field (k ∷ ks) b all e = ⊎_elim
 
 all_read : (field : List ℕ) → length field ≤ 254 → AllRead field (kinds field)
 all_read field h =
-    let bare_one = λ (control : ℕ) (a : Block) (r : Reads control [] a). λ (b : Block) (e : bare field a ≡ Some b).
+    let bare_one = λ (control : ℕ) (a : Block) (r : IsReadAs control [] a). λ (b : Block) (e : bare field a ≡ Some b).
     reads_bare control field a b r e in (
       λ b e. reads_some 0x00 field (information Zero false field) b
           (record { control_is = refl; field_is = refl; spellable = h }) e,
@@ -249,10 +245,6 @@ unless : (test : Bool) (fault : Fault) (r : Result Block Fault) (b : Block) → 
 unless true fault r b e = absurd cc
 unless false fault r b e = (refl, e)
 
-neither : (a b : Bool) → (a || b) ≡ false → (a ≡ false) × (b ≡ false)
-neither true b e = absurd cc
-neither false b e = (refl, e)
-
 not_not : (a : Bool) → not a ≡ false → a ≡ true
 not_not true e = refl
 not_not false e = absurd cc
@@ -281,8 +273,8 @@ frame-heard (node ∷ control ∷ len ∷ rest) b e =
     let a = unless (has_wrong_length bytes) WrongLength _ b e in
     let c = unless (not (exclusive_or bytes == 0)) WrongCheck _ b a.1 in
     let d = unless (not (node == 0)) UnknownBlock _ b c.1 in
-    let right = neither (nat_lt (length bytes) 4 || nat_lt 254 len) (not (length bytes == len + 4)) a.0 in
-    let small : len ≤ 254 = ltb-false 254 len (neither (nat_lt (length bytes) 4) (nat_lt 254 len) right.0).1 in
+    let right = or_parts (nat_lt (length bytes) 4 || nat_lt 254 len) (not (length bytes == len + 4)) a.0 in
+    let small : len ≤ 254 = ltb-false 254 len (or_parts (nat_lt (length bytes) 4) (nat_lt 254 len) right.0).1 in
     let size : length rest ≡ len + 1 = let all : length bytes ≡ len + 4 = eqb-true _ _ (not_not _ right.1) in
     omega (arith, all) in
     let zero_node : node ≡ 0 = eqb-true _ _ (not_not _ d.0) in

@@ -114,7 +114,6 @@ returns-in_err-page-clause-store g c =
     changes_handed _ _ _ _ _ c.from_residual.ensures.1
     (reads_change _ _ _ _ c.requires.ready.idle c.in_err-page.ensures.store)
 
-
 pub returns-in_err-fill_block-clause-done : goal.returns-in_err-fill_block-clause-done
 returns-in_err-fill_block-clause-done g c = none_ok _ _ _ c.from_residual-in_err-fill_block.ensures.1
 
@@ -124,7 +123,6 @@ returns-in_err-fill_block-clause-store g c =
     changes_handed _ _ _ _ _ c.from_residual-in_err-fill_block.ensures.1
     (changes_on c.loop-i._i 1 _ _ _ _ _ (omega (arith, lt)) c.loop-i.invariant.changes
     c.in_err-fill_block.ensures.store)
-
 
 pub returns-in_err-page-2-clause-done : goal.returns-in_err-page-2-clause-done
 returns-in_err-page-2-clause-done g c = none_ok _ _ _ c.from_residual-in_err-page-2.ensures.1

@@ -125,9 +125,9 @@ pub returns-clause-store : goal.returns-clause-store
 returns-clause-store g c =
     record {
       sets = let some : 1 ≤ length c.args.bytes.now = search rules in
-    let words = touched c.args.offset (length c.args.bytes.now) some in
-    sets_weaker _ _ _ _ (omega
-    (arith, words, c.loop-k.invariant.within, c.loop-k.invariant.from)) c.loop-k.invariant.sets;
+          let words = touched c.args.offset (length c.args.bytes.now) some in
+          sets_weaker _ _ _ _ (omega
+          (arith, words, c.loop-k.invariant.within, c.loop-k.invariant.from)) c.loop-k.invariant.sets;
       ready = search rules;
       tells = search rules;
     }
@@ -165,13 +165,13 @@ returns-in_err-put_word-clause-store g c =
     sets_in_handed _ _ _ _ _ c.from_residual-in_err-put_word.ensures.1 (record {
       ready = tt;
       sets = let m = current (memory_of c.args.txn.now) in
-    let ps = chain_of m c.args.chain in
-    let k = c.loop-k.k in
-    let lt : k < (c.args.offset + length c.args.bytes.now + 3) / 4 = omega (arith, c.loop-k-test.true) in
-    let some : 1 ≤ length c.args.bytes.now = search rules in
-    let fits = word_fits m ps _ c.args.offset c.args.bytes.now c.requires.chain c.requires.within k c.loop-k.page lt
-    c.loop-k.invariant.page some c.loop-k.invariant.from in
-    sets_then _ _ _ _ _ _ fits c.loop-k.invariant.sets c.put_word.ensures.store.sets;
+          let ps = chain_of m c.args.chain in
+          let k = c.loop-k.k in
+          let lt : k < (c.args.offset + length c.args.bytes.now + 3) / 4 = omega (arith, c.loop-k-test.true) in
+          let some : 1 ≤ length c.args.bytes.now = search rules in
+          let fits = word_fits m ps _ c.args.offset c.args.bytes.now c.requires.chain c.requires.within k c.loop-k.page lt
+          c.loop-k.invariant.page some c.loop-k.invariant.from in
+          sets_then _ _ _ _ _ _ fits c.loop-k.invariant.sets c.put_word.ensures.store.sets;
       tells = c.in_err-put_word.ensures.store.tells;
     })
 
@@ -183,13 +183,13 @@ returns-in_err-page-2-clause-store g c =
     sets_in_handed _ _ _ _ _ c.from_residual-in_err-page-2.ensures.1 (record {
       ready = tt;
       sets = let m = current (memory_of c.args.txn.now) in
-    let ps = chain_of m c.args.chain in
-    let k = c.loop-k.k in
-    let lt : k < (c.args.offset + length c.args.bytes.now + 3) / 4 = omega (arith, c.loop-k-test.true) in
-    let some : 1 ≤ length c.args.bytes.now = search rules in
-    let fits = word_fits m ps _ c.args.offset c.args.bytes.now c.requires.chain c.requires.within k c.loop-k.page lt
-    c.loop-k.invariant.page some c.loop-k.invariant.from in
-    let put = sets_then _ _ _ _ _ _ fits c.loop-k.invariant.sets c.put_word.ensures.store.sets in
-    sets_then _ 0 _ _ _ _ (omega arith) put (reads_sets 0 _ _ c.next.ensures.store.only);
+          let ps = chain_of m c.args.chain in
+          let k = c.loop-k.k in
+          let lt : k < (c.args.offset + length c.args.bytes.now + 3) / 4 = omega (arith, c.loop-k-test.true) in
+          let some : 1 ≤ length c.args.bytes.now = search rules in
+          let fits = word_fits m ps _ c.args.offset c.args.bytes.now c.requires.chain c.requires.within k c.loop-k.page lt
+          c.loop-k.invariant.page some c.loop-k.invariant.from in
+          let put = sets_then _ _ _ _ _ _ fits c.loop-k.invariant.sets c.put_word.ensures.store.sets in
+          sets_then _ 0 _ _ _ _ (omega arith) put (reads_sets 0 _ _ c.next.ensures.store.only);
       tells = c.in_err-page-2.ensures.store.tells;
     })

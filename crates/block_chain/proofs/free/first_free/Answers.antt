@@ -67,11 +67,13 @@ returns-in_err-rest-clause-found g c = none_ok _ _ _ c.from_residual-in_err-rest
 
 pub returns-in_err-rest-clause-store : goal.returns-in_err-rest-clause-store
 returns-in_err-rest-clause-store g c =
-    reads_in_handed _ _ _ _ c.from_residual-in_err-rest.ensures.1 (reads_in_on _ _ _ _ (txn_reads_then _ _ _ c.head.ensures.store.only c.walk.ensures.store.only) c.in_err-rest.ensures.store)
+    reads_in_handed _ _ _ _ c.from_residual-in_err-rest.ensures.1
+    (reads_in_on _ _ _ _ (txn_reads_then _ _ _ c.head.ensures.store.only c.walk.ensures.store.only) c.in_err-rest.ensures.store)
 
 pub returns-in_err-last-clause-store : goal.returns-in_err-last-clause-store
 returns-in_err-last-clause-store g c =
-    reads_in_handed _ _ _ _ c.from_residual-in_err-last.ensures.1 (reads_in_on _ _ _ _ c.head.ensures.store.only c.in_err-last.ensures.store)
+    reads_in_handed _ _ _ _ c.from_residual-in_err-last.ensures.1
+    (reads_in_on _ _ _ _ c.head.ensures.store.only c.in_err-last.ensures.store)
 
 pub returns-clause-store : goal.returns-clause-store
 returns-clause-store g c =

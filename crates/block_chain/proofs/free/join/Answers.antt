@@ -100,7 +100,7 @@ returns-in_err-put-clause-store g c =
     sets_in_handed _ _ _ _ _ c.from_residual-in_err-put.ensures.1 (record {
       ready = tt;
       sets = let fits : length c.args.chains.now - c.loop-left.left + 1 ≤ length c.args.chains.now =
-    omega (arith, c.loop-left.invariant.within, c.loop-left-test.true) in
-    sets_then _ _ _ _ _ _ fits c.loop-left.invariant.sets c.put.ensures.store.sets;
+          omega (arith, c.loop-left.invariant.within, c.loop-left-test.true) in
+          sets_then _ _ _ _ _ _ fits c.loop-left.invariant.sets c.put.ensures.store.sets;
       tells = c.in_err-put.ensures.store.tells;
     })

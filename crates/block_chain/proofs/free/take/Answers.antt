@@ -17,7 +17,7 @@ pub returns-clause-store : goal.returns-clause-store
 returns-clause-store g c =
     record {
       sets = sets_then 1 1 2 _ _ _ (omega arith) (sets_then 0 1 1 _ _ _ (omega arith)
-    (reads_sets _ _ _ c.first_free.ensures.store.only) c.put.ensures.store.sets) c.put-2.ensures.store.sets;
+          (reads_sets _ _ _ c.first_free.ensures.store.only) c.put.ensures.store.sets) c.put-2.ensures.store.sets;
       ready = search rules;
       tells = search rules;
     }
@@ -72,6 +72,6 @@ returns-in_err-put-2-clause-store g c =
     sets_in_handed _ _ _ _ _ c.from_residual-in_err-put-2.ensures.1 (record {
       ready = tt;
       sets = sets_then 1 1 2 _ _ _ (omega arith) (sets_then 0 1 1 _ _ _ (omega arith)
-    (reads_sets _ _ _ c.first_free.ensures.store.only) c.put.ensures.store.sets) c.put-2.ensures.store.sets;
+          (reads_sets _ _ _ c.first_free.ensures.store.only) c.put.ensures.store.sets) c.put-2.ensures.store.sets;
       tells = c.in_err-put-2.ensures.store.tells;
     })

@@ -178,14 +178,16 @@ returns-in_err-word-clause-done g c = none_ok _ _ _ c.from_residual-in_err-word.
 
 pub returns-in_err-word-clause-store : goal.returns-in_err-word-clause-store
 returns-in_err-word-clause-store g c =
-    reads_handed _ _ _ _ c.from_residual-in_err-word.ensures.1 (reads_on _ _ _ _ c.loop-at.invariant.reads c.in_err-word.ensures.store)
+    reads_handed _ _ _ _ c.from_residual-in_err-word.ensures.1
+    (reads_on _ _ _ _ c.loop-at.invariant.reads c.in_err-word.ensures.store)
 
 pub returns-in_err-page-2-clause-done : goal.returns-in_err-page-2-clause-done
 returns-in_err-page-2-clause-done g c = none_ok _ _ _ c.from_residual-in_err-page-2.ensures.1
 
 pub returns-in_err-page-2-clause-store : goal.returns-in_err-page-2-clause-store
 returns-in_err-page-2-clause-store g c =
-    reads_handed _ _ _ _ c.from_residual-in_err-page-2.ensures.1 (reads_on _ _ _ _ (reads_then _ _ _ c.loop-at.invariant.reads c.read_word.ensures.store.only) c.in_err-page-2.ensures.store)
+    reads_handed _ _ _ _ c.from_residual-in_err-page-2.ensures.1
+    (reads_on _ _ _ _ (reads_then _ _ _ c.loop-at.invariant.reads c.read_word.ensures.store.only) c.in_err-page-2.ensures.store)
 
 pub loop-at-init : goal.loop-at-init
 loop-at-init g c = record {

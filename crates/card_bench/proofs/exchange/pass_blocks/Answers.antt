@@ -3,8 +3,8 @@ use Rattle.card_bench.specs.ExchangeViews.{way_of}
 use Rattle.card_bench.proofs.ExchangeRuns.{begins, ends, gives_up, goes_on}
 use Rattle.card_bench.proofs.exchange.pass_blocks.Goals as goal
 
-pub returns-in-Err-clause-run : goal.returns-in-Err-clause-run
-returns-in-Err-clause-run g c = ends _ _ _ _ _ _ c.loop.invariant.run _ _ (omega arith) c.in-Err.ensures.passes
+pub returns-in-Break-clause-run : goal.returns-in-Break-clause-run
+returns-in-Break-clause-run g c = ends _ _ _ _ _ _ c.loop.invariant.run _ _ (omega arith) c.in-Break.ensures.passes
 
 pub loop-init : goal.loop-init
 loop-init g c = record {
@@ -19,13 +19,13 @@ pub loop-preserved : goal.loop-preserved
 loop-preserved g c =
     let one : suc (c.args.limit - (c.loop.counter + 1)) ≡ c.args.limit - c.loop.counter = omega arith in
     record {
-      busy = c.in-Ok.ensures.busy;
-      good = c.in-Ok.ensures.good;
-      power = c.in-Ok.ensures.power;
+      busy = c.in-Continue.ensures.busy;
+      good = c.in-Continue.ensures.good;
+      power = c.in-Continue.ensures.power;
       within = omega arith;
       run = goes_on _ _ _ _ _ _ c.loop.invariant.run
-          (record { bench = c.pass.new.bench; reader = c.pass.new.reader; line = c.pass.new.line }) (way_of c.in-Ok.next c.pass.new.blocks)
-          (c.args.limit - (c.loop.counter + 1)) one c.in-Ok.ensures.passes;
+          (record { bench = c.pass.new.bench; reader = c.pass.new.reader; line = c.pass.new.line }) (way_of c.in-Continue.next c.pass.new.blocks)
+          (c.args.limit - (c.loop.counter + 1)) one c.in-Continue.ensures.passes;
     }
 
 pub returns-clause-run : goal.returns-clause-run

@@ -1,4 +1,4 @@
-use Rattle.card_bench.proofs.LineFaults.{arriving-later, line_after-later}
+use Rattle.card_bench.proofs.BlocksOnLine.{arriving-later, line_after-later}
 use Rattle.card_bench.proofs.laws.faults_fall_due_in_turn.Goals as goal
 
 pub returns-clause-later : goal.returns-clause-later

@@ -1,4 +1,4 @@
-use Rattle.card_bench.proofs.LineFaults.{garbled-may_arrive, heard-garbled}
+use Rattle.card_bench.proofs.BlocksOnLine.{garbled-may_arrive, heard-garbled}
 use Rattle.card_bench.proofs.laws.garbled_block_is_no_block.Goals as goal
 
 pub returns-clause-fault : goal.returns-clause-fault

@@ -18,7 +18,8 @@ loop-byte-preserved c =
     record {
       size = omega (arith, size, first, second);
       so_far = rw (c.push-in-loop-byte-2.ensures.items, c.push-in-loop-byte.ensures.items, append_assoc, append_assoc)
-          (rw step at c.loop-byte.invariant.so_far);
+          (rw (c.from.ensures, c.from-in-loop-byte.ensures)
+          (rw step at c.loop-byte.invariant.so_far));
     }
 
 pub returns : goal.returns

@@ -32,18 +32,22 @@ returns-in-Given-clause-store g c =
 
 pub returns-in-Absent-clause-short : goal.returns-in-Absent-clause-short
 returns-in-Absent-clause-short g c =
-    subst (λ (s : ShortIdentifier). IfOk c.short_by_default.result (λ n. short_option n ≡ short_for
-    (tree_of (committed c.args.store.now)) (path_of (table (committed c.args.store.now)) c.args.df) c.args.identifier s)) (sym c.in-Absent.is) c.short_by_default.ensures.short
+    let m = committed c.args.store.now in
+    let told = λ (s : ShortIdentifier). short_for (tree_of m) (path_of (table m) c.args.df) c.args.identifier s in
+    subst (λ (s : ShortIdentifier). IfOk c.short_by_default.result (λ n. short_option n ≡ told s)) (sym c.in-Absent.is)
+    c.short_by_default.ensures.short
 
 pub returns-in-Empty-clause-short : goal.returns-in-Empty-clause-short
 returns-in-Empty-clause-short g c =
-    ap (λ (s : ShortIdentifier). short_for (tree_of (committed c.args.store.now)) (path_of (table (committed c.args.store.now)) c.args.df) c.args.identifier s)
+    let m = committed c.args.store.now in
+    ap (λ (s : ShortIdentifier). short_for (tree_of m) (path_of (table m) c.args.df) c.args.identifier s)
     (sym c.in-Empty.is)
 
 pub returns-in-Given-clause-short : goal.returns-in-Given-clause-short
 returns-in-Given-clause-short g c =
     let range = subst (λ (s : ShortIdentifier). IsShort s) c.in-Given.is c.requires.short in
     let some : c.in-Given.number ≢ 0 = λ z. omega (arith, z, range.0) in
+    let m = committed c.args.store.now in
     some_option c.in-Given.number some
-    ∙ ap (λ (s : ShortIdentifier). short_for (tree_of (committed c.args.store.now)) (path_of (table (committed c.args.store.now)) c.args.df) c.args.identifier s)
+    ∙ ap (λ (s : ShortIdentifier). short_for (tree_of m) (path_of (table m) c.args.df) c.args.identifier s)
     (sym c.in-Given.is)

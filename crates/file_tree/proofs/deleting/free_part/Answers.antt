@@ -37,8 +37,10 @@ loop-e-preserved g c =
           let next = frees_next m now part e c.requires.ready.current_size c.loop-e-test.true before some in
           let family : List ℕ → Type 0 = λ l. FreesUpTo m part (e + 1) l in
           record {
-            ready = (let ready : IsOpen (memory_of w.put.new.txn) = w.in_ok-put.ensures.store.ready in subst (λ t. IsOpen (memory_of t)) (sym w.txn-is) ready);
-            sets = subst (λ t. Sets (e + 1) c.args.txn.now t) (sym w.txn-is) (sets_then _ 1 _ _ _ _ (omega arith) c.loop-e.invariant.sets w.put.ensures.store.sets);
+            ready = (let ready : IsOpen (memory_of w.put.new.txn) = w.in_ok-put.ensures.store.ready in
+                subst (λ t. IsOpen (memory_of t)) (sym w.txn-is) ready);
+            sets = subst (λ t. Sets (e + 1) c.args.txn.now t) (sym w.txn-is)
+                (sets_then _ 1 _ _ _ _ (omega arith) c.loop-e.invariant.sets w.put.ensures.store.sets);
             so_far = subst (λ t. FreesUpTo m part (e + 1) (current (memory_of t))) (sym w.txn-is) (subst family (sym done) next);
           }
       | else-part-from-ne0 w ↦

@@ -26,13 +26,15 @@ returns-in-Ok-clause-done g c =
 pub returns-in-Ok-clause-store : goal.returns-in-Ok-clause-store
 returns-in-Ok-clause-store g c =
     let last = c.store-1.given.1 (sym (c.take_away.ensures.store.sets.same_store ∙ c.begin-txn.ensures.same_store)) in
-    spent (3 * (64 + (length c.args.chains.now + 1))) 1 DELETE_WRITES _ _ (memory_of c.take_away.new.txn) _ _ _ (omega (arith, c.requires.few)) c.begin-txn.ensures.same last
+    spent (3 * (64 + (length c.args.chains.now + 1))) 1 DELETE_WRITES _ _ (memory_of c.take_away.new.txn) _ _ _
+    (omega (arith, c.requires.few)) c.begin-txn.ensures.same last
     c.take_away.ensures.store.sets.reports c.take_away.ensures.store.sets.writes c.commit.ensures.store
 
 pub returns-in-Err-clause-store : goal.returns-in-Err-clause-store
 returns-in-Err-clause-store g c =
     let last = c.store-in-Err-1.given.1 (sym (c.take_away.ensures.store.sets.same_store ∙ c.begin-txn.ensures.same_store)) in
-    spent_failed (3 * (64 + (length c.args.chains.now + 1))) _ DELETE_WRITES _ _ (memory_of c.take_away.new.txn) _ _ _ _ (omega (arith, c.requires.few)) c.begin-txn.ensures.same last
+    spent_failed (3 * (64 + (length c.args.chains.now + 1))) _ DELETE_WRITES _ _ (memory_of c.take_away.new.txn) _ _ _ _
+    (omega (arith, c.requires.few)) c.begin-txn.ensures.same last
     c.take_away.ensures.store.sets.reports c.take_away.ensures.store.sets.writes c.in-Err.ensures.store.tells
     c.abandon.ensures.store
 

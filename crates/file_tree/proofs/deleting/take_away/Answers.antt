@@ -2,7 +2,7 @@ use Rattle.std.proofs.Common.{arith}
 use Rattle.undo_journal.specs.Memory.{current}
 use Rattle.undo_journal.specs.Lent.{memory_of}
 use Rattle.undo_journal.specs.laws.Exits.{on_then, none_ok}
-use Rattle.undo_journal.specs.laws.Told.{sets_in_on, sets_in_weaker, sets_in_handed}
+use Rattle.undo_journal.specs.laws.Told.{sets_in_on, sets_in_within, sets_in_handed}
 use Rattle.file_tree.proofs.deleting.take_away.Goals as goal
 
 pub free_part-requires-clause-ready : goal.free_part-requires-clause-ready
@@ -20,7 +20,7 @@ returns-in_err-free_part-clause-done g c = none_ok _ _ _ c.from_residual.ensures
 pub returns-in_err-free_part-clause-store : goal.returns-in_err-free_part-clause-store
 returns-in_err-free_part-clause-store g c =
     sets_in_handed _ _ _ _ _ c.from_residual.ensures.1
-    (sets_in_weaker _ _ _ _ _ (omega arith) c.in_err-free_part.ensures.store)
+    (sets_in_within _ _ _ _ _ (omega arith) c.in_err-free_part.ensures.store)
 
 pub give_back-requires-clause-ready : goal.give_back-requires-clause-ready
 give_back-requires-clause-ready g c = c.in_ok-free_part.ensures.store.ready

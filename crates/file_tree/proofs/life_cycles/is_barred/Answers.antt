@@ -1,5 +1,6 @@
 use Rattle.std.proofs.Common.{subst}
 use Rattle.undo_journal.specs.laws.Exits.{none_ok}
+use Rattle.file_tree.proofs.Answering.{ok_then}
 use Rattle.std.proofs.Common.{◌≡◌, ◌||◌, ℕ, List, Bool, true, false, sym, ◌∙◌, ap, ap₂}
 use Rattle.undo_journal.specs.Memory.{committed}
 use Rattle.file_tree.specs.declared.entry.Entry.{Entry}
@@ -33,10 +34,10 @@ pub returns-clause-barred : goal.returns-clause-barred
 returns-clause-barred g c =
     let m = committed c.args.store.now in
     let e = c.args.e in
-    told m e c.in_ok-entry.entry false c.in_ok-barred.barred c.requires.tree c.requires.used c.in_ok-entry.ensures.entry
+    ok_then _ _ _ (λ barred is. told m e c.in_ok-entry.entry false barred c.requires.tree c.requires.used c.in_ok-entry.ensures.entry
     (sym c.if-bars.false ∙ c.bars.ensures ∙ ap bars c.life_of.ensures)
-    (c.in_ok-barred.ensures.barred ∙ ap (λ (l : List ℕ). barred_up
-    (table l) 7 e) c.read_entry.ensures.store.only.keeps.committed_words)
+    (is ∙ ap (λ (l : List ℕ). barred_up (table l) 7 e) c.read_entry.ensures.store.only.keeps.committed_words))
+    c.is_below_barred.ensures.barred
 
 pub read_entry-requires-clause-ready : goal.read_entry-requires-clause-ready
 read_entry-requires-clause-ready g c = c.requires.ready
@@ -62,13 +63,6 @@ pub is_below_barred-requires-clause-used : goal.is_below_barred-requires-clause-
 is_below_barred-requires-clause-used g c =
     subst (λ (l : List ℕ). IsUsed (table l) c.args.e) (sym (c.read_entry.ensures.store.only.keeps.committed_words)) c.requires.used
 
-pub returns-in_err-barred-clause-barred : goal.returns-in_err-barred-clause-barred
-returns-in_err-barred-clause-barred g c = none_ok _ _ _ c.from_residual-in_err-barred.ensures.1
-
-pub returns-in_err-barred-clause-store : goal.returns-in_err-barred-clause-store
-returns-in_err-barred-clause-store g c =
-    reads_handed _ _ _ _ c.from_residual-in_err-barred.ensures.1 (reads_on _ _ _ _ c.read_entry.ensures.store.only c.in_err-barred.ensures.store)
-
 pub returns-clause-store : goal.returns-clause-store
 returns-clause-store g c =
-    reads_on _ _ _ _ c.read_entry.ensures.store.only c.in_ok-barred.ensures.store
+    reads_on _ _ _ _ c.read_entry.ensures.store.only c.is_below_barred.ensures.store

@@ -1,4 +1,4 @@
-use Rattle.undo_journal.specs.laws.Exits.{none_ok}
+use Rattle.undo_journal.specs.laws.Exits.{none_ok, on_then}
 use Rattle.std.proofs.Common.{◌≡◌, ◌+◌, ℕ, List, slice_set, sym, ◌∙◌, ap, subst, inl, inr, ⊎_elim}
 use Rattle.nvm_board.specs.Facts.{address}
 use Rattle.undo_journal.specs.Memory.{committed}
@@ -46,25 +46,15 @@ write_life-requires-clause-within g c = used_small (committed c.args.store.now) 
 pub returns-clause-done : goal.returns-clause-done
 returns-clause-done g c =
     let m = committed c.args.store.now in
-    changed m (committed c.read_entry.new.store)
+    on_then _ _ _ (changed m (committed c.read_entry.new.store)
     (committed c.write_life.new.store) c.args.e c.life_word.result c.to_byte-life.result
     c.args.state c.in_ok-entry.entry c.requires.ready.usable.committed_size c.requires.tree c.requires.used
     c.read_entry.ensures.store.only.keeps.committed_words c.in_ok-entry.ensures.entry c.to_byte-life.ensures.value
-    c.life_word.ensures
-    c.in_ok-write_life.ensures.done
+    c.life_word.ensures)
+    c.write_life.ensures.done
 
 pub returns-clause-any_exit : goal.returns-clause-any_exit
 returns-clause-any_exit g c =
-    let m = committed c.args.store.now in
-    inr (changed m (committed c.read_entry.new.store)
-    (committed c.write_life.new.store) c.args.e c.life_word.result c.to_byte-life.result
-    c.args.state c.in_ok-entry.entry c.requires.ready.usable.committed_size c.requires.tree c.requires.used
-    c.read_entry.ensures.store.only.keeps.committed_words c.in_ok-entry.ensures.entry c.to_byte-life.ensures.value
-    c.life_word.ensures
-    c.in_ok-write_life.ensures.done)
-
-pub returns-in_err-write_life-clause-any_exit : goal.returns-in_err-write_life-clause-any_exit
-returns-in_err-write_life-clause-any_exit g c =
     let m = committed c.args.store.now in
     ⊎_elim
     (λ (same : committed c.write_life.new.store ≡ committed c.read_entry.new.store).
@@ -91,11 +81,6 @@ returns-clause-stays g c = λ here. absurd (c.if-entry-life.false
     (has_byte (committed c.args.store.now) c.args.e c.args.state c.in_ok-entry.entry c.to_byte-life.result c.requires.tree
     c.requires.used c.in_ok-entry.ensures.entry c.to_byte-life.ensures.value here))
 
-pub returns-in_err-write_life-clause-stays : goal.returns-in_err-write_life-clause-stays
-returns-in_err-write_life-clause-stays g c = λ here. absurd (c.if-entry-life.false
-    (has_byte (committed c.args.store.now) c.args.e c.args.state c.in_ok-entry.entry c.to_byte-life.result c.requires.tree
-    c.requires.used c.in_ok-entry.ensures.entry c.to_byte-life.ensures.value here))
-
 pub read_entry-requires-clause-ready : goal.read_entry-requires-clause-ready
 read_entry-requires-clause-ready g c = c.requires.ready
 
@@ -110,7 +95,8 @@ returns-in_err-entry-clause-stays g c = λ here. c.read_entry.ensures.store.only
 
 pub returns-in_err-entry-clause-store : goal.returns-in_err-entry-clause-store
 returns-in_err-entry-clause-store g c =
-    changes_handed _ _ _ _ _ c.from_residual.ensures.1 (reads_change _ _ _ _ c.requires.ready.idle c.in_err-entry.ensures.store)
+    changes_handed _ _ _ _ _ c.from_residual.ensures.1
+    (reads_change _ _ _ _ c.requires.ready.idle c.in_err-entry.ensures.store)
 
 pub returns-then-entry-life-clause-any_exit : goal.returns-then-entry-life-clause-any_exit
 returns-then-entry-life-clause-any_exit g c = inl c.read_entry.ensures.store.only.keeps.committed_words
@@ -125,13 +111,6 @@ returns-then-entry-life-clause-store g c =
 pub write_life-requires-clause-ready : goal.write_life-requires-clause-ready
 write_life-requires-clause-ready g c = c.in_ok-entry.ensures.store.ready
 
-pub returns-in_err-write_life-clause-done : goal.returns-in_err-write_life-clause-done
-returns-in_err-write_life-clause-done g c = none_ok _ _ _ c.from_residual-in_err-write_life.ensures.1
-
-pub returns-in_err-write_life-clause-store : goal.returns-in_err-write_life-clause-store
-returns-in_err-write_life-clause-store g c =
-    changes_handed _ _ _ _ _ c.from_residual-in_err-write_life.ensures.1 (changes_after _ _ _ _ _ c.read_entry.ensures.store.only c.in_err-write_life.ensures.store)
-
 pub returns-clause-store : goal.returns-clause-store
 returns-clause-store g c =
-    changes_after _ _ _ _ _ c.read_entry.ensures.store.only c.in_ok-write_life.ensures.store
+    changes_after _ _ _ _ _ c.read_entry.ensures.store.only c.write_life.ensures.store

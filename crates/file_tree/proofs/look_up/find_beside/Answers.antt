@@ -42,7 +42,8 @@ returns-in_err-beside-clause-found g c = none_ok _ _ _ c.from_residual-in_err-be
 
 pub returns-in_err-beside-clause-store : goal.returns-in_err-beside-clause-store
 returns-in_err-beside-clause-store g c =
-    reads_handed _ _ _ _ c.from_residual-in_err-beside.ensures.1 (reads_on _ _ _ _ c.read_entry.ensures.store.only c.in_err-beside.ensures.store)
+    reads_handed _ _ _ _ c.from_residual-in_err-beside.ensures.1
+    (reads_on _ _ _ _ c.read_entry.ensures.store.only c.in_err-beside.ensures.store)
 
 pub returns-in_default-clause-store : goal.returns-in_default-clause-store
 returns-in_default-clause-store g c =
@@ -56,7 +57,8 @@ returns-in_err-other-clause-found g c = none_ok _ _ _ c.from_residual-in_err-oth
 
 pub returns-in_err-other-clause-store : goal.returns-in_err-other-clause-store
 returns-in_err-other-clause-store g c =
-    reads_handed _ _ _ _ c.from_residual-in_err-other.ensures.1 (reads_on _ _ _ _ (reads_then _ _ _ c.read_entry.ensures.store.only c.find_child.ensures.store.only) c.in_err-other.ensures.store)
+    reads_handed _ _ _ _ c.from_residual-in_err-other.ensures.1
+    (reads_on _ _ _ _ (reads_then _ _ _ c.read_entry.ensures.store.only c.find_child.ensures.store.only) c.in_err-other.ensures.store)
 
 pub returns-clause-found : goal.returns-clause-found
 returns-clause-found g c =

@@ -66,7 +66,8 @@ returns-in_err-beside-clause-used g c = none_ok _ _ _ c.from_residual-in_err-bes
 
 pub returns-in_err-beside-clause-store : goal.returns-in_err-beside-clause-store
 returns-in_err-beside-clause-store g c =
-    reads_handed _ _ _ _ c.from_residual-in_err-beside.ensures.1 (reads_on _ _ _ _ c.find_child.ensures.store.only c.in_err-beside.ensures.store)
+    reads_handed _ _ _ _ c.from_residual-in_err-beside.ensures.1
+    (reads_on _ _ _ _ c.find_child.ensures.store.only c.in_err-beside.ensures.store)
 
 pub returns-in-Some-2-clause-store : goal.returns-in-Some-2-clause-store
 returns-in-Some-2-clause-store g c =
@@ -93,7 +94,8 @@ returns-in_err-above-clause-used g c = none_ok _ _ _ c.from_residual-in_err-abov
 
 pub returns-in_err-above-clause-store : goal.returns-in_err-above-clause-store
 returns-in_err-above-clause-store g c =
-    reads_handed _ _ _ _ c.from_residual-in_err-above.ensures.1 (reads_on _ _ _ _ (reads_then _ _ _ c.find_child.ensures.store.only c.find_beside.ensures.store.only) c.in_err-above.ensures.store)
+    reads_handed _ _ _ _ c.from_residual-in_err-above.ensures.1
+    (reads_on _ _ _ _ (reads_then _ _ _ c.find_child.ensures.store.only c.find_beside.ensures.store.only) c.in_err-above.ensures.store)
 
 pub returns-clause-store : goal.returns-clause-store
 returns-clause-store g c =

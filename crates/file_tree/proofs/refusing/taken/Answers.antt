@@ -82,7 +82,8 @@ returns-in_err-entries-clause-taken g c = none_ok _ _ _ c.from_residual-in_err-e
 
 pub returns-in_err-entries-clause-store : goal.returns-in_err-entries-clause-store
 returns-in_err-entries-clause-store g c =
-    reads_handed _ _ _ _ c.from_residual-in_err-entries.ensures.1 (reads_on _ _ _ _ c.find_child.ensures.store.only c.in_err-entries.ensures.store)
+    reads_handed _ _ _ _ c.from_residual-in_err-entries.ensures.1
+    (reads_on _ _ _ _ c.find_child.ensures.store.only c.in_err-entries.ensures.store)
 
 pub is_short_taken-requires-clause-ready : goal.is_short_taken-requires-clause-ready
 is_short_taken-requires-clause-ready g c = c.in_ok-entries.ensures.store.ready
@@ -97,7 +98,8 @@ returns-in_err-short-clause-taken g c = none_ok _ _ _ c.from_residual-in_err-sho
 
 pub returns-in_err-short-clause-store : goal.returns-in_err-short-clause-store
 returns-in_err-short-clause-store g c =
-    reads_handed _ _ _ _ c.from_residual-in_err-short.ensures.1 (reads_on _ _ _ _ (reads_then _ _ _ c.find_child.ensures.store.only c.read_table.ensures.store.only) c.in_err-short.ensures.store)
+    reads_handed _ _ _ _ c.from_residual-in_err-short.ensures.1
+    (reads_on _ _ _ _ (reads_then _ _ _ c.find_child.ensures.store.only c.read_table.ensures.store.only) c.in_err-short.ensures.store)
 
 pub returns-clause-store : goal.returns-clause-store
 returns-clause-store g c =

@@ -4,7 +4,7 @@ use Rattle.pin_store.specs.Trials.{pin_in}
 use Rattle.pin_store.specs.laws.AllPins.{changed_pages}
 use Rattle.pin_store.proofs.Settled.{pages_stay, compares_more, compares_then, match_told, matched_sets}
 use Rattle.pin_store.proofs.Settled.{matched_sets_or_not, end_told}
-use Rattle.undo_journal.specs.laws.Told.{ends_on, ends_handed, changes_end}
+use Rattle.undo_journal.specs.laws.Told.{leaves_on, leaves_handed, changes_leave}
 use Rattle.pin_store.proofs.settling.change.Goals as goal
 
 pub returns-in_err-outcome-clause-any_exit : goal.returns-in_err-outcome-clause-any_exit
@@ -31,8 +31,8 @@ returns-in_err-put_value-clause-pages g c =
 
 pub returns-in_err-put_value-clause-store : goal.returns-in_err-put_value-clause-store
 returns-in_err-put_value-clause-store g c =
-    ends_handed _ _ _ _ c.from_residual-in_err-put_value.ensures.1
-    (ends_on _ _ _ _ c.compare.ensures.store.reports (changes_end _ _ _ _ c.in_err-put_value.ensures.store))
+    leaves_handed _ _ _ _ c.from_residual-in_err-put_value.ensures.1
+    (leaves_on _ _ _ _ c.compare.ensures.store.reports (changes_leave _ _ _ _ c.in_err-put_value.ensures.store))
 
 pub returns-in_err-put_value-clause-spends : goal.returns-in_err-put_value-clause-spends
 returns-in_err-put_value-clause-spends g c =
@@ -63,7 +63,7 @@ returns-in_ok-put_value-clause-pages g c =
 
 pub returns-in_ok-put_value-clause-store : goal.returns-in_ok-put_value-clause-store
 returns-in_ok-put_value-clause-store g c =
-    ends_on _ _ _ _ c.compare.ensures.store.reports (changes_end _ _ _ _ c.in_ok-put_value.ensures.store)
+    leaves_on _ _ _ _ c.compare.ensures.store.reports (changes_leave _ _ _ _ c.in_ok-put_value.ensures.store)
 
 pub returns-in_ok-put_value-clause-spends : goal.returns-in_ok-put_value-clause-spends
 returns-in_ok-put_value-clause-spends g c =

@@ -6,7 +6,7 @@ use Rattle.pin_store.specs.Pins.{kept, owner}
 use Rattle.pin_store.specs.Pages.{pin_at}
 use Rattle.pin_store.specs.Trials.{pin_in}
 use Rattle.pin_store.proofs.Settled.{compare_ends, compares_none, compares_after, is_match, is_wrong}
-use Rattle.undo_journal.specs.laws.Told.{reads_handed, reads_on, reads_end, ends_handed}
+use Rattle.undo_journal.specs.laws.Told.{reads_handed, reads_on, reads_leave, leaves_handed}
 use Rattle.pin_store.proofs.settling.compare.Goals as goal
 
 pub returns-in_err-left-clause-kept : goal.returns-in_err-left-clause-kept
@@ -14,7 +14,7 @@ returns-in_err-left-clause-kept g c = c.tries.ensures.store.only.keeps.committed
 
 pub returns-in_err-left-clause-store : goal.returns-in_err-left-clause-store
 returns-in_err-left-clause-store g c =
-    reads_end _ _ _ c.requires.ready.idle
+    reads_leave _ _ _ c.requires.ready.idle
     (reads_handed _ _ _ _ c.from_residual.ensures.1 c.in_err-left.ensures.store)
 
 pub returns-in_err-left-clause-spends : goal.returns-in_err-left-clause-spends
@@ -26,7 +26,7 @@ returns-in_err-kept-clause-kept g c =
 
 pub returns-in_err-kept-clause-store : goal.returns-in_err-kept-clause-store
 returns-in_err-kept-clause-store g c =
-    reads_end _ _ _ c.requires.ready.idle (reads_handed _ _ _ _ c.from_residual-in_err-kept.ensures.1
+    reads_leave _ _ _ c.requires.ready.idle (reads_handed _ _ _ _ c.from_residual-in_err-kept.ensures.1
     (reads_on _ _ _ _ c.tries.ensures.store.only c.in_err-kept.ensures.store))
 
 pub returns-in_err-kept-clause-spends : goal.returns-in_err-kept-clause-spends
@@ -40,7 +40,7 @@ returns-in_err-right-clause-kept g c =
 
 pub returns-in_err-right-clause-store : goal.returns-in_err-right-clause-store
 returns-in_err-right-clause-store g c =
-    ends_handed _ _ _ _ c.from_residual-in_err-right.ensures.1 (compare_ends _ _ _ _ c.requires.ready.idle
+    leaves_handed _ _ _ _ c.from_residual-in_err-right.ensures.1 (compare_ends _ _ _ _ c.requires.ready.idle
     (reads_then _ _ _ c.tries.ensures.store.only c.kept.ensures.store.only) c.compare.ensures.keeps
     c.compare.ensures.reports tt c.in_err-right.ensures.tells)
 

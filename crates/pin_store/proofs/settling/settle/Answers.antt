@@ -3,7 +3,7 @@ use Rattle.pin_store.specs.Pins.{verified_pin}
 use Rattle.pin_store.specs.Trials.{pin_in}
 use Rattle.pin_store.proofs.Settled.{pages_stay, compares_more, compares_then, match_told, matched_sets}
 use Rattle.pin_store.proofs.Settled.{matched_sets_or_not, end_told}
-use Rattle.undo_journal.specs.laws.Told.{ends_on, ends_handed, changes_end}
+use Rattle.undo_journal.specs.laws.Told.{leaves_on, leaves_handed, changes_leave}
 use Rattle.pin_store.proofs.settling.settle.Goals as goal
 
 pub returns-in_err-outcome-clause-any_exit : goal.returns-in_err-outcome-clause-any_exit
@@ -28,8 +28,8 @@ returns-in_err-put_tries-clause-any_exit g c =
 
 pub returns-in_err-put_tries-clause-store : goal.returns-in_err-put_tries-clause-store
 returns-in_err-put_tries-clause-store g c =
-    ends_handed _ _ _ _ c.from_residual-in_err-put_tries.ensures.1
-    (ends_on _ _ _ _ c.compare.ensures.store.reports (changes_end _ _ _ _ c.in_err-put_tries.ensures.store))
+    leaves_handed _ _ _ _ c.from_residual-in_err-put_tries.ensures.1
+    (leaves_on _ _ _ _ c.compare.ensures.store.reports (changes_leave _ _ _ _ c.in_err-put_tries.ensures.store))
 
 pub returns-in_err-put_tries-clause-spends : goal.returns-in_err-put_tries-clause-spends
 returns-in_err-put_tries-clause-spends g c =
@@ -55,7 +55,7 @@ returns-in_ok-put_tries-clause-done g c =
 
 pub returns-in_ok-put_tries-clause-store : goal.returns-in_ok-put_tries-clause-store
 returns-in_ok-put_tries-clause-store g c =
-    ends_on _ _ _ _ c.compare.ensures.store.reports (changes_end _ _ _ _ c.in_ok-put_tries.ensures.store)
+    leaves_on _ _ _ _ c.compare.ensures.store.reports (changes_leave _ _ _ _ c.in_ok-put_tries.ensures.store)
 
 pub returns-in_ok-put_tries-clause-spends : goal.returns-in_ok-put_tries-clause-spends
 returns-in_ok-put_tries-clause-spends g c =

@@ -1,9 +1,9 @@
 -- What a line does to blocks that are put on it one after another.
-use Rattle.std.specs.Prelude.{◌≡◌, ◌≢◌, ◌≤◌, ◌<◌, ◌+◌, ◌-◌, ◌^◌, ◌==◌, ℕ, Bool, true, false, ◌&&◌, nat_lt, bit_xor, List, [], ◌∷◌, ◌++◌, Option, None, Some}
+use Rattle.std.specs.Prelude.{◌≡◌, ◌≢◌, ◌≤◌, ◌<◌, ◌+◌, ◌-◌, ◌^◌, ◌==◌, ℕ, Bool, true, false, nat_lt, bit_xor, List, [], ◌∷◌, ◌++◌, Option, None, Some}
 use Rattle.std.specs.Prelude.{Ok, Err, refl, if◌then◌else◌, zero, suc, length, slice_index, slice_set}
 use Rattle.std.specs.Int.Bits.{xor_self, xor_assoc, xor_zero_l}
 use Rattle.std.proofs.Common.{arith, ap, ap₂, sym, subst, ◌∙◌}
-use Rattle.std.proofs.lemmas.Bool.{ltb-true, ltb-false, lt-ltb, le-ltb, ne_eqb, eq-eqb, eqb-true}
+use Rattle.std.proofs.lemmas.Bool.{and_from, and_parts, ltb-true, ltb-false, lt-ltb, le-ltb, ne_eqb, eq-eqb, eqb-true}
 use Rattle.std.proofs.lemmas.Nat.{xor_lt}
 use Rattle.t1_link.specs.declared.block.Fault.TheVariants.{WrongCheck}
 use Rattle.t1_link.specs.Blocks.{Block, IsSpellable, exclusive_or, frame, front, heard}
@@ -103,24 +103,17 @@ heard-garbled bytes b e =
     subst (λ (x : List ℕ). heard (last_bit_turned x) ≡ Err WrongCheck) spelled.0 (garbled-frame b spelled.1)
 
 -- bytes stay bytes
-both_true : (a b : Bool) → (a && b) ≡ true → (a ≡ true) × (b ≡ true)
-both_true true b e = (refl, e)
-both_true false b e = absurd cc
-
-both : (a b : Bool) → a ≡ true → b ≡ true → (a && b) ≡ true
-both true b x y = y
-both false b x y = absurd cc
-
 bytes-garbled : (bytes : List ℕ) → are_bytes bytes ≡ true → are_bytes (last_bit_turned bytes) ≡ true
 bytes-garbled [] e = refl
 bytes-garbled (last ∷ []) e =
-    let small : last < 2 ^ 8 = ltb-true last 256 (both_true (nat_lt last 256) true e).0 in
+    let small : last < 2 ^ 8 = ltb-true last 256 (and_parts (nat_lt last 256) true e).0 in
     let turned : bit_xor last 1 < 2 ^ 8 = xor_lt 8 last 1 small (omega arith) in
-    both (nat_lt (bit_xor last 1) 256) true (lt-ltb (bit_xor last 1) 256 turned) refl
+    and_from (nat_lt (bit_xor last 1) 256) true (lt-ltb (bit_xor last 1) 256 turned) refl
 bytes-garbled (byte ∷ next ∷ bytes) e =
-    let parts = both_true (nat_lt byte 256) (are_bytes (next ∷ bytes)) e in
-    both (nat_lt byte 256) (are_bytes (last_bit_turned (next ∷ bytes))) parts.0 (bytes-garbled (next ∷ bytes) parts.1)
+    let parts = and_parts (nat_lt byte 256) (are_bytes (next ∷ bytes)) e in
+    and_from (nat_lt byte 256) (are_bytes (last_bit_turned (next ∷ bytes))) parts.0 (bytes-garbled (next ∷ bytes) parts.1)
 
 pub garbled-may_arrive : (bytes : List ℕ) (b : Block) → are_bytes bytes ≡ true → heard bytes ≡ Ok b → may_arrive (last_bit_turned bytes) ≡ true
 garbled-may_arrive bytes b sound e =
-    both (are_bytes (last_bit_turned bytes)) (is_garbled (heard (last_bit_turned bytes))) (bytes-garbled bytes sound) (ap is_garbled (heard-garbled bytes b e))
+    and_from (are_bytes (last_bit_turned bytes)) (is_garbled (heard (last_bit_turned bytes)))
+    (bytes-garbled bytes sound) (ap is_garbled (heard-garbled bytes b e))
