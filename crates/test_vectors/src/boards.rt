@@ -1,6 +1,8 @@
 //! Boards: an armed write is torn by its mask, an arm outlives power, secrets are compared.
 
 use nvm_board::{Armed, Board, CutBoard, DeviceErr, RamBoard, Socket, laws};
+use std::alloc::Global;
+use std::process::Abort;
 use std::test::Fail;
 
 /// A board with words at these addresses. It has 16,384.
@@ -13,9 +15,9 @@ pub fn with_words<B: Board + Drop>(mut board: B, words: &[(u16, u32)]) -> Result
     Ok(board)
 }
 
-// Words 2, 3 and 4 of page 3.
-fn three_words(board: &mut CutBoard) -> Result<[u32; 3], DeviceErr> {
-    Ok([board.read(50)?, board.read(51)?, board.read(52)?])
+// Whether these are words 2, 3 and 4 of page 3.
+fn holds(board: &mut CutBoard, [second, third, fourth]: [u32; 3]) -> bool {
+    board.read(50) == Ok(second) && board.read(51) == Ok(third) && board.read(52) == Ok(fourth)
 }
 
 // Masks, and words 4, 5, 6 torn by 7, 8, 9.
@@ -26,41 +28,73 @@ const MASKS: &[(u16, [u32; 3])] = &[
     (0xFFFA, [4, 8, 6]),
 ];
 
+// Whether the board answers nothing.
+fn is_dark(board: &mut CutBoard) -> bool {
+    board.read(50) == Err(DeviceErr::PowerLost)
+        && board.write(3, 2, &[1]) == Err(DeviceErr::PowerLost)
+        && board.compare(0, &[1; 8], &[1; 8]) == Err(DeviceErr::PowerLost)
+}
+
+// Whether words are written as before.
+fn is_written_again(board: &mut CutBoard) -> bool {
+    board.write(3, 2, &[1, 2, 3]) == Ok(()) && holds(board, [1, 2, 3])
+}
+
+// A board whose third write was armed, and torn by this mask.
+fn torn_by(alloc: Global, mask: u16) -> Result<CutBoard, Fail> {
+    let mut board = CutBoard::new(alloc)?;
+    // The second arm takes the place of the first.
+    board.arm(1, 0x0000);
+    board.arm(3, mask);
+    board.write(3, 2, &[1, 2, 3])?;
+    board.write(3, 2, &[4, 5, 6])?;
+    match board.write(3, 2, &[7, 8, 9]) {
+        Err(DeviceErr::PowerLost) => Ok(board),
+        _ => Err(Fail::from("no cut")),
+    }
+}
+
 #[test]
 fn tears_the_armed_write_by_its_mask(rt: HostRuntime) -> Result<(), Fail> {
     laws::torn_by_words();
     for &(mask, want) in MASKS {
-        let mut board = CutBoard::new(rt.alloc())?;
-        // The second arm takes the place of the first.
-        board.arm(1, 0x0000);
-        board.arm(3, mask);
-        board.write(3, 2, &[1, 2, 3])?;
-        board.write(3, 2, &[4, 5, 6])?;
-        assert_eq!(rt; board.write(3, 2, &[7, 8, 9]), Err(DeviceErr::PowerLost));
-        assert_eq!(rt; board.read(50), Err(DeviceErr::PowerLost));
-        assert_eq!(rt; board.write(3, 2, &[1]), Err(DeviceErr::PowerLost));
-        let compared = board.compare(0, &[1; 8], &[1; 8]);
-        assert_eq!(rt; compared, Err(DeviceErr::PowerLost));
-        assert!(rt; board.light().is_ok());
-        assert_eq!(rt; three_words(&mut board)?, want, "by the mask {mask}");
-        board.write(3, 2, &[1, 2, 3])?;
-        assert_eq!(rt; three_words(&mut board)?, [1, 2, 3]);
+        let mut board = torn_by(rt.alloc(), mask)?;
+        assert!(rt; is_dark(&mut board));
+        board.light()?;
+        assert!(rt; holds(&mut board, want), "by the mask {mask}");
+        assert!(rt; is_written_again(&mut board), "by the mask {mask}");
     }
     Ok(())
 }
 
-#[test]
-fn keeps_an_arm_and_its_words_over_power_off(rt: HostRuntime) -> Result<(), Fail> {
-    let mut board = CutBoard::new(rt.alloc())?;
+// A board with its last word written, that is armed and without power.
+fn armed_without_power(alloc: Global) -> Result<CutBoard, Fail> {
+    let mut board = CutBoard::new(alloc)?;
     board.write(1023, 15, &[0xFFFF_FFFF])?;
     board.arm(1, 0x0001);
     board.power_off();
-    assert_eq!(rt; board.read(0), Err(DeviceErr::PowerLost));
-    assert!(rt; board.light().is_ok());
-    assert_eq!(rt; board.read(16_383)?, 0xFFFF_FFFF);
-    assert_eq!(rt; board.write(0, 0, &[5, 6]), Err(DeviceErr::PowerLost));
-    assert!(rt; board.light().is_ok());
-    assert_eq!(rt; [board.read(0)?, board.read(1)?], [5, 0]);
+    Ok(board)
+}
+
+// Whether power comes back to a board without it.
+fn lights(board: &mut CutBoard) -> bool {
+    board.read(0) == Err(DeviceErr::PowerLost) && board.light().is_ok()
+}
+
+// Whether the first of two words is written.
+fn writes_one(board: &mut CutBoard) -> bool {
+    board.write(0, 0, &[5, 6]) == Err(DeviceErr::PowerLost)
+        && board.light().is_ok()
+        && board.read(0) == Ok(5)
+        && board.read(1) == Ok(0)
+}
+
+#[test]
+fn keeps_an_arm_and_its_words_over_power_off(rt: HostRuntime) -> Result<(), Fail> {
+    let mut board = armed_without_power(rt.alloc())?;
+    assert!(rt; lights(&mut board));
+    assert!(rt; board.read(16_383) == Ok(0xFFFF_FFFF));
+    assert!(rt; writes_one(&mut board));
     Ok(())
 }
 
@@ -71,23 +105,33 @@ const SHOWN: &[(u8, [u8; 8], bool)] = &[
     (0, [0, 2, 3, 4, 5, 6, 7, 8], false),
 ];
 
+// A board with power compares these.
+fn check_shown(rt: &impl Abort, board: &mut RamBoard) {
+    for (secret, shown, want) in SHOWN {
+        assert!(rt; *secret < 16);
+        let compared = board.compare(*secret, &[1, 2, 3, 4, 5, 6, 7, 8], shown);
+        assert!(rt; compared == Ok(*want), "of secret {secret}");
+    }
+}
+
+// Whether the words of a fresh board are 0, and those of a page that is written are not.
+fn is_written(board: &mut RamBoard) -> bool {
+    board.read(0) == Ok(0) && board.write(7, 0, &[1; 16]) == Ok(()) && board.read(127) == Ok(1)
+}
+
+// Whether a board compares with power alone.
+fn needs_power(board: &mut RamBoard) -> bool {
+    board.power_off();
+    board.compare(15, &[0; 8], &[0; 8]) == Err(DeviceErr::PowerLost)
+        && board.light().is_ok()
+        && board.compare(0, &[0; 8], &[0; 8]) == Ok(true)
+}
+
 #[test]
 fn compares_secrets(rt: HostRuntime) -> Result<(), Fail> {
     let mut board = RamBoard::new(rt.alloc())?;
-    assert_eq!(rt; board.read(0)?, 0);
-    board.write(7, 0, &[1; 16])?;
-    assert_eq!(rt; board.read(127)?, 1);
-    for &(secret, shown, want) in SHOWN {
-        assert!(rt; secret < 16);
-        assert_eq!(rt;
-            board.compare(secret, &[1, 2, 3, 4, 5, 6, 7, 8], &shown)?,
-            want
-        );
-    }
-    board.power_off();
-    let compared = board.compare(15, &[0; 8], &[0; 8]);
-    assert_eq!(rt; compared, Err(DeviceErr::PowerLost));
-    assert!(rt; board.light().is_ok());
-    assert!(rt; board.compare(0, &[0; 8], &[0; 8])?);
+    assert!(rt; is_written(&mut board));
+    check_shown(&rt, &mut board);
+    assert!(rt; needs_power(&mut board));
     Ok(())
 }

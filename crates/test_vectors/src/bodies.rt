@@ -1,5 +1,5 @@
 //! Bytes of a transparent body, at its end. What records answer stands in rows.
-ghost use Rattle.std.specs.Prelude.{◌≤◌, IfOk, OnOk, IsTrue};
+ghost use Rattle.std.specs.Prelude.{◌≤◌, IfOk, OnOk, IsTrue, length};
 ghost use Rattle.undo_journal.specs.Memory.{committed, IsReady};
 ghost use Rattle.block_chain.specs.Chains.{chain_of, IsChain};
 ghost use Rattle.ef_body.specs.Bodies.{IsTransparent};
@@ -72,8 +72,8 @@ fn transparent<B: Board>(store: &mut Store<B>) -> Result<Transparent, Fail>
     })
 }
 
-// Bytes of the transparent body.
-fn bytes_from(store: &mut Store<RamBoard>, offset: u16, most: u16) -> Result<ArrayVec<u8, 16>, Fail>
+// These bytes of the transparent body are found.
+fn check_bytes(store: &mut Store<RamBoard>, offset: u16, most: u16, want: &[u8]) -> Result<(), Fail>
     requires ready { IsReady store.old }
     requires few { most ≤ 16 }
     ensures { OnOk result (IsReady store.new) }
@@ -81,7 +81,29 @@ fn bytes_from(store: &mut Store<RamBoard>, offset: u16, most: u16) -> Result<Arr
     let body = transparent(store)?;
     let mut bytes = ArrayVec::<u8, 16>::new();
     body.read(store, offset, most, &mut bytes)?;
-    Ok(bytes)
+    if bytes.as_slice() == want {
+        Ok(())
+    } else {
+        Err(Fail::from("other bytes are found"))
+    }
+}
+
+// An update of the transparent body is refused with this status word.
+fn check_refusal(
+    store: &mut Store<RamBoard>,
+    offset: u16,
+    bytes: &[u8],
+    want: Sw,
+) -> Result<(), Fail>
+    requires ready { IsReady store.old }
+    requires few { length bytes.now ≤ 255 }
+    ensures { OnOk result (IsReady store.new) }
+{
+    let body = transparent(store)?;
+    match body.update(store, offset, bytes) {
+        Err(BodyErr::Refused(found)) if found == want => Ok(()),
+        _ => Err(Fail::from("it isn't refused so")),
+    }
 }
 
 // At the end of ten bytes, and past it.
@@ -89,17 +111,9 @@ fn bytes_from(store: &mut Store<RamBoard>, offset: u16, most: u16) -> Result<Arr
 fn stops_at_the_end_of_the_bytes(rt: HostRuntime) -> Result<(), Fail> {
     laws::numbers();
     let mut store = store_with_a_body(rt.alloc())?;
-    let body = transparent(&mut store)?;
-    let overlong = body.update(&mut store, 8, &[1, 2, 3]);
-    assert_eq!(rt; overlong, Err(BodyErr::Refused(Sw::NO_ROOM)));
-    let body = transparent(&mut store)?;
-    body.update(&mut store, 7, &[1, 2, 3])?;
-    let rest = bytes_from(&mut store, 8, 5)?;
-    assert_eq!(rt; rest.as_slice(), [2, 3].as_slice());
-    let some = bytes_from(&mut store, 6, 2)?;
-    assert_eq!(rt; some.as_slice(), [0xFF, 1].as_slice());
-    let body = transparent(&mut store)?;
-    let past = body.update(&mut store, 10, &[1]);
-    assert_eq!(rt; past, Err(BodyErr::Refused(Sw::WRONG_OFFSET)));
-    Ok(())
+    check_refusal(&mut store, 8, &[1, 2, 3], Sw::NO_ROOM)?;
+    transparent(&mut store)?.update(&mut store, 7, &[1, 2, 3])?;
+    check_bytes(&mut store, 8, 5, &[2, 3])?;
+    check_bytes(&mut store, 6, 2, &[0xFF, 1])?;
+    check_refusal(&mut store, 10, &[1], Sw::WRONG_OFFSET)
 }

@@ -1,6 +1,7 @@
 //! Scripts whose one command is cut at each of its device writes: what is found after the next start.
 
 use crate::scripts::outcome_of;
+use std::alloc::Global;
 use std::process::Abort;
 use std::test::Fail;
 
@@ -12,22 +13,31 @@ struct Torn {
     look: &'static str,
 }
 
+/// The line of a cut, without its end.
+fn cut_of(alloc: Global, number: u32, mask: &str) -> Result<String, Fail> {
+    Ok(format!(in alloc; "cut {number} {mask}")?)
+}
+
 /// What is printed where a command is cut, and then perhaps a start.
-fn printed_by<R: Abort + AllocGlobal>(
-    rt: &R,
-    torn: &Torn,
-    cut: &str,
-    start: &str,
-) -> Result<Vec<u8>, Fail> {
+fn printed_by(alloc: Global, torn: &Torn, cut: &str, start: &str) -> Result<Vec<u8>, Fail> {
     let Torn {
         prepare,
         command,
         look,
     } = torn;
-    let script = format!(in rt.alloc(); "on\n{prepare}{cut}\napdu {command}\n{start}on\n{look}\n")?;
-    let (printed, status) = outcome_of(rt.alloc(), &mut script.as_bytes());
-    assert_eq!(rt; status, 0);
-    Ok(printed)
+    let script = format!(in alloc; "on\n{prepare}{cut}\napdu {command}\n{start}on\n{look}\n")?;
+    match outcome_of(alloc, &mut script.as_bytes()) {
+        (printed, 0) => Ok(printed),
+        _ => Err(Fail::from("the script isn't played")),
+    }
+}
+
+/// Whether a text ends by two others.
+fn ends_by(printed: &[u8], (says, found): (&str, &str)) -> bool {
+    match printed.strip_suffix(found.as_bytes()) {
+        Some(rest) => rest.ends_with(says.as_bytes()),
+        None => false,
+    }
 }
 
 // Which words of a torn write are new: none, all, or a single one.
@@ -36,28 +46,40 @@ const MASKS: &[&str] = &[
     "0400", "0800", "1000", "2000", "4000", "8000",
 ];
 
+/// What is found after a cut: whether it is as before the command, and whether it is as after it.
+fn met_after(
+    alloc: Global,
+    torn: &Torn,
+    cut: &str,
+    [before, after]: [&str; 2],
+) -> Result<(bool, bool), Fail> {
+    let printed = printed_by(alloc, torn, cut, "")?;
+    Ok((
+        printed.as_slice().ends_with(before.as_bytes()),
+        printed.as_slice().ends_with(after.as_bytes()),
+    ))
+}
+
 /// A command is cut at each of so many device writes, with each of these masks. What is free afterwards is as before it or
 /// as after it, and both are met.
 fn check_space<R: Abort + AllocGlobal>(
     rt: &R,
     torn: &Torn,
     (writes, masks): (u32, &[&str]),
-    [before, after]: [&str; 2],
+    found: [&str; 2],
 ) -> Result<(), Fail> {
     let mut is_before_met = false;
     let mut is_after_met = false;
     for number in 1..=writes {
         for mask in masks {
-            let cut = format!(in rt.alloc(); "cut {number} {mask}")?;
-            let printed = printed_by(rt, torn, &cut, "")?;
-            let is_before = printed.as_slice().ends_with(before.as_bytes());
-            let is_after = printed.as_slice().ends_with(after.as_bytes());
-            assert!(rt; is_before || is_after, "at {cut}");
-            is_before_met = is_before_met || is_before;
-            is_after_met = is_after_met || is_after;
+            let cut = cut_of(rt.alloc(), number, mask)?;
+            let (is_before, is_after) = met_after(rt.alloc(), torn, &cut, found)?;
+            assert!(rt; is_before | is_after, "at {cut}");
+            is_before_met |= is_before;
+            is_after_met |= is_after;
         }
     }
-    assert!(rt; is_before_met && is_after_met);
+    assert!(rt; is_before_met & is_after_met);
     Ok(())
 }
 
@@ -109,18 +131,6 @@ fn create_takes_all_or_nothing(rt: HostRuntime) -> Result<(), Fail> {
     check_space(&rt, &torn, (46, &["0000", "FFFF", "0001", "4000"]), found)
 }
 
-/// Whether this is found where a command is cut, which then says something, and then perhaps a start.
-fn is_found<R: Abort + AllocGlobal>(
-    rt: &R,
-    torn: &Torn,
-    (cut, start): (&str, &str),
-    (says, found): (&str, &str),
-) -> Result<bool, Fail> {
-    let printed = printed_by(rt, torn, cut, start)?;
-    let wanted = format!(in rt.alloc(); "{says}\natr 3B808131FE458B\n{found}\n")?;
-    Ok(printed.as_slice().ends_with(wanted.as_bytes()))
-}
-
 // A command whose last device write, the tenth, is its commit is cut at each of them and past them.
 const WRITES: u32 = 10;
 
@@ -132,27 +142,48 @@ const FIRST_WORDS: &[(&str, bool)] = &[
     ("0002", false),
 ];
 
+/// What such a command, cut at a write, says, and what is then found.
+fn wanted_of<'a>(
+    number: u32,
+    is_new: bool,
+    [before, after]: [&'a str; 2],
+) -> (&'static str, &'a str) {
+    if number > WRITES {
+        ("< 9000", after)
+    } else if number == WRITES && is_new {
+        ("dark", after)
+    } else {
+        ("dark", before)
+    }
+}
+
+/// Whatever start comes after a cut, the same is found.
+fn check_starts<R: Abort + AllocGlobal>(
+    rt: &R,
+    torn: &Torn,
+    (cut, starts): (&str, &[&str]),
+    (says, found): (&str, &str),
+) -> Result<(), Fail> {
+    for start in starts {
+        let printed = printed_by(rt.alloc(), torn, cut, start)?;
+        let says = if start.is_empty() { says } else { "" };
+        assert!(rt; ends_by(&printed, (says, found)), "at {cut} and {start}");
+    }
+    Ok(())
+}
+
 /// Such a command is found as before it, and as after it from that write on, where its first word is new.
 fn check_commit<R: Abort + AllocGlobal>(
     rt: &R,
     torn: &Torn,
     starts: &[&str],
-    [before, after]: [&str; 2],
+    found: [&str; 2],
 ) -> Result<(), Fail> {
     for number in 1..=WRITES + 1 {
         for &(mask, is_new) in FIRST_WORDS {
-            let is_after = number > WRITES || number == WRITES && is_new;
-            let found = if is_after { after } else { before };
-            let cut = format!(in rt.alloc(); "cut {number} {mask}")?;
-            for start in starts {
-                let says = match (start.is_empty(), number > WRITES) {
-                    (true, true) => "< 9000",
-                    (true, false) => "dark",
-                    (false, _) => "",
-                };
-                let is_so = is_found(rt, torn, (&cut, start), (says, found))?;
-                assert!(rt; is_so, "at {cut} and {start}");
-            }
+            let cut = cut_of(rt.alloc(), number, mask)?;
+            let wanted = wanted_of(number, is_new, found);
+            check_starts(rt, torn, (&cut, starts), wanted)?;
         }
     }
     Ok(())
@@ -178,7 +209,10 @@ fn bytes_are_those_before_or_after(rt: HostRuntime) -> Result<(), Fail> {
         "cut 4 0000\non\n",
         "cut 4 0001\non\n",
     ];
-    let found = ["< FFFFFFFFFFFFFFFFFFFF9000", "< FF0102030405060708FF9000"];
+    let found = [
+        "\natr 3B808131FE458B\n< FFFFFFFFFFFFFFFFFFFF9000\n",
+        "\natr 3B808131FE458B\n< FF0102030405060708FF9000\n",
+    ];
     check_commit(&rt, &torn, &starts, found)
 }
 
@@ -193,8 +227,8 @@ fn records_are_those_before_or_after(rt: HostRuntime) -> Result<(), Fail> {
         look: "apdu 00A4000C026F03\napdu 00B2010403\napdu 00B2020403\napdu 00B2030403",
     };
     let found = [
-        "< 9000\n< 0102039000\n< FFFFFF9000\n< FFFFFF9000",
-        "< 9000\n< 0405069000\n< 0102039000\n< FFFFFF9000",
+        "\natr 3B808131FE458B\n< 9000\n< 0102039000\n< FFFFFF9000\n< FFFFFF9000\n",
+        "\natr 3B808131FE458B\n< 9000\n< 0405069000\n< 0102039000\n< FFFFFF9000\n",
     ];
     check_commit(&rt, &torn, &[""], found)
 }
@@ -207,29 +241,61 @@ const PINS: &[(&str, u32, &str, &str)] = &[
     (
         "002000010835363738FFFFFFFF",
         1,
-        "< 63C2\n< 63CA\n< 63C1",
-        "< 63C2\n< 63CA\n< 63C1",
+        "\natr 3B808131FE458B\n< 63C2\n< 63CA\n< 63C1\n",
+        "\natr 3B808131FE458B\n< 63C2\n< 63CA\n< 63C1\n",
     ),
     (
         "002000010831323334FFFFFFFF",
         2,
-        "< 63C2\n< 63CA\n< 63C1",
-        "< 63C3\n< 63CA\n< 63C2",
+        "\natr 3B808131FE458B\n< 63C2\n< 63CA\n< 63C1\n",
+        "\natr 3B808131FE458B\n< 63C3\n< 63CA\n< 63C2\n",
     ),
     // CHANGE REFERENCE DATA and RESET RETRY COUNTER.
     (
         "002400011031323334FFFFFFFF35363738FFFFFFFF",
         11,
-        "< 63C2\n< 63CA\n< 63C1",
-        "< 63C3\n< 63CA\n< 9000",
+        "\natr 3B808131FE458B\n< 63C2\n< 63CA\n< 63C1\n",
+        "\natr 3B808131FE458B\n< 63C3\n< 63CA\n< 9000\n",
     ),
     (
         "002C000110313233343536373835363738FFFFFFFF",
         14,
-        "< 63C3\n< 63C9\n< 63C2",
-        "< 63C3\n< 63CA\n< 9000",
+        "\natr 3B808131FE458B\n< 63C3\n< 63C9\n< 63C2\n",
+        "\natr 3B808131FE458B\n< 63C3\n< 63CA\n< 9000\n",
     ),
 ];
+
+/// What is found after a cut of such a command at a write.
+fn tries_after(
+    (number, writes): (u32, u32),
+    is_new: bool,
+    (charged, done): (&'static str, &'static str),
+) -> &'static str {
+    if number == writes && is_new {
+        done
+    } else if number == 1 && !is_new {
+        "\natr 3B808131FE458B\n< 63C3\n< 63CA\n< 63C2\n"
+    } else {
+        charged
+    }
+}
+
+/// A command is cut at each of its writes.
+fn check_tries<R: Abort + AllocGlobal>(
+    rt: &R,
+    torn: &Torn,
+    writes: u32,
+    ends: (&'static str, &'static str),
+) -> Result<(), Fail> {
+    for number in 1..=writes {
+        for &(mask, is_new) in FIRST_WORDS {
+            let cut = cut_of(rt.alloc(), number, mask)?;
+            let found = tries_after((number, writes), is_new, ends);
+            check_starts(rt, torn, (&cut, &[""]), ("dark", found))?;
+        }
+    }
+    Ok(())
+}
 
 // Whatever write a cut falls into, it leaves the PIN as it was, as it is after the charge, or as it is after the end: the
 // first word decides that a try is gone, the last one that all is done.
@@ -241,20 +307,7 @@ fn a_try_is_taken_at_each_cut(rt: HostRuntime) -> Result<(), Fail> {
             command,
             look: "apdu 00200001\napdu 002C0001\napdu 002000010835363738FFFFFFFF",
         };
-        for number in 1..=writes {
-            for &(mask, is_new) in FIRST_WORDS {
-                let found = if number == writes && is_new {
-                    done
-                } else if number == 1 && !is_new {
-                    "< 63C3\n< 63CA\n< 63C2"
-                } else {
-                    charged
-                };
-                let cut = format!(in rt.alloc(); "cut {number} {mask}")?;
-                let is_so = is_found(&rt, &torn, (&cut, ""), ("dark", found))?;
-                assert!(rt; is_so, "{command} at {cut}");
-            }
-        }
+        check_tries(&rt, &torn, writes, (charged, done))?;
     }
     Ok(())
 }

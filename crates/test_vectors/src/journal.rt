@@ -1,12 +1,12 @@
 //! The store: words before or after a cut at each write, of a change and of the openings after it; bad journals; errors.
 ghost use Rattle.std.specs.Prelude.{◌≤◌, IfOk, OnOk};
-ghost use Rattle.std.specs.Option.{ForSome};
 ghost use Rattle.undo_journal.specs.Memory.{room, IsOpen, IsReady};
 ghost use Rattle.undo_journal.specs.Lent.{memory_of};
 
 use crate::boards::with_words;
 use nvm_board::{Armed, Board, CutBoard, DeviceErr, RamBoard, Socket};
 use std::alloc::Global;
+use std::process::Abort;
 use std::test::Fail;
 use undo_journal::{OpenFault, Store, StoreErr, Txn};
 
@@ -86,26 +86,33 @@ struct Cut {
     mask: u16,
 }
 
-// The words after a change that is cut, and whose next opening may be cut too.
-fn words_after(alloc: Global, end: End, cut: Cut, reopen: Option<Cut>) -> Result<[u32; 3], Fail>
-    requires cut { 1 ≤ cut.write }
-    requires reopen { ForSome reopen (λ c. 1 ≤ c.write) }
+// The words that a board is found with when it has power again.
+fn found_again(mut board: CutBoard) -> Result<[u32; 3], Fail> {
+    board.light()?;
+    let mut store = opened(board)?;
+    Ok(found(&mut store)?)
+}
+
+// A board on which a change is cut.
+fn changed(alloc: Global, end: End, cut: Cut) -> Result<CutBoard, Fail>
+    requires { 1 ≤ cut.write }
 {
     let mut store = opened(board_before(alloc)?)?;
     store.arm(cut.write, cut.mask);
     let _ = change(&mut store, end);
-    let mut board = store.into_board();
+    Ok(store.into_board())
+}
+
+// A board on which an opening is cut.
+fn reopened(mut board: CutBoard, cut: Cut) -> Result<CutBoard, Fail>
+    requires { 1 ≤ cut.write }
+{
     board.light()?;
-    if let Some(next) = reopen {
-        board.arm(next.write, next.mask);
-        board = match Store::open(board) {
-            Ok(store) => store.into_board(),
-            Err((board, _)) => board,
-        };
-        board.light()?;
+    board.arm(cut.write, cut.mask);
+    match Store::open(board) {
+        Ok(store) => Ok(store.into_board()),
+        Err((board, _)) => Ok(board),
     }
-    let mut store = opened(board)?;
-    Ok(found(&mut store)?)
 }
 
 // A commit is the 13th write: the words are those after it exactly where the gate was written.
@@ -116,23 +123,45 @@ fn is_after(end: End, cut: Cut) -> bool {
     }
 }
 
+// The ends of a change, and how many device writes it then makes.
+const ENDS: &[(End, u32)] = &[(End::Commits, 13), (End::Abandons, 17)];
+
+const MASKS: &[u16] = &[0x0000, 0xFFFF, 0x0001, 0x0002];
+
+// The words after a change that is cut, and whose next opening may be cut too, at a write counted from 1.
+fn words_after(alloc: Global, end: End, cut: Cut, next: u32) -> Result<[u32; 3], Fail>
+    requires { 1 ≤ cut.write }
+{
+    let board = changed(alloc, end, cut)?;
+    if next == 0 {
+        return found_again(board);
+    }
+    let again = Cut {
+        write: next,
+        mask: cut.mask & 1,
+    };
+    found_again(reopened(board, again)?)
+}
+
+// A change is cut, and the next opening isn't or is.
+fn check_cut<R: Abort + AllocGlobal>(rt: &R, end: End, cut: Cut) -> Result<(), Fail>
+    requires { 1 ≤ cut.write }
+{
+    let Cut { write, mask } = cut;
+    let want = if is_after(end, cut) { AFTER } else { BEFORE };
+    for next in 0..=6 {
+        let words = words_after(rt.alloc(), end, cut, next)?;
+        assert!(rt; words == want, "at {write} by {mask}, and then at {next}");
+    }
+    Ok(())
+}
+
 #[test]
 fn finds_before_or_after_each_cut(rt: HostRuntime) -> Result<(), Fail> {
-    for (end, writes) in [(End::Commits, 13), (End::Abandons, 17)] {
+    for &(end, writes) in ENDS {
         for write in 1..=writes + 1 {
-            for mask in [0x0000, 0xFFFF, 0x0001, 0x0002] {
-                let cut = Cut { write, mask };
-                let want = if is_after(end, cut) { AFTER } else { BEFORE };
-                let words = words_after(rt.alloc(), end, cut, None)?;
-                assert_eq!(rt; words, want, "at {write} by {mask}");
-                for next in 1..=6 {
-                    let again = Cut {
-                        write: next,
-                        mask: mask & 1,
-                    };
-                    let words = words_after(rt.alloc(), end, cut, Some(again))?;
-                    assert_eq!(rt; words, want, "at {write} by {mask}, and then at {next}");
-                }
+            for &mask in MASKS {
+                check_cut(&rt, end, Cut { write, mask })?;
             }
         }
     }
@@ -151,14 +180,19 @@ const JOURNALS: &[(&[(u16, u32)], Option<OpenFault>)] = &[
     (&[(1168, 1), (1184, 16383)], None),
 ];
 
+// Why a board isn't opened.
+fn fault_of(board: RamBoard) -> Option<OpenFault> {
+    match Store::open(board) {
+        Ok(_) => None,
+        Err((_, fault)) => Some(fault),
+    }
+}
+
 #[test]
 fn opens_what_undo_is_defined_for(rt: HostRuntime) -> Result<(), Fail> {
     for &(words, want) in JOURNALS {
-        let fault = match Store::open(with_words(RamBoard::new(rt.alloc())?, words)?) {
-            Ok(_) => None,
-            Err((_, fault)) => Some(fault),
-        };
-        assert_eq!(rt; fault, want, "at {words:?}");
+        let board = with_words(RamBoard::new(rt.alloc())?, words)?;
+        assert!(rt; fault_of(board) == want, "at {words:?}");
     }
     Ok(())
 }
@@ -176,32 +210,30 @@ const TWICE: &[(u16, u32)] = &[
 #[test]
 fn takes_back_the_first_pair_of_a_word(rt: HostRuntime) -> Result<(), Fail> {
     let mut store = opened(with_words(RamBoard::new(rt.alloc())?, TWICE)?)?;
-    assert_eq!(rt; store.read(2049)?, 0x9810_3254);
+    assert!(rt; store.read(2049) == Ok(0x9810_3254));
     Ok(())
 }
 
-// What a transaction answers whose first set is cut, and what the store answers after it.
-fn tries_in_the_dark<B: Board>(store: &mut Store<B>) -> [Result<(), StoreErr>; 4]
+// Whether a transaction whose first set is cut answers so, and the store after it.
+fn stays_dark<B: Board>(store: &mut Store<B>) -> bool
     requires { IsReady store.old }
 {
     let mut txn = store.begin();
     let set = txn.set(2048, 3);
     let abandoned = txn.abandon();
-    let compared = store.compare(0, &[1; 8], &[1; 8]).map(|_| ());
-    [set, abandoned, store.begin().commit(), compared]
+    let compared = store.compare(0, &[1; 8], &[1; 8]);
+    let answers = [set, abandoned, store.begin().commit()];
+    answers == [Err(StoreErr::PowerLost); 3] && compared == Err(StoreErr::PowerLost)
 }
 
 #[test]
 fn answers_the_same_error_until_it_is_opened_again(rt: HostRuntime) -> Result<(), Fail> {
     let mut store = opened(board_before(rt.alloc())?)?;
     store.arm(1, 0x0000);
-    let answers = tries_in_the_dark(&mut store);
-    assert_eq!(rt; answers, [Err(StoreErr::PowerLost); 4]);
+    assert!(rt; stays_dark(&mut store));
     let mut board = store.into_board();
-    assert_eq!(rt; board.read(0), Err(DeviceErr::PowerLost));
-    board.light()?;
-    let mut store = opened(board)?;
-    assert_eq!(rt; found(&mut store)?, BEFORE);
+    assert!(rt; board.read(0) == Err(DeviceErr::PowerLost));
+    assert!(rt; found_again(board)? == BEFORE);
     Ok(())
 }
 
@@ -218,10 +250,7 @@ fn write_without_undo<B: Board>(store: &mut Store<B>) -> Result<(), StoreErr>
 fn writes_without_undo(rt: HostRuntime) -> Result<(), Fail> {
     let mut store = opened(board_before(rt.alloc())?)?;
     store.arm(3, 0x0001);
-    assert_eq!(rt; write_without_undo(&mut store), Err(StoreErr::PowerLost));
-    let mut board = store.into_board();
-    board.light()?;
-    let mut store = opened(board)?;
-    assert_eq!(rt; found(&mut store)?, [7, 1, 9]);
+    assert!(rt; write_without_undo(&mut store) == Err(StoreErr::PowerLost));
+    assert!(rt; found_again(store.into_board())? == [7, 1, 9]);
     Ok(())
 }

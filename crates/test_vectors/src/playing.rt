@@ -1,21 +1,45 @@
 //! Turns that a bench plays by blocks from outside, and the laws of the bench.
 
+use crate::cards::formatted;
 use card_bench::{Bench, Item, Turn, laws};
-use card_core::format;
 use nvm_board::CutBoard;
 use std::process::Abort;
 use std::test::Fail;
 
-// Blocks and what they are answered: wrong check bytes and lengths, another node, and requests of the link.
-const BLOCKS: &[(&[u8], &[u8])] = &[
-    (BAD_CHECK, &[0x00, 0x81, 0x00, 0x81]),
-    (BAD_LENGTH, &[0x00, 0x82, 0x00, 0x82]),
-    (&[0x01, 0xC0, 0x00, 0xC1], &[0x00, 0x82, 0x00, 0x82]),
-    (
-        &[0x00, 0xC1, 0x01, 0xFE, 0x3E],
-        &[0x00, 0xE1, 0x01, 0xFE, 0x1E],
-    ),
-    (RESYNCH, &[0x00, 0xE0, 0x00, 0xE0]),
+// Power on and off, blocks with wrong check bytes and lengths and of another node, and requests of the link.
+const TURNS: [Turn<'static>; 10] = [
+    Turn::Block(RESYNCH),
+    Turn::On,
+    Turn::Block(BAD_CHECK),
+    Turn::Block(BAD_LENGTH),
+    Turn::Block(&[0x01, 0xC0, 0x00, 0xC1]),
+    Turn::Block(&[0x00, 0xC1, 0x01, 0xFE, 0x3E]),
+    Turn::Block(RESYNCH),
+    Turn::Off,
+    Turn::On,
+    Turn::Block(SELECT),
+];
+
+/// What a turn is to end in.
+enum Wanted {
+    Mute,
+    Atr,
+    Quiet,
+    Reply(&'static [u8]),
+}
+
+// What each turn ends in.
+const WANTED: &[(usize, Wanted)] = &[
+    (0, Wanted::Mute),
+    (1, Wanted::Atr),
+    (2, Wanted::Reply(&[0x00, 0x81, 0x00, 0x81])),
+    (3, Wanted::Reply(&[0x00, 0x82, 0x00, 0x82])),
+    (4, Wanted::Reply(&[0x00, 0x82, 0x00, 0x82])),
+    (5, Wanted::Reply(&[0x00, 0xE1, 0x01, 0xFE, 0x1E])),
+    (6, Wanted::Reply(&[0x00, 0xE0, 0x00, 0xE0])),
+    (7, Wanted::Quiet),
+    (8, Wanted::Atr),
+    (9, Wanted::Reply(TEMPLATE)),
 ];
 
 const BAD_CHECK: &[u8] = &[
@@ -38,33 +62,46 @@ const TEMPLATE: &[u8] = &[
     0x8C, 0x05, 0x27, 0x18, 0x00, 0x00, 0x00, 0x90, 0x00, 0xA9,
 ];
 
-/// Plays a turn with a block, and compares the reply.
-fn check(rt: &impl Abort, bench: &mut Bench<CutBoard>, block: &[u8], wanted: &[u8]) {
-    let mut trace = [Item::Quiet];
-    bench.play(&[Turn::Block(block)], &mut trace);
-    let is_so = match &trace[0] {
-        Item::Reply(reply) => reply.as_slice() == wanted,
+/// Whether an item is what is wanted.
+fn is_so(item: Option<&Item>, wanted: &Wanted) -> bool {
+    match (item, wanted) {
+        (Some(Item::Reply(reply)), Wanted::Reply(bytes)) => reply.as_slice() == *bytes,
+        (Some(Item::Mute), Wanted::Mute)
+        | (Some(Item::Atr), Wanted::Atr)
+        | (Some(Item::Quiet), Wanted::Quiet) => true,
         _ => false,
-    };
-    assert!(rt; is_so);
+    }
 }
 
-// Power on and off, and blocks between.
+fn check_trace(rt: &impl Abort, trace: &[Item]) {
+    for (at, wanted) in WANTED {
+        assert!(rt; is_so(trace.get(*at), wanted), "at {at}");
+    }
+}
+
+// A trace before the turns: no item is yet what its turn is to end in.
+fn blank() -> [Item; 10] {
+    [
+        Item::Quiet,
+        Item::Quiet,
+        Item::Quiet,
+        Item::Quiet,
+        Item::Quiet,
+        Item::Quiet,
+        Item::Quiet,
+        Item::Atr,
+        Item::Quiet,
+        Item::Quiet,
+    ]
+}
+
 #[test]
 fn turns_are_played(rt: HostRuntime) -> Result<(), Fail> {
-    let board = format(CutBoard::new(rt.alloc())?).map_err(|(_, error)| error)?;
-    let mut bench = Bench::new(board);
-    let mut trace = [Item::Quiet, Item::Quiet];
-    bench.play(&[Turn::Block(RESYNCH), Turn::On], &mut trace);
-    assert!(rt; matches!(&trace, [Item::Mute, Item::Atr]));
-    for &(block, wanted) in BLOCKS {
-        check(&rt, &mut bench, block, wanted);
-    }
-    let mut trace = [Item::Atr, Item::Quiet];
-    bench.play(&[Turn::Off, Turn::On], &mut trace);
-    assert!(rt; matches!(&trace, [Item::Quiet, Item::Atr]));
-    check(&rt, &mut bench, SELECT, TEMPLATE);
+    let mut bench = Bench::new(formatted(CutBoard::new(rt.alloc())?)?);
+    let mut trace = blank();
+    bench.play(&TURNS, &mut trace);
     let _ = bench.into_board();
+    check_trace(&rt, &trace);
     Ok(())
 }
 

@@ -13,4 +13,4 @@ returns-clause-chain g c there =
     let some : is_some c.in_ok-free.free ≡ true = sym c.is_some.ensures ∙ there in
     let here = found_chain m e c.in_ok-free.free c.in_ok-free.ensures.found some in
     let family : List ℕ → Type 0 = λ l. IsChain l 128 (chain_of l (record { first = 128; last = 128 })) in
-    subst family (sym c.lay.ensures.reads.keeps.committed_words) here
+    subst family (sym c.lay.ensures.store.only.keeps.committed_words) here
