@@ -19,6 +19,7 @@ fn report(rt: &impl Eprint, fault: &RunFault) -> u8
     fault.status()
 }
 
+/// Runs the script on standard input. The exit status tells how it ended.
 fn main(rt: HostRuntime) -> ExitCode {
     let Ok(mut reader) = BufReader::new(rt.alloc(), rt.reader()) else {
         return ExitCode::from(RunFault::Memory.status());

@@ -22,12 +22,14 @@ impl<'a> Model for Object<'a> {
 }
 
 impl<'a> Object<'a> {
+    /// Its tag.
     pub(crate) fn tag(&self) -> u8
         ensures { result ≡ self.now.tag }
     {
         self.tag
     }
 
+    /// Its value, which may be empty.
     pub(crate) fn value(&self) -> &'a [u8]
         ensures { result.now ≡ self.now.value }
     {

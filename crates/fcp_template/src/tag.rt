@@ -38,6 +38,7 @@ impl Tag {
         }
     }
 
+    /// The byte that it is in a text.
     pub(crate) const fn byte(self) -> u8
         ensures { result ≡ tag_byte self }
     {

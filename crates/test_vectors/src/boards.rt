@@ -15,7 +15,7 @@ pub fn with_words<B: Board + Drop>(mut board: B, words: &[(u16, u32)]) -> Result
     Ok(board)
 }
 
-// Whether these are words 2, 3 and 4 of page 3.
+/// Whether these are words 2, 3 and 4 of page 3.
 fn holds(board: &mut CutBoard, [second, third, fourth]: [u32; 3]) -> bool {
     board.read(50) == Ok(second) && board.read(51) == Ok(third) && board.read(52) == Ok(fourth)
 }
@@ -28,19 +28,19 @@ const MASKS: &[(u16, [u32; 3])] = &[
     (0xFFFA, [4, 8, 6]),
 ];
 
-// Whether the board answers nothing.
+/// Whether the board answers nothing.
 fn is_dark(board: &mut CutBoard) -> bool {
     board.read(50) == Err(DeviceErr::PowerLost)
         && board.write(3, 2, &[1]) == Err(DeviceErr::PowerLost)
         && board.compare(0, &[1; 8], &[1; 8]) == Err(DeviceErr::PowerLost)
 }
 
-// Whether words are written as before.
+/// Whether words are written as before.
 fn is_written_again(board: &mut CutBoard) -> bool {
     board.write(3, 2, &[1, 2, 3]) == Ok(()) && holds(board, [1, 2, 3])
 }
 
-// A board whose third write was armed, and torn by this mask.
+/// A board whose third write was armed, and torn by this mask.
 fn torn_by(alloc: Global, mask: u16) -> Result<CutBoard, Fail> {
     let mut board = CutBoard::new(alloc)?;
     // The second arm takes the place of the first.
@@ -67,7 +67,7 @@ fn tears_the_armed_write_by_its_mask(rt: HostRuntime) -> Result<(), Fail> {
     Ok(())
 }
 
-// A board with its last word written, that is armed and without power.
+/// A board with its last word written, that is armed and without power.
 fn armed_without_power(alloc: Global) -> Result<CutBoard, Fail> {
     let mut board = CutBoard::new(alloc)?;
     board.write(1023, 15, &[0xFFFF_FFFF])?;
@@ -76,12 +76,12 @@ fn armed_without_power(alloc: Global) -> Result<CutBoard, Fail> {
     Ok(board)
 }
 
-// Whether power comes back to a board without it.
+/// Whether power comes back to a board without it.
 fn lights(board: &mut CutBoard) -> bool {
     board.read(0) == Err(DeviceErr::PowerLost) && board.light().is_ok()
 }
 
-// Whether the first of two words is written.
+/// Whether the first of two words is written.
 fn writes_one(board: &mut CutBoard) -> bool {
     board.write(0, 0, &[5, 6]) == Err(DeviceErr::PowerLost)
         && board.light().is_ok()
@@ -105,7 +105,7 @@ const SHOWN: &[(u8, [u8; 8], bool)] = &[
     (0, [0, 2, 3, 4, 5, 6, 7, 8], false),
 ];
 
-// A board with power compares these.
+/// A board with power compares these.
 fn check_shown(rt: &impl Abort, board: &mut RamBoard) {
     for (secret, shown, want) in SHOWN {
         assert!(rt; *secret < 16);
@@ -114,12 +114,12 @@ fn check_shown(rt: &impl Abort, board: &mut RamBoard) {
     }
 }
 
-// Whether the words of a fresh board are 0, and those of a page that is written are not.
+/// Whether the words of a fresh board are 0, and those of a page that is written are not.
 fn is_written(board: &mut RamBoard) -> bool {
     board.read(0) == Ok(0) && board.write(7, 0, &[1; 16]) == Ok(()) && board.read(127) == Ok(1)
 }
 
-// Whether a board compares with power alone.
+/// Whether a board compares with power alone.
 fn needs_power(board: &mut RamBoard) -> bool {
     board.power_off();
     board.compare(15, &[0; 8], &[0; 8]) == Err(DeviceErr::PowerLost)

@@ -28,7 +28,7 @@ const WORDS: &[(u16, u32)] = &[
     (2051, 0xFFFF_FFFF),
 ];
 
-// A store in which block 128 is a body's, and all others are free. The body's first twelve bytes are FF.
+/// A store in which block 128 is a body's, and all others are free. The body's first twelve bytes are FF.
 fn store_with_a_body(alloc: Global) -> Result<Store<RamBoard>, Fail>
     ensures { IfOk result IsReady }
 {
@@ -42,7 +42,7 @@ fn store_with_a_body(alloc: Global) -> Result<Store<RamBoard>, Fail>
     }
 }
 
-// Whether block 128 is a chain of its own.
+/// Whether block 128 is a chain of its own.
 fn has_block<B: Board>(store: &mut Store<B>) -> Result<bool, StoreErr>
     requires { IsReady store.old }
     ensures ready { OnOk result (IsReady store.new) }
@@ -57,7 +57,7 @@ fn has_block<B: Board>(store: &mut Store<B>) -> Result<bool, StoreErr>
     Ok(free.is_some())
 }
 
-// A transparent body of ten bytes.
+/// A transparent body of ten bytes.
 fn transparent<B: Board>(store: &mut Store<B>) -> Result<Transparent, Fail>
     requires { IsReady store.old }
     ensures ready { OnOk result (IsReady store.new) }
@@ -72,7 +72,7 @@ fn transparent<B: Board>(store: &mut Store<B>) -> Result<Transparent, Fail>
     })
 }
 
-// These bytes of the transparent body are found.
+/// These bytes of the transparent body are found.
 fn check_bytes(store: &mut Store<RamBoard>, offset: u16, most: u16, want: &[u8]) -> Result<(), Fail>
     requires ready { IsReady store.old }
     requires few { most ≤ 16 }
@@ -88,7 +88,7 @@ fn check_bytes(store: &mut Store<RamBoard>, offset: u16, most: u16, want: &[u8])
     }
 }
 
-// An update of the transparent body is refused with this status word.
+/// An update of the transparent body is refused with this status word.
 fn check_refusal(
     store: &mut Store<RamBoard>,
     offset: u16,
@@ -106,7 +106,7 @@ fn check_refusal(
     }
 }
 
-// At the end of ten bytes, and past it.
+/// At the end of ten bytes, and past it.
 #[test]
 fn stops_at_the_end_of_the_bytes(rt: HostRuntime) -> Result<(), Fail> {
     laws::numbers();

@@ -42,7 +42,7 @@ fn formats_the_factory_memory(rt: HostRuntime) -> Result<(), Fail> {
     Ok(())
 }
 
-// How a card starts on a board.
+/// How a card starts on a board.
 fn fault_of<B: Board + Drop>(board: B) -> Option<StartFault> {
     match Card::start(board) {
         Ok(_) => None,
@@ -50,7 +50,7 @@ fn fault_of<B: Board + Drop>(board: B) -> Option<StartFault> {
     }
 }
 
-// How a card starts where these words of the factory's memory are others.
+/// How a card starts where these words of the factory's memory are others.
 fn start_with(alloc: Global, words: &[(u16, u32)]) -> Result<Option<StartFault>, Fail> {
     let board = formatted(RamBoard::new(alloc)?)?;
     Ok(fault_of(with_words(board, words)?))
@@ -135,7 +135,7 @@ fn starts_what_stands_for_a_card(rt: HostRuntime) -> Result<(), Fail> {
     Ok(())
 }
 
-// A board that a card was started on without power.
+/// A board that a card was started on without power.
 fn stopped(mut board: RamBoard) -> Result<RamBoard, Fail> {
     board.power_off();
     match Card::start(board) {
@@ -144,7 +144,7 @@ fn stopped(mut board: RamBoard) -> Result<RamBoard, Fail> {
     }
 }
 
-// Why the factory's memory isn't written.
+/// Why the factory's memory isn't written.
 fn format_fault<B: Board + Drop>(board: B) -> Option<DeviceErr> {
     match format(board) {
         Ok(_) => None,

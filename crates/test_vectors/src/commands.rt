@@ -187,7 +187,7 @@ fn has_both(path: &FilePath<'_>) -> bool {
     path.count() == 2 && path.identifier(0) == 0x7F10 && path.identifier(1) == 0x6F3A
 }
 
-// SELECT by a path, from the master file or from the current dedicated file.
+/// SELECT by a path, from the master file or from the current dedicated file.
 #[test]
 fn reads_paths(rt: HostRuntime) -> Result<(), Fail> {
     let path = FilePath::new(&[0x7F, 0x10, 0x6F, 0x3A]).ok_or("no path")?;
@@ -241,7 +241,7 @@ fn is_of_wrong_length(bytes: &[u8]) -> bool {
     matches!(Command::parse(bytes), Err(Sw(0x6700)))
 }
 
-// The longest update; then with an Le, and with two bytes more than Lc says. And no bytes at all.
+/// The longest update; then with an Le, and with two bytes more than Lc says. And no bytes at all.
 #[test]
 fn reads_the_longest_update(rt: HostRuntime) -> Result<(), Fail> {
     let bytes = longest_and(rt.alloc(), "")?;

@@ -97,7 +97,7 @@ fn delete_frees_all_or_nothing(rt: HostRuntime) -> Result<(), Fail> {
     check_space(&rt, &torn, (12, MASKS), found)
 }
 
-// A dedicated file with two files and a dedicated file in it, deleted with all of them.
+/// A dedicated file with two files and a dedicated file in it, deleted with all of them.
 #[test]
 fn delete_of_a_tree_frees_all_or_nothing(rt: HostRuntime) -> Result<(), Fail> {
     let torn = Torn {
@@ -116,7 +116,7 @@ fn delete_of_a_tree_frees_all_or_nothing(rt: HostRuntime) -> Result<(), Fail> {
     check_space(&rt, &torn, (24, MASKS), found)
 }
 
-// A new file of two blocks: a cut while its blocks are filled leaves the card as it was.
+/// A new file of two blocks: a cut while its blocks are filled leaves the card as it was.
 #[test]
 fn create_takes_all_or_nothing(rt: HostRuntime) -> Result<(), Fail> {
     let torn = Torn {
@@ -189,8 +189,8 @@ fn check_commit<R: Abort + AllocGlobal>(
     Ok(())
 }
 
-// An UPDATE BINARY of eight bytes from byte 1 on, which lie in three words: three device writes each, and the commit. Each of
-// the next start's first writes is cut too.
+/// An UPDATE BINARY of eight bytes from byte 1 on, which lie in three words: three device writes each, and the commit. Each of
+/// the next start's first writes is cut too.
 #[test]
 fn bytes_are_those_before_or_after(rt: HostRuntime) -> Result<(), Fail> {
     let torn = Torn {
@@ -216,8 +216,8 @@ fn bytes_are_those_before_or_after(rt: HostRuntime) -> Result<(), Fail> {
     check_commit(&rt, &torn, &starts, found)
 }
 
-// An UPDATE RECORD of a cyclic file, whose slot 1 touches two words: with the entry's three words, three writes each, and the
-// commit.
+/// An UPDATE RECORD of a cyclic file, whose slot 1 touches two words: with the entry's three words, three writes each, and the
+/// commit.
 #[test]
 fn records_are_those_before_or_after(rt: HostRuntime) -> Result<(), Fail> {
     let torn = Torn {
@@ -297,8 +297,8 @@ fn check_tries<R: Abort + AllocGlobal>(
     Ok(())
 }
 
-// Whatever write a cut falls into, it leaves the PIN as it was, as it is after the charge, or as it is after the end: the
-// first word decides that a try is gone, the last one that all is done.
+/// Whatever write a cut falls into, it leaves the PIN as it was, as it is after the charge, or as it is after the end: the
+/// first word decides that a try is gone, the last one that all is done.
 #[test]
 fn a_try_is_taken_at_each_cut(rt: HostRuntime) -> Result<(), Fail> {
     for &(command, writes, charged, done) in PINS {

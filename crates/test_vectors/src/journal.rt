@@ -25,12 +25,12 @@ const WORDS: &[(u16, u32)] = &[
     (2049, 61),
 ];
 
-// A lit board with these.
+/// A lit board with these.
 fn board_before(alloc: Global) -> Result<CutBoard, Fail> {
     with_words(CutBoard::new(alloc)?, WORDS)
 }
 
-// A store of a board that can be opened.
+/// A store of a board that can be opened.
 fn opened<B: Board + Drop>(board: B) -> Result<Store<B>, Fail>
     ensures { IfOk result IsReady }
 {
@@ -40,7 +40,7 @@ fn opened<B: Board + Drop>(board: B) -> Result<Store<B>, Fail>
     }
 }
 
-// The three words.
+/// The three words.
 fn found<B: Board>(store: &mut Store<B>) -> Result<[u32; 3], StoreErr>
     requires { IsReady store.old }
     ensures { OnOk result (IsReady store.new) }
@@ -48,7 +48,7 @@ fn found<B: Board>(store: &mut Store<B>) -> Result<[u32; 3], StoreErr>
     Ok([store.read(5)?, store.read(2048)?, store.read(2049)?])
 }
 
-// Four sets, of which two are of one word: 12 device writes. A read before them makes none.
+/// Four sets, of which two are of one word: 12 device writes. A read before them makes none.
 fn set_words<B: Board>(txn: &mut Txn<'_, B>) -> Result<(), StoreErr>
     requires ready { IsOpen (memory_of txn.old) }
     requires room { 4 ≤ room (memory_of txn.old) }
@@ -86,14 +86,14 @@ struct Cut {
     mask: u16,
 }
 
-// The words that a board is found with when it has power again.
+/// The words that a board is found with when it has power again.
 fn found_again(mut board: CutBoard) -> Result<[u32; 3], Fail> {
     board.light()?;
     let mut store = opened(board)?;
     Ok(found(&mut store)?)
 }
 
-// A board on which a change is cut.
+/// A board on which a change is cut.
 fn changed(alloc: Global, end: End, cut: Cut) -> Result<CutBoard, Fail>
     requires { 1 ≤ cut.write }
 {
@@ -103,7 +103,7 @@ fn changed(alloc: Global, end: End, cut: Cut) -> Result<CutBoard, Fail>
     Ok(store.into_board())
 }
 
-// A board on which an opening is cut.
+/// A board on which an opening is cut.
 fn reopened(mut board: CutBoard, cut: Cut) -> Result<CutBoard, Fail>
     requires { 1 ≤ cut.write }
 {
@@ -115,7 +115,7 @@ fn reopened(mut board: CutBoard, cut: Cut) -> Result<CutBoard, Fail>
     }
 }
 
-// A commit is the 13th write: the words are those after it exactly where the gate was written.
+/// A commit is the 13th write: the words are those after it exactly where the gate was written.
 fn is_after(end: End, cut: Cut) -> bool {
     match end {
         End::Commits => cut.write > 13 || cut.write == 13 && cut.mask & 1 == 1,
@@ -128,7 +128,7 @@ const ENDS: &[(End, u32)] = &[(End::Commits, 13), (End::Abandons, 17)];
 
 const MASKS: &[u16] = &[0x0000, 0xFFFF, 0x0001, 0x0002];
 
-// The words after a change that is cut, and whose next opening may be cut too, at a write counted from 1.
+/// The words after a change that is cut, and whose next opening may be cut too, at a write counted from 1.
 fn words_after(alloc: Global, end: End, cut: Cut, next: u32) -> Result<[u32; 3], Fail>
     requires { 1 ≤ cut.write }
 {
@@ -143,7 +143,7 @@ fn words_after(alloc: Global, end: End, cut: Cut, next: u32) -> Result<[u32; 3],
     found_again(reopened(board, again)?)
 }
 
-// A change is cut, and the next opening isn't or is.
+/// A change is cut, and the next opening isn't or is.
 fn check_cut<R: Abort + AllocGlobal>(rt: &R, end: End, cut: Cut) -> Result<(), Fail>
     requires { 1 ≤ cut.write }
 {
@@ -180,7 +180,7 @@ const JOURNALS: &[(&[(u16, u32)], Option<OpenFault>)] = &[
     (&[(1168, 1), (1184, 16383)], None),
 ];
 
-// Why a board isn't opened.
+/// Why a board isn't opened.
 fn fault_of(board: RamBoard) -> Option<OpenFault> {
     match Store::open(board) {
         Ok(_) => None,
@@ -214,7 +214,7 @@ fn takes_back_the_first_pair_of_a_word(rt: HostRuntime) -> Result<(), Fail> {
     Ok(())
 }
 
-// Whether a transaction whose first set is cut answers so, and the store after it.
+/// Whether a transaction whose first set is cut answers so, and the store after it.
 fn stays_dark<B: Board>(store: &mut Store<B>) -> bool
     requires { IsReady store.old }
 {
@@ -237,7 +237,7 @@ fn answers_the_same_error_until_it_is_opened_again(rt: HostRuntime) -> Result<()
     Ok(())
 }
 
-// Words that are written alone and in a run, of which one that is cut leaves some.
+/// Words that are written alone and in a run, of which one that is cut leaves some.
 fn write_without_undo<B: Board>(store: &mut Store<B>) -> Result<(), StoreErr>
     requires { IsReady store.old }
 {

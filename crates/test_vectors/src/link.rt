@@ -41,8 +41,8 @@ fn tell(rt: &impl Abort, reader: &mut ReaderEnd, event: Event, bytes: &[u8]) -> 
     }
 }
 
-// Whether the end says this, with these bytes where it says a block or an answer, and has a command in hand exactly where
-// it says a block.
+/// Whether the end says this, with these bytes where it says a block or an answer, and has a command in hand exactly where
+/// it says a block.
 fn is_said(next: &Next, is_busy: bool, says: Says, bytes: &[u8]) -> bool {
     match (next, says) {
         (Next::Send(block), Says::Block) => is_busy && block.as_slice() == bytes,
@@ -126,7 +126,7 @@ const EXCHANGES: &[&[Row]] = &[
     ],
 ];
 
-// The end is told this, and says that.
+/// The end is told this, and says that.
 fn check<R: Abort + AllocGlobal>(rt: &R, reader: &mut ReaderEnd, row: Row) -> Result<(), Fail> {
     let (event, told, says, wanted) = row;
     let bytes = bytes_of(rt.alloc(), told)?;
@@ -150,7 +150,7 @@ fn reader_end_has_its_commands_answered(rt: HostRuntime) -> Result<(), Fail> {
     Ok(())
 }
 
-// The longest command goes in two blocks.
+/// The longest command goes in two blocks.
 #[test]
 fn longest_command_goes_in_a_chain(rt: HostRuntime) -> Result<(), Fail> {
     let mut reader = ReaderEnd::new();
@@ -168,7 +168,7 @@ fn longest_command_goes_in_a_chain(rt: HostRuntime) -> Result<(), Fail> {
     )
 }
 
-// The card's end takes a block, whatever its bytes.
+/// The card's end takes a block, whatever its bytes.
 fn card_takes(block: &[u8]) -> bool {
     let mut out = BlockBytes::new();
     let mut card = CardEnd::new();
@@ -178,7 +178,7 @@ fn card_takes(block: &[u8]) -> bool {
     }
 }
 
-// And so does the reader's.
+/// And so does the reader's.
 fn reader_takes(rt: &impl Abort, block: &[u8]) {
     let mut reader = ReaderEnd::new();
     let _ = reader.send(&[0x00, 0xA4, 0x00, 0x0C]);
@@ -187,7 +187,7 @@ fn reader_takes(rt: &impl Abort, block: &[u8]) {
     assert!(rt; reader.busy() == matches!(next, Next::Send(_)));
 }
 
-// Both ends take this block, and the same with its right last byte.
+/// Both ends take this block, and the same with its right last byte.
 fn both_take(rt: &impl Abort, block: &mut [u8], spoils: u8) {
     assert!(rt; card_takes(block));
     reader_takes(rt, block);

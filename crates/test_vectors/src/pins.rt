@@ -14,7 +14,7 @@ const PAGE: [u32; 6] = [3, 10, 0x3132_3334, 0xFFFF_FFFF, 0x3132_3334, 0x3536_373
 
 const VALUE: [u8; 8] = [0x31, 0x32, 0x33, 0x34, 0xFF, 0xFF, 0xFF, 0xFF];
 
-// A board with the factory's PIN pages, 65 to 72.
+/// A board with the factory's PIN pages, 65 to 72.
 fn board_of_pins(alloc: Global) -> Result<RamBoard, Fail> {
     let mut board = RamBoard::new(alloc)?;
     for page in 65..73 {
@@ -23,7 +23,7 @@ fn board_of_pins(alloc: Global) -> Result<RamBoard, Fail> {
     Ok(board)
 }
 
-// A store of a board that can be opened and has PINs.
+/// A store of a board that can be opened and has PINs.
 fn opened<B: Board + Drop>(board: B) -> Result<Store<B>, Fail>
     ensures ready { IfOk result IsReady }
     ensures pages { IfOk result (λ s. ArePinPages (committed s)) }
@@ -37,7 +37,7 @@ fn opened<B: Board + Drop>(board: B) -> Result<Store<B>, Fail>
     Ok(store)
 }
 
-// A receipt tells its secret. It is spent by an end, right or wrong.
+/// A receipt tells its secret. It is spent by an end, right or wrong.
 fn spends<B: Board>(store: &mut Store<B>, charged: Charged) -> (u8, Result<Outcome, StoreErr>)
     requires ready { IsReady store.old }
     requires pages { ArePinPages (committed store.old) }

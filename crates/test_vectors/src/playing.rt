@@ -79,7 +79,7 @@ fn check_trace(rt: &impl Abort, trace: &[Item]) {
     }
 }
 
-// A trace before the turns: no item is yet what its turn is to end in.
+/// A trace before the turns: no item is yet what its turn is to end in.
 fn blank() -> [Item; 10] {
     [
         Item::Quiet,
@@ -105,7 +105,7 @@ fn turns_are_played(rt: HostRuntime) -> Result<(), Fail> {
     Ok(())
 }
 
-// The laws hold for the tree machine, and for machines of any type.
+/// The laws hold for the tree machine, and for machines of any type.
 #[test]
 fn laws_are_there() {
     laws::world();

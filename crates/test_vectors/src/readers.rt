@@ -30,7 +30,7 @@ fn ends_so(alloc: Global, reader: &mut impl BufRead, wanted: u8) -> bool {
     status == wanted && printed.is_empty()
 }
 
-// A line has at most 1,024 bytes, without its line feed and a carriage return before it.
+/// A line has at most 1,024 bytes, without its line feed and a carriage return before it.
 #[test]
 fn long_lines(rt: HostRuntime) -> Result<(), Fail> {
     for &(size, end, wanted) in LONG_LINES {
@@ -101,7 +101,7 @@ fn is_endless(alloc: Global, [line, tail]: [&[u8]; 2], whole: usize, wanted: u8)
     ends_so(alloc, &mut reader, wanted) && reader.given == 16_777_216
 }
 
-// Past 16,777,216 bytes a script is a read fault, after good lines; but a begun line that is too long by then is a bad one.
+/// Past 16,777,216 bytes a script is a read fault, after good lines; but a begun line that is too long by then is a bad one.
 #[test]
 fn endless_scripts(rt: HostRuntime) -> Result<(), Fail> {
     let line = comment(rt.alloc(), 999, "\n")?;
@@ -157,8 +157,8 @@ fn is_read_whole(alloc: Global, script: &[u8], wanted: u8) -> bool {
     ends_so(alloc, &mut reader, wanted) && reader.rest.is_empty()
 }
 
-// A begun line that is too long is a bad one before its end has come: the reader isn't asked for more. One whose 1,025th byte
-// is a carriage return may still turn out good.
+/// A begun line that is too long is a bad one before its end has come: the reader isn't asked for more. One whose 1,025th byte
+/// is a carriage return may still turn out good.
 #[test]
 fn begun_lines(rt: HostRuntime) -> Result<(), Fail> {
     for &(size, end, wanted) in BEGUN_LINES {
@@ -168,7 +168,7 @@ fn begun_lines(rt: HostRuntime) -> Result<(), Fail> {
     Ok(())
 }
 
-// A reader that fails: what was written before stands.
+/// A reader that fails: what was written before stands.
 #[test]
 fn failing_reader(rt: HostRuntime) {
     let mut reader = Failing {
@@ -222,8 +222,8 @@ const WRITERS: &[(usize, bool, bool, u8, usize)] = &[
     (100, true, false, 4, 19),
 ];
 
-// A writer that takes one byte at a time gets the same text; one that takes nothing more ends the run, and so does one that
-// fails to flush a line.
+/// A writer that takes one byte at a time gets the same text; one that takes nothing more ends the run, and so does one that
+/// fails to flush a line.
 #[test]
 fn narrow_writers(rt: HostRuntime) {
     let text = "atr 3B808131FE458B\n< 9000\n".as_bytes();

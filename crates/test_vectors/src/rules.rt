@@ -66,7 +66,7 @@ fn asks_a_rule(rt: HostRuntime) -> Result<(), Fail> {
     Ok(())
 }
 
-// Whether this is the mode of the bits 7 and 1.
+/// Whether this is the mode of the bits 7 and 1.
 fn deletes_and_reads(mode: AccessMode) -> bool {
     mode == AccessMode::DELETE_SELF | AccessMode::READ
         && mode.has(AccessBit::Read)
@@ -91,7 +91,7 @@ const STATES: &[(LifeCycleCommand, u8, Option<u8>)] = &[
     (LifeCycleCommand::Deactivate, 0x01, None),
 ];
 
-// The byte of the state that a command leads to.
+/// The byte of the state that a command leads to.
 fn next_byte(command: LifeCycleCommand, state: LifeCycle) -> Option<u8> {
     match LifeCycle::next_state(command, state) {
         Some(next) => Some(next.to_byte()),

@@ -128,7 +128,7 @@ const FAULTS: &[&str] = &["lose", "garble"];
 // Commands of one block, and what they answer.
 const SHORT: &[(&str, &str)] = &[("00B0820005", "98103254769000"), ("00A4000C022FE2", "9000")];
 
-// A block that is lost or garbled is asked for, or sent, again.
+/// A block that is lost or garbled is asked for, or sent, again.
 #[test]
 fn one_fault_is_repaired(rt: HostRuntime) -> Result<(), Fail> {
     for &(command, answer) in SHORT {
@@ -148,7 +148,7 @@ fn repairs_two<R: Abort + AllocGlobal>(rt: &R, place: u32) -> Result<(), Fail> {
 
 const TWO_BLOCKS: &[&str] = &["lose 2\ngarble 3", "lose 1\ngarble 1\nlose 2"];
 
-// Of either kind one fault can be pending. They fall due with one block, or with two.
+/// Of either kind one fault can be pending. They fall due with one block, or with two.
 #[test]
 fn two_faults_are_repaired(rt: HostRuntime) -> Result<(), Fail> {
     for place in 1..=4 {
@@ -160,7 +160,7 @@ fn two_faults_are_repaired(rt: HostRuntime) -> Result<(), Fail> {
     Ok(())
 }
 
-// A command of 260 bytes in two blocks, of an unknown class.
+/// A command of 260 bytes in two blocks, of an unknown class.
 #[test]
 fn faults_in_a_chain_are_repaired(rt: HostRuntime) -> Result<(), Fail> {
     let zeros = "00".repeat(rt.alloc(), 255)?;

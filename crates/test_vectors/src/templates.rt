@@ -66,7 +66,7 @@ const TEXTS: &[(&str, Option<FcpFault>)] = &[
     ),
 ];
 
-// Why a text is refused.
+/// Why a text is refused.
 fn fault_of(text: &[u8]) -> Option<FcpFault> {
     match parse(text) {
         Ok(_) => None,
@@ -85,7 +85,7 @@ fn reads_texts(rt: HostRuntime) -> Result<(), Fail> {
     Ok(())
 }
 
-// Whether these are the parts of the text of a transparent file.
+/// Whether these are the parts of the text of a transparent file.
 fn is_transparent(fcp: &Fcp<'_>) -> bool {
     let has_kind = matches!(
         &fcp.kind,
@@ -111,7 +111,7 @@ fn reads_the_parts_of_a_text(rt: HostRuntime) -> Result<(), Fail> {
     Ok(())
 }
 
-// Whether a template is spelled so.
+/// Whether a template is spelled so.
 fn is_spelled(alloc: Global, fcp: &Fcp<'_>, want: &str) -> Result<bool, Fail>
     requires { IsInFull fcp.now }
 {
@@ -120,7 +120,7 @@ fn is_spelled(alloc: Global, fcp: &Fcp<'_>, want: &str) -> Result<bool, Fail>
     Ok(out.as_slice() == bytes_of(alloc, want)?.as_slice())
 }
 
-// The master file of the factory card.
+/// The master file of the factory card.
 fn master_file() -> Option<Fcp<'static>>
     ensures { IfSome result IsInFull }
 {
@@ -132,7 +132,7 @@ fn master_file() -> Option<Fcp<'static>>
     })
 }
 
-// A linear file of which three records exist.
+/// A linear file of which three records exist.
 fn linear_file() -> Option<Fcp<'static>>
     ensures { IfSome result IsInFull }
 {
@@ -152,7 +152,7 @@ fn linear_file() -> Option<Fcp<'static>>
     })
 }
 
-// SELECT's answers for two files.
+/// SELECT's answers for two files.
 #[test]
 fn spells_answers(rt: HostRuntime) -> Result<(), Fail> {
     laws::template_read_again();
