@@ -8,20 +8,20 @@ use Rattle.apdu_core.specs.Rows.{Row}
 
 -- P1 of a binary command with bit 8 set holds a short identifier in its bits 5 to 1, and then P2 is the offset; else P1 P2
 -- is the offset
-abbrev pub has_short : ℕ → Bool
-has_short p1 = nat_le 0x80 p1
+abbrev pub names_short : ℕ → Bool
+names_short p1 = nat_le 0x80 p1
 
 -- whether P1 and P2 are a place in an elementary file: a short identifier is 1 to 30
 abbrev pub is_place : ℕ → ℕ → Bool
-is_place p1 p2 = not (has_short p1) || (nat_le 1 (p1 - 0x80) && nat_le (p1 - 0x80) 30)
+is_place p1 p2 = not (names_short p1) || (nat_le 1 (p1 - 0x80) && nat_le (p1 - 0x80) 30)
 
 -- the elementary file that P1 names
 abbrev pub named_target : ℕ → Target
-named_target p1 = if has_short p1 then Short (p1 - 0x80) else Current
+named_target p1 = if names_short p1 then Short (p1 - 0x80) else Current
 
 -- the offset that P1 and P2 name
 abbrev pub named_offset : ℕ → ℕ → ℕ
-named_offset p1 p2 = if has_short p1 then p2 else two_bytes p1 p2
+named_offset p1 p2 = if names_short p1 then p2 else two_bytes p1 p2
 
 -- READ BINARY: nothing is sent; Le must stand
 abbrev pub read_binary_row : Row

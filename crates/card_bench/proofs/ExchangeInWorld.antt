@@ -9,7 +9,7 @@ use Rattle.card_bench.specs.declared.exchange.TheConstants.{LINE_BLOCKS}
 use Rattle.card_bench.specs.declared.line.Line.{Line}
 use Rattle.card_bench.specs.BenchStates.{BenchState, off, on}
 use Rattle.card_bench.specs.Exchanges.{Ended, Ends, Exchanges, GoesThrough, Way, answered, cut_off, following, given_up, set_back}
-use Rattle.card_bench.specs.ExchangeWorlds.{Course, EndsSo, ExchangeLaw, GoesAs, IsCutIn, StandIn, bytes_of_line, exchange_events, fate, fates}
+use Rattle.card_bench.specs.ExchangeWorlds.{Course, EndsSo, ExchangeLaw, GoesAs, ExchangeIsCut, StandIn, bytes_of_line, exchange_events, fate, fates}
 use Rattle.card_bench.specs.Lines.{line_after}
 use Rattle.card_bench.specs.TreeMachine.{IsProperState, Served, tree_machine}
 use Rattle.card_bench.specs.Worlds.{Event, Report, World, arrival, giving, is_command, may_send, powered, send, turning, world, world_step}
@@ -58,7 +58,7 @@ one-block limit w old new cut_off busy leads = (
   0,
   omega arith,
   record { reports = refl; line = busy },
-  subst (λ (l : Line). IsCutIn (newest w.sent) (arrival w.line (fate l (bytes_of_line w.line))) w new.bench) (sym (line_after-none old.line)) leads,
+  subst (λ (l : Line). ExchangeIsCut (newest w.sent) (arrival w.line (fate l (bytes_of_line w.line))) w new.bench) (sym (line_after-none old.line)) leads,
 )
 
 -- so many blocks after one
@@ -86,7 +86,7 @@ more-blocks course blocks w pending new cut_off (before, all, unreported, cut) =
   omega (arith, all),
   unreported,
   let here : World Served = world_at (line_after 1 pending) (stepped pending w) before in
-      subst (λ (l : Line). IsCutIn course.command (arrival here.line (fate l (bytes_of_line here.line))) here new.bench) (later-blocks before pending) cut,
+      subst (λ (l : Line). ExchangeIsCut course.command (arrival here.line (fate l (bytes_of_line here.line))) here new.bench) (later-blocks before pending) cut,
 )
 
 reached-step : (start : Served) (w : World Served) (event : Event) → IsProperState start → IsReached start w → IsReached start (world_step tree_machine w event)

@@ -6,7 +6,7 @@ use Rattle.t1_link.specs.declared.block.Fault.{Fault}
 use Rattle.t1_link.specs.declared.block.Fault.TheVariants.{WrongCheck}
 use Rattle.t1_link.specs.Blocks.{Block, frame}
 use Rattle.t1_link.specs.BlockLaws.{heard-frame}
-use Rattle.t1_link.specs.CardTable.{Link, Reaction, Taken, answers, bytes_of, card_takes, link_step, replies, runs}
+use Rattle.t1_link.specs.CardTable.{Link, Reaction, Taken, answers, bytes_said, card_takes, link_step, replies, runs}
 use Rattle.t1_link.specs.ReaderFields.{next_of}
 use Rattle.t1_link.specs.ReaderTable.{Outcome, Reader, Turned, fails, gives, reader_step, reader_times_out, sends, unknown}
 use Rattle.card_core.specs.Cards.{Card}
@@ -19,11 +19,11 @@ use Rattle.card_bench.specs.CardBlocks.{IsBlockStage, IsRun, Powered, Replies, a
 use Rattle.card_bench.specs.Exchanges.{Arrives, CardTakes, Ended, Ends, Passes, Way, answered, bytes_under_way, cut_off, following}
 use Rattle.card_bench.specs.Exchanges.{ReaderTurns, given_up, set_back}
 use Rattle.card_bench.specs.Exchanges as ways
-use Rattle.card_bench.specs.ExchangeWorlds.{AreOfWorld, IsCutIn, IsReported, StandIn, bytes_of_line, fate, state_served}
+use Rattle.card_bench.specs.ExchangeWorlds.{AreOfWorld, ExchangeIsCut, IsReported, StandIn, bytes_of_line, fate, state_served}
 use Rattle.card_bench.specs.Lines as lines
 use Rattle.card_bench.specs.Lines.{is_due, last_bit_turned, line_after}
 use Rattle.card_bench.specs.TreeMachine.{IsProperState, Served, tree_machine}
-use Rattle.card_bench.specs.Worlds.{Arrival, Done, Failed, Line as WorldLine, Report, Unknown, World, arrival, arriving, at_card, at_reader, garble}
+use Rattle.card_bench.specs.Worlds.{Arrival, Done, Failed, Line as WorldLine, Report, Unknown, World, arrival, after_arrival, at_card, at_reader, garble}
 use Rattle.card_bench.specs.Worlds.{in_vain, lose, may_arrive, noted, pass, reacting, taking, toward_card}
 use Rattle.card_bench.specs.Worlds.{toward_reader, turning, world_step}
 use Rattle.card_bench.specs.WorldLaw.{is_under_way}
@@ -64,8 +64,8 @@ ShowsIn (Err cut_off) sent earlier w = ⊥
 
 -- what the arrival of a block led to: power was lost, or the ends stand in the world after it, where what follows shows
 abbrev pub LeadsTo : Result Way Ended → World Served → Arrival → Ends → Type 0
-LeadsTo (Err cut_off) w came new = IsCutIn (newest w.sent) came w new.bench
-LeadsTo follows w came new = StandIn new.bench new.reader (arriving tree_machine w came) × ShowsIn follows w.sent w.reports (arriving tree_machine w came)
+LeadsTo (Err cut_off) w came new = ExchangeIsCut (newest w.sent) came w new.bench
+LeadsTo follows w came new = StandIn new.bench new.reader (after_arrival tree_machine w came) × ShowsIn follows w.sent w.reports (after_arrival tree_machine w came)
 
 -- what arrives, in the words of the world
 abbrev arrival_of : Way → Option (List ℕ) → Arrival
@@ -108,7 +108,7 @@ fated line (ways.toward_reader bytes) pending is s =
 -- a fate is an event of the line
 step-fated : (w : World Served) (lost garbled : Bool) (bytes : List ℕ)
     → world_step tree_machine w (if lost then lose else if garbled then garble bytes else pass)
-    ≡ arriving tree_machine w (arrival w.line (if lost then lose else if garbled then garble bytes else pass))
+    ≡ after_arrival tree_machine w (arrival w.line (if lost then lose else if garbled then garble bytes else pass))
 unfolding world_step
 step-fated w true garbled bytes = refl
 step-fated w false true bytes = refl
@@ -118,7 +118,7 @@ step-fated w false false bytes = refl
 abbrev pub stepped : Line → World Served → World Served
 stepped pending w = world_step tree_machine w (fate pending (bytes_of_line w.line))
 
-pub stepped-is : (w : World Served) (pending : Line) → stepped pending w ≡ arriving tree_machine w (arrival w.line (fate pending (bytes_of_line w.line)))
+pub stepped-is : (w : World Served) (pending : Line) → stepped pending w ≡ after_arrival tree_machine w (arrival w.line (fate pending (bytes_of_line w.line)))
 stepped-is w pending = step-fated w (is_due pending.lose 0) (is_due pending.garble 0) (last_bit_turned (bytes_of_line w.line))
 
 -- the reader's end turned
@@ -143,7 +143,7 @@ same-reader (off facts) reader w s = absurd s
 same-reader (on p) reader w s = s.reader_is
 
 leads-noted : (w : World Served) (came : Arrival) (bench : BenchState) (line : Line) (r : Reader) (o : Outcome)
-    → arriving tree_machine w came ≡ noted (record w { reader = r }) o → StandIn bench r (noted (record w { reader = r }) o)
+    → after_arrival tree_machine w came ≡ noted (record w { reader = r }) o → StandIn bench r (noted (record w { reader = r }) o)
     → LeadsTo (following (next_of o)) w came (record { bench = bench; reader = r; line = line })
 leads-noted w came bench line r (sends b) arrives stands =
     subst (λ (x : World Served). StandIn bench r x × ShowsIn (following (next_of (sends b))) w.sent w.reports x) (sym arrives)
@@ -160,7 +160,7 @@ leads-noted w came bench line r (fails failure) arrives stands =
 
 -- something came to the reader's end, or nothing did in time
 reader-leads : (w : World Served) (came : Arrival) (old new : Ends) (turn : Reader → Turned) (follows : Result Way Ended)
-    → StandIn old.bench old.reader w → arriving tree_machine w came ≡ turning w (turn w.reader) → new.bench ≡ old.bench
+    → StandIn old.bench old.reader w → after_arrival tree_machine w came ≡ turning w (turn w.reader) → new.bench ≡ old.bench
     → ReaderTurns (turn old.reader) new.reader follows → LeadsTo follows w came new
 reader-leads w came old new turn follows stands arrives same turns =
     let t : Turned = turn old.reader in
@@ -179,7 +179,7 @@ card-replies : (p after : Powered) (w : World Served) (reader : Reader) (l : Lin
     → card_found after.card ≡ card_by (card_found p.card) r (λ command. (machine p command).card)
     → after.card.session ≡ session_by p.card.session r (λ command. (machine p command).session)
     → after.link ≡ (answering l r (λ command. answer_bytes (machine p command).response)).link
-    → bytes ≡ bytes_of (answering l r (λ command. answer_bytes (machine p command).response)).reaction
+    → bytes ≡ bytes_said (answering l r (λ command. answer_bytes (machine p command).response)).reaction
     → AreOfWorld after reader (reacting tree_machine (record w { card = l }) r)
     × ShowsIn (Ok (ways.toward_reader bytes)) w.sent w.reports (reacting tree_machine (record w { card = l }) r)
 card-replies p after w reader l (replies b) bytes served same card session link block =
@@ -195,14 +195,14 @@ card-replies p after w reader l (runs command) bytes served same card session li
       record {
         reports = refl;
         sent_is = refl;
-        way_is = (_, refl, block ∙ ap (λ (m : Served). bytes_of (answers l (tree_machine.answer m command)).reaction) served);
+        way_is = (_, refl, block ∙ ap (λ (m : Served). bytes_said (answers l (tree_machine.answer m command)).reaction) served);
       },
     )
 
 replied : (p after : Powered) (old reader : Reader) (w : World Served) (got bytes : List ℕ) → AreOfWorld p old w → reader ≡ w.reader
     → Replies p got after bytes
-    → AreOfWorld after reader (arriving tree_machine w (at_card got))
-    × ShowsIn (Ok (ways.toward_reader bytes)) w.sent w.reports (arriving tree_machine w (at_card got))
+    → AreOfWorld after reader (after_arrival tree_machine w (at_card got))
+    × ShowsIn (Ok (ways.toward_reader bytes)) w.sent w.reports (after_arrival tree_machine w (at_card got))
 replied p after old reader w got bytes s same rep =
     subst (λ (t : Taken). AreOfWorld after reader (taking tree_machine w t)
     × ShowsIn (Ok (ways.toward_reader bytes)) w.sent w.reports (taking tree_machine w t))

@@ -11,7 +11,7 @@ use Rattle.card_bench.specs.declared.playing.Item.TheVariants.{Dark}
 use Rattle.card_bench.specs.BenchStates.{BenchState, off, on, bench_facts}
 use Rattle.card_bench.specs.CardBlocks.{Powered, IsCutAt, IsBlockStage}
 use Rattle.card_bench.specs.Plays.{HasNoFault, Plays, PlaysAll, PlaysBlock}
-use Rattle.card_bench.specs.Turns.{Counts, OneTurn, Runs, Spends, dark_of, darks}
+use Rattle.card_bench.specs.Turns.{CountsLosses, OneTurn, Runs, Spends, dark_of, darks}
 
 run_more : (old between new : BenchState) (turns : List Turn) (trace : List Item) (turn : Turn) (item : Item)
     → Runs old turns trace between → OneTurn between turn item new → Runs old (turns ++ turn ∷ []) (trace ++ item ∷ []) new
@@ -36,7 +36,7 @@ unfolding darks
 none_dark = refl
 
 -- one more turn's counts
-counts_more : (a b : ℕ) (old between new : Facts) → Counts a old between → Spends b between new → Counts (a + b) old new
+counts_more : (a b : ℕ) (old between new : Facts) → CountsLosses a old between → Spends b between new → CountsLosses (a + b) old new
 counts_more a b old between new all more =
     let due : (between.due ≤ new.due + b) × (new.due ≤ between.due) = elim more.due [
       | inl spent ↦ (omega (arith, spent), omega (arith, spent))
@@ -70,7 +70,7 @@ plays_more old between new turns trace turn item all more =
     } in
     record {
       there = λ there. more.there (all.there there);
-      counts = subst (λ (n : ℕ). Counts n (bench_facts old) (bench_facts new)) (sym (darks_more trace item))
+      counts = subst (λ (n : ℕ). CountsLosses n (bench_facts old) (bench_facts new)) (sym (darks_more trace item))
           (counts_more (darks trace) (dark_of item) (bench_facts old) (bench_facts between) (bench_facts new) all.counts more.counts);
       well = λ good. more.well (second good);
       runs = λ there good. run_more old between new turns trace turn item (all.runs there (first good)) (more.one (all.there there) (second good));

@@ -5,7 +5,7 @@ use Rattle.nvm_board.specs.Facts.{Facts, GoesDark, IsWorn, IsWornOut, Steady}
 use Rattle.card_core.specs.declared.faults.StartFault.{StartFault}
 use Rattle.card_core.specs.declared.faults.StartFault.TheVariants.{PowerLost, Fault, BadJournal, Damaged}
 use Rattle.card_core.specs.Finding.{FindsAgain, HasCard, found}
-use Rattle.card_core.specs.Running.{Starts, StopsBy}
+use Rattle.card_core.specs.Running.{Starts, StartStopsBy}
 use Rattle.card_core.specs.Standing.{IsCard, card_of}
 use Rattle.t1_link.specs.CardTable.{fresh}
 use Rattle.card_bench.specs.declared.playing.Turn.TheVariants as turn
@@ -112,8 +112,8 @@ module _ (old : BenchState) (dark : Facts) (darkened : dark ≡ record (bench_fa
           }
 
       -- power was lost in the start
-      pub ends_dark : (why : StartFault) → why ≡ PowerLost → StopsBy why lit stopped → Plays old turn.On item.Dark (off new)
-      ends_dark why is stops = elim (subst (λ (e : StartFault). StopsBy e lit stopped) is stops) [
+      pub ends_dark : (why : StartFault) → why ≡ PowerLost → StartStopsBy why lit stopped → Plays old turn.On item.Dark (off new)
+      ends_dark why is stops = elim (subst (λ (e : StartFault). StartStopsBy e lit stopped) is stops) [
         | inl lost ↦ lost-so lost
         | inr was ↦ absurd (dark-lit was.0)
       ]
@@ -141,7 +141,7 @@ module _ (old : BenchState) (dark : Facts) (darkened : dark ≡ record (bench_fa
           mute-so steady.cuts steady.due (omega (arith, steady.faults))
           (λ before same. none (subst HasCard (sym lit-words) before))
 
-      pub ends_mute : (why : StartFault) → (why ≡ Fault) ⊎ (why ≡ BadJournal) ⊎ (why ≡ Damaged) → StopsBy why lit stopped
+      pub ends_mute : (why : StartFault) → (why ≡ Fault) ⊎ (why ≡ BadJournal) ⊎ (why ≡ Damaged) → StartStopsBy why lit stopped
           → Plays old turn.On item.Mute (off new)
       ends_mute PowerLost is stops = elim is [
         | inl other ↦ absurd cc

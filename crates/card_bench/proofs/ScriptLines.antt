@@ -25,7 +25,7 @@ use Rattle.card_bench.specs.Orders.{order_of}
 use Rattle.card_bench.specs.Performing.{Performs}
 use Rattle.card_bench.specs.Printouts.{Print, text_of}
 use Rattle.card_bench.specs.Prints.{IsFirstDesk, LinesPrint, PrintsLines}
-use Rattle.card_bench.specs.Scripts.{AreOrders, Counts, FailsAtLine, IsInLine, IsTooLong, TakesLine, TakesTooMuch}
+use Rattle.card_bench.specs.Scripts.{AreOrders, CountsTaken, FailsAtLine, IsInLine, IsTooLong, TakesLine, TakesTooMuch}
 
 -- whether a byte is a line feed
 abbrev ends : ℕ → Bool
@@ -139,7 +139,7 @@ orders-more ls line all one = list_all-append (λ l. is_some (order_of l)) ls (l
 
 -- bytes that were taken are counted
 pub counts_of : (old new : Option (List ℕ)) (bytes : List ℕ) (before after : ℕ) → Consumes old new bytes → after ≡ before + length bytes
-    → Counts old new before after
+    → CountsTaken old new before after
 counts_of None new bytes before after taken counted = tt
 counts_of (Some xs) None bytes before after taken counted = absurd taken
 counts_of (Some xs) (Some ys) bytes before after taken counted =
@@ -326,7 +326,7 @@ module _ (script rest rest' line : List ℕ) (n taken taken' : ℕ) (desk : Desk
 -- a line that ends with a line feed
 pub goes_on : (script old new : Option (List ℕ)) (n taken taken' : ℕ) (line : List ℕ) (desk desk' : Desk) (held before holds : Option (List ℕ))
     (order : Order) (prints : Print) → HasRun script old n taken desk held before → TakesLine old new line LineFeed
-    → Counts old new taken taken' → order_of line ≡ Some order → Performs order desk desk' prints → Appends before holds (text_of prints)
+    → CountsTaken old new taken taken' → order_of line ≡ Some order → Performs order desk desk' prints → Appends before holds (text_of prints)
     → HasRun script new (n + 1) taken' desk' held holds
 goes_on None old new n taken taken' line desk desk' held before holds order prints run takes counted good performs wrote = tt
 goes_on (Some script) None new n taken taken' line desk desk' held before holds order prints run takes counted good performs wrote = absurd run
@@ -371,7 +371,7 @@ whole script rest rest' (b ∷ l) n taken taken' desk desk' out run held before 
 
 pub is_done : (script old new : Option (List ℕ)) (n taken taken' : ℕ) (line : List ℕ) (desk desk' : Desk) (held before holds : Option (List ℕ))
     (order : Order) (prints : Print) → HasRun script old n taken desk held before → TakesLine old new line EndOfScript
-    → Counts old new taken taken' → taken' ≤ SCRIPT_LIMIT → order_of line ≡ Some order → Performs order desk desk' prints
+    → CountsTaken old new taken taken' → taken' ≤ SCRIPT_LIMIT → order_of line ≡ Some order → Performs order desk desk' prints
     → Appends before holds (text_of prints) → IfSome script (λ bytes. IsRunToEnd bytes held holds)
 is_done None old new n taken taken' line desk desk' held before holds order prints run takes counted within good performs wrote = tt
 is_done (Some script) None new n taken taken' line desk desk' held before holds order prints run takes counted within good performs wrote = absurd run
@@ -387,7 +387,7 @@ is_done (Some script) (Some rest) (Some rest') n taken taken' line desk desk' he
 
 -- a bad line
 pub is_bad : (script old new : Option (List ℕ)) (n taken taken' : ℕ) (line : List ℕ) (end : LineEnd) (desk : Desk) (held holds : Option (List ℕ))
-    → HasRun script old n taken desk held holds → TakesLine old new line end → Counts old new taken taken' → taken' ≤ SCRIPT_LIMIT
+    → HasRun script old n taken desk held holds → TakesLine old new line end → CountsTaken old new taken taken' → taken' ≤ SCRIPT_LIMIT
     → order_of line ≡ None → IfSome script (λ bytes. IsRunToLine (n + 1) bytes held holds)
 unfolding fed_fails last_fails
 is_bad None old new n taken taken' line end desk held holds run takes counted within bad = tt
@@ -459,7 +459,7 @@ begun held before holds out text size held_out began =
 -- the writer fails
 pub is_unwritten : (script old new : Option (List ℕ)) (n taken taken' : ℕ) (line : List ℕ) (end : LineEnd) (desk desk' : Desk)
     (held before holds : Option (List ℕ)) (order : Order) (prints : Print) → HasRun script old n taken desk held before → TakesLine old new line end
-    → Counts old new taken taken' → order_of line ≡ Some order → Performs order desk desk' prints
+    → CountsTaken old new taken taken' → order_of line ≡ Some order → Performs order desk desk' prints
     → (size : ℕ) × Appends before holds (take size (text_of prints))
     → IfSome script (λ bytes. SomeFirstLines bytes (λ first. HasBegun held first holds))
 unfolding next

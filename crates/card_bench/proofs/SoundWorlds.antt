@@ -9,7 +9,7 @@ use Rattle.t1_link.specs.BlockLaws.{heard-frame}
 use Rattle.t1_link.specs.CardTable.{Reaction, link_step, replies, runs, sending}
 use Rattle.t1_link.specs.ReaderTable.{Outcome, Turned, fails, gives, is_busy, reader_sends, reader_step, reader_times_out, sends, unknown}
 use Rattle.apdu_core.specs.OfBytes.{AreBytes}
-use Rattle.card_bench.specs.Worlds.{Arrival, Event, Line, Machine, World, are_bytes, arrival, arriving, at_card, at_reader, garble, giving, in_vain, is_command}
+use Rattle.card_bench.specs.Worlds.{Arrival, Event, Line, Machine, World, are_bytes, arrival, after_arrival, at_card, at_reader, garble, giving, in_vain, is_command}
 use Rattle.card_bench.specs.Worlds.{is_garbled, lose, may_arrive, may_send, noted, nothing, pass, powered, quiet, reacting, send, toward_card}
 use Rattle.card_bench.specs.Worlds.{toward_reader, turning, world, world_step}
 use Rattle.card_bench.proofs.SoundBlocks.{IsSound, IsSoundLink, IsSoundOutcome, IsSoundReaction, IsSoundReader, IsSoundTaken, IsSoundTurned, IsSoundlyHeard}
@@ -84,7 +84,7 @@ module _ {M : Type 0} (machine : Machine M) (Invariant : M → Type 0) (fits : A
       (fits.bytes w.machine command s.machine x) in
       record { card = sent.link; reader = s.reader; line = sent.reaction; machine = fits.keeps w.machine command s.machine x }
 
-  sound-arriving : (w : World M) (came : Arrival) → IsSoundWorld Invariant w → IsSoundArrival came → IsSoundWorld Invariant (arriving machine w came)
+  sound-arriving : (w : World M) (came : Arrival) → IsSoundWorld Invariant w → IsSoundArrival came → IsSoundWorld Invariant (after_arrival machine w came)
   sound-arriving w (at_card bytes) s x =
       let taken = sound-taken w.card (heard bytes) s.card x in
       sound-reacting (record w { card = (link_step w.card bytes).link }) (link_step w.card bytes).reaction

@@ -7,7 +7,7 @@ use Rattle.t1_link.specs.CardTable.{fresh}
 use Rattle.t1_link.specs.ReaderTable.{is_busy, reader_step, Turned, fresh_reader, requesting_again, turns_resynch, unknown}
 use Rattle.t1_link.specs.ReaderRows.{reader_takes-resynch, reader_times_out-resynch, requesting_again-last, requesting_again-more}
 use Rattle.t1_link.specs.ReaderRows.{turns_resynch-answered, turns_resynch-else}
-use Rattle.card_bench.specs.Worlds.{world, Answers, Arrival, Event, Failed, Line, Machine, Unknown, World, arrival, arriving}
+use Rattle.card_bench.specs.Worlds.{world, Answers, Arrival, Event, Failed, Line, Machine, Unknown, World, arrival, after_arrival}
 use Rattle.card_bench.specs.Worlds.{at_reader, garble, in_vain, is_command}
 use Rattle.card_bench.specs.Worlds.{lose, nothing, pass, powered, quiet, send, toward_card, toward_reader, turning, world_step}
 use Rattle.card_bench.specs.WorldLaw.{is_under_way, IsUnanswered, Kept, Lawful, ResynchLaw, Resynchs, WorldLaw, comes_of, requests, so_far}
@@ -85,7 +85,7 @@ module _ {M : Type 0} (machine : Machine M) (start : M) (Invariant : M → Type 
 
   -- the request was answered
   answered-so : (w : World M) (bytes : List ℕ) → Requesting machine start w → heard bytes ≡ Ok resynch_response
-      → ((arriving machine w (at_reader bytes)).reports ≡ Unknown ∷ w.reports) × ((arriving machine w (at_reader bytes)).offered ≡ w.offered)
+      → ((after_arrival machine w (at_reader bytes)).reports ≡ Unknown ∷ w.reports) × ((after_arrival machine w (at_reader bytes)).offered ≡ w.offered)
   answered-so w bytes r e =
       let row : reader_step w.reader bytes ≡ record { reader = fresh_reader; outcome = unknown } =
       reader_takes-resynch w.reader (heard bytes) r.some ∙ ap (turns_resynch w.reader) e ∙ turns_resynch-answered w.reader in
@@ -93,15 +93,15 @@ module _ {M : Type 0} (machine : Machine M) (start : M) (Invariant : M → Type 
 
   -- it was not, and what follows is the reader's end's next request or its giving up
   unanswered-so : (w : World M) (came : Arrival) → Requesting machine start w → IsUnanswered came
-      → arriving machine w came ≡ turning w (requesting_again w.reader)
-  unanswered-so w came r (inl e) = ap (arriving machine w) e ∙ ap (turning w) (reader_times_out-resynch w.reader r.some)
-  unanswered-so w came r (inr h) = ap (arriving machine w) h.1
+      → after_arrival machine w came ≡ turning w (requesting_again w.reader)
+  unanswered-so w came r (inl e) = ap (after_arrival machine w) e ∙ ap (turning w) (reader_times_out-resynch w.reader r.some)
+  unanswered-so w came r (inr h) = ap (after_arrival machine w) h.1
       ∙ ap (turning w) (reader_takes-resynch w.reader (heard h.0) r.some ∙ turns_resynch-else w.reader (heard h.0) h.2)
 
-  resynchs-so : (w : World M) (came : Arrival) → Requesting machine start w → Resynchs w came (arriving machine w came)
+  resynchs-so : (w : World M) (came : Arrival) → Requesting machine start w → Resynchs w came (after_arrival machine w came)
   resynchs-so w came r = record {
-    answered = λ bytes e h. subst (λ (a : Arrival). ((arriving machine w a).reports ≡ Unknown ∷ w.reports)
-        × ((arriving machine w a).offered ≡ w.offered)) (sym e)
+    answered = λ bytes e h. subst (λ (a : Arrival). ((after_arrival machine w a).reports ≡ Unknown ∷ w.reports)
+        × ((after_arrival machine w a).offered ≡ w.offered)) (sym e)
         (answered-so w bytes r h);
     again = λ u few. let left : w.reader.resynchs < 3 = omega (arith, few, r.count) in
         subst (λ (after : World M). (after.reports ≡ w.reports) × (after.line ≡ toward_card resynch_request) × (after.offered ≡ resynch_request ∷ w.offered))

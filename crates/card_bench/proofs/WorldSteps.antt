@@ -23,7 +23,7 @@ use Rattle.t1_link.specs.ReaderRows.{reader_sends-dead, reader_sends-idle, reade
 use Rattle.t1_link.specs.ReaderRows.{reader_times_out-resynch, turns_answer-done, turns_answer-more, turns_block-again, turns_block-fault, turns_block-joins}
 use Rattle.t1_link.specs.ReaderRows.{turns_block-next, turns_block-nothing, turns_resynch-answered, turns_resynch-else}
 use Rattle.card_bench.specs.Worlds.{Answers, Arrival, Carried, Done, Event, Failed, Line, Machine, Report, Unknown, World}
-use Rattle.card_bench.specs.Worlds.{arrival, arriving, at_card, at_reader}
+use Rattle.card_bench.specs.Worlds.{arrival, after_arrival, at_card, at_reader}
 use Rattle.card_bench.specs.Worlds.{carrying, garble, giving, are_bytes, in_vain, is_command, is_garbled, lose, may_arrive}
 use Rattle.card_bench.specs.Worlds.{may_send, nothing, pass, powered, quiet}
 use Rattle.card_bench.specs.Worlds.{running, send, taking, toward_card, toward_reader, turning, world_step}
@@ -221,13 +221,13 @@ module _ {M : Type 0} (machine : Machine M) (start : M) (Invariant : M → Type 
 
   -- a block that arrives is heard as itself
   card-gets : (c : Counts) (w : World M) (b : Block) (taken : Taken) → IsSpellable b → card_takes w.card (Ok b) ≡ taken
-      → Good machine start c (taking machine w taken) → Good machine start c (arriving machine w (at_card (frame b)))
+      → Good machine start c (taking machine w taken) → Good machine start c (after_arrival machine w (at_card (frame b)))
   card-gets c w b taken spellable row good =
       let step : card_takes w.card (heard (frame b)) ≡ taken = ap (card_takes w.card) (heard-frame b spellable) ∙ row in
       subst (λ (t : Taken). Good machine start c (taking machine w t)) (sym step) good
 
   reader-gets : (c : Counts) (w : World M) (b : Block) (turned : Turned) → IsSpellable b → w.reader.resynchs ≡ 0 → turns_block w.reader (Ok b) ≡ turned
-      → Good machine start c (turning w turned) → Good machine start c (arriving machine w (at_reader (frame b)))
+      → Good machine start c (turning w turned) → Good machine start c (after_arrival machine w (at_reader (frame b)))
   reader-gets c w b turned spellable none row good =
       let step : reader_step w.reader (frame b) ≡ turned = reader_takes-awaits w.reader (heard (frame b)) none
       ∙ ap (turns_block w.reader) (heard-frame b spellable)
@@ -313,7 +313,7 @@ module _ {M : Type 0} (machine : Machine M) (start : M) (Invariant : M → Type 
   -- the card's end is asked for the block that the reader's end expects
   asked : (c : Counts) (stage : Stage) (w : World M) (error : ErrorKind) → At machine start stage (core w) → Awaits w
       → Budget c stage asks_card (core w) w.reader.tries
-      → Good machine start (passed c) (arriving machine w (at_card (frame (receive_ready w.reader.nr error))))
+      → Good machine start (passed c) (after_arrival machine w (at_card (frame (receive_ready w.reader.nr error))))
   asked c command_offered w error at awaits budget =
       card-gets (passed c) w (receive_ready w.reader.nr error) _ tt
       (card_takes-nothing w.card w.reader.nr error (and_right (is_some w.card.sent) _ (other_than w.reader.nr w.card.ns (sym at.answered)))
@@ -371,7 +371,7 @@ module _ {M : Type 0} (machine : Machine M) (start : M) (Invariant : M → Type 
   -- the card's end gets the block of the command that is offered, of which more follows or not
   offered : (c : Counts) (more : Bool) (w : World M) → not (length w.reader.rest == 0) ≡ more → CommandOffered machine start (core w) → Awaits w
       → Budget c command_offered offers_card (core w) w.reader.tries
-      → Good machine start (passed c) (arriving machine w (at_card (frame (information (other_number w.reader.ns) more w.reader.field))))
+      → Good machine start (passed c) (after_arrival machine w (at_card (frame (information (other_number w.reader.ns) more w.reader.field))))
   offered c true w more at awaits budget =
       let expected : same (other_number w.reader.ns) w.card.nr ≡ true = same_as (other_number w.reader.ns) w.card.nr (sym at.number) in
       let split : w.card.held ++ w.reader.field ++ w.reader.rest ≡ at.command = append_assoc w.card.held w.reader.field w.reader.rest ∙ at.whole in
@@ -420,7 +420,7 @@ module _ {M : Type 0} (machine : Machine M) (start : M) (Invariant : M → Type 
   -- the reader's end is asked for the block that the card's end expects
   asked_back : (c : Counts) (stage : Stage) (w : World M) (error : ErrorKind) → At machine start stage (core w) → Awaits w
       → Budget c stage asks_reader (core w) w.reader.tries
-      → Good machine start (passed c) (arriving machine w (at_reader (frame (receive_ready w.card.nr error))))
+      → Good machine start (passed c) (after_arrival machine w (at_reader (frame (receive_ready w.card.nr error))))
   asked_back c command_offered w error at awaits budget =
       reader-gets (passed c) w (receive_ready w.card.nr error) _ tt awaits.resynchs
       (turns_block-again w.reader w.card.nr error (same_as w.card.nr (other_number w.reader.ns) at.number))
@@ -448,7 +448,7 @@ module _ {M : Type 0} (machine : Machine M) (start : M) (Invariant : M → Type 
   -- the reader's end gets the block of the answer that is offered, of which more follows or not
   answered_so : (c : Counts) (more : Bool) (w : World M) → sent_more w.card ≡ more → (at : AnswerOffered machine start (core w)) → Awaits w
       → Budget c answer_offered offers_reader (core w) w.reader.tries
-      → Good machine start (passed c) (arriving machine w (at_reader (frame (information w.reader.nr more at.field))))
+      → Good machine start (passed c) (after_arrival machine w (at_reader (frame (information w.reader.nr more at.field))))
   answered_so c true w more at awaits budget =
       let split : w.reader.answer ++ at.field ++ w.card.rest ≡ at.answer = append_assoc w.reader.answer at.field w.card.rest ∙ at.whole in
       let size : length (w.reader.answer ++ at.field) ≤ 258 = let n = length-append (w.reader.answer ++ at.field) w.card.rest in let l = ap length split in
@@ -507,42 +507,42 @@ module _ {M : Type 0} (machine : Machine M) (start : M) (Invariant : M → Type 
       }) (λ few none. (w.reader.answer ++ at.field, refl, λ zero. in_pieces c w at all split budget zero)))
 
   answered : (c : Counts) (w : World M) → AnswerOffered machine start (core w) → Awaits w → Budget c answer_offered offers_reader (core w) w.reader.tries
-      → Good machine start (passed c) (arriving machine w (at_reader (frame (sent_block w.card))))
+      → Good machine start (passed c) (after_arrival machine w (at_reader (frame (sent_block w.card))))
   answered c w at awaits budget =
       let number : other_number w.card.ns ≡ w.reader.nr = turned_back w.card.ns w.reader.nr at.answered in
       let field : unwrap_or w.card.sent [] ≡ at.field = ap (λ (s : Option (List ℕ)). unwrap_or s []) at.last in
-      subst (λ (b : Block). Good machine start (passed c) (arriving machine w (at_reader (frame b))))
+      subst (λ (b : Block). Good machine start (passed c) (after_arrival machine w (at_reader (frame b))))
       (λ i. information (sym number i) (sent_more w.card) (sym field i))
       (answered_so c (sent_more w.card) w refl at awaits budget)
 
   -- a block under way arrives
   arrives_there : (c : Counts) (stage : Stage) (w : World M) (b : Block) → At machine start stage (core w) → Awaits w → (toward : ToCard stage (core w) b)
-      → Budget c stage (kind_there toward) (core w) w.reader.tries → Good machine start (passed c) (arriving machine w (at_card (frame b)))
+      → Budget c stage (kind_there toward) (core w) w.reader.tries → Good machine start (passed c) (after_arrival machine w (at_card (frame b)))
   arrives_there c stage w b at awaits (inl asks) budget =
-      subst (λ (x : Block). Good machine start (passed c) (arriving machine w (at_card (frame x)))) (sym asks.1)
+      subst (λ (x : Block). Good machine start (passed c) (after_arrival machine w (at_card (frame x)))) (sym asks.1)
       (asked c stage w asks.0 at awaits budget)
   arrives_there c command_offered w b at awaits (inr same_block) budget =
-      subst (λ (x : Block). Good machine start (passed c) (arriving machine w (at_card (frame x)))) (sym same_block)
+      subst (λ (x : Block). Good machine start (passed c) (after_arrival machine w (at_card (frame x)))) (sym same_block)
       (offered c (not (length w.reader.rest == 0)) w refl at awaits budget)
   arrives_there c command_taken w b at awaits (inr nothing_so) budget = absurd nothing_so
   arrives_there c answer_offered w b at awaits (inr nothing_so) budget = absurd nothing_so
   arrives_there c answer_taken w b at awaits (inr nothing_so) budget = absurd nothing_so
 
   arrives_back : (c : Counts) (stage : Stage) (w : World M) (b : Block) → At machine start stage (core w) → Awaits w → (toward : ToReader stage (core w) b)
-      → Budget c stage (kind_back toward) (core w) w.reader.tries → Good machine start (passed c) (arriving machine w (at_reader (frame b)))
+      → Budget c stage (kind_back toward) (core w) w.reader.tries → Good machine start (passed c) (after_arrival machine w (at_reader (frame b)))
   arrives_back c stage w b at awaits (inl asks) budget =
-      subst (λ (x : Block). Good machine start (passed c) (arriving machine w (at_reader (frame x)))) (sym asks.1)
+      subst (λ (x : Block). Good machine start (passed c) (after_arrival machine w (at_reader (frame x)))) (sym asks.1)
       (asked_back c stage w asks.0 at awaits budget)
   arrives_back c command_offered w b at awaits (inr nothing_so) budget = absurd nothing_so
   arrives_back c command_taken w b at awaits (inr nothing_so) budget = absurd nothing_so
   arrives_back c answer_offered w b at awaits (inr same_block) budget =
-      subst (λ (x : Block). Good machine start (passed c) (arriving machine w (at_reader (frame x)))) (sym same_block) (answered c w at awaits budget)
+      subst (λ (x : Block). Good machine start (passed c) (after_arrival machine w (at_reader (frame x)))) (sym same_block) (answered c w at awaits budget)
   arrives_back c answer_taken w b at awaits (inr nothing_so) budget = absurd nothing_so
 
   -- bytes that are no block arrive
   garbled_there : (c : Counts) (stage : Stage) (w : World M) (bytes : List ℕ) (fault : Fault) (kind : Kind) → At machine start stage (core w) → Awaits w
       → Budget c stage kind (core w) w.reader.tries → heard bytes ≡ Err fault
-      → Good machine start (faulted c) (arriving machine w (at_card bytes))
+      → Good machine start (faulted c) (after_arrival machine w (at_card bytes))
   garbled_there c stage w bytes fault kind at awaits budget e =
       let row : card_takes w.card (heard bytes) ≡ refusing w.card (told_as fault) = ap (card_takes w.card) e ∙ card_takes-fault w.card fault in
       subst (λ (t : Taken). Good machine start (faulted c) (taking machine w t)) (sym row)
@@ -550,7 +550,7 @@ module _ {M : Type 0} (machine : Machine M) (start : M) (Invariant : M → Type 
 
   garbled_back : (c : Counts) (stage : Stage) (w : World M) (bytes : List ℕ) (fault : Fault) (kind : Kind) → At machine start stage (core w) → Awaits w
       → Budget c stage kind (core w) w.reader.tries → heard bytes ≡ Err fault
-      → Good machine start (faulted c) (arriving machine w (at_reader bytes))
+      → Good machine start (faulted c) (after_arrival machine w (at_reader bytes))
   garbled_back c stage w bytes fault kind at awaits budget e =
       let row : reader_step w.reader bytes ≡ asking w.reader (told_as fault) = reader_takes-awaits w.reader (heard bytes) awaits.resynchs
       ∙ ap (turns_block w.reader) e ∙ turns_block-fault w.reader fault in
@@ -558,7 +558,7 @@ module _ {M : Type 0} (machine : Machine M) (start : M) (Invariant : M → Type 
       (ask (faulted c) stage w (told_as fault) at awaits (faults_on budget stage asks_card (core w) (w.reader.tries + 1) (omega arith)))
 
   waited : (c : Counts) (stage : Stage) (w : World M) (kind : Kind) → At machine start stage (core w) → Awaits w → Budget c stage kind (core w) w.reader.tries
-      → Good machine start (faulted c) (arriving machine w in_vain)
+      → Good machine start (faulted c) (after_arrival machine w in_vain)
   waited c stage w kind at awaits budget = subst (λ (t : Turned). Good machine start (faulted c) (turning w t))
       (sym (reader_times_out-asks w.reader awaits.resynchs))
       (ask (faulted c) stage w OtherError at awaits (faults_on budget stage asks_card (core w) (w.reader.tries + 1) (omega arith)))
@@ -583,19 +583,19 @@ module _ {M : Type 0} (machine : Machine M) (start : M) (Invariant : M → Type 
   requests_again c often w r = again c often (nat_lt w.reader.resynchs 3) w refl r
 
   hears_else : (c : Counts) → 2 ≤ c.faults → (w : World M) (bytes : List ℕ) → Requesting machine start w → heard bytes ≢ Ok resynch_response
-      → Good machine start c (arriving machine w (at_reader bytes))
+      → Good machine start c (after_arrival machine w (at_reader bytes))
   hears_else c often w bytes r other =
       let row : reader_step w.reader bytes ≡ requesting_again w.reader = reader_takes-resynch w.reader (heard bytes) r.some
       ∙ turns_resynch-else w.reader (heard bytes) other in
       subst (λ (t : Turned). Good machine start c (turning w t)) (sym row) (requests_again c often w r)
 
-  waits_again : (c : Counts) → 2 ≤ c.faults → (w : World M) → Requesting machine start w → Good machine start c (arriving machine w in_vain)
+  waits_again : (c : Counts) → 2 ≤ c.faults → (w : World M) → Requesting machine start w → Good machine start c (after_arrival machine w in_vain)
   waits_again c often w r = subst (λ (t : Turned). Good machine start c (turning w t))
       (sym (reader_times_out-resynch w.reader r.some)) (requests_again c often w r)
 
   -- the card's end gets the request
   requested_there : (c : Counts) → 2 ≤ c.faults → (w : World M) → Requesting machine start w
-      → Good machine start c (arriving machine w (at_card (frame resynch_request)))
+      → Good machine start c (after_arrival machine w (at_card (frame resynch_request)))
   requested_there c often w r = card-gets c w resynch_request _ tt (card_takes-resynch w.card)
       (requesting_now (record {
         phase = r.phase;
@@ -609,7 +609,7 @@ module _ {M : Type 0} (machine : Machine M) (start : M) (Invariant : M → Type 
 
   -- the card's end gets bytes that are no block
   garbled_request : (c : Counts) → 2 ≤ c.faults → (w : World M) (bytes : List ℕ) (fault : Fault) → Requesting machine start w → heard bytes ≡ Err fault
-      → Good machine start c (arriving machine w (at_card bytes))
+      → Good machine start c (after_arrival machine w (at_card bytes))
   garbled_request c often w bytes fault r e =
       let row : card_takes w.card (heard bytes) ≡ refusing w.card (told_as fault) = ap (card_takes w.card) e ∙ card_takes-fault w.card fault in
       subst (λ (t : Taken). Good machine start c (taking machine w t)) (sym row)
@@ -630,7 +630,7 @@ module _ {M : Type 0} (machine : Machine M) (start : M) (Invariant : M → Type 
 
   -- the reader's end gets the response
   responded : (c : Counts) → 2 ≤ c.faults → (w : World M) → Requesting machine start w → w.card ≡ fresh
-      → Good machine start c (arriving machine w (at_reader (frame resynch_response)))
+      → Good machine start c (after_arrival machine w (at_reader (frame resynch_response)))
   responded c often w r set_back =
       let row : reader_step w.reader (frame resynch_response) ≡ record { reader = fresh_reader; outcome = unknown } =
       reader_takes-resynch w.reader (heard (frame resynch_response)) r.some ∙ ap (turns_resynch w.reader) (heard-frame resynch_response tt)
@@ -652,21 +652,21 @@ module _ {M : Type 0} (machine : Machine M) (start : M) (Invariant : M → Type 
 
   -- what arrives, by what is under way
   by_line : (c : Counts) (w : World M) (line : Line) (event : Event) → w.line ≡ line
-      → Good machine start (counted c event (arrival line event)) (arriving machine w (arrival line event))
-      → Good machine start (counted c event (arrival w.line event)) (arriving machine w (arrival w.line event))
+      → Good machine start (counted c event (arrival line event)) (after_arrival machine w (arrival line event))
+      → Good machine start (counted c event (arrival w.line event)) (after_arrival machine w (arrival w.line event))
   by_line c w line event e good =
-      subst (λ (l : Line). Good machine start (counted c event (arrival l event)) (arriving machine w (arrival l event))) (sym e) good
+      subst (λ (l : Line). Good machine start (counted c event (arrival l event)) (after_arrival machine w (arrival l event))) (sym e) good
 
   -- the line garbles only into bytes that are no block
   garble_so : (c : Counts) (garbles : Bool) (w : World M) (bytes : List ℕ) (came : Arrival) → may_arrive bytes ≡ garbles → Good machine start c w
-      → ((fault : Fault) → heard bytes ≡ Err fault → Good machine start (counted c (garble bytes) came) (arriving machine w came))
-      → Good machine start (counted c (garble bytes) (if garbles then came else nothing)) (arriving machine w (if garbles then came else nothing))
+      → ((fault : Fault) → heard bytes ≡ Err fault → Good machine start (counted c (garble bytes) came) (after_arrival machine w came))
+      → Good machine start (counted c (garble bytes) (if garbles then came else nothing)) (after_arrival machine w (if garbles then came else nothing))
   garble_so c true w bytes came e good each = let f = garbled_fault bytes e in each f.0 f.1
   garble_so c false w bytes came e good each = good
 
   toward_card-event : (c : Counts) (stage : Stage) (w : World M) (b : Block) → At machine start stage (core w) → Awaits w → (toward : ToCard stage (core w) b)
       → Budget c stage (kind_there toward) (core w) w.reader.tries → Good machine start c w
-      → (event : Event) → Good machine start (counted c event (arrival (toward_card b) event)) (arriving machine w (arrival (toward_card b) event))
+      → (event : Event) → Good machine start (counted c event (arrival (toward_card b) event)) (after_arrival machine w (arrival (toward_card b) event))
   toward_card-event c stage w b at awaits toward budget good (send command) = good
   toward_card-event c stage w b at awaits toward budget good pass = arrives_there c stage w b at awaits toward budget
   toward_card-event c stage w b at awaits toward budget good lose = waited c stage w (kind_there toward) at awaits budget
@@ -676,7 +676,7 @@ module _ {M : Type 0} (machine : Machine M) (start : M) (Invariant : M → Type 
   toward_reader-event : (c : Counts) (stage : Stage) (w : World M) (b : Block) → At machine start stage (core w)
       → Awaits w → (toward : ToReader stage (core w) b)
       → Budget c stage (kind_back toward) (core w) w.reader.tries → Good machine start c w
-      → (event : Event) → Good machine start (counted c event (arrival (toward_reader b) event)) (arriving machine w (arrival (toward_reader b) event))
+      → (event : Event) → Good machine start (counted c event (arrival (toward_reader b) event)) (after_arrival machine w (arrival (toward_reader b) event))
   toward_reader-event c stage w b at awaits toward budget good (send command) = good
   toward_reader-event c stage w b at awaits toward budget good pass = arrives_back c stage w b at awaits toward budget
   toward_reader-event c stage w b at awaits toward budget good lose = waited c stage w (kind_back toward) at awaits budget
@@ -685,7 +685,7 @@ module _ {M : Type 0} (machine : Machine M) (start : M) (Invariant : M → Type 
 
   request-event : (c : Counts) → 2 ≤ c.faults → (w : World M) → Requesting machine start w
       → (event : Event) → Good machine start (counted c event (arrival (toward_card resynch_request) event))
-      (arriving machine w (arrival (toward_card resynch_request) event))
+      (after_arrival machine w (arrival (toward_card resynch_request) event))
   request-event c often w r (send command) = requesting_now r often
   request-event c often w r pass = requested_there (passed c) often w r
   request-event c often w r lose = waits_again (faulted c) (omega (arith, often)) w r
@@ -695,8 +695,8 @@ module _ {M : Type 0} (machine : Machine M) (start : M) (Invariant : M → Type 
 
   -- whatever goes back to the reader's end after the request
   reply-event : (c : Counts) → 2 ≤ c.faults → (w : World M) (b : Block) → Requesting machine start w
-      → Good machine start (passed c) (arriving machine w (at_reader (frame b)))
-      → (event : Event) → Good machine start (counted c event (arrival (toward_reader b) event)) (arriving machine w (arrival (toward_reader b) event))
+      → Good machine start (passed c) (after_arrival machine w (at_reader (frame b)))
+      → (event : Event) → Good machine start (counted c event (arrival (toward_reader b) event)) (after_arrival machine w (arrival (toward_reader b) event))
   reply-event c often w b r good (send command) = requesting_now r often
   reply-event c often w b r good pass = good
   reply-event c often w b r good lose = waits_again (faulted c) (omega (arith, often)) w r
@@ -706,14 +706,14 @@ module _ {M : Type 0} (machine : Machine M) (start : M) (Invariant : M → Type 
 
   exchange-event : (c : Counts) (w : World M) (event : Event) (x : Exchange machine start w) (way : UnderWay x.stage (core w) w.line)
       → Budget c x.stage (kind_of x.stage (core w) w.line way) (core w) w.reader.tries → Good machine start c w
-      → Good machine start (counted c event (arrival w.line event)) (arriving machine w (arrival w.line event))
+      → Good machine start (counted c event (arrival w.line event)) (after_arrival machine w (arrival w.line event))
   exchange-event c w event x (inl there) budget good = by_line c w (toward_card there.0) event there.1
       (toward_card-event c x.stage w there.0 x.at x.awaits there.2 budget good event)
   exchange-event c w event x (inr back) budget good = by_line c w (toward_reader back.0) event back.1
       (toward_reader-event c x.stage w back.0 x.at x.awaits back.2 budget good event)
 
   arrives : (c : Counts) (w : World M) (event : Event) → Good machine start c w
-      → Good machine start (counted c event (arrival w.line event)) (arriving machine w (arrival w.line event))
+      → Good machine start (counted c event (arrival w.line event)) (after_arrival machine w (arrival w.line event))
   arrives c w event (at_rest r repaired) = by_line c w quiet event r.line (at_rest r repaired)
   arrives c w event (given_up g repaired failed) = by_line c w quiet event g.line (given_up g repaired failed)
   arrives c w event (exchange x budget) = exchange-event c w event x x.way budget (exchange x budget)

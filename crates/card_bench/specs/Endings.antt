@@ -31,8 +31,8 @@ pub record IsRunToLine (number : ℕ) (script : List ℕ) (old new : Option (Lis
 
 -- Where the script's bytes are known: a bad line is the first one, and the lines before it were carried out. A reader that
 -- fails does so after some first lines, and a writer in the text of some first lines.
-abbrev pub StopsBy : RunFault → Option (List ℕ) → Option (List ℕ) → Option (List ℕ) → Type 0
-StopsBy (BadLine number) script old new = IfSome script (λ bytes. IsRunToLine number bytes old new)
-StopsBy Read script old new = IfSome script (λ bytes. SomeFirstLines bytes (λ first. HasWritten old first new))
-StopsBy Write script old new = IfSome script (λ bytes. SomeFirstLines bytes (λ first. HasBegun old first new))
-StopsBy Memory script old new = Unit {0}
+abbrev pub RunStopsBy : RunFault → Option (List ℕ) → Option (List ℕ) → Option (List ℕ) → Type 0
+RunStopsBy (BadLine number) script old new = IfSome script (λ bytes. IsRunToLine number bytes old new)
+RunStopsBy Read script old new = IfSome script (λ bytes. SomeFirstLines bytes (λ first. HasWritten old first new))
+RunStopsBy Write script old new = IfSome script (λ bytes. SomeFirstLines bytes (λ first. HasBegun old first new))
+RunStopsBy Memory script old new = Unit {0}

@@ -74,7 +74,7 @@ pub record IsUnreported (earlier : List Report) (w : World Served) : Type 0 wher
 
 -- The block under way came to the card's end, the command was to run there, and power was lost: the card that is found is one
 -- of its stages.
-pub record IsCutIn (command : List ℕ) (came : Arrival) (w : World Served) (new : BenchState) : Type 0 where
+pub record ExchangeIsCut (command : List ℕ) (came : Arrival) (w : World Served) (new : BenchState) : Type 0 where
   pub power : IsOff new
   pub got : List ℕ
   pub came_there : came ≡ at_card got
@@ -99,7 +99,7 @@ EndsSo given_up course blocks new =
     ⊎ ((blocks ≡ course.limit) × IsUnreported course.earlier (course.after blocks)))
 EndsSo cut_off course blocks new =
     (before : ℕ) × (blocks ≡ before + 1) × IsUnreported course.earlier (course.after before)
-    × IsCutIn course.command (arrival_after course before) (course.after before) new.bench
+    × ExchangeIsCut course.command (arrival_after course before) (course.after before) new.bench
 
 -- An exchange takes this course.
 pub record GoesAs (course : Course) (new : Ends) (ending : Ended) : Type 0 where

@@ -9,7 +9,7 @@ use Rattle.card_bench.specs.declared.playing.Item.{Item}
 use Rattle.card_bench.specs.declared.playing.Item.TheVariants.{Atr, Quiet, Mute, Dark, Reply}
 use Rattle.arrayvec.specs.ArrayVec.{ArrayVec}
 use Rattle.card_bench.specs.BenchStates.{BenchState, bench_facts, BenchHasCard, IsOff, IsOn, IsWell}
-use Rattle.card_bench.specs.Turns.{Counts, OneTurn, Runs, Spends, TakesBlock, dark_of, darks}
+use Rattle.card_bench.specs.Turns.{CountsLosses, OneTurn, Runs, Spends, TakesBlock, dark_of, darks}
 
 -- no fault came from here to there, nor since power came on
 pub record HasNoFault (old new : BenchState) : Type 0 where
@@ -60,6 +60,6 @@ pub record PlaysBlock (old : BenchState) (got : List ℕ) (item : Item) (new : B
 -- Turns are played.
 pub record PlaysAll (old : BenchState) (turns : List Turn) (trace : List Item) (new : BenchState) : Type 0 where
   pub there : BenchHasCard old → BenchHasCard new
-  pub counts : Counts (darks trace) (bench_facts old) (bench_facts new)
+  pub counts : CountsLosses (darks trace) (bench_facts old) (bench_facts new)
   pub well : HasNoFault old new → IsWell new
   pub runs : BenchHasCard old → HasNoFault old new → Runs old turns trace new

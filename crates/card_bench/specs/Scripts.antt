@@ -60,15 +60,15 @@ TakesLine old new line LineFeed = (bytes : List ℕ) × Consumes old new (bytes 
 TakesLine old new line EndOfScript = Consumes old new line × OnSome old (IsAtEnd new) × IsInLine line
 
 -- as many bytes were counted as were taken
-abbrev pub Counts : Option (List ℕ) → Option (List ℕ) → ℕ → ℕ → Type 0
-Counts None new before after = Unit {0}
-Counts (Some xs) None before after = ⊥
-Counts (Some xs) (Some ys) before after = length xs + before ≡ length ys + after
+abbrev pub CountsTaken : Option (List ℕ) → Option (List ℕ) → ℕ → ℕ → Type 0
+CountsTaken None new before after = Unit {0}
+CountsTaken (Some xs) None before after = ⊥
+CountsTaken (Some xs) (Some ys) before after = length xs + before ≡ length ys + after
 
 -- too many bytes for a line were taken and counted, with no line feed among them
 abbrev pub TakesTooMuch : Option (List ℕ) → Option (List ℕ) → ℕ → ℕ → Type 0
 TakesTooMuch old new before after =
-    (bytes : List ℕ) × Consumes old new bytes × IsInLine bytes × IsTooLong bytes × Counts old new before after
+    (bytes : List ℕ) × Consumes old new bytes × IsInLine bytes × IsTooLong bytes × CountsTaken old new before after
 
 -- how many bytes a part of a line has
 abbrev pub size_of : Part → ℕ

@@ -98,7 +98,7 @@ pub record Spends (lost : ℕ) (old new : Facts) : Type 0 where
 
 -- What turns leave of them, in which power was lost so often: so many cuts more were counted, and no cut became due, nor are
 -- more gone than power was lost.
-pub record Counts (lost : ℕ) (old new : Facts) : Type 0 where
+pub record CountsLosses (lost : ℕ) (old new : Facts) : Type 0 where
   pub cuts : new.cuts ≡ old.cuts + lost
   pub due : old.due ≤ new.due + lost
   pub undue : new.due ≤ old.due

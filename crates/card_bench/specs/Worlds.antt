@@ -143,11 +143,11 @@ abbrev pub taking : {M : Type 0} → Machine M → World M → Taken → World M
 taking machine w taken = reacting machine (record w { card = taken.link }) taken.reaction
 
 -- what comes of what arrives
-abbrev pub arriving : {M : Type 0} → Machine M → World M → Arrival → World M
-arriving machine w (at_card bytes) = taking machine w (link_step w.card bytes)
-arriving machine w (at_reader bytes) = turning w (reader_step w.reader bytes)
-arriving machine w in_vain = turning w (reader_times_out w.reader)
-arriving machine w nothing = w
+abbrev pub after_arrival : {M : Type 0} → Machine M → World M → Arrival → World M
+after_arrival machine w (at_card bytes) = taking machine w (link_step w.card bytes)
+after_arrival machine w (at_reader bytes) = turning w (reader_step w.reader bytes)
+after_arrival machine w in_vain = turning w (reader_times_out w.reader)
+after_arrival machine w nothing = w
 
 -- a command is given to the reader's end
 abbrev pub giving : {M : Type 0} → World M → List ℕ → World M
@@ -156,9 +156,9 @@ giving w command = turning (record w { sent = command ∷ w.sent; offered = [] }
 -- One event. An event that doesn't fit does nothing.
 unfoldable pub world_step : {M : Type 0} → Machine M → World M → Event → World M
 world_step machine w (send command) = if may_send w.reader command then giving w command else w
-world_step machine w pass = arriving machine w (arrival w.line pass)
-world_step machine w lose = arriving machine w (arrival w.line lose)
-world_step machine w (garble bytes) = arriving machine w (arrival w.line (garble bytes))
+world_step machine w pass = after_arrival machine w (arrival w.line pass)
+world_step machine w lose = after_arrival machine w (arrival w.line lose)
+world_step machine w (garble bytes) = after_arrival machine w (arrival w.line (garble bytes))
 
 -- a list of events, the first one first
 unfoldable pub world : {M : Type 0} → Machine M → World M → List Event → World M

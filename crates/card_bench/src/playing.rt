@@ -4,7 +4,7 @@ ghost use Rattle.card_bench.specs.BenchStates.{off, bench_facts, BenchHasCard, I
 ghost use Rattle.card_bench.specs.BenchViews.{power_state, IsKept};
 ghost use Rattle.card_bench.specs.Performing.{IsArmed};
 ghost use Rattle.card_bench.specs.Plays.{Plays, PlaysBlock, HasNoFault, IsGood, IsHeard, powered_item, sent_item};
-ghost use Rattle.card_bench.specs.Turns.{Counts, GoodBlock, GoodTurn, Runs, darks};
+ghost use Rattle.card_bench.specs.Turns.{CountsLosses, GoodBlock, GoodTurn, Runs, darks};
 
 use crate::powered::Powered;
 use card_core::{FreeSpace, StartFault};
@@ -109,7 +109,7 @@ impl<B: Socket> Bench<B> {
         ensures there { BenchHasCard self.old → BenchHasCard self.new }
 
         // The board counts as many cuts more as there are Dark in the trace, and so many of those due are gone at most.
-        ensures counts { Counts (darks trace.new) (bench_facts self.old) (bench_facts self.new) }
+        ensures counts { CountsLosses (darks trace.new) (bench_facts self.old) (bench_facts self.new) }
 
         // The headline: over a card, and with no fault of the device in the run, nor before it since power came on, the
         // trace is the tree machine's, from the card that was found to the one that is found.

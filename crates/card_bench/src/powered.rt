@@ -4,7 +4,7 @@ ghost use Rattle.undo_journal.specs.Spending.{KeepsBoard, WritesAtMost, start_wr
 ghost use Rattle.undo_journal.specs.Undo.{gate};
 ghost use Rattle.card_core.specs.declared.machine.TheConstants.{COMMAND_WRITES};
 ghost use Rattle.card_core.specs.Finding.{HasCard, FindsAgain};
-ghost use Rattle.card_core.specs.Running.{Starts, StopsBy, card_found};
+ghost use Rattle.card_core.specs.Running.{Starts, StartStopsBy, card_found};
 ghost use Rattle.file_tree.specs.Spaces.{free_space};
 ghost use Rattle.t1_link.specs.CardTable.{link_step, fresh};
 ghost use Rattle.card_bench.specs.CardBlocks.{Replies, RepliesFailure, FailsAt, IsCutAt, IsBlockStage, IsRun, BlockChangesNothing};
@@ -48,7 +48,7 @@ impl<B: Board> Powered<B> {
     /// doesn't start.
     pub fn start(board: B) -> Result<Powered<B>, (B, StartFault)>
         ensures started { IfOk result (λ p. Starts (B.facts board) p.card × (p.link ≡ fresh)) }
-        ensures stopped { IfErr result (λ e. StopsBy e.1 (B.facts board) (B.facts e.0)) }
+        ensures stopped { IfErr result (λ e. StartStopsBy e.1 (B.facts board) (B.facts e.0)) }
         ensures found { IfOk result (λ p. FindsAgain (B.facts board).words p.card.facts.words) }
         ensures found_err { IfErr result (λ e. FindsAgain (B.facts board).words (B.facts e.0).words) }
         // Where no pair of the journal counts, no word changes, and nothing is written.

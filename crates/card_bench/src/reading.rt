@@ -1,7 +1,7 @@
 //! The lines of a script, read from the reader's own buffer.
 ghost use Rattle.std.specs.Prelude.{◌≡◌, ◌⊎◌, ◌+◌, ◌<◌, ◌≤◌, length, slice_index, take, IsTrue, IfOk, IfErr, OnOk, Err};
 ghost use Rattle.std.specs.Str.Lines.{strip_carriage_return};
-ghost use Rattle.card_bench.specs.Scripts.{Counts, IsInLine, IsTooLong, TakesLine, TakesPart, TakesTooMuch, size_of};
+ghost use Rattle.card_bench.specs.Scripts.{CountsTaken, IsInLine, IsTooLong, TakesLine, TakesPart, TakesTooMuch, size_of};
 ghost use Rattle.card_bench.specs.declared.order.TheConstants.{LINE_LIMIT};
 ghost use Rattle.card_bench.specs.declared.reading.TheConstants.{SCRIPT_LIMIT};
 
@@ -104,7 +104,7 @@ pub(crate) fn read_line<R: BufRead>(
     requires { taken.old ≤ SCRIPT_LIMIT }
     ensures line { IfOk result (TakesLine (R.remaining reader.old) (R.remaining reader.new) line.new.items) }
     ensures too_long { result ≡ Err LineFault.TooLong → TakesTooMuch (R.remaining reader.old) (R.remaining reader.new) taken.old taken.new }
-    ensures counted { OnOk result (Counts (R.remaining reader.old) (R.remaining reader.new) taken.old taken.new) }
+    ensures counted { OnOk result (CountsTaken (R.remaining reader.old) (R.remaining reader.new) taken.old taken.new) }
     ensures taken { taken.new ≤ SCRIPT_LIMIT }
 {
     line.clear();

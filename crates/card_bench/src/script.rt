@@ -4,7 +4,7 @@ ghost use Rattle.nvm_board.specs.Cut.{cut_facts};
 ghost use Rattle.nvm_board.specs.Facts.{new_board};
 ghost use Rattle.card_core.specs.Factory.{factory_card};
 ghost use Rattle.card_core.specs.Finding.{Finds};
-ghost use Rattle.card_bench.specs.Endings.{IsRunToEnd, StopsBy};
+ghost use Rattle.card_bench.specs.Endings.{IsRunToEnd, RunStopsBy};
 
 use crate::desk::Desk;
 use crate::fault::RunFault;
@@ -29,7 +29,7 @@ pub fn run<R: BufRead, W: Write>(
 
     // A bad line is the first one, and the writer holds what the lines before it print.
     ensures stopped { IfErr result (λ fault.
-        StopsBy fault (R.remaining reader.old) (W.contents writer.old) (W.contents writer.new)) }
+        RunStopsBy fault (R.remaining reader.old) (W.contents writer.old) (W.contents writer.new)) }
 
     // With too little memory nothing was read or written.
     ensures unread { result ≡ Err RunFault.Memory → R.remaining reader.new ≡ R.remaining reader.old }

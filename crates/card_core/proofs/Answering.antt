@@ -6,10 +6,6 @@ use Rattle.ef_body.specs.declared.error.BodyErr.{BodyErr}
 use Rattle.ef_body.specs.declared.error.BodyErr.TheVariants.{Refused, Store}
 use Rattle.ef_body.specs.Refusals.{Decides, IfRefused}
 
-pub ok_then : {T E : Type 0} (P Q : T → Type 0) (r : Result T E) → ((x : T) → P x → Q x) → IfOk r P → IfOk r Q
-ok_then P Q (Ok x) f h = f x h
-ok_then P Q (Err e) f h = tt
-
 -- what is said of either, where it is known which it is
 pub said_ok : {T E : Type 0} (P : T → Type 0) (Q : E → Type 0) (r : Result T E) (x : T) → r ≡ Ok x
     → MatchResult r P Q → P x

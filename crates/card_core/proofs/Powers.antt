@@ -15,7 +15,7 @@ use Rattle.card_core.specs.Standing.{IsCard}
 use Rattle.card_core.specs.Working.{TellsCard}
 use Rattle.card_core.specs.declared.faults.StartFault.{StartFault}
 use Rattle.card_core.specs.StartFaults.{fault_of_store}
-use Rattle.card_core.specs.Running.{StopsBy}
+use Rattle.card_core.specs.Running.{StartStopsBy}
 
 module _ (a b c : Facts) (before : Steady a b) where
   pub steady_then : Steady b c → Steady a c
@@ -59,10 +59,10 @@ module _ (a b c : Facts) (before : Steady a b) where
 
 -- a store that fails, over a board that held when it was opened
 pub stops-by : (e : StoreErr) (stop : StartFault) (a b c : Facts) → stop ≡ fault_of_store e → Steady a b
-    → StoreFailsBy e b c → StopsBy stop a c
-stops-by PowerLost stop a b c is before fails = subst (λ (f : StartFault). StopsBy f a c) (sym is) (inl
+    → StoreFailsBy e b c → StartStopsBy stop a c
+stops-by PowerLost stop a b c is before fails = subst (λ (f : StartFault). StartStopsBy f a c) (sym is) (inl
     (goes_dark_then a b c before fails))
-stops-by Fault stop a b c is before fails = subst (λ (f : StartFault). StopsBy f a c) (sym is) (fails_then a b c
+stops-by Fault stop a b c is before fails = subst (λ (f : StartFault). StartStopsBy f a c) (sym is) (fails_then a b c
     before fails)
 
 -- what a start tells of what it found
@@ -82,14 +82,14 @@ pub stops-found : (first : Facts) (opened last : Memory) → Steady first opened
     → committed opened ≡ words_found first.words → opened.failed ≡ None → Reports opened last
     → (found : Result (Option FreeSpace) StoreErr) (result : Result FreeSpace StartFault) (stop : StartFault)
     → Found found result → result ≡ Err stop → IfOk found (TellsCard (committed opened))
-    → last.failed ≡ result_err found → StopsBy stop first last.facts
+    → last.failed ≡ result_err found → StartStopsBy stop first last.facts
 stops-found first opened last light sound words works reports (Ok (Some space)) result stop tells is card failed =
     let never = sym tells ∙ is in cc
 stops-found first opened last light sound words works reports (Ok None) result stop tells is card failed =
     let same = sym tells ∙ is in
     let damaged : Damaged ≡ stop = cc in
     let still = (reports.works failed).1 in
-    subst (λ (f : StartFault). StopsBy f first last.facts) damaged (
+    subst (λ (f : StartFault). StartStopsBy f first last.facts) damaged (
       sound,
       λ stands. card (subst IsCard (sym words) stands),
       record {

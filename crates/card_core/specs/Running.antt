@@ -60,9 +60,9 @@ pub record Starts (old : Facts) (new : Running) : Type 0 where
 
 -- Why a start stops: power was lost in it, or was off; the device failed; or both held, and undo isn't defined, so that
 -- nothing was written; or both held, and the undone words stand for no card.
-abbrev pub StopsBy : StartFault → Facts → Facts → Type 0
-StopsBy PowerLost old new = GoesDark old new ⊎ ((old.dark ≡ true) × (new ≡ old))
-StopsBy Fault old new = Fails old new
-StopsBy BadJournal old new = IsBadJournal old.words × Steady old new × (new.words ≡ old.words) × (new.writes
+abbrev pub StartStopsBy : StartFault → Facts → Facts → Type 0
+StartStopsBy PowerLost old new = GoesDark old new ⊎ ((old.dark ≡ true) × (new ≡ old))
+StartStopsBy Fault old new = Fails old new
+StartStopsBy BadJournal old new = IsBadJournal old.words × Steady old new × (new.words ≡ old.words) × (new.writes
     ≡ old.writes)
-StopsBy Damaged old new = IsSound old.words × ¬ IsCard (words_found old.words) × Steady old new
+StartStopsBy Damaged old new = IsSound old.words × ¬ IsCard (words_found old.words) × Steady old new

@@ -10,7 +10,7 @@ ghost use Rattle.file_tree.specs.Spaces.{free_space};
 ghost use Rattle.apdu_core.specs.Asked.{asked};
 ghost use Rattle.card_core.specs.Comparing.{comparisons, ComparesAsked};
 ghost use Rattle.card_core.specs.Finding.{HasCard, FindsAgain};
-ghost use Rattle.card_core.specs.Running.{Starts, StopsBy, Steps, FailsIn, IsCutIn, card_found, memory_failure};
+ghost use Rattle.card_core.specs.Running.{Starts, StartStopsBy, Steps, FailsIn, IsCutIn, card_found, memory_failure};
 ghost use Rattle.card_core.specs.Spending.{writes_of};
 ghost use Rattle.card_core.specs.Stages.{IsStage, ChangesNothing};
 ghost use Rattle.card_core.specs.Outcomes.{answer_bytes};
@@ -67,7 +67,7 @@ impl<B: Board> Card<B> {
     /// changes no word and writes nothing. The board comes back where the card doesn't start.
     pub fn start(board: B) -> Result<Card<B>, (B, StartFault)>
         ensures started { IfOk result (Starts (B.facts board)) }
-        ensures stopped { IfErr result (λ e. StopsBy e.1 (B.facts board) (B.facts e.0)) }
+        ensures stopped { IfErr result (λ e. StartStopsBy e.1 (B.facts board) (B.facts e.0)) }
         ensures has_card { IfOk result (λ c. HasCard c.facts.words) }
         ensures found { IfOk result (λ c. FindsAgain (B.facts board).words c.facts.words) }
         ensures found_err { IfErr result (λ e. FindsAgain (B.facts board).words (B.facts e.0).words) }

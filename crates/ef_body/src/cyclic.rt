@@ -8,7 +8,7 @@ ghost use Rattle.card_rules.specs.declared.status.Sw.{Sw};
 ghost use Rattle.ef_body.specs.Records.{front, record_of};
 ghost use Rattle.ef_body.specs.Numbers.{spelled};
 ghost use Rattle.ef_body.specs.Searching.{found};
-ghost use Rattle.ef_body.specs.Refusals.{missing_record, unraised, raised_number, Decides, Fits};
+ghost use Rattle.ef_body.specs.Refusals.{missing_record, unraised, raised_number, Decides, IsRefusal};
 ghost use Rattle.ef_body.specs.Refusals.{IfRefused, failure};
 ghost use Rattle.ef_body.specs.Bodies.{cyclic_records, IsCyclic};
 ghost use Rattle.ef_body.specs.Changes.{CyclicBecomes, Increases};
@@ -146,7 +146,7 @@ impl Cyclic {
         requires room { self.record_length ≤ N }
         ensures bytes { OnOk result (bytes.new.items ≡ spelled self.record_length (raised_number (cyclic_records
             (committed store.old) self) sent.now)) }
-        ensures refusal { Fits (unraised self.record_length (cyclic_records (committed store.old) self) sent.now)
+        ensures refusal { IsRefusal (unraised self.record_length (cyclic_records (committed store.old) self) sent.now)
             (result_err result) }
         ensures store { Reads store.old store.new (failure (result_err result)) }
     {
@@ -182,7 +182,7 @@ impl Cyclic {
         ensures any_exit { (committed store.new ≡ committed store.old)
             ⊎ Increases (committed store.old) self sent.now (committed store.new) }
         ensures done { OnOk result (Increases (committed store.old) self sent.now (committed store.new)) }
-        ensures refusal { Fits (unraised self.record_length (cyclic_records (committed store.old) self) sent.now)
+        ensures refusal { IsRefusal (unraised self.record_length (cyclic_records (committed store.old) self) sent.now)
             (result_err result) }
         ensures refused { (status : Sw) → unraised self.record_length (cyclic_records (committed store.old) self)
             sent.now

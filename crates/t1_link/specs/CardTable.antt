@@ -115,9 +115,9 @@ abbrev pub answers : Link → List ℕ → Taken
 answers l answer = sending l answer
 
 -- the bytes of a reaction's block; none where a command is to run
-abbrev pub bytes_of : Reaction → List ℕ
-bytes_of (replies b) = frame b
-bytes_of (runs command) = []
+abbrev pub bytes_said : Reaction → List ℕ
+bytes_said (replies b) = frame b
+bytes_said (runs command) = []
 
 -- what the caller is to do
 abbrev pub action_of : Reaction → Action

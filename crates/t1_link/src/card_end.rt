@@ -2,7 +2,7 @@
 
 ghost use Rattle.std.specs.Prelude.{◌≡◌, ◌≤◌, ◌++◌, None, IsSome, IsTrue, ◌↔◌, Some, length, take, Ok};
 ghost use Rattle.t1_link.specs.Blocks.{IsSpellable, frame, receive_ready};
-ghost use Rattle.t1_link.specs.CardTable.{CardLink, link_step, action_of, after, answers, bytes_of, card_takes, fresh};
+ghost use Rattle.t1_link.specs.CardTable.{CardLink, link_step, action_of, after, answers, bytes_said, card_takes, fresh};
 ghost use Rattle.t1_link.specs.CardTable.{sending, sent_block, takes_information, takes_receive_ready};
 ghost use Rattle.t1_link.specs.Spoken.{block_of};
 
@@ -94,7 +94,7 @@ impl CardEnd {
         requires { self.old.waiting ≡ None }
         ensures state { self.new ≡ after (link_step self.old.link got.now) }
         ensures action { result ≡ action_of (link_step self.old.link got.now).reaction }
-        ensures block { out.new.items ≡ bytes_of (link_step self.old.link got.now).reaction }
+        ensures block { out.new.items ≡ bytes_said (link_step self.old.link got.now).reaction }
 
         // What these say of the command that waits.
         ensures replied { result ≡ Action.Reply → self.new.waiting ≡ None }
@@ -110,7 +110,7 @@ impl CardEnd {
     pub fn answer(&mut self, answer: &AnswerBytes, out: &mut BlockBytes)
         requires { IsSome self.old.waiting }
         ensures state { self.new ≡ after (answers self.old.link answer.now.items) }
-        ensures block { out.new.items ≡ bytes_of (answers self.old.link answer.now.items).reaction }
+        ensures block { out.new.items ≡ bytes_said (answers self.old.link answer.now.items).reaction }
     {
         self.waits = false;
         self.command.clear();
@@ -126,7 +126,7 @@ impl CardEnd {
         requires spellable { IsSpellable (block_of block) }
         ensures state { self.new ≡ after (card_takes self.old.link (Ok (block_of block.entry))) }
         ensures action { result ≡ action_of (card_takes self.old.link (Ok (block_of block.entry))).reaction }
-        ensures block { out.new.items ≡ bytes_of (card_takes self.old.link (Ok (block_of block.entry))).reaction }
+        ensures block { out.new.items ≡ bytes_said (card_takes self.old.link (Ok (block_of block.entry))).reaction }
     {
         match block {
             Block::ResynchRequest => {
@@ -162,7 +162,7 @@ impl CardEnd {
         requires { self.old.waiting ≡ None }
         ensures state { self.new ≡ after (takes_information self.old.link number more field.now) }
         ensures action { result ≡ action_of (takes_information self.old.link number more field.now).reaction }
-        ensures block { out.new.items ≡ bytes_of (takes_information self.old.link number more field.now).reaction }
+        ensures block { out.new.items ≡ bytes_said (takes_information self.old.link number more field.now).reaction }
     {
         if self.answer.has_more() || number != self.expected {
             return self.receive_ready(ErrorKind::OtherError, out);
@@ -182,7 +182,7 @@ impl CardEnd {
         requires { self.old.waiting ≡ None }
         ensures state { self.new ≡ after (takes_receive_ready self.old.link number) }
         ensures action { result ≡ action_of (takes_receive_ready self.old.link number).reaction }
-        ensures block { out.new.items ≡ bytes_of (takes_receive_ready self.old.link number).reaction }
+        ensures block { out.new.items ≡ bytes_said (takes_receive_ready self.old.link number).reaction }
     {
         if self.has_sent && number != self.number {
             self.send_again(out)
@@ -228,7 +228,7 @@ impl CardEnd {
         requires { self.old.waiting ≡ None }
         ensures state { self.new ≡ after (sending self.old.link self.old.link.rest) }
         ensures action { result ≡ Action.Reply }
-        ensures block { out.new.items ≡ bytes_of (sending self.old.link self.old.link.rest).reaction }
+        ensures block { out.new.items ≡ bytes_said (sending self.old.link self.old.link.rest).reaction }
     {
         self.answer.cut(usize::from(self.ifsd));
         self.number = self.number.other();

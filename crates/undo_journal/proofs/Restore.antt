@@ -13,7 +13,7 @@ use Rattle.std.proofs.Math.Logic.{⊎_elim}
 use Rattle.undo_journal.specs.declared.layout.TheConstants.{GATE, JOURNAL, JOURNAL_END}
 use Rattle.undo_journal.specs.Undo.{Pair, gate, pair_at, pairs_from, pairs, earlier, undo, IsOutside, IsDataAddress}
 use Rattle.undo_journal.specs.Undo.{IsSound}
-use Rattle.undo_journal.specs.laws.Undo.{length-undo, undo-at, undo-same, undo_undo, found_again}
+use Rattle.undo_journal.specs.laws.Undo.{length-undo, undo-at, undo-same, undo_undo, undo_sound}
 use Rattle.undo_journal.proofs.Pairs.{length-pairs_from, pairs_from-at, pairs_from-same, earlier-drop}
 use Rattle.undo_journal.proofs.Saving.{place-at, sound-same}
 
@@ -205,5 +205,5 @@ module _ (m now : List ℕ) (sound : IsSound m) (left : ℕ) (so_far : now ≡ p
   pub end-sound : (n : List ℕ) → GATE < length m → left ≡ 0 → (n ≡ now) ⊎ (n ≡ slice_set now GATE 0) → IsSound n
   end-sound n within none torn = ⊎_elim
       (λ old. subst (λ (l : List ℕ). IsSound l) (sym (old ∙ so_far)) (sound-put_back m sound left))
-      (λ new. subst (λ (l : List ℕ). IsSound l) (sym (end-done n within none new)) (found_again m))
+      (λ new. subst (λ (l : List ℕ). IsSound l) (sym (end-done n within none new)) (undo_sound m))
       torn

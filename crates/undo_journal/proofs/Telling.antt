@@ -12,11 +12,6 @@ use Rattle.undo_journal.specs.Memory.{store_err_of, open_fault_of}
 use Rattle.undo_journal.specs.laws.Memory.{reports_same}
 use Rattle.undo_journal.specs.Spending.{WritesAtMost}
 
--- what follows where a call went well
-pub ok_then : {T E : Type 0} (r : Result T E) (P Q : Type 0) → OnOk r P → (P → Q) → OnOk r Q
-ok_then (Ok v) P Q h f = f h
-ok_then (Err e) P Q h f = tt
-
 -- an error tells the same of the board, whatever the answer would have been without it
 pub answered_err : {S T : Type 0} (old new : Facts) (e : DeviceErr) (result : Result T DeviceErr)
     → IsErrAnd result (λ f. f ≡ e) → Answered {T = S} old new (Err e) → Answered old new result

@@ -174,5 +174,5 @@ pub undo_undo : (m : List ℕ) → undo (undo m) ≡ undo m
 undo_undo m = undo_shut (undo m) (gate_undone m)
 
 -- of a memory after undo, undo is defined
-pub found_again : (m : List ℕ) → IsSound (undo m)
-found_again m = sound_shut (undo m) (gate_undone m)
+pub undo_sound : (m : List ℕ) → IsSound (undo m)
+undo_sound m = sound_shut (undo m) (gate_undone m)

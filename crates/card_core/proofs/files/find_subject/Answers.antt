@@ -8,7 +8,7 @@ use Rattle.file_tree.specs.Trees.{tree_of}
 use Rattle.card_core.specs.Reaching.{subject_of}
 use Rattle.card_core.specs.Standing.{card_of}
 use Rattle.card_core.specs.Working.{session_of}
-use Rattle.card_core.proofs.Answering.{ok_then}
+use Rattle.std.proofs.lemmas.Result.{IfOk-weaker}
 use Rattle.card_core.proofs.Deletions.{subject-current}
 use Rattle.card_core.proofs.Entries.{card-tree}
 use Rattle.card_core.proofs.files.find_subject.Goals as goal
@@ -26,7 +26,7 @@ returns-in-Identifier-clause-found g c =
     let t = table m in
     let df = path_of t c.args.current.now.df in
     let id = c.in-Identifier.identifier in
-    ok_then (λ (found : Option ℕ). option_map (path_of t) found ≡ reached (tree_of m) df id) _ c.select.result
+    IfOk-weaker c.select.result (λ (found : Option ℕ). option_map (path_of t) found ≡ reached (tree_of m) df id) _
     (λ found is. ap (λ (subject : Subject). subject_of (card_of m).tree (session_of t c.args.current.now) subject)
     c.in-Identifier.is
     ∙ ap (λ (tree : Tree). reached tree df id) (card-tree m) ∙ sym is)

@@ -4,7 +4,7 @@ use Rattle.undo_journal.specs.Memory.{committed}
 use Rattle.file_tree.specs.Table.{table, path_of, IsUsed}
 use Rattle.card_core.specs.declared.life_cycles.Changed.{Changed}
 use Rattle.card_core.specs.Changing.{change_at}
-use Rattle.card_core.proofs.Answering.{ok_then}
+use Rattle.std.proofs.lemmas.Result.{IfOk-weaker}
 use Rattle.card_core.specs.Standing.{card_of}
 use Rattle.card_core.specs.Working.{session_of}
 use Rattle.card_core.proofs.Living.{found-is}
@@ -22,8 +22,7 @@ returns-clause-found g c =
     let place =
     c.in_ok-number.ensures.found ∙ ap (λ (found : Option ℕ). option_map (path_of (table m)) found) c.in-Some.is in
     let used = subst (λ (found : Option ℕ). IfSome found (IsUsed (table m))) c.in-Some.is c.in_ok-number.ensures.used in
-    ok_then (λ (answer : Result Changed Sw). answer ≡ change_at (committed c.find_changed.new.store) x c.args.change e) _
-    c.read_change.result
+    IfOk-weaker c.read_change.result (λ (answer : Result Changed Sw). answer ≡ change_at (committed c.find_changed.new.store) x c.args.change e) _
     (λ answer is. found-is m c.requires.card x c.requires.current c.args.change c.args.subject e used place answer
     (is ∙ ap (λ (l : List ℕ). change_at l x c.args.change e) same))
     c.read_change.ensures.found

@@ -8,7 +8,7 @@ use Rattle.file_tree.specs.Trees.{tree_of}
 use Rattle.card_core.specs.LifeCycles.{changed_file}
 use Rattle.card_core.specs.Standing.{card_of}
 use Rattle.card_core.specs.Working.{session_of}
-use Rattle.card_core.proofs.Answering.{ok_then}
+use Rattle.std.proofs.lemmas.Result.{IfOk-weaker}
 use Rattle.card_core.proofs.Entries.{card-tree}
 use Rattle.card_core.proofs.Living.{current-subject, current-there}
 use Rattle.card_core.proofs.life_cycles.find_changed.Goals as goal
@@ -33,7 +33,7 @@ returns-in-Identifier-clause-found g c =
     let x = c.args.current.now in
     let df = path_of (table m) x.df in
     let id = c.in-Identifier.identifier in
-    ok_then (λ (found : Option ℕ). option_map (path_of (table m)) found ≡ reached (tree_of m) df id) _ c.select.result
+    IfOk-weaker c.select.result (λ (found : Option ℕ). option_map (path_of (table m)) found ≡ reached (tree_of m) df id) _
     (λ found is. ap (λ (subject : Subject). changed_file (card_of m).tree (session_of (table m) x) c.args.change subject)
     c.in-Identifier.is
     ∙ ap (λ (tree : Tree). reached tree df id) (card-tree m) ∙ sym is)

@@ -9,7 +9,8 @@ use Rattle.file_tree.specs.Trees.{tree_of}
 use Rattle.card_core.specs.Reaching.{target_of}
 use Rattle.card_core.specs.Standing.{card_of}
 use Rattle.card_core.specs.Working.{session_of, IsElementary}
-use Rattle.card_core.proofs.Answering.{ok_then, ok_both}
+use Rattle.card_core.proofs.Answering.{ok_both}
+use Rattle.std.proofs.lemmas.Result.{IfOk-weaker}
 use Rattle.card_core.proofs.Entries.{card-tree, current-path}
 use Rattle.card_core.proofs.named.find_target.Goals as goal
 
@@ -25,7 +26,7 @@ returns-in-Short-clause-found g c =
     let t = table m in
     let df = path_of t c.args.current.now.df in
     let n = c.in-Short.short in
-    ok_then (λ (found : Option ℕ). option_map (path_of t) found ≡ child_by_short (tree_of m) df n) _ c.find_short.result
+    IfOk-weaker c.find_short.result (λ (found : Option ℕ). option_map (path_of t) found ≡ child_by_short (tree_of m) df n) _
     (λ found is. ap (λ (target : Target). target_of (card_of m).tree (session_of t c.args.current.now) target) c.in-Short.is
     ∙ ap (λ (tree : Tree). child_by_short tree df n) (card-tree m) ∙ sym is)
     c.find_short.ensures.found

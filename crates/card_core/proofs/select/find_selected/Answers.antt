@@ -6,7 +6,7 @@ use Rattle.file_tree.specs.Cards.{Path, Tree}
 use Rattle.file_tree.specs.Reaching.{by_name, path_from_current, path_from_master, reached, selected, the_parent}
 use Rattle.file_tree.specs.Table.{path_of}
 use Rattle.file_tree.specs.Trees.{tree_of}
-use Rattle.card_core.proofs.Answering.{ok_then}
+use Rattle.std.proofs.lemmas.Result.{IfOk-weaker}
 use Rattle.card_core.specs.Reaching.{selected_from}
 use Rattle.card_core.specs.Standing.{card_of}
 use Rattle.card_core.specs.Working.{table_in}
@@ -26,7 +26,7 @@ returns-in-Identifier-clause-found g c =
     let t = table_in c.args.store.now in
     let df = path_of t c.args.current.df in
     let id = c.in-Identifier.identifier in
-    ok_then (λ (found : Option ℕ). option_map (path_of t) found ≡ reached (tree_of m) df id) _ c.select.result
+    IfOk-weaker c.select.result (λ (found : Option ℕ). option_map (path_of t) found ≡ reached (tree_of m) df id) _
     (λ found is. ap (λ (selector : Selector). selected_from (card_of m).tree df (selection_of selector))
     c.in-Identifier.is
     ∙ ap (λ (tree : Tree). reached tree df id) (card-tree m) ∙ sym is)
@@ -37,8 +37,7 @@ returns-in-Parent-clause-found g c =
     let m = committed c.args.store.now in
     let t = table_in c.args.store.now in
     let df = path_of t c.args.current.df in
-    ok_then (λ (found : Option ℕ). option_map (path_of t) found ≡ selected (tree_of m) df the_parent) _
-    c.find_parent.result
+    IfOk-weaker c.find_parent.result (λ (found : Option ℕ). option_map (path_of t) found ≡ selected (tree_of m) df the_parent) _
     (λ found is. ap (λ (selector : Selector). selected_from (card_of m).tree df (selection_of selector)) c.in-Parent.is
     ∙ ap (λ (tree : Tree). selected tree df the_parent) (card-tree m) ∙ sym is)
     c.find_parent.ensures.found
@@ -49,8 +48,8 @@ returns-in-Name-clause-found g c =
     let t = table_in c.args.store.now in
     let df = path_of t c.args.current.df in
     let name = c.in-Name.name.now in
-    ok_then (λ (found : Option ℕ). (above : Path) → option_map (path_of t) found ≡ selected (tree_of m) above
-    (by_name name)) _ c.find_name.result
+    IfOk-weaker c.find_name.result (λ (found : Option ℕ). (above : Path) → option_map (path_of t) found ≡ selected (tree_of m) above
+    (by_name name)) _
     (λ found is. ap (λ (selector : Selector). selected_from (card_of m).tree df (selection_of selector)) c.in-Name.is
     ∙ ap (λ (tree : Tree). selected tree df (by_name name)) (card-tree m) ∙ sym (is df))
     c.find_name.ensures.found
@@ -62,8 +61,8 @@ returns-in-PathFromMaster-clause-found g c =
     let df = path_of t c.args.current.df in
     let path = c.deref.result.now in
     let is = c.deref.ensures.0 ∙ c.identifiers_of.ensures in
-    ok_then (λ (found : Option ℕ). (above : Path) → option_map (path_of t) found ≡ selected (tree_of m) above
-    (path_from_master path)) _ c.find_path_from_master.result
+    IfOk-weaker c.find_path_from_master.result (λ (found : Option ℕ). (above : Path) → option_map (path_of t) found ≡ selected (tree_of m) above
+    (path_from_master path)) _
     (λ found reaches. ap (λ (selector : Selector). selected_from (card_of m).tree df (selection_of selector))
     c.in-PathFromMaster.is
     ∙ ap (λ (ids : List ℕ). selected_from (card_of m).tree df (whole_path ids)) (sym is)
@@ -77,8 +76,7 @@ returns-in-PathFromCurrent-clause-found g c =
     let df = path_of t c.args.current.df in
     let path = c.deref-in-PathFromCurrent.result.now in
     let is = c.deref-in-PathFromCurrent.ensures.0 ∙ c.identifiers_of-in-PathFromCurrent.ensures in
-    ok_then (λ (found : Option ℕ). option_map (path_of t) found ≡ selected (tree_of m) df (path_from_current path)) _
-    c.find_path.result
+    IfOk-weaker c.find_path.result (λ (found : Option ℕ). option_map (path_of t) found ≡ selected (tree_of m) df (path_from_current path)) _
     (λ found reaches. ap (λ (selector : Selector). selected_from (card_of m).tree df (selection_of selector))
     c.in-PathFromCurrent.is
     ∙ ap (λ (ids : List ℕ). selected_from (card_of m).tree df (path_below ids)) (sym is)

@@ -13,7 +13,7 @@ use Rattle.file_tree.specs.Trees.{tree_of}
 use Rattle.file_tree.specs.laws.Allowed.{creatable_short}
 use Rattle.file_tree.specs.laws.NewEntries.{short_option}
 use Rattle.undo_journal.specs.laws.Told.{reads_none}
-use Rattle.file_tree.proofs.Answering.{ok_then}
+use Rattle.std.proofs.lemmas.Result.{IfOk-weaker}
 use Rattle.file_tree.proofs.creating.short_of.Goals as goal
 
 -- a template of this kind
@@ -56,8 +56,7 @@ returns-in_default-clause-short g c =
     let m = committed c.args.store.now in
     let path = path_of (table m) c.args.df in
     let in_tree = λ (s : ShortIdentifier). short_for (tree_of m) path c.args.fcp.now.identifier s in
-    ok_then (λ (n : ℕ). short_option n ≡ in_tree c.short.result)
-    (λ (n : ℕ). short_option n ≡ short_of_new (tree_of m) path c.args.fcp.now) c.short_number.result
+    IfOk-weaker c.short_number.result (λ (n : ℕ). short_option n ≡ in_tree c.short.result) (λ (n : ℕ). short_option n ≡ short_of_new (tree_of m) path c.args.fcp.now)
     (λ n is. is ∙ ap in_tree c.short.ensures
     ∙ as_told (tree_of m) path c.args.fcp.now c.args.fcp.now.kind c.in_default.not-Df)
     c.short_number.ensures.short

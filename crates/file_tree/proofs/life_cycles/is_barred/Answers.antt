@@ -1,6 +1,6 @@
 use Rattle.std.proofs.Common.{subst}
 use Rattle.undo_journal.specs.laws.Exits.{none_ok}
-use Rattle.file_tree.proofs.Answering.{ok_then}
+use Rattle.std.proofs.lemmas.Result.{IfOk-weaker}
 use Rattle.std.proofs.Common.{◌≡◌, ◌||◌, ℕ, List, Bool, true, false, sym, ◌∙◌, ap, ap₂}
 use Rattle.undo_journal.specs.Memory.{committed}
 use Rattle.file_tree.specs.declared.entry.Entry.{Entry}
@@ -34,7 +34,7 @@ pub returns-clause-barred : goal.returns-clause-barred
 returns-clause-barred g c =
     let m = committed c.args.store.now in
     let e = c.args.e in
-    ok_then _ _ _ (λ barred is. told m e c.in_ok-entry.entry false barred c.requires.tree c.requires.used c.in_ok-entry.ensures.entry
+    IfOk-weaker _ _ _ (λ barred is. told m e c.in_ok-entry.entry false barred c.requires.tree c.requires.used c.in_ok-entry.ensures.entry
     (sym c.if-bars.false ∙ c.bars.ensures ∙ ap bars c.life_of.ensures)
     (is ∙ ap (λ (l : List ℕ). barred_up (table l) 7 e) c.read_entry.ensures.store.only.keeps.committed_words))
     c.is_below_barred.ensures.barred

@@ -5,19 +5,19 @@ use Rattle.file_tree.specs.laws.LookUps.{TellsShort}
 use Rattle.std.proofs.Common.{◌≢◌, arith}
 use Rattle.undo_journal.specs.Memory.{committed}
 use Rattle.file_tree.specs.laws.Shorts.{short_named, short_found}
-use Rattle.file_tree.proofs.Answering.{ok_then}
+use Rattle.std.proofs.lemmas.Result.{IfOk-weaker}
 use Rattle.file_tree.proofs.look_up.find_short.Goals as goal
 
 pub returns-clause-found : goal.returns-clause-found
 returns-clause-found g c =
     let some : c.args.short ≢ 0 = λ none. let z : ⊥ = omega (arith, none, c.requires.some) in z in
-    ok_then _ _ _ (short_named (committed c.args.store.now) c.requires.tree.entries c.args.df c.args.short c.requires.df some)
+    IfOk-weaker _ _ _ (short_named (committed c.args.store.now) c.requires.tree.entries c.args.df c.args.short c.requires.df some)
     c.find_short_child.ensures.found
 
 pub returns-clause-elementary : goal.returns-clause-elementary
 returns-clause-elementary g c =
     let some : c.args.short ≢ 0 = λ none. let z : ⊥ = omega (arith, none, c.requires.some) in z in
-    ok_then _ _ _ (short_found (committed c.args.store.now) c.requires.tree.entries c.args.df c.args.short c.requires.df some)
+    IfOk-weaker _ _ _ (short_found (committed c.args.store.now) c.requires.tree.entries c.args.df c.args.short c.requires.df some)
     c.find_short_child.ensures.found
 
 pub find_short_child-requires : goal.find_short_child-requires
@@ -33,4 +33,4 @@ told_is_child t df n (Some e) told = told.0
 
 pub returns-clause-child : goal.returns-clause-child
 returns-clause-child g c =
-    ok_then _ _ _ (told_is_child (table (committed c.args.store.now)) c.args.df c.args.short) c.find_short_child.ensures.found
+    IfOk-weaker _ _ _ (told_is_child (table (committed c.args.store.now)) c.args.df c.args.short) c.find_short_child.ensures.found

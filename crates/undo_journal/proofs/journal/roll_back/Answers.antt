@@ -4,7 +4,8 @@ use Rattle.undo_journal.specs.Undo.{gate}
 use Rattle.undo_journal.specs.laws.Undo.{undo_shut}
 use Rattle.undo_journal.proofs.Restore.{put_back_from, put_back-none, turn-place, turn-done, turn-kept, turn-sound}
 use Rattle.undo_journal.proofs.Restore.{end-done, end-kept, end-sound}
-use Rattle.undo_journal.proofs.Telling.{ok_then, answered_err, answered_after}
+use Rattle.undo_journal.proofs.Telling.{answered_err, answered_after}
+use Rattle.std.proofs.lemmas.Result.{on_ok_weaker}
 use Rattle.undo_journal.proofs.journal.roll_back.Goals as goal
 
 pub returns-then-count-eq0-clause-done : goal.returns-then-count-eq0-clause-done
@@ -75,8 +76,9 @@ returns-clause-done g c =
     let m = (g.B.Board.facts c.args.board.now).words in
     let within : GATE < length m = omega (arith, g.met.B.Board.sized c.args.board.now) in
     let none : c.loop-left.left ≡ 0 = omega arith in
-    ok_then c.write_gate.result _ _ c.write_gate.ensures.done (λ done.
-    end-done m _ c.requires.sound c.loop-left.left c.loop-left.invariant.so_far _ within none done)
+    on_ok_weaker c.write_gate.result
+    (λ done.
+    end-done m _ c.requires.sound c.loop-left.left c.loop-left.invariant.so_far _ within none done) c.write_gate.ensures.done
 
 pub returns-in_err-put_back-clause-sound : goal.returns-in_err-put_back-clause-sound
 returns-in_err-put_back-clause-sound g c =

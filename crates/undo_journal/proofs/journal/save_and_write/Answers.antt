@@ -1,7 +1,8 @@
 use Rattle.std.proofs.Common.{refl, sym}
 use Rattle.undo_journal.proofs.Saving.{pair-torn, pair-sound, gate-torn, gate-sound, word-torn, word-current}
 use Rattle.undo_journal.proofs.Saving.{word-sound}
-use Rattle.undo_journal.proofs.Telling.{ok_then, answered_err, answered_after, steady_then}
+use Rattle.undo_journal.proofs.Telling.{answered_err, answered_after, steady_then}
+use Rattle.std.proofs.lemmas.Result.{on_ok_weaker}
 use Rattle.undo_journal.proofs.journal.save_and_write.Goals as goal
 
 pub returns-in_err-write_pair-clause-kept : goal.returns-in_err-write_pair-clause-kept
@@ -31,9 +32,10 @@ pub returns-clause-done : goal.returns-clause-done
 returns-clause-done g c =
     let r = c.requires in
     let read = c.in_ok-earlier.ensures in
-    ok_then c.write_word.result _ _ c.write_word.ensures.done (λ done.
+    on_ok_weaker c.write_word.result
+    (λ done.
     word-current _ _ _ _ _ read.words read.word r.sound r.counts r.room r.place (g.met.B.Board.sized _) _
-    c.in_ok-write_pair.ensures.done _ c.in_ok-write_gate.ensures.done c.args.word _ done)
+    c.in_ok-write_pair.ensures.done _ c.in_ok-write_gate.ensures.done c.args.word _ done) c.write_word.ensures.done
 
 pub returns-in_err-write_pair-clause-sound : goal.returns-in_err-write_pair-clause-sound
 returns-in_err-write_pair-clause-sound g c =

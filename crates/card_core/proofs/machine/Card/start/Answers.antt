@@ -8,14 +8,14 @@ use Rattle.card_core.specs.Standing.{IsCard}
 use Rattle.card_core.specs.Working.{session_of, table_in, TellsCard}
 use Rattle.card_core.proofs.Entries.{master-path}
 use Rattle.nvm_board.specs.Facts.{Facts}
-use Rattle.card_core.specs.Running.{StopsBy}
+use Rattle.card_core.specs.Running.{StartStopsBy}
 use Rattle.card_core.proofs.Powers.{found-there, stops-found}
 use Rattle.card_core.proofs.machine.Card.start.Goals as goal
 
 pub returns-in-Err-space_of-clause-stopped : goal.returns-in-Err-space_of-clause-stopped
 returns-in-Err-space_of-clause-stopped g c =
     let first = g.B.Board.facts c.args.board in
-    subst (λ (now : Facts). StopsBy c.in-Err-space_of.fault first now) (sym c.into_board.ensures)
+    subst (λ (now : Facts). StartStopsBy c.in-Err-space_of.fault first now) (sym c.into_board.ensures)
     (stops-found first c.in-Ok.store c.find_card.new.store c.in-Ok.ensures.light c.in-Ok.ensures.sound
     c.in-Ok.ensures.found c.in-Ok.ensures.ready.usable.works c.find_card.ensures.store.only.reports c.find_card.result
     c.space_of.result c.in-Err-space_of.fault c.space_of.ensures c.in-Err-space_of.is c.find_card.ensures.card

@@ -3,7 +3,7 @@ use Rattle.undo_journal.specs.Undo.{gate}
 use Rattle.undo_journal.specs.Memory.{Memory}
 use Rattle.undo_journal.specs.Spending.{WritesAtMost, rollback_writes}
 use Rattle.undo_journal.specs.laws.Undo.{gate_undone}
-use Rattle.undo_journal.proofs.Telling.{ok_then}
+use Rattle.std.proofs.lemmas.Result.{on_ok_weaker}
 use Rattle.undo_journal.proofs.Noted.{on_dark, stuck, noted-true, noted-changes}
 use Rattle.undo_journal.proofs.store.Store.abandon.Goals as goal
 
@@ -17,7 +17,8 @@ invariant_of-self-2 g c =
     let undone = c.roll_back-answer.ensures in
     noted-true _ _ _ c.self.view_is c.self.invariant c.in_ok-checked.ensures.ready.works _ _ c.noted.ensures.answer
     c.noted.ensures.failed undone.light undone.sound
-    (ok_then c.roll_back-answer.result _ _ undone.done (λ done. ap gate done ∙ gate_undone words))
+    (on_ok_weaker c.roll_back-answer.result
+    (λ done. ap gate done ∙ gate_undone words) undone.done)
 
 pub returns-clause-store : goal.returns-clause-store
 returns-clause-store g c =
@@ -26,7 +27,8 @@ returns-clause-store g c =
     let undone = c.roll_back-answer.ensures in
     noted-changes _ _ _ c.self.view_is c.self.invariant c.in_ok-checked.ensures.ready.works _ _ c.noted.ensures.answer
     c.noted.ensures.failed undone.light _ (g.met.B.Board.sized _) (g.met.B.Board.words_fit _) undone.sound
-    (ok_then c.roll_back-answer.result _ _ undone.done (λ done. ap gate done ∙ gate_undone before.words)) refl
+    (on_ok_weaker c.roll_back-answer.result
+    (λ done. ap gate done ∙ gate_undone before.words) undone.done) refl
     (subst (λ (m : Memory). WritesAtMost (rollback_writes m.used) before after) c.self.view_is undone.writes)
 
 pub returns-clause-dark : goal.returns-clause-dark

@@ -5,7 +5,7 @@ use Rattle.undo_journal.specs.Undo.{gate, undo, data_words}
 use Rattle.undo_journal.specs.Memory.{Memory, committed, current}
 use Rattle.undo_journal.proofs.Saving.{gate-shut}
 use Rattle.undo_journal.proofs.Lasting.{gate-commits, commit-sound}
-use Rattle.undo_journal.proofs.Telling.{ok_then}
+use Rattle.std.proofs.lemmas.Result.{on_ok_weaker}
 use Rattle.undo_journal.proofs.Noted.{on_ok, on_dark, stuck, noted-true, noted-changes}
 use Rattle.undo_journal.proofs.store.Store.commit.Goals as goal
 
@@ -22,7 +22,8 @@ invariant_of-self-2 g c =
     let answered = c.write_gate-answer.ensures in
     noted-true _ _ _ c.self.view_is c.self.invariant works _ _ c.noted.ensures.answer c.noted.ensures.failed answered.light
     (commit-sound words _ within held.sound answered.torn)
-    (ok_then c.write_gate-answer.result _ _ answered.done (λ done. ap gate done ∙ gate-shut words within))
+    (on_ok_weaker c.write_gate-answer.result
+    (λ done. ap gate done ∙ gate-shut words within) answered.done)
 
 pub returns-clause-any_exit : goal.returns-clause-any_exit
 returns-clause-any_exit g c =
@@ -50,7 +51,8 @@ returns-clause-store g c =
     noted-changes _ _ _ c.self.view_is c.self.invariant works _ _ c.noted.ensures.answer c.noted.ensures.failed
     answered.light 1 (g.met.B.Board.sized _) (g.met.B.Board.words_fit _)
     (commit-sound words _ within held.sound answered.torn)
-    (ok_then c.write_gate-answer.result _ _ answered.done (λ done. ap gate done ∙ gate-shut words within)) refl answered.writes
+    (on_ok_weaker c.write_gate-answer.result
+    (λ done. ap gate done ∙ gate-shut words within) answered.done) refl answered.writes
 
 pub returns-clause-dark : goal.returns-clause-dark
 returns-clause-dark g c = on_dark _ _ c.noted.ensures.answer _ _ c.write_gate-answer.ensures.light

@@ -6,7 +6,7 @@ use Rattle.undo_journal.specs.Memory.{Memory}
 use Rattle.undo_journal.specs.laws.Exits.{error_tells}
 use Rattle.undo_journal.specs.laws.Memory.{reports_same}
 use Rattle.undo_journal.proofs.Saving.{committed-shut}
-use Rattle.undo_journal.proofs.Telling.{ok_then}
+use Rattle.std.proofs.lemmas.Result.{on_ok_weaker}
 use Rattle.undo_journal.proofs.Noted.{always, if_ok, on_ok, on_err, on_dark, noted_tells, noted-true, noted-open}
 use Rattle.undo_journal.proofs.Noted.{noted-reports}
 use Rattle.undo_journal.proofs.store.Store.compare.Goals as goal
@@ -38,10 +38,11 @@ returns-clause-ready g c =
     let kept = c.compare-answer.ensures in
     let works = c.in_ok-check.ensures.ready.works in
     let held = c.self.invariant.works (ap (λ (m : Memory). m.failed) c.self.view_is ∙ works) in
-    ok_then c.noted.result _ _ (returns-clause-usable g c) (λ usable idle.
+    on_ok_weaker c.noted.result
+    (λ usable idle.
     let unused = ap (λ (m : Memory). m.used) c.self.view_is ∙ idle in
     let shut = ap gate kept.words ∙ held.counts ∙ unused in
-    record { usable = usable; idle = unused; shut = shut; same = committed-shut _ shut })
+    record { usable = usable; idle = unused; shut = shut; same = committed-shut _ shut }) (returns-clause-usable g c)
 
 pub returns-clause-reports : goal.returns-clause-reports
 returns-clause-reports g c =

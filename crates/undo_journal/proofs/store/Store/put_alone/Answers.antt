@@ -2,7 +2,7 @@ use Rattle.std.proofs.Common.{◌+◌, refl, sym, ap, ◌∙◌, arith}
 use Rattle.undo_journal.specs.Undo.{IsDataAddress}
 use Rattle.undo_journal.specs.Memory.{Memory}
 use Rattle.undo_journal.proofs.Lasting.{unused-within, place-within, one-gate, one-sound, one-torn, one-written}
-use Rattle.undo_journal.proofs.Telling.{ok_then}
+use Rattle.std.proofs.lemmas.Result.{on_ok_weaker}
 use Rattle.undo_journal.proofs.Noted.{on_ok, on_dark, stuck, noted-true, noted-changes}
 use Rattle.undo_journal.proofs.store.Store.put_alone.Goals as goal
 
@@ -25,8 +25,9 @@ invariant_of-self g c =
     c.write_word-answer.ensures.light
     (one-sound _ _ c.self.view_is c.self.invariant works c.requires.idle c.args.at c.args.word c.requires.place _
     c.write_word-answer.ensures.torn)
-    (ok_then c.write_word-answer.result _ _ c.write_word-answer.ensures.done (λ done. one-gate _ _ c.self.view_is
-    c.self.invariant works c.requires.idle c.args.at c.args.word c.requires.place _ done ∙ sym unused))
+    (on_ok_weaker c.write_word-answer.result
+    (λ done. one-gate _ _ c.self.view_is
+    c.self.invariant works c.requires.idle c.args.at c.args.word c.requires.place _ done ∙ sym unused) c.write_word-answer.ensures.done)
 
 pub returns-clause-any_exit : goal.returns-clause-any_exit
 returns-clause-any_exit g c =
@@ -46,8 +47,9 @@ returns-clause-store g c =
     c.write_word-answer.ensures.light 1 (g.met.B.Board.sized _) (g.met.B.Board.words_fit _)
     (one-sound _ _ c.self.view_is c.self.invariant works c.requires.idle c.args.at c.args.word c.requires.place _
     c.write_word-answer.ensures.torn)
-    (ok_then c.write_word-answer.result _ _ c.write_word-answer.ensures.done (λ done. one-gate _ _ c.self.view_is
-    c.self.invariant works c.requires.idle c.args.at c.args.word c.requires.place _ done))
+    (on_ok_weaker c.write_word-answer.result
+    (λ done. one-gate _ _ c.self.view_is
+    c.self.invariant works c.requires.idle c.args.at c.args.word c.requires.place _ done) c.write_word-answer.ensures.done)
     (unused-within _ _ c.self.view_is c.self.invariant works c.requires.idle) c.write_word-answer.ensures.writes
 
 pub returns-clause-dark : goal.returns-clause-dark
