@@ -11,7 +11,7 @@ use byteorder::{BigEndian, ByteOrder};
 use card_rules::Sw;
 
 /// The elementary file of a binary command.
-#[derive(Clone, Copy, Debug, PartialEq, Eq)]
+#[derive(Clone, Copy, PartialEq, Eq)]
 pub enum Target {
     /// The current one.
     Current,
@@ -44,7 +44,7 @@ impl Place {
             // Bit 8 stands, bits 7 and 6 don't, and bits 5 to 1 are a short identifier: 0 and 31 are none.
             0x81..=0x9E => Some(Place {
                 target: Target::Short(p1 - 0x80),
-                offset: p2 as u16,
+                offset: u16::from(p2),
             }),
             _ => None,
         }

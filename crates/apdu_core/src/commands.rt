@@ -18,7 +18,7 @@ use crate::select::{Returned, Selector, parse_select};
 use card_rules::Sw;
 
 /// A command as a value. `expected` is its Le byte: how many bytes of data are wanted, 0 for all that there are.
-#[derive(Clone, Copy, Debug, PartialEq, Eq)]
+#[derive(Clone, Copy, PartialEq, Eq)]
 pub enum Command<'a> {
     /// SELECT (ISO/IEC 7816-4, 11.2.2), with a template in return or with no data.
     Select {

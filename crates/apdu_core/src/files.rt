@@ -11,7 +11,7 @@ use byteorder::{BigEndian, ByteOrder};
 use card_rules::Sw;
 
 /// The file that a command on files is about.
-#[derive(Clone, Copy, Debug, PartialEq, Eq)]
+#[derive(Clone, Copy, PartialEq, Eq)]
 pub enum Subject {
     /// The current elementary file, and where none is current the current dedicated file.
     Current,

@@ -45,7 +45,7 @@ impl<'a> CommandBody<'a> {
         ensures form { option_map body_view result ≡ body_of (lc ∷ rest.now) }
         ensures short { IfSome result (λ body. length body.sent.now ≤ 255) }
     {
-        let sent_length = lc as usize;
+        let sent_length = usize::from(lc);
         if sent_length == 0 {
             None
         } else if rest.len() == sent_length {

@@ -11,7 +11,7 @@ use crate::form::CommandBody;
 use card_rules::Sw;
 
 /// What a command does to the life cycle of a file.
-#[derive(Clone, Copy, Debug, PartialEq, Eq)]
+#[derive(Clone, Copy, PartialEq, Eq)]
 pub enum LifeCycleChange {
     /// DEACTIVATE FILE.
     Deactivate,

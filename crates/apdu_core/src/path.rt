@@ -6,7 +6,7 @@ ghost use Rattle.apdu_core.specs.Selections.{identifiers, identifiers_in, is_pat
 use byteorder::{BigEndian, ByteOrder};
 
 /// A path of 1 to 7 identifiers, each two bytes, the more significant first.
-#[derive(Clone, Copy, Debug, PartialEq, Eq)]
+#[derive(Clone, Copy, PartialEq, Eq)]
 pub struct FilePath<'a> {
     bytes: &'a [u8],
 }
@@ -19,7 +19,7 @@ impl<'a> FilePath<'a> {
             ≡ (if is_path (length bytes.now) then Some (identifiers bytes.now) else None) }
         ensures ranges { IfSome result IsFilePath }
     {
-        if bytes.len() % 2 == 0 && 2 <= bytes.len() && bytes.len() <= 14 {
+        if bytes.len() % 2 == 0 && (2..=14).contains(&bytes.len()) {
             Some(FilePath { bytes })
         } else {
             None

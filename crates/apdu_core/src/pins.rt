@@ -10,7 +10,7 @@ use crate::form::CommandBody;
 use card_rules::Sw;
 
 /// A value that is shown, and the new value of the PIN.
-#[derive(Clone, Copy, Debug, PartialEq, Eq)]
+#[derive(Clone, Copy, PartialEq, Eq)]
 pub struct Replacement<'a> {
     pub shown: &'a [u8; 8],
     pub new: &'a [u8; 8],

@@ -13,7 +13,7 @@ use crate::form::CommandBody;
 use card_rules::Sw;
 
 /// A record by its number, or the current one.
-#[derive(Clone, Copy, Debug, PartialEq, Eq)]
+#[derive(Clone, Copy, PartialEq, Eq)]
 pub enum RecordPlace {
     /// The record that the record pointer stands at.
     CurrentRecord,
@@ -22,7 +22,7 @@ pub enum RecordPlace {
 }
 
 /// How a command names a record.
-#[derive(Clone, Copy, Debug, PartialEq, Eq)]
+#[derive(Clone, Copy, PartialEq, Eq)]
 pub enum RecordChoice {
     /// The one after the current record.
     Next,
@@ -33,7 +33,7 @@ pub enum RecordChoice {
 }
 
 /// Which way a search goes from the record that it begins at.
-#[derive(Clone, Copy, Debug, PartialEq, Eq)]
+#[derive(Clone, Copy, PartialEq, Eq)]
 pub enum Direction {
     /// Up to the last record.
     Forward,

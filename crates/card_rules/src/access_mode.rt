@@ -7,7 +7,7 @@ ghost use Rattle.card_rules.specs.Access.{bit_number, flag_of, is_set, set_down_
 use bitflags::{Flag, Flags, bitflag_items};
 
 /// What a bit of the access mode byte stands for. A bit of a DF's rule and one of an EF's rule may have one number.
-#[derive(Clone, Copy, Debug, PartialEq, Eq)]
+#[derive(Clone, Copy, Debug)]
 pub enum AccessBit {
     /// Bit 7: DELETE FILE of the file itself.
     DeleteSelf,
@@ -32,7 +32,7 @@ pub enum AccessBit {
 }
 
 /// The access mode byte of a rule in compact format: which operations the rule has a condition for.
-#[derive(Clone, Copy, Debug, PartialEq, Eq)]
+#[derive(Clone, Copy, PartialEq, Eq)]
 pub struct AccessMode(u8);
 
 bitflag_items! {

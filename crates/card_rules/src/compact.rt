@@ -47,7 +47,7 @@ impl Condition {
 
 /// An access rule in compact format: an access mode byte with bit 8 clear, and a condition byte for each of its set
 /// bits, from bit 7 down (ISO/IEC 7816-4, 9.3.3).
-#[derive(Debug, Drop)]
+#[derive(Drop)]
 pub struct Compact {
     bytes: ArrayVec<u8, 8>,
 }

@@ -4,7 +4,7 @@ ghost use Rattle.std.specs.Prelude.{◌≡◌, Some};
 ghost use Rattle.card_rules.specs.LifeCycle.{life_cycle_at, life_cycle_byte, state_after};
 
 /// The life cycle status of a file (ISO/IEC 7816-4, 7.4.10).
-#[derive(Clone, Copy, Debug, PartialEq, Eq)]
+#[derive(Clone, Copy, PartialEq, Eq)]
 pub enum LifeCycle {
     Creation,
     Initialisation,
@@ -14,7 +14,7 @@ pub enum LifeCycle {
 }
 
 /// A command that changes the life cycle status of a file (ISO/IEC 7816-9).
-#[derive(Clone, Copy, Debug, PartialEq, Eq)]
+#[derive(Clone, Copy)]
 pub enum LifeCycleCommand {
     /// ACTIVATE FILE.
     Activate,

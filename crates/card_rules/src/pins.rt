@@ -6,7 +6,7 @@ ghost use Rattle.card_rules.specs.Pins.{IsPinNumber, no_pins, has_pin, with_pin,
 use std::marker::Model;
 
 /// The number of a PIN, 1 to 8.
-#[derive(Clone, Copy, Debug, PartialEq, Eq)]
+#[derive(Clone, Copy)]
 pub struct PinNumber {
     number: u8,
 }
@@ -30,7 +30,7 @@ impl PinNumber {
         ensures valid { IsSome result ↔ IsPinNumber number }
         ensures value { IfSome result (λ pin. pin ≡ number) }
     {
-        if 1 <= number && number <= 8 {
+        if (1..=8).contains(&number) {
             Some(PinNumber { number })
         } else {
             None
@@ -55,7 +55,7 @@ impl PinNumber {
 }
 
 /// The set of PINs that were verified in a session (ISO/IEC 7816-4, 11.5: the security status).
-#[derive(Clone, Copy, Debug, PartialEq, Eq)]
+#[derive(Clone, Copy, PartialEq, Eq)]
 pub struct Verified {
     marks: [bool; 8],
 }

@@ -155,7 +155,7 @@ fn reader_end_has_its_commands_answered(rt: HostRuntime) -> Result<(), Fail> {
 fn longest_command_goes_in_a_chain(rt: HostRuntime) -> Result<(), Fail> {
     let mut reader = ReaderEnd::new();
     let begins = match reader.send(&[0xAA; 261]) {
-        Next::Send(block) => block.len() == 258
+        Next::Send(block) => block.as_slice().len() == 258
             && block.as_slice().starts_with(&[0x00, 0x20, 0xFE]),
         _ => false,
     };
@@ -173,7 +173,7 @@ fn card_takes(block: &[u8]) -> bool {
     let mut out = BlockBytes::new();
     let mut card = CardEnd::new();
     match card.take(block, &mut out) {
-        Action::Reply => 4 <= out.len(),
+        Action::Reply => 4 <= out.as_slice().len(),
         Action::Run => card.waiting(),
     }
 }
