@@ -1,7 +1,7 @@
 //! What can be wrong with a template.
 
 /// Why a text is no template of file control parameters. Of several faults the least is reported.
-#[derive(Clone, Copy, Debug, PartialEq, Eq)]
+#[derive(Clone, Copy, PartialEq, Eq)]
 pub enum FcpFault {
     /// The text isn't tag 62, a length byte and objects that fill it exactly.
     Shape = 1,

@@ -6,7 +6,7 @@ use card_rules::{Compact, LifeCycle};
 use std::marker::Model;
 
 /// The file control parameters of a file. The name is borrowed from the text that it was read from.
-#[derive(Debug, Drop)]
+#[derive(Drop)]
 pub struct Fcp<'a> {
     pub identifier: u16,
     pub life_cycle: LifeCycle,
@@ -15,7 +15,7 @@ pub struct Fcp<'a> {
 }
 
 /// The kind of a file, and what files of this kind alone have.
-#[derive(Debug, Drop)]
+#[derive(Drop)]
 pub enum FileKind<'a> {
     /// A dedicated file, which may have a name.
     Df {
@@ -75,7 +75,7 @@ impl<'a> FileKind<'a> {
 }
 
 /// The short identifier of an elementary file.
-#[derive(Clone, Copy, Debug, PartialEq, Eq)]
+#[derive(Clone, Copy)]
 pub enum ShortIdentifier {
     /// Nothing is said of it.
     Absent,
@@ -86,7 +86,7 @@ pub enum ShortIdentifier {
 }
 
 /// The records of an elementary file.
-#[derive(Clone, Copy, Debug, PartialEq, Eq)]
+#[derive(Clone, Copy)]
 pub struct Records {
     /// The number of bytes of all records, 1 to 32,767: a multiple of the record length, up to 254 records.
     pub size: u16,
@@ -97,7 +97,7 @@ pub struct Records {
 }
 
 /// The name of a dedicated file, 1 to 16 bytes.
-#[derive(Debug, Drop)]
+#[derive(Drop)]
 pub struct DfName<'a> {
     bytes: &'a [u8],
 }
@@ -118,7 +118,7 @@ impl<'a> DfName<'a> {
         ensures { result ≡ (if nat_le 1 (length bytes.now) && nat_le (length bytes.now) 16 then Some bytes.now else
             None) }
     {
-        if 1 <= bytes.len() && bytes.len() <= 16 {
+        if (1..=16).contains(&bytes.len()) {
             Some(DfName { bytes })
         } else {
             None

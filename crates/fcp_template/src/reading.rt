@@ -1,6 +1,6 @@
 //! Reading templates.
 
-ghost use Rattle.std.specs.Prelude.{◌≡◌, ◌≢◌, Result, IfOk, IfSome};
+ghost use Rattle.std.specs.Prelude.{◌≡◌, ◌≢◌, ◌%◌, ◌==◌, ◌&&◌, ◌||◌, Result, IfOk, IfSome, is_some, nat_le, not};
 ghost use Rattle.std.specs.Option.{option_copied};
 ghost use Rattle.fcp_template.specs.declared.fault.FcpFault.{FcpFault};
 ghost use Rattle.fcp_template.specs.declared.fcp.Fcp.{Fcp};
@@ -135,8 +135,10 @@ fn fcp_of<'a>(objects: &[Object<'a>]) -> Option<Fcp<'a>>
     ensures value { result ≡ fcp_of objects.now }
     ensures ranges { IfSome result IsCreatable }
 {
-    let descriptor = descriptor_at(objects)?;
-    let identifier = identifier_at(objects)?;
+    let (Some(descriptor), Some(identifier)) = (descriptor_at(objects), identifier_at(objects))
+    else {
+        return None;
+    };
     let kind = kind_of(descriptor, objects)?;
     let life_cycle = life_cycle_of(value_at(objects, Tag::LifeCycleStatus))?;
     let rule = rule_at(objects)?;
@@ -198,12 +200,18 @@ fn df_of<'a>(objects: &[Object<'a>]) -> Option<FileKind<'a>>
     ensures ranges { IfSome result IsKind }
 {
     let name = name_of(value_at(objects, Tag::Name))?;
-    let is_misplaced = has(objects, Tag::ShortFileIdentifier);
-    let is_odd = has(objects, Tag::DataBytes) && data_bytes(objects).is_none();
-    if is_misplaced || is_odd {
+    if has_no_place_in_a_df(objects) {
         return None;
     }
     Some(FileKind::Df { name })
+}
+
+/// Whether there is an object that no DF has: a short identifier, or a number of data bytes of a wrong length.
+fn has_no_place_in_a_df(objects: &[Object<'_>]) -> bool
+    ensures { result ≡ (has objects.now 0x88 || has objects.now 0x80 && not (is_some (data_bytes objects.now))) }
+{
+    has(objects, Tag::ShortFileIdentifier)
+        || has(objects, Tag::DataBytes) && data_bytes(objects).is_none()
 }
 
 /// What makes a transparent file: a size, and no name.
@@ -212,12 +220,13 @@ fn transparent_of<'a>(objects: &[Object<'a>]) -> Option<FileKind<'a>>
     ensures value { result ≡ transparent_of objects.now }
     ensures ranges { IfSome result IsKind }
 {
-    let short = short_of(value_at(objects, Tag::ShortFileIdentifier))?;
-    let size = size_of(data_bytes(objects))?;
-    if has(objects, Tag::Name) {
-        return None;
+    let short = short_of(value_at(objects, Tag::ShortFileIdentifier));
+    match (short, size_of(data_bytes(objects))) {
+        (Some(short), Some(size)) if !has(objects, Tag::Name) => {
+            Some(FileKind::Transparent { short, size })
+        }
+        _ => None,
     }
-    Some(FileKind::Transparent { short, size })
 }
 
 /// What makes a file of records: a size that its records fill, and no name.
@@ -231,8 +240,10 @@ fn record_file_of<'a>(
     ensures value { result ≡ record_file_of structure record_length existing objects.now }
     ensures ranges { IfSome result IsKind }
 {
-    let short = short_of(value_at(objects, Tag::ShortFileIdentifier))?;
-    let size = size_of(data_bytes(objects))?;
+    let short = short_of(value_at(objects, Tag::ShortFileIdentifier));
+    let (Some(short), Some(size)) = (short, size_of(data_bytes(objects))) else {
+        return None;
+    };
     let records = records_of(record_length, existing, size)?;
     if has(objects, Tag::Name) {
         return None;
@@ -280,7 +291,7 @@ fn short_of(value: Option<&[u8]>) -> Option<ShortIdentifier>
         Some([]) => Some(ShortIdentifier::Empty),
         Some([byte]) => {
             let number = *byte / 8;
-            if *byte % 8 == 0 && 1 <= number && number <= 30 {
+            if *byte % 8 == 0 && (1..=30).contains(&number) {
                 Some(ShortIdentifier::Given(number))
             } else {
                 None
@@ -314,11 +325,9 @@ fn size_of(number: Option<u32>) -> Option<u16>
     ensures value { result ≡ size_of number }
     ensures ranges { IfSome result IsSize }
 {
-    let number = number?;
-    if 1 <= number && number <= 32767 {
-        Some(number as u16)
-    } else {
-        None
+    match number {
+        Some(number @ 1..=32767) => Some(number as u16),
+        _ => None,
     }
 }
 
@@ -329,7 +338,7 @@ fn records_of(record_length: u16, existing: Option<u8>, size: u16) -> Option<Rec
     ensures value { result ≡ records_of record_length existing size }
     ensures ranges { IfSome result IsRecords }
 {
-    if record_length < 1 || record_length > 255 || size % record_length != 0 {
+    if !is_filled(size, record_length) {
         return None;
     }
     let capacity = size / record_length;
@@ -337,7 +346,7 @@ fn records_of(record_length: u16, existing: Option<u8>, size: u16) -> Option<Rec
         Some(number) => u16::from(number),
         None => capacity,
     };
-    if capacity < 1 || capacity > 254 || number > capacity {
+    if !can_exist(number, capacity) {
         return None;
     }
     Some(Records {
@@ -345,6 +354,20 @@ fn records_of(record_length: u16, existing: Option<u8>, size: u16) -> Option<Rec
         record_length: record_length as u8,
         existing: number as u8,
     })
+}
+
+/// Whether records of this length, 1 to 255 bytes, fill a file of this size.
+fn is_filled(size: u16, record_length: u16) -> bool
+    ensures { result ≡ (nat_le 1 record_length && nat_le record_length 255 && (size % record_length == 0)) }
+{
+    (1..=255).contains(&record_length) && size % record_length == 0
+}
+
+/// Whether so many records can exist in a file with room for `capacity`, 1 to 254.
+fn can_exist(number: u16, capacity: u16) -> bool
+    ensures { result ≡ (nat_le 1 capacity && nat_le capacity 254 && nat_le number capacity) }
+{
+    (1..=254).contains(&capacity) && number <= capacity
 }
 
 /// The life cycle status in object 8A; a file without it is activated.
