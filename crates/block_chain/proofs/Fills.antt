@@ -13,6 +13,14 @@ use Rattle.block_chain.specs.Changes.{OnlyContent}
 use Rattle.block_chain.specs.laws.Chains.{leads_block, leads_next, leads_small}
 use Rattle.block_chain.specs.laws.Filling.{fill_more}
 
+-- no block is filled yet
+pub none_filled : (m now ps : List ℕ) → now ≡ m → OnlyContent m ps now
+none_filled m now ps same =
+    subst (λ (l : List ℕ). OnlyContent m ps l) (sym same) (record {
+      size = refl;
+      others = λ page place small apart. refl;
+    })
+
 module _ (m : List ℕ) (n : ℕ) (free : HasFree m) (enough : n ≤ length (free_chain m)) (i page : ℕ) (lt : i < n)
     (is : page ≡ slice_index (free_chain m) i) where
   within : i < length (free_chain m)

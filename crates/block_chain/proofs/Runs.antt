@@ -1,11 +1,13 @@
 -- The bytes of a chain in a row, as they are read word by word.
 use Rattle.std.proofs.Common.{◌≡◌, ◌<◌, ◌≤◌, ◌+◌, ◌-◌, ◌*◌, ◌/◌, ◌%◌, ◌++◌, ℕ, List, length, take, drop, slice_index}
-use Rattle.std.proofs.Common.{sym, ◌∙◌, ap, arith, append_assoc, get_or-take}
-use Rattle.std.proofs.lemmas.List.{length-take-le, length-drop}
+use Rattle.std.specs.Prelude.{◌==◌, if◌then◌else◌, Bool}
+use Rattle.std.proofs.lemmas.Bool.Decides.{eqb_tells}
+use Rattle.std.proofs.Common.{sym, ◌∙◌, ap, arith, inl, inr, append_assoc, get_or-take}
+use Rattle.std.proofs.lemmas.List.{append-nil, length-take-le, length-drop}
 use Rattle.std.proofs.lemmas.Grind.{same_number_lists}
 use Rattle.nvm_board.specs.declared.board.TheConstants.{WORDS}
 use Rattle.block_chain.specs.declared.layout.TheConstants.{BLOCK_BYTES, BLOCK_WORDS}
-use Rattle.block_chain.specs.Words.{word, word_bytes}
+use Rattle.block_chain.specs.Words.{link, word, word_bytes}
 use Rattle.block_chain.specs.Chains.{Leads, bytes_of}
 use Rattle.block_chain.specs.Changes.{AppendsSome}
 use Rattle.block_chain.specs.laws.Bytes.{content_word, leads_blocks, length-bytes_of, bytes_run, more_bytes}
@@ -22,6 +24,51 @@ take_twice n k xs fits long =
     get_or-take n (take k xs) i 0 small ∙ get_or-take k xs i 0 (omega (arith, small, fits))
     ∙ sym (get_or-take n xs i 0 small))
 
+-- Bytes of a chain stand in the buffer up to an offset, and this is the block of the byte there.
+pub record IsRead (m ps : List ℕ) (offset count : ℕ) (init : List ℕ) (at page : ℕ) (out : List ℕ) : Type 0 where
+  pub from : offset ≤ at
+  pub within : at ≤ offset + count
+  pub block : page ≡ slice_index ps (at / BLOCK_BYTES)
+  pub so_far : out ≡ init ++ take (at - offset) (drop offset (bytes_of m ps))
+
+-- none are read yet
+pub read_none : (m ps : List ℕ) (offset count : ℕ) (init : List ℕ) (page : ℕ)
+    → page ≡ slice_index ps (offset / BLOCK_BYTES) → IsRead m ps offset count init offset page init
+read_none m ps offset count init page is = record {
+  from = omega arith;
+  within = omega arith;
+  block = is;
+  so_far = (let none : offset - offset ≡ 0 = omega arith in
+      sym (append-nil init) ∙ ap (λ (k : ℕ). init ++ take k (drop offset (bytes_of m ps))) (sym none));
+}
+
+-- all are read
+pub read_all : (m ps : List ℕ) (offset count : ℕ) (init : List ℕ) (at page : ℕ) (out : List ℕ)
+    → IsRead m ps offset count init at page out → offset + count ≤ at
+    → out ≡ init ++ take count (drop offset (bytes_of m ps))
+read_all m ps offset count init at page out read past =
+    let all : at - offset ≡ count = omega (arith, read.within, past) in
+    read.so_far ∙ ap (λ (k : ℕ). init ++ take k (drop offset (bytes_of m ps))) all
+
+-- no bytes were asked for
+pub none_asked : (bytes init : List ℕ) (count : ℕ) → count ≡ 0 → init ≡ init ++ take count bytes
+none_asked bytes init count none = sym (append-nil init) ∙ ap (λ (k : ℕ). init ++ take k bytes) (sym none)
+
+-- and none were appended
+pub none_appended : (init bytes : List ℕ) → AppendsSome init bytes init
+none_appended init bytes = record { some = 0; is = sym (append-nil init) }
+
+-- the block at the next place of a chain, where it is looked up only when a block ends there
+pub next_block : (ps : List ℕ) (i j left page after next : ℕ) → (left ≡ 0 → j ≡ i + 1) → ((left ≡ 0 → ⊥) → j ≡ i)
+    → page ≡ slice_index ps i → after ≡ slice_index ps (i + 1) → next ≡ (if left == 0 then after else page)
+    → next ≡ slice_index ps j
+next_block ps i j left page after next ends goes is is_after told = elim (eqb_tells left 0) [
+  | inl none ↦ told ∙ ap (λ (b : Bool). if b then after else page) none.0 ∙ is_after
+      ∙ ap (slice_index ps) (sym (ends none.1))
+  | inr some ↦ told ∙ ap (λ (b : Bool). if b then after else page) some.0 ∙ is
+      ∙ ap (slice_index ps) (sym (goes some.1))
+]
+
 module _ (m ps : List ℕ) (from offset count : ℕ) (sized : length m ≡ WORDS) (leads : Leads m from ps 0)
     (within : offset + count ≤ BLOCK_BYTES * length ps) where
   abbrev pub rest : List ℕ
@@ -35,23 +82,6 @@ module _ (m ps : List ℕ) (from offset count : ℕ) (sized : length m ≡ WORDS
       let inside : at / BLOCK_BYTES < length ps = omega (arith, lt, within) in
       at_block m now from ps (at / BLOCK_BYTES) page same leads is inside
 
-  -- the bytes of one word more
-  pub appended : (now init out more : List ℕ) (at some page w : ℕ) → now ≡ m → offset ≤ at → at + some ≤ offset + count
-      → at % 4 + some ≤ 4 → page ≡ slice_index ps (at / BLOCK_BYTES) → w ≡ word now page (1 + at / 4 % BLOCK_WORDS)
-      → out ≡ init ++ take (at - offset) rest → more ≡ out ++ take some (drop (at % 4) (word_bytes w))
-      → more ≡ init ++ take (at + some - offset) rest
-  appended now init out more at some page w same low high fits is read so_far pushed =
-      let blocks = leads_blocks m from 0 ps leads in
-      let place : at / BLOCK_BYTES ≡ at / 4 / BLOCK_WORDS = omega arith in
-      let content : w ≡ content_word m ps (at / 4) =
-      read ∙ (λ j. word (same j) ((is ∙ ap (slice_index ps) place) j) (1 + at / 4 % BLOCK_WORDS)) in
-      let run = bytes_run m ps at some sized blocks (omega (arith, high, within)) fits in
-      pushed
-      ∙ (λ j. so_far j ++ take some (drop (at % 4) (word_bytes (content j))))
-      ∙ ap (λ (xs : List ℕ). (init ++ take (at - offset) rest) ++ xs) run
-      ∙ append_assoc init (take (at - offset) rest) (take some (drop at (bytes_of m ps)))
-      ∙ ap (λ (xs : List ℕ). init ++ xs) (sym (more_bytes (bytes_of m ps) offset at some low))
-
   -- some bytes, as an error leaves the buffer
   pub some_bytes : (init out : List ℕ) (at : ℕ) → at ≤ offset + count → out ≡ init ++ take (at - offset) rest
       → AppendsSome init (take count rest) out
@@ -63,3 +93,43 @@ module _ (m ps : List ℕ) (from offset count : ℕ) (sized : length m ≡ WORDS
         is = so_far ∙ ap (λ (xs : List ℕ). init ++ xs)
             (sym (take_twice (at - offset) count rest (omega (arith, high)) (omega (arith, size, all, within))));
       }
+
+  module _ (now init out more : List ℕ) (at some page w : ℕ) (same : now ≡ m)
+      (read : IsRead m ps offset count init at page out) (fits : at % 4 + some ≤ 4) (below : at + some ≤ offset + count)
+      (is : w ≡ word now page (1 + at / 4 % BLOCK_WORDS)) (pushed : more ≡ out ++ take some (drop (at % 4) (word_bytes w)))
+    where
+      -- the bytes of one word more
+      appended : more ≡ init ++ take (at + some - offset) rest
+      appended =
+          let blocks = leads_blocks m from 0 ps leads in
+          let place : at / BLOCK_BYTES ≡ at / 4 / BLOCK_WORDS = omega arith in
+          let content : w ≡ content_word m ps (at / 4) =
+          is ∙ (λ j. word (same j) ((read.block ∙ ap (slice_index ps) place) j) (1 + at / 4 % BLOCK_WORDS)) in
+          let run = bytes_run m ps at some sized blocks (omega (arith, below, within)) fits in
+          pushed
+          ∙ (λ j. read.so_far j ++ take some (drop (at % 4) (word_bytes (content j))))
+          ∙ ap (λ (xs : List ℕ). (init ++ take (at - offset) rest) ++ xs) run
+          ∙ append_assoc init (take (at - offset) rest) (take some (drop at (bytes_of m ps)))
+          ∙ ap (λ (xs : List ℕ). init ++ xs) (sym (more_bytes (bytes_of m ps) offset at some read.from))
+
+      -- and the block of the byte after them
+      pub read_more : (last : List ℕ) (next : ℕ) → last ≡ now → 1 ≤ some → at < offset + count
+          → next ≡ (if (at + some) % BLOCK_BYTES == 0 then link last page else page)
+          → IsRead m ps offset count init (at + some) next more
+      read_more last next still positive lt told =
+          let here = block_here now at page same read.block lt in
+          record {
+            from = omega (arith, read.from);
+            within = below;
+            block = next_block ps (at / BLOCK_BYTES) ((at + some) / BLOCK_BYTES) ((at + some) % BLOCK_BYTES) page
+                (link last page) next
+                (λ ends. omega (arith, positive, fits, ends))
+                (λ goes. omega (arith, fits, goes))
+                read.block
+                (ap (λ (l : List ℕ). link l page) still ∙ here.next) told;
+            so_far = appended;
+          }
+
+      -- an error after them leaves some bytes in the buffer
+      pub some_more : AppendsSome init (take count rest) more
+      some_more = some_bytes init more (at + some) below appended

@@ -1,6 +1,6 @@
 //! Bytes of a chain that are set within a transaction, and of free blocks that are filled before one.
 ghost use Rattle.std.specs.Prelude.{◌≡◌, ◌+◌, ◌-◌, ◌*◌, ◌/◌, ◌<◌, ◌≤◌, ℕ, length, take, replicate, IfOk, OnOk};
-ghost use Rattle.std.specs.Prelude.{slice_index};
+ghost use Rattle.std.specs.Prelude.{slice_index, ◌%◌, ◌==◌, if◌then◌else◌};
 ghost use Rattle.std.specs.Result.{result_err};
 ghost use Rattle.block_chain.specs.declared.layout.TheConstants.{BLOCK_BYTES, BLOCK_WORDS};
 ghost use Rattle.block_chain.specs.Changes.{touched_words};
@@ -9,8 +9,9 @@ ghost use Rattle.undo_journal.specs.Calls.{Changes, ReadsIn, SetsIn};
 ghost use Rattle.block_chain.specs.Chains.{free_chain, bytes_of, IsChain, chain_of, HasFree};
 ghost use Rattle.block_chain.specs.Changes.{OnlyContent, Overwrites};
 ghost use Rattle.block_chain.specs.Parts.{filled_word, byte_over, PutsWord};
-ghost use Rattle.block_chain.specs.Words.{word_bytes, IsBlock};
+ghost use Rattle.block_chain.specs.Words.{link, word_bytes, IsBlock};
 ghost use Rattle.nvm_board.specs.Facts.{address};
+ghost use Rattle.nvm_board.specs.declared.board.TheConstants.{PAGES};
 ghost use Rattle.nvm_board.specs.Torn.{Torn, written};
 ghost use Rattle.undo_journal.specs.Lent.{memory_of};
 ghost use Rattle.undo_journal.specs.Undo.{IsDataAddress};
@@ -78,6 +79,23 @@ fn content<B: Board>(txn: &mut Txn<'_, B>, at: u16) -> Result<u32, StoreErr>
     txn.read(at)
 }
 
+/// The block that holds word k of a chain, by the block of the word before it: where a block ends between them, the
+/// next one.
+fn block_of_word<B: Board>(txn: &mut Txn<'_, B>, page: u16, k: u16) -> Result<u16, StoreErr>
+    requires ready { IsOpen (memory_of txn.old) }
+    requires block { IsBlock page }
+    requires small { link (current (memory_of txn.old)) page < PAGES }
+    ensures page { IfOk result (λ after. after
+        ≡ (if k % BLOCK_WORDS == 0 then link (current (memory_of txn.old)) page else page)) }
+    ensures store { ReadsIn txn.old txn.new (result_err result) }
+{
+    if k % BLOCK_WORDS == 0 {
+        next(txn, page)
+    } else {
+        Ok(page)
+    }
+}
+
 /// Puts bytes in place of those of a chain from an offset on: one set for each touched word, in order. No bytes change
 /// nothing.
 ///
@@ -108,9 +126,7 @@ pub fn set_bytes<B: Board>(
     while k < end {
         put_word(txn, page, k, offset, bytes)?;
         k += 1;
-        if k % BLOCK_WORDS == 0 {
-            page = next(txn, page)?;
-        }
+        page = block_of_word(txn, page, k)?;
     }
     Ok(())
 }

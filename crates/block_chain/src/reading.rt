@@ -1,12 +1,13 @@
 //! Bytes of a chain, read from a store.
 ghost use Rattle.std.specs.Prelude.{◌≡◌, ◌+◌, ◌*◌, ◌/◌, ◌%◌, ◌<◌, ◌≤◌, ◌++◌, length, take, drop, IfOk, OnOk};
-ghost use Rattle.std.specs.Prelude.{slice_index};
+ghost use Rattle.std.specs.Prelude.{slice_index, ◌==◌, if◌then◌else◌};
 ghost use Rattle.std.specs.Result.{result_err};
 ghost use Rattle.arrayvec.specs.ArrayVec.{array_vec_len};
+ghost use Rattle.nvm_board.specs.declared.board.TheConstants.{PAGES};
 ghost use Rattle.undo_journal.specs.Memory.{committed, IsReady};
 ghost use Rattle.undo_journal.specs.Calls.{Reads};
 ghost use Rattle.block_chain.specs.declared.layout.TheConstants.{BLOCK_BYTES, BLOCK_WORDS};
-ghost use Rattle.block_chain.specs.Words.{word, word_bytes, IsBlock};
+ghost use Rattle.block_chain.specs.Words.{link, word, word_bytes, IsBlock};
 ghost use Rattle.block_chain.specs.Chains.{Leads, chain, chain_bytes, chain_of};
 ghost use Rattle.block_chain.specs.Changes.{AppendsSome};
 
@@ -17,11 +18,11 @@ use arrayvec::ArrayVec;
 use undo_journal::{Board, PAGE_WORDS, Store, StoreErr};
 
 /// A byte of a word, 0 the most significant.
-fn byte_of(word: u32, place: usize) -> u8
+fn byte_of(word: u32, place: u16) -> u8
     requires { place < 4 }
     ensures { result ≡ slice_index (word_bytes word) place }
 {
-    word.to_be_bytes()[place]
+    word.to_be_bytes()[usize::from(place)]
 }
 
 /// Block k of a chain, by its first block: one device read a link.
@@ -62,17 +63,44 @@ pub fn byte_at<B: Board>(store: &mut Store<B>, chain: Chain, offset: u16) -> Res
 {
     let page = block_at(store, chain.first, offset / BLOCK_BYTES)?;
     let word = read_word(store, page, offset)?;
-    Ok(byte_of(word, usize::from(offset % WORD_BYTES)))
+    Ok(byte_of(word, offset % WORD_BYTES))
 }
 
 /// Appends some bytes of a word, from a place on.
-fn append_bytes<const N: usize>(out: &mut ArrayVec<u8, N>, word: u32, from: usize, some: usize)
+fn append_bytes<const N: usize>(out: &mut ArrayVec<u8, N>, word: u32, from: u16, some: u16)
     requires within { from + some ≤ 4 }
     requires room { array_vec_len out.old + some ≤ N }
     ensures items { out.new.items ≡ out.old.items ++ take some (drop from (word_bytes word)) }
 {
     for i in 0..some {
         out.push(byte_of(word, from + i));
+    }
+}
+
+/// How many of the bytes from an offset on lie in its word, below an end.
+fn bytes_in_word(at: u16, end: u16) -> u16
+    requires { at < end }
+    ensures some { 1 ≤ result }
+    ensures word { at % 4 + result ≤ 4 }
+    ensures end { at + result ≤ end }
+{
+    (WORD_BYTES - at % WORD_BYTES).min(end - at)
+}
+
+/// The block that holds the byte at an offset of a chain, by the block of the byte before it: where a block ends
+/// between them, the next one.
+fn block_of_byte<B: Board>(store: &mut Store<B>, page: u16, at: u16) -> Result<u16, StoreErr>
+    requires ready { IsReady store.old }
+    requires block { IsBlock page }
+    requires small { link (committed store.old) page < PAGES }
+    ensures page { IfOk result (λ next. next
+        ≡ (if at % BLOCK_BYTES == 0 then link (committed store.old) page else page)) }
+    ensures store { Reads store.old store.new (result_err result) }
+{
+    if at % BLOCK_BYTES == 0 {
+        read_link(store, page)
+    } else {
+        Ok(page)
     }
 }
 
@@ -107,12 +135,10 @@ pub fn read_bytes<B: Board, const N: usize>(
     let mut at = offset;
     while at < end {
         let word = read_word(store, page, at)?;
-        let some = (WORD_BYTES - at % WORD_BYTES).min(end - at);
-        append_bytes(out, word, usize::from(at % WORD_BYTES), usize::from(some));
+        let some = bytes_in_word(at, end);
+        append_bytes(out, word, at % WORD_BYTES, some);
         at += some;
-        if at % BLOCK_BYTES == 0 {
-            page = read_link(store, page)?;
-        }
+        page = block_of_byte(store, page, at)?;
     }
     Ok(())
 }

@@ -116,7 +116,3 @@ more_bytes xs offset at some from =
         let place : offset + (at - offset + i) ≡ at + i = omega (arith, from) in
         get_or-drop (at - offset) (drop offset xs) i 0 ∙ get_or-drop offset xs (at - offset + i) 0
         ∙ ap (slice_index xs) place ∙ sym (get_or-drop at xs i 0))
-
--- no bytes at all
-pub take_none : (xs : List ℕ) (n : ℕ) → n ≡ 0 → take n xs ≡ []
-take_none xs n none = ap (λ (k : ℕ). take k xs) none

@@ -1,7 +1,7 @@
 -- What chains, their bytes and a layout depend on, and so what leaves them as they are.
 use Rattle.std.specs.Prelude.{◌≡◌, ◌≢◌, ◌⊎◌, ◌<◌, ◌≤◌, ◌+◌, ◌-◌, ◌*◌, ◌/◌, ◌%◌, ℕ, zero, suc, List, [], ◌∷◌, ◌++◌}
 use Rattle.std.specs.Prelude.{length}
-use Rattle.std.specs.Prelude.{slice_index, slice_index_or, slice_set, take, All}
+use Rattle.std.specs.Prelude.{slice_index, slice_index_or, slice_set, All}
 use Rattle.std.proofs.Common.{refl, sym, ◌∙◌, ap, ap₂, subst, arith, inl, inr, ⊎_elim}
 use Rattle.std.proofs.Math.ListN.{length-set}
 use Rattle.std.proofs.lemmas.Grind.{same_number_lists}
@@ -13,15 +13,15 @@ use Rattle.block_chain.specs.declared.chain.Extent.{Extent}
 use Rattle.block_chain.specs.Words.{word, link, page_words, word_bytes, IsBlock}
 use Rattle.block_chain.specs.Counts.{count, NoneTwice, IsNotIn}
 use Rattle.block_chain.specs.Chains.{Leads, free_chain, bytes_of}
-use Rattle.block_chain.specs.Changes.{OnlyLinks, OnlyContent, Overwrites, KeepsBlocks, overwrite}
+use Rattle.block_chain.specs.Changes.{OnlyLinks, OnlyContent, KeepsBlocks}
 use Rattle.block_chain.specs.Layout.{blocks_of, laid_out, IsExtent, AreLaid, SameBytes}
 use Rattle.block_chain.specs.laws.Words.{word-set_other, length-page_words, index-page_words}
-use Rattle.block_chain.specs.laws.Counts.{count-nil, count-other, count-append, count-index, count-split}
+use Rattle.block_chain.specs.laws.Counts.{count-nil, count-other, count-append, count-index}
 use Rattle.block_chain.specs.laws.Chains.{leads_same, pages_are}
 use Rattle.block_chain.specs.laws.Bytes.{AreBlocks, leads_blocks, block_in, content_word, index-bytes_of}
 use Rattle.block_chain.specs.laws.Bytes.{length-bytes_of}
 use Rattle.block_chain.specs.laws.Laying.{pages_most, leads_count, laid_count, laid_out-nil, laid_out-cons}
-use Rattle.block_chain.specs.laws.Extents.{all_right, all_around, count-around, count_extent}
+use Rattle.block_chain.specs.laws.Extents.{count_extent}
 
 -- The words of a page depend on themselves alone.
 pub page_words_same : (m after : List ℕ) (page : ℕ) → address page PAGE_WORDS ≤ length m → length after ≡ length m
@@ -158,53 +158,6 @@ extent_bytes m after ps e sized is only apart = (
   bytes_kept m after ps (blocks_of m e) sized (leads_blocks m _ 0 (blocks_of m e) is.leads) only apart,
 )
 
--- The bytes of an extent are overwritten: the layout, the free chain and the bytes of all other extents stay.
-module _ (m after : List ℕ) (xs ys : List Extent) (e : Extent) (laid : AreLaid m (xs ++ e ∷ ys)) where
-  is_extent : IsExtent m e
-  is_extent = all_right (IsExtent m) xs (e ∷ ys) laid.each 0 e (omega arith)
-
-  pub laid_overwritten : (offset : ℕ) (bytes : List ℕ) → Overwrites m (blocks_of m e) offset bytes after
-      → AreLaid after (xs ++ e ∷ ys) × (free_chain after ≡ free_chain m)
-      × (bytes_of after (blocks_of after e) ≡ overwrite (bytes_of m (blocks_of m e)) offset bytes)
-  laid_overwritten offset bytes over =
-      let own = leads_blocks m _ 0 (blocks_of m e) is_extent.leads in
-      let kept = laid_kept m after (xs ++ e ∷ ys) (blocks_of m e) laid over.only (no_header (blocks_of m e) own) in
-      let blocks = (extent_kept m after e is_extent (λ q some. over.only.others q 0 (omega arith) (inl refl))).1 in
-      (kept.0, kept.1, ap (bytes_of after) blocks ∙ over.content)
-
-  pub others_overwritten : (offset : ℕ) (bytes : List ℕ) → length m ≡ WORDS
-      → Overwrites m (blocks_of m e) offset bytes after
-      → All (SameBytes m after) (xs ++ ys)
-  others_overwritten offset bytes sized over i d lt =
-      let others = all_around (IsExtent m) xs ys e laid.each in
-      extent_bytes m after (blocks_of m e) (slice_index_or (xs ++ ys) i d) sized (others i d lt) over.only (λ q some.
-      let own = count_extent m q (xs ++ ys) i d lt in
-      let all = count-around m xs ys e q in
-      let most = laid.once q in
-      let parts = count-append q (free_chain m) (laid_out m (xs ++ e ∷ ys)) in
-      omega (arith, own, all, most, parts, some))
-
--- Bytes of free blocks are set: the layout, the free chain and the bytes of all extents stay.
-pub laid_filled : (m after : List ℕ) (es : List Extent) (n : ℕ) → length m ≡ WORDS → AreLaid m es
-    → OnlyContent m (take n (free_chain m)) after
-    → AreLaid after es × (free_chain after ≡ free_chain m) × All (SameBytes m after) es
-laid_filled m after es n sized laid only =
-    let ps = free_chain m in
-    let kept = laid_kept m after es (take n ps) laid only (
-    let none = no_header ps (leads_blocks m _ 0 ps laid.free) in
-    let split = count-split HEADER_PAGE n ps in
-    omega (arith, none, split)) in (
-      kept.0,
-      kept.1,
-      λ i d lt. extent_bytes m after (take n ps) (slice_index_or es i d) sized (laid.each i d lt) only
-          (λ q some.
-          let own = count_extent m q es i d lt in
-          let most = laid.once q in
-          let parts = count-append q ps (laid_out m es) in
-          let split = count-split q n ps in
-          omega (arith, own, most, parts, split, some)),
-    )
-
 -- Only links change: extents whose blocks stay keep their bytes.
 pub linked_bytes : (m after ps : List ℕ) (es : List Extent) → length m ≡ WORDS → All (IsExtent m) es
     → OnlyLinks m ps after
@@ -228,14 +181,6 @@ set_elsewhere m page place w small outside differs = record {
       (λ (away : page ≢ HEADER_PAGE). inl (λ is. away (sym is)))
       (λ (apart : place ≢ FREE_HEAD_WORD). inr (λ is. apart (sym is)))
       differs);
-}
-
--- one change elsewhere after another
-pub elsewhere_then : (a b c : List ℕ) → KeepsBlocks a b → KeepsBlocks b c → KeepsBlocks a c
-elsewhere_then a b c first rest = record {
-  size = rest.size ∙ first.size;
-  words = λ page place block small. rest.words page place block small ∙ first.words page place block small;
-  head = rest.head ∙ first.head;
 }
 
 -- Words change elsewhere: the layout, the free chain and the bytes of all extents stay.

@@ -1,8 +1,8 @@
 -- What giving back and taking make of a layout.
-use Rattle.std.specs.Prelude.{◌≡◌, ◌<◌, ◌≤◌, ◌-◌, ℕ, zero, suc, List, [], ◌∷◌, ◌++◌, length, slice_index}
+use Rattle.std.specs.Prelude.{◌≡◌, ◌<◌, ◌≤◌, ◌-◌, ℕ, zero, suc, List, ◌∷◌, ◌++◌, length, slice_index}
 use Rattle.std.specs.Prelude.{take, drop, All}
 use Rattle.std.proofs.Common.{sym, ◌∙◌, ap, subst, arith, inr, get_or-take, length-drop}
-use Rattle.std.proofs.lemmas.List.{length-append, length-take-le, append-nil}
+use Rattle.std.proofs.lemmas.List.{length-append, length-take-le}
 use Rattle.std.proofs.lemmas.List.Elements.{All-append}
 use Rattle.nvm_board.specs.declared.board.TheConstants.{WORDS}
 use Rattle.block_chain.specs.declared.layout.TheConstants.{FREE_HEAD}
@@ -15,8 +15,7 @@ use Rattle.block_chain.specs.Layout.{blocks_of, laid_out, chains_of, IsExtent, A
 use Rattle.block_chain.specs.laws.Chains.{chain_is}
 use Rattle.block_chain.specs.laws.Counts.{count-append, count-split}
 use Rattle.block_chain.specs.laws.Bytes.{leads_blocks}
-use Rattle.block_chain.specs.laws.Laying.{laid_out-cons, laid_out-nil}
-use Rattle.block_chain.specs.laws.Extents.{all_left, all_right, all_around, count-around, length-around, laid_chains_of}
+use Rattle.block_chain.specs.laws.Extents.{all_left, all_right, count-around, length-around, laid_chains_of}
 use Rattle.block_chain.specs.laws.Footprints.{extents_kept, linked_bytes, bytes_linked}
 
 -- Some extents are given back: the others are laid out with the free chain, which has their blocks in front.
@@ -70,34 +69,6 @@ module _ (m after : List ℕ) (es given kept : List Extent) (before : AreLaid m 
       )
 
 module _ (m : List ℕ) (xs ys : List Extent) (e : Extent) where
-  -- one extent, and the others
-  pub split_one : AreSplit m (xs ++ e ∷ ys) (e ∷ []) (xs ++ ys)
-  split_one =
-      let one : laid_out m (e ∷ []) ≡ blocks_of m e ++ [] =
-      laid_out-cons m e [] ∙ ap (λ (ps : List ℕ). blocks_of m e ++ ps) (laid_out-nil m) in
-      let long = ap (λ (ps : List ℕ). length ps) (one ∙ append-nil (blocks_of m e)) in
-      let around = length-around m xs ys e in
-      record {
-        blocks = λ q.
-            let own = ap (count q) (one ∙ append-nil (blocks_of m e)) in
-            let all = count-around m xs ys e q in
-            omega (arith, own, all);
-        size = omega (arith, long, around);
-      }
-
-  -- One extent is given back: the others are laid out with the free chain, which has its blocks in front.
-  pub laid_given : (after : List ℕ) → AreLaid m (xs ++ e ∷ ys) → GivesBack m (e.chain ∷ []) after
-      → AreLaid after (xs ++ ys) × (free_chain after ≡ blocks_of m e ++ free_chain m)
-      × (laid_out after (xs ++ ys) ≡ laid_out m (xs ++ ys))
-  laid_given after before back =
-      let others = all_around (IsExtent m) xs ys e before.each in
-      let all = given_laid m after (xs ++ e ∷ ys) (e ∷ []) (xs ++ ys) before split_one others back in
-      let free = given_free m after (xs ++ e ∷ ys) (e ∷ []) (xs ++ ys) before split_one others back in
-      let one : laid_out m (e ∷ []) ≡ blocks_of m e =
-      laid_out-cons m e [] ∙ ap (λ (ps : List ℕ). blocks_of m e ++ ps) (laid_out-nil m)
-      ∙ append-nil (blocks_of m e) in
-      (all.0, free ∙ ap (λ (ps : List ℕ). ps ++ free_chain m) one, all.1)
-
   -- n blocks are taken: they are an extent beside the others.
   pub laid_taken : (n : ℕ) (after : List ℕ) → AreLaid m (xs ++ ys) → 1 ≤ n → n ≤ length (free_chain m)
       → Takes m n e.chain after → e.blocks ≡ n

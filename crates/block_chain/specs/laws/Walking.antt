@@ -124,11 +124,6 @@ module _ (m : List ℕ) (from n page : ℕ) (old new : List ℕ) (walked : HasWa
       rest_of less ∙ ap (λ (k : ℕ). pages_from m n from ++ pages_from m k page) one
       ∙ ap (λ (ps : List ℕ). pages_from m n from ++ ps) (pages_some m (BLOCKS - n - 1) page some)
 
-  pub stale_block : n < BLOCKS → page ≢ 0 → (IsBlock page → ⊥) → (IsFresh m old from → ⊥)
-  stale_block fits some outside fresh =
-      let family : List ℕ → Type 0 = λ ps. Leads m from ps 0 in
-      outside (leads_on m from 0 page (pages_from m n from) _ (subst family (next_of fits some) fresh.leads)).0
-
   pub stale_mark : n < BLOCKS → page ≢ 0 → IsBlock page → marked new page ≢ 0 → (IsFresh m old from → ⊥)
   stale_mark fits some block mark fresh =
       let whole : count page (chain m from) ≡ count page (pages_from m n from ++ page ∷ pages_from m (BLOCKS - n - 1)

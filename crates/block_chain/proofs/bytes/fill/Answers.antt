@@ -1,4 +1,4 @@
-use Rattle.std.proofs.Common.{rules, ◌≡◌, ◌+◌, ◌<◌, ℕ, List, take, refl, sym, ◌∙◌, subst, arith}
+use Rattle.std.proofs.Common.{◌≡◌, ◌+◌, ◌<◌, ℕ, List, take, sym, ◌∙◌, subst, arith}
 use Rattle.undo_journal.specs.Memory.{committed}
 use Rattle.block_chain.specs.Chains.{free_chain}
 use Rattle.block_chain.specs.Changes.{OnlyContent}
@@ -6,9 +6,9 @@ use Rattle.block_chain.specs.Parts.{filled_word}
 use Rattle.block_chain.specs.laws.Bytes.{leads_blocks}
 use Rattle.block_chain.specs.laws.Chains.{head_small, leads_first}
 use Rattle.block_chain.specs.laws.Filling.{AreFilled, filled_more, first_filled}
-use Rattle.block_chain.proofs.Fills.{block_to_fill, only_filled, next_to_fill, next_small}
+use Rattle.block_chain.proofs.Fills.{block_to_fill, none_filled, only_filled, next_to_fill, next_small}
 use Rattle.undo_journal.specs.laws.Exits.{none_ok}
-use Rattle.undo_journal.specs.laws.Told.{changes_handed, changes_on, reads_after, reads_change}
+use Rattle.undo_journal.specs.laws.Told.{changes_handed, changes_on, changes_within, reads_after, reads_change}
 use Rattle.block_chain.proofs.bytes.fill.Goals as goal
 
 pub read_head-requires-clause-small : goal.read_head-requires-clause-small
@@ -19,9 +19,8 @@ loop-i-init g c =
     let m = committed c.args.store.now in
     let read = c.read_head.ensures.store.only.keeps.committed_words in
     record {
-      only = (
-          let family : List ℕ → Type 0 = λ l. OnlyContent m (take c.args.n (free_chain m)) l in
-          subst family (sym read) (record { size = refl; others = λ page place small apart. refl }));
+      in_range = omega arith;
+      only = none_filled m _ (take c.args.n (free_chain m)) read;
       filled = λ k place below low high. absurd (omega (arith, below));
       page = c.in_ok-page.ensures.page ∙ leads_first m _ (free_chain m) c.requires.free.leads;
       changes = reads_change 0 _ _ _ c.requires.ready.idle c.in_ok-page.ensures.store;
@@ -87,6 +86,7 @@ loop-i-preserved g c =
     c.loop-i.invariant.changes.ready.usable.committed_size c.in_ok-fill_block.ensures.done
     (subst by_word (sym word) c.loop-i.invariant.filled) in
     record {
+      in_range = omega (arith, lt);
       only = subst family (sym read) only;
       filled = subst by_byte word (subst by_words (sym read) filled);
       page = c.in_ok-page-2.ensures.page ∙ next_to_fill m c.args.n c.requires.free c.requires.enough c.loop-i._i
@@ -100,7 +100,7 @@ pub returns-clause-done : goal.returns-clause-done
 returns-clause-done g c =
     let m = committed c.args.store.now in
     let ps = free_chain m in
-    let all : c.loop-i._i ≡ c.args.n = search rules in
+    let all : c.loop-i._i ≡ c.args.n = omega (arith, c.loop-i-test.false, c.loop-i.invariant.in_range) in
     let family : ℕ → Type 0 = λ k. AreFilled (committed c.loop-i.store) (take k ps) (filled_word c.args.byte) in
     first_filled (committed c.loop-i.store) ps c.args.n c.args.byte c.loop-i.invariant.changes.ready.usable.committed_size
     (leads_blocks m _ 0 ps c.requires.free.leads) c.requires.enough (omega arith)
@@ -134,3 +134,12 @@ returns-in_err-page-2-clause-store g c =
     (reads_after _ _ _ _ _
     (changes_on c.loop-i._i 1 _ _ _ _ _ (omega (arith, lt)) c.loop-i.invariant.changes c.in_ok-fill_block.ensures.store)
     c.in_err-page-2.ensures.store)
+
+pub returns-in_err-page-clause-any_exit : goal.returns-in_err-page-clause-any_exit
+returns-in_err-page-clause-any_exit g c = none_filled _ _ _ c.read_head.ensures.store.only.keeps.committed_words
+
+pub returns-clause-any_exit : goal.returns-clause-any_exit
+returns-clause-any_exit g c = c.loop-i.invariant.only
+
+pub returns-clause-store : goal.returns-clause-store
+returns-clause-store g c = changes_within c.loop-i._i _ _ _ _ c.loop-i.invariant.in_range c.loop-i.invariant.changes

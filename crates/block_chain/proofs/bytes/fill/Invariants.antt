@@ -1,4 +1,4 @@
-use Rattle.std.proofs.Common.{◌≡◌, slice_index, take, None}
+use Rattle.std.proofs.Common.{◌≡◌, ◌≤◌, slice_index, take, None}
 use Rattle.undo_journal.specs.Memory.{committed}
 use Rattle.undo_journal.specs.Calls.{Changes}
 use Rattle.block_chain.specs.Chains.{free_chain}
@@ -9,6 +9,7 @@ use Rattle.block_chain.proofs.bytes.fill.Given as goal
 
 abbrev pub invariant-loop-i : goal.invariant-loop-i
 invariant-loop-i g l = let m = committed l.fn.store in record {
+  in_range : l._i ≤ l.fn.n;
   only : OnlyContent m (take l.fn.n (free_chain m)) (committed l.store);
   filled : AreFilled (committed l.store) (take l._i (free_chain m)) (filled_word l.fn.byte);
   page : l.page ≡ slice_index (free_chain m) l._i;

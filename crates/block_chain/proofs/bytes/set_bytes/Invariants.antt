@@ -1,20 +1,17 @@
-use Rattle.std.proofs.Common.{◌≡◌, ◌≤◌, ◌-◌, ◌/◌, slice_index}
+use Rattle.std.proofs.Common.{◌≤◌, ◌-◌, ◌/◌}
 use Rattle.undo_journal.specs.Memory.{current, IsOpen}
 use Rattle.undo_journal.specs.Lent.{memory_of}
 use Rattle.undo_journal.specs.Calls.{Sets}
 use Rattle.block_chain.specs.Chains.{chain_of}
-use Rattle.block_chain.specs.laws.Overwriting.{IsPut}
+use Rattle.block_chain.proofs.Puts.{IsPutSoFar}
 use Rattle.block_chain.proofs.bytes.set_bytes.Given as goal
-use Rattle.block_chain.specs.declared.layout.TheConstants.{BLOCK_WORDS}
 
 abbrev pub invariant-loop-k : goal.invariant-loop-k
-invariant-loop-k g l = let m = current (memory_of l.fn.txn) in let ps = chain_of m l.fn.chain in record {
-  from : l.offset / 4 ≤ l.k;
+invariant-loop-k g l = let m = current (memory_of l.fn.txn) in record {
   within : l.k ≤ l.end;
   ready : IsOpen (memory_of l.txn);
   sets : Sets (l.k - l.offset / 4) l.fn.txn l.txn;
-  page : l.page ≡ slice_index ps (l.k / BLOCK_WORDS);
-  put : IsPut m ps l.offset l.bytes l.k (current (memory_of l.txn));
+  put : IsPutSoFar m (chain_of m l.fn.chain) l.offset l.bytes l.k l.page (current (memory_of l.txn));
 }
 
 abbrev pub decreases-loop-k : goal.decreases-loop-k

@@ -1,4 +1,3 @@
-use Rattle.std.proofs.Common.{rules}
 use Rattle.std.proofs.Common.{◌-◌, ◌<◌, ℕ, List, length, slice_index, ◌∙◌, ap, ap₂, arith}
 use Rattle.undo_journal.specs.Memory.{current}
 use Rattle.undo_journal.specs.Lent.{memory_of}
@@ -77,8 +76,4 @@ returns-in_err-last-clause-store g c =
 
 pub returns-clause-store : goal.returns-clause-store
 returns-clause-store g c =
-    record {
-      only = txn_reads_then _ _ _ (txn_reads_then _ _ _ c.head.ensures.store.only c.walk.ensures.store.only) c.next.ensures.store.only;
-      ready = search rules;
-      tells = search rules;
-    }
+    reads_in_on _ _ _ _ (txn_reads_then _ _ _ c.head.ensures.store.only c.walk.ensures.store.only) c.in_ok-rest.ensures.store

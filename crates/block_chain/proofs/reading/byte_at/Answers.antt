@@ -1,4 +1,3 @@
-use Rattle.std.proofs.Common.{rules}
 use Rattle.std.proofs.Common.{◌≡◌, ◌+◌, ◌/◌, ◌%◌, ◌<◌, ℕ, List, length, slice_index, sym, ◌∙◌, ap, ap₂, subst}
 use Rattle.std.proofs.Common.{arith}
 use Rattle.undo_journal.specs.Memory.{committed}
@@ -9,7 +8,7 @@ use Rattle.block_chain.specs.Chains.{chain_of}
 use Rattle.block_chain.specs.laws.Chains.{leads_block}
 use Rattle.block_chain.specs.laws.Bytes.{content_word, leads_blocks, index-bytes_of}
 use Rattle.undo_journal.specs.laws.Exits.{none_ok}
-use Rattle.undo_journal.specs.laws.Told.{reads_handed, reads_on}
+use Rattle.undo_journal.specs.laws.Told.{reads_handed, reads_on, reads_so_far}
 use Rattle.block_chain.proofs.reading.byte_at.Goals as goal
 
 pub read_word-requires-clause-block : goal.read_word-requires-clause-block
@@ -32,8 +31,7 @@ returns-clause-byte g c =
     let words = c.block_at.ensures.store.only.keeps.committed_words in
     let read : c.in_ok-word.word ≡ content_word m ps (offset / 4) =
     c.in_ok-word.ensures.word ∙ ap₂ (λ (l : List ℕ) (q : ℕ). word l q (1 + offset / 4 % BLOCK_WORDS)) words page in
-    let byte : c.from.result ≡ offset % 4 = c.from.ensures in
-    c.byte_of.ensures ∙ ap (slice_index (word_bytes c.in_ok-word.word)) byte
+    c.byte_of.ensures
     ∙ ap (λ (w : ℕ). slice_index (word_bytes w) (offset % 4)) read
     ∙ sym (index-bytes_of m ps offset c.requires.ready.usable.committed_size
     (leads_blocks m _ 0 ps c.requires.leads) c.requires.within)
@@ -54,8 +52,5 @@ returns-in_err-word-clause-store g c =
 
 pub returns-clause-store : goal.returns-clause-store
 returns-clause-store g c =
-    record {
-      only = reads_then _ _ _ c.block_at.ensures.store.only c.read_word.ensures.store.only;
-      ready = search rules;
-      tells = search rules;
-    }
+    reads_so_far _ _ (reads_then _ _ _ c.block_at.ensures.store.only c.read_word.ensures.store.only)
+    c.in_ok-word.ensures.store.ready

@@ -1,5 +1,5 @@
-use Rattle.std.proofs.Common.{rules, ◌≡◌, ◌≢◌, ◌+◌, ◌-◌, ◌<◌, ◌≤◌, ℕ, IsTrue, List, Option, Some, IfSome, length}
-use Rattle.std.proofs.Common.{slice_index, slice_index_or, replicate, refl, sym, ◌∙◌, ap, subst, arith}
+use Rattle.std.proofs.Common.{◌≡◌, ◌≢◌, ◌+◌, ◌-◌, ◌<◌, ◌≤◌, ℕ, IsTrue, List, Option, Some, IfSome, length}
+use Rattle.std.proofs.Common.{slice_index, slice_index_or, replicate, true≢false, refl, sym, ◌∙◌, ap, subst, arith}
 use Rattle.std.proofs.lemmas.List.{get_or-replicate, length-replicate}
 use Rattle.undo_journal.specs.Memory.{committed}
 use Rattle.undo_journal.specs.laws.Calls.{reads_then}
@@ -15,7 +15,7 @@ use Rattle.block_chain.specs.laws.Laying.{laid_short}
 use Rattle.block_chain.specs.laws.Laying.{pages_most}
 use Rattle.block_chain.proofs.walk.lay.Given.{Over}
 use Rattle.undo_journal.specs.laws.Exits.{none_ok}
-use Rattle.undo_journal.specs.laws.Told.{reads_handed, reads_on}
+use Rattle.undo_journal.specs.laws.Told.{reads_handed, reads_on, reads_so_far}
 use Rattle.block_chain.proofs.walk.lay.Goals as goal
 use Rattle.block_chain.proofs.walk.lay.Goals.{then-not-is_extent-via-then-not-is_extent}
 use Rattle.block_chain.proofs.walk.lay.Goals.{then-not-is_extent-via-else-not-is_extent+then-walked-blocks}
@@ -65,8 +65,9 @@ loop-i-init g c =
     let w = subst from head (subst family read walked) in
     let most = pages_most m BLOCKS (slice_index m FREE_HEAD) in
     record {
-      ready = search rules;
+      ready = c.in_ok-walked.ensures.store.ready;
       reads = reads_then _ _ _ c.read.ensures.reads c.walk_over.ensures.store.only;
+      in_range = omega arith;
       most = (let b = w.blocks in omega (arith, b, most));
       free = w.blocks;
       so_far = laid_free m c.args.extents.now
@@ -88,7 +89,7 @@ loop-i-preserved g c =
     λ l. IsWalked l c.from.result c.loop-i.seen c.in-Some-2.walked c.walk_over-in-loop-i.new.seen in
     let start : ℕ → Type 0 = λ p. IsWalked m p c.loop-i.seen c.in-Some-2.walked c.walk_over-in-loop-i.new.seen in
     let w = subst start from (subst family read found) in
-    let yes : IsTrue c.is_extent.result = search rules in
+    let yes : IsTrue c.is_extent.result = c.if-not-is_extent.false in
     let blocks : c.in-Some-2.walked.blocks ≡ e.blocks = (c.is_extent.ensures.0 yes).0 in
     let last : c.in-Some-2.walked.last ≡ e.chain.last = (c.is_extent.ensures.0 yes).1 in
     let extent : IsExtent m e = record {
@@ -101,9 +102,10 @@ loop-i-preserved g c =
     c.walk_over-in-loop-i.new.seen extent w.marks w.fine in
     let count : ℕ → Type 0 = λ k. AreLaidSoFar m es (i + 1) c.walk_over-in-loop-i.new.seen (c.loop-i.blocks + k) in
     record {
-      ready = search rules;
+      ready = c.in_ok-walked-2.ensures.store.ready;
       reads = reads_then _ _ _ c.loop-i.invariant.reads c.walk_over-in-loop-i.ensures.store.only;
-      most = (let fits : c.in-Some-2.walked.blocks ≤ BLOCKS - c.loop-i.blocks = search rules in
+      in_range = omega (arith, lt);
+      most = (let fits : c.in-Some-2.walked.blocks ≤ BLOCKS - c.loop-i.blocks = omega (arith, c.if-walked-blocks.false) in
           let b = c.loop-i.invariant.most in omega (arith, fits, b));
       free = c.loop-i.invariant.free;
       so_far = subst count (sym blocks) more;
@@ -129,18 +131,18 @@ pub returns-then-blocks-ne-BLOCKS-clause-found : goal.returns-then-blocks-ne-BLO
 returns-then-blocks-ne-BLOCKS-clause-found g c = λ laid.
     let m = committed c.args.store.now in
     let es = c.args.extents.now in
-    let all : c.loop-i._i ≡ length es = search rules in
+    let all : c.loop-i._i ≡ length es = omega (arith, c.loop-i-test.false, c.loop-i.invariant.in_range) in
     let family : ℕ → Type 0 = λ k. AreLaidSoFar m es k c.loop-i.seen c.loop-i.blocks in
-    let short : c.loop-i.blocks ≢ BLOCKS = search rules in
+    let short : c.loop-i.blocks ≢ BLOCKS = c.if-blocks-ne-BLOCKS.true in
     laid_short m es c.loop-i.seen c.loop-i.blocks (subst family all c.loop-i.invariant.so_far) short laid
 
 pub returns-clause-found : goal.returns-clause-found
 returns-clause-found g c =
     let m = committed c.args.store.now in
     let es = c.args.extents.now in
-    let all : c.loop-i._i ≡ length es = search rules in
+    let all : c.loop-i._i ≡ length es = omega (arith, c.loop-i-test.false, c.loop-i.invariant.in_range) in
     let family : ℕ → Type 0 = λ k. AreLaidSoFar m es k c.loop-i.seen c.loop-i.blocks in
-    let whole : c.loop-i.blocks ≡ BLOCKS = search rules in (
+    let whole : c.loop-i.blocks ≡ BLOCKS = c.if-blocks-ne-BLOCKS.false in (
       laid_all m es c.loop-i.seen c.loop-i.blocks (subst family all c.loop-i.invariant.so_far) whole,
       c.loop-i.invariant.free,
     )
@@ -167,9 +169,9 @@ returns-then-not-is_extent-clause-found g c = λ laid.
     w.last ∙ ap (λ (k : ℕ). slice_index (chain m e.chain.first) (k - 1)) blocks ∙ sym extent.last in
     let yes : IsTrue c.is_extent.result = c.is_extent.ensures.1 (blocks, last) in
     elim c.then-not-is_extent.branch [
-      | then-not-is_extent-via-then-not-is_extent v ↦ (let no : IsTrue c.is_extent.result → ⊥ = search rules in no yes)
+      | then-not-is_extent-via-then-not-is_extent v ↦ true≢false (sym yes ∙ v.if-not-is_extent.true)
       | then-not-is_extent-via-else-not-is_extent+then-walked-blocks v ↦ (
-          let over : BLOCKS - c.loop-i.blocks < c.in-Some-2.walked.blocks = search rules in
+          let over : BLOCKS - c.loop-i.blocks < c.in-Some-2.walked.blocks = v.if-walked-blocks.true in
           omega (arith, over, fits, blocks))
     ]
 
@@ -196,24 +198,27 @@ returns-in_err-walked-clause-store g c =
 
 pub returns-in-None-clause-store : goal.returns-in-None-clause-store
 returns-in-None-clause-store g c =
-    record {
-      only = reads_then _ _ _ c.read.ensures.reads c.walk_over.ensures.store.only;
-      ready = search rules;
-      tells = search rules;
-    }
+    reads_so_far _ _ (reads_then _ _ _ c.read.ensures.reads c.walk_over.ensures.store.only)
+    c.in_ok-walked.ensures.store.ready
 
 pub returns-in-None-2-clause-store : goal.returns-in-None-2-clause-store
 returns-in-None-2-clause-store g c =
-    record {
-      only = reads_then _ _ _ c.loop-i.invariant.reads c.walk_over-in-loop-i.ensures.store.only;
-      ready = search rules;
-      tells = search rules;
-    }
+    reads_so_far _ _ (reads_then _ _ _ c.loop-i.invariant.reads c.walk_over-in-loop-i.ensures.store.only)
+    c.in_ok-walked-2.ensures.store.ready
 
 pub returns-then-not-is_extent-clause-store : goal.returns-then-not-is_extent-clause-store
 returns-then-not-is_extent-clause-store g c =
-    record {
-      only = reads_then _ _ _ c.loop-i.invariant.reads c.walk_over-in-loop-i.ensures.store.only;
-      ready = search rules;
-      tells = search rules;
-    }
+    reads_so_far _ _ (reads_then _ _ _ c.loop-i.invariant.reads c.walk_over-in-loop-i.ensures.store.only)
+    c.in_ok-walked-2.ensures.store.ready
+
+pub returns-then-blocks-ne-BLOCKS-clause-store : goal.returns-then-blocks-ne-BLOCKS-clause-store
+returns-then-blocks-ne-BLOCKS-clause-store g c = reads_so_far _ _ c.loop-i.invariant.reads c.loop-i.invariant.ready
+
+pub returns-clause-store : goal.returns-clause-store
+returns-clause-store g c = reads_so_far _ _ c.loop-i.invariant.reads c.loop-i.invariant.ready
+
+pub overflow_sub-blocks : goal.overflow_sub-blocks
+overflow_sub-blocks g c = omega (arith, c.loop-i.invariant.most)
+
+pub overflow_add-blocks : goal.overflow_add-blocks
+overflow_add-blocks g c = omega (arith, c.loop-i.invariant.most, c.if-walked-blocks.false)

@@ -10,6 +10,7 @@ abbrev pub invariant-loop-i : goal.invariant-loop-i
 invariant-loop-i g l = let m = committed l.fn.store in record {
   ready : IsReady l.store;
   reads : OnlyReads l.fn.store l.store;
+  in_range : l._i ≤ length l.extents;
   most : l.blocks ≤ BLOCKS;
   free : l.free ≡ length (free_chain m);
   so_far : AreLaidSoFar m l.extents l._i l.seen l.blocks;

@@ -1,5 +1,5 @@
-use Rattle.std.proofs.Common.{rules, ◌≡◌, ◌≢◌, ◌+◌, ◌-◌, ◌*◌, ◌<◌, ℕ, List, length, slice_index, slice_set, IsTrue}
-use Rattle.std.proofs.Common.{sym, ◌∙◌, ap, subst, arith}
+use Rattle.std.proofs.Common.{◌≡◌, ◌≢◌, ◌+◌, ◌-◌, ◌*◌, ◌<◌, ℕ, List, length, slice_index, slice_set}
+use Rattle.std.proofs.Common.{true≢false, sym, ◌∙◌, ap, subst, arith}
 use Rattle.nvm_board.specs.Facts.{address}
 use Rattle.undo_journal.specs.Memory.{committed, current}
 use Rattle.undo_journal.specs.laws.Calls.{reads_then, reads_same}
@@ -10,7 +10,7 @@ use Rattle.block_chain.specs.declared.layout.TheConstants.{BLOCKS, FIRST_BLOCK_P
 use Rattle.block_chain.specs.laws.Walking.{HasWalked, walked_none, walked_more, walked_all, walked_fresh}
 use Rattle.block_chain.specs.laws.Walking.{stale_long, stale_next, last_more, pages_zero}
 use Rattle.undo_journal.specs.laws.Exits.{none_ok}
-use Rattle.undo_journal.specs.laws.Told.{reads_handed, reads_on}
+use Rattle.undo_journal.specs.laws.Told.{reads_handed, reads_on, reads_so_far}
 use Rattle.block_chain.proofs.walk.walk_over.Goals as goal
 use Rattle.block_chain.proofs.walk.walk_over.Goals.{then-loop-blocks-test+else-page-ne0, else-loop-blocks-test}
 use Rattle.nvm_board.specs.declared.board.TheConstants.{PAGE_WORDS}
@@ -30,10 +30,11 @@ loop-blocks-preserved g c =
     let page = c.loop-blocks.page in
     let invariant = c.loop-blocks.invariant in
     let fits : c.loop-blocks.blocks < BLOCKS = omega (arith, c.loop-blocks-test.true) in
-    let some : page ≢ 0 = search rules in
+    let some : page ≢ 0 = c.if-page-ne0.true in
     let fit : IsBlock page × (marked c.loop-blocks.seen page ≡ 0) =
-    (let yes : IsTrue c.mark.result = search rules in c.mark.ensures.new.0 yes) in
-    let seen : c.mark.new.seen ≡ slice_set c.loop-blocks.seen (page - FIRST_BLOCK_PAGE) 1 = search rules in
+    c.mark.ensures.new.0 c.if-not-mark.false in
+    let seen : c.mark.new.seen ≡ slice_set c.loop-blocks.seen (page - FIRST_BLOCK_PAGE) 1 =
+    c.mark.ensures.marks c.if-not-mark.false in
     let next : c.in_ok-page.page ≡ link m page =
     (let at : PAGE_WORDS * page ≡ address page 0 = omega arith in c.in_ok-page.ensures.word
     ∙ ap (λ (k : ℕ). slice_index (current c.loop-blocks.store) k) at)
@@ -41,7 +42,7 @@ loop-blocks-preserved g c =
     let more = walked_more m c.args.first c.loop-blocks.blocks page c.args.seen.now c.loop-blocks.seen invariant.walked
     fits some fit.0 fit.1 in
     record {
-      ready = search rules;
+      ready = (c.in_ok-page.ensures.store invariant.ready.idle).ready;
       reads = reads_then _ _ _ invariant.reads c.read.ensures.reads;
       within = omega (arith, fits);
       walked = (let family : ℕ → List ℕ
@@ -56,25 +57,24 @@ returns-then-not-mark-clause-stale g c = λ _.
     let m = committed c.args.store.now in
     let page = c.loop-blocks.page in
     let fits : c.loop-blocks.blocks < BLOCKS = omega (arith, c.loop-blocks-test.true) in
-    let some : page ≢ 0 = search rules in
+    let some : page ≢ 0 = c.if-page-ne0.true in
     stale_next m c.args.first c.loop-blocks.blocks page c.args.seen.now c.loop-blocks.seen
-    c.loop-blocks.invariant.walked fits some (λ fit. let yes : IsTrue c.mark.result = c.mark.ensures.new.1 fit in
-    cc)
+    c.loop-blocks.invariant.walked fits some (λ fit. true≢false (sym (c.mark.ensures.new.1 fit) ∙ c.if-not-mark.true))
 
 pub returns-then-page-ne0-2-clause-stale : goal.returns-then-page-ne0-2-clause-stale
 returns-then-page-ne0-2-clause-stale g c = λ _.
     let m = committed c.args.store.now in
     let page = c.loop-blocks.page in
-    let some : page ≢ 0 = search rules in
+    let some : page ≢ 0 = c.if-page-ne0-2.true in
     stale_long m c.args.first c.loop-blocks.blocks page c.args.seen.now c.loop-blocks.seen
     c.loop-blocks.invariant.walked (elim c.loop-blocks-test.branch [
-      | then-loop-blocks-test+else-page-ne0 w ↦ absurd (some (let none : page ≡ 0 = search rules in none))
+      | then-loop-blocks-test+else-page-ne0 w ↦ absurd (some (w.if-page-ne0.false))
       | else-loop-blocks-test w ↦ omega (arith, w.loop-blocks-test.false, c.loop-blocks.invariant.within)
     ]) some
 
 pub returns-clause-walked : goal.returns-clause-walked
 returns-clause-walked g c =
-    let none : c.loop-blocks.page ≡ 0 = search rules in
+    let none : c.loop-blocks.page ≡ 0 = c.if-page-ne0-2.false in
     let invariant = c.loop-blocks.invariant in
     let all = walked_all
     (committed c.args.store.now) c.args.first c.loop-blocks.blocks _ _ _ invariant.walked invariant.within none in
@@ -97,3 +97,30 @@ pub returns-in_err-page-clause-store : goal.returns-in_err-page-clause-store
 returns-in_err-page-clause-store g c =
     reads_handed _ _ _ _ c.from_residual.ensures.1 (reads_on _ _ _ _ c.loop-blocks.invariant.reads
     (c.in_err-page.ensures.store c.loop-blocks.invariant.ready.idle))
+
+pub returns-then-not-mark-clause-walked : goal.returns-then-not-mark-clause-walked
+returns-then-not-mark-clause-walked g c = tt
+
+pub returns-then-not-mark-clause-store : goal.returns-then-not-mark-clause-store
+returns-then-not-mark-clause-store g c = reads_so_far _ _ c.loop-blocks.invariant.reads c.loop-blocks.invariant.ready
+
+pub returns-then-page-ne0-2-clause-walked : goal.returns-then-page-ne0-2-clause-walked
+returns-then-page-ne0-2-clause-walked g c = tt
+
+pub returns-then-page-ne0-2-clause-store : goal.returns-then-page-ne0-2-clause-store
+returns-then-page-ne0-2-clause-store g c = reads_so_far _ _ c.loop-blocks.invariant.reads c.loop-blocks.invariant.ready
+
+pub returns-clause-store : goal.returns-clause-store
+returns-clause-store g c = reads_so_far _ _ c.loop-blocks.invariant.reads c.loop-blocks.invariant.ready
+
+pub loop-blocks-smaller : goal.loop-blocks-smaller
+loop-blocks-smaller g c = omega (arith, c.loop-blocks-test.true)
+
+pub overflow_add-blocks : goal.overflow_add-blocks
+overflow_add-blocks g c = omega (arith, c.loop-blocks-test.true)
+
+pub overflow_cast-last : goal.overflow_cast-last
+overflow_cast-last g c = let block = (c.mark.ensures.new.0 c.if-not-mark.false).0 in omega (arith, block.1)
+
+pub overflow_mul-last : goal.overflow_mul-last
+overflow_mul-last g c = let block = (c.mark.ensures.new.0 c.if-not-mark.false).0 in omega (arith, block.1)
