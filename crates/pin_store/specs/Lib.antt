@@ -2,4 +2,5 @@
 pub mod Pins
 pub mod Pages
 pub mod Trials
+pub mod Renewals
 pub mod laws

@@ -7,10 +7,11 @@ ghost use Rattle.undo_journal.specs.Lent.{memory_of};
 ghost use Rattle.undo_journal.specs.Memory.{committed, current, room, IsOpen, IsReady};
 ghost use Rattle.undo_journal.specs.Undo.{IsDataRun};
 ghost use Rattle.pin_store.specs.Pins.{changed_pin, owner, reset_pin, tries_left, verified_pin, with_tries};
+ghost use Rattle.pin_store.specs.Renewals.{renewal_sets, renewal_writes, renewed_pin};
 ghost use Rattle.pin_store.specs.Pages.{pin_at, ArePinPages, SetsPin};
 ghost use Rattle.pin_store.specs.Trials.{pin_in};
 
-use crate::layout::{TRIES, UNBLOCKING_TRIES};
+use crate::layout::{PINS, TRIES, UNBLOCKING_TRIES};
 use crate::words::{address_of, tries_place, words_of};
 use undo_journal::{Board, Store, StoreErr, Txn};
 
@@ -84,41 +85,38 @@ pub(crate) fn put_tries<B: Board>(store: &mut Store<B>, secret: u8) -> Result<()
     store.put_alone(address_of(secret, 0), u32::from(TRIES))
 }
 
-/// Sets the tries of a PIN to 3, and its value, in one transaction.
-pub(crate) fn put_value<B: Board>(
-    store: &mut Store<B>,
-    secret: u8,
-    new: &[u8; 8],
-) -> Result<(), StoreErr>
-    requires ready { IsReady store.old }
-    ensures any_exit { (committed store.new ≡ committed store.old) ⊎ SetsPin (committed store.old) (owner secret)
-        (changed_pin new.now (pin_in store.old secret)) (committed store.new) }
-    ensures done { OnOk result (SetsPin (committed store.old) (owner secret)
-        (changed_pin new.now (pin_in store.old secret)) (committed store.new)) }
-    ensures store { Changes 10 store.old store.new (result_err result) }
+/// Sets what a right secret and a new value renew, within a transaction: the value and its tries, and of an unblocking
+/// secret its own tries too.
+fn set_renewed<B: Board>(txn: &mut Txn<'_, B>, secret: u8, new: &[u8; 8]) -> Result<(), StoreErr>
+    requires ready { IsOpen (memory_of txn.old) }
+    requires room { 4 ≤ room (memory_of txn.old) }
+    ensures done { OnOk result (SetsPin (current (memory_of txn.old)) (owner secret)
+        (renewed_pin secret new.now (pin_at (current (memory_of txn.old)) (owner secret)))
+        (current (memory_of txn.new))) }
+    ensures store { SetsIn (renewal_sets secret) txn.old txn.new (result_err result) }
 {
-    let mut txn = store.begin();
-    match set_value(&mut txn, secret, new) {
-        Ok(()) => txn.commit(),
-        Err(_) => txn.abandon(),
+    if secret < PINS {
+        set_value(txn, secret, new)
+    } else {
+        set_all(txn, secret, new)
     }
 }
 
-/// Sets the tries of a PIN to 3, its unblocking tries to 10, and its value, in one transaction.
-pub(crate) fn put_all<B: Board>(
+/// Sets what a right secret and a new value renew, in one transaction.
+pub(crate) fn put_renewed<B: Board>(
     store: &mut Store<B>,
     secret: u8,
     new: &[u8; 8],
 ) -> Result<(), StoreErr>
     requires ready { IsReady store.old }
     ensures any_exit { (committed store.new ≡ committed store.old) ⊎ SetsPin (committed store.old) (owner secret)
-        (reset_pin new.now (pin_in store.old secret)) (committed store.new) }
+        (renewed_pin secret new.now (pin_in store.old secret)) (committed store.new) }
     ensures done { OnOk result (SetsPin (committed store.old) (owner secret)
-        (reset_pin new.now (pin_in store.old secret)) (committed store.new)) }
-    ensures store { Changes 13 store.old store.new (result_err result) }
+        (renewed_pin secret new.now (pin_in store.old secret)) (committed store.new)) }
+    ensures store { Changes (renewal_writes secret) store.old store.new (result_err result) }
 {
     let mut txn = store.begin();
-    match set_all(&mut txn, secret, new) {
+    match set_renewed(&mut txn, secret, new) {
         Ok(()) => txn.commit(),
         Err(_) => txn.abandon(),
     }

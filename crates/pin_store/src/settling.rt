@@ -6,12 +6,13 @@ ghost use Rattle.undo_journal.specs.Memory.{committed, IsReady};
 ghost use Rattle.nvm_board.specs.declared.board.TheConstants.{SECRETS};
 ghost use Rattle.pin_store.specs.declared.layout.TheConstants.{PINS};
 ghost use Rattle.pin_store.specs.Pins.{changed_pin, kept, reset_pin, verified_pin};
+ghost use Rattle.pin_store.specs.Renewals.{renewal_writes, renewed_pin};
 ghost use Rattle.pin_store.specs.Pages.{ArePinPages};
 ghost use Rattle.pin_store.specs.Trials.{pin_in, Compared, ComparesOnce, EndsByOutcome, SetsByMatch};
 
 use crate::charging::{Charged, tries};
 use crate::errors::Outcome;
-use crate::putting::{put_all, put_tries, put_value};
+use crate::putting::{put_renewed, put_tries};
 use crate::words::{address_of, bytes_of, kept_place};
 use undo_journal::{Board, Store, StoreErr};
 
@@ -66,12 +67,7 @@ pub fn change<B: Board>(
     ensures store { Leaves store.old store.new (result_err result) }
     ensures spends { ComparesOnce 10 charged store.old.facts store.new.facts }
 {
-    let secret = charged.secret();
-    let outcome = compare(store, charged, shown)?;
-    if let Outcome::Matched = outcome {
-        put_value(store, secret, new)?;
-    }
-    Ok(outcome)
+    renew(store, charged, shown, new)
 }
 
 /// RESET RETRY COUNTER: compares the shown bytes with the unblocking value of the charged PIN. If they are equal, the
@@ -97,10 +93,31 @@ pub fn reset_counter<B: Board>(
     ensures store { Leaves store.old store.new (result_err result) }
     ensures spends { ComparesOnce 13 charged store.old.facts store.new.facts }
 {
+    renew(store, charged, shown, new)
+}
+
+/// Compares the shown bytes with the kept ones of the charged secret. If they are equal, what the secret and a new
+/// value renew is set in one transaction; else nothing is written.
+fn renew<B: Board>(
+    store: &mut Store<B>,
+    charged: Charged,
+    shown: &[u8; 8],
+    new: &[u8; 8],
+) -> Result<Outcome, StoreErr>
+    requires ready { IsReady store.old }
+    requires pages { ArePinPages (committed store.old) }
+    ensures any_exit { (committed store.new ≡ committed store.old)
+        ⊎ SetsByMatch charged shown.now (renewed_pin charged new.now (pin_in store.old charged)) store.old store.new }
+    ensures done { IfOk result (EndsByOutcome charged shown.now
+        (renewed_pin charged new.now (pin_in store.old charged)) store.old store.new) }
+    ensures pages { ArePinPages (committed store.new) }
+    ensures store { Leaves store.old store.new (result_err result) }
+    ensures spends { ComparesOnce (renewal_writes charged) charged store.old.facts store.new.facts }
+{
     let secret = charged.secret();
     let outcome = compare(store, charged, shown)?;
     if let Outcome::Matched = outcome {
-        put_all(store, secret, new)?;
+        put_renewed(store, secret, new)?;
     }
     Ok(outcome)
 }

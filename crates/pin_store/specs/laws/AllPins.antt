@@ -8,6 +8,7 @@ use Rattle.nvm_board.specs.Facts.{address}
 use Rattle.pin_store.specs.declared.layout.TheConstants.{PINS, PIN_WORDS}
 use Rattle.pin_store.specs.Pins.{Pin, HasFewTries, changed_pin, is_unblocking, owner, reset_pin, tries_left, verified_pin}
 use Rattle.pin_store.specs.Pins.{with_tries}
+use Rattle.pin_store.specs.Renewals.{renewed_pin}
 use Rattle.pin_store.specs.Pages.{pin_page, pin_at, pins_of, IsPinPage, ArePinPages, KeepsPins, SetsPin}
 use Rattle.pin_store.specs.laws.PinPages.{pin_same, few_tries, page_of_few}
 
@@ -146,14 +147,16 @@ pub verified_pages : (m after : List ℕ) (secret : ℕ) → ArePinPages m
 verified_pages m after secret pages sets =
     pages_set m after (owner secret) _ sets (verified_few _ (owner_few m secret pages)) pages
 
-pub changed_pages : (m after new : List ℕ) (secret : ℕ) → ArePinPages m
-    → (after ≡ m) ⊎ SetsPin m (owner secret) (changed_pin new (pin_at m (owner secret))) after → ArePinPages after
-changed_pages m after new secret pages (inl same) = subst (λ (l : List ℕ). ArePinPages l) (sym same) pages
-changed_pages m after new secret pages (inr sets) =
-    pages_set m after (owner secret) _ sets (changed_few new _ (owner_few m secret pages)) pages
+pub renewed_few : (secret : ℕ) (new : List ℕ) (pin : Pin) → HasFewTries pin → HasFewTries (renewed_pin secret new pin)
+renewed_few secret new pin few = by (is_unblocking secret)
+  where
+    by : (unblocking : Bool) → HasFewTries (if unblocking then reset_pin new pin else changed_pin new pin)
+    by true = reset_few new pin
+    by false = changed_few new pin few
 
-pub reset_pages : (m after new : List ℕ) (secret : ℕ) → ArePinPages m
-    → (after ≡ m) ⊎ SetsPin m (owner secret) (reset_pin new (pin_at m (owner secret))) after → ArePinPages after
-reset_pages m after new secret pages (inl same) = subst (λ (l : List ℕ). ArePinPages l) (sym same) pages
-reset_pages m after new secret pages (inr sets) =
-    pages_set m after (owner secret) _ sets (reset_few new (pin_at m (owner secret))) pages
+pub renewed_pages : (m after new : List ℕ) (secret : ℕ) → ArePinPages m
+    → (after ≡ m) ⊎ SetsPin m (owner secret) (renewed_pin secret new (pin_at m (owner secret))) after
+    → ArePinPages after
+renewed_pages m after new secret pages (inl same) = subst (λ (l : List ℕ). ArePinPages l) (sym same) pages
+renewed_pages m after new secret pages (inr sets) =
+    pages_set m after (owner secret) _ sets (renewed_few secret new _ (owner_few m secret pages)) pages

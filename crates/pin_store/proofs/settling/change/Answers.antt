@@ -1,79 +1,30 @@
-use Rattle.std.proofs.Common.{inl}
-use Rattle.pin_store.specs.Pins.{changed_pin}
-use Rattle.pin_store.specs.Trials.{pin_in}
-use Rattle.pin_store.specs.laws.AllPins.{changed_pages}
-use Rattle.pin_store.proofs.Settled.{pages_stay, compares_more, compares_then, match_told, matched_sets}
-use Rattle.pin_store.proofs.Settled.{matched_sets_or_not, end_told}
-use Rattle.undo_journal.specs.laws.Told.{leaves_on, leaves_handed, changes_leave}
+use Rattle.std.specs.Prelude.{if◌then◌else◌, Bool, IfOk}
+use Rattle.std.proofs.Common.{◌≡◌, ◌⊎◌, ◌+◌, ◌*◌, subst}
+use Rattle.undo_journal.specs.Memory.{committed}
+use Rattle.pin_store.specs.Pins.{changed_pin, reset_pin}
+use Rattle.pin_store.specs.Trials.{pin_in, ComparesOnce, EndsByOutcome, SetsByMatch}
+use Rattle.pin_store.specs.laws.Tries.{is_value}
 use Rattle.pin_store.proofs.settling.change.Goals as goal
 
-pub returns-in_err-outcome-clause-any_exit : goal.returns-in_err-outcome-clause-any_exit
-returns-in_err-outcome-clause-any_exit g c = inl c.compare.ensures.kept
+pub returns-clause-any_exit : goal.returns-clause-any_exit
+returns-clause-any_exit g c =
+    let new = c.args.new.now in
+    let pin = pin_in c.args.store.now c.args.charged in
+    subst (λ (b : Bool). (committed c.renew.new.store ≡ committed c.args.store.now) ⊎ SetsByMatch c.args.charged
+    c.args.shown.now
+    (if b then reset_pin new pin else changed_pin new pin) c.args.store.now c.renew.new.store)
+    (is_value c.args.charged c.requires.secret) c.renew.ensures.any_exit
 
-pub returns-in_err-outcome-clause-pages : goal.returns-in_err-outcome-clause-pages
-returns-in_err-outcome-clause-pages g c = pages_stay _ _ c.compare.ensures.kept c.requires.pages
+pub returns-clause-done : goal.returns-clause-done
+returns-clause-done g c =
+    let new = c.args.new.now in
+    let pin = pin_in c.args.store.now c.args.charged in
+    subst (λ (b : Bool). IfOk c.renew.result (EndsByOutcome c.args.charged c.args.shown.now
+    (if b then reset_pin new pin else changed_pin new pin) c.args.store.now c.renew.new.store))
+    (is_value c.args.charged c.requires.secret) c.renew.ensures.done
 
-pub returns-in_err-outcome-clause-spends : goal.returns-in_err-outcome-clause-spends
-returns-in_err-outcome-clause-spends g c = compares_more 10 _ _ _ c.compare.ensures.spends
-
-pub returns-in_err-put_value-clause-any_exit : goal.returns-in_err-put_value-clause-any_exit
-returns-in_err-put_value-clause-any_exit g c =
-    matched_sets_or_not 10 c.args.charged c.secret-secret.result c.args.shown.now (changed_pin c.args.new.now) _ _ _
-    c.secret-secret.ensures.secret (match_told c.args.charged c.args.shown.now c.args.store.now c.compare.new.store
-    c.in_ok-outcome.outcome c.in-Matched.is c.in_ok-outcome.ensures.done) c.compare.ensures.kept
-    c.put_value.ensures.store.writes
-    c.put_value.ensures.any_exit
-
-pub returns-in_err-put_value-clause-pages : goal.returns-in_err-put_value-clause-pages
-returns-in_err-put_value-clause-pages g c =
-    changed_pages _ _ c.args.new.now c.secret-secret.result (pages_stay _ _ c.compare.ensures.kept c.requires.pages)
-    c.put_value.ensures.any_exit
-
-pub returns-in_err-put_value-clause-store : goal.returns-in_err-put_value-clause-store
-returns-in_err-put_value-clause-store g c =
-    leaves_handed _ _ _ _ c.from_residual-in_err-put_value.ensures.1
-    (leaves_on _ _ _ _ c.compare.ensures.store.reports (changes_leave _ _ _ _ c.in_err-put_value.ensures.store))
-
-pub returns-in_err-put_value-clause-spends : goal.returns-in_err-put_value-clause-spends
-returns-in_err-put_value-clause-spends g c =
-    compares_then 10 _ _ _ _ c.compare.ensures.spends c.put_value.ensures.store.writes
-
-pub returns-in_ok-put_value-clause-any_exit : goal.returns-in_ok-put_value-clause-any_exit
-returns-in_ok-put_value-clause-any_exit g c =
-    matched_sets_or_not 10 c.args.charged c.secret-secret.result c.args.shown.now (changed_pin c.args.new.now) _ _ _
-    c.secret-secret.ensures.secret (match_told c.args.charged c.args.shown.now c.args.store.now c.compare.new.store
-    c.in_ok-outcome.outcome c.in-Matched.is c.in_ok-outcome.ensures.done) c.compare.ensures.kept
-    c.put_value.ensures.store.writes
-    c.put_value.ensures.any_exit
-
-pub returns-in_ok-put_value-clause-done : goal.returns-in_ok-put_value-clause-done
-returns-in_ok-put_value-clause-done g c =
-    end_told c.args.charged c.args.shown.now (changed_pin c.args.new.now (pin_in c.args.store.now c.args.charged))
-    c.args.store.now c.put_value.new.store c.in_ok-outcome.outcome c.in-Matched.is
-    (matched_sets 10 c.args.charged c.secret-secret.result c.args.shown.now (changed_pin c.args.new.now) _ _ _
-    c.secret-secret.ensures.secret (match_told c.args.charged c.args.shown.now c.args.store.now c.compare.new.store
-    c.in_ok-outcome.outcome c.in-Matched.is c.in_ok-outcome.ensures.done) c.compare.ensures.kept
-    c.put_value.ensures.store.writes
-    c.in_ok-put_value.ensures.done)
-
-pub returns-in_ok-put_value-clause-pages : goal.returns-in_ok-put_value-clause-pages
-returns-in_ok-put_value-clause-pages g c =
-    changed_pages _ _ c.args.new.now c.secret-secret.result (pages_stay _ _ c.compare.ensures.kept c.requires.pages)
-    c.put_value.ensures.any_exit
-
-pub returns-in_ok-put_value-clause-store : goal.returns-in_ok-put_value-clause-store
-returns-in_ok-put_value-clause-store g c =
-    leaves_on _ _ _ _ c.compare.ensures.store.reports (changes_leave _ _ _ _ c.in_ok-put_value.ensures.store)
-
-pub returns-in_ok-put_value-clause-spends : goal.returns-in_ok-put_value-clause-spends
-returns-in_ok-put_value-clause-spends g c =
-    compares_then 10 _ _ _ _ c.compare.ensures.spends c.put_value.ensures.store.writes
-
-pub returns-in_default-clause-any_exit : goal.returns-in_default-clause-any_exit
-returns-in_default-clause-any_exit g c = inl c.compare.ensures.kept
-
-pub returns-in_default-clause-pages : goal.returns-in_default-clause-pages
-returns-in_default-clause-pages g c = pages_stay _ _ c.compare.ensures.kept c.requires.pages
-
-pub returns-in_default-clause-spends : goal.returns-in_default-clause-spends
-returns-in_default-clause-spends g c = compares_more 10 _ _ _ c.compare.ensures.spends
+pub returns-clause-spends : goal.returns-clause-spends
+returns-clause-spends g c =
+    subst (λ (b : Bool). ComparesOnce (3 * (if b then 4 else 3) + 1) c.args.charged c.args.store.now.facts
+    c.renew.new.store.facts)
+    (is_value c.args.charged c.requires.secret) c.renew.ensures.spends
