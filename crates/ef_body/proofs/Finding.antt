@@ -1,6 +1,6 @@
 -- Searching: the numbers that are looked at, and the records that hold the text.
-use Rattle.std.proofs.Common.{refl, ◌∙◌, ap, arith}
-use Rattle.std.proofs.lemmas.List.{get_or-reverse, length-reverse, take_more}
+use Rattle.std.proofs.Common.{refl, sym, ◌∙◌, ap, arith}
+use Rattle.std.proofs.lemmas.List.{get_or-reverse, length-reverse, take-append-drop, take-append-le, take_all, take_more}
 use Rattle.std.proofs.lemmas.List.Elements.{filter-append}
 use Rattle.std.proofs.lemmas.List.Folds.{list_any_at, list_any_none}
 use Rattle.std.proofs.lemmas.List.FromFn.{get_or-range_with_len, length-range_with_len}
@@ -10,7 +10,9 @@ use Rattle.std.specs.Prelude.{slice_index, nat_eq}
 use Rattle.std.specs.List.{filter, range_with_len, starts_with}
 use Rattle.ef_body.specs.declared.search.Direction.{Direction}
 use Rattle.ef_body.specs.declared.search.Direction.TheVariants.{Forward, Backward}
-use Rattle.ef_body.specs.Searching.{stands_in, numbers_on}
+use Rattle.ef_body.specs.Searching.{stands_in, numbers_on, found}
+use Rattle.ef_body.specs.Records.{record_of}
+use Rattle.block_chain.specs.Changes.{AppendsSome}
 
 -- a text stands where it begins at some place
 pub stands_at : (text bytes : List ℕ) (at : ℕ) → at < length bytes → starts_with nat_eq (drop at bytes) text ≡ true
@@ -84,6 +86,31 @@ pub filter-next : (test : ℕ → Bool) (numbers : List ℕ) (step : ℕ) → st
 filter-next test numbers step lt =
     ap (filter test) (take_more numbers step 0 lt) ∙ filter-append test (take step numbers) (slice_index numbers step
     ∷ [])
+
+-- those that pass among the first of some are the first that pass
+filter-some : (test : ℕ → Bool) (numbers : List ℕ) (step : ℕ)
+    → filter test (take step numbers) ≡ take (length (filter test (take step numbers))) (filter test numbers)
+filter-some test numbers step =
+    let front = filter test (take step numbers) in
+    let back = filter test (drop step numbers) in
+    let all : length front ≤ length front = omega arith in
+    let whole : filter test numbers ≡ front ++ back =
+    ap (filter test) (sym (take-append-drop step numbers)) ∙ filter-append test (take step numbers) (drop step numbers) in
+    sym (ap (take (length front)) whole ∙ take-append-le (length front) front back all ∙ take_all (length front) front all)
+
+-- the numbers found so far, as an error leaves the buffer
+pub found_some : (direction : Direction) (first last step : ℕ) (text : List ℕ) (records : List (List ℕ))
+    (numbers : List ℕ) → length records ≡ last
+    → numbers ≡ filter (λ (n : ℕ). stands_in text (record_of records n)) (take step (numbers_on direction first last))
+    → AppendsSome [] (found direction first text records) numbers
+found_some direction first last step text records numbers many so_far =
+    let test : ℕ → Bool = λ n. stands_in text (record_of records n) in
+    record {
+      some = length (filter test (take step (numbers_on direction first last)));
+      is = so_far ∙ filter-some test (numbers_on direction first last) step
+          ∙ ap (λ (n : ℕ). take (length (filter test (take step (numbers_on direction first last))))
+          (filter test (numbers_on direction first n))) (sym many);
+    }
 
 -- at most as many pass as there are
 filter-one : (test : ℕ → Bool) (n : ℕ) (numbers : List ℕ) (b : Bool)

@@ -44,10 +44,10 @@ Decides refusal (Some (Refused status)) = refusal ≡ Some status
 Decides refusal (Some (Store e)) = refusal ≡ None
 
 -- The same where the store is read before it is known what refuses: then it may fail in that.
-abbrev pub IsRefusal : Option Sw → Option BodyErr → Type 0
-IsRefusal refusal None = refusal ≡ None
-IsRefusal refusal (Some (Refused status)) = refusal ≡ Some status
-IsRefusal refusal (Some (Store e)) = Unit {0}
+abbrev pub DecidesUnlessFailed : Option Sw → Option BodyErr → Type 0
+DecidesUnlessFailed refusal None = refusal ≡ None
+DecidesUnlessFailed refusal (Some (Refused status)) = refusal ≡ Some status
+DecidesUnlessFailed refusal (Some (Store e)) = Unit {0}
 
 -- a fact that holds where the call is refused
 abbrev pub IfRefused : Option BodyErr → Type 0 → Type 0

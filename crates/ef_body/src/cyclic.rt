@@ -2,13 +2,14 @@
 ghost use Rattle.std.specs.Prelude.{◌≡◌, ◌≤◌, ◌<◌, ◌⊎◌, ◌↔◌, ◌+◌, [], min, length, None, Some, IsTrue, OnOk};
 ghost use Rattle.std.specs.Result.{result_err};
 ghost use Rattle.undo_journal.specs.Memory.{committed, IsReady};
+ghost use Rattle.block_chain.specs.Changes.{AppendsSome};
 ghost use Rattle.undo_journal.specs.Calls.{OnlyReads, Reads, Changes};
 ghost use Rattle.ef_body.specs.declared.layout.TheConstants.{RECORD_WRITES};
 ghost use Rattle.card_rules.specs.declared.status.Sw.{Sw};
 ghost use Rattle.ef_body.specs.Records.{front, record_of};
 ghost use Rattle.ef_body.specs.Numbers.{spelled};
 ghost use Rattle.ef_body.specs.Searching.{found};
-ghost use Rattle.ef_body.specs.Refusals.{missing_record, unraised, raised_number, Decides, IsRefusal};
+ghost use Rattle.ef_body.specs.Refusals.{missing_record, unraised, raised_number, Decides, DecidesUnlessFailed};
 ghost use Rattle.ef_body.specs.Refusals.{IfRefused, failure};
 ghost use Rattle.ef_body.specs.Bodies.{cyclic_records, IsCyclic};
 ghost use Rattle.ef_body.specs.Changes.{CyclicBecomes, Increases};
@@ -49,7 +50,7 @@ impl Cyclic {
     ///
     /// # Errors
     /// 6A83 where there is no such record: then the buffer is empty. What the store answers: then the buffer may hold
-    /// some of its bytes.
+    /// some of its bytes, from the first on.
     pub fn read<B: Board, const N: usize>(
         self,
         store: &mut Store<B>,
@@ -60,6 +61,8 @@ impl Cyclic {
         requires body { IsCyclic (committed store.old) self }
         requires room { self.record_length ≤ N }
         ensures bytes { OnOk result (bytes.new.items ≡ record_of (cyclic_records (committed store.old) self) number) }
+        ensures any_exit { AppendsSome [] (record_of (cyclic_records (committed store.old) self) number)
+            bytes.new.items }
         ensures refusal { Decides (missing_record (cyclic_records (committed store.old) self) number) (result_err
             result) }
         ensures refused { IfRefused (result_err result) ((bytes.new.items ≡ []) × (store.new ≡ store.old)) }
@@ -146,7 +149,7 @@ impl Cyclic {
         requires room { self.record_length ≤ N }
         ensures bytes { OnOk result (bytes.new.items ≡ spelled self.record_length (raised_number (cyclic_records
             (committed store.old) self) sent.now)) }
-        ensures refusal { IsRefusal (unraised self.record_length (cyclic_records (committed store.old) self) sent.now)
+        ensures refusal { DecidesUnlessFailed (unraised self.record_length (cyclic_records (committed store.old) self) sent.now)
             (result_err result) }
         ensures store { Reads store.old store.new (failure (result_err result)) }
     {
@@ -182,7 +185,7 @@ impl Cyclic {
         ensures any_exit { (committed store.new ≡ committed store.old)
             ⊎ Increases (committed store.old) self sent.now (committed store.new) }
         ensures done { OnOk result (Increases (committed store.old) self sent.now (committed store.new)) }
-        ensures refusal { IsRefusal (unraised self.record_length (cyclic_records (committed store.old) self) sent.now)
+        ensures refusal { DecidesUnlessFailed (unraised self.record_length (cyclic_records (committed store.old) self) sent.now)
             (result_err result) }
         ensures refused { (status : Sw) → unraised self.record_length (cyclic_records (committed store.old) self)
             sent.now
@@ -200,7 +203,7 @@ impl Cyclic {
     ///
     /// # Errors
     /// 6A83 where there is no record of that number: then the buffer is empty. What the store answers: then the
-    /// buffer may hold some of the numbers.
+    /// buffer may hold some of the numbers, from the first on.
     pub fn search<B: Board, const N: usize>(
         self,
         store: &mut Store<B>,
@@ -214,6 +217,8 @@ impl Cyclic {
         requires room { self.records ≤ N }
         ensures numbers { OnOk result (numbers.new.items
             ≡ found direction first text.now (cyclic_records (committed store.old) self)) }
+        ensures any_exit { AppendsSome [] (found direction first text.now (cyclic_records (committed store.old) self))
+            numbers.new.items }
         ensures refusal { Decides (missing_record (cyclic_records (committed store.old) self) first) (result_err
             result) }
         ensures refused { IfRefused (result_err result) ((numbers.new.items ≡ []) × (store.new ≡ store.old)) }

@@ -3,6 +3,7 @@ ghost use Rattle.std.specs.Prelude.{◌≡◌, ◌≤◌, ◌<◌, ◌+◌, ◌-
 ghost use Rattle.std.specs.Prelude.{OnOk};
 ghost use Rattle.std.specs.Result.{result_err};
 ghost use Rattle.undo_journal.specs.Memory.{committed, IsReady};
+ghost use Rattle.block_chain.specs.Changes.{AppendsSome};
 ghost use Rattle.undo_journal.specs.Calls.{Reads, Changes};
 ghost use Rattle.ef_body.specs.declared.layout.TheConstants.{UPDATE_WRITES, RECORD_WRITES};
 ghost use Rattle.ef_body.specs.Records.{record_of};
@@ -13,8 +14,7 @@ ghost use Rattle.ef_body.specs.Changes.{LinearBecomes};
 
 use crate::cyclic::Cyclic;
 use crate::error::BodyErr;
-use crate::reading::read_record;
-use crate::search::{Direction, search_records};
+use crate::search::Direction;
 use crate::writing::{counts, put_bytes, put_record};
 use arrayvec::ArrayVec;
 use block_chain::Chain;
@@ -66,7 +66,7 @@ impl Linear {
     ///
     /// # Errors
     /// 6A83 where there is no such record: then the buffer is empty. What the store answers: then the buffer may hold
-    /// some of its bytes.
+    /// some of its bytes, from the first on.
     pub fn read<B: Board, const N: usize>(
         self,
         store: &mut Store<B>,
@@ -77,17 +77,14 @@ impl Linear {
         requires body { IsLinear (committed store.old) self }
         requires room { self.record_length ≤ N }
         ensures bytes { OnOk result (bytes.new.items ≡ record_of (linear_records (committed store.old) self) number) }
+        ensures any_exit { AppendsSome [] (record_of (linear_records (committed store.old) self) number)
+            bytes.new.items }
         ensures refusal { Decides (missing_record (linear_records (committed store.old) self) number) (result_err
             result) }
         ensures refused { IfRefused (result_err result) ((bytes.new.items ≡ []) × (store.new ≡ store.old)) }
         ensures store { Reads store.old store.new (failure (result_err result)) }
     {
-        bytes.clear();
-        if !self.has_record(number) {
-            return Err(BodyErr::Refused(Sw::RECORD_NOT_FOUND));
-        }
-        read_record(self.ring(), store, number, bytes)?;
-        Ok(())
+        self.ring().read(store, number, bytes)
     }
 
     /// Puts a record in place of the one of a number, in one transaction (UPDATE RECORD, ISO/IEC 7816-4, 11.4.5).
@@ -155,7 +152,7 @@ impl Linear {
     ///
     /// # Errors
     /// 6A83 where there is no record of that number: then the buffer is empty. What the store answers: then the
-    /// buffer may hold some of the numbers.
+    /// buffer may hold some of the numbers, from the first on.
     pub fn search<B: Board, const N: usize>(
         self,
         store: &mut Store<B>,
@@ -169,16 +166,13 @@ impl Linear {
         requires room { self.records ≤ N }
         ensures numbers { OnOk result (numbers.new.items
             ≡ found direction first text.now (linear_records (committed store.old) self)) }
+        ensures any_exit { AppendsSome [] (found direction first text.now (linear_records (committed store.old) self))
+            numbers.new.items }
         ensures refusal { Decides (missing_record (linear_records (committed store.old) self) first) (result_err
             result) }
         ensures refused { IfRefused (result_err result) ((numbers.new.items ≡ []) × (store.new ≡ store.old)) }
         ensures store { Reads store.old store.new (failure (result_err result)) }
     {
-        numbers.clear();
-        if !self.has_record(first) {
-            return Err(BodyErr::Refused(Sw::RECORD_NOT_FOUND));
-        }
-        search_records(self.ring(), store, direction, first, text, numbers)?;
-        Ok(())
+        self.ring().search(store, direction, first, text, numbers)
     }
 }

@@ -50,6 +50,7 @@ pub(crate) fn read_record<B: Board, const N: usize>(
     requires room { body.record_length ≤ N }
     requires empty { bytes.old.items ≡ [] }
     ensures bytes { OnOk result (bytes.new.items ≡ record_of (cyclic_records (committed store.old) body) number) }
+    ensures any_exit { AppendsSome [] (record_of (cyclic_records (committed store.old) body) number) bytes.new.items }
     ensures store { Reads store.old store.new (result_err result) }
 {
     let slot = (body.start + number - 1) % body.capacity;

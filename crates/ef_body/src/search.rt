@@ -4,6 +4,7 @@ ghost use Rattle.std.specs.Prelude.{slice_index, IfOk, OnOk};
 ghost use Rattle.std.specs.List.{starts_with};
 ghost use Rattle.std.specs.Result.{result_err};
 ghost use Rattle.undo_journal.specs.Memory.{committed, IsReady};
+ghost use Rattle.block_chain.specs.Changes.{AppendsSome};
 ghost use Rattle.undo_journal.specs.Calls.{Reads};
 ghost use Rattle.ef_body.specs.Records.{record_of};
 ghost use Rattle.ef_body.specs.Searching.{stands_in, numbers_on, found};
@@ -16,7 +17,7 @@ use arrayvec::ArrayVec;
 use undo_journal::{Board, Store, StoreErr};
 
 /// Which way a search goes from the record that it begins at.
-#[derive(Clone, Copy, Debug, PartialEq, Eq)]
+#[derive(Clone, Copy, PartialEq, Eq)]
 pub enum Direction {
     /// Up to the last record.
     Forward,
@@ -121,6 +122,8 @@ pub(crate) fn search_records<B: Board, const N: usize>(
     requires empty { numbers.old.items ≡ [] }
     ensures numbers { OnOk result (numbers.new.items
         ≡ found direction first text.now (cyclic_records (committed store.old) body)) }
+    ensures any_exit { AppendsSome [] (found direction first text.now (cyclic_records (committed store.old) body))
+        numbers.new.items }
     ensures store { Reads store.old store.new (result_err result) }
 {
     let steps = steps_of(direction, first, body.records);

@@ -2,12 +2,12 @@ use Rattle.std.proofs.Common.{◌≡◌, Option, Some, None, refl, sym, ◌∙�
 use Rattle.card_rules.specs.declared.status.Sw.{Sw}
 use Rattle.ef_body.specs.declared.error.BodyErr.{BodyErr}
 use Rattle.ef_body.specs.declared.error.BodyErr.TheVariants.{Refused, Store}
-use Rattle.ef_body.specs.Refusals.{Decides, IsRefusal}
+use Rattle.ef_body.specs.Refusals.{Decides, DecidesUnlessFailed}
 use Rattle.card_core.proofs.RecordBodies.{ok-then}
 use Rattle.card_core.proofs.increasing.put_sum.Goals as goal
 
 -- where nothing refuses, the body doesn't
-fits-none : (refusal : Option Sw) (answer : Option BodyErr) → refusal ≡ None → IsRefusal refusal answer → Decides None answer
+fits-none : (refusal : Option Sw) (answer : Option BodyErr) → refusal ≡ None → DecidesUnlessFailed refusal answer → Decides None answer
 fits-none refusal None none fits = refl
 fits-none refusal (Some (Refused status)) none fits = sym none ∙ fits
 fits-none refusal (Some (Store e)) none fits = refl

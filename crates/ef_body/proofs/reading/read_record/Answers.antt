@@ -1,4 +1,5 @@
-use Rattle.std.proofs.Common.{rules, ◌≡◌, ◌-◌, ◌*◌, ◌+◌, ◌%◌, arith, ◌∙◌, sym, take, drop}
+use Rattle.std.proofs.Common.{rules, ◌≡◌, ◌-◌, ◌*◌, ◌+◌, ◌%◌, ℕ, List, [], arith, ◌∙◌, subst, sym, take, drop}
+use Rattle.block_chain.specs.Changes.{AppendsSome}
 use Rattle.std.proofs.lemmas.Result.{on_ok_weaker}
 use Rattle.undo_journal.specs.Memory.{committed}
 use Rattle.block_chain.specs.Chains.{chain_bytes}
@@ -45,3 +46,10 @@ returns-clause-bytes g c =
     (drop ((body.start + c.args.number - 1) % body.capacity * body.record_length) (chain_bytes m body.chain))).
     done ∙ sym (record_read m body c.args.number c.requires.body c.requires.first c.requires.last))
     c.read_anew.ensures.bytes
+
+pub returns-clause-any_exit : goal.returns-clause-any_exit
+returns-clause-any_exit g c =
+    let m = committed c.args.store.now in
+    subst (λ (l : List ℕ). AppendsSome [] l c.read_anew.new.bytes.items)
+    (sym (record_read m c.args.body c.args.number c.requires.body c.requires.first c.requires.last))
+    c.read_anew.ensures.any_exit

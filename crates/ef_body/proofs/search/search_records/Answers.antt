@@ -9,7 +9,7 @@ use Rattle.ef_body.specs.Records.{record_of}
 use Rattle.ef_body.specs.Searching.{stands_in, numbers_on}
 use Rattle.ef_body.specs.Bodies.{cyclic_records, IsCyclic}
 use Rattle.ef_body.proofs.Becoming.{length-cyclic}
-use Rattle.ef_body.proofs.Finding.{steps_few, filter-next, filter-few}
+use Rattle.ef_body.proofs.Finding.{found_some, steps_few, filter-next, filter-few}
 use Rattle.ef_body.proofs.search.search_records.Goals as goal
 
 pub loop-step-init : goal.loop-step-init
@@ -84,3 +84,17 @@ returns-clause-numbers g c =
     c.loop-step.invariant.so_far ∙ ap (filter test) (take_all c.loop-step.step numbers all)
     ∙ ap (λ (n : ℕ). filter test (numbers_on c.args.direction c.args.first n)) (sym (length-cyclic m body
     c.requires.body))
+
+pub returns-in_err-holds-clause-any_exit : goal.returns-in_err-holds-clause-any_exit
+returns-in_err-holds-clause-any_exit g c =
+    let m = committed c.args.store.now in
+    found_some c.args.direction c.args.first c.args.body.records c.loop-step.step c.args.text.now
+    (cyclic_records m c.args.body) _
+    (length-cyclic m c.args.body c.requires.body) c.loop-step.invariant.so_far
+
+pub returns-clause-any_exit : goal.returns-clause-any_exit
+returns-clause-any_exit g c =
+    let m = committed c.args.store.now in
+    found_some c.args.direction c.args.first c.args.body.records c.loop-step.step c.args.text.now
+    (cyclic_records m c.args.body) _
+    (length-cyclic m c.args.body c.requires.body) c.loop-step.invariant.so_far

@@ -30,3 +30,12 @@ search_records-requires g c =
       search rules,
       (c.requires.ready, (c.requires.body, (both.0, (both.1, (c.requires.room, c.clear.ensures))))),
     )
+
+pub returns-then-not-has_record-clause-any_exit : goal.returns-then-not-has_record-clause-any_exit
+returns-then-not-has_record-clause-any_exit g c = record { some = 0; is = c.clear.ensures }
+
+pub returns-in_err-search_records-clause-any_exit : goal.returns-in_err-search_records-clause-any_exit
+returns-in_err-search_records-clause-any_exit g c = c.search_records.ensures.any_exit
+
+pub returns-clause-any_exit : goal.returns-clause-any_exit
+returns-clause-any_exit g c = c.search_records.ensures.any_exit

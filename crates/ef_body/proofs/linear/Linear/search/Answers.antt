@@ -1,48 +1,41 @@
-use Rattle.std.proofs.Common.{rules, arith, ap, sym, subst, ◌∙◌}
+use Rattle.std.proofs.Common.{rules, ◌≡◌, ◌≤◌, ℕ, List, [], OnOk, ap, sym, subst, ◌∙◌}
+use Rattle.std.specs.Result.{result_err}
 use Rattle.undo_journal.specs.Memory.{committed}
+use Rattle.block_chain.specs.Changes.{AppendsSome}
 use Rattle.ef_body.specs.declared.cyclic.Cyclic.{Cyclic}
 use Rattle.ef_body.specs.Searching.{found}
-use Rattle.ef_body.specs.Bodies.{linear_records, cyclic_records, IsCyclic}
-use Rattle.ef_body.proofs.Becoming.{length-linear, ring_is, ring_records}
-use Rattle.ef_body.proofs.Refusing.{missing, present, store_decides}
+use Rattle.ef_body.specs.Refusals.{missing_record, Decides}
+use Rattle.ef_body.specs.Bodies.{cyclic_records, IsCyclic}
+use Rattle.ef_body.proofs.Becoming.{ring_is, ring_records}
 use Rattle.ef_body.proofs.linear.Linear.search.Goals as goal
 
-pub returns-then-not-has_record-clause-refusal : goal.returns-then-not-has_record-clause-refusal
-returns-then-not-has_record-clause-refusal g c =
-    let m = committed c.args.store.now in
-    missing (linear_records m c.args.self) c.args.self.records c.args.first c.has_record.result
-    (length-linear m c.args.self c.requires.body) c.has_record.ensures c.if-not-has_record.true
-
-pub returns-clause-refusal : goal.returns-clause-refusal
-returns-clause-refusal g c =
-    let m = committed c.args.store.now in
-    present (linear_records m c.args.self) c.args.self.records c.args.first c.has_record.result
-    (length-linear m c.args.self c.requires.body) c.has_record.ensures c.if-not-has_record.false
-
-pub returns-in_err-search_records-clause-refusal : goal.returns-in_err-search_records-clause-refusal
-returns-in_err-search_records-clause-refusal g c =
-    let m = committed c.args.store.now in
-    store_decides _ c.from_residual.result c.in_err-search_records.field-0.0 c.from_residual.ensures.1
-    (present (linear_records m c.args.self) c.args.self.records c.args.first c.has_record.result
-    (length-linear m c.args.self c.requires.body) c.has_record.ensures c.if-not-has_record.false)
-
-pub search_records-requires : goal.search_records-requires
-search_records-requires g c =
-    let m = committed c.args.store.now in
-    let both = c.has_record.ensures.0 c.if-not-has_record.false in
-    let family : Cyclic → Type 0 = λ b. IsCyclic m b in
-    let body = subst family (sym c.ring.ensures) (ring_is m c.args.self c.requires.body) in
-    let records = ap (λ (b : Cyclic). b.records) c.ring.ensures in (
+pub search-requires : goal.search-requires
+search-requires g c =
+    let m = committed c.args.store.now in (
       search rules,
       (
         c.requires.ready,
-        (body, (both.0, (omega (arith, records, both.1), (omega (arith, records, c.requires.room), c.clear.ensures)))),
+        (
+          subst (λ (b : Cyclic). IsCyclic m b) (sym c.ring.ensures) (ring_is m c.args.self c.requires.body),
+          subst (λ (b : Cyclic). b.records ≤ g.row.N) (sym c.ring.ensures) c.requires.room,
+        ),
       ),
     )
 
 pub returns-clause-numbers : goal.returns-clause-numbers
 returns-clause-numbers g c =
     let m = committed c.args.store.now in
-    c.in_ok-search_records.ensures.numbers
-    ∙ ap (λ (b : Cyclic). found c.args.direction c.args.first c.args.text.now (cyclic_records m b)) c.ring.ensures
-    ∙ ap (found c.args.direction c.args.first c.args.text.now) (ring_records m c.args.self c.requires.body)
+    subst (λ (l : List (List ℕ)). OnOk c.search.result (c.search.new.numbers.items ≡ found c.args.direction c.args.first c.args.text.now l))
+    (ap (cyclic_records m) c.ring.ensures ∙ ring_records m c.args.self c.requires.body) c.search.ensures.numbers
+
+pub returns-clause-any_exit : goal.returns-clause-any_exit
+returns-clause-any_exit g c =
+    let m = committed c.args.store.now in
+    subst (λ (l : List (List ℕ)). AppendsSome [] (found c.args.direction c.args.first c.args.text.now l) c.search.new.numbers.items)
+    (ap (cyclic_records m) c.ring.ensures ∙ ring_records m c.args.self c.requires.body) c.search.ensures.any_exit
+
+pub returns-clause-refusal : goal.returns-clause-refusal
+returns-clause-refusal g c =
+    let m = committed c.args.store.now in
+    subst (λ (l : List (List ℕ)). Decides (missing_record l c.args.first) (result_err c.search.result))
+    (ap (cyclic_records m) c.ring.ensures ∙ ring_records m c.args.self c.requires.body) c.search.ensures.refusal
