@@ -1,7 +1,7 @@
 -- A block in which a whole command came: what the card makes of the command is what it makes of the block.
 use Rattle.std.specs.Prelude.{◌≡◌, ◌⊎◌, ℕ, List, [], Option, Some, unwrap_or}
 use Rattle.std.proofs.Common.{ap, inl, inr, refl, subst, sym, ◌∙◌}
-use Rattle.t1_link.specs.CardTable.{Reaction, answers, bytes_said, command_of, link_step, replies, runs}
+use Rattle.t1_link.specs.CardTable.{Reaction, answers, reply_bytes, command_of, link_step, replies, runs}
 use Rattle.card_core.specs.Running.{FailsIn, IsCutIn, Steps, card_found, memory_failure}
 use Rattle.card_core.specs.Steps.{answer_bytes}
 use Rattle.card_bench.specs.CardBlocks.{FailsAt, IsCutAt, IsRun, Powered, Replies, answering, card_by, machine}
@@ -16,19 +16,19 @@ of-run P (runs command) bytes waits holds =
 
 -- power was lost in the command
 pub cut-at : (p new : Powered) (got bytes answer out : List ℕ) → command_of (link_step p.link got).reaction ≡ Some bytes
-    → out ≡ bytes_said (link_step p.link got).reaction → IsCutIn p.card new.card answer → IsCutAt p got new out
+    → out ≡ reply_bytes (link_step p.link got).reaction → IsCutIn p.card new.card answer → IsCutAt p got new out
 cut-at p new got bytes answer out waits block cut = record {
   power = cut.power;
   run = of-run IsRun (link_step p.link got).reaction bytes waits tt;
   state = cut.state;
   session = cut.session;
-  block = block ∙ of-run (λ (r : Reaction). bytes_said r ≡ []) (link_step p.link got).reaction bytes waits refl;
+  block = block ∙ of-run (λ (r : Reaction). reply_bytes r ≡ []) (link_step p.link got).reaction bytes waits refl;
 }
 
 module _ (p new : Powered) (got bytes answer out : List ℕ) where
   module _ (waits : command_of (link_step p.link got).reaction ≡ Some bytes)
       (link : new.link ≡ (answers (link_step p.link got).link answer).link)
-      (block : out ≡ bytes_said (answers (link_step p.link got).link answer).reaction) where
+      (block : out ≡ reply_bytes (answers (link_step p.link got).link answer).reaction) where
     -- the link goes on with the answer to the command, which is that of the card
     linked : (answer_to : List ℕ → List ℕ) → answer ≡ answer_to bytes
         → new.link ≡ (answering (link_step p.link got).link (link_step p.link got).reaction answer_to).link
@@ -37,10 +37,10 @@ module _ (p new : Powered) (got bytes answer out : List ℕ) where
         (link ∙ ap (λ (l : List ℕ). (answers (link_step p.link got).link l).link) is)
 
     blocked : (answer_to : List ℕ → List ℕ) → answer ≡ answer_to bytes
-        → out ≡ bytes_said (answering (link_step p.link got).link (link_step p.link got).reaction answer_to).reaction
+        → out ≡ reply_bytes (answering (link_step p.link got).link (link_step p.link got).reaction answer_to).reaction
     blocked answer_to is =
-        of-run (λ (r : Reaction). out ≡ bytes_said (answering (link_step p.link got).link r answer_to).reaction) (link_step p.link got).reaction
-        bytes waits (block ∙ ap (λ (l : List ℕ). bytes_said (answers (link_step p.link got).link l).reaction) is)
+        of-run (λ (r : Reaction). out ≡ reply_bytes (answering (link_step p.link got).link r answer_to).reaction) (link_step p.link got).reaction
+        bytes waits (block ∙ ap (λ (l : List ℕ). reply_bytes (answers (link_step p.link got).link l).reaction) is)
 
     steps-replies : Steps p.card bytes new.card answer → Replies p got new out
     steps-replies steps = record {

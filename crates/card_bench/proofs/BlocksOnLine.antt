@@ -1,6 +1,6 @@
 -- What a line does to blocks that are put on it one after another.
 use Rattle.std.specs.Prelude.{◌≡◌, ◌≢◌, ◌≤◌, ◌<◌, ◌+◌, ◌-◌, ◌^◌, ◌==◌, ℕ, Bool, true, false, nat_lt, bit_xor, List, [], ◌∷◌, ◌++◌, Option, None, Some}
-use Rattle.std.specs.Prelude.{Ok, Err, refl, if◌then◌else◌, zero, suc, length, slice_index, slice_set}
+use Rattle.std.specs.Prelude.{Ok, Err, refl, if◌then◌else◌}
 use Rattle.std.specs.Int.Bits.{xor_self, xor_assoc, xor_zero_l}
 use Rattle.std.proofs.Common.{arith, ap, ap₂, sym, subst, ◌∙◌}
 use Rattle.std.proofs.lemmas.Bool.{and_from, and_parts, ltb-true, ltb-false, lt-ltb, le-ltb, ne_eqb, eq-eqb, eqb-true}
@@ -9,7 +9,8 @@ use Rattle.t1_link.specs.declared.block.Fault.TheVariants.{WrongCheck}
 use Rattle.t1_link.specs.Blocks.{Block, IsSpellable, exclusive_or, frame, front, heard}
 use Rattle.t1_link.specs.BlockLaws.{frame-heard, heard-other_check}
 use Rattle.card_bench.specs.declared.line.Line.{Line}
-use Rattle.card_bench.specs.Lines.{arriving, is_due, last_bit_turned, line_after, pending_after}
+use Rattle.t1_link.specs.Garbled.{last_bit_turned}
+use Rattle.card_bench.specs.Lines.{arriving, is_due, line_after, pending_after}
 use Rattle.card_bench.specs.Worlds.{are_bytes, is_garbled, may_arrive}
 
 -- no block was put on the line
@@ -75,16 +76,6 @@ pub last_bit_turned-last : (bytes : List ℕ) (last : ℕ) → last_bit_turned (
 last_bit_turned-last [] last = refl
 last_bit_turned-last (byte ∷ []) last = refl
 last_bit_turned-last (byte ∷ next ∷ bytes) last = ap (λ (rest : List ℕ). byte ∷ rest) (last_bit_turned-last (next ∷ bytes) last)
-
--- the last byte is turned where it stands
-pub last_bit_turned_at : (bytes : List ℕ) (i : ℕ) → i + 1 ≡ length bytes → last_bit_turned bytes ≡ slice_set bytes i (bit_xor (slice_index bytes i) 1)
-last_bit_turned_at [] i e = absurd (omega arith)
-last_bit_turned_at (last ∷ []) zero e = refl
-last_bit_turned_at (last ∷ []) (suc i) e = absurd (omega arith)
-last_bit_turned_at (byte ∷ next ∷ bytes) zero e = absurd (omega arith)
-last_bit_turned_at (byte ∷ next ∷ bytes) (suc i) e =
-    let one : i + 1 ≡ length (next ∷ bytes) = omega arith in
-    ap (λ (rest : List ℕ). byte ∷ rest) (last_bit_turned_at (next ∷ bytes) i one)
 
 -- a bit that is turned makes another number
 bit-turned : (n : ℕ) → bit_xor n 1 ≢ n

@@ -86,7 +86,8 @@ more-blocks course blocks w pending new cut_off (before, all, unreported, cut) =
   omega (arith, all),
   unreported,
   let here : World Served = world_at (line_after 1 pending) (stepped pending w) before in
-      subst (λ (l : Line). ExchangeIsCut course.command (arrival here.line (fate l (bytes_of_line here.line))) here new.bench) (later-blocks before pending) cut,
+      subst (λ (l : Line). ExchangeIsCut course.command (arrival here.line (fate l (bytes_of_line here.line))) here new.bench)
+      (later-blocks before pending) cut,
 )
 
 reached-step : (start : Served) (w : World Served) (event : Event) → IsProperState start → IsReached start w → IsReached start (world_step tree_machine w event)

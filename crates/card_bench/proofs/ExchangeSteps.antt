@@ -6,7 +6,7 @@ use Rattle.t1_link.specs.declared.block.Fault.{Fault}
 use Rattle.t1_link.specs.declared.block.Fault.TheVariants.{WrongCheck}
 use Rattle.t1_link.specs.Blocks.{Block, frame}
 use Rattle.t1_link.specs.BlockLaws.{heard-frame}
-use Rattle.t1_link.specs.CardTable.{Link, Reaction, Taken, answers, bytes_said, card_takes, link_step, replies, runs}
+use Rattle.t1_link.specs.CardTable.{Link, Reaction, Taken, answers, reply_bytes, card_takes, link_step, replies, runs}
 use Rattle.t1_link.specs.ReaderFields.{next_of}
 use Rattle.t1_link.specs.ReaderTable.{Outcome, Reader, Turned, fails, gives, reader_step, reader_times_out, sends, unknown}
 use Rattle.card_core.specs.Cards.{Card}
@@ -21,7 +21,8 @@ use Rattle.card_bench.specs.Exchanges.{ReaderTurns, given_up, set_back}
 use Rattle.card_bench.specs.Exchanges as ways
 use Rattle.card_bench.specs.ExchangeWorlds.{AreOfWorld, ExchangeIsCut, IsReported, StandIn, bytes_of_line, fate, state_served}
 use Rattle.card_bench.specs.Lines as lines
-use Rattle.card_bench.specs.Lines.{is_due, last_bit_turned, line_after}
+use Rattle.t1_link.specs.Garbled.{last_bit_turned}
+use Rattle.card_bench.specs.Lines.{is_due, line_after}
 use Rattle.card_bench.specs.TreeMachine.{IsProperState, Served, tree_machine}
 use Rattle.card_bench.specs.Worlds.{Arrival, Done, Failed, Line as WorldLine, Report, Unknown, World, arrival, after_arrival, at_card, at_reader, garble}
 use Rattle.card_bench.specs.Worlds.{in_vain, lose, may_arrive, noted, pass, reacting, taking, toward_card}
@@ -65,7 +66,8 @@ ShowsIn (Err cut_off) sent earlier w = ⊥
 -- what the arrival of a block led to: power was lost, or the ends stand in the world after it, where what follows shows
 abbrev pub LeadsTo : Result Way Ended → World Served → Arrival → Ends → Type 0
 LeadsTo (Err cut_off) w came new = ExchangeIsCut (newest w.sent) came w new.bench
-LeadsTo follows w came new = StandIn new.bench new.reader (after_arrival tree_machine w came) × ShowsIn follows w.sent w.reports (after_arrival tree_machine w came)
+LeadsTo follows w came new = StandIn new.bench new.reader (after_arrival tree_machine w came)
+    × ShowsIn follows w.sent w.reports (after_arrival tree_machine w came)
 
 -- what arrives, in the words of the world
 abbrev arrival_of : Way → Option (List ℕ) → Arrival
@@ -179,7 +181,7 @@ card-replies : (p after : Powered) (w : World Served) (reader : Reader) (l : Lin
     → card_found after.card ≡ card_by (card_found p.card) r (λ command. (machine p command).card)
     → after.card.session ≡ session_by p.card.session r (λ command. (machine p command).session)
     → after.link ≡ (answering l r (λ command. answer_bytes (machine p command).response)).link
-    → bytes ≡ bytes_said (answering l r (λ command. answer_bytes (machine p command).response)).reaction
+    → bytes ≡ reply_bytes (answering l r (λ command. answer_bytes (machine p command).response)).reaction
     → AreOfWorld after reader (reacting tree_machine (record w { card = l }) r)
     × ShowsIn (Ok (ways.toward_reader bytes)) w.sent w.reports (reacting tree_machine (record w { card = l }) r)
 card-replies p after w reader l (replies b) bytes served same card session link block =
@@ -195,7 +197,7 @@ card-replies p after w reader l (runs command) bytes served same card session li
       record {
         reports = refl;
         sent_is = refl;
-        way_is = (_, refl, block ∙ ap (λ (m : Served). bytes_said (answers l (tree_machine.answer m command)).reaction) served);
+        way_is = (_, refl, block ∙ ap (λ (m : Served). reply_bytes (answers l (tree_machine.answer m command)).reaction) served);
       },
     )
 

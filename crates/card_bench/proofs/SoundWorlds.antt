@@ -9,7 +9,8 @@ use Rattle.t1_link.specs.BlockLaws.{heard-frame}
 use Rattle.t1_link.specs.CardTable.{Reaction, link_step, replies, runs, sending}
 use Rattle.t1_link.specs.ReaderTable.{Outcome, Turned, fails, gives, is_busy, reader_sends, reader_step, reader_times_out, sends, unknown}
 use Rattle.apdu_core.specs.OfBytes.{AreBytes}
-use Rattle.card_bench.specs.Worlds.{Arrival, Event, Line, Machine, World, are_bytes, arrival, after_arrival, at_card, at_reader, garble, giving, in_vain, is_command}
+use Rattle.card_bench.specs.Worlds.{Arrival, Event, Line, Machine, World, are_bytes, arrival, after_arrival, at_card, at_reader}
+use Rattle.card_bench.specs.Worlds.{garble, giving, in_vain, is_command}
 use Rattle.card_bench.specs.Worlds.{is_garbled, lose, may_arrive, may_send, noted, nothing, pass, powered, quiet, reacting, send, toward_card}
 use Rattle.card_bench.specs.Worlds.{toward_reader, turning, world, world_step}
 use Rattle.card_bench.proofs.SoundBlocks.{IsSound, IsSoundLink, IsSoundOutcome, IsSoundReaction, IsSoundReader, IsSoundTaken, IsSoundTurned, IsSoundlyHeard}

@@ -1,7 +1,7 @@
 -- A card behind its end of the link: what it makes of each block.
 use Rattle.std.specs.Prelude.{◌≡◌, ℕ, List, []}
 use Rattle.nvm_board.specs.Facts.{Steady, GoesDark, Fails}
-use Rattle.t1_link.specs.CardTable.{Link, link_step, Taken, Reaction, replies, runs, answers, bytes_said}
+use Rattle.t1_link.specs.CardTable.{Link, link_step, Taken, Reaction, replies, runs, answers, reply_bytes}
 use Rattle.apdu_core.specs.Asked.{asked}
 use Rattle.card_core.specs.Comparing.{comparisons, ComparesAsked, ComparesNothing}
 use Rattle.card_core.specs.declared.card_state.CardState.TheVariants.{Working, Failed, Dark}
@@ -69,13 +69,13 @@ pub record Replies (old : Powered) (got : List ℕ) (new : Powered) (out : List 
   pub card : card_found new.card ≡ card_by (card_found old.card) (link_step old.link got).reaction (λ command. (machine old command).card)
   pub session : new.card.session ≡ session_by old.card.session (link_step old.link got).reaction (λ command. (machine old command).session)
   pub link : new.link ≡ (block_answered old.link got (λ command. answer_bytes (machine old command).response)).link
-  pub block : out ≡ bytes_said (block_answered old.link got (λ command. answer_bytes (machine old command).response)).reaction
+  pub block : out ≡ reply_bytes (block_answered old.link got (λ command. answer_bytes (machine old command).response)).reaction
 
 -- The reply of a card whose memory failed: each command is answered 6581.
 pub record RepliesFailure (old : Powered) (got : List ℕ) (new : Powered) (out : List ℕ) : Type 0 where
   pub state : new.card.state ≡ Failed
   pub link : new.link ≡ (block_answered old.link got (λ command. memory_failure)).link
-  pub block : out ≡ bytes_said (block_answered old.link got (λ command. memory_failure)).reaction
+  pub block : out ≡ reply_bytes (block_answered old.link got (λ command. memory_failure)).reaction
 
 -- a command was to run, the board had a fault, and from here on the memory has failed
 pub record FailsAt (old : Powered) (got : List ℕ) (new : Powered) (out : List ℕ) : Type 0 where

@@ -1,4 +1,4 @@
--- What the fields of an exchange stand for: blocks and answers stand in buffers.
+-- What the fields of an exchange stand for: blocks stand in buffers.
 use Rattle.std.specs.Prelude.{Result, Ok, Err}
 use Rattle.core.specs.declared.ops.ControlFlow.{ControlFlow}
 use Rattle.core.specs.declared.ops.ControlFlow.TheVariants.{Continue, Break}
@@ -11,17 +11,17 @@ use Rattle.card_bench.specs.Exchanges.{Way, toward_card, toward_reader, Ended, a
 
 -- the block that goes on the line next
 abbrev pub way_of : Toward → Blocks → Way
-way_of Card blocks = toward_card blocks.toward_card.items
-way_of Reader blocks = toward_reader blocks.toward_reader.items
+way_of Card blocks = toward_card blocks.toward_card
+way_of Reader blocks = toward_reader blocks.toward_reader
 
--- how an exchange ends; an answer stands in the buffer toward the reader
-abbrev pub ended_by : Ending → Blocks → Ended
-ended_by Answered blocks = answered blocks.toward_reader.items
-ended_by SetBack blocks = set_back
-ended_by Lost blocks = given_up
-ended_by Dark blocks = cut_off
+-- how an exchange ends
+abbrev pub ended_by : Ending → Ended
+ended_by (Answered answer) = answered answer.items
+ended_by SetBack = set_back
+ended_by Lost = given_up
+ended_by Dark = cut_off
 
 -- what follows
 abbrev pub follows_of : ControlFlow Ending Toward → Blocks → Result Way Ended
 follows_of (Continue toward) blocks = Ok (way_of toward blocks)
-follows_of (Break ending) blocks = Err (ended_by ending blocks)
+follows_of (Break ending) blocks = Err (ended_by ending)

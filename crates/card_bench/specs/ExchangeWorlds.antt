@@ -4,6 +4,7 @@ use Rattle.std.specs.Prelude.{◌≡◌, ◌⊎◌, ◌≤◌, ◌+◌, ℕ, zer
 use Rattle.t1_link.specs.declared.reader_end.Failure.{Failure}
 use Rattle.t1_link.specs.Blocks.{frame}
 use Rattle.t1_link.specs.CardTable.{link_step, runs}
+use Rattle.t1_link.specs.Garbled.{last_bit_turned}
 use Rattle.t1_link.specs.ReaderTable.{Reader}
 use Rattle.card_core.specs.Running.{card_found}
 use Rattle.card_core.specs.Stages.{IsStage}
@@ -12,7 +13,7 @@ use Rattle.card_bench.specs.declared.line.Line.{Line}
 use Rattle.card_bench.specs.BenchStates.{BenchState, off, on, bench_card, IsOff}
 use Rattle.card_bench.specs.CardBlocks.{Powered}
 use Rattle.card_bench.specs.Exchanges.{Ended, Ends, Exchanged, answered, cut_off, given_up, set_back}
-use Rattle.card_bench.specs.Lines.{is_due, last_bit_turned, line_after}
+use Rattle.card_bench.specs.Lines.{is_due, line_after}
 use Rattle.card_bench.specs.TreeMachine.{IsProperState, Served, tree_machine}
 use Rattle.card_bench.specs.Worlds.{Arrival, Done, Event, Failed, Line as WorldLine, Report, Unknown, World, arrival, at_card, garble}
 use Rattle.card_bench.specs.Worlds.{is_command, lose, pass, quiet}

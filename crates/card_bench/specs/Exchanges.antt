@@ -34,7 +34,7 @@ GoesOn cut_off = ⊥
 
 -- what follows from what the reader's end says: the block that goes on the line next, or how the exchange ends
 abbrev pub following : Next → Result Way Ended
-following (Send block) = Ok (toward_card block.items)
+following (Send block) = Ok (toward_card block)
 following (Done answer) = Err (answered answer.items)
 following Unknown = Err set_back
 following (Failed failure) = Err given_up
@@ -53,7 +53,7 @@ pub record ReaderTurns (turned : Turned) (reader : Reader) (follows : Result Way
 -- The card's end got these bytes, as a turn of the bench, and this follows.
 abbrev pub CardTakes : BenchState → List ℕ → BenchState → Result Way Ended → Type 0
 CardTakes old got new (Ok (toward_card bytes)) = ⊥
-CardTakes old got new (Ok (toward_reader bytes)) = GoodBlock old got (item.Reply (record { items = bytes })) new
+CardTakes old got new (Ok (toward_reader bytes)) = GoodBlock old got (item.Reply bytes) new
 CardTakes old got new (Err (answered bytes)) = ⊥
 CardTakes old got new (Err set_back) = ⊥
 CardTakes old got new (Err given_up) = ⊥

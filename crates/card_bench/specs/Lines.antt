@@ -1,5 +1,6 @@
 -- The line between the two ends, on which a block may be lost or garbled.
-use Rattle.std.specs.Prelude.{ℕ, ◌-◌, ◌==◌, Bool, false, nat_lt, bit_xor, List, [], ◌∷◌, Option, None, Some, if◌then◌else◌}
+use Rattle.std.specs.Prelude.{ℕ, ◌-◌, ◌==◌, Bool, false, nat_lt, List, Option, None, Some, if◌then◌else◌}
+use Rattle.t1_link.specs.Garbled.{last_bit_turned}
 use Rattle.card_bench.specs.declared.line.Line.{Line}
 
 -- whether a fault is pending that falls due with the block before which so many others go
@@ -14,12 +15,6 @@ pending_after blocks (Some wait) = if nat_lt wait blocks then None else Some (wa
 
 abbrev pub line_after : ℕ → Line → Line
 line_after blocks line = record { lose = pending_after blocks line.lose; garble = pending_after blocks line.garble }
-
--- bytes with bit 1 of the last one turned
-abbrev pub last_bit_turned : List ℕ → List ℕ
-last_bit_turned [] = []
-last_bit_turned (last ∷ []) = bit_xor last 1 ∷ []
-last_bit_turned (byte ∷ next ∷ bytes) = byte ∷ last_bit_turned (next ∷ bytes)
 
 -- what arrives of a block before which so many others go: nothing where it is due to be lost, be it due to be garbled or not
 abbrev pub arriving : Line → ℕ → List ℕ → Option (List ℕ)

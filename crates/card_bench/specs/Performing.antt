@@ -21,7 +21,7 @@ shown item.Atr = prints_atr
 shown item.Quiet = prints_nothing
 shown item.Mute = prints_mute
 shown item.Dark = prints_dark
-shown (item.Reply block) = prints_bytes block.items
+shown (item.Reply block) = prints_bytes block
 
 -- the reader's end after a power-on: a fresh one, where the card started
 abbrev pub reader_after : Item → Option Reader

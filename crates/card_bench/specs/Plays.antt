@@ -7,7 +7,6 @@ use Rattle.card_bench.specs.declared.playing.Sent.{Sent}
 use Rattle.card_bench.specs.declared.playing.Sent.TheVariants as sent
 use Rattle.card_bench.specs.declared.playing.Item.{Item}
 use Rattle.card_bench.specs.declared.playing.Item.TheVariants.{Atr, Quiet, Mute, Dark, Reply}
-use Rattle.arrayvec.specs.ArrayVec.{ArrayVec}
 use Rattle.card_bench.specs.BenchStates.{BenchState, bench_facts, BenchHasCard, IsOff, IsOn, IsWell}
 use Rattle.card_bench.specs.Turns.{CountsLosses, OneTurn, Runs, Spends, TakesBlock, dark_of, darks}
 
@@ -29,7 +28,7 @@ powered_item power.Mute = Mute
 powered_item power.Dark = Dark
 
 -- what comes of a block; the reply stands in a buffer
-abbrev pub sent_item : Sent → ArrayVec ℕ → Item
+abbrev pub sent_item : Sent → List ℕ → Item
 sent_item sent.Reply out = Reply out
 sent_item sent.Mute out = Mute
 sent_item sent.Dark out = Dark

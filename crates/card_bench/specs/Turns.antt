@@ -56,7 +56,7 @@ Hears old got Atr new = ⊥
 Hears old got Quiet new = ⊥
 Hears old got Mute new = ⊥
 Hears old got Dark new = IsCutOff old got new
-Hears old got (Reply block) new = GoesOnWith old got new block.items
+Hears old got (Reply block) new = GoesOnWith old got new block
 
 -- a block
 abbrev pub TakesBlock : BenchState → List ℕ → Item → BenchState → Type 0

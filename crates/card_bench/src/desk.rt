@@ -1,6 +1,5 @@
 //! The desk: a bench, the reader's end of the link, and the line between the two ends.
 ghost use Rattle.std.specs.Prelude.{◌≡◌, ◌≢◌, ◌≤◌, ℕ, List, None, length, true};
-ghost use Rattle.arrayvec.specs.ArrayVec.{ArrayVec};
 ghost use Rattle.std.specs.Option.{ForSome};
 ghost use Rattle.t1_link.specs.declared.reader_end.Phase.TheVariants.{Busy};
 ghost use Rattle.card_bench.specs.declared.order.TheConstants.{COMMAND_LIMIT};
@@ -15,6 +14,7 @@ use crate::exchange::{Blocks, Ending, exchange};
 use crate::line::Line;
 use crate::order::Order;
 use crate::playing::{Bench, PowerOn, Sent};
+use crate::printing::SentBytes;
 use card_core::FreeSpace;
 use nvm_board::{Armed, Faultless, Socket};
 use t1_link::{BlockBytes, ReaderEnd};
@@ -31,7 +31,7 @@ pub(crate) enum Printed {
     Dark,
     /// The link was lost.
     Lost,
-    /// Bytes that the card sent, which stand in the buffer toward the reader.
+    /// Bytes that the card sent, which stand in the desk's buffer of them.
     Bytes,
     /// What is free.
     Free(FreeSpace),
@@ -45,6 +45,8 @@ pub(crate) struct Desk<B: Socket> {
     reader: Option<ReaderEnd>,
     line: Line,
     blocks: Blocks,
+    /// The bytes to be printed: the answer to the last command that has one, or the block that came back since.
+    bytes: SentBytes,
     ghost idle: { ForSome reader (λ r. r.phase ≢ Busy) },
 }
 
@@ -63,15 +65,16 @@ impl<B: Socket> Desk<B> {
                 toward_card: BlockBytes::new(),
                 toward_reader: BlockBytes::new(),
             },
+            bytes: SentBytes::new(),
         }
     }
 
-    /// The bytes that the card sent last.
+    /// The bytes to be printed.
     pub(crate) fn bytes(&self) -> &[u8]
-        ensures bytes { result.now ≡ self.now.blocks.toward_reader.items }
+        ensures bytes { result.now ≡ self.now.bytes.items }
         ensures fits { length result.now ≤ BYTES_ROOM }
     {
-        &self.blocks.toward_reader
+        &self.bytes
     }
 }
 
@@ -84,7 +87,7 @@ impl<B: Armed + Faultless> Desk<B> {
         ensures performs { Performs order.now
             (record { bench = self.old.bench; reader = self.old.reader; line = self.old.line })
             (record { bench = self.new.bench; reader = self.new.reader; line = self.new.line })
-            (print_of result self.new.blocks.toward_reader.items) }
+            (print_of result self.new.bytes.items) }
     {
         match order {
             Order::Nothing => Printed::Nothing,
@@ -105,7 +108,8 @@ impl<B: Armed + Faultless> Desk<B> {
             Order::Apdu(command) => self.command(command),
             Order::Block(block) => {
                 self.reader = None;
-                print_of_sent(self.bench.good_send(block, &mut self.blocks.toward_reader))
+                let sent = self.bench.good_send(block, &mut self.blocks.toward_reader);
+                print_of_sent(sent, &self.blocks.toward_reader, &mut self.bytes)
             }
             Order::Cut { number, mask } => {
                 self.bench.arm(*number, *mask);
@@ -139,7 +143,7 @@ impl<B: Armed + Faultless> Desk<B> {
         ensures performs { PerformsCommand self.old.bench
             (record { bench = self.old.bench; reader = self.old.reader; line = self.old.line }) command.now
             (record { bench = self.new.bench; reader = self.new.reader; line = self.new.line })
-            (print_of result self.new.blocks.toward_reader.items) }
+            (print_of result self.new.bytes.items) }
     {
         if !self.bench.is_on() {
             return Printed::Mute;
@@ -154,8 +158,9 @@ impl<B: Armed + Faultless> Desk<B> {
             &mut self.blocks,
             command,
         ) {
-            Ending::Answered => {
+            Ending::Answered(answer) => {
                 self.reader = Some(reader);
+                self.bytes = answer;
                 Printed::Bytes
             }
             Ending::SetBack => {
@@ -179,12 +184,16 @@ fn print_of_power(power_on: PowerOn) -> Printed
     }
 }
 
-/// What is printed of a block.
-fn print_of_sent(sent: Sent) -> Printed
-    ensures { (out : ArrayVec ℕ) → print_of result out.items ≡ shown (sent_item sent out) }
+/// What is printed of a block. Where there is a reply, its bytes go to the buffer.
+fn print_of_sent(sent: Sent, reply: &BlockBytes, bytes: &mut SentBytes) -> Printed
+    ensures { print_of result bytes.new.items ≡ shown (sent_item sent reply.now) }
 {
     match sent {
-        Sent::Reply => Printed::Bytes,
+        Sent::Reply => {
+            bytes.clear();
+            bytes.try_extend_from_slice(reply.as_slice()).unwrap();
+            Printed::Bytes
+        }
         Sent::Mute => Printed::Mute,
         Sent::Dark => Printed::Dark,
     }

@@ -12,7 +12,7 @@ use crate::line::Line;
 use crate::playing::{Bench, Sent};
 use nvm_board::{Faultless, Socket};
 use std::ops::ControlFlow;
-use t1_link::{BlockBytes, Next, ReaderEnd};
+use t1_link::{AnswerBytes, BlockBytes, Next, ReaderEnd};
 
 /// The most blocks that a command puts on the line, in both directions together.
 pub(crate) const LINE_BLOCKS: u16 = 1000;
@@ -24,7 +24,7 @@ pub(crate) enum Toward {
     Reader,
 }
 
-/// The buffers of the blocks under way, one toward each end. The answer of a command stands in the one toward the reader.
+/// The buffers of the blocks under way, one toward each end.
 #[derive(Drop)]
 pub(crate) struct Blocks {
     pub toward_card: BlockBytes,
@@ -32,10 +32,10 @@ pub(crate) struct Blocks {
 }
 
 /// How an exchange ended.
-#[derive(Clone, Copy)]
+#[derive(Drop)]
 pub(crate) enum Ending {
-    /// With an answer, which stands in the buffer toward the reader.
-    Answered,
+    /// With this answer.
+    Answered(AnswerBytes),
     /// The link was set back, and it isn't known whether the command was carried out.
     SetBack,
     /// The reader's end gave the link up, or too many blocks were put on the line.
@@ -59,9 +59,9 @@ pub(crate) fn exchange<B: Socket + Faultless>(
     requires power { IsOn bench.old }
     ensures exchanged { Exchanged
         (record { bench = bench.old; reader = reader.old; line = line.old }) command.now
-        (record { bench = bench.new; reader = reader.new; line = line.new }) (ended_by result blocks.new) }
+        (record { bench = bench.new; reader = reader.new; line = line.new }) (ended_by result) }
     ensures good { IsGood bench.new }
-    ensures idle { GoesOn (ended_by result blocks.new) → reader.new.phase ≢ Busy }
+    ensures idle { GoesOn (ended_by result) → reader.new.phase ≢ Busy }
 {
     match saying(reader.send(command), blocks) {
         ControlFlow::Continue(first) => pass_blocks(
@@ -90,9 +90,9 @@ fn pass_blocks<B: Socket + Faultless>(
     requires power { IsOn bench.old }
     ensures run { Exchanges limit
         (record { bench = bench.old; reader = reader.old; line = line.old }) (way_of first blocks.old)
-        (record { bench = bench.new; reader = reader.new; line = line.new }) (ended_by result blocks.new) }
+        (record { bench = bench.new; reader = reader.new; line = line.new }) (ended_by result) }
     ensures good { IsGood bench.new }
-    ensures idle { GoesOn (ended_by result blocks.new) → reader.new.phase ≢ Busy }
+    ensures idle { GoesOn (ended_by result) → reader.new.phase ≢ Busy }
 {
     let mut toward = first;
     for _ in 0..limit {
@@ -144,7 +144,7 @@ fn pass<B: Socket + Faultless>(
     }
 }
 
-/// What follows from what the reader's end says. Its block and its answer go to their buffers.
+/// What follows from what the reader's end says. Its block goes to the buffer toward the card.
 fn saying(next: Next, blocks: &mut Blocks) -> ControlFlow<Ending, Toward>
     ensures follows { follows_of result blocks.new ≡ following next }
     ensures send { IsSend next ↔ IsOk (follows_of result blocks.new) }
@@ -154,10 +154,7 @@ fn saying(next: Next, blocks: &mut Blocks) -> ControlFlow<Ending, Toward>
             blocks.toward_card = block;
             ControlFlow::Continue(Toward::Card)
         }
-        Next::Done(answer) => {
-            blocks.toward_reader = answer;
-            ControlFlow::Break(Ending::Answered)
-        }
+        Next::Done(answer) => ControlFlow::Break(Ending::Answered(answer)),
         Next::Unknown => ControlFlow::Break(Ending::SetBack),
         Next::Failed(_) => ControlFlow::Break(Ending::Lost),
     }

@@ -3,13 +3,14 @@
 ghost use Rattle.std.specs.Prelude.{◌≡◌, ◌+◌, ℕ, Bool, List, true, IsTrue, Ok, Err};
 ghost use Rattle.hex.specs.Hex.{lower_digits, upper_digits};
 ghost use Rattle.t1_link.specs.Blocks.{Block as BlockValue, heard};
+ghost use Rattle.t1_link.specs.Garbled.{last_bit_turned};
 ghost use Rattle.t1_link.specs.declared.block.Fault.TheVariants.{WrongCheck};
 ghost use Rattle.card_bench.specs.declared.exchange.TheConstants.{LINE_BLOCKS};
 ghost use Rattle.card_bench.specs.declared.line.Line.{Line};
 ghost use Rattle.card_bench.specs.declared.order.TheConstants.{BLOCK_LIMIT, COMMAND_LIMIT, LINE_LIMIT, NUMBER_DIGITS};
 ghost use Rattle.card_bench.specs.declared.reading.TheConstants.{SCRIPT_LIMIT};
 ghost use Rattle.card_bench.specs.ExchangeWorlds.{ExchangeLaw};
-ghost use Rattle.card_bench.specs.Lines.{arriving, last_bit_turned, line_after};
+ghost use Rattle.card_bench.specs.Lines.{arriving, line_after};
 ghost use Rattle.card_bench.specs.ScriptWorlds.{PowerOnLaw, LineLaw};
 ghost use Rattle.card_bench.specs.Spellings.{SpellingLaw};
 ghost use Rattle.card_bench.specs.TreeMachine.{tree_machine, IsProperState};

@@ -1,6 +1,6 @@
 //! The line between the two ends, on which a block may be lost or garbled.
 ghost use Rattle.std.specs.Prelude.{◌≡◌, ◌≤◌, ◌-◌, false, None, Some, if◌then◌else◌};
-ghost use Rattle.card_bench.specs.Lines.{arriving, is_due, last_bit_turned, line_after, pending_after};
+ghost use Rattle.card_bench.specs.Lines.{arriving, is_due, line_after, pending_after};
 
 use t1_link::BlockBytes;
 
@@ -43,7 +43,7 @@ impl Line {
     /// Puts the block in a buffer on the line, and tells whether it arrives: as it then stands in the buffer.
     pub fn put(&mut self, block: &mut BlockBytes) -> bool
         ensures after { self.new ≡ line_after 1 self.old }
-        ensures arrives { (if result then Some block.new.items else None) ≡ arriving self.old 0 block.old.items }
+        ensures arrives { (if result then Some block.new else None) ≡ arriving self.old 0 block.old }
         ensures lost { result ≡ false → block.new ≡ block.old }
     {
         let is_lost = falls_due(&mut self.lose);
@@ -52,7 +52,7 @@ impl Line {
             return false;
         }
         if is_garbled {
-            garble(block);
+            block.garble();
         }
         true
     }
@@ -73,16 +73,5 @@ fn falls_due(pending: &mut Option<u32>) -> bool
             *pending = Some(before - 1);
             false
         }
-    }
-}
-
-/// Turns bit 1 of the last byte of a block.
-#[tactic(auto, using(crate::proofs::BlocksOnLine::last_bit_turned_at))]
-fn garble(block: &mut [u8])
-    ensures { block.new ≡ last_bit_turned block.old }
-{
-    let size = block.len();
-    if size > 0 {
-        block[size - 1] ^= 1;
     }
 }

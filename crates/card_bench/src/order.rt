@@ -66,9 +66,9 @@ impl Order {
         } else if line == b"free".as_slice() {
             Some(Order::Free)
         } else if let Some(digits) = line.strip_prefix(b"apdu ") {
-            Some(Order::Apdu(given_bytes(digits, COMMAND_LIMIT)?))
+            Some(Order::Apdu(bytes_in(digits, COMMAND_LIMIT)?))
         } else if let Some(digits) = line.strip_prefix(b"block ") {
-            Some(Order::Block(given_bytes(digits, BLOCK_LIMIT)?))
+            Some(Order::Block(bytes_in(digits, BLOCK_LIMIT)?))
         } else if let Some(words) = line.strip_prefix(b"cut ") {
             cut_of(words)
         } else if let Some(digits) = line.strip_prefix(b"lose ") {
@@ -82,7 +82,7 @@ impl Order {
 }
 
 /// The bytes that hexadecimal digits spell, where they are 1 to `limit`.
-fn given_bytes(digits: &[u8], limit: usize) -> Option<GivenBytes>
+fn bytes_in(digits: &[u8], limit: usize) -> Option<GivenBytes>
     requires { limit ≤ BLOCK_LIMIT }
     ensures bytes { result ≡ bytes_in digits.now limit }
     ensures sized { IfSome result (λ bytes. (1 ≤ length bytes.items) × (length bytes.items ≤ limit)) }

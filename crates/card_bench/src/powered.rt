@@ -74,11 +74,11 @@ impl<B: Board> Powered<B> {
         ensures there { HasCard self.new.card.facts.words }
         ensures stage { IsBlockStage self.old (link_step self.old.link got.now).reaction (card_found self.new.card) }
         ensures replies { OnOk result (self.old.card.state ≡ CardState.Working
-            → Replies self.old got.now self.new out.new.items ⊎ FailsAt self.old got.now self.new out.new.items) }
-        ensures lost { OnErr result (self.old.card.state ≢ CardState.Dark → IsCutAt self.old got.now self.new out.new.items) }
+            → Replies self.old got.now self.new out.new ⊎ FailsAt self.old got.now self.new out.new) }
+        ensures lost { OnErr result (self.old.card.state ≢ CardState.Dark → IsCutAt self.old got.now self.new out.new) }
         ensures failed { self.old.card.state ≡ CardState.Failed
-            → IsOk result × (self.new.card ≡ self.old.card) × RepliesFailure self.old got.now self.new out.new.items }
-        ensures dark { self.old.card.state ≡ CardState.Dark → IsErr result × (self.new ≡ self.old) × (out.new.items ≡ []) }
+            → IsOk result × (self.new.card ≡ self.old.card) × RepliesFailure self.old got.now self.new out.new }
+        ensures dark { self.old.card.state ≡ CardState.Dark → IsErr result × (self.new ≡ self.old) × (out.new ≡ []) }
         ensures unlit { OnErr result (self.new.card.facts.dark ≡ true) }
         // Where no command runs, the card is what it was; and one that changes nothing lasting leaves each word of the board,
         // and each of its counts.

@@ -9,6 +9,7 @@ use arrayvec::ArrayVec;
 use card_core::FreeSpace;
 use itoa::Buffer;
 use std::io::Write;
+use t1_link::AnswerBytes;
 
 /// The answer to reset of the card.
 const ATR: &[u8] = b"atr 3B808131FE458B\n";
@@ -21,6 +22,9 @@ const BYTES_ROOM: usize = 258;
 
 /// Room for a printed line: two digits a byte, what stands before them, and the line feed.
 const PRINTED_ROOM: usize = 2 + 2 * BYTES_ROOM + 1;
+
+/// Bytes to be printed: those of an answer, or of a block, which has no more.
+pub(crate) type SentBytes = AnswerBytes;
 
 /// Room for the text of bytes. What it holds between lines tells nothing.
 pub(crate) type PrintedText = ArrayVec<u8, PRINTED_ROOM>;

@@ -19,7 +19,7 @@ const LINE_ROOM: usize = LINE_LIMIT + 2;
 pub(crate) type LineBytes = ArrayVec<u8, LINE_ROOM>;
 
 /// How a line ended.
-#[derive(Clone, Copy, Debug, PartialEq, Eq)]
+#[derive(Clone, Copy, PartialEq, Eq)]
 pub(crate) enum LineEnd {
     /// With a line feed.
     LineFeed,
@@ -28,7 +28,7 @@ pub(crate) enum LineEnd {
 }
 
 /// Why a line was not read.
-#[derive(Clone, Copy, Debug, PartialEq, Eq)]
+#[derive(Clone, Copy, PartialEq, Eq)]
 pub(crate) enum LineFault {
     /// The reader failed, or the script is too long.
     Read,

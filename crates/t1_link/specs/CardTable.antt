@@ -115,9 +115,9 @@ abbrev pub answers : Link → List ℕ → Taken
 answers l answer = sending l answer
 
 -- the bytes of a reaction's block; none where a command is to run
-abbrev pub bytes_said : Reaction → List ℕ
-bytes_said (replies b) = frame b
-bytes_said (runs command) = []
+abbrev pub reply_bytes : Reaction → List ℕ
+reply_bytes (replies b) = frame b
+reply_bytes (runs command) = []
 
 -- what the caller is to do
 abbrev pub action_of : Reaction → Action

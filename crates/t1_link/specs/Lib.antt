@@ -2,6 +2,7 @@ pub mod Blocks
 pub mod CardFields
 pub mod CardTable
 pub mod Cut
+pub mod Garbled
 pub mod ReaderFields
 pub mod ReaderTable
 pub mod SequenceNumbers

@@ -31,7 +31,7 @@ IsSend (Failed failure) = ⊥
 
 -- what the call returns
 abbrev pub next_of : Outcome → Next
-next_of (sends b) = Send (record { items = frame b })
+next_of (sends b) = Send (frame b)
 next_of (gives answer) = Done (record { items = answer })
 next_of unknown = Unknown
 next_of (fails failure) = Failed failure

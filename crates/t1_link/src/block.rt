@@ -1,17 +1,17 @@
 //! Blocks, and their bytes (ISO/IEC 7816-3, 11.3).
 
-ghost use Rattle.std.specs.Prelude.{◌≡◌, ◌≤◌, ◌++◌, length, IfOk};
+ghost use Rattle.std.specs.Prelude.{◌≡◌, ◌≤◌, ◌++◌, [], length, IfOk};
 ghost use Rattle.std.specs.Option.{ok_or};
 ghost use Rattle.arrayvec.specs.ArrayVec.{array_vec_len};
 ghost use Rattle.t1_link.specs.Blocks.{IsSpellable, at_byte, bare, control_byte, exclusive_or, field_of, frame, heard};
 ghost use Rattle.t1_link.specs.Blocks.{kinds, size_told, told_as};
+ghost use Rattle.t1_link.specs.Garbled.{last_bit_turned};
 ghost use Rattle.t1_link.specs.Spoken.{block_of, spoken};
 
 use crate::sequence_number::SequenceNumber;
 use arrayvec::ArrayVec;
-
-/// The bytes of a block: prologue, information field and check byte.
-pub type BlockBytes = ArrayVec<u8, LONGEST_BLOCK>;
+use std::marker::Model;
+use std::ops::DerefSlice;
 
 /// The most bytes of an information field (11.4.2).
 pub(crate) const FIELD_LIMIT: usize = 254;
@@ -62,6 +62,67 @@ const RESYNCH_RESPONSE: u8 = 0xE0;
 const IFS_REQUEST: u8 = 0xC1;
 
 const IFS_RESPONSE: u8 = 0xE1;
+
+/// The bytes of a block: prologue, information field and check byte. A type of its own, since an answer may have as many
+/// bytes (`AnswerBytes`), and must not be sent as a block. It holds nothing, or a block that an end of the link wrote, whole
+/// or garbled. What is heard may be any bytes, and is a slice.
+#[derive(Drop)]
+pub struct BlockBytes {
+    bytes: ArrayVec<u8, LONGEST_BLOCK>,
+}
+
+impl Model for BlockBytes {
+    ghost use Rattle.std.specs.Prelude.{ℕ, List};
+
+    ghost Value = { List ℕ };
+
+    ghost view = { λ b. b.bytes.items };
+}
+
+impl BlockBytes {
+    /// A buffer that holds nothing.
+    pub fn new() -> BlockBytes
+        ensures { result ≡ [] }
+    {
+        BlockBytes {
+            bytes: ArrayVec::new(),
+        }
+    }
+
+    /// What it holds.
+    pub fn as_slice(&self) -> &[u8]
+        ensures bytes { result.now ≡ self.now }
+        ensures fits { length result.now ≤ LONGEST_BLOCK }
+    {
+        self.bytes.as_slice()
+    }
+
+    /// Empties it.
+    pub fn clear(&mut self)
+        ensures { self.new ≡ [] }
+    {
+        self.bytes.clear();
+    }
+
+    /// Garbles the block, as a line may: turns bit 1 of its last byte.
+    pub fn garble(&mut self)
+        ensures { self.new ≡ last_bit_turned self.old }
+    {
+        turn_last_bit(&mut self.bytes);
+    }
+}
+
+impl DerefSlice for BlockBytes {
+    ghost use Rattle.t1_link.specs.declared.block.TheConstants.{LONGEST_BLOCK};
+
+    type Elem = u8;
+
+    ghost deref_gives = { λ block bytes. (bytes ≡ block) × (length bytes ≤ LONGEST_BLOCK) };
+
+    fn deref(&self) -> &[u8] {
+        self.as_slice()
+    }
+}
 
 /// What an R-block tells of the block that it answers.
 #[derive(Clone, Copy)]
@@ -170,14 +231,15 @@ impl<'a> Block<'a> {
     /// Makes the buffer the bytes of the block, whatever it held.
     pub(crate) fn write(self, out: &mut BlockBytes)
         requires { length (field_of (block_of self)) ≤ 254 }
-        ensures { out.new.items ≡ frame (block_of self.entry) }
+        ensures { out.new ≡ frame (block_of self.entry) }
     {
-        out.clear();
-        out.push(NODE_ADDRESS);
-        out.push(self.control_byte());
-        out.push(self.field_length());
-        self.push_field(out);
-        out.push(exclusive_or(out.as_slice()));
+        let bytes = &mut out.bytes;
+        bytes.clear();
+        bytes.push(NODE_ADDRESS);
+        bytes.push(self.control_byte());
+        bytes.push(self.field_length());
+        self.push_field(bytes);
+        bytes.push(exclusive_or(bytes.as_slice()));
     }
 
     /// The control byte.
@@ -216,7 +278,7 @@ impl<'a> Block<'a> {
     }
 
     /// Appends the information field.
-    fn push_field(self, out: &mut BlockBytes)
+    fn push_field(self, out: &mut ArrayVec<u8, LONGEST_BLOCK>)
         requires field { length (field_of (block_of self)) ≤ 254 }
         requires room { array_vec_len out.old ≤ 3 }
         ensures { out.new.items ≡ out.old.items ++ field_of (block_of self.entry) }
@@ -247,7 +309,7 @@ fn size_told(field: &[u8]) -> Result<u8, Fault>
     ensures range { IfOk result (λ size. (1 ≤ size) × (size ≤ 254)) }
 {
     match field {
-        [size] if 1 <= *size && *size <= 254 => Ok(*size),
+        [size] if (1..=254).contains(size) => Ok(*size),
         _ => Err(Fault::UnknownBlock),
     }
 }
@@ -257,4 +319,15 @@ fn exclusive_or(bytes: &[u8]) -> u8
     ensures { result ≡ exclusive_or bytes.now }
 {
     bytes.iter().fold(0, |check, byte| check ^ *byte)
+}
+
+/// Turns bit 1 of the last byte.
+#[tactic(auto, using(crate::proofs::Garbled::last_bit_turned_at))]
+fn turn_last_bit(bytes: &mut [u8])
+    ensures { bytes.new ≡ last_bit_turned bytes.old }
+{
+    let size = bytes.len();
+    if size > 0 {
+        bytes[size - 1] ^= 1;
+    }
 }

@@ -2,7 +2,7 @@
 
 ghost use Rattle.std.specs.Prelude.{◌≡◌, ◌≤◌, ◌++◌, None, IsSome, IsTrue, ◌↔◌, Some, length, take, Ok};
 ghost use Rattle.t1_link.specs.Blocks.{IsSpellable, frame, receive_ready};
-ghost use Rattle.t1_link.specs.CardTable.{CardLink, link_step, action_of, after, answers, bytes_said, card_takes, fresh};
+ghost use Rattle.t1_link.specs.CardTable.{CardLink, link_step, action_of, after, answers, reply_bytes, card_takes, fresh};
 ghost use Rattle.t1_link.specs.CardTable.{sending, sent_block, takes_information, takes_receive_ready};
 ghost use Rattle.t1_link.specs.Spoken.{block_of};
 
@@ -12,7 +12,8 @@ use crate::sequence_number::SequenceNumber;
 use arrayvec::ArrayVec;
 use std::marker::Model;
 
-/// The bytes of an answer.
+/// The bytes of an answer. It is the card that fills them, and it knows no link: so this is the plain buffer that the card takes,
+/// and no type of this crate, as that of a block is (`BlockBytes`).
 pub type AnswerBytes = ArrayVec<u8, LONGEST_ANSWER>;
 
 /// The most bytes of an answer: 256 of data and a status word.
@@ -94,7 +95,7 @@ impl CardEnd {
         requires { self.old.waiting ≡ None }
         ensures state { self.new ≡ after (link_step self.old.link got.now) }
         ensures action { result ≡ action_of (link_step self.old.link got.now).reaction }
-        ensures block { out.new.items ≡ bytes_said (link_step self.old.link got.now).reaction }
+        ensures block { out.new ≡ reply_bytes (link_step self.old.link got.now).reaction }
 
         // What these say of the command that waits.
         ensures replied { result ≡ Action.Reply → self.new.waiting ≡ None }
@@ -110,7 +111,7 @@ impl CardEnd {
     pub fn answer(&mut self, answer: &AnswerBytes, out: &mut BlockBytes)
         requires { IsSome self.old.waiting }
         ensures state { self.new ≡ after (answers self.old.link answer.now.items) }
-        ensures block { out.new.items ≡ bytes_said (answers self.old.link answer.now.items).reaction }
+        ensures block { out.new ≡ reply_bytes (answers self.old.link answer.now.items).reaction }
     {
         self.waits = false;
         self.command.clear();
@@ -126,7 +127,7 @@ impl CardEnd {
         requires spellable { IsSpellable (block_of block) }
         ensures state { self.new ≡ after (card_takes self.old.link (Ok (block_of block.entry))) }
         ensures action { result ≡ action_of (card_takes self.old.link (Ok (block_of block.entry))).reaction }
-        ensures block { out.new.items ≡ bytes_said (card_takes self.old.link (Ok (block_of block.entry))).reaction }
+        ensures block { out.new ≡ reply_bytes (card_takes self.old.link (Ok (block_of block.entry))).reaction }
     {
         match block {
             Block::ResynchRequest => {
@@ -162,7 +163,7 @@ impl CardEnd {
         requires { self.old.waiting ≡ None }
         ensures state { self.new ≡ after (takes_information self.old.link number more field.now) }
         ensures action { result ≡ action_of (takes_information self.old.link number more field.now).reaction }
-        ensures block { out.new.items ≡ bytes_said (takes_information self.old.link number more field.now).reaction }
+        ensures block { out.new ≡ reply_bytes (takes_information self.old.link number more field.now).reaction }
     {
         if self.answer.has_more() || number != self.expected {
             return self.receive_ready(ErrorKind::OtherError, out);
@@ -182,7 +183,7 @@ impl CardEnd {
         requires { self.old.waiting ≡ None }
         ensures state { self.new ≡ after (takes_receive_ready self.old.link number) }
         ensures action { result ≡ action_of (takes_receive_ready self.old.link number).reaction }
-        ensures block { out.new.items ≡ bytes_said (takes_receive_ready self.old.link number).reaction }
+        ensures block { out.new ≡ reply_bytes (takes_receive_ready self.old.link number).reaction }
     {
         if self.has_sent && number != self.number {
             self.send_again(out)
@@ -196,7 +197,7 @@ impl CardEnd {
     /// An R-block with the number that is expected.
     fn receive_ready(&self, error: ErrorKind, out: &mut BlockBytes) -> Action
         ensures action { result ≡ Action.Reply }
-        ensures block { out.new.items ≡ frame (receive_ready self.now.link.nr error) }
+        ensures block { out.new ≡ frame (receive_ready self.now.link.nr error) }
     {
         Block::ReceiveReady {
             number: self.expected,
@@ -210,7 +211,7 @@ impl CardEnd {
     fn send_again(&self, out: &mut BlockBytes) -> Action
         requires { IsSome self.now.link.sent }
         ensures action { result ≡ Action.Reply }
-        ensures block { out.new.items ≡ frame (sent_block self.now.link) }
+        ensures block { out.new ≡ frame (sent_block self.now.link) }
     {
         let number = self.number.other();
         let more = self.answer.has_more();
@@ -228,7 +229,7 @@ impl CardEnd {
         requires { self.old.waiting ≡ None }
         ensures state { self.new ≡ after (sending self.old.link self.old.link.rest) }
         ensures action { result ≡ Action.Reply }
-        ensures block { out.new.items ≡ bytes_said (sending self.old.link self.old.link.rest).reaction }
+        ensures block { out.new ≡ reply_bytes (sending self.old.link self.old.link.rest).reaction }
     {
         self.answer.cut(usize::from(self.ifsd));
         self.number = self.number.other();

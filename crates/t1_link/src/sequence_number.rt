@@ -4,7 +4,7 @@ ghost use Rattle.std.specs.Prelude.{◌≡◌};
 ghost use Rattle.t1_link.specs.SequenceNumbers.{at_bit, other_number};
 
 /// The number of an I-block, N(S), or of the I-block that is expected, N(R): both are counted modulo 2.
-#[derive(Clone, Copy, Debug, PartialEq, Eq)]
+#[derive(Clone, Copy, PartialEq, Eq)]
 pub(crate) enum SequenceNumber {
     Zero,
     One,

@@ -8,7 +8,7 @@ use Rattle.card_bench.proofs.exchange.pass.Goals as goal
 
 pub returns-in-Dark-clause-passes : goal.returns-in-Dark-clause-passes
 returns-in-Dark-clause-passes g c =
-    let put = c.put.new.block.items in
+    let put = c.put.new.block in
     let came = sym c.put.ensures.arrives ∙ ap (λ (b : Bool). if b then Some put else None) c.if-not-put.false
     ∙ ap (λ (got : List ℕ). Some got) (sym c.deref.ensures.0) in
     subst (λ (t : Toward). Passes

@@ -43,7 +43,7 @@ returns-in_default-print-clause-stopped g c =
     let printed = c.perform-printed.result in
     let before = g.W.Write.contents c.loop-number.writer in
     let after = g.W.Write.contents c.print.new.writer in
-    let bytes = c.perform-printed.new.self.blocks.toward_reader.items in
+    let bytes = c.perform-printed.new.self.bytes.items in
     let began : (size : ℕ) × Appends before after (take size (text_of (print_of printed bytes))) =
     subst (λ (l : List ℕ). (size : ℕ) × Appends before after (take size (text_of (print_of printed l))))
     c.bytes.ensures.bytes c.in_default-print.ensures.began in
@@ -58,7 +58,7 @@ returns-in-EndOfScript-clause-done g c =
     let printed = c.perform-printed.result in
     let before = g.W.Write.contents c.loop-number.writer in
     let after = g.W.Write.contents c.print.new.writer in
-    let bytes = c.perform-printed.new.self.blocks.toward_reader.items in
+    let bytes = c.perform-printed.new.self.bytes.items in
     let wrote : Appends before after (text_of (print_of printed bytes)) =
     subst (λ (l : List ℕ). Appends before after (text_of (print_of printed l))) c.bytes.ensures.bytes c.in-Ok-print.ensures.wrote in
     is_done _ old new _ _ _ _ _ _ _ _ _ _ _ c.loop-number.invariant.so_far
@@ -83,7 +83,7 @@ loop-number-preserved g c =
     let printed = c.perform-printed.result in
     let before = g.W.Write.contents c.loop-number.writer in
     let after = g.W.Write.contents c.print.new.writer in
-    let bytes = c.perform-printed.new.self.blocks.toward_reader.items in
+    let bytes = c.perform-printed.new.self.bytes.items in
     let wrote : Appends before after (text_of (print_of printed bytes)) =
     subst (λ (l : List ℕ). Appends before after (text_of (print_of printed l))) c.bytes.ensures.bytes c.in-Ok-print.ensures.wrote in
     let held = g.W.Write.contents c.args.writer.now in

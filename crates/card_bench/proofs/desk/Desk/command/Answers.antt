@@ -8,7 +8,7 @@ pub returns-in-Answered-clause-performs : goal.returns-in-Answered-clause-perfor
 returns-in-Answered-clause-performs g c =
     let power : IsOn c.args.self.now.bench = search rules in
     powered_command c.args.self.now.bench _ _ _ _ power
-    (commands-open _ _ _ _ c.in-Some.reader c.exchange.new.reader (answered c.exchange.new.blocks.toward_reader.items)
+    (commands-open _ _ _ _ c.in-Some.reader c.exchange.new.reader (answered c.in-Answered.answer.items)
     c.in-Some.ensures.value c.in-Answered.ensures.exchanged refl refl)
 
 pub returns-in-SetBack-clause-performs : goal.returns-in-SetBack-clause-performs

@@ -12,7 +12,7 @@ returns-in-Apdu-clause-performs g c =
     let after = c.command.new.self in
     let old : Desk = record { bench = now.bench; reader = now.reader; line = now.line } in
     let new : Desk = record { bench = after.bench; reader = after.reader; line = after.line } in
-    let prints = print_of c.command.result after.blocks.toward_reader.items in
+    let prints = print_of c.command.result after.bytes.items in
     subst (λ (o : Order). Performs o old new prints) (sym c.in-Apdu.is)
     (subst (λ (l : List ℕ). PerformsCommand now.bench old l new prints) c.deref.ensures.0 c.command.ensures.performs)
 

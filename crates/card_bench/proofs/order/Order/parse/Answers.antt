@@ -22,22 +22,22 @@ pub returns-in_ok-number_of-clause-order : goal.returns-in_ok-number_of-clause-o
 unfolding order_of
 returns-in_ok-number_of-clause-order c = search (tests, rules)
 
-pub returns-in_ok-given_bytes-2-clause-order : goal.returns-in_ok-given_bytes-2-clause-order
+pub returns-in_ok-bytes_in-2-clause-order : goal.returns-in_ok-bytes_in-2-clause-order
 unfolding order_of
-returns-in_ok-given_bytes-2-clause-order c = search (tests, rules)
+returns-in_ok-bytes_in-2-clause-order c = search (tests, rules)
 
 pub returns-in-Some-strip_prefix-2-clause-order : goal.returns-in-Some-strip_prefix-2-clause-order
 unfolding order_of
 returns-in-Some-strip_prefix-2-clause-order c = search (tests, rules)
 
-pub returns-in_ok-given_bytes-clause-order : goal.returns-in_ok-given_bytes-clause-order
+pub returns-in_ok-bytes_in-clause-order : goal.returns-in_ok-bytes_in-clause-order
 unfolding order_of
-returns-in_ok-given_bytes-clause-order c = search (tests, rules)
+returns-in_ok-bytes_in-clause-order c = search (tests, rules)
 
-pub returns-in_err-given_bytes-clause-order : goal.returns-in_err-given_bytes-clause-order
+pub returns-in_err-bytes_in-clause-order : goal.returns-in_err-bytes_in-clause-order
 unfolding order_of
-returns-in_err-given_bytes-clause-order c = search (tests, rules)
+returns-in_err-bytes_in-clause-order c = search (tests, rules)
 
-pub returns-in_err-given_bytes-2-clause-order : goal.returns-in_err-given_bytes-2-clause-order
+pub returns-in_err-bytes_in-2-clause-order : goal.returns-in_err-bytes_in-2-clause-order
 unfolding order_of
-returns-in_err-given_bytes-2-clause-order c = search (tests, rules)
+returns-in_err-bytes_in-2-clause-order c = search (tests, rules)

@@ -3,7 +3,7 @@ use Rattle.std.specs.Prelude.{◌≡◌, ◌⊎◌, ◌≢◌, ℕ, List, [], Op
 use Rattle.std.proofs.Common.{rules, ap, sym, refl, subst, ◌∙◌}
 use Rattle.card_core.specs.declared.card_state.CardState.TheVariants.{Working, Dark}
 use Rattle.apdu_core.specs.Asked.{asked}
-use Rattle.t1_link.specs.CardTable.{answers, bytes_said, command_of, link_step, CardLink, Link, Reaction, replies, runs}
+use Rattle.t1_link.specs.CardTable.{answers, reply_bytes, command_of, link_step, CardLink, Link, Reaction, replies, runs}
 use Rattle.card_core.specs.Comparing.{comparisons, ComparesAsked}
 use Rattle.card_core.specs.Running.{card_found}
 use Rattle.card_core.specs.laws.CompareLaws.{asked-none}
@@ -46,7 +46,7 @@ returns-in_err-command-in-Run-clause-lost g c =
     let old : Powered = record { card = c.self.inside.card; link = c.self.inside.link.link } in
     let new : Powered = record { card = c.command-in-Run.new.self; link = c.take.new.self.link } in
     let got = c.args.got.now in
-    let out = c.take.new.out.items in
+    let out = c.take.new.out in
     let waits = ap (λ (e : CardLink). e.waiting) (sym c.take.ensures.state) ∙ c.command.ensures in
     let cut : c.args.self.now.card.state ≢ Dark → IsCutAt c.args.self.now got new out =
     subst (λ (p : Powered). p.card.state ≢ Dark → IsCutAt p got new out) c.self.view_is
@@ -106,12 +106,12 @@ returns-in_ok-command-in-Run-clause-replies g c =
     let old : Powered = record { card = c.self.inside.card; link = c.self.inside.link.link } in
     let new : Powered = record { card = c.command-in-Run.new.self; link = c.answer.new.self.link } in
     let got = c.args.got.now in
-    let out = c.answer.new.out.items in
+    let out = c.answer.new.out in
     let bytes = c.command-in-Run.new.answer.items in
     let waits = ap (λ (e : CardLink). e.waiting) (sym c.take.ensures.state) ∙ c.command.ensures in
     let taken = ap (λ (e : CardLink). e.link) c.take.ensures.state in
     let link = ap (λ (e : CardLink). e.link) c.answer.ensures.state ∙ ap (λ (l : Link). (answers l bytes).link) taken in
-    let block = c.answer.ensures.block ∙ ap (λ (l : Link). bytes_said (answers l bytes).reaction) taken in
+    let block = c.answer.ensures.block ∙ ap (λ (l : Link). reply_bytes (answers l bytes).reaction) taken in
     subst (λ (p : Powered). p.card.state ≡ Working → Replies p got new out ⊎ FailsAt p got new out) c.self.view_is
     (λ works. run-replies old new got c.command.result.now bytes out waits link block (c.in_ok-command-in-Run.ensures.done works))
 
