@@ -33,7 +33,6 @@ use undo_journal::{Board, PAGE_WORDS, Store, StoreErr, Txn};
 type ChainList = ArrayVec<Chain, 64>;
 
 /// An entry is another one, or stands below it: at most seven steps to parents lead to that.
-#[tactic(auto, using(crate::specs::laws::Subtrees::steps_up))]
 fn is_within(entries: &[Entry], top: u8, e: u8) -> bool
     ensures { result ≡ leads_up entries.now 7 top e }
 {

@@ -174,6 +174,5 @@ pub fn select<B: Board>(
     if let Some(beside) = find_beside(store, df, identifier)? {
         return Ok(Some(beside));
     }
-    let above = find_above(store, df, identifier)?;
-    Ok(above)
+    find_above(store, df, identifier)
 }

@@ -22,7 +22,6 @@ use fcp_template::{Fcp, ShortIdentifier};
 use undo_journal::{Board, Store, StoreErr};
 
 /// A dedicated file is on the last level: six steps to parents do not lead to the master file.
-#[tactic(auto, using(crate::specs::laws::Levels::levels))]
 pub(crate) fn is_deepest(entries: &[Entry], df: u8) -> bool
     ensures { IsTrue result ↔ (ancestor entries.now 6 df ≢ 0) }
 {

@@ -1,12 +1,13 @@
 -- Entries that cannot stand in one table: children of one dedicated file with one identifier, or with one short
 -- identifier, and files with one name. The rules on identifiers and names say that no two used entries are so.
 use Rattle.std.specs.Prelude.{◌≡◌, ◌≢◌, ◌⊎◌, ◌<◌, ◌≤◌, ℕ, List, length, All}
-use Rattle.std.proofs.Common.{refl, sym, ◌∙◌, ap, arith, inl, inr, ⊎_elim}
+use Rattle.std.proofs.Common.{refl, sym, ◌∙◌, ap, subst, arith, inl, inr, ⊎_elim}
 use Rattle.std.proofs.lemmas.Bool.{cases_lt}
 use Rattle.file_tree.specs.declared.entry.Entry.{Entry}
 use Rattle.file_tree.specs.Entries.{name_of}
 use Rattle.file_tree.specs.Table.{entry_in, IsUsed, IsChild, IsEntry, IsMasterFile, IsBelowMaster, IsTable}
 use Rattle.file_tree.specs.Table.{HaveIdentifiers, HaveShortIdentifiers, HaveNames}
+use Rattle.file_tree.specs.laws.Tables.{entry_past}
 
 -- an entry of this number cannot stand beside another
 abbrev pub Alike : ℕ → Entry → Entry → Type 0
@@ -36,6 +37,20 @@ same_number e f before behind = ⊎_elim
     (λ (le : e ≤ f). let z : e ≡ f = omega (arith, ge, le) in z)
     (cases_lt f e))
     (cases_lt e f)
+
+-- a used entry stands in the table
+pub used_within : (t : List Entry) (e : ℕ) → IsUsed t e → e < length t
+used_within t e used = ⊎_elim
+    (λ (lt : e < length t). lt)
+    (λ (past : length t ≤ e). absurd (used (ap (λ (x : Entry). x.kind) (entry_past t e past))))
+    (cases_lt e (length t))
+
+-- entries that are alike are so by whatever names
+pub alike_there : (e : ℕ) (one other x y : Entry) → x ≡ one → y ≡ other → Alike e one other → Alike e x y
+alike_there e one other x y is also alike =
+    let with_one : Entry → Type 0 = λ a. Alike e a y in
+    let with_other : Entry → Type 0 = λ b. Alike e one b in
+    subst with_one (sym is) (subst with_other (sym also) alike)
 
 module _ (t : List Entry) (apart : AreApart t) where
   pub apart_identifiers : HaveIdentifiers t

@@ -23,7 +23,7 @@ use Rattle.file_tree.specs.laws.Tables.{length-table}
 use Rattle.file_tree.specs.laws.Nodes.{used_small}
 use Rattle.file_tree.specs.laws.Shorts.{short_named}
 use Rattle.file_tree.specs.laws.Adding.{MayStand}
-use Rattle.file_tree.specs.laws.NewEntries.{entry_for, kind_number, take_padded, short_option, new_entry}
+use Rattle.file_tree.specs.laws.NewEntries.{entry_for, kind_number, some_kind, take_padded, short_option, new_entry}
 use Rattle.file_tree.specs.laws.Refusing.{BearsName, child_told, name_told}
 
 -- nothing is taken: each test failed
@@ -162,12 +162,6 @@ may_stand m df n fcp chain rules dedicated level is none short =
           } in
           true≢false (sym (name_told m rules (name_bytes fcp.kind) (Some f) named) ∙ none.name);
     }
-  where
-    some_kind : (kind : FileKind) → kind_number kind ≢ 0
-    some_kind (kinds.Df name) same = omega (arith, same)
-    some_kind (kinds.Transparent told size) same = omega (arith, same)
-    some_kind (kinds.Linear told records) same = omega (arith, same)
-    some_kind (kinds.Cyclic told records) same = omega (arith, same)
 
 -- what each test of the three makes of the refusal
 pub taken_is : (tree : Tree) (df : Path) (fcp : Fcp) (a b c : Bool) → exists tree (df ++ fcp.identifier ∷ []) ≡ a

@@ -39,7 +39,7 @@ use Rattle.file_tree.specs.laws.Nodes.{file_in, used_small, get-used, entry_foun
 use Rattle.file_tree.specs.laws.Costs.{space_counted, laid_blocks, all_extents, extent_of-some}
 use Rattle.file_tree.specs.laws.Contents.{content-none, content-some}
 use Rattle.file_tree.specs.laws.Changing.{HasEntry, same_tree}
-use Rattle.file_tree.specs.laws.Subtrees.{leads_up, within_path, parent_out, master_out}
+use Rattle.file_tree.specs.laws.Subtrees.{and_false, leads_up, within_path, parent_out, master_out}
 use Rattle.file_tree.specs.laws.Parting.{is_gone, going, staying, part_below, GoesOrStays, parts_split, parts_all, parts_free, extents_have, shifted}
 
 -- The first so many entries of a part are freed, by their word 0, and no other word is other.
@@ -63,10 +63,6 @@ pub record Removes (m : List ℕ) (part : List Entry) (chains : List Chain) (aft
 -- after they are freed, chains can be given back
 abbrev pub CanGive : List ℕ → List Entry → List Chain → Type 0
 CanGive m part chains = (between : List ℕ) → FreesEntries m part between → HasFree between × AreApart between chains
-
-and_false : (b : Bool) → b && false ≡ false
-and_false true = refl
-and_false false = refl
 
 -- The table after: entries stay, but those that go are free.
 module _ (t s : List Entry) (top : ℕ) (rules : IsTable t) (above : 0 < top) (used_top : IsUsed t top)
@@ -469,13 +465,6 @@ module _ (m mid : List ℕ) (top : ℕ) (sized : length m ≡ WORDS) (stands : T
         new ∙ (λ i. record { blocks = a i; entries = b i }) ∙ sym (ap (λ (s : FreeSpace). with_freed s space) old)
 
 -- One entry of the part after another is freed.
-pub frees_none : (m : List ℕ) (part : List Entry) → FreesUpTo m part 0 m
-frees_none m part = record {
-  size = refl;
-  freed = λ f lt some. absurd (omega (arith, lt));
-  others = λ page place small apart. refl;
-}
-
 module _ (m now : List ℕ) (part : List Entry) (k : ℕ) (sized : length m ≡ WORDS) (few : k < ENTRIES) (before : FreesUpTo m part k now) where
   pub frees_next : (entry_in part k).kind ≢ 0 → FreesUpTo m part (k + 1) (slice_set now (address (FIRST_ENTRY_PAGE + k) 0) 0)
   frees_next some = record {

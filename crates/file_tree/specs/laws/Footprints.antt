@@ -93,14 +93,3 @@ tree_kept m after sized keeps stands =
       tree_same m after entries (content_same m after (table m) (length-table m) laid.2),
       laid.1,
     )
-
--- what is kept one way is kept the other way
-pub keeps_back : (m after : List ℕ) → KeepsTree m after → KeepsTree after m
-keeps_back m after keeps = record {
-  entries = λ page place from below small. sym (keeps.entries page place from below small);
-  blocks = record {
-    size = sym keeps.blocks.size;
-    words = λ page place block small. sym (keeps.blocks.words page place block small);
-    head = sym keeps.blocks.head;
-  };
-}

@@ -1,7 +1,7 @@
 -- What look-ups in the table answer, step by step, and that together they reach what a name reaches in the tree.
 use Rattle.std.specs.Prelude.{◌≡◌, ◌≢◌, ◌==◌, ◌<◌, ℕ, Bool, true, false, not, ◌&&◌, if◌then◌else◌, List, [], ◌∷◌}
 use Rattle.std.specs.Prelude.{◌++◌}
-use Rattle.std.specs.Prelude.{length, Option, None, Some, is_some, unwrap_or, option_map}
+use Rattle.std.specs.Prelude.{length, Option, None, Some, IfSome, is_some, unwrap_or, option_map}
 use Rattle.std.specs.FinMap.{get}
 use Rattle.std.proofs.Common.{refl, sym, ◌∙◌, ap, ap₂, subst, arith, inl, inr}
 use Rattle.std.proofs.lemmas.Bool.Decides.{eqb_tells}
@@ -93,13 +93,20 @@ beside_there t df id e x found one below told is tells = elim (eqb_tells x.kind 
 ]
 
 -- what was told of the words as they were
-pub told_child : (m now : List ℕ) (p q id : ℕ) (o : Option ℕ) (e : ℕ) → now ≡ m → p ≡ q → o ≡ Some e
-    → TellsChild (table now) p id o → TellsChild (table m) q id (Some e)
-told_child m now p q id o e same there is told =
-    let of_words : List ℕ → Type 0 = λ l. TellsChild (table l) q id (Some e) in
-    let of_parent : ℕ → Type 0 = λ k. TellsChild (table now) k id (Some e) in
+pub told_child : (m now : List ℕ) (p q id : ℕ) (o answer : Option ℕ) → now ≡ m → p ≡ q → o ≡ answer
+    → TellsChild (table now) p id o → TellsChild (table m) q id answer
+told_child m now p q id o answer same there is told =
+    let of_words : List ℕ → Type 0 = λ l. TellsChild (table l) q id answer in
+    let of_parent : ℕ → Type 0 = λ k. TellsChild (table now) k id answer in
     let of_answer : Option ℕ → Type 0 = λ r. TellsChild (table now) p id r in
     subst of_words same (subst of_parent there (subst of_answer is told))
+
+pub told_beside : (m now : List ℕ) (df id : ℕ) (o answer : Option ℕ) → now ≡ m → o ≡ answer
+    → TellsBeside (table now) df id o → TellsBeside (table m) df id answer
+told_beside m now df id o answer same is told =
+    let of_words : List ℕ → Type 0 = λ l. TellsBeside (table l) df id answer in
+    let of_answer : Option ℕ → Type 0 = λ r. TellsBeside (table now) df id r in
+    subst of_words same (subst of_answer is told)
 
 -- the first of some candidates leads, or what is reached is among the others
 pub picks : (leads : Bool) (path : Path) (rest : List Candidate)
@@ -141,6 +148,21 @@ module _ (m : List ℕ) (rules : IsTable (table m)) (df id : ℕ) (used : IsUsed
     | inr other ↦ let some : 0 < df = (let d = other.1 in omega (arith, d)) in
         parent_used (table m) rules df some used
   ]
+
+  -- and so is the first that has the identifier of the parent, the file itself and the master file
+  pub told_above_used : (found : Option ℕ) → TellsAbove (table m) df id found → IfSome found (IsUsed (table m))
+  told_above_used found told =
+      let is_used : Option ℕ → Type 0 = λ o. IfSome o (IsUsed (table m)) in
+      subst is_used (sym told) (one_of_three (not (df == 0) && ((entry_in (table m) (entry_in (table m) df).parent).identifier == id))
+      ((entry_in (table m) df).identifier == id) (master_file == id))
+    where
+      one_of_three : (above own master : Bool)
+          → IfSome (if above then Some (entry_in (table m) df).parent else if own then Some df else
+          if master then Some 0 else None) (IsUsed (table m))
+      one_of_three true own master = above_used
+      one_of_three false true master = used
+      one_of_three false false true = master_used (table m) rules
+      one_of_three false false false = tt
 
   pub parent_small : (entry_in (table m) df).parent < 64
   parent_small = used_small m (entry_in (table m) df).parent above_used

@@ -38,6 +38,13 @@ kind_number (kinds.Transparent short size) = 2
 kind_number (kinds.Linear short records) = 3
 kind_number (kinds.Cyclic short records) = 4
 
+-- a new file's entry is a used one
+pub some_kind : (kind : FileKind) → kind_number kind ≢ 0
+some_kind (kinds.Df name) same = omega (arith, same)
+some_kind (kinds.Transparent told size) same = omega (arith, same)
+some_kind (kinds.Linear told records) same = omega (arith, same)
+some_kind (kinds.Cyclic told records) same = omega (arith, same)
+
 -- the record length, and how many records exist; 0 where the kind has none
 abbrev pub record_length_of_kind : FileKind → ℕ
 record_length_of_kind (kinds.Df name) = 0
@@ -336,10 +343,3 @@ kind_blocks (kinds.Cyclic told records) is = inr (omega arith, some_blocks recor
   where
     some_blocks : (size : ℕ) → 1 ≤ size → 1 ≤ blocks_for size
     some_blocks size least = omega (arith, least)
-
--- and never too many
-pub most_blocks : (kind : FileKind) → IsKind kind → blocks_for (size_of_kind kind) ≤ 547
-most_blocks (kinds.Df name) is = omega arith
-most_blocks (kinds.Transparent told size) is = let most = is.1.most in omega (arith, most)
-most_blocks (kinds.Linear told records) is = let most = is.1.size.most in omega (arith, most)
-most_blocks (kinds.Cyclic told records) is = let most = is.1.size.most in omega (arith, most)

@@ -94,9 +94,6 @@ pub record IsOnWay (m : List ℕ) (df at : ℕ) (path left : Path) : Type 0 wher
   pub used : IsUsed (table m) at
   pub way : path_of (table m) at ++ left ≡ path_of (table m) df ++ path
 
-pub way_begins : (m : List ℕ) (df : ℕ) (path : Path) → IsUsed (table m) df → IsOnWay m df df path path
-way_begins m df path used = record { used = used; way = refl }
-
 pub way_goes_on : (m : List ℕ) → IsTable (table m) → (df at id e : ℕ) (path left : Path) → IsOnWay m df at path (id ∷ left)
     → TellsChild (table m) at id (Some e) → IsOnWay m df e path left
 way_goes_on m rules df at id e path left on told = record {

@@ -15,11 +15,7 @@ unfoldable pub leads_up : List Entry → ℕ → ℕ → ℕ → Bool
 leads_up t zero top f = f == top
 leads_up t (suc n) top f = (f == top) || leads_up t n top (entry_in t f).parent
 
--- no path but the empty one begins the empty one
-starts-empty : (x : ℕ) (q : Path) → starts_with nat_eq [] (x ∷ q) ≡ false
-starts-empty x q = refl
-
-and_false : (b : Bool) → b && false ≡ false
+pub and_false : (b : Bool) → b && false ≡ false
 and_false true = refl
 and_false false = refl
 
@@ -142,5 +138,3 @@ module _ (t : List Entry) (rules : IsTable t) (top : ℕ) (above : 0 < top) (use
         true≢false (sym (starts-self (path_of t top)) ∙ ap (λ (p : Path). starts_with nat_eq p (path_of t top)) (sym is ∙ sym grown) ∙ here)))
         ∙ ap (λ (p : Path). starts_with nat_eq p (path_of t top)) (sym grown) ∙ here
   ]
-
-pub ruleset steps_up = (leads_up-here, leads_up-step, leads_up-zero)

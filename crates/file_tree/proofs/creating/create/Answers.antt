@@ -19,7 +19,7 @@ use Rattle.file_tree.specs.Table.{table, entry_in, path_of}
 use Rattle.file_tree.specs.Trees.{tree_of, TreeStands}
 use Rattle.file_tree.specs.Creations.{IsCreated}
 use Rattle.file_tree.specs.NewFiles.{short_of_new, first_reason, creation_refusal}
-use Rattle.file_tree.specs.laws.NewEntries.{entry_for, no_chain, short_option, size_most}
+use Rattle.file_tree.specs.laws.NewEntries.{entry_for, no_chain, short_option, size_most, some_kind}
 use Rattle.file_tree.specs.laws.Rewriting.{filled}
 use Rattle.file_tree.specs.laws.Created.{FindsPlace, FillsAndAdds}
 use Rattle.file_tree.specs.laws.Made.{is_created}
@@ -77,6 +77,25 @@ created m now after df n e k fcp entry sized stands dedicated creatable found sh
     subst told (sym blocks)
     (is_created m after df n e fcp sized stands dedicated creatable found.0 found.1 found.2 short
     (subst by_words words (subst by_entry is (subst by_blocks blocks made))))
+
+pub write_file-requires-clause-within : goal.write_file-requires-clause-within
+write_file-requires-clause-within g c =
+    let found = place_at (committed c.args.store.now) c.args.df c.args.fcp.now _ c.in-At.entry c.in-At.is
+    c.in_ok-entry.ensures.found in
+    found.2.small
+
+pub write_file-requires-clause-used : goal.write_file-requires-clause-used
+write_file-requires-clause-used g c = λ none.
+    some_kind c.args.fcp.now.kind (sym (ap (λ (x : Entry). x.kind) c.entry_for.ensures) ∙ none)
+
+pub write_file-requires-clause-enough : goal.write_file-requires-clause-enough
+write_file-requires-clause-enough g c =
+    let m = committed c.args.store.now in
+    let found = place_at m c.args.df c.args.fcp.now _ c.in-At.entry c.in-At.is c.in_ok-entry.ensures.found in
+    let words = c.short_of.ensures.store.only.keeps.committed_words ∙ c.find_place.ensures.store.only.keeps.committed_words in
+    let free = ap (λ (l : List ℕ). length (free_chain l)) words in
+    let blocks = c.blocks_for-blocks.ensures ∙ ap blocks_for c.size.ensures in
+    omega (arith, free, blocks, found.2.enough)
 
 pub write_file-requires-clause-few : goal.write_file-requires-clause-few
 write_file-requires-clause-few g c =

@@ -56,7 +56,8 @@ returns-in_default-clause-short g c =
     let m = committed c.args.store.now in
     let path = path_of (table m) c.args.df in
     let in_tree = λ (s : ShortIdentifier). short_for (tree_of m) path c.args.fcp.now.identifier s in
-    IfOk-weaker c.short_number.result (λ (n : ℕ). short_option n ≡ in_tree c.short.result) (λ (n : ℕ). short_option n ≡ short_of_new (tree_of m) path c.args.fcp.now)
+    IfOk-weaker c.short_number.result (λ (n : ℕ). short_option n ≡ in_tree c.short.result)
+    (λ (n : ℕ). short_option n ≡ short_of_new (tree_of m) path c.args.fcp.now)
     (λ n is. is ∙ ap in_tree c.short.ensures
     ∙ as_told (tree_of m) path c.args.fcp.now c.args.fcp.now.kind c.in_default.not-Df)
     c.short_number.ensures.short

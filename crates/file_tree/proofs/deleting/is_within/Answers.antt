@@ -1,5 +1,5 @@
 use Rattle.std.proofs.Common.{◌≡◌, ◌+◌, ◌-◌, ℕ, suc, ◌∙◌, ap, arith, sym}
-use Rattle.file_tree.specs.laws.Subtrees.{leads_up, leads_up-step}
+use Rattle.file_tree.specs.laws.Subtrees.{leads_up, leads_up-step, leads_up-here, leads_up-zero}
 use Rattle.file_tree.proofs.deleting.is_within.Goals as goal
 
 pub loop-step-preserved : goal.loop-step-preserved
@@ -12,3 +12,15 @@ loop-step-preserved c =
           ∙ leads_up-step t (7 - (c.loop-step._step + 1)) top c.loop-step.at c.if-at-top.false
           ∙ ap (leads_up t (7 - (c.loop-step._step + 1)) top) (sym c.parent_of-at.ensures);
     }
+
+pub returns-then-at-top : goal.returns-then-at-top
+returns-then-at-top c =
+    let left = 7 - c.loop-step._step in
+    sym (c.loop-step.invariant.same
+    ∙ leads_up-here c.args.entries.now left c.args.top c.loop-step.at c.if-at-top.true)
+
+pub returns : goal.returns
+returns c =
+    let left = 7 - c.loop-step._step in
+    sym (c.loop-step.invariant.same
+    ∙ leads_up-zero c.args.entries.now left c.args.top c.loop-step.at (omega (arith, c.loop-step-test.false)))

@@ -61,3 +61,11 @@ returns-in_err-entries-clause-store g c =
 
 pub returns-clause-store : goal.returns-clause-store
 returns-clause-store g c = c.in_ok-entries.ensures.store
+
+pub overflow_sub-space : goal.overflow_sub-space
+overflow_sub-space g c =
+    let part = c.part_of-part.ensures ∙ ap (λ (t : List Entry). part_below t c.args.e) (c.as_slice.ensures.value
+    ∙ c.in_ok-entries.ensures.table) in
+    let free = c.count_free.ensures ∙ ap free_entries (c.as_slice-4.ensures.value ∙ part) in
+    let most = most_free (table (committed c.args.store.now)) c.args.e in
+    omega (arith, free, most)

@@ -1,5 +1,5 @@
 use Rattle.undo_journal.specs.laws.Exits.{none_ok}
-use Rattle.std.proofs.Common.{◌∙◌, ℕ, List, ap}
+use Rattle.std.proofs.Common.{◌∙◌, ℕ, List, None, Some, ap}
 use Rattle.undo_journal.specs.Memory.{committed}
 use Rattle.undo_journal.specs.laws.Calls.{reads_then}
 use Rattle.file_tree.specs.declared.entry.Entry.{Entry}
@@ -16,7 +16,7 @@ pub read_entry-requires-2-clause-within : goal.read_entry-requires-2-clause-with
 read_entry-requires-2-clause-within g c =
     let m = committed c.args.store.now in
     let told = told_child m (committed c.read_entry.new.store) c.in_ok-entry.entry.parent (entry_in (table m) c.args.df).parent
-    c.args.identifier c.in_ok-beside.field-0 c.in-Some.beside c.read_entry.ensures.store.only.keeps.committed_words
+    c.args.identifier c.in_ok-beside.field-0 (Some c.in-Some.beside) c.read_entry.ensures.store.only.keeps.committed_words
     (ap (λ (x : Entry). x.parent) c.in_ok-entry.ensures.entry) c.in-Some.is c.in_ok-beside.ensures.found in
     used_small m c.in-Some.beside told.0.used
 
@@ -64,7 +64,7 @@ pub returns-clause-found : goal.returns-clause-found
 returns-clause-found g c =
     let m = committed c.args.store.now in
     let told = told_child m (committed c.read_entry.new.store) c.in_ok-entry.entry.parent (entry_in (table m) c.args.df).parent
-    c.args.identifier c.in_ok-beside.field-0 c.in-Some.beside c.read_entry.ensures.store.only.keeps.committed_words
+    c.args.identifier c.in_ok-beside.field-0 (Some c.in-Some.beside) c.read_entry.ensures.store.only.keeps.committed_words
     (ap (λ (x : Entry). x.parent) c.in_ok-entry.ensures.entry) c.in-Some.is c.in_ok-beside.ensures.found in
     let is = c.in_ok-other.ensures.entry
     ∙ ap (λ (l : List ℕ). entry_in (table l) c.in-Some.beside)
@@ -75,3 +75,13 @@ returns-clause-found g c =
 pub returns-clause-store : goal.returns-clause-store
 returns-clause-store g c =
     reads_on _ _ _ _ (reads_then _ _ _ c.read_entry.ensures.store.only c.find_child.ensures.store.only) c.in_ok-other.ensures.store
+
+pub returns-in_default-clause-found : goal.returns-in_default-clause-found
+returns-in_default-clause-found g c = λ some e child dedicated named.
+    let m = committed c.args.store.now in
+    told_child m (committed c.read_entry.new.store) c.in_ok-entry.entry.parent (entry_in (table m) c.args.df).parent
+    c.args.identifier c.in_ok-beside.field-0 None c.read_entry.ensures.store.only.keeps.committed_words
+    (ap (λ (x : Entry). x.parent) c.in_ok-entry.ensures.entry) c.in_default.is c.in_ok-beside.ensures.found e child named
+
+pub returns-then-df-eq0-clause-found : goal.returns-then-df-eq0-clause-found
+returns-then-df-eq0-clause-found g c = λ some. absurd (some c.if-df-eq0.true)

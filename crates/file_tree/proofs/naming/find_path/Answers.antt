@@ -1,5 +1,5 @@
 use Rattle.undo_journal.specs.laws.Exits.{none_ok}
-use Rattle.std.proofs.Common.{◌≡◌, ◌≤◌, ◌<◌, ◌+◌, ◌∷◌, ℕ, List, Option, None, length, drop, slice_index, subst, arith}
+use Rattle.std.proofs.Common.{◌≡◌, ◌≤◌, ◌<◌, ◌+◌, ◌∷◌, ℕ, List, Option, None, Some, length, drop, slice_index, subst, arith}
 use Rattle.std.proofs.lemmas.List.{drop_more, drop_all}
 use Rattle.undo_journal.specs.Memory.{committed}
 use Rattle.undo_journal.specs.laws.Calls.{reads_then}
@@ -47,7 +47,7 @@ loop-k-preserved g c =
       reads = reads_then _ _ _ c.loop-k.invariant.reads c.find_child.ensures.store.only;
       way = way_goes_on m c.requires.tree.entries c.args.df c.loop-k.at id c.in-Some.child path (drop (c.loop-k.k + 1) path)
           (next_left m c.args.df c.loop-k.at c.loop-k.k path lt c.loop-k.invariant.way)
-          (told_child m (committed c.loop-k.store) c.loop-k.at c.loop-k.at id c.in_ok-child.field-0 c.in-Some.child
+          (told_child m (committed c.loop-k.store) c.loop-k.at c.loop-k.at id c.in_ok-child.field-0 (Some c.in-Some.child)
           c.loop-k.invariant.reads.keeps.committed_words (λ i. c.loop-k.at) c.in-Some.is c.in_ok-child.ensures.found);
     }
 

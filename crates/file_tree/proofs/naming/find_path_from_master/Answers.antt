@@ -15,7 +15,9 @@ returns-clause-found g c =
     let m = committed c.args.store.now in
     let path = c.args.path.now in
     IfOk-weaker c.find_path.result (λ (found : Option ℕ). option_map (path_of (table m)) found
-    ≡ selected (tree_of m) (path_of (table m) 0) (path_from_current path)) (λ (found : Option ℕ). (df : Path) → option_map (path_of (table m)) found ≡ selected (tree_of m) df (path_from_master path)) (λ found is df. is ∙ path_below_master m df path)
+    ≡ selected (tree_of m) (path_of (table m) 0) (path_from_current path))
+    (λ (found : Option ℕ). (df : Path) → option_map (path_of (table m)) found ≡ selected (tree_of m) df (path_from_master path))
+    (λ found is df. is ∙ path_below_master m df path)
     c.find_path.ensures.found
 
 pub find_path-requires-clause-ready : goal.find_path-requires-clause-ready

@@ -4,5 +4,5 @@ use Rattle.file_tree.specs.laws.Alikes.{Alike}
 use Rattle.file_tree.proofs.table.is_alone.Given as goal
 
 abbrev pub invariant-loop-f : goal.invariant-loop-f
-invariant-loop-f l = (f : ℕ) → l.fn.e < f → f < l.f → IsUsed l.entries f
+invariant-loop-f l = (f : ℕ) → f < l.f → l.fn.e < f → IsUsed l.entries f
     → Alike l.fn.e (entry_in l.entries l.fn.e) (entry_in l.entries f) → ⊥
