@@ -35,13 +35,14 @@ use Rattle.card_core.specs.Outcomes.{refused, refused_by}
 use Rattle.card_core.specs.Pins.{Attempt, attempt_commits, attempt_refusals, attempted, attempted_as, charged_card, is_right}
 use Rattle.card_core.specs.Pins.{changing, no_refusals, pin_of, resetting, settled_card, told_tries, tries_of, tries_told}
 use Rattle.card_core.specs.Pins.{unblocking_of, unverified, value_of, verifying, with_pin_of}
+use Rattle.card_core.proofs.SpaceKept.{space-same}
 use Rattle.card_core.specs.Served.{IsDoing, Serves}
 use Rattle.card_core.specs.Sessions.{Session, marked}
 use Rattle.card_core.specs.Spending.{most_writes}
 use Rattle.card_core.specs.Stages.{commits}
 use Rattle.card_core.specs.Standing.{card_of, IsCard}
 use Rattle.card_core.specs.Steps.{effect, refusals_of, served}
-use Rattle.card_core.specs.Working.{card_in, end_of_attempt, outcome, session_in, session_of, table_in, tried_from, IsCurrent}
+use Rattle.card_core.specs.Working.{card_in, end_of_attempt, outcome, session_in, session_of, space_in, table_in, tried_from, IsCurrent}
 use Rattle.card_core.proofs.Comparisons.{costs-told}
 use Rattle.card_core.proofs.Guarding.{served-done, served-refused}
 use Rattle.card_core.proofs.PinCards.{pin-is, pin-set, pin-space, pin-stands, pin-table}
@@ -492,3 +493,11 @@ module _ (request : Request) (n secret : ℕ) (asks : IsQuestion request n secre
       declined request old x new card status reads.only reads.ready current (answer-is status told)
   question-answered (Err e) told reads =
       stopped request old x new card x [] e reads.only reads.tells (omega arith)
+
+-- where no try was left, the free space is as it was
+pub blocked-space : (old new : Memory) (secret : ℕ) (taken : ℕ → Type 0) (charged : Option ℕ) → charged ≡ None
+    → MatchOption charged (tries_left secret (pin_in old secret) ≡ 0) taken
+    → (tries_left secret (pin_in old secret) ≡ 0 → OnlyReads old new) → space_in new ≡ space_in old
+blocked-space old new secret taken charged is done kept =
+    let none = subst (λ (o : Option ℕ). MatchOption o (tries_left secret (pin_in old secret) ≡ 0) taken) is done in
+    space-same old new (kept none).keeps.committed_words

@@ -1,20 +1,26 @@
 -- What calls say of power and device, one after another.
-use Rattle.std.proofs.Common.{◌≡◌, ◌+◌, ℕ, true, true≢false, Option, Some, None, Result, Ok, Err, IfOk, sym, ◌∙◌, ap, subst, inl, inr, ⊎_elim}
+use Rattle.std.proofs.Common.{◌≡◌, ◌≤◌, ◌+◌, ℕ, List, true, true≢false, Option, Some, None, Result, Ok, Err, IfOk, refl, sym, ◌∙◌, ap, subst, inl, inr, ⊎_elim}
 use Rattle.std.specs.Prelude.{MatchOption, MatchResult}
-use Rattle.std.specs.Result.{result_err}
+use Rattle.std.specs.Result.{result_err, IsErrAnd, IsErrOf}
 use Rattle.nvm_board.specs.declared.board.DeviceErr.{DeviceErr}
+use Rattle.nvm_board.specs.declared.board.DeviceErr.TheVariants as device
 use Rattle.nvm_board.specs.Facts.{Facts, Steady, GoesDark, Fails, Answered, IsWorn}
 use Rattle.undo_journal.specs.declared.error.StoreErr.{StoreErr}
 use Rattle.undo_journal.specs.declared.error.StoreErr.TheVariants.{PowerLost, Fault}
-use Rattle.undo_journal.specs.Memory.{committed, FailsBy as StoreFailsBy, Memory, Reports}
+use Rattle.undo_journal.specs.declared.error.OpenFault.{OpenFault}
+use Rattle.undo_journal.specs.declared.error.OpenFault.TheVariants as opening
+use Rattle.undo_journal.specs.Memory.{committed, FailsBy as StoreFailsBy, IsReady, Memory, OpensNot, Reports}
+use Rattle.undo_journal.specs.Calls.{Reads, UnlessFailed}
+use Rattle.undo_journal.specs.Spending.{KeepsBoard, WritesAtMost}
 use Rattle.undo_journal.specs.Undo.{IsSound}
 use Rattle.file_tree.specs.declared.space.FreeSpace.{FreeSpace}
 use Rattle.card_core.specs.declared.faults.StartFault.TheVariants.{Damaged}
-use Rattle.card_core.specs.Finding.{words_found}
-use Rattle.card_core.specs.Standing.{IsCard}
-use Rattle.card_core.specs.Working.{TellsCard}
+use Rattle.file_tree.specs.Spaces.{free_space}
+use Rattle.card_core.specs.Finding.{words_found, FindsAgain, HasCard}
+use Rattle.card_core.specs.Standing.{card_of, IsCard}
+use Rattle.card_core.specs.Working.{fresh_current, IsKept, TellsCard}
 use Rattle.card_core.specs.declared.faults.StartFault.{StartFault}
-use Rattle.card_core.specs.StartFaults.{fault_of_store}
+use Rattle.card_core.specs.StartFaults.{fault_of_open, fault_of_store}
 use Rattle.card_core.specs.Running.{StartStopsBy}
 
 module _ (a b c : Facts) (before : Steady a b) where
@@ -56,6 +62,16 @@ module _ (a b c : Facts) (before : Steady a b) where
         ≡ b)). absurd (true≢false (sym off.0 ∙ before.lit))) (answer.lost h);
     fault = λ h. fails_then (answer.fault h);
   }
+
+-- an error that is handed on
+pub answered_handed : {T U : Type 0} (a b : Facts) (r : Result U DeviceErr) (e : DeviceErr) → IsErrAnd r (λ f. f ≡ e)
+    → Answered {T = T} a b (Err e) → Answered a b r
+answered_handed a b (Ok x) e is answer = absurd is
+answered_handed {T = T} {U = U} a b (Err f) e is answer = record {
+  ok = λ ok. absurd (true≢false (sym ok));
+  lost = λ lost. let told : IsErrOf {T = T} (Err e) device.PowerLost = cc in answer.lost told;
+  fault = λ fault. let told : IsErrOf {T = T} (Err e) device.Fault = cc in answer.fault told;
+}
 
 -- a store that fails, over a board that held when it was opened
 pub stops-by : (e : StoreErr) (stop : StartFault) (a b c : Facts) → stop ≡ fault_of_store e → Steady a b
@@ -104,3 +120,50 @@ stops-found first opened last light sound words works reports (Err e) result sto
     let same = sym tells ∙ is in
     let stop_is : stop ≡ fault_of_store e = cc in
     stops-by e stop first opened.facts last.facts stop_is light (reports.fails e works failed)
+
+-- a store that isn't opened
+pub stops-opening : (e : OpenFault) (stop : StartFault) (a b : Facts) → stop ≡ fault_of_open e → OpensNot e a b
+    → StartStopsBy stop a b
+stops-opening opening.PowerLost stop a b is stops = subst (λ (f : StartFault). StartStopsBy f a b) (sym is) stops
+stops-opening opening.Fault stop a b is stops = subst (λ (f : StartFault). StartStopsBy f a b) (sym is) stops
+stops-opening opening.BadJournal stop a b is stops = subst (λ (f : StartFault). StartStopsBy f a b) (sym is) stops
+
+-- What is found after an opening, and reads behind it: `first` is the board before them, `opened` and `last` are the store.
+pub found-again : (first : List ℕ) (opened last : Memory) → committed last ≡ committed opened
+    → committed opened ≡ words_found first → IsSound first → IsSound last.facts.words
+    → FindsAgain first last.facts.words
+found-again first opened last kept undone sound still =
+    record { words = kept ∙ undone; journal = (λ there. sound, λ there. still) }
+
+-- no word and no count changed, and then reads
+pub board_kept : (a b c : Facts) → KeepsBoard a b → KeepsBoard b c → KeepsBoard a c
+board_kept a b c first rest = record {
+  words = rest.words ∙ first.words;
+  writes = rest.writes ∙ first.writes;
+  compares = rest.compares ∙ first.compares;
+  matches = rest.matches ∙ first.matches;
+}
+
+-- so many writes at most, and then reads
+pub board_spends : (n : ℕ) (a b c : Facts) → WritesAtMost n a b → KeepsBoard b c → WritesAtMost n a c
+board_spends n a b c spent rest = record {
+  writes = subst (λ (w : ℕ). w ≤ a.writes + n) (sym rest.writes) spent.writes;
+  compares = rest.compares ∙ spent.compares;
+  matches = rest.matches ∙ spent.matches;
+}
+
+-- the card of a start is found, its store is ready, and its free space is what was told
+pub starts-kept : (opened last : Memory) (free : FreeSpace) (found : Result (Option FreeSpace) StoreErr)
+    → found ≡ Ok (Some free) → IsSound opened.facts.words → IfOk found (TellsCard (committed opened))
+    → Reads opened last (result_err found) → HasCard last.facts.words × IsKept last fresh_current free
+starts-kept opened last free found is sound card reads =
+    let told = subst (λ (r : Result (Option FreeSpace) StoreErr). IfOk r (TellsCard (committed opened))) is card in
+    let same = sym reads.only.keeps.committed_words in
+    let stands = subst IsCard same told.0 in (
+      record { journal = reads.only.reports.sound sound; words = stands },
+      record {
+        ready = subst (λ (r : Result (Option FreeSpace) StoreErr). UnlessFailed (result_err r) (IsReady last)) is reads.ready;
+        current = record { df = stands.tree.entries.master.kind; ef = tt; marks = refl };
+        space = told.1 ∙ ap (λ (l : List ℕ). free_space (card_of l).tree) same;
+      },
+    )

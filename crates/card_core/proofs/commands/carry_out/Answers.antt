@@ -4,8 +4,9 @@ use Rattle.undo_journal.specs.declared.error.StoreErr.{StoreErr}
 use Rattle.card_rules.specs.declared.status.TheConstants.Sw.{CONDITIONS_NOT_SATISFIED}
 use Rattle.apdu_core.specs.Requests.{request_of}
 use Rattle.card_core.specs.Served.{CarriesOut}
-use Rattle.card_core.proofs.Carrying.{carried, failed-reading, serves-after, use-ended}
-use Rattle.card_core.proofs.Stopping.{err-is}
+use Rattle.card_core.proofs.Carrying.{carried, failed-reading, serves-after, use-ended, refused-by-form}
+use Rattle.card_core.proofs.Stopping.{err-is, none-done}
+use Rattle.undo_journal.specs.laws.Calls.{reads_same}
 use Rattle.card_core.proofs.commands.carry_out.Goals as goal
 
 pub returns-in_err-is_in_use-clause-carries : goal.returns-in_err-is_in_use-clause-carries
@@ -41,3 +42,15 @@ returns-clause-carries g c =
     c.in-Ok.ensures.asked in_use
     (serves-after request old c.is_in_use.new.store c.serve.new.store x c.serve.new.current c.serve.new.text.items
     c.serve.result c.in_ok-is_in_use.ensures.store.only c.serve.ensures.serves)
+
+pub returns-in_err-is_in_use-clause-space : goal.returns-in_err-is_in_use-clause-space
+returns-in_err-is_in_use-clause-space g c = none-done _ _ _ c.from_residual.ensures.1
+
+pub returns-in-Err-clause-carries : goal.returns-in-Err-clause-carries
+returns-in-Err-clause-carries g c =
+    let old = c.args.store.now in
+    let x = c.args.current.now in
+    let bytes = c.args.command.now in
+    subst (λ (text : List ℕ). CarriesOut bytes old x old x text (Ok c.in-Err.refusal)) (sym c.requires.empty)
+    (refused-by-form bytes old old x c.requires.card c.requires.current c.in-Err.refusal c.in-Err.ensures.asked
+    (reads_same old) c.requires.ready)

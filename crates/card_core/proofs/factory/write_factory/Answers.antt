@@ -4,7 +4,8 @@ use Rattle.card_core.specs.declared.layout.TheConstants.{HEADER_PAGE}
 use Rattle.card_core.specs.Factory.{factory_header}
 use Rattle.block_chain.specs.Words.{page_words}
 use Rattle.card_core.proofs.FactoryPages.{page_words-written}
-use Rattle.card_core.proofs.Powers.{answered_after}
+use Rattle.card_core.proofs.Powers.{answered_after, answered_handed}
+use Rattle.card_core.proofs.Stopping.{none-done}
 use Rattle.card_core.proofs.factory.write_factory.Goals as goal
 
 pub returns-in_err-write-clause-writes : goal.returns-in_err-write-clause-writes
@@ -24,3 +25,30 @@ write_pages-requires-clause-header g c =
 
 pub returns-clause-power : goal.returns-clause-power
 returns-clause-power g c = answered_after _ _ _ (c.in_ok-write.ensures.light.ok refl) _ c.write_pages.ensures.power
+
+pub returns-in_err-write-clause-factory : goal.returns-in_err-write-clause-factory
+returns-in_err-write-clause-factory g c = none-done _ _ _ c.from_residual.ensures.1
+
+pub returns-in_err-write-clause-compares : goal.returns-in_err-write-clause-compares
+returns-in_err-write-clause-compares g c = c.write.ensures.compares
+
+pub returns-in_err-write-clause-matches : goal.returns-in_err-write-clause-matches
+returns-in_err-write-clause-matches g c = c.write.ensures.matches
+
+pub returns-clause-factory : goal.returns-clause-factory
+returns-clause-factory g c = c.write_pages.ensures.factory
+
+pub returns-clause-compares : goal.returns-clause-compares
+returns-clause-compares g c = c.write_pages.ensures.compares ∙ c.write.ensures.compares
+
+pub returns-clause-matches : goal.returns-clause-matches
+returns-clause-matches g c = c.write_pages.ensures.matches ∙ c.write.ensures.matches
+
+pub returns-clause-writes : goal.returns-clause-writes
+returns-clause-writes g c =
+    let one = c.in_ok-write.ensures.counted in
+    let rest = c.write_pages.ensures.writes in
+    omega (arith, one, rest)
+
+pub returns-in_err-write-clause-power : goal.returns-in_err-write-clause-power
+returns-in_err-write-clause-power g c = answered_handed _ _ _ _ c.from_residual.ensures.1 c.in_err-write.ensures.light

@@ -1,4 +1,4 @@
-use Rattle.std.proofs.Common.{rules, ◌≡◌, [], Ok, sym, subst}
+use Rattle.std.proofs.Common.{rules, ◌≡◌, [], Ok, sym, subst, arith}
 use Rattle.std.specs.Result.{result_err}
 use Rattle.card_rules.specs.declared.status.TheConstants.Sw.{DONE}
 use Rattle.apdu_core.specs.Requests.{change_life_cycle}
@@ -7,8 +7,9 @@ use Rattle.card_core.specs.Served.{Serves}
 use Rattle.card_core.specs.Working.{card_in, session_in}
 use Rattle.card_core.proofs.Answering.{said_ok, said_err}
 use Rattle.card_core.proofs.LifeServes.{change-torn, change-made, change-refused, change-space}
-use Rattle.card_core.proofs.Serves.{declined}
+use Rattle.card_core.proofs.Serves.{declined, handed}
 use Rattle.card_core.proofs.SpaceKept.{space-same}
+use Rattle.card_core.proofs.Stopping.{none-done}
 use Rattle.card_core.proofs.life_cycles.change_life_cycle.Goals as goal
 
 pub returns-in-Err-clause-serves : goal.returns-in-Err-clause-serves
@@ -61,3 +62,14 @@ returns-clause-space g c =
 pub returns-in-Err-clause-space : goal.returns-in-Err-clause-space
 returns-in-Err-clause-space g c =
     space-same c.args.store.now c.find_change.new.store c.find_change.ensures.store.only.keeps.committed_words
+
+pub returns-in_err-changed-clause-space : goal.returns-in_err-changed-clause-space
+returns-in_err-changed-clause-space g c = none-done _ _ _ c.from_residual.ensures.1
+
+pub returns-in_err-set_life_cycle-clause-space : goal.returns-in_err-set_life_cycle-clause-space
+returns-in_err-set_life_cycle-clause-space g c = none-done _ _ _ c.from_residual-in_err-set_life_cycle.ensures.1
+
+pub returns-in_err-changed-clause-serves : goal.returns-in_err-changed-clause-serves
+returns-in_err-changed-clause-serves g c =
+    handed (change_life_cycle c.args.change c.args.subject) c.args.store.now c.args.current.now c.find_change.new.store
+    c.requires.card c.args.current.now [] _ _ c.from_residual.ensures.1 c.in_err-changed.ensures.store (omega arith)

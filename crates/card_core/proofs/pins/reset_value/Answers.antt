@@ -1,6 +1,7 @@
 use Rattle.std.proofs.Common.{◌≤◌, ◌+◌, ◌-◌, refl, arith}
 use Rattle.pin_store.specs.laws.Tries.{reset_ends}
-use Rattle.card_core.proofs.Attempts.{charge-blocked, charge-torn, end-made, end-torn, made-space, resets}
+use Rattle.card_core.proofs.Attempts.{charge-blocked, charge-torn, end-made, end-torn, made-space, resets, blocked-space}
+use Rattle.card_core.proofs.Stopping.{none-done}
 use Rattle.card_core.proofs.pins.reset_value.Goals as goal
 
 pub returns-in_err-charged-clause-serves : goal.returns-in_err-charged-clause-serves
@@ -45,3 +46,26 @@ returns-clause-space g c =
     c.in-Some.charged c.in-Some.is c.in_ok-charged.ensures.done c.take_try.ensures.pages c.take_try.ensures.store.writes
     c.take_try.ensures.store.reports (λ p. reset_ends (8 + (c.args.pin - 1)) c.args.values.new.now p large) c.reset_counter.ensures.any_exit
     c.reset_counter.ensures.spends c.reset_counter.ensures.pages c.reset_counter.ensures.store.reports
+
+pub returns-in_err-charged-clause-space : goal.returns-in_err-charged-clause-space
+returns-in_err-charged-clause-space g c = none-done _ _ _ c.from_residual.ensures.1
+
+pub returns-in_err-outcome-clause-space : goal.returns-in_err-outcome-clause-space
+returns-in_err-outcome-clause-space g c = none-done _ _ _ c.from_residual-in_err-outcome.ensures.1
+
+pub take_try-requires-clause-secret : goal.take_try-requires-clause-secret
+take_try-requires-clause-secret g c = let last = c.requires.pin.last in omega (arith, last)
+
+pub take_try-requires-clause-pages : goal.take_try-requires-clause-pages
+take_try-requires-clause-pages g c = c.requires.card.pins
+
+pub returns-in-None-clause-space : goal.returns-in-None-clause-space
+returns-in-None-clause-space g c =
+    blocked-space c.args.store.now c.take_try.new.store _ _ c.in_ok-charged.field-0 c.in-None.is
+    c.in_ok-charged.ensures.done c.take_try.ensures.kept
+
+pub reset_counter-requires-clause-pages : goal.reset_counter-requires-clause-pages
+reset_counter-requires-clause-pages g c = c.take_try.ensures.pages
+
+pub after_attempt-requires : goal.after_attempt-requires
+after_attempt-requires g c = c.requires.pin

@@ -1,7 +1,9 @@
-use Rattle.std.proofs.Common.{◌-◌, ℕ, List, [], Option, option_map, sym, ap, subst, Bor}
+use Rattle.std.proofs.Common.{◌-◌, ℕ, List, [], Option, option_map, sym, ap, subst, Bor, arith}
 use Rattle.apdu_core.specs.Requests.{verify}
 use Rattle.card_core.specs.Served.{Serves}
 use Rattle.card_core.proofs.Attempts.{asks-value, question-answered}
+use Rattle.card_core.proofs.Answering.{ok_anyway}
+use Rattle.card_core.proofs.SpaceKept.{space-same}
 use Rattle.card_core.proofs.pins.verify.Goals as goal
 
 pub returns-in-None-clause-serves : goal.returns-in-None-clause-serves
@@ -12,3 +14,19 @@ returns-in-None-clause-serves g c =
     (question-answered _ c.args.pin (c.args.pin - 1) (asks-value c.args.pin c.requires.pin) c.args.store.now
     c.args.current.now c.requires.card c.requires.current c.tell_tries.new.store c.tell_tries.result
     c.tell_tries.ensures.told c.tell_tries.ensures.store)
+
+pub returns-in-Some-clause-serves : goal.returns-in-Some-clause-serves
+returns-in-Some-clause-serves g c =
+    let some = ap (option_map (λ (value : Bor (List ℕ)). value.now)) c.in-Some.is in
+    subst (λ (shown : Option (List ℕ)). Serves (verify c.args.pin shown) c.args.store.now c.args.current.now
+    c.verify_value.new.store c.verify_value.new.current [] c.verify_value.result) (sym some) c.verify_value.ensures.serves
+
+pub returns-in-None-clause-space : goal.returns-in-None-clause-space
+returns-in-None-clause-space g c =
+    ok_anyway _ _ (space-same c.args.store.now c.tell_tries.new.store c.tell_tries.ensures.store.only.keeps.committed_words)
+
+pub tell_tries-requires-clause-secret : goal.tell_tries-requires-clause-secret
+tell_tries-requires-clause-secret g c = let last = c.requires.pin.last in omega (arith, last)
+
+pub tell_tries-requires-clause-pages : goal.tell_tries-requires-clause-pages
+tell_tries-requires-clause-pages g c = c.requires.card.pins

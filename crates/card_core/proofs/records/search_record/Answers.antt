@@ -15,8 +15,8 @@ use Rattle.card_core.specs.Working.{card_in, has_in, outcome, pointer_from, poin
 use Rattle.card_core.specs.Working.{IsBodyIn, IsCurrent}
 use Rattle.card_core.proofs.Answering.{said_ok, said_err}
 use Rattle.card_core.proofs.Recording.{agree, current-is, declined-empty, search-gone, search-less, search-refused, search-whole}
-use Rattle.card_core.proofs.Serves.{answered, stopped}
-use Rattle.card_core.proofs.Stopping.{err-is}
+use Rattle.card_core.proofs.Serves.{answered, stopped, handed}
+use Rattle.card_core.proofs.Stopping.{err-is, none-done}
 use Rattle.card_core.proofs.SpaceKept.{space-same}
 use Rattle.card_core.proofs.records.search_record.Goals as goal
 
@@ -150,3 +150,16 @@ pub returns-clause-space : goal.returns-clause-space
 returns-clause-space g c =
     space-same c.args.store.now c.search.new.store (c.search.ensures.store.only.keeps.committed_words
     ∙ c.find_records.ensures.store.only.keeps.committed_words)
+
+pub returns-in_err-file-clause-space : goal.returns-in_err-file-clause-space
+returns-in_err-file-clause-space g c = none-done _ _ _ c.from_residual.ensures.1
+
+pub returns-in_err-search-clause-space : goal.returns-in_err-search-clause-space
+returns-in_err-search-clause-space g c = none-done _ _ _ c.from_residual-in_err-search.ensures.1
+
+pub returns-in_err-file-clause-serves : goal.returns-in_err-file-clause-serves
+returns-in_err-file-clause-serves g c =
+    let none : length c.args.answer.now.items ≡ 0 = ap (λ (l : List ℕ). length l) c.requires.empty in
+    handed (search_record c.args.target c.args.first c.args.direction c.args.text.now c.args.expected) c.args.store.now
+    c.args.current.now c.find_records.new.store c.requires.card c.args.current.now c.args.answer.now.items _ _
+    c.from_residual.ensures.1 c.in_err-file.ensures.store (omega (arith, none))

@@ -1,15 +1,20 @@
-use Rattle.std.proofs.Common.{Option, None, Result, IfOk, refl, sym, subst, ◌∙◌, ap}
+use Rattle.std.proofs.Common.{◌≡◌, Option, None, Result, IfOk, refl, sym, subst, ◌∙◌, ap}
 use Rattle.std.specs.Result.{result_err}
 use Rattle.card_core.proofs.Verified.{marked-none}
 use Rattle.undo_journal.specs.declared.error.StoreErr.{StoreErr}
 use Rattle.undo_journal.specs.Memory.{committed}
+use Rattle.undo_journal.specs.Spending.{start_writes, KeepsBoard, WritesAtMost}
+use Rattle.undo_journal.specs.Undo.{data_words}
+use Rattle.card_core.specs.Finding.{FindsAgain}
 use Rattle.file_tree.specs.declared.space.FreeSpace.{FreeSpace}
 use Rattle.card_core.specs.Standing.{IsCard}
-use Rattle.card_core.specs.Working.{session_of, table_in, TellsCard}
+use Rattle.card_core.specs.declared.card_state.CardState.TheVariants.{Working, Dark}
+use Rattle.card_core.specs.declared.current.Current.{Current}
+use Rattle.card_core.specs.Working.{IsKept, session_of, table_in, TellsCard}
 use Rattle.card_core.proofs.Entries.{master-path}
 use Rattle.nvm_board.specs.Facts.{Facts}
 use Rattle.card_core.specs.Running.{StartStopsBy}
-use Rattle.card_core.proofs.Powers.{found-there, stops-found}
+use Rattle.card_core.proofs.Powers.{board_kept, board_spends, found-again, found-there, starts-kept, stops-found, stops-opening}
 use Rattle.card_core.proofs.machine.Card.start.Goals as goal
 
 pub returns-in-Err-space_of-clause-stopped : goal.returns-in-Err-space_of-clause-stopped
@@ -44,3 +49,62 @@ returns-in-Ok-space_of-clause-started g c =
           ∙ (λ i. record { current_df = path i; current_ef = None; pointer = None; verified = marked-none i });
       state = refl;
     }
+
+pub invariant_of-result : goal.invariant_of-result
+invariant_of-result g c =
+    let there = found-there c.find_card.result c.space_of.result c.in-Ok-space_of.free c.space_of.ensures
+    c.in-Ok-space_of.is in
+    let kept = starts-kept c.in-Ok.store c.find_card.new.store c.in-Ok-space_of.free c.find_card.result there
+    c.in-Ok.ensures.defined c.find_card.ensures.card c.find_card.ensures.store in (
+      kept.0,
+      λ works. subst (λ (x : Current). IsKept c.find_card.new.store x c.in-Ok-space_of.free) (sym c.fresh.ensures) kept.1,
+      λ dark. let never : Working ≡ Dark = dark in cc,
+    )
+
+pub returns-in-Ok-space_of-clause-has_card : goal.returns-in-Ok-space_of-clause-has_card
+returns-in-Ok-space_of-clause-has_card g c = (invariant_of-result g c).0
+
+pub returns-in-Ok-space_of-clause-found : goal.returns-in-Ok-space_of-clause-found
+returns-in-Ok-space_of-clause-found g c =
+    found-again (g.B.Board.facts c.args.board).words c.in-Ok.store c.find_card.new.store
+    c.find_card.ensures.store.only.keeps.committed_words c.in-Ok.ensures.found c.in-Ok.ensures.sound
+    (c.find_card.ensures.store.only.reports.sound c.in-Ok.ensures.defined)
+
+pub returns-in-Ok-space_of-clause-shut : goal.returns-in-Ok-space_of-clause-shut
+returns-in-Ok-space_of-clause-shut g c =
+    λ shut. board_kept _ _ _ (c.in-Ok.ensures.shut shut) c.find_card.ensures.store.only.board
+
+pub returns-in-Ok-space_of-clause-writes : goal.returns-in-Ok-space_of-clause-writes
+returns-in-Ok-space_of-clause-writes g c =
+    board_spends _ _ _ _ c.in-Ok.ensures.writes c.find_card.ensures.store.only.board
+
+pub returns-in-Err-space_of-clause-found_err : goal.returns-in-Err-space_of-clause-found_err
+returns-in-Err-space_of-clause-found_err g c =
+    subst (λ (now : Facts). FindsAgain (g.B.Board.facts c.args.board).words now.words) (sym c.into_board.ensures)
+    (found-again (g.B.Board.facts c.args.board).words c.in-Ok.store c.find_card.new.store
+    c.find_card.ensures.store.only.keeps.committed_words c.in-Ok.ensures.found c.in-Ok.ensures.sound
+    (c.find_card.ensures.store.only.reports.sound c.in-Ok.ensures.defined))
+
+pub returns-in-Err-space_of-clause-shut_err : goal.returns-in-Err-space_of-clause-shut_err
+returns-in-Err-space_of-clause-shut_err g c =
+    λ shut. subst (λ (now : Facts). KeepsBoard (g.B.Board.facts c.args.board) now) (sym c.into_board.ensures)
+    (board_kept _ _ _ (c.in-Ok.ensures.shut shut) c.find_card.ensures.store.only.board)
+
+pub returns-in-Err-space_of-clause-writes_err : goal.returns-in-Err-space_of-clause-writes_err
+returns-in-Err-space_of-clause-writes_err g c =
+    let first = g.B.Board.facts c.args.board in
+    subst (λ (now : Facts). WritesAtMost (start_writes first) first now) (sym c.into_board.ensures)
+    (board_spends _ _ _ _ c.in-Ok.ensures.writes c.find_card.ensures.store.only.board)
+
+pub returns-in-Err-clause-stopped : goal.returns-in-Err-clause-stopped
+returns-in-Err-clause-stopped g c = stops-opening _ _ _ _ c.from.ensures c.in-Err.ensures.not_opened
+
+pub returns-in-Err-clause-found_err : goal.returns-in-Err-clause-found_err
+returns-in-Err-clause-found_err g c =
+    record { words = ap data_words c.in-Err.ensures.kept_err; journal = c.in-Err.ensures.sound_err }
+
+pub returns-in-Err-clause-shut_err : goal.returns-in-Err-clause-shut_err
+returns-in-Err-clause-shut_err g c = c.in-Err.ensures.shut_err
+
+pub returns-in-Err-clause-writes_err : goal.returns-in-Err-clause-writes_err
+returns-in-Err-clause-writes_err g c = c.in-Err.ensures.writes_err
