@@ -1,5 +1,6 @@
 //! A board in working memory, which never fails and loses power only by call or at the end of a count.
-ghost use Rattle.std.specs.Prelude.{◌≡◌, ◌⊎◌, ◌+◌, ◌<◌, ◌≤◌, ◌↔◌, true, false, length, IsTrue, All, Contains, IfOk};
+ghost use Rattle.std.specs.Prelude.{◌≡◌, ◌⊎◌, ◌+◌, ◌<◌, ◌≤◌, ◌↔◌, if◌then◌else◌, true, false, length, IsTrue, All};
+ghost use Rattle.std.specs.Prelude.{Contains, IfOk, slice_index};
 ghost use Rattle.nvm_board.specs.declared.board.TheConstants.{WORDS, SECRETS, COUNT_END, PAGES, PAGE_WORDS};
 ghost use Rattle.nvm_board.specs.Facts.{AreWords, address};
 
@@ -30,7 +31,7 @@ pub struct RamBoard {
 }
 
 impl RamBoard {
-    ghost use Rattle.nvm_board.specs.Facts.{IsWornOut, new_board};
+    ghost use Rattle.nvm_board.specs.Facts.{IsWorn, IsWornOut, new_board, raised};
     ghost use Rattle.nvm_board.specs.Ram.{ram_facts};
     ghost use Rattle.nvm_board.specs.Torn.{IsTornBy};
 
@@ -73,6 +74,32 @@ impl RamBoard {
     {
         self.cuts += 1;
         self.dark = true;
+    }
+
+    /// Whether a count that a comparison raises stands at its end.
+    fn counts_end(&self, secret: usize, equal: bool) -> bool
+        requires { secret < SECRETS }
+        ensures worn { IsTrue result → IsWorn (ram_facts self.now) }
+        ensures spare { result ≡ false → slice_index self.now.compares secret < COUNT_END }
+        ensures spare_match { result ≡ false → equal ≡ true → slice_index self.now.matches secret < COUNT_END }
+    {
+        self.compares[secret] == COUNT_END || equal && self.matches[secret] == COUNT_END
+    }
+
+    /// Counts a comparison of a secret, and whether it was a match.
+    fn count(&mut self, secret: usize, equal: bool)
+        requires place { secret < SECRETS }
+        requires spare { slice_index self.old.compares secret < COUNT_END }
+        requires spare_match { equal ≡ true → slice_index self.old.matches secret < COUNT_END }
+        ensures { ram_facts self.new ≡ record (ram_facts self.old) {
+          compares = raised self.old.compares secret;
+          matches = if equal then raised self.old.matches secret else self.old.matches;
+        } }
+    {
+        self.compares[secret] += 1;
+        if equal {
+            self.matches[secret] += 1;
+        }
     }
 
     /// Tears a write by the mask, and loses power in it.
@@ -125,16 +152,11 @@ impl Board for RamBoard {
         }
         let place = usize::from(secret);
         let equal = kept == shown;
-        let counts_end = self.compares[place] == COUNT_END
-            || equal && self.matches[place] == COUNT_END;
-        if counts_end {
+        if self.counts_end(place, equal) {
             self.go_dark();
             return Err(DeviceErr::PowerLost);
         }
-        self.compares[place] += 1;
-        if equal {
-            self.matches[place] += 1;
-        }
+        self.count(place, equal);
         Ok(equal)
     }
 

@@ -1,7 +1,8 @@
-use Rattle.std.proofs.Common.{ℕ, List, ap, sym, ◌∙◌, subst}
+use Rattle.std.proofs.Common.{ℕ, List, refl, ap, sym, ◌∙◌, subst, inl, inr}
 use Rattle.nvm_board.specs.Facts.{Facts, address}
 use Rattle.nvm_board.specs.Torn.{Torn, written}
 use Rattle.nvm_board.specs.laws.Torn.{Torn-none, Torn-all}
+use Rattle.nvm_board.proofs.Telling.{off_tells, off_rightly, worn_tells, worn_rightly, lit_tells, lit_rightly}
 use Rattle.nvm_board.proofs.ram_board.RamBoardBoard.write.Goals as goal
 
 pub returns-then-self-clause-torn : goal.returns-then-self-clause-torn
@@ -20,3 +21,27 @@ returns-clause-torn c =
     let torn : List ℕ → Type 0 = Torn old at c.args.words.now in
     let put = c.put_run.ensures.put ∙ ap (λ (a : ℕ). written old a c.args.words.now) c.place.ensures in
     subst torn (sym put) (Torn-all _ _ _)
+
+pub returns-then-self-clause-light : goal.returns-then-self-clause-light
+returns-then-self-clause-light c = off_tells _ c.if-self.true
+
+pub returns-then-self-clause-worn : goal.returns-then-self-clause-worn
+returns-then-self-clause-worn c = off_rightly _ _ c.if-self.true
+
+pub returns-then-self-2-clause-light : goal.returns-then-self-2-clause-light
+returns-then-self-2-clause-light c =
+    worn_tells _ _ c.if-self.false (inr (inl c.if-self-2.true)) c.go_dark.ensures
+
+pub returns-then-self-2-clause-worn : goal.returns-then-self-2-clause-worn
+returns-then-self-2-clause-worn c = worn_rightly _ _ _ (inr (inl c.if-self-2.true))
+
+pub returns-clause-light : goal.returns-clause-light
+returns-clause-light c =
+    let lit = c.if-self.false in
+    lit_tells _ _ _ (record { was_lit = lit; lit = lit; faults = refl; cuts = refl; due = refl })
+
+pub returns-clause-worn : goal.returns-clause-worn
+returns-clause-worn c = lit_rightly _ _ _
+
+pub returns-clause-counted : goal.returns-clause-counted
+returns-clause-counted c = refl

@@ -1,0 +1,6 @@
+use Rattle.std.proofs.Common.{ap}
+use Rattle.nvm_board.proofs.WithArm.{with_arm}
+use Rattle.nvm_board.proofs.cut_board.CutBoardSocket.power_off.Goals as goal
+
+pub returns : goal.returns
+returns c = ap (with_arm c.args.self.now.arm) c.power_off.ensures
