@@ -1,4 +1,4 @@
-use Rattle.std.proofs.Common.{refl, sym}
+use Rattle.std.proofs.Common.{refl, sym, ◌∙◌, arith}
 use Rattle.undo_journal.proofs.Saving.{pair-torn, pair-sound, gate-torn, gate-sound, word-torn, word-current}
 use Rattle.undo_journal.proofs.Saving.{word-sound}
 use Rattle.undo_journal.proofs.Telling.{answered_err, answered_after, steady_then}
@@ -80,3 +80,36 @@ returns-clause-light g c =
     let paired = steady_then _ _ _ (c.in_ok-earlier.ensures.light.ok refl) (c.in_ok-write_pair.ensures.light.ok refl) in
     let counted = steady_then _ _ _ paired (c.in_ok-write_gate.ensures.light.ok refl) in
     answered_after _ _ _ _ counted c.write_word.ensures.light
+
+pub returns-in_err-write_pair-clause-writes : goal.returns-in_err-write_pair-clause-writes
+returns-in_err-write_pair-clause-writes g c =
+    let read = c.in_ok-earlier.ensures in
+    let pair = c.in_err-write_pair.ensures.writes in
+    record {
+      writes = omega (arith, pair.writes, read.writes);
+      compares = pair.compares ∙ read.compares;
+      matches = pair.matches ∙ read.matches;
+    }
+
+pub returns-in_err-write_gate-clause-writes : goal.returns-in_err-write_gate-clause-writes
+returns-in_err-write_gate-clause-writes g c =
+    let read = c.in_ok-earlier.ensures in
+    let pair = c.in_ok-write_pair.ensures.writes in
+    let gate = c.in_err-write_gate.ensures.writes in
+    record {
+      writes = omega (arith, gate.writes, pair.writes, read.writes);
+      compares = gate.compares ∙ pair.compares ∙ read.compares;
+      matches = gate.matches ∙ pair.matches ∙ read.matches;
+    }
+
+pub returns-clause-writes : goal.returns-clause-writes
+returns-clause-writes g c =
+    let read = c.in_ok-earlier.ensures in
+    let pair = c.in_ok-write_pair.ensures.writes in
+    let gate = c.in_ok-write_gate.ensures.writes in
+    let word = c.write_word.ensures.writes in
+    record {
+      writes = omega (arith, word.writes, gate.writes, pair.writes, read.writes);
+      compares = word.compares ∙ gate.compares ∙ pair.compares ∙ read.compares;
+      matches = word.matches ∙ gate.matches ∙ pair.matches ∙ read.matches;
+    }

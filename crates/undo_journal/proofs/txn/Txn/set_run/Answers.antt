@@ -1,8 +1,32 @@
-use Rattle.std.proofs.Common.{◌<◌, ◌+◌, ℕ, List, length, get_or, slice_set, ap, ◌∙◌, arith}
+use Rattle.std.proofs.Common.{◌<◌, ◌+◌, ℕ, List, length, get_or, slice_set, refl, ap, ◌∙◌, arith}
 use Rattle.nvm_board.specs.laws.Torn.{written-more}
-use Rattle.undo_journal.specs.laws.Calls.{sets_then}
+use Rattle.undo_journal.specs.laws.Calls.{reads_same, reads_sets, sets_then, sets_weaker}
 use Rattle.undo_journal.specs.laws.Told.{sets_in_on, sets_in_handed}
 use Rattle.undo_journal.proofs.txn.Txn.set_run.Goals as goal
+
+pub returns-in_err-check-clause-store : goal.returns-in_err-check-clause-store
+returns-in_err-check-clause-store g c =
+    sets_in_handed _ _ _ _ _ c.from_residual.ensures.1 (record {
+      sets = reads_sets _ _ _ (record { same_store = refl; reads = reads_same _ });
+      ready = tt;
+      tells = c.in_err-check.ensures.tells;
+    })
+
+pub loop-i-init : goal.loop-i-init
+loop-i-init g c = record {
+  usable = c.in_ok-check.ensures.ready;
+  done = refl;
+  sets = reads_sets _ _ _ (record { same_store = refl; reads = reads_same _ });
+}
+
+pub returns-clause-store : goal.returns-clause-store
+returns-clause-store g c =
+    let so_far = c.loop-i.invariant in
+    record {
+      sets = sets_weaker c.loop-i.i _ _ _ (omega arith) so_far.sets;
+      ready = so_far.usable;
+      tells = so_far.usable.works;
+    }
 
 pub returns-in_err-set-clause-store : goal.returns-in_err-set-clause-store
 returns-in_err-set-clause-store g c =
