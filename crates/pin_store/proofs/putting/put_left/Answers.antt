@@ -11,6 +11,9 @@ use Rattle.undo_journal.specs.laws.Exits.{on_then}
 use Rattle.pin_store.proofs.putting.put_left.Given.{Over}
 use Rattle.pin_store.proofs.putting.put_left.Goals as goal
 
+pub returns-clause-store : goal.returns-clause-store
+returns-clause-store g c = search
+
 set : (g : Over) (c : goal.After-put_alone g) (after : List ℕ)
     → after ≡ slice_set (committed c.args.store.now) c.address_of.result c.from.result
     → SetsPin (committed c.args.store.now) (owner c.args.secret)
@@ -43,6 +46,3 @@ returns-clause-pages g c =
     (λ (done : after ≡ slice_set m c.address_of.result c.from.result).
     left_pages m after c.args.secret c.args.left c.requires.fewer c.requires.pages (set g c after done))
     c.put_alone.ensures.any_exit
-
-pub returns-clause-store : goal.returns-clause-store
-returns-clause-store g c = c.put_alone.ensures.store
