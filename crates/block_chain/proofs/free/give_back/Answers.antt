@@ -3,7 +3,8 @@ use Rattle.std.proofs.lemmas.Result.{on_ok_weaker}
 use Rattle.nvm_board.specs.Facts.{address}
 use Rattle.undo_journal.specs.Memory.{current}
 use Rattle.undo_journal.specs.Lent.{memory_of}
-use Rattle.undo_journal.specs.laws.Calls.{sets_then}
+use Rattle.undo_journal.specs.laws.Exits.{none_ok}
+use Rattle.undo_journal.specs.laws.Told.{sets_in_on, sets_in_handed, sets_in_within}
 use Rattle.block_chain.specs.Changes.{GivesBack}
 use Rattle.block_chain.specs.Parts.{first_of, joined}
 use Rattle.block_chain.specs.declared.layout.TheConstants.{HEADER_PAGE}
@@ -28,11 +29,15 @@ returns-clause-done g c =
 
 pub returns-clause-store : goal.returns-clause-store
 returns-clause-store g c =
-    record {
-      sets = sets_then _ _ _ _ _ _ (omega arith) c.join.ensures.store.sets c.put.ensures.store.sets;
-      ready = search rules;
-      tells = search rules;
-    }
+    sets_in_on _ _ _ _ _ _ _ (omega arith) c.join.ensures.store.sets c.put.ensures.store
+
+pub returns-in_err-page-clause-done : goal.returns-in_err-page-clause-done
+returns-in_err-page-clause-done g c = none_ok _ _ _ c.from_residual.ensures.1
+
+pub returns-in_err-page-clause-store : goal.returns-in_err-page-clause-store
+returns-in_err-page-clause-store g c =
+    sets_in_handed _ _ _ _ _ c.from_residual.ensures.1
+    (sets_in_within _ _ _ _ _ (omega arith) c.in_err-page.ensures.store)
 
 pub returns-then-is_empty-clause-done : goal.returns-then-is_empty-clause-done
 returns-then-is_empty-clause-done g c =
