@@ -31,7 +31,7 @@ use fcp_template::{Fcp, FileKind, ShortIdentifier};
 use undo_journal::{Board, Store, StoreErr, Txn};
 
 /// What came of a creation.
-#[derive(Clone, Copy, Debug, PartialEq, Eq)]
+#[derive(Clone, Copy)]
 pub enum Creation {
     /// The file of this entry is new, and has so many blocks.
     Created { entry: u8, blocks: u16 },

@@ -9,18 +9,25 @@ ghost use Rattle.file_tree.specs.Cards.{master_file};
 ghost use Rattle.file_tree.specs.Reaching.{reached, child_by_short};
 ghost use Rattle.file_tree.specs.Table.{table, entry_in, path_of, IsUsed, IsChild};
 ghost use Rattle.file_tree.specs.Trees.{tree_of, TreeStands};
-ghost use Rattle.file_tree.specs.laws.LookUps.{NamesChild, NamesShort, TellsChild, TellsShort, TellsBeside, TellsAbove};
+ghost use Rattle.file_tree.specs.laws.LookUps.{StandsIn, NamesChild, NamesShort, TellsChild, TellsShort, TellsBeside, TellsAbove};
 
 use crate::entry::Entry;
 use crate::layout::{ENTRIES, MASTER_FILE};
 use crate::reading::read_entry;
 use undo_journal::{Board, Store, StoreErr};
 
+/// An entry is that of a child of a dedicated file.
+fn stands_in(entry: &Entry, df: u8) -> bool
+    ensures { IsTrue result ↔ StandsIn entry.now df }
+{
+    entry.kind != 0 && entry.parent == df
+}
+
 /// An entry is that of a child of a dedicated file with this identifier.
 fn is_child(entry: &Entry, df: u8, identifier: u16) -> bool
     ensures { IsTrue result ↔ NamesChild entry.now df identifier }
 {
-    entry.kind != 0 && entry.parent == df && entry.identifier == identifier
+    stands_in(entry, df) && entry.identifier == identifier
 }
 
 /// The entry of the child of a dedicated file with this identifier, if it has one.
@@ -46,7 +53,7 @@ pub fn find_child<B: Board>(
 fn has_short_identifier(entry: &Entry, df: u8, short: u8) -> bool
     ensures { IsTrue result ↔ NamesShort entry.now df short }
 {
-    entry.kind != 0 && entry.parent == df && entry.short == short
+    stands_in(entry, df) && entry.short == short
 }
 
 /// The entry of the child of a dedicated file with this short identifier, 1 to 30, if it has one.

@@ -5,7 +5,7 @@ ghost use Rattle.std.specs.List.{filter_map};
 ghost use Rattle.file_tree.specs.Entries.{extent_of};
 ghost use Rattle.file_tree.specs.Table.{entry_in, ancestor, extents, IsUsed, IsMasterFile, IsBelowMaster, IsTable};
 ghost use Rattle.file_tree.specs.Table.{free_entries};
-ghost use Rattle.file_tree.specs.laws.Alikes.{Alike, AreBelow, AreApart, IsAlone};
+ghost use Rattle.file_tree.specs.laws.Alikes.{Alike, BearOneName, AreBelow, AreApart, IsAlone};
 
 use crate::entry::{Entry, ExtentList};
 use crate::layout::{DEEPEST, MASTER_FILE};
@@ -67,6 +67,13 @@ fn are_below_master(entries: &[Entry]) -> bool
     true
 }
 
+/// Two entries have the same name, which has bytes.
+fn bear_one_name(one: &Entry, other: &Entry) -> bool
+    ensures { IsTrue result ↔ BearOneName one.now other.now }
+{
+    !one.name().is_empty() && one.name() == other.name()
+}
+
 /// Whether two used entries can't stand in one table: children of one dedicated file with one identifier, or one short
 /// identifier; or files with one name. `e` is the number of the first; the master file is no child.
 fn are_alike(e: usize, one: &Entry, other: &Entry) -> bool
@@ -75,7 +82,7 @@ fn are_alike(e: usize, one: &Entry, other: &Entry) -> bool
     let same_identifier = one.identifier == other.identifier;
     let same_short = one.short != 0 && one.short == other.short;
     let siblings = e > 0 && one.parent == other.parent && (same_identifier || same_short);
-    siblings || !one.name().is_empty() && one.name() == other.name()
+    siblings || bear_one_name(one, other)
 }
 
 /// Whether no used entry behind this one is like it.

@@ -9,12 +9,16 @@ use Rattle.file_tree.specs.Table.{entry_in, IsUsed, IsChild, IsEntry, IsMasterFi
 use Rattle.file_tree.specs.Table.{HaveIdentifiers, HaveShortIdentifiers, HaveNames}
 use Rattle.file_tree.specs.laws.Tables.{entry_past}
 
+-- two entries have the same name, which has bytes
+abbrev pub BearOneName : Entry → Entry → Type 0
+BearOneName one other = (0 < length (name_of one)) × (name_of one ≡ name_of other)
+
 -- an entry of this number cannot stand beside another
 abbrev pub Alike : ℕ → Entry → Entry → Type 0
 Alike e one other =
     ((0 < e) × (one.parent ≡ other.parent)
     × ((one.identifier ≡ other.identifier) ⊎ ((one.short ≢ 0) × (one.short ≡ other.short))))
-    ⊎ ((0 < length (name_of one)) × (name_of one ≡ name_of other))
+    ⊎ BearOneName one other
 
 -- no used entry behind this one is like it
 abbrev pub IsAlone : List Entry → ℕ → Type 0

@@ -15,7 +15,11 @@ use Rattle.file_tree.specs.laws.Paths.{master_used, child_of_path, path_of_child
 use Rattle.file_tree.specs.laws.Nodes.{used_small, entry_found, exists-used, exists-none, file_at_entry}
 use Rattle.file_tree.specs.laws.Nodes.{dedicated_entry}
 
--- an entry is a file's in a dedicated file, with an identifier; with a short identifier
+-- an entry is a file's in a dedicated file; with an identifier; with a short identifier
+pub record StandsIn (x : Entry) (df : ℕ) : Type 0 where
+  pub used : x.kind ≢ 0
+  pub parent : x.parent ≡ df
+
 pub record NamesChild (x : Entry) (df id : ℕ) : Type 0 where
   pub used : x.kind ≢ 0
   pub parent : x.parent ≡ df

@@ -1,10 +1,10 @@
 use Rattle.undo_journal.specs.laws.Exits.{none_ok}
-use Rattle.std.proofs.Common.{◌≡◌, ◌≤◌, ◌<◌, ◌+◌, ◌∷◌, ℕ, List, Option, None, Some, length, drop, slice_index, subst, arith}
+use Rattle.std.proofs.Common.{◌≡◌, ◌≤◌, ◌<◌, ◌+◌, ◌∷◌, ℕ, List, Option, None, Some, length, drop, slice_index, refl, subst, arith}
 use Rattle.std.proofs.lemmas.List.{drop_more, drop_all}
 use Rattle.undo_journal.specs.Memory.{committed}
-use Rattle.undo_journal.specs.laws.Calls.{reads_then}
+use Rattle.undo_journal.specs.laws.Calls.{reads_same, reads_then}
 use Rattle.file_tree.specs.Cards.{Path}
-use Rattle.file_tree.specs.Table.{table}
+use Rattle.file_tree.specs.Table.{table, IsUsed}
 use Rattle.file_tree.specs.laws.LookUps.{TellsChild, told_child}
 use Rattle.file_tree.specs.laws.Selecting.{IsOnWay, way_goes_on, way_ends, way_is_lost}
 use Rattle.undo_journal.specs.laws.Told.{reads_so_far, reads_handed, reads_on}
@@ -80,3 +80,14 @@ returns-in-None-clause-store g c =
 pub returns-clause-store : goal.returns-clause-store
 returns-clause-store g c =
     reads_so_far _ _ c.loop-k.invariant.reads c.loop-k.invariant.ready
+
+-- at first the whole path is left
+way_begins : (m : List ℕ) (df : ℕ) (path : Path) → IsUsed (table m) df → IsOnWay m df df path path
+way_begins m df path used = record { used = used; way = refl }
+
+pub loop-k-init : goal.loop-k-init
+loop-k-init g c = record {
+  ready = c.requires.ready;
+  reads = reads_same _;
+  way = way_begins (committed c.args.store.now) c.args.df c.args.path.now c.requires.df;
+}
