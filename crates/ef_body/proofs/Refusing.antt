@@ -3,7 +3,7 @@ use Rattle.std.proofs.Common.{sym, ◌∙◌, ap, ap₂, arith, subst, ⊎_elim}
 use Rattle.std.proofs.lemmas.Bool.{cases_lt, le-leb, lt-leb}
 use Rattle.std.specs.Prelude.{◌≡◌, ◌<◌, ◌≤◌, ◌↔◌, ◌&&◌, ℕ, Bool, true, false, List, length, IsTrue, Option, Some, None}
 use Rattle.std.specs.Prelude.{if◌then◌else◌, nat_le}
-use Rattle.std.specs.Prelude.{Result, Ok, Err, IsErrAnd}
+use Rattle.std.specs.Prelude.{Result, Ok, Err, IsErrAnd, OnOk, option_map}
 use Rattle.std.specs.Result.{result_err}
 use Rattle.card_rules.specs.declared.status.Sw.{Sw}
 use Rattle.card_rules.specs.declared.status.TheConstants.Sw.{RECORD_NOT_FOUND, NO_ROOM}
@@ -14,7 +14,7 @@ use Rattle.undo_journal.specs.laws.Told.{told_is}
 use Rattle.ef_body.specs.declared.error.BodyErr.{BodyErr}
 use Rattle.ef_body.specs.declared.error.BodyErr.TheVariants.{Store}
 use Rattle.ef_body.specs.Records.{has_record}
-use Rattle.ef_body.specs.Refusals.{missing_record, full, failure, Decides}
+use Rattle.ef_body.specs.Refusals.{missing_record, full, failure, Decides, DecidesUnlessFailed, IfRefused}
 
 -- what a test that gave false tells
 pub not_so : (b : Bool) (fact : Type 0) → (IsTrue b ↔ fact) → b ≡ false → fact → ⊥
@@ -78,15 +78,56 @@ module _ (capacity : ℕ) (records : List (List ℕ)) (n : ℕ) (b : Bool) (many
       ap (λ (h : Bool). let status : Option Sw = if h then Some NO_ROOM else None in status)
       (lt-leb capacity (length records) left)
 
--- an answer of the store's, where nothing refuses
-pub store_decides : {T : Type 0} (refusal : Option Sw) (result : Result T BodyErr) (e : StoreErr)
-    → IsErrAnd result (λ r. r ≡ Store e) → refusal ≡ None → Decides refusal (result_err result)
-store_decides refusal (Ok v) e is none = none
-store_decides refusal (Err r) e is none =
-    let family : BodyErr → Type 0 = λ b. Decides refusal (Some b) in subst family (sym is) none
+-- what a call answers that nothing refuses is the store's answer
+module _ {T : Type 0} (r : Result T StoreErr) (s : Result T BodyErr)
+    (is : result_err s ≡ option_map Store (result_err r)) where
+  pub store_decides : (refusal : Option Sw) → refusal ≡ None → Decides refusal (result_err s)
+  store_decides refusal none =
+      subst (λ (answer : Option BodyErr). Decides refusal answer) (sym is) (decides (result_err r))
+    where
+      decides : (told : Option StoreErr) → Decides refusal (option_map Store told)
+      decides None = none
+      decides (Some e) = none
+
+  pub store_undecided : (refusal : Option Sw) → refusal ≡ None → DecidesUnlessFailed refusal (result_err s)
+  store_undecided refusal none =
+      subst (λ (answer : Option BodyErr). DecidesUnlessFailed refusal answer) (sym is) (decides (result_err r))
+    where
+      decides : (told : Option StoreErr) → DecidesUnlessFailed refusal (option_map Store told)
+      decides None = none
+      decides (Some e) = tt
+
+  pub store_refuses : (fact : Type 0) → IfRefused (result_err s) fact
+  store_refuses fact = subst (λ (answer : Option BodyErr). IfRefused answer fact) (sym is) (refuses (result_err r))
+    where
+      refuses : (told : Option StoreErr) → IfRefused (option_map Store told) fact
+      refuses None = tt
+      refuses (Some e) = tt
+
+  pub store_told : (P : Option StoreErr → Type 0) → P (result_err r) → P (failure (result_err s))
+  store_told P holds =
+      subst (λ (answer : Option BodyErr). P (failure answer)) (sym is) (told (result_err r) holds)
+    where
+      told : (told : Option StoreErr) → P told → P (failure (option_map Store told))
+      told None holds = holds
+      told (Some e) holds = holds
+
+  pub store_done : (fact : Type 0) → OnOk r fact → OnOk s fact
+  store_done = done r s is
+    where
+      done : (r : Result T StoreErr) (s : Result T BodyErr) → result_err s ≡ option_map Store (result_err r)
+          → (fact : Type 0) → OnOk r fact → OnOk s fact
+      done (Ok x) (Ok y) is fact holds = holds
+      done (Err e) (Ok y) is fact holds = cc
+      done r (Err e) is fact holds = tt
 
 -- a call that fails as one that it made: what that tells of the store, it tells too
 pub changes_fail : {T : Type 0} (n : ℕ) (old new : Memory) (r : Result T BodyErr) (e : BodyErr)
     → IsErrAnd r (λ b. b ≡ e) → Changes n old new (failure (Some e)) → Changes n old new (failure (result_err r))
 changes_fail n old new r e is changes =
     subst (λ (why : Option BodyErr). Changes n old new (failure why)) (told_is r e is) changes
+
+-- what holds anyway holds of a success
+pub ok_anyway : {T E : Type 0} (r : Result T E) (fact : Type 0) → fact → OnOk r fact
+ok_anyway (Ok x) fact holds = holds
+ok_anyway (Err e) fact holds = tt

@@ -14,7 +14,7 @@ ghost use Rattle.ef_body.specs.Refusals.{IfRefused, failure};
 ghost use Rattle.ef_body.specs.Bodies.{cyclic_records, IsCyclic};
 ghost use Rattle.ef_body.specs.Changes.{CyclicBecomes, Increases};
 
-use crate::error::BodyErr;
+use crate::error::{BodyErr, unrefused};
 use crate::number::add;
 use crate::reading::read_record;
 use crate::search::{Direction, search_records};
@@ -27,7 +27,7 @@ use undo_journal::{Board, Store};
 /// A cyclic body: the chain of its blocks, the length of a record in bytes (1 to 255), how many records it has room
 /// for (1 to 254) and how many there are, the slot of record 1, and the address of the word of its entry that tells
 /// the last two.
-#[derive(Clone, Copy, Default)]
+#[derive(Clone, Copy)]
 pub struct Cyclic {
     pub chain: Chain,
     pub record_length: u16,
@@ -72,8 +72,7 @@ impl Cyclic {
         if !self.has_record(number) {
             return Err(BodyErr::Refused(Sw::RECORD_NOT_FOUND));
         }
-        read_record(self, store, number, bytes)?;
-        Ok(())
+        unrefused(read_record(self, store, number, bytes))
     }
 
     /// Puts a record in front and drops the oldest one, in one transaction: the number of records stays (UPDATE
@@ -97,8 +96,7 @@ impl Cyclic {
         if !self.has_record(1) {
             return Err(BodyErr::Refused(Sw::RECORD_NOT_FOUND));
         }
-        put_front(self, store, bytes, self.records)?;
-        Ok(())
+        unrefused(put_front(self, store, bytes, self.records))
     }
 
     /// Adds a record in front, in one transaction: where there is room for no more, the oldest one is dropped (APPEND
@@ -118,8 +116,7 @@ impl Cyclic {
         ensures refusal { Decides None (result_err result) }
         ensures store { Changes RECORD_WRITES store.old store.new (failure (result_err result)) }
     {
-        put_front(self, store, bytes, self.appended())?;
-        Ok(())
+        unrefused(put_front(self, store, bytes, self.appended()))
     }
 
     /// How many records there are with one more: as many as there is room for at most.
@@ -193,8 +190,7 @@ impl Cyclic {
         ensures store { Changes RECORD_WRITES store.old store.new (failure (result_err result)) }
     {
         self.sum(store, sent, bytes)?;
-        put_front(self, store, bytes, self.records)?;
-        Ok(())
+        unrefused(put_front(self, store, bytes, self.records))
     }
 
     /// Puts the numbers of the records that hold the text into the buffer, in place of what stood there: from the
@@ -228,7 +224,6 @@ impl Cyclic {
         if !self.has_record(first) {
             return Err(BodyErr::Refused(Sw::RECORD_NOT_FOUND));
         }
-        search_records(self, store, direction, first, text, numbers)?;
-        Ok(())
+        unrefused(search_records(self, store, direction, first, text, numbers))
     }
 }

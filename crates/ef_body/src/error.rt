@@ -1,5 +1,6 @@
 //! Why a call on a body fails.
-ghost use Rattle.std.specs.Prelude.{◌≡◌};
+ghost use Rattle.std.specs.Prelude.{◌≡◌, option_map};
+ghost use Rattle.std.specs.Result.{result_err};
 ghost use Rattle.ef_body.specs.declared.error.BodyErr.TheVariants.{Store};
 
 use card_rules::Sw;
@@ -19,5 +20,15 @@ impl From<StoreErr> for BodyErr {
 
     fn from(e: StoreErr) -> Self {
         BodyErr::Store(e)
+    }
+}
+
+/// What a call on a body answers that nothing refuses: what the store answered.
+pub(crate) fn unrefused(answered: Result<(), StoreErr>) -> Result<(), BodyErr>
+    ensures { result_err result ≡ option_map Store (result_err answered) }
+{
+    match answered {
+        Ok(()) => Ok(()),
+        Err(e) => Err(BodyErr::Store(e)),
     }
 }

@@ -13,7 +13,7 @@ ghost use Rattle.ef_body.specs.Bodies.{linear_records, ring_of, IsLinear};
 ghost use Rattle.ef_body.specs.Changes.{LinearBecomes};
 
 use crate::cyclic::Cyclic;
-use crate::error::BodyErr;
+use crate::error::{BodyErr, unrefused};
 use crate::search::Direction;
 use crate::writing::{counts, put_bytes, put_record};
 use arrayvec::ArrayVec;
@@ -23,7 +23,7 @@ use undo_journal::{Board, Store};
 
 /// A linear body: the chain of its blocks, the length of a record in bytes (1 to 255), how many records it has room
 /// for (1 to 254) and how many there are, and the address of the word of its entry that tells so.
-#[derive(Clone, Copy, Default)]
+#[derive(Clone, Copy)]
 pub struct Linear {
     pub chain: Chain,
     pub record_length: u16,
@@ -114,8 +114,7 @@ impl Linear {
             return Err(BodyErr::Refused(Sw::RECORD_NOT_FOUND));
         }
         let offset = (number - 1) * self.record_length;
-        put_bytes(store, self.chain, offset, bytes)?;
-        Ok(())
+        unrefused(put_bytes(store, self.chain, offset, bytes))
     }
 
     /// Adds a record behind the last one, in one transaction: its bytes, and then how many there are (APPEND RECORD,
@@ -142,8 +141,7 @@ impl Linear {
         }
         let offset = self.records * self.record_length;
         let told = counts(self.records + 1, 0);
-        put_record(store, self.chain, offset, bytes, self.told_at, told)?;
-        Ok(())
+        unrefused(put_record(store, self.chain, offset, bytes, self.told_at, told))
     }
 
     /// Puts the numbers of the records that hold the text into the buffer, in place of what stood there: from the

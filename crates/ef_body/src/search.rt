@@ -17,7 +17,7 @@ use arrayvec::ArrayVec;
 use undo_journal::{Board, Store, StoreErr};
 
 /// Which way a search goes from the record that it begins at.
-#[derive(Clone, Copy, PartialEq, Eq)]
+#[derive(Clone, Copy)]
 pub enum Direction {
     /// Up to the last record.
     Forward,

@@ -8,7 +8,7 @@ ghost use Rattle.ef_body.specs.Refusals.{past_end, overlong, Decides, IfRefused,
 ghost use Rattle.ef_body.specs.Bodies.{transparent_bytes, IsTransparent};
 ghost use Rattle.ef_body.specs.Changes.{TransparentBecomes};
 
-use crate::error::BodyErr;
+use crate::error::{BodyErr, unrefused};
 use crate::reading::read_anew;
 use crate::writing::put_bytes;
 use arrayvec::ArrayVec;
@@ -17,7 +17,7 @@ use card_rules::Sw;
 use undo_journal::{Board, Store};
 
 /// A transparent body: the chain of its blocks, and how many bytes it has, 1 to 32,767.
-#[derive(Clone, Copy, Default)]
+#[derive(Clone, Copy)]
 pub struct Transparent {
     pub chain: Chain,
     pub size: u16,
@@ -69,8 +69,7 @@ impl Transparent {
             return Err(BodyErr::Refused(Sw::WRONG_OFFSET));
         }
         let count = smaller(most, self.size - offset);
-        read_anew(store, self.chain, offset, count, bytes)?;
-        Ok(())
+        unrefused(read_anew(store, self.chain, offset, count, bytes))
     }
 
     /// Puts bytes, 255 at most, in place of those from an offset on, in one transaction (UPDATE BINARY, ISO/IEC
@@ -107,8 +106,7 @@ impl Transparent {
         if self.ends_before(offset, bytes.len()) {
             return Err(BodyErr::Refused(Sw::NO_ROOM));
         }
-        put_bytes(store, self.chain, offset, bytes)?;
-        Ok(())
+        unrefused(put_bytes(store, self.chain, offset, bytes))
     }
 }
 

@@ -1,13 +1,16 @@
 use Rattle.std.proofs.Common.{◌≡◌, List, ℕ, arith, ap, ◌∙◌, sym, subst, length, inl}
 use Rattle.std.proofs.Math.Logic.{⊎_map}
+use Rattle.std.proofs.lemmas.Result.{on_ok_weaker}
+use Rattle.undo_journal.specs.Calls.{Changes}
 use Rattle.undo_journal.specs.Memory.{committed}
-use Rattle.undo_journal.specs.laws.Told.{reads_change, changes_after}
+use Rattle.undo_journal.specs.laws.Told.{reads_change, changes_after, told_is}
+use Rattle.ef_body.specs.declared.layout.TheConstants.{RECORD_WRITES}
 use Rattle.ef_body.specs.Records.{front}
 use Rattle.ef_body.specs.Bodies.{cyclic_records, IsCyclic}
 use Rattle.ef_body.specs.Changes.{CyclicBecomes}
-use Rattle.ef_body.specs.Refusals.{raised_number}
+use Rattle.ef_body.specs.Refusals.{raised_number, unraised, DecidesUnlessFailed}
 use Rattle.ef_body.proofs.Becoming.{length-cyclic}
-use Rattle.ef_body.proofs.Refusing.{changes_fail}
+use Rattle.ef_body.proofs.Refusing.{changes_fail, ok_anyway, store_done, store_told, store_undecided}
 use Rattle.ef_body.proofs.Increasing.{not_both, length-spelled, raised_there, increases}
 use Rattle.ef_body.proofs.cyclic.Cyclic.increase.Goals as goal
 
@@ -30,18 +33,6 @@ put_front-requires-clause-some g c =
     let many = length-cyclic m c.args.self c.requires.body in
     omega (arith, some, many)
 
-pub returns-in_err-put_front-clause-any_exit : goal.returns-in_err-put_front-clause-any_exit
-returns-in_err-put_front-clause-any_exit g c =
-    let m = committed c.args.store.now in
-    let now = committed c.sum.new.store in
-    let after = committed c.put_front.new.store in
-    let same = c.sum.ensures.store.only.keeps.committed_words in
-    ⊎_map (λ (kept : after ≡ now). kept ∙ same) (λ
-    (becomes : CyclicBecomes now c.args.self (front c.args.self.records c.deref.result.now
-    (cyclic_records now c.args.self)) after).
-    increases m now after c.args.self c.deref.result.now c.args.sent.now same c.requires.body
-    (c.deref.ensures.0 ∙ c.in_ok-sum.ensures.bytes) becomes) c.put_front.ensures.any_exit
-
 pub returns-clause-any_exit : goal.returns-clause-any_exit
 returns-clause-any_exit g c =
     let m = committed c.args.store.now in
@@ -54,19 +45,8 @@ returns-clause-any_exit g c =
     increases m now after c.args.self c.deref.result.now c.args.sent.now same c.requires.body
     (c.deref.ensures.0 ∙ c.in_ok-sum.ensures.bytes) becomes) c.put_front.ensures.any_exit
 
-pub returns-clause-done : goal.returns-clause-done
-returns-clause-done g c =
-    let m = committed c.args.store.now in
-    let now = committed c.sum.new.store in
-    let same = c.sum.ensures.store.only.keeps.committed_words in
-    increases m now (committed c.put_front.new.store) c.args.self c.deref.result.now c.args.sent.now same
-    c.requires.body (c.deref.ensures.0 ∙ c.in_ok-sum.ensures.bytes) c.in_ok-put_front.ensures.done
-
 pub returns-in_err-sum-clause-refused : goal.returns-in_err-sum-clause-refused
 returns-in_err-sum-clause-refused g c status is = c.sum.ensures.store.only
-
-pub returns-in_err-put_front-clause-refused : goal.returns-in_err-put_front-clause-refused
-returns-in_err-put_front-clause-refused g c status is = absurd (not_both _ status is c.in_ok-sum.ensures.refusal)
 
 pub returns-clause-refused : goal.returns-clause-refused
 returns-clause-refused g c status is = absurd (not_both _ status is c.in_ok-sum.ensures.refusal)
@@ -79,11 +59,30 @@ returns-in_err-sum-clause-store g c =
     changes_fail _ _ _ _ _ c.from_residual.ensures.1
     (reads_change _ _ _ _ c.requires.ready.idle c.in_err-sum.ensures.store)
 
-pub returns-in_err-put_front-clause-store : goal.returns-in_err-put_front-clause-store
-returns-in_err-put_front-clause-store g c =
-    changes_fail _ _ _ _ _ c.from_residual-in_err-put_front.ensures.1
-    (changes_after _ _ _ _ _ c.sum.ensures.store.only c.in_err-put_front.ensures.store)
+pub returns-clause-done : goal.returns-clause-done
+returns-clause-done g c =
+    let m = committed c.args.store.now in
+    let now = committed c.sum.new.store in
+    let same = c.sum.ensures.store.only.keeps.committed_words in
+    store_done c.put_front.result c.unrefused.result c.unrefused.ensures _
+    (on_ok_weaker c.put_front.result
+    (increases m now (committed c.put_front.new.store) c.args.self c.deref.result.now c.args.sent.now same
+    c.requires.body (c.deref.ensures.0 ∙ c.in_ok-sum.ensures.bytes)) c.put_front.ensures.done)
 
 pub returns-clause-store : goal.returns-clause-store
 returns-clause-store g c =
-    changes_after _ _ _ _ _ c.sum.ensures.store.only c.in_ok-put_front.ensures.store
+    store_told c.put_front.result c.unrefused.result c.unrefused.ensures
+    (Changes RECORD_WRITES c.args.store.now c.put_front.new.store)
+    (changes_after _ _ _ _ _ c.sum.ensures.store.only c.put_front.ensures.store)
+
+pub returns-clause-bytes : goal.returns-clause-bytes
+returns-clause-bytes g c = ok_anyway c.unrefused.result _ c.in_ok-sum.ensures.bytes
+
+pub returns-clause-refusal : goal.returns-clause-refusal
+returns-clause-refusal g c =
+    store_undecided c.put_front.result c.unrefused.result c.unrefused.ensures _ c.in_ok-sum.ensures.refusal
+
+pub returns-in_err-sum-clause-refusal : goal.returns-in_err-sum-clause-refusal
+returns-in_err-sum-clause-refusal g c =
+    subst (DecidesUnlessFailed (unraised c.args.self.record_length (cyclic_records (committed c.args.store.now) c.args.self)
+    c.args.sent.now)) (told_is _ _ c.from_residual.ensures.1) c.in_err-sum.ensures.refusal

@@ -4,6 +4,7 @@ use Rattle.ef_body.specs.Bodies.{cyclic_records}
 use Rattle.ef_body.proofs.Becoming.{length-cyclic, length-record}
 use Rattle.ef_body.proofs.Refusing.{not_so, not_there}
 use Rattle.ef_body.proofs.Increasing.{unraised_missing, too_high, not_too_high, is_sum}
+use Rattle.undo_journal.specs.laws.Told.{reads_none}
 use Rattle.ef_body.proofs.cyclic.Cyclic.sum.Goals as goal
 
 pub returns-then-not-has_record-clause-refusal : goal.returns-then-not-has_record-clause-refusal
@@ -68,3 +69,6 @@ read_record-requires g c =
       search rules,
       (c.requires.ready, (c.requires.body, (both.0, (both.1, (c.requires.room, c.clear.ensures))))),
     )
+
+pub returns-then-not-has_record-clause-store : goal.returns-then-not-has_record-clause-store
+returns-then-not-has_record-clause-store g c = reads_none _ c.requires.ready

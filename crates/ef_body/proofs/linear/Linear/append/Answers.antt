@@ -1,11 +1,15 @@
 use Rattle.std.proofs.Common.{◌*◌, arith}
 use Rattle.std.proofs.Math.Logic.{⊎_map}
+use Rattle.std.proofs.lemmas.Result.{on_ok_weaker}
+use Rattle.undo_journal.specs.Calls.{Changes}
 use Rattle.undo_journal.specs.Memory.{committed}
+use Rattle.ef_body.specs.declared.layout.TheConstants.{RECORD_WRITES}
 use Rattle.ef_body.specs.Bodies.{linear_records}
 use Rattle.ef_body.specs.Changes.{PutsRecord}
 use Rattle.ef_body.specs.laws.Slots.{slot-within}
 use Rattle.ef_body.proofs.Becoming.{length-linear, linear_added}
-use Rattle.ef_body.proofs.Refusing.{is_full, not_full, has_room, store_decides}
+use Rattle.ef_body.proofs.Refusing.{has_room, is_full, not_full, store_decides, store_done, store_refuses, store_told}
+use Rattle.undo_journal.specs.laws.Told.{reads_change, reads_none}
 use Rattle.ef_body.proofs.linear.Linear.append.Goals as goal
 
 pub returns-then-is_full-clause-refusal : goal.returns-then-is_full-clause-refusal
@@ -13,12 +17,6 @@ returns-then-is_full-clause-refusal g c =
     let m = committed c.args.store.now in
     is_full c.args.self.capacity (linear_records m c.args.self) c.args.self.records c.is_full.result
     (length-linear m c.args.self c.requires.body) c.is_full.ensures c.if-is_full.true
-
-pub returns-clause-refusal : goal.returns-clause-refusal
-returns-clause-refusal g c =
-    let m = committed c.args.store.now in
-    not_full c.args.self.capacity (linear_records m c.args.self) c.args.self.records c.is_full.result
-    (length-linear m c.args.self c.requires.body) c.is_full.ensures c.if-is_full.false
 
 pub overflow_mul-offset : goal.overflow_mul-offset
 overflow_mul-offset g c =
@@ -38,18 +36,6 @@ put_record-requires-clause-within g c =
     let fits = c.requires.body.slots.fits in
     omega (arith, within, fits, c.requires.size)
 
-pub returns-in_err-put_record-clause-any_exit : goal.returns-in_err-put_record-clause-any_exit
-returns-in_err-put_record-clause-any_exit g c =
-    let m = committed c.args.store.now in
-    let n = committed c.put_record.new.store in
-    let room = has_room c.args.self.capacity (linear_records m c.args.self) c.args.self.records c.is_full.result
-    (length-linear m c.args.self c.requires.body) c.is_full.ensures c.if-is_full.false in
-    ⊎_map (λ kept. kept) (λ
-    (puts : PutsRecord m c.args.self.chain (c.args.self.records * c.args.self.record_length) c.args.bytes.now
-    c.args.self.told_at c.counts-told.result n).
-    linear_added m n c.args.self c.args.bytes.now c.requires.ready.usable.committed_size c.requires.body
-    c.requires.size room c.counts-told.result c.counts-told.ensures puts) c.put_record.ensures.any_exit
-
 pub returns-clause-any_exit : goal.returns-clause-any_exit
 returns-clause-any_exit g c =
     let m = committed c.args.store.now in
@@ -68,12 +54,25 @@ returns-clause-done g c =
     let n = committed c.put_record.new.store in
     let room = has_room c.args.self.capacity (linear_records m c.args.self) c.args.self.records c.is_full.result
     (length-linear m c.args.self c.requires.body) c.is_full.ensures c.if-is_full.false in
-    linear_added m n c.args.self c.args.bytes.now c.requires.ready.usable.committed_size c.requires.body
-    c.requires.size room c.counts-told.result c.counts-told.ensures c.in_ok-put_record.ensures.done
+    store_done c.put_record.result c.unrefused.result c.unrefused.ensures _
+    (on_ok_weaker c.put_record.result
+    (linear_added m n c.args.self c.args.bytes.now c.requires.ready.usable.committed_size c.requires.body
+    c.requires.size room c.counts-told.result c.counts-told.ensures) c.put_record.ensures.done)
 
-pub returns-in_err-put_record-clause-refusal : goal.returns-in_err-put_record-clause-refusal
-returns-in_err-put_record-clause-refusal g c =
+pub returns-clause-refusal : goal.returns-clause-refusal
+returns-clause-refusal g c =
     let m = committed c.args.store.now in
-    store_decides _ c.from_residual.result c.in_err-put_record.field-0.0 c.from_residual.ensures.1
+    store_decides c.put_record.result c.unrefused.result c.unrefused.ensures _
     (not_full c.args.self.capacity (linear_records m c.args.self) c.args.self.records c.is_full.result
     (length-linear m c.args.self c.requires.body) c.is_full.ensures c.if-is_full.false)
+
+pub returns-clause-refused : goal.returns-clause-refused
+returns-clause-refused g c = store_refuses c.put_record.result c.unrefused.result c.unrefused.ensures _
+
+pub returns-clause-store : goal.returns-clause-store
+returns-clause-store g c =
+    store_told c.put_record.result c.unrefused.result c.unrefused.ensures
+    (Changes RECORD_WRITES c.args.store.now c.put_record.new.store) c.put_record.ensures.store
+
+pub returns-then-is_full-clause-store : goal.returns-then-is_full-clause-store
+returns-then-is_full-clause-store g c = reads_change _ _ _ _ c.requires.ready.idle (reads_none _ c.requires.ready)

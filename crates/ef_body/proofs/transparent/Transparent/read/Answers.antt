@@ -1,9 +1,11 @@
-use Rattle.std.proofs.Common.{rules, ℕ, List, [], arith, ◌∙◌, subst}
+use Rattle.std.proofs.Common.{rules, ◌≡◌, ℕ, List, [], arith, subst, OnOk}
+use Rattle.undo_journal.specs.Calls.{Reads}
 use Rattle.undo_journal.specs.Memory.{committed}
 use Rattle.block_chain.specs.Changes.{AppendsSome}
 use Rattle.ef_body.specs.Bodies.{transparent_bytes}
 use Rattle.ef_body.proofs.Bytes.{length-transparent, inside, offset_past, offset_inside, taken}
-use Rattle.ef_body.proofs.Refusing.{store_decides}
+use Rattle.ef_body.proofs.Refusing.{store_decides, store_done, store_refuses, store_told}
+use Rattle.undo_journal.specs.laws.Told.{reads_none}
 use Rattle.ef_body.proofs.transparent.Transparent.read.Goals as goal
 
 pub returns-then-ends_at-clause-refusal : goal.returns-then-ends_at-clause-refusal
@@ -12,13 +14,6 @@ returns-then-ends_at-clause-refusal g c =
     offset_past (transparent_bytes m c.args.self) c.args.self.size c.args.offset c.ends_at.result
     (length-transparent m c.args.self c.requires.ready.usable.committed_size c.requires.body) c.ends_at.ensures
     c.if-ends_at.true
-
-pub returns-clause-refusal : goal.returns-clause-refusal
-returns-clause-refusal g c =
-    let m = committed c.args.store.now in
-    offset_inside (transparent_bytes m c.args.self) c.args.self.size c.args.offset c.ends_at.result
-    (length-transparent m c.args.self c.requires.ready.usable.committed_size c.requires.body) c.ends_at.ensures
-    c.if-ends_at.false
 
 pub read_anew-requires : goal.read_anew-requires
 read_anew-requires g c =
@@ -44,29 +39,8 @@ read_anew-requires g c =
       ),
     )
 
-pub returns-clause-bytes : goal.returns-clause-bytes
-returns-clause-bytes g c =
-    let m = committed c.args.store.now in
-    let low = inside (transparent_bytes m c.args.self) c.args.self.size c.args.offset c.ends_at.result
-    (length-transparent m c.args.self c.requires.ready.usable.committed_size c.requires.body) c.ends_at.ensures
-    c.if-ends_at.false in
-    c.in_ok-read_anew.ensures.bytes
-    ∙ taken m c.args.self c.requires.ready.usable.committed_size c.requires.body c.args.offset c.args.most
-    c.smaller-count.result low c.smaller-count.ensures
-
 pub returns-then-ends_at-clause-any_exit : goal.returns-then-ends_at-clause-any_exit
 returns-then-ends_at-clause-any_exit g c = record { some = 0; is = c.clear.ensures }
-
-pub returns-in_err-read_anew-clause-any_exit : goal.returns-in_err-read_anew-clause-any_exit
-returns-in_err-read_anew-clause-any_exit g c =
-    let m = committed c.args.store.now in
-    let low = inside (transparent_bytes m c.args.self) c.args.self.size c.args.offset c.ends_at.result
-    (length-transparent m c.args.self c.requires.ready.usable.committed_size c.requires.body) c.ends_at.ensures
-    c.if-ends_at.false in
-    subst (λ (l : List ℕ). AppendsSome [] l c.read_anew.new.bytes.items)
-    (taken m c.args.self c.requires.ready.usable.committed_size c.requires.body c.args.offset c.args.most
-    c.smaller-count.result low c.smaller-count.ensures)
-    c.read_anew.ensures.any_exit
 
 pub returns-clause-any_exit : goal.returns-clause-any_exit
 returns-clause-any_exit g c =
@@ -79,10 +53,32 @@ returns-clause-any_exit g c =
     c.smaller-count.result low c.smaller-count.ensures)
     c.read_anew.ensures.any_exit
 
-pub returns-in_err-read_anew-clause-refusal : goal.returns-in_err-read_anew-clause-refusal
-returns-in_err-read_anew-clause-refusal g c =
+pub returns-clause-bytes : goal.returns-clause-bytes
+returns-clause-bytes g c =
     let m = committed c.args.store.now in
-    store_decides _ c.from_residual.result c.in_err-read_anew.field-0.0 c.from_residual.ensures.1
+    let low = inside (transparent_bytes m c.args.self) c.args.self.size c.args.offset c.ends_at.result
+    (length-transparent m c.args.self c.requires.ready.usable.committed_size c.requires.body) c.ends_at.ensures
+    c.if-ends_at.false in
+    store_done c.read_anew.result c.unrefused.result c.unrefused.ensures _
+    (subst (λ (l : List ℕ). OnOk c.read_anew.result (c.read_anew.new.bytes.items ≡ l))
+    (taken m c.args.self c.requires.ready.usable.committed_size c.requires.body c.args.offset c.args.most
+    c.smaller-count.result low c.smaller-count.ensures) c.read_anew.ensures.bytes)
+
+pub returns-clause-refusal : goal.returns-clause-refusal
+returns-clause-refusal g c =
+    let m = committed c.args.store.now in
+    store_decides c.read_anew.result c.unrefused.result c.unrefused.ensures _
     (offset_inside (transparent_bytes m c.args.self) c.args.self.size c.args.offset c.ends_at.result
     (length-transparent m c.args.self c.requires.ready.usable.committed_size c.requires.body) c.ends_at.ensures
     c.if-ends_at.false)
+
+pub returns-clause-refused : goal.returns-clause-refused
+returns-clause-refused g c = store_refuses c.read_anew.result c.unrefused.result c.unrefused.ensures _
+
+pub returns-clause-store : goal.returns-clause-store
+returns-clause-store g c =
+    store_told c.read_anew.result c.unrefused.result c.unrefused.ensures
+    (Reads c.args.store.now c.read_anew.new.store) c.read_anew.ensures.store
+
+pub returns-then-ends_at-clause-store : goal.returns-then-ends_at-clause-store
+returns-then-ends_at-clause-store g c = reads_none _ c.requires.ready

@@ -1,11 +1,14 @@
-use Rattle.std.proofs.Common.{arith}
+use Rattle.std.proofs.Common.{◌*◌, ◌+◌, length, arith}
+use Rattle.std.proofs.lemmas.Result.{on_ok_weaker}
 use Rattle.std.proofs.Math.Logic.{⊎_map}
+use Rattle.undo_journal.specs.Calls.{Changes}
 use Rattle.undo_journal.specs.Memory.{committed}
 use Rattle.block_chain.specs.Chains.{chain_of}
-use Rattle.block_chain.specs.Changes.{Overwrites}
+use Rattle.block_chain.specs.Changes.{touched_words, Overwrites}
 use Rattle.ef_body.specs.Bodies.{transparent_bytes}
 use Rattle.ef_body.proofs.Bytes.{length-transparent, update_past, new_past, new_inside, new_fits, bytes_put}
-use Rattle.ef_body.proofs.Refusing.{store_decides}
+use Rattle.ef_body.proofs.Refusing.{store_decides, store_done, store_refuses, store_told}
+use Rattle.undo_journal.specs.laws.Told.{reads_change, reads_none}
 use Rattle.ef_body.proofs.transparent.Transparent.update.Goals as goal
 
 pub returns-then-ends_at-clause-refusal : goal.returns-then-ends_at-clause-refusal
@@ -22,13 +25,6 @@ returns-then-ends_before-clause-refusal g c =
     (length-transparent m c.args.self c.requires.ready.usable.committed_size c.requires.body) c.ends_at.ensures
     c.args.bytes.now c.ends_before.result c.ends_before.ensures c.if-ends_at.false c.if-ends_before.true
 
-pub returns-clause-refusal : goal.returns-clause-refusal
-returns-clause-refusal g c =
-    let m = committed c.args.store.now in
-    new_inside (transparent_bytes m c.args.self) c.args.self.size c.args.offset c.ends_at.result
-    (length-transparent m c.args.self c.requires.ready.usable.committed_size c.requires.body) c.ends_at.ensures
-    c.args.bytes.now c.ends_before.result c.ends_before.ensures c.if-ends_at.false c.if-ends_before.false
-
 pub put_bytes-requires-clause-within : goal.put_bytes-requires-clause-within
 put_bytes-requires-clause-within g c =
     let m = committed c.args.store.now in
@@ -37,17 +33,6 @@ put_bytes-requires-clause-within g c =
     c.args.bytes.now c.ends_before.result c.ends_before.ensures c.if-ends_at.false c.if-ends_before.false in
     let fits = c.requires.body.fits in
     omega (arith, within, fits)
-
-pub returns-in_err-put_bytes-clause-any_exit : goal.returns-in_err-put_bytes-clause-any_exit
-returns-in_err-put_bytes-clause-any_exit g c =
-    let m = committed c.args.store.now in
-    let n = committed c.put_bytes.new.store in
-    let within = new_fits (transparent_bytes m c.args.self) c.args.self.size c.args.offset c.ends_at.result
-    (length-transparent m c.args.self c.requires.ready.usable.committed_size c.requires.body) c.ends_at.ensures
-    c.args.bytes.now c.ends_before.result c.ends_before.ensures c.if-ends_at.false c.if-ends_before.false in
-    ⊎_map (λ kept. kept) (λ (over : Overwrites m (chain_of m c.args.self.chain) c.args.offset c.args.bytes.now n).
-    bytes_put m n c.args.self c.args.offset c.args.bytes.now c.requires.ready.usable.committed_size c.requires.body
-    within over) c.put_bytes.ensures.any_exit
 
 pub returns-clause-any_exit : goal.returns-clause-any_exit
 returns-clause-any_exit g c =
@@ -67,13 +52,30 @@ returns-clause-done g c =
     let within = new_fits (transparent_bytes m c.args.self) c.args.self.size c.args.offset c.ends_at.result
     (length-transparent m c.args.self c.requires.ready.usable.committed_size c.requires.body) c.ends_at.ensures
     c.args.bytes.now c.ends_before.result c.ends_before.ensures c.if-ends_at.false c.if-ends_before.false in
-    bytes_put m n c.args.self c.args.offset c.args.bytes.now c.requires.ready.usable.committed_size c.requires.body
-    within c.in_ok-put_bytes.ensures.done
+    store_done c.put_bytes.result c.unrefused.result c.unrefused.ensures _
+    (on_ok_weaker c.put_bytes.result
+    (bytes_put m n c.args.self c.args.offset c.args.bytes.now c.requires.ready.usable.committed_size c.requires.body
+    within) c.put_bytes.ensures.done)
 
-pub returns-in_err-put_bytes-clause-refusal : goal.returns-in_err-put_bytes-clause-refusal
-returns-in_err-put_bytes-clause-refusal g c =
+pub returns-clause-refusal : goal.returns-clause-refusal
+returns-clause-refusal g c =
     let m = committed c.args.store.now in
-    store_decides _ c.from_residual.result c.in_err-put_bytes.field-0.0 c.from_residual.ensures.1
+    store_decides c.put_bytes.result c.unrefused.result c.unrefused.ensures _
     (new_inside (transparent_bytes m c.args.self) c.args.self.size c.args.offset c.ends_at.result
     (length-transparent m c.args.self c.requires.ready.usable.committed_size c.requires.body) c.ends_at.ensures
     c.args.bytes.now c.ends_before.result c.ends_before.ensures c.if-ends_at.false c.if-ends_before.false)
+
+pub returns-clause-refused : goal.returns-clause-refused
+returns-clause-refused g c = store_refuses c.put_bytes.result c.unrefused.result c.unrefused.ensures _
+
+pub returns-clause-store : goal.returns-clause-store
+returns-clause-store g c =
+    store_told c.put_bytes.result c.unrefused.result c.unrefused.ensures
+    (Changes (3 * touched_words c.args.offset (length c.args.bytes.now) + 1) c.args.store.now c.put_bytes.new.store)
+    c.put_bytes.ensures.store
+
+pub returns-then-ends_at-clause-store : goal.returns-then-ends_at-clause-store
+returns-then-ends_at-clause-store g c = reads_change _ _ _ _ c.requires.ready.idle (reads_none _ c.requires.ready)
+
+pub returns-then-ends_before-clause-store : goal.returns-then-ends_before-clause-store
+returns-then-ends_before-clause-store g c = reads_change _ _ _ _ c.requires.ready.idle (reads_none _ c.requires.ready)
