@@ -20,7 +20,6 @@ use Rattle.undo_journal.specs.Memory.{Memory, committed, IsReady, Reports}
 use Rattle.undo_journal.specs.Spending.{WritesAtMost}
 use Rattle.undo_journal.specs.laws.Memory.{reports_then}
 use Rattle.file_tree.specs.declared.entry.Entry.{Entry}
-use Rattle.file_tree.specs.Spaces.{free_space}
 use Rattle.apdu_core.specs.Requests.{Request, change_reference_data, reset_retry_counter, verify}
 use Rattle.pin_store.specs.declared.errors.Outcome.{Outcome as AttemptEnd}
 use Rattle.pin_store.specs.declared.errors.Outcome.TheVariants.{Matched, Wrong}
@@ -35,17 +34,16 @@ use Rattle.card_core.specs.Outcomes.{refused, refused_by}
 use Rattle.card_core.specs.Pins.{Attempt, attempt_commits, attempt_refusals, attempted, attempted_as, charged_card, is_right}
 use Rattle.card_core.specs.Pins.{changing, no_refusals, pin_of, resetting, settled_card, told_tries, tries_of, tries_told}
 use Rattle.card_core.specs.Pins.{unblocking_of, unverified, value_of, verifying, with_pin_of}
-use Rattle.card_core.proofs.SpaceKept.{space-same}
 use Rattle.card_core.specs.Served.{IsDoing, Serves}
 use Rattle.card_core.specs.Sessions.{Session, marked}
 use Rattle.card_core.specs.Spending.{most_writes}
 use Rattle.card_core.specs.Stages.{commits}
 use Rattle.card_core.specs.Standing.{card_of, IsCard}
 use Rattle.card_core.specs.Steps.{effect, refusals_of, served}
-use Rattle.card_core.specs.Working.{card_in, end_of_attempt, outcome, session_in, session_of, space_in, table_in, tried_from, IsCurrent}
+use Rattle.card_core.specs.Working.{card_in, end_of_attempt, outcome, session_in, session_of, table_in, tried_from, IsCurrent}
 use Rattle.card_core.proofs.Comparisons.{costs-told}
 use Rattle.card_core.proofs.Guarding.{served-done, served-refused}
-use Rattle.card_core.proofs.PinCards.{pin-is, pin-set, pin-space, pin-stands, pin-table}
+use Rattle.card_core.proofs.PinCards.{pin-is, pin-set, pin-stands, pin-table}
 use Rattle.card_core.proofs.Serves.{declined, stopped, torn, written}
 use Rattle.card_core.proofs.Stopping.{err-is}
 use Rattle.card_core.proofs.Verified.{marked-with, marked-without}
@@ -133,9 +131,6 @@ module _ (request : Request) (a : Attempt) (asks : IsAttempt request a) (old : M
 
     pub exit-table : table_in new ≡ table_in old
     exit-table = pin-table (committed old) (committed new) sized card a.pin asks.number _ sets-any
-
-    pub exit-space : free_space (card_in new).tree ≡ free_space (card_in old).tree
-    exit-space = pin-space (committed old) (committed new) sized card a.pin asks.number _ sets-any
 
     exit-compares : (tries_left a.secret was ≡ 0 → (committed new ≡ committed old) × (comparisons new.facts ≡ comparisons old.facts))
         → ComparesBy request c (comparisons old.facts) (card_in new) (comparisons new.facts)
@@ -260,9 +255,6 @@ module _ (request : Request) (a : Attempt) (asks : IsAttempt request a) (old : M
 
       compares-end : ComparesBy request c (comparisons old.facts) (card_in e) (comparisons e.facts)
       compares-end = exit-compares e (ended-size e exit) pages law-end never
-
-      pub end-space : free_space (card_in e).tree ≡ free_space (card_in old).tree
-      end-space = exit-space e (ended-size e exit) pages law-end
 
       -- the end stopped
       pub exit-end : (err : StoreErr) → e.failed ≡ Some err → Serves request old x e x [] (Err err)
@@ -407,10 +399,6 @@ module _ (request : Request) (a : Attempt) (asks : IsAttempt request a) (n : ℕ
           subst (λ (z : Current). Serves request old x e z [] (Ok status)) (sym at)
           (subst (λ (w : Sw). Serves request old x e (tried_from x a.pin a.unverifies end) [] (Ok w)) (sym told) made)
 
-      pub made-space : free_space (card_in e).tree ≡ free_space (card_in old).tree
-      made-space = end-space request a asks old x sized card current b got.1 card-b e n (ends _) costs spends-told pages
-          (reports_then old b e reports-b reports) writes exit-told
-
 -- the three requests
 module _ (n : ℕ) (number : IsPinNumber n) where
   value-owned : owner (value_of n) ≡ n - 1
@@ -493,11 +481,3 @@ module _ (request : Request) (n secret : ℕ) (asks : IsQuestion request n secre
       declined request old x new card status reads.only reads.ready current (answer-is status told)
   question-answered (Err e) told reads =
       stopped request old x new card x [] e reads.only reads.tells (omega arith)
-
--- where no try was left, the free space is as it was
-pub blocked-space : (old new : Memory) (secret : ℕ) (taken : ℕ → Type 0) (charged : Option ℕ) → charged ≡ None
-    → MatchOption charged (tries_left secret (pin_in old secret) ≡ 0) taken
-    → (tries_left secret (pin_in old secret) ≡ 0 → OnlyReads old new) → space_in new ≡ space_in old
-blocked-space old new secret taken charged is done kept =
-    let none = subst (λ (o : Option ℕ). MatchOption o (tries_left secret (pin_in old secret) ≡ 0) taken) is done in
-    space-same old new (kept none).keeps.committed_words

@@ -95,13 +95,6 @@ module _ (m : List ℕ) (e : ℕ) where
       if k == 3 then linear x.record_length (capacity_of x) (linear_records x bytes) else
       cyclic x.record_length (capacity_of x) (cyclic_records x bytes))) is
 
-  -- the file of an entry of records is none of bytes
-  pub records-is : 2 ≤ x.kind → x.kind ≢ 2 → is_transparent (file_in m e).kind ≡ false
-  unfolding file_of
-  records-is high other =
-      by_kind (x.kind == 1) (x.kind == 2) (x.kind == 3) _ _ _ _ _ _ _
-      (ne_eqb x.kind 1 (λ is. let z : ⊥ = omega (arith, is, high) in z)) (ne_eqb x.kind 2 other)
-
   module _ (sized : length m ≡ WORDS) (words : IsCard m) (below : e < 64) (high : 2 ≤ x.kind) where
     -- its content is the bytes of its chain
     pub content-is : content m x ≡ bytes_of m (chain m x.first)

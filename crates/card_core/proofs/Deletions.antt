@@ -1,6 +1,6 @@
 -- DELETE FILE by the entry of the file that is named.
-use Rattle.std.proofs.Common.{◌≡◌, ◌⊎◌, ◌<◌, ◌≤◌, ◌+◌, ◌==◌, ◌&&◌, ◌||◌, ℕ, Bool, true, false, nat_eq, List, [], ◌∷◌, ◌++◌, length}
-use Rattle.std.proofs.Common.{Option, Some, None, IfSome, option_map, unwrap_or, refl, sym, ◌∙◌, ap, subst, arith, inl, inr, ⊎_elim}
+use Rattle.std.proofs.Common.{◌≡◌, ◌⊎◌, ◌<◌, ◌==◌, ◌&&◌, ◌||◌, ℕ, Bool, true, false, nat_eq, List, [], ◌∷◌, ◌++◌, length}
+use Rattle.std.proofs.Common.{Option, Some, None, option_map, unwrap_or, refl, sym, ◌∙◌, ap, subst, arith, inl, inr, ⊎_elim}
 use Rattle.std.proofs.lemmas.Bool.{ne_eqb}
 use Rattle.std.proofs.lemmas.List.{length-append}
 use Rattle.std.specs.List.{starts_with}
@@ -30,7 +30,7 @@ use Rattle.card_core.specs.Sessions.{Session, at_dedicated_file, marked}
 use Rattle.card_core.specs.Standing.{card_of, IsCard}
 use Rattle.card_core.specs.Served.{IsDoing}
 use Rattle.card_core.specs.Steps.{served}
-use Rattle.card_core.specs.Working.{file_refusal, outcome, session_of, IsCurrent, IsElementary}
+use Rattle.card_core.specs.Working.{file_refusal, outcome, session_of, IsCurrent}
 use Rattle.card_core.proofs.Entries.{card-tree, current-path}
 use Rattle.card_core.proofs.Above.{above-barred}
 use Rattle.card_core.proofs.Doing.{doing-one}
@@ -50,14 +50,6 @@ subject-current m words x current =
     by_file None = refl
     by_file (Some e) = refl
 
--- and it is there
-pub current-used : (t : List Entry) (x : CurrentFiles) → IsCurrent t x → IsUsed t (unwrap_or x.ef x.df)
-current-used t x current = by_file x.ef current.ef
-  where
-    by_file : (ef : Option ℕ) → IfSome ef (IsElementary t x.df) → IsUsed t (unwrap_or ef x.df)
-    by_file None file = λ none. let k = current.df in let z : ⊥ = omega (arith, k, none) in z
-    by_file (Some e) file = file.child.used
-
 and_false : (b : Bool) → (b && false) ≡ false
 and_false true = refl
 and_false false = refl
@@ -76,17 +68,6 @@ deleted-space m now after old freed is same space =
     ap (λ (space : FreeSpace). with_freed space freed)
     (is ∙ ap free_space (card-tree m) ∙ sym (ap (λ (l : List ℕ). free_space (tree_of l)) same))
     ∙ sym space ∙ sym (ap free_space (card-tree after))
-
--- no more is free than there is
-pub freed-blocks : (m now after : List ℕ) (old freed : FreeSpace) → old ≡ free_space (card_of m).tree → now ≡ m
-    → free_space (tree_of after) ≡ with_freed (free_space (tree_of now)) freed → old.blocks + freed.blocks ≤ 896
-freed-blocks m now after old freed is same space =
-    let sum = ap (λ (s : FreeSpace). s.blocks) (deleted-space m now after old freed is same space) in omega (arith, sum)
-
-pub freed-entries : (m now after : List ℕ) (old freed : FreeSpace) → old ≡ free_space (card_of m).tree → now ≡ m
-    → free_space (tree_of after) ≡ with_freed (free_space (tree_of now)) freed → old.entries + freed.entries ≤ 64
-freed-entries m now after old freed is same space =
-    let sum = ap (λ (s : FreeSpace). s.entries) (deleted-space m now after old freed is same space) in omega (arith, sum)
 
 -- what refuses the deletion of a file by its parent, and by the rules of both
 abbrev pub deletion_verdict : List ℕ → CurrentFiles → ℕ → ℕ → Option Sw

@@ -17,7 +17,6 @@ use Rattle.block_chain.specs.declared.layout.TheConstants.{FREE_HEAD_WORD}
 use Rattle.block_chain.specs.Chains.{free_chain}
 use Rattle.block_chain.specs.Words.{word}
 use Rattle.apdu_core.specs.Requests.{terminate_card_usage}
-use Rattle.file_tree.specs.Spaces.{free_space}
 use Rattle.file_tree.specs.States.{is_allowed, with_card_terminated}
 use Rattle.file_tree.specs.Table.{table, path_of}
 use Rattle.file_tree.specs.Trees.{tree_of, TreeStands}
@@ -37,7 +36,7 @@ use Rattle.card_core.specs.Sessions.{Session}
 use Rattle.card_core.specs.Stages.{commits}
 use Rattle.card_core.specs.Standing.{card_of, IsCard}
 use Rattle.card_core.specs.Steps.{effect, refusals_of, served}
-use Rattle.card_core.specs.Working.{card_in, outcome, session_in, session_of, space_in, table_in, verified_in, IsCurrent}
+use Rattle.card_core.specs.Working.{card_in, outcome, session_in, session_of, table_in, verified_in, IsCurrent}
 use Rattle.card_core.proofs.Doing.{doing-one}
 use Rattle.card_core.proofs.Entries.{card-tree, master-path}
 use Rattle.card_core.proofs.Guarding.{served-done, served-refused}
@@ -186,6 +185,3 @@ module _ (old mid new : Memory) (ready : IsReady old) (words : IsCard (committed
         (omega (arith, spends.writes, reads.board.writes)) compares
         (end-done (committed old) x current marks are true is refl
         ∙ (λ i. outcome (sym card-is i) (session_of (sym table-is i) x) [] DONE))
-
-    pub end-space : space_in new ≡ space_in old
-    end-space = ap (λ (c : Card). free_space c.tree) card-is

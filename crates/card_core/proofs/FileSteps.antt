@@ -42,10 +42,6 @@ module _ (c : Card) (s : Session) (subject : Subject) where
   by_place found place = ap (λ (f : Option Path). verdict (is_none f) (length (unwrap_or f []) == 0)
       (by_file (unwrap_or f []))) place
 
-  -- a file that isn't found, and the master file
-  pub delete-missed : subject_of c.tree s subject ≡ None → refused_by (delete_refusals c s subject) ≡ Some FILE_NOT_FOUND
-  delete-missed place = by_place None place
-
   pub delete-master : subject_of c.tree s subject ≡ Some []
       → refused_by (delete_refusals c s subject) ≡ Some CONDITIONS_NOT_SATISFIED
   delete-master place = by_place (Some []) place

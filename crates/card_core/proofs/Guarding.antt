@@ -71,12 +71,6 @@ module _ (c : Card) (s : Session) (target : Target) (fitting : Kind → Bool) (b
       by_none target (is_none (target_of c.tree s target)) (is_barred c.tree (target_path c s target))
       (fitting (target_kind c s target)) (allowed c s (target_path c s target) bit) (first_applying limits) none
 
-  -- no file is named
-  pub guarded-missing : target_of c.tree s target ≡ None
-      → refused_by (file_refusals c s target fitting bit) ≡ Some (missing target)
-  guarded-missing place = ap (λ (found : Option Path). verdict target (is_none found) (is_barred c.tree (target_path c s
-      target)) (fitting (target_kind c s target)) (allowed c s (target_path c s target) bit) None) place
-
   -- a file is named
   module _ (path : Path) (file : File) (place : target_of c.tree s target ≡ Some path)
       (there : get c.tree path ≡ Some file) where

@@ -15,6 +15,7 @@ pub mod Contents
 pub mod Keeping
 pub mod Stopping
 pub mod Living
+pub mod Looking
 pub mod LifeServes
 pub mod Ending
 pub mod Comparisons

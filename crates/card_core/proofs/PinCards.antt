@@ -1,18 +1,17 @@
 -- A PIN is set in a memory that stands for a card.
-use Rattle.std.proofs.Common.{◌≡◌, ◌⊎◌, ◌<◌, ◌≤◌, ◌+◌, ◌-◌, ◌==◌, ℕ, List, length, ◌∙◌, ap, arith, inl, inr, lit<}
+use Rattle.std.proofs.Common.{◌≡◌, ◌⊎◌, ◌<◌, ◌≤◌, ◌+◌, ◌-◌, ◌==◌, ℕ, List, length, ◌∙◌, arith, inl, inr, lit<}
 use Rattle.std.proofs.Common.{slice_index_or}
-use Rattle.std.proofs.lemmas.List.FromFn.{get_or-map-range_with_len, length-map-range_with_len}
+use Rattle.std.proofs.lemmas.List.FromFn.{get_or-map-range_with_len}
 use Rattle.nvm_board.specs.Facts.{address}
 use Rattle.nvm_board.specs.declared.board.TheConstants.{WORDS}
 use Rattle.block_chain.specs.Words.{word}
-use Rattle.file_tree.specs.Spaces.{free_space}
 use Rattle.file_tree.specs.Table.{table}
 use Rattle.file_tree.specs.laws.Footprints.{KeepsTree, tree_kept}
 use Rattle.card_rules.specs.Pins.{IsPinNumber}
 use Rattle.pin_store.specs.Pages.{pin_at, pin_page, pins_of, ArePinPages, SetsPin}
 use Rattle.pin_store.specs.declared.layout.TheConstants.{PINS, PIN_WORDS}
 use Rattle.pin_store.specs.laws.AllPins.{pins_set}
-use Rattle.card_core.specs.Cards.{Card, Pin}
+use Rattle.card_core.specs.Cards.{Pin}
 use Rattle.card_core.specs.Pins.{no_pin, pin_of, with_pin_of}
 use Rattle.card_core.specs.Standing.{card_of, IsCard}
 
@@ -27,14 +26,6 @@ pin-is m n number =
     let first = number.first in
     let last = number.last in
     pin-placed m (n - 1) (omega (arith, first, last))
-
-length-pins : (m : List ℕ) → length (pins_of m) ≡ 8
-unfolding pins_of
-length-pins m = length-map-range_with_len (pin_at m) 0 8
-
-pub eight-pins : (m : List ℕ) → length (card_of m).pins ≡ 8
-unfolding card_of
-eight-pins m = length-pins m
 
 module _ (m after : List ℕ) (sized : length m ≡ WORDS) (words : IsCard m) (n : ℕ) (number : IsPinNumber n) (now : Pin)
     (sets : SetsPin m (n - 1) now after) where
@@ -90,6 +81,3 @@ module _ (m after : List ℕ) (sized : length m ≡ WORDS) (words : IsCard m) (n
 
   pub pin-table : table after ≡ table m
   pin-table = (tree_kept m after sized tree-words words.tree).1
-
-  pub pin-space : free_space (card_of after).tree ≡ free_space (card_of m).tree
-  pin-space = ap (λ (c : Card). free_space c.tree) pin-set

@@ -2,7 +2,6 @@
 use Rattle.std.proofs.Common.{◌≡◌, ℕ, List, sym, subst, arith}
 use Rattle.undo_journal.specs.Calls.{OnlyReads}
 use Rattle.undo_journal.specs.Memory.{Memory, committed}
-use Rattle.undo_journal.specs.laws.Calls.{reads_then}
 use Rattle.file_tree.specs.declared.entry.Entry.{Entry}
 use Rattle.file_tree.specs.Table.{table, entry_in, IsUsed}
 use Rattle.file_tree.specs.Trees.{TreeStands}
@@ -29,7 +28,3 @@ current_still a b x reads current =
 -- the entry of the current dedicated file is used
 pub df_used : (t : List Entry) (x : Current) → IsCurrent t x → IsUsed t x.df
 df_used t x current = λ (unused : (entry_in t x.df).kind ≡ 0). let z : ⊥ = omega (arith, unused, current.df) in z
-
--- three calls in a row that only read
-pub three_reads : (a b c d : Memory) → OnlyReads a b → OnlyReads b c → OnlyReads c d → OnlyReads a d
-three_reads a b c d first second third = reads_then a b d first (reads_then b c d second third)

@@ -274,6 +274,21 @@ none-full m (bodies.Linear body) is room =
     ∙ ap (λ (b : Bool). if b then Some NO_ROOM else None) room
 none-full m (bodies.Cyclic body) is room = refl
 
+-- so the body of each kind refuses nothing
+module _ (m : List ℕ) (self this : RecordBody) (is : self ≡ this) (body : IsBodyIn m self) where
+  pub none-missing-of : (n : ℕ) → has_in self n ≡ true → missing_record (records_at m this) n ≡ None
+  none-missing-of n here =
+      subst (λ (it : RecordBody). missing_record (records_at m it) n ≡ None) is (none-missing m self body n here)
+
+  pub none-replaced-of : (n : ℕ) → has_in self (looked_at self n) ≡ true
+      → missing_record (records_at m this) (looked_at this n) ≡ None
+  none-replaced-of n here =
+      subst (λ (it : RecordBody). missing_record (records_at m it) (looked_at it n) ≡ None) is
+      (none-missing m self body (looked_at self n) here)
+
+  pub none-full-of : is_full_in self ≡ false → full_in m this ≡ None
+  none-full-of room = subst (λ (it : RecordBody). full_in m it ≡ None) is (none-full m self body room)
+
 -- of a cyclic body record 1 must be there if one is to be replaced
 pub looked-replaced : (body : RecordBody) (n : ℕ) → looked_at body (if wraps_in body then 1 else n)
     ≡ (if wraps_in body then 1 else n)

@@ -41,8 +41,7 @@ pub(crate) fn read_file<B: Board>(
     requires current { IsCurrent (table_in store.old) current.old }
     requires target { IsTarget target }
     requires empty { text.old.items ≡ [] }
-    ensures serves { Serves (read_binary target offset expected) store.old current.old store.new current.new text.new.items result }
-    ensures space { OnOk result (space_in store.new ≡ space_in store.old) }
+    ensures { Serves (read_binary target offset expected) store.old current.old store.new current.new text.new.items result }
 {
     let file = match find_file(store, current, target, READING)? {
         Ok(file) => file,

@@ -2,7 +2,6 @@
 ghost use Rattle.std.specs.Prelude.{◌≡◌};
 ghost use Rattle.card_rules.specs.Pins.{IsPinNumber};
 ghost use Rattle.card_core.specs.Working.{current_at, fresh_current, named_from, pointer_from, pointing_from, tried_from};
-ghost use Rattle.card_core.specs.Working.{verified_in};
 
 use apdu_core::Target;
 use card_rules::{PinNumber, Verified};
@@ -31,13 +30,6 @@ impl Current {
             pointer: None,
             verified: Verified::new(),
         }
-    }
-
-    /// The PINs that are verified.
-    pub fn verified(&self) -> Verified
-        ensures { result ≡ verified_in self.now }
-    {
-        self.verified
     }
 
     /// The file of an entry has become current: a dedicated file alone, an elementary file with its parent.

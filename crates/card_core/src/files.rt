@@ -83,7 +83,7 @@ fn find_new_file<'a, B: Board>(
         store,
         current.df,
         creation_bit(&fcp.kind),
-        &current.verified(),
+        &current.verified,
     )? {
         return Ok(Err(Sw::ACCESS_DENIED));
     }
@@ -103,7 +103,6 @@ fn creation_bit(kind: &FileKind<'_>) -> AccessBit
 
 /// DELETE FILE: the file goes with all files below it, in one transaction, all or none. Its parent becomes the current
 /// dedicated file, and what is free grows by what the files took. The status word is the result.
-#[tactic(auto, using(undo_journal::specs::MemoryLaws::reports_then))]
 pub(crate) fn delete_file<B: Board>(
     store: &mut Store<B>,
     current: &mut Current,
@@ -186,8 +185,8 @@ fn deletion_refusal<B: Board>(
     ensures store { Reads store.old store.new (result_err result) }
 {
     let barred = is_barred(store, parent)?;
-    let own = is_allowed(store, number, AccessBit::DeleteSelf, &current.verified())?;
-    let by_parent = is_allowed(store, parent, AccessBit::DeleteChild, &current.verified())?;
+    let own = is_allowed(store, number, AccessBit::DeleteSelf, &current.verified)?;
+    let by_parent = is_allowed(store, parent, AccessBit::DeleteChild, &current.verified)?;
     Ok(refusal_by(barred, true, own || by_parent))
 }
 

@@ -17,10 +17,10 @@ ghost use Rattle.card_core.specs.Steps.{refusals_of};
 ghost use Rattle.card_core.specs.Working.{card_in, session_in, space_in, table_in, IsCurrent};
 
 use crate::current::Current;
+use crate::lengths::{Found, asks_less, give, right_length};
 use crate::named::{Need, Structure};
-use crate::record_body::{RecordBytes, unrefused};
-use crate::records::{find_records, hand};
-use crate::select::{asks_less, right_length};
+use crate::record_body::unrefused;
+use crate::records::find_records;
 use apdu_core::{Answer, Sw, Target};
 use card_rules::AccessBit;
 use ef_body::{BodyErr, Cyclic};
@@ -49,13 +49,13 @@ pub(crate) fn increase<B: Board>(
     ensures serves { Serves (increasing amount.now expected) store.old current.old store.new current.new text.new.items result }
     ensures space { OnOk result (space_in store.new ≡ space_in store.old) }
 {
-    let mut found = RecordBytes::new();
+    let mut found = Found::new();
     let file = match find_increased(store, current, amount, expected, &mut found)? {
         Ok(file) => file,
         Err(refusal) => return Ok(refusal),
     };
     put_sum(file.body, store, amount)?;
-    hand(expected, &found, text);
+    give(expected, &found, text);
     *current = current.pointing(Target::Current, file.number, Some(1));
     Ok(Sw::DONE)
 }
@@ -74,7 +74,7 @@ fn find_increased<B: Board>(
     current: &Current,
     amount: &[u8],
     expected: Option<u8>,
-    bytes: &mut RecordBytes,
+    bytes: &mut Found,
 ) -> Result<Result<CyclicFile, Sw>, StoreErr>
     requires ready { IsReady store.old }
     requires card { IsCard (committed store.old) }
@@ -94,7 +94,7 @@ fn find_increased<B: Board>(
     if is_too_long(body, amount) {
         return Ok(Err(Sw::WRONG_LENGTH));
     }
-    let mut sum = RecordBytes::new();
+    let mut sum = Found::new();
     let refused = raised(body, store, amount, &mut sum)?;
     match refused {
         Some(refusal) => return Ok(Err(refusal)),
@@ -114,7 +114,7 @@ fn raised<B: Board>(
     body: Cyclic,
     store: &mut Store<B>,
     amount: &[u8],
-    sum: &mut RecordBytes,
+    sum: &mut Found,
 ) -> Result<Option<Sw>, StoreErr>
     requires ready { IsReady store.old }
     requires body { IsCyclic (committed store.old) body }
@@ -143,16 +143,16 @@ fn put_sum<B: Board>(body: Cyclic, store: &mut Store<B>, amount: &[u8]) -> Resul
     ensures done { OnOk result (Increases (committed store.old) body amount.now (committed store.new)) }
     ensures store { Changes RECORD_WRITES store.old store.new (result_err result) }
 {
-    let mut sum = RecordBytes::new();
+    let mut sum = Found::new();
     unrefused(body.increase(store, amount, &mut sum))
 }
 
 /// What INCREASE answers: the new record, and then what was sent.
-fn answer_of(sum: &[u8], amount: &[u8]) -> RecordBytes
-    requires { length sum.now + length amount.now ≤ 256 }
-    ensures { result.items ≡ sum.now ++ amount.now }
+fn answer_of(sum: &Found, amount: &[u8]) -> Found
+    requires { length sum.now.items + length amount.now ≤ 256 }
+    ensures { result.items ≡ sum.now.items ++ amount.now }
 {
-    let mut found = RecordBytes::new();
+    let mut found = Found::new();
     found.try_extend_from_slice(sum).unwrap();
     found.try_extend_from_slice(amount).unwrap();
     found

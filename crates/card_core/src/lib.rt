@@ -12,6 +12,7 @@ mod files;
 mod increasing;
 pub mod laws;
 mod layout;
+mod lengths;
 mod life_cycles;
 mod machine;
 mod named;

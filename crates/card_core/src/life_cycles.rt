@@ -62,10 +62,9 @@ pub(crate) fn terminate_card_usage<B: Board>(
     requires ready { IsReady store.old }
     requires card { IsCard (committed store.old) }
     requires current { IsCurrent (table_in store.old) current.now }
-    ensures serves { Serves (terminating) store.old current.now store.new current.now [] result }
-    ensures space { OnOk result (space_in store.new ≡ space_in store.old) }
+    ensures { Serves (terminating) store.old current.now store.new current.now [] result }
 {
-    if !is_allowed(store, 0, AccessBit::Terminate, &current.verified())? {
+    if !is_allowed(store, 0, AccessBit::Terminate, &current.verified)? {
         return Ok(Sw::ACCESS_DENIED);
     }
     terminate_card(store)?;
@@ -113,7 +112,7 @@ fn read_change<B: Board>(
     ensures store { Reads store.old store.new (result_err result) }
 {
     let next = next_life_cycle(store, number, command_of(change))?;
-    let allowed = is_allowed(store, number, bit_of(change), &current.verified())?;
+    let allowed = is_allowed(store, number, bit_of(change), &current.verified)?;
     let entry = read_entry(store, number)?;
     Ok(changed_by(change, number, entry, next, allowed))
 }

@@ -20,7 +20,7 @@ use file_tree::{Entry, find_short, is_allowed, is_barred, read_entry};
 use undo_journal::{Board, Store, StoreErr};
 
 /// The structures that a command is for.
-#[derive(Clone, Copy, PartialEq, Eq)]
+#[derive(Clone, Copy)]
 pub(crate) enum Structure {
     /// Bytes.
     Bytes,
@@ -69,7 +69,7 @@ pub(crate) fn find_file<B: Board>(
         return Ok(Err(missing(target)));
     };
     let entry = read_entry(store, number)?;
-    match refusal_of(store, &current, number, entry.kind, need)? {
+    match refusal_of(store, current, number, entry.kind, need)? {
         Some(refusal) => Ok(Err(refusal)),
         None => Ok(Ok(Named { number, entry })),
     }
@@ -94,7 +94,7 @@ fn refusal_of<B: Board>(
     ensures store { Reads store.old store.new (result_err result) }
 {
     let barred = is_barred(store, number)?;
-    let allowed = is_allowed(store, number, need.bit, &current.verified())?;
+    let allowed = is_allowed(store, number, need.bit, &current.verified)?;
     Ok(refusal_by(barred, need.structure.fits(kind), allowed))
 }
 

@@ -1,6 +1,6 @@
 //! Commands on PINs: VERIFY, CHANGE REFERENCE DATA and RESET RETRY COUNTER (ISO/IEC 7816-4, 11.5 and 11.6). A try is taken away,
 //! lastingly, before anything is compared.
-ghost use Rattle.std.specs.Prelude.{◌≡◌, ◌⊎◌, ◌<◌, [], Some, option_map, IfOk, OnOk, MatchOption};
+ghost use Rattle.std.specs.Prelude.{◌≡◌, ◌⊎◌, ◌<◌, [], Some, option_map, IfOk, MatchOption};
 ghost use Rattle.std.specs.Result.{result_err};
 ghost use Rattle.nvm_board.specs.declared.board.TheConstants.{SECRETS};
 ghost use Rattle.undo_journal.specs.Calls.{OnlyReads, Reads, Changes};
@@ -13,7 +13,7 @@ ghost use Rattle.pin_store.specs.Trials.{pin_in, Charges};
 ghost use Rattle.card_core.specs.Pins.{tries_told};
 ghost use Rattle.card_core.specs.Served.{Serves};
 ghost use Rattle.card_core.specs.Standing.{IsCard};
-ghost use Rattle.card_core.specs.Working.{end_of_attempt, session_in, space_in, table_in, tried_from, IsCurrent};
+ghost use Rattle.card_core.specs.Working.{end_of_attempt, session_in, table_in, tried_from, IsCurrent};
 
 use crate::current::Current;
 use apdu_core::{Replacement, Sw};
@@ -32,9 +32,8 @@ pub(crate) fn verify<B: Board>(
     requires card { IsCard (committed store.old) }
     requires current { IsCurrent (table_in store.old) current.old }
     requires pin { IsPinNumber pin }
-    ensures serves { Serves (verifying pin (option_map (λ value. value.now) shown.entry)) store.old current.old store.new
+    ensures { Serves (verifying pin (option_map (λ value. value.now) shown.entry)) store.old current.old store.new
         current.new [] result }
-    ensures space { OnOk result (space_in store.new ≡ space_in store.old) }
 {
     match shown {
         None => tell_tries(store, pin - 1),
@@ -54,9 +53,8 @@ pub(crate) fn change_reference_data<B: Board>(
     requires card { IsCard (committed store.old) }
     requires current { IsCurrent (table_in store.old) current.old }
     requires pin { IsPinNumber pin }
-    ensures serves { Serves (changing pin values.entry.shown.now values.entry.new.now) store.old current.old store.new current.new []
+    ensures { Serves (changing pin values.entry.shown.now values.entry.new.now) store.old current.old store.new current.new []
         result }
-    ensures space { OnOk result (space_in store.new ≡ space_in store.old) }
 {
     let charged = match take_try(store, pin - 1)? {
         Some(charged) => charged,
@@ -79,9 +77,8 @@ pub(crate) fn reset_retry_counter<B: Board>(
     requires card { IsCard (committed store.old) }
     requires current { IsCurrent (table_in store.old) current.old }
     requires pin { IsPinNumber pin }
-    ensures serves { Serves (resetting pin (option_map (λ values. (values.shown.now, values.new.now)) values.entry)) store.old
+    ensures { Serves (resetting pin (option_map (λ values. (values.shown.now, values.new.now)) values.entry)) store.old
         current.old store.new current.new [] result }
-    ensures space { OnOk result (space_in store.new ≡ space_in store.old) }
 {
     match values {
         None => tell_tries(store, PINS + (pin - 1)),
@@ -100,8 +97,7 @@ fn verify_value<B: Board>(
     requires card { IsCard (committed store.old) }
     requires current { IsCurrent (table_in store.old) current.old }
     requires pin { IsPinNumber pin }
-    ensures serves { Serves (verifying pin (Some shown.now)) store.old current.old store.new current.new [] result }
-    ensures space { OnOk result (space_in store.new ≡ space_in store.old) }
+    ensures { Serves (verifying pin (Some shown.now)) store.old current.old store.new current.new [] result }
 {
     let charged = match take_try(store, pin - 1)? {
         Some(charged) => charged,
@@ -123,9 +119,8 @@ fn reset_value<B: Board>(
     requires card { IsCard (committed store.old) }
     requires current { IsCurrent (table_in store.old) current.old }
     requires pin { IsPinNumber pin }
-    ensures serves { Serves (resetting pin (Some (values.entry.shown.now, values.entry.new.now))) store.old current.old store.new
+    ensures { Serves (resetting pin (Some (values.entry.shown.now, values.entry.new.now))) store.old current.old store.new
         current.new [] result }
-    ensures space { OnOk result (space_in store.new ≡ space_in store.old) }
 {
     let charged = match take_try(store, PINS + (pin - 1))? {
         Some(charged) => charged,

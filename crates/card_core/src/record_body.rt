@@ -5,17 +5,17 @@ ghost use Rattle.undo_journal.specs.Calls.{Reads, Changes};
 ghost use Rattle.undo_journal.specs.Memory.{committed, IsReady};
 ghost use Rattle.ef_body.specs.declared.layout.TheConstants.{RECORD_WRITES};
 ghost use Rattle.ef_body.specs.Records.{record_of};
-ghost use Rattle.ef_body.specs.Refusals.{failure, missing_record, Decides};
+ghost use Rattle.ef_body.specs.Refusals.{failure, Decides};
 ghost use Rattle.ef_body.specs.Searching.{found};
 ghost use Rattle.card_core.specs.declared.record_body.RecordBody.TheVariants as bodies;
 ghost use Rattle.card_core.specs.Records.{next_record, place_number, pointer_after, previous_record};
-ghost use Rattle.card_core.specs.Working.{appended_in, body_in, chosen_in, count_in, full_in, has_in, is_full_in, length_in};
+ghost use Rattle.card_core.specs.Working.{appended_in, body_in, chosen_in, count_in, has_in, is_full_in, length_in};
 ghost use Rattle.card_core.specs.Working.{number_added_in, number_replaced_in};
 ghost use Rattle.card_core.specs.Working.{looked_at, records_at, replaced_in, wraps_in, BodyBecomes, IsBodyIn};
 ghost use Rattle.card_core.specs.Working.{IsToldEntry};
 
+use crate::lengths::Found;
 use apdu_core::{RecordChoice, RecordPlace};
-use arrayvec::ArrayVec;
 use block_chain::Chain;
 use ef_body::{BodyErr, Cyclic, Direction, Linear};
 use file_tree::{Entry, FIRST_ENTRY_PAGE};
@@ -23,9 +23,6 @@ use undo_journal::{Board, PAGE_WORDS, Store, StoreErr};
 
 /// The word of an entry that tells how many records there are, and the slot of record 1.
 const RECORDS_WORD: u16 = 10;
-
-/// The bytes of a record, or the numbers of records, or what INCREASE answers.
-pub(crate) type RecordBytes = ArrayVec<u8, 256>;
 
 /// The body of an elementary file of records.
 #[derive(Clone, Copy)]
@@ -189,7 +186,7 @@ impl RecordBody {
         self,
         store: &mut Store<B>,
         number: u16,
-        bytes: &mut RecordBytes,
+        bytes: &mut Found,
     ) -> Result<(), StoreErr>
         requires ready { IsReady store.old }
         requires body { IsBodyIn (committed store.old) self }
@@ -197,7 +194,10 @@ impl RecordBody {
         ensures bytes { OnOk result (bytes.new.items ≡ record_of (records_at (committed store.old) self) number) }
         ensures store { Reads store.old store.new (result_err result) }
     {
-        unrefused(self.try_read(store, number, bytes))
+        match self {
+            RecordBody::Linear(body) => unrefused(body.read(store, number, bytes)),
+            RecordBody::Cyclic(body) => unrefused(body.read(store, number, bytes)),
+        }
     }
 
     /// Puts into the buffer, in place of what stood there, the numbers of the records that hold a text, in the order of the
@@ -208,7 +208,7 @@ impl RecordBody {
         direction: Direction,
         first: u16,
         text: &[u8],
-        numbers: &mut RecordBytes,
+        numbers: &mut Found,
     ) -> Result<(), StoreErr>
         requires ready { IsReady store.old }
         requires body { IsBodyIn (committed store.old) self }
@@ -217,7 +217,14 @@ impl RecordBody {
             ≡ found direction first text.now (records_at (committed store.old) self)) }
         ensures store { Reads store.old store.new (result_err result) }
     {
-        unrefused(self.try_search(store, direction, first, text, numbers))
+        match self {
+            RecordBody::Linear(body) => unrefused(body.search(
+                store, direction, first, text, numbers,
+            )),
+            RecordBody::Cyclic(body) => unrefused(body.search(
+                store, direction, first, text, numbers,
+            )),
+        }
     }
 
     /// Replaces a record that there is, in one transaction: of a cyclic body the oldest, and the new one is record 1.
@@ -238,7 +245,10 @@ impl RecordBody {
             number bytes.now) (committed store.new)) }
         ensures store { Changes RECORD_WRITES store.old store.new (result_err result) }
     {
-        unrefused(self.try_update(store, number, bytes))
+        match self {
+            RecordBody::Linear(body) => unrefused(body.update(store, number, bytes)),
+            RecordBody::Cyclic(body) => unrefused(body.update_oldest(store, bytes)),
+        }
     }
 
     /// Adds a record, in one transaction: behind the last one of a linear body that isn't full, before the first one of a
@@ -255,91 +265,9 @@ impl RecordBody {
             bytes.now) (committed store.new)) }
         ensures store { Changes RECORD_WRITES store.old store.new (result_err result) }
     {
-        unrefused(self.try_append(store, bytes))
-    }
-
-    /// As the body of each kind reads.
-    fn try_read<B: Board>(
-        self,
-        store: &mut Store<B>,
-        number: u16,
-        bytes: &mut RecordBytes,
-    ) -> Result<(), BodyErr>
-        requires ready { IsReady store.old }
-        requires body { IsBodyIn (committed store.old) self }
-        ensures bytes { OnOk result (bytes.new.items ≡ record_of (records_at (committed store.old) self) number) }
-        ensures refusal { Decides (missing_record (records_at (committed store.old) self) number) (result_err result) }
-        ensures store { Reads store.old store.new (failure (result_err result)) }
-    {
         match self {
-            RecordBody::Linear(body) => body.read(store, number, bytes),
-            RecordBody::Cyclic(body) => body.read(store, number, bytes),
-        }
-    }
-
-    /// As the body of each kind searches.
-    fn try_search<B: Board>(
-        self,
-        store: &mut Store<B>,
-        direction: Direction,
-        first: u16,
-        text: &[u8],
-        numbers: &mut RecordBytes,
-    ) -> Result<(), BodyErr>
-        requires ready { IsReady store.old }
-        requires body { IsBodyIn (committed store.old) self }
-        ensures numbers { OnOk result (numbers.new.items
-            ≡ found direction first text.now (records_at (committed store.old) self)) }
-        ensures refusal { Decides (missing_record (records_at (committed store.old) self) first) (result_err result) }
-        ensures store { Reads store.old store.new (failure (result_err result)) }
-    {
-        match self {
-            RecordBody::Linear(body) => body.search(store, direction, first, text, numbers),
-            RecordBody::Cyclic(body) => body.search(store, direction, first, text, numbers),
-        }
-    }
-
-    /// As the body of each kind replaces.
-    fn try_update<B: Board>(
-        self,
-        store: &mut Store<B>,
-        number: u16,
-        bytes: &[u8],
-    ) -> Result<(), BodyErr>
-        requires ready { IsReady store.old }
-        requires body { IsBodyIn (committed store.old) self }
-        requires size { length bytes.now ≡ length_in self }
-        ensures any_exit { (committed store.new ≡ committed store.old)
-            ⊎ BodyBecomes (committed store.old) self (replaced_in (committed store.old) self number bytes.now)
-            (committed store.new) }
-        ensures done { OnOk result (BodyBecomes (committed store.old) self (replaced_in (committed store.old) self
-            number bytes.now) (committed store.new)) }
-        ensures refusal { Decides (missing_record (records_at (committed store.old) self) (looked_at self number))
-            (result_err result) }
-        ensures store { Changes RECORD_WRITES store.old store.new (failure (result_err result)) }
-    {
-        match self {
-            RecordBody::Linear(body) => body.update(store, number, bytes),
-            RecordBody::Cyclic(body) => body.update_oldest(store, bytes),
-        }
-    }
-
-    /// As the body of each kind adds.
-    fn try_append<B: Board>(self, store: &mut Store<B>, bytes: &[u8]) -> Result<(), BodyErr>
-        requires ready { IsReady store.old }
-        requires body { IsBodyIn (committed store.old) self }
-        requires size { length bytes.now ≡ length_in self }
-        ensures any_exit { (committed store.new ≡ committed store.old)
-            ⊎ BodyBecomes (committed store.old) self (appended_in (committed store.old) self bytes.now) (committed
-            store.new) }
-        ensures done { OnOk result (BodyBecomes (committed store.old) self (appended_in (committed store.old) self
-            bytes.now) (committed store.new)) }
-        ensures refusal { Decides (full_in (committed store.old) self) (result_err result) }
-        ensures store { Changes RECORD_WRITES store.old store.new (failure (result_err result)) }
-    {
-        match self {
-            RecordBody::Linear(body) => body.append(store, bytes),
-            RecordBody::Cyclic(body) => body.append(store, bytes),
+            RecordBody::Linear(body) => unrefused(body.append(store, bytes)),
+            RecordBody::Cyclic(body) => unrefused(body.append(store, bytes)),
         }
     }
 }

@@ -15,14 +15,13 @@ ghost use Rattle.card_core.specs.RecordGuards.{IsAppendable, IsReplaceable};
 ghost use Rattle.card_core.specs.Served.{Serves};
 ghost use Rattle.card_core.specs.Steps.{refusals_of};
 ghost use Rattle.card_core.specs.Working.{card_in, fits, session_in, space_in, table_in, IsCurrent, IsRecordFile};
-ghost use Rattle.card_core.specs.Lengths.{given};
 ghost use Rattle.card_core.specs.Records.{pointer_found, search_status, searching as searching_way};
 ghost use Rattle.card_core.specs.Working.{structure_replaced};
 
 use crate::current::Current;
+use crate::lengths::{Found, asks_less, give, right_length};
 use crate::named::{Need, Structure, find_file};
-use crate::record_body::{RecordBody, RecordBytes, place_number, pointer_after};
-use crate::select::{asks_less, give, right_length};
+use crate::record_body::{RecordBody, place_number, pointer_after};
 use apdu_core::{Answer, Direction as Way, RecordChoice, RecordPlace, Sw, Target};
 use card_rules::AccessBit;
 use ef_body::Direction;
@@ -115,8 +114,7 @@ pub(crate) fn read_record<B: Board>(
     requires current { IsCurrent (table_in store.old) current.old }
     requires target { IsTarget target }
     requires empty { text.old.items ≡ [] }
-    ensures serves { Serves (reading target choice expected) store.old current.old store.new current.new text.new.items result }
-    ensures space { OnOk result (space_in store.new ≡ space_in store.old) }
+    ensures { Serves (reading target choice expected) store.old current.old store.new current.new text.new.items result }
 {
     let file = match find_records(store, current, target, READING)? {
         Ok(file) => file,
@@ -127,12 +125,12 @@ pub(crate) fn read_record<B: Board>(
     if !file.body.has_record(number) {
         return Ok(Sw::RECORD_NOT_FOUND);
     }
-    let mut bytes = RecordBytes::new();
+    let mut bytes = Found::new();
     file.body.read(store, number, &mut bytes)?;
     if is_other_length(expected, &bytes) {
         return Ok(right_length(&bytes));
     }
-    hand(Some(expected), &bytes, text);
+    give(Some(expected), &bytes, text);
     *current = current.pointing(target, file.number, pointer_after(pointer, choice, number));
     Ok(Sw::DONE)
 }
@@ -284,8 +282,7 @@ pub(crate) fn search_record<B: Board>(
     requires target { IsTarget target }
     requires few { length text.now ≤ 255 }
     requires empty { answer.old.items ≡ [] }
-    ensures serves { Serves (searching target first direction text.now expected) store.old current.old store.new current.new answer.new.items result }
-    ensures space { OnOk result (space_in store.new ≡ space_in store.old) }
+    ensures { Serves (searching target first direction text.now expected) store.old current.old store.new current.new answer.new.items result }
 {
     let file = match find_records(store, current, target, READING)? {
         Ok(file) => file,
@@ -296,35 +293,26 @@ pub(crate) fn search_record<B: Board>(
     if !file.body.has_record(number) {
         return Ok(Sw::RECORD_NOT_FOUND);
     }
-    let mut numbers = RecordBytes::new();
+    let mut numbers = Found::new();
     file.body
         .search(store, way_of(direction), number, text, &mut numbers)?;
     if asks_less(expected, &numbers) {
         return Ok(right_length(&numbers));
     }
-    hand(expected, &numbers, answer);
+    give(expected, &numbers, answer);
     *current = current.pointing(target, file.number, first_of(&numbers, pointer));
     Ok(status_of(&numbers))
 }
 
 /// Whether Le is neither 00 nor the length of a record.
-fn is_other_length(expected: u8, bytes: &RecordBytes) -> bool
+fn is_other_length(expected: u8, bytes: &Found) -> bool
     ensures { result ≡ (not (expected == 0) && not (expected == length bytes.now.items)) }
 {
     expected != 0 && usize::from(expected) != bytes.len()
 }
 
-/// Puts what was found into an empty buffer, if there is an Le.
-pub(crate) fn hand(expected: Option<u8>, found: &RecordBytes, text: &mut Answer)
-    requires empty { text.old.items ≡ [] }
-    ensures given { text.new.items ≡ given expected found.now.items }
-    ensures room { length text.new.items ≤ 256 }
-{
-    give(expected, found, text);
-}
-
 /// The record pointer after a search that found these: at the first of them, or where it was.
-fn first_of(numbers: &RecordBytes, pointer: Option<u8>) -> Option<u8>
+fn first_of(numbers: &Found, pointer: Option<u8>) -> Option<u8>
     ensures { result ≡ pointer_found pointer numbers.now.items }
 {
     match numbers.first() {
@@ -334,7 +322,7 @@ fn first_of(numbers: &RecordBytes, pointer: Option<u8>) -> Option<u8>
 }
 
 /// The status word of a search that found these.
-fn status_of(numbers: &RecordBytes) -> Sw
+fn status_of(numbers: &Found) -> Sw
     ensures { result ≡ search_status numbers.now.items }
 {
     match numbers.first() {

@@ -1,5 +1,5 @@
 //! SELECT (ISO/IEC 7816-4, 11.2.2).
-ghost use Rattle.std.specs.Prelude.{◌≡◌, ◌≤◌, [], length, option_map, IfOk, IfSome, OnOk};
+ghost use Rattle.std.specs.Prelude.{◌≡◌, [], option_map, IfOk, IfSome};
 ghost use Rattle.std.specs.Result.{result_err};
 ghost use Rattle.undo_journal.specs.Calls.{Reads};
 ghost use Rattle.undo_journal.specs.Memory.{committed, IsReady};
@@ -7,15 +7,15 @@ ghost use Rattle.apdu_core.specs.Ranges.{IsFilePath, IsSelector};
 ghost use Rattle.apdu_core.specs.Requests.{select as selection};
 ghost use Rattle.apdu_core.specs.Selections.{identifiers_in, selection_of};
 ghost use Rattle.file_tree.specs.Table.{path_of, IsUsed};
-ghost use Rattle.card_core.specs.Lengths.{asks_less, given, right_length};
 ghost use Rattle.card_core.specs.Reaching.{selected_from};
 ghost use Rattle.card_core.specs.Selecting.{selection_status};
 ghost use Rattle.card_core.specs.Standing.{IsCard};
 ghost use Rattle.card_core.specs.Served.{Serves};
-ghost use Rattle.card_core.specs.Working.{card_in, data_in, life_of, session_in, space_in, table_in, IsCurrent, IsToldEntry};
+ghost use Rattle.card_core.specs.Working.{card_in, data_in, life_of, session_in, table_in, IsCurrent, IsToldEntry};
 
 use crate::current::Current;
-use crate::templates::{Template, life_of, template_of};
+use crate::lengths::{Found, asks_less, give, right_length};
+use crate::templates::{life_of, template_of};
 use apdu_core::{Answer, FilePath, Returned, Selector, Sw};
 use arrayvec::ArrayVec;
 use card_rules::LifeCycle;
@@ -29,7 +29,6 @@ const PATH_ROOM: usize = 7;
 
 /// SELECT: the file that is reached becomes the current one, its template goes into `text` where it is asked for, and the
 /// status word is the result. An Le that asks for less than the template is refused.
-#[tactic(auto, using(undo_journal::specs::laws::Calls::reads_then))]
 pub(crate) fn select_file<B: Board>(
     store: &mut Store<B>,
     current: &mut Current,
@@ -43,8 +42,7 @@ pub(crate) fn select_file<B: Board>(
     requires current { IsCurrent (table_in store.old) current.old }
     requires selector { IsSelector selector }
     requires empty { text.old.items ≡ [] }
-    ensures serves { Serves (selection (selection_of selector.entry) returned expected) store.old current.old store.new current.new text.new.items result }
-    ensures space { OnOk result (space_in store.new ≡ space_in store.old) }
+    ensures { Serves (selection (selection_of selector.entry) returned expected) store.old current.old store.new current.new text.new.items result }
 {
     let Some(e) = find_selected(store, *current, selector)? else {
         return Ok(Sw::FILE_NOT_FOUND);
@@ -98,43 +96,13 @@ fn identifiers_of(path: FilePath<'_>) -> ArrayVec<u16, PATH_ROOM>
 }
 
 /// The data that SELECT finds: the template of the file of a used entry, where it is asked for.
-fn data_of(entry: &Entry, returned: Returned) -> Template
+fn data_of(entry: &Entry, returned: Returned) -> Found
     requires { IsToldEntry entry.now }
-    ensures data { result.items ≡ data_in returned entry.now }
-    ensures short { length result.items ≤ 256 }
+    ensures { result.items ≡ data_in returned entry.now }
 {
     match returned {
         Returned::Template => template_of(entry),
-        Returned::Nothing => Template::new(),
-    }
-}
-
-/// Whether Le asks for less than what was found. Le 00 asks for all.
-pub(crate) fn asks_less(expected: Option<u8>, found: &[u8]) -> bool
-    ensures { result ≡ asks_less expected found.now }
-{
-    match expected {
-        Some(le) => le != 0 && usize::from(le) < found.len(),
-        None => false,
-    }
-}
-
-/// The status word that tells the length of what was found, 6CXX; 256 is told as 00.
-pub(crate) fn right_length(found: &[u8]) -> Sw
-    requires { length found.now ≤ 256 }
-    ensures { result ≡ right_length found.now }
-{
-    Sw(0x6C00 + (found.len() % 256) as u16)
-}
-
-/// Puts what was found into an empty buffer, if there is an Le.
-pub(crate) fn give(expected: Option<u8>, found: &[u8], text: &mut Answer)
-    requires empty { text.old.items ≡ [] }
-    requires short { length found.now ≤ 256 }
-    ensures { text.new.items ≡ given expected found.now }
-{
-    if expected.is_some() {
-        text.try_extend_from_slice(found).unwrap();
+        Returned::Nothing => Found::new(),
     }
 }
 

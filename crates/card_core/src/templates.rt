@@ -1,25 +1,21 @@
 //! The template that tells of a file (ISO/IEC 7816-4, 7.4.3), from the file's entry.
-ghost use Rattle.std.specs.Prelude.{◌≡◌, ◌≤◌, length};
+ghost use Rattle.std.specs.Prelude.{◌≡◌};
 ghost use Rattle.file_tree.specs.Table.{IsRecordBody};
 ghost use Rattle.card_core.specs.Working.{kind_in_entry, life_of, parameters_in, records_in_entry, short_in_entry};
 ghost use Rattle.card_core.specs.Working.{template_in, IsToldEntry};
 
-use arrayvec::ArrayVec;
+use crate::lengths::Found;
 use card_rules::{Compact, LifeCycle};
 use fcp_template::{DfName, Fcp, FileKind, Records, ShortIdentifier, write};
 use file_tree::Entry;
 
-/// The text of a template.
-pub(crate) type Template = ArrayVec<u8, 256>;
-
 /// The template that tells of the file of a used entry.
 #[tactic(auto, unfolding(crate::specs::Working::template_in))]
-pub(crate) fn template_of(entry: &Entry) -> Template
+pub(crate) fn template_of(entry: &Entry) -> Found
     requires { IsToldEntry entry.now }
-    ensures text { result.items ≡ template_in entry.now }
-    ensures short { length result.items ≤ 256 }
+    ensures { result.items ≡ template_in entry.now }
 {
-    let mut text = Template::new();
+    let mut text = Found::new();
     write(&parameters_of(entry), &mut text);
     text
 }

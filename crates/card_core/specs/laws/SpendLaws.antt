@@ -1,8 +1,6 @@
 -- What commands cost at most.
-use Rattle.std.specs.Prelude.{◌≡◌, ◌≤◌, ◌+◌, ◌/◌, ℕ, zero, suc, List, length, Some, None, IfOk, Result, Ok, Err}
-use Rattle.std.proofs.Common.{arith, sym, subst}
-use Rattle.nvm_board.specs.Facts.{Facts}
-use Rattle.undo_journal.specs.Spending.{WritesAtMost}
+use Rattle.std.specs.Prelude.{◌≤◌, ◌+◌, ◌/◌, ℕ, zero, suc, List, length, Some, None, IfOk, Result, Ok, Err}
+use Rattle.std.proofs.Common.{arith}
 use Rattle.card_rules.specs.declared.status.Sw.{Sw}
 use Rattle.apdu_core.specs.Asked.{asked}
 use Rattle.apdu_core.specs.Requests.{Request, select, read_binary, update_binary, create_file, delete_file}
@@ -47,9 +45,3 @@ few_writes command = among (asked command) (asked-sized command)
     among : (wanted : Result Request Sw) → IfOk wanted IsSized → writes_asked wanted ≤ COMMAND_WRITES
     among (Ok request) sized = few-asked request sized
     among (Err status) sized = omega arith
-
--- what a command costs is what it asks for
-pub spends_asked : (command : List ℕ) (request : Request) (old new : Facts) → asked command ≡ Ok request
-    → WritesAtMost (most_writes request) old new → WritesAtMost (writes_of command) old new
-spends_asked command request old new is spends =
-    subst (λ (wanted : Result Request Sw). WritesAtMost (writes_asked wanted) old new) (sym is) spends

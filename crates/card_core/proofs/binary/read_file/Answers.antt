@@ -19,8 +19,8 @@ use Rattle.card_core.proofs.Stopping.{err-is}
 use Rattle.card_core.specs.declared.current.Current.{Current}
 use Rattle.card_core.proofs.binary.read_file.Goals as goal
 
-pub returns-in_err-file-clause-serves : goal.returns-in_err-file-clause-serves
-returns-in_err-file-clause-serves g c =
+pub returns-in_err-file : goal.returns-in_err-file
+returns-in_err-file g c =
     let old = c.args.store.now in
     let x = c.args.current.now in
     let none : length c.args.text.now.items ≡ 0 = ap (λ (l : List ℕ). length l) c.requires.empty in
@@ -30,8 +30,8 @@ returns-in_err-file-clause-serves g c =
     c.args.text.now.items c.in_err-file.field-0.0 c.find_file.ensures.store.only c.in_err-file.ensures.store.tells
     (omega (arith, none)))
 
-pub returns-in-Err-clause-serves : goal.returns-in-Err-clause-serves
-returns-in-Err-clause-serves g c =
+pub returns-in-Err : goal.returns-in-Err
+returns-in-Err g c =
     let old = c.args.store.now in
     let x = c.args.current.now in
     let refused = said_err _ _ c.in_ok-file.field-0 c.in-Err.refusal c.in-Err.is c.in_ok-file.ensures.found in
@@ -50,8 +50,8 @@ read-requires g c =
     let most = asked-most c.args.expected (omega arith) in
     (lit< tt, (c.in_ok-file.ensures.store.ready, (stands, omega (arith, most, c.most_of.ensures))))
 
-pub returns-in-Err-Refused-clause-serves : goal.returns-in-Err-Refused-clause-serves
-returns-in-Err-Refused-clause-serves g c =
+pub returns-in-Err-Refused : goal.returns-in-Err-Refused
+returns-in-Err-Refused g c =
     let old = c.args.store.now in
     let x = c.args.current.now in
     let mid = c.find_file.new.store in
@@ -70,8 +70,8 @@ returns-in-Err-Refused-clause-serves g c =
     (subst (λ (m : Memory). Serves request old x m x c.read.new.bytes.items (Ok refusal)) (sym kept.1)
     (subst (λ (l : List ℕ). Serves request old x mid x l (Ok refusal)) (sym kept.0) told))
 
-pub returns-in-Err-Store-clause-serves : goal.returns-in-Err-Store-clause-serves
-returns-in-Err-Store-clause-serves g c =
+pub returns-in-Err-Store : goal.returns-in-Err-Store
+returns-in-Err-Store g c =
     let old = c.args.store.now in
     let x = c.args.current.now in
     let room = read-short c.args.expected c.most_of.result (omega arith) c.most_of.ensures _ c.read.new.bytes.items
@@ -83,8 +83,8 @@ returns-in-Err-Store-clause-serves g c =
     (reads_then old c.find_file.new.store c.read.new.store c.find_file.ensures.store.only c.read.ensures.store.only)
     (c.in-Err-Store.ensures.store.tells ∙ ap (λ (b : BodyErr). failure (Some b)) c.in-Err-Store.field-0-is) room)
 
-pub returns-clause-serves : goal.returns-clause-serves
-returns-clause-serves g c =
+pub returns : goal.returns
+returns g c =
     let old = c.args.store.now in
     let x = c.args.current.now in
     let mid = c.find_file.new.store in

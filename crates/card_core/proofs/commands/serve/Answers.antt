@@ -1,5 +1,5 @@
 -- Each command is served as the function that carries it out says of the request that the command is.
-use Rattle.std.proofs.Common.{◌≡◌, ℕ, List, [], Result, sym, subst}
+use Rattle.std.proofs.Common.{◌≡◌, ℕ, List, [], Result, refl, sym, subst}
 use Rattle.card_rules.specs.declared.status.Sw.{Sw}
 use Rattle.undo_journal.specs.declared.error.StoreErr.{StoreErr}
 use Rattle.undo_journal.specs.Memory.{Memory}
@@ -8,7 +8,10 @@ use Rattle.apdu_core.specs.Ranges.{IsInRange}
 use Rattle.apdu_core.specs.Requests.{request_of}
 use Rattle.card_core.specs.declared.current.Current.{Current}
 use Rattle.card_core.specs.Served.{Serves}
-use Rattle.card_core.specs.Working.{space_in}
+use Rattle.card_core.specs.Working.{card_in, space_in}
+use Rattle.card_core.specs.Pins.{changing}
+use Rattle.card_core.specs.Stages.{commits}
+use Rattle.card_core.proofs.Looking.{attempt-files, pin-files, space_left}
 use Rattle.card_core.proofs.Serves.{space_kept}
 use Rattle.card_core.proofs.commands.serve.Goals as goal
 
@@ -33,13 +36,13 @@ pub returns-in-Select-clause-serves : goal.returns-in-Select-clause-serves
 returns-in-Select-clause-serves g c =
     told c.args.store.now c.args.current.now c.select_file.new.store c.select_file.new.current c.select_file.result
     c.args.command _
-    c.in-Select.is c.select_file.new.text.items c.select_file.ensures.serves
+    c.in-Select.is c.select_file.new.text.items c.select_file.ensures
 
 pub returns-in-Select-clause-space : goal.returns-in-Select-clause-space
+unfolding commits
 returns-in-Select-clause-space g c =
-    space_kept c.args.free.now (space_in c.args.store.now) (space_in c.select_file.new.store) c.select_file.result
-    c.requires.space
-    c.select_file.ensures.space
+    space_left _ c.args.store.now c.args.current.now c.select_file.new.store c.select_file.new.current _
+    c.select_file.result c.args.free.now c.select_file.ensures tt c.requires.space
 
 pub read_file-requires-clause-target : goal.read_file-requires-clause-target
 read_file-requires-clause-target g c = (subst IsInRange c.in-ReadBinary.is c.requires.in_range).0
@@ -48,13 +51,13 @@ pub returns-in-ReadBinary-clause-serves : goal.returns-in-ReadBinary-clause-serv
 returns-in-ReadBinary-clause-serves g c =
     told c.args.store.now c.args.current.now c.read_file.new.store c.read_file.new.current c.read_file.result
     c.args.command _
-    c.in-ReadBinary.is c.read_file.new.text.items c.read_file.ensures.serves
+    c.in-ReadBinary.is c.read_file.new.text.items c.read_file.ensures
 
 pub returns-in-ReadBinary-clause-space : goal.returns-in-ReadBinary-clause-space
+unfolding commits
 returns-in-ReadBinary-clause-space g c =
-    space_kept c.args.free.now (space_in c.args.store.now) (space_in c.read_file.new.store) c.read_file.result
-    c.requires.space
-    c.read_file.ensures.space
+    space_left _ c.args.store.now c.args.current.now c.read_file.new.store c.read_file.new.current _
+    c.read_file.result c.args.free.now c.read_file.ensures tt c.requires.space
 
 pub update_file-requires-clause-target : goal.update_file-requires-clause-target
 update_file-requires-clause-target g c = (subst IsInRange c.in-UpdateBinary.is c.requires.in_range).0
@@ -96,13 +99,13 @@ pub returns-in-ReadRecord-clause-serves : goal.returns-in-ReadRecord-clause-serv
 returns-in-ReadRecord-clause-serves g c =
     told c.args.store.now c.args.current.now c.read_record.new.store c.read_record.new.current c.read_record.result
     c.args.command _
-    c.in-ReadRecord.is c.read_record.new.text.items c.read_record.ensures.serves
+    c.in-ReadRecord.is c.read_record.new.text.items c.read_record.ensures
 
 pub returns-in-ReadRecord-clause-space : goal.returns-in-ReadRecord-clause-space
+unfolding commits
 returns-in-ReadRecord-clause-space g c =
-    space_kept c.args.free.now (space_in c.args.store.now) (space_in c.read_record.new.store) c.read_record.result
-    c.requires.space
-    c.read_record.ensures.space
+    space_left _ c.args.store.now c.args.current.now c.read_record.new.store c.read_record.new.current _
+    c.read_record.result c.args.free.now c.read_record.ensures tt c.requires.space
 
 pub update_record-requires-clause-target : goal.update_record-requires-clause-target
 update_record-requires-clause-target g c = (subst IsInRange c.in-UpdateRecord.is c.requires.in_range).0
@@ -156,13 +159,13 @@ pub returns-in-SearchRecord-clause-serves : goal.returns-in-SearchRecord-clause-
 returns-in-SearchRecord-clause-serves g c =
     told c.args.store.now c.args.current.now c.search_record.new.store c.search_record.new.current
     c.search_record.result c.args.command _
-    c.in-SearchRecord.is c.search_record.new.answer.items c.search_record.ensures.serves
+    c.in-SearchRecord.is c.search_record.new.answer.items c.search_record.ensures
 
 pub returns-in-SearchRecord-clause-space : goal.returns-in-SearchRecord-clause-space
+unfolding commits
 returns-in-SearchRecord-clause-space g c =
-    space_kept c.args.free.now (space_in c.args.store.now) (space_in c.search_record.new.store)
-    c.search_record.result c.requires.space
-    c.search_record.ensures.space
+    space_left _ c.args.store.now c.args.current.now c.search_record.new.store c.search_record.new.current _
+    c.search_record.result c.args.free.now c.search_record.ensures tt c.requires.space
 
 pub increase-requires-clause-few : goal.increase-requires-clause-few
 increase-requires-clause-few g c = (subst IsInRange c.in-Increase.is c.requires.in_range).1
@@ -195,13 +198,13 @@ pub returns-in-TerminateCardUsage-clause-serves : goal.returns-in-TerminateCardU
 returns-in-TerminateCardUsage-clause-serves g c =
     silent c.args.store.now c.args.current.now c.terminate_card_usage.new.store c.args.current.now
     c.terminate_card_usage.result c.args.command _
-    c.in-TerminateCardUsage.is c.args.text.now.items c.requires.empty c.terminate_card_usage.ensures.serves
+    c.in-TerminateCardUsage.is c.args.text.now.items c.requires.empty c.terminate_card_usage.ensures
 
 pub returns-in-TerminateCardUsage-clause-space : goal.returns-in-TerminateCardUsage-clause-space
+unfolding commits
 returns-in-TerminateCardUsage-clause-space g c =
-    space_kept c.args.free.now (space_in c.args.store.now) (space_in c.terminate_card_usage.new.store)
-    c.terminate_card_usage.result c.requires.space
-    c.terminate_card_usage.ensures.space
+    space_left _ c.args.store.now c.args.current.now c.terminate_card_usage.new.store c.args.current.now _
+    c.terminate_card_usage.result c.args.free.now c.terminate_card_usage.ensures (refl, tt) c.requires.space
 
 pub verify-requires-clause-pin : goal.verify-requires-clause-pin
 verify-requires-clause-pin g c = subst IsInRange c.in-Verify.is c.requires.in_range
@@ -209,13 +212,13 @@ verify-requires-clause-pin g c = subst IsInRange c.in-Verify.is c.requires.in_ra
 pub returns-in-Verify-clause-serves : goal.returns-in-Verify-clause-serves
 returns-in-Verify-clause-serves g c =
     silent c.args.store.now c.args.current.now c.verify.new.store c.verify.new.current c.verify.result c.args.command _
-    c.in-Verify.is c.args.text.now.items c.requires.empty c.verify.ensures.serves
+    c.in-Verify.is c.args.text.now.items c.requires.empty c.verify.ensures
 
 pub returns-in-Verify-clause-space : goal.returns-in-Verify-clause-space
+unfolding commits
 returns-in-Verify-clause-space g c =
-    space_kept c.args.free.now (space_in c.args.store.now) (space_in c.verify.new.store) c.verify.result
-    c.requires.space
-    c.verify.ensures.space
+    space_left _ c.args.store.now c.args.current.now c.verify.new.store c.verify.new.current _
+    c.verify.result c.args.free.now c.verify.ensures (pin-files _ _) c.requires.space
 
 pub change_reference_data-requires-clause-pin : goal.change_reference_data-requires-clause-pin
 change_reference_data-requires-clause-pin g c = subst IsInRange c.in-ChangeReferenceData.is c.requires.in_range
@@ -224,13 +227,14 @@ pub returns-in-ChangeReferenceData-clause-serves : goal.returns-in-ChangeReferen
 returns-in-ChangeReferenceData-clause-serves g c =
     silent c.args.store.now c.args.current.now c.change_reference_data.new.store c.change_reference_data.new.current
     c.change_reference_data.result c.args.command _
-    c.in-ChangeReferenceData.is c.args.text.now.items c.requires.empty c.change_reference_data.ensures.serves
+    c.in-ChangeReferenceData.is c.args.text.now.items c.requires.empty c.change_reference_data.ensures
 
 pub returns-in-ChangeReferenceData-clause-space : goal.returns-in-ChangeReferenceData-clause-space
+unfolding commits
 returns-in-ChangeReferenceData-clause-space g c =
-    space_kept c.args.free.now (space_in c.args.store.now) (space_in c.change_reference_data.new.store)
-    c.change_reference_data.result c.requires.space
-    c.change_reference_data.ensures.space
+    space_left _ c.args.store.now c.args.current.now c.change_reference_data.new.store c.change_reference_data.new.current _
+    c.change_reference_data.result c.args.free.now c.change_reference_data.ensures (attempt-files (card_in c.args.store.now)
+    (changing c.in-ChangeReferenceData.pin c.in-ChangeReferenceData.values.shown.now c.in-ChangeReferenceData.values.new.now)) c.requires.space
 
 pub reset_retry_counter-requires-clause-pin : goal.reset_retry_counter-requires-clause-pin
 reset_retry_counter-requires-clause-pin g c = subst IsInRange c.in-ResetRetryCounter.is c.requires.in_range
@@ -239,10 +243,10 @@ pub returns-in-ResetRetryCounter-clause-serves : goal.returns-in-ResetRetryCount
 returns-in-ResetRetryCounter-clause-serves g c =
     silent c.args.store.now c.args.current.now c.reset_retry_counter.new.store c.reset_retry_counter.new.current
     c.reset_retry_counter.result c.args.command _
-    c.in-ResetRetryCounter.is c.args.text.now.items c.requires.empty c.reset_retry_counter.ensures.serves
+    c.in-ResetRetryCounter.is c.args.text.now.items c.requires.empty c.reset_retry_counter.ensures
 
 pub returns-in-ResetRetryCounter-clause-space : goal.returns-in-ResetRetryCounter-clause-space
+unfolding commits
 returns-in-ResetRetryCounter-clause-space g c =
-    space_kept c.args.free.now (space_in c.args.store.now) (space_in c.reset_retry_counter.new.store)
-    c.reset_retry_counter.result c.requires.space
-    c.reset_retry_counter.ensures.space
+    space_left _ c.args.store.now c.args.current.now c.reset_retry_counter.new.store c.reset_retry_counter.new.current _
+    c.reset_retry_counter.result c.args.free.now c.reset_retry_counter.ensures (pin-files _ _) c.requires.space

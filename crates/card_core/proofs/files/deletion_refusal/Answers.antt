@@ -30,8 +30,7 @@ returns-clause-found g c =
     let marks = marks-are t x c.requires.current.marks in
     let same = c.is_barred.ensures.store.only.keeps.committed_words in
     let still = c.is_allowed.ensures.store.only.keeps.committed_words ∙ same in
-    let shown = c.verified.ensures ∙ sym marks in
-    let shown_again = c.verified-2.ensures ∙ sym marks in
+    let shown = sym marks in
     let barred : c.in_ok-barred.barred ≡ is_barred (card_of m).tree (path_of t c.args.parent) =
     c.in_ok-barred.ensures.barred ∙ sym (ap (λ (tree : Tree). is_barred tree (path_of t c.args.parent)) (card-tree m)) in
     let own : c.in_ok-own.own ≡ allowed (card_of m) (session_of t x) (path_of t c.args.number) DeleteSelf =
@@ -42,7 +41,7 @@ returns-clause-found g c =
     let by_parent : c.in_ok-by_parent.by_parent
     ≡ allowed (card_of m) (session_of t x) (path_of t c.args.parent) DeleteChild =
     c.in_ok-by_parent.ensures.allowed
-    ∙ (λ i. is_allowed (tree_of (still i)) (path_of (table (still i)) c.args.parent) DeleteChild (shown_again i))
+    ∙ (λ i. is_allowed (tree_of (still i)) (path_of (table (still i)) c.args.parent) DeleteChild (shown i))
     ∙ sym (ap (λ (tree : Tree). is_allowed tree (path_of t c.args.parent) DeleteChild (marks_of (session_of t x).verified))
     (card-tree m)) in
     let both : c.if-own.refusal_by ≡ (c.in_ok-own.own || c.in_ok-by_parent.by_parent) = elim c.if-own.branch [

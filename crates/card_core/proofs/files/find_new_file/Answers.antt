@@ -1,4 +1,4 @@
-use Rattle.std.proofs.Common.{◌∙◌, sym}
+use Rattle.std.proofs.Common.{refl, ◌∙◌, sym}
 use Rattle.undo_journal.specs.Memory.{committed}
 use Rattle.undo_journal.specs.laws.Told.{reads_on, reads_handed}
 use Rattle.file_tree.specs.Table.{table}
@@ -52,7 +52,7 @@ returns-then-not-branch-clause-found g c =
     fcp (sym c.parse.ensures.value ∙ c.in-Ok.is)
     (permits-is (committed old) (committed c.is_barred.new.store) x c.requires.current.marks
     c.is_barred.ensures.store.only.keeps.committed_words c.creation_bit.result (creation_bit fcp.kind)
-    c.creation_bit.ensures c.verified.result c.verified.ensures c.in_ok-is_allowed.field-0
+    c.creation_bit.ensures _ refl c.in_ok-is_allowed.field-0
     c.in_ok-is_allowed.ensures.allowed ∙ c.if-not-branch.true)
 
 pub returns-then-not-branch-clause-store : goal.returns-then-not-branch-clause-store
@@ -71,7 +71,7 @@ returns-clause-found g c =
           ∙ c.if-branch.false;
       permitted = permits-is (committed old) (committed c.is_barred.new.store) x c.requires.current.marks
           c.is_barred.ensures.store.only.keeps.committed_words c.creation_bit.result (creation_bit fcp.kind)
-          c.creation_bit.ensures c.verified.result c.verified.ensures c.in_ok-is_allowed.field-0
+          c.creation_bit.ensures _ refl c.in_ok-is_allowed.field-0
           c.in_ok-is_allowed.ensures.allowed ∙ c.if-not-branch.false;
     }
 

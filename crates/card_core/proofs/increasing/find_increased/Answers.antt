@@ -68,7 +68,7 @@ returns-in-Some-clause-store g c =
 pub answer_of-found-requires : goal.answer_of-found-requires
 answer_of-found-requires g c =
     let body = c.cyclic-body.result in
-    let sum_is = c.deref.ensures.0 ∙ c.in_ok-refused.ensures.bytes c.in-None.is in
+    let sum_is = c.in_ok-refused.ensures.bytes c.in-None.is in
     let size = ap (λ (l : List ℕ). length l) sum_is in
     let long = length-spelled body.record_length (raised_number (cyclic_records (committed c.find_records.new.store)
     body) c.args.amount.now) in
@@ -89,11 +89,11 @@ returns-then-asks_less-clause-found g c =
     ∙ c.in_ok-refused.ensures.refusal ∙ c.in-None.is in
     let data_is : c.answer_of-found.result.items
     ≡ spelled body.record_length (raised_number (cyclic_records m body) sent) ++ sent =
-    c.answer_of-found.ensures ∙ ap (λ (l : List ℕ). l ++ sent) (c.deref.ensures.0 ∙ c.in_ok-refused.ensures.bytes
+    c.answer_of-found.ensures ∙ ap (λ (l : List ℕ). l ++ sent) (c.in_ok-refused.ensures.bytes
     c.in-None.is ∙ ap (λ (l : List ℕ). spelled body.record_length (raised_number (cyclic_records l body) sent)) same) in
-    let less = ap (asks_less expected) (sym (c.deref-2.ensures.0 ∙ data_is)) ∙ sym c.asks_less.ensures
+    let less = ap (asks_less expected) (sym data_is) ∙ sym c.asks_less.ensures
     ∙ c.if-asks_less.true in
-    let status = ap right_length (sym (c.deref-then-asks_less.ensures.0 ∙ data_is)) ∙ sym c.right_length.ensures in
+    let status = ap right_length (sym data_is) ∙ sym c.right_length.ensures in
     increase-less m c.requires.ready.usable.committed_size c.requires.card c.args.current.now _ c.in-Ok.file.number body
     found sent expected found.named.unrefused (sym c.is_too_long.ensures ∙ c.if-is_too_long.false) free less
     ∙ ap (λ (refusal : Sw). Some refusal) status
@@ -110,7 +110,7 @@ returns-clause-found g c =
     let same = c.find_records.ensures.store.only.keeps.committed_words in
     let data_is : c.answer_of-found.result.items
     ≡ spelled body.record_length (raised_number (cyclic_records m body) sent) ++ sent =
-    c.answer_of-found.ensures ∙ ap (λ (l : List ℕ). l ++ sent) (c.deref.ensures.0 ∙ c.in_ok-refused.ensures.bytes
+    c.answer_of-found.ensures ∙ ap (λ (l : List ℕ). l ++ sent) (c.in_ok-refused.ensures.bytes
     c.in-None.is ∙ ap (λ (l : List ℕ). spelled body.record_length (raised_number (cyclic_records l body) sent)) same) in
     record {
       file = found-cyclic m c.args.current.now target.Current _ c.in-Ok.file.number c.in-Ok.file.body body
@@ -119,7 +119,7 @@ returns-clause-found g c =
       raises = ap (λ (l : List ℕ). unraised body.record_length (cyclic_records l body) sent) (sym same)
           ∙ c.in_ok-refused.ensures.refusal ∙ c.in-None.is;
       answer_is = data_is;
-      enough = ap (asks_less c.args.expected) (sym c.deref-2.ensures.0) ∙ sym c.asks_less.ensures ∙ c.if-asks_less.false;
+      enough = sym c.asks_less.ensures ∙ c.if-asks_less.false;
     }
 
 pub returns-clause-store : goal.returns-clause-store

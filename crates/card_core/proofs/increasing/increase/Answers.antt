@@ -65,11 +65,11 @@ returns-clause-serves g c =
     let x = c.args.current.now in
     let found = said_ok _ _ c.in_ok-file.field-0 c.in-Ok.file c.in-Ok.is c.in_ok-file.ensures.found in
     subst (λ (y : Current). Serves (increase c.args.amount.now c.args.expected) old x c.put_sum.new.store y
-    c.hand.new.text.items (Ok DONE)) (sym c.pointing.ensures)
+    c.give.new.text.items (Ok DONE)) (sym c.pointing.ensures)
     (increased-done old c.find_increased.new.store c.put_sum.new.store c.requires.ready c.requires.card x
     c.requires.current c.find_increased.ensures.store.only _ _ c.in-Ok.file.number c.in-Ok.file.body _ found
     c.put_sum.ensures.any_exit _ c.in_ok-put_sum.ensures.store c.in_ok-put_sum.ensures.done
-    c.in_ok-put_sum.ensures.store.ready c.hand.new.text.items c.hand.ensures.given c.hand.ensures.room)
+    c.in_ok-put_sum.ensures.store.ready c.give.new.text.items c.give.ensures.given c.give.ensures.room)
 
 pub returns-clause-space : goal.returns-clause-space
 returns-clause-space g c =

@@ -50,7 +50,7 @@ returns-clause-found g c =
     let allowed : c.in_ok-allowed.allowed
     ≡ is_allowed (tree_of m) (path_of (table m) e) (change_bit c.args.change) (verified_in c.args.current.now) =
     c.in_ok-allowed.ensures.allowed
-    ∙ (λ i. is_allowed (tree_of (same i)) (path_of (table (same i)) e) (c.bit_of.ensures i) (c.verified.ensures i)) in
+    ∙ (λ i. is_allowed (tree_of (same i)) (path_of (table (same i)) e) (c.bit_of.ensures i) (verified_in c.args.current.now)) in
     let entry : c.in_ok-entry.entry ≡ entry_in (table m) e =
     c.in_ok-entry.ensures.entry ∙ (λ i. entry_in (table (still i)) e) in
     c.changed_by.ensures ∙ (λ i. changed_by c.args.change e (entry i) (next i) (allowed i))

@@ -1,64 +1,52 @@
-use Rattle.std.proofs.Common.{◌≡◌, true, false, [], Result, sym, ◌∙◌, ap, subst, arith}
+use Rattle.std.proofs.Common.{refl, ◌≡◌, true, false, [], Result, sym, ◌∙◌, ap, subst, arith}
 use Rattle.std.specs.Result.{result_err}
 use Rattle.card_rules.specs.declared.status.Sw.{Sw}
 use Rattle.card_rules.specs.declared.status.TheConstants.Sw.{ACCESS_DENIED}
 use Rattle.undo_journal.specs.declared.error.StoreErr.{StoreErr}
 use Rattle.undo_journal.specs.Memory.{committed}
 use Rattle.apdu_core.specs.Requests.{terminate_card_usage}
-use Rattle.card_core.proofs.Ending.{end-made, end-refused, end-space, end-torn}
+use Rattle.card_core.proofs.Ending.{end-made, end-refused, end-torn}
 use Rattle.card_core.specs.Served.{Serves}
 use Rattle.card_core.proofs.Serves.{declined, stopped}
-use Rattle.card_core.proofs.SpaceKept.{space-same}
 use Rattle.card_core.proofs.Stopping.{err-is}
 use Rattle.card_core.proofs.life_cycles.terminate_card_usage.Goals as goal
 
-pub returns-then-not-branch-clause-serves : goal.returns-then-not-branch-clause-serves
-returns-then-not-branch-clause-serves g c =
+pub returns-then-not-branch : goal.returns-then-not-branch
+returns-then-not-branch g c =
     let old = c.args.store.now in
     let x = c.args.current.now in
     let denied : c.in_ok-is_allowed.field-0 ≡ false = c.if-not-branch.true in
     declined terminate_card_usage old x c.is_allowed.new.store c.requires.card ACCESS_DENIED c.is_allowed.ensures.store.only
     c.in_ok-is_allowed.ensures.store.ready c.requires.current
-    (end-refused (committed old) x c.requires.current c.verified.result c.verified.ensures c.in_ok-is_allowed.field-0
+    (end-refused (committed old) x c.requires.current _ refl c.in_ok-is_allowed.field-0
     c.in_ok-is_allowed.ensures.allowed denied)
 
-pub returns-in_err-terminate_card-clause-serves : goal.returns-in_err-terminate_card-clause-serves
-returns-in_err-terminate_card-clause-serves g c =
+pub returns-in_err-terminate_card : goal.returns-in_err-terminate_card
+returns-in_err-terminate_card g c =
     let old = c.args.store.now in
     let mid = c.is_allowed.new.store in
     let new = c.terminate_card.new.store in
     let granted : c.in_ok-is_allowed.field-0 ≡ true = c.if-not-branch.false in
     let tells = c.in_err-terminate_card.ensures.store.tells ∙ sym (ap (λ (r : Result Sw StoreErr). result_err r)
     (err-is _ _ c.from_residual-in_err-terminate_card.ensures.1)) in
-    end-torn old mid new c.requires.ready c.requires.card c.args.current.now c.requires.current c.verified.result
-    c.verified.ensures (sym granted ∙ c.in_ok-is_allowed.ensures.allowed) c.is_allowed.ensures.store.only
+    end-torn old mid new c.requires.ready c.requires.card c.args.current.now c.requires.current _
+    refl (sym granted ∙ c.in_ok-is_allowed.ensures.allowed) c.is_allowed.ensures.store.only
     c.terminate_card.ensures.any_exit c.terminate_card.ensures.store.reports c.terminate_card.ensures.store.writes
     c.from_residual-in_err-terminate_card.result c.from_residual-in_err-terminate_card.ensures.0 tells
 
-pub returns-clause-serves : goal.returns-clause-serves
-returns-clause-serves g c =
+pub returns : goal.returns
+returns g c =
     let old = c.args.store.now in
     let mid = c.is_allowed.new.store in
     let new = c.terminate_card.new.store in
     let granted : c.in_ok-is_allowed.field-0 ≡ true = c.if-not-branch.false in
-    end-made old mid new c.requires.ready c.requires.card c.args.current.now c.requires.current c.verified.result
-    c.verified.ensures (sym granted ∙ c.in_ok-is_allowed.ensures.allowed) c.is_allowed.ensures.store.only
+    end-made old mid new c.requires.ready c.requires.card c.args.current.now c.requires.current _
+    refl (sym granted ∙ c.in_ok-is_allowed.ensures.allowed) c.is_allowed.ensures.store.only
     c.terminate_card.ensures.any_exit c.terminate_card.ensures.store.reports c.terminate_card.ensures.store.writes
     c.in_ok-terminate_card.ensures.done c.in_ok-terminate_card.ensures.store.ready
 
-pub returns-clause-space : goal.returns-clause-space
-returns-clause-space g c =
-    let old = c.args.store.now in
-    let mid = c.is_allowed.new.store in
-    let new = c.terminate_card.new.store in
-    let granted : c.in_ok-is_allowed.field-0 ≡ true = c.if-not-branch.false in
-    end-space old mid new c.requires.ready c.requires.card c.args.current.now c.requires.current c.verified.result
-    c.verified.ensures (sym granted ∙ c.in_ok-is_allowed.ensures.allowed) c.is_allowed.ensures.store.only
-    c.terminate_card.ensures.any_exit c.terminate_card.ensures.store.reports c.terminate_card.ensures.store.writes
-    c.in_ok-terminate_card.ensures.done
-
-pub returns-in_err-is_allowed-clause-serves : goal.returns-in_err-is_allowed-clause-serves
-returns-in_err-is_allowed-clause-serves g c =
+pub returns-in_err-is_allowed : goal.returns-in_err-is_allowed
+returns-in_err-is_allowed g c =
     let old = c.args.store.now in
     let x = c.args.current.now in
     let mid = c.is_allowed.new.store in
@@ -66,7 +54,3 @@ returns-in_err-is_allowed-clause-serves g c =
     c.from_residual.ensures.1))
     (stopped terminate_card_usage old x mid c.requires.card x [] c.in_err-is_allowed.field-0.0 c.is_allowed.ensures.store.only
     c.in_err-is_allowed.ensures.store.tells (omega arith))
-
-pub returns-then-not-branch-clause-space : goal.returns-then-not-branch-clause-space
-returns-then-not-branch-clause-space g c =
-    space-same c.args.store.now c.is_allowed.new.store c.is_allowed.ensures.store.only.keeps.committed_words

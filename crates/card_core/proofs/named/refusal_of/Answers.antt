@@ -23,7 +23,7 @@ returns-clause-found g c =
     let barred : c.in_ok-barred.barred ≡ is_barred (card_of m).tree path =
     c.in_ok-barred.ensures.barred ∙ sym (ap (λ (tree : Tree). is_barred tree path) (card-tree m)) in
     let same = c.is_barred.ensures.store.only.keeps.committed_words in
-    let marks = c.verified.ensures ∙ sym (marks-are t c.args.current.now c.requires.current.marks) in
+    let marks = sym (marks-are t c.args.current.now c.requires.current.marks) in
     let permitted : c.in_ok-allowed.allowed ≡ allowed (card_of m) (session_of t c.args.current.now) path bit =
     c.in_ok-allowed.ensures.allowed
     ∙ (λ i. is_allowed (tree_of (same i)) (path_of (table (same i)) c.args.number) bit (marks i))

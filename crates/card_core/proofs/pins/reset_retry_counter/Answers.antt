@@ -3,12 +3,10 @@ use Rattle.apdu_core.specs.Requests.{reset_retry_counter}
 use Rattle.apdu_core.specs.declared.pins.Replacement.{Replacement}
 use Rattle.card_core.specs.Served.{Serves}
 use Rattle.card_core.proofs.Attempts.{asks-unblocking, question-answered}
-use Rattle.card_core.proofs.Answering.{ok_anyway}
-use Rattle.card_core.proofs.SpaceKept.{space-same}
 use Rattle.card_core.proofs.pins.reset_retry_counter.Goals as goal
 
-pub returns-in-None-clause-serves : goal.returns-in-None-clause-serves
-returns-in-None-clause-serves g c =
+pub returns-in-None : goal.returns-in-None
+returns-in-None g c =
     let none = ap (option_map (λ (values : Replacement). (values.shown.now, values.new.now))) c.in-None.is in
     subst (λ (values : Option (List ℕ × List ℕ)). Serves (reset_retry_counter c.args.pin values) c.args.store.now
     c.args.current.now c.tell_tries.new.store c.args.current.now [] c.tell_tries.result) (sym none)
@@ -22,13 +20,9 @@ tell_tries-requires-clause-secret g c = let last = c.requires.pin.last in omega 
 pub tell_tries-requires-clause-pages : goal.tell_tries-requires-clause-pages
 tell_tries-requires-clause-pages g c = c.requires.card.pins
 
-pub returns-in-Some-clause-serves : goal.returns-in-Some-clause-serves
-returns-in-Some-clause-serves g c =
+pub returns-in-Some : goal.returns-in-Some
+returns-in-Some g c =
     let some = ap (option_map (λ (values : Replacement). (values.shown.now, values.new.now))) c.in-Some.is in
     subst (λ (values : Option (List ℕ × List ℕ)). Serves (reset_retry_counter c.args.pin values) c.args.store.now
     c.args.current.now c.reset_value.new.store c.reset_value.new.current [] c.reset_value.result) (sym some)
-    c.reset_value.ensures.serves
-
-pub returns-in-None-clause-space : goal.returns-in-None-clause-space
-returns-in-None-clause-space g c =
-    ok_anyway _ _ (space-same c.args.store.now c.tell_tries.new.store c.tell_tries.ensures.store.only.keeps.committed_words)
+    c.reset_value.ensures

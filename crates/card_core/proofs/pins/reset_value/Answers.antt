@@ -1,24 +1,23 @@
 use Rattle.std.proofs.Common.{◌≤◌, ◌+◌, ◌-◌, refl, arith}
 use Rattle.pin_store.specs.laws.Tries.{reset_ends}
-use Rattle.card_core.proofs.Attempts.{charge-blocked, charge-torn, end-made, end-torn, made-space, resets, blocked-space}
-use Rattle.card_core.proofs.Stopping.{none-done}
+use Rattle.card_core.proofs.Attempts.{charge-blocked, charge-torn, end-made, end-torn, resets}
 use Rattle.card_core.proofs.pins.reset_value.Goals as goal
 
-pub returns-in_err-charged-clause-serves : goal.returns-in_err-charged-clause-serves
-returns-in_err-charged-clause-serves g c =
+pub returns-in_err-charged : goal.returns-in_err-charged
+returns-in_err-charged g c =
     charge-torn _ _ (resets c.args.pin c.requires.pin c.args.values.shown.now c.args.values.new.now) 13 refl c.args.store.now c.args.current.now
     c.requires.ready c.requires.card c.requires.current c.take_try.new.store c.from_residual.result
     c.in_err-charged.field-0.0 c.from_residual.ensures.1 c.take_try.ensures.any_exit c.take_try.ensures.kept
     c.take_try.ensures.pages c.take_try.ensures.store.reports c.in_err-charged.ensures.store.tells c.take_try.ensures.store.writes
 
-pub returns-in-None-clause-serves : goal.returns-in-None-clause-serves
-returns-in-None-clause-serves g c =
+pub returns-in-None : goal.returns-in-None
+returns-in-None g c =
     charge-blocked _ _ (resets c.args.pin c.requires.pin c.args.values.shown.now c.args.values.new.now) 13 refl c.args.store.now c.args.current.now
     c.requires.ready c.requires.card c.requires.current c.take_try.new.store c.in_ok-charged.field-0 c.in-None.is
     c.in_ok-charged.ensures.done c.take_try.ensures.kept c.in_ok-charged.ensures.store.ready
 
-pub returns-in_err-outcome-clause-serves : goal.returns-in_err-outcome-clause-serves
-returns-in_err-outcome-clause-serves g c =
+pub returns-in_err-outcome : goal.returns-in_err-outcome
+returns-in_err-outcome g c =
     let large : 8 ≤ 8 + (c.args.pin - 1) = omega arith in
     end-torn _ _ (resets c.args.pin c.requires.pin c.args.values.shown.now c.args.values.new.now) 13 refl c.args.store.now c.args.current.now
     c.requires.ready c.requires.card c.requires.current c.take_try.new.store c.reset_counter.new.store c.in_ok-charged.field-0
@@ -27,8 +26,8 @@ returns-in_err-outcome-clause-serves g c =
     c.reset_counter.ensures.spends c.reset_counter.ensures.pages c.reset_counter.ensures.store.reports c.from_residual-in_err-outcome.result
     c.in_err-outcome.field-0.0 c.from_residual-in_err-outcome.ensures.1 c.in_err-outcome.ensures.store.tells
 
-pub returns-clause-serves : goal.returns-clause-serves
-returns-clause-serves g c =
+pub returns : goal.returns
+returns g c =
     let large : 8 ≤ 8 + (c.args.pin - 1) = omega arith in
     end-made _ _ (resets c.args.pin c.requires.pin c.args.values.shown.now c.args.values.new.now) 13 refl c.args.store.now c.args.current.now
     c.requires.ready c.requires.card c.requires.current c.take_try.new.store c.reset_counter.new.store c.in_ok-charged.field-0
@@ -38,31 +37,11 @@ returns-clause-serves g c =
     c.in_ok-outcome.ensures.done c.in_ok-outcome.ensures.store.ready c.after_attempt.result c.after_attempt.ensures
     c.status_of.result c.status_of.ensures
 
-pub returns-clause-space : goal.returns-clause-space
-returns-clause-space g c =
-    let large : 8 ≤ 8 + (c.args.pin - 1) = omega arith in
-    made-space _ _ (resets c.args.pin c.requires.pin c.args.values.shown.now c.args.values.new.now) 13 refl c.args.store.now c.args.current.now
-    c.requires.ready c.requires.card c.requires.current c.take_try.new.store c.reset_counter.new.store c.in_ok-charged.field-0
-    c.in-Some.charged c.in-Some.is c.in_ok-charged.ensures.done c.take_try.ensures.pages c.take_try.ensures.store.writes
-    c.take_try.ensures.store.reports (λ p. reset_ends (8 + (c.args.pin - 1)) c.args.values.new.now p large) c.reset_counter.ensures.any_exit
-    c.reset_counter.ensures.spends c.reset_counter.ensures.pages c.reset_counter.ensures.store.reports
-
-pub returns-in_err-charged-clause-space : goal.returns-in_err-charged-clause-space
-returns-in_err-charged-clause-space g c = none-done _ _ _ c.from_residual.ensures.1
-
-pub returns-in_err-outcome-clause-space : goal.returns-in_err-outcome-clause-space
-returns-in_err-outcome-clause-space g c = none-done _ _ _ c.from_residual-in_err-outcome.ensures.1
-
 pub take_try-requires-clause-secret : goal.take_try-requires-clause-secret
 take_try-requires-clause-secret g c = let last = c.requires.pin.last in omega (arith, last)
 
 pub take_try-requires-clause-pages : goal.take_try-requires-clause-pages
 take_try-requires-clause-pages g c = c.requires.card.pins
-
-pub returns-in-None-clause-space : goal.returns-in-None-clause-space
-returns-in-None-clause-space g c =
-    blocked-space c.args.store.now c.take_try.new.store _ _ c.in_ok-charged.field-0 c.in-None.is
-    c.in_ok-charged.ensures.done c.take_try.ensures.kept
 
 pub reset_counter-requires-clause-pages : goal.reset_counter-requires-clause-pages
 reset_counter-requires-clause-pages g c = c.take_try.ensures.pages

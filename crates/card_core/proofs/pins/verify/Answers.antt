@@ -2,12 +2,10 @@ use Rattle.std.proofs.Common.{◌-◌, ℕ, List, [], Option, option_map, sym, a
 use Rattle.apdu_core.specs.Requests.{verify}
 use Rattle.card_core.specs.Served.{Serves}
 use Rattle.card_core.proofs.Attempts.{asks-value, question-answered}
-use Rattle.card_core.proofs.Answering.{ok_anyway}
-use Rattle.card_core.proofs.SpaceKept.{space-same}
 use Rattle.card_core.proofs.pins.verify.Goals as goal
 
-pub returns-in-None-clause-serves : goal.returns-in-None-clause-serves
-returns-in-None-clause-serves g c =
+pub returns-in-None : goal.returns-in-None
+returns-in-None g c =
     let none = ap (option_map (λ (value : Bor (List ℕ)). value.now)) c.in-None.is in
     subst (λ (shown : Option (List ℕ)). Serves (verify c.args.pin shown) c.args.store.now c.args.current.now
     c.tell_tries.new.store c.args.current.now [] c.tell_tries.result) (sym none)
@@ -15,15 +13,11 @@ returns-in-None-clause-serves g c =
     c.args.current.now c.requires.card c.requires.current c.tell_tries.new.store c.tell_tries.result
     c.tell_tries.ensures.told c.tell_tries.ensures.store)
 
-pub returns-in-Some-clause-serves : goal.returns-in-Some-clause-serves
-returns-in-Some-clause-serves g c =
+pub returns-in-Some : goal.returns-in-Some
+returns-in-Some g c =
     let some = ap (option_map (λ (value : Bor (List ℕ)). value.now)) c.in-Some.is in
     subst (λ (shown : Option (List ℕ)). Serves (verify c.args.pin shown) c.args.store.now c.args.current.now
-    c.verify_value.new.store c.verify_value.new.current [] c.verify_value.result) (sym some) c.verify_value.ensures.serves
-
-pub returns-in-None-clause-space : goal.returns-in-None-clause-space
-returns-in-None-clause-space g c =
-    ok_anyway _ _ (space-same c.args.store.now c.tell_tries.new.store c.tell_tries.ensures.store.only.keeps.committed_words)
+    c.verify_value.new.store c.verify_value.new.current [] c.verify_value.result) (sym some) c.verify_value.ensures
 
 pub tell_tries-requires-clause-secret : goal.tell_tries-requires-clause-secret
 tell_tries-requires-clause-secret g c = let last = c.requires.pin.last in omega (arith, last)

@@ -17,12 +17,11 @@ use Rattle.card_core.proofs.Answering.{said_ok, said_err}
 use Rattle.card_core.proofs.RecordBodies.{has-few}
 use Rattle.card_core.proofs.Recording.{agree, current-is, declined-empty, read-gone, read-other, read-refused, read-whole}
 use Rattle.card_core.proofs.Serves.{answered, stopped, handed}
-use Rattle.card_core.proofs.Stopping.{err-is, none-done}
-use Rattle.card_core.proofs.SpaceKept.{space-same}
+use Rattle.card_core.proofs.Stopping.{err-is}
 use Rattle.card_core.proofs.records.read_record.Goals as goal
 
-pub returns-in-Err-clause-serves : goal.returns-in-Err-clause-serves
-returns-in-Err-clause-serves g c =
+pub returns-in-Err : goal.returns-in-Err
+returns-in-Err g c =
     let old = c.args.store.now in
     let x = c.args.current.now in
     let refused = said_err _ _ c.in_ok-file.field-0 c.in-Err.refusal c.in-Err.is c.in_ok-file.ensures.found in
@@ -31,8 +30,8 @@ returns-in-Err-clause-serves g c =
     c.in_ok-file.ensures.store.ready c.requires.current
     (read-refused (card_in old) (session_in old x) c.args.target c.in-Err.refusal refused c.args.choice c.args.expected)
 
-pub returns-then-not-has_record-clause-serves : goal.returns-then-not-has_record-clause-serves
-returns-then-not-has_record-clause-serves g c =
+pub returns-then-not-has_record : goal.returns-then-not-has_record
+returns-then-not-has_record g c =
     let old = c.args.store.now in
     let x = c.args.current.now in
     let body = c.in-Ok.file.body in
@@ -55,8 +54,8 @@ read-requires-clause-body g c =
     (agree (committed old) c.requires.ready.usable.committed_size c.requires.card c.args.current.now c.args.target _
     c.in-Ok.file.number body found).stands
 
-pub returns-in_err-read-clause-serves : goal.returns-in_err-read-clause-serves
-returns-in_err-read-clause-serves g c =
+pub returns-in_err-read : goal.returns-in_err-read
+returns-in_err-read g c =
     let old = c.args.store.now in
     let x = c.args.current.now in
     let none : length c.args.text.now.items ≡ 0 = ap (λ (l : List ℕ). length l) c.requires.empty in
@@ -67,8 +66,8 @@ returns-in_err-read-clause-serves g c =
     (reads_then old c.find_records.new.store c.read.new.store c.find_records.ensures.store.only c.read.ensures.store.only)
     c.in_err-read.ensures.store.tells (omega (arith, none)))
 
-pub returns-then-is_other_length-clause-serves : goal.returns-then-is_other_length-clause-serves
-returns-then-is_other_length-clause-serves g c =
+pub returns-then-is_other_length : goal.returns-then-is_other_length
+returns-then-is_other_length g c =
     let old = c.args.store.now in
     let x = c.args.current.now in
     let body = c.in-Ok.file.body in
@@ -82,7 +81,7 @@ returns-then-is_other_length-clause-serves g c =
     c.in_ok-read.ensures.bytes ∙ (λ i. record_of (records_at (same i) body) (number i)) in
     let other = ap (λ (l : List ℕ). not (c.args.expected == 0) && not (c.args.expected == length l)) (sym text)
     ∙ sym c.is_other_length.ensures ∙ c.if-is_other_length.true in
-    let status = ap right_length (sym (c.deref.ensures.0 ∙ text)) ∙ sym c.right_length.ensures in
+    let status = ap right_length (sym text) ∙ sym c.right_length.ensures in
     declined-empty (read_record c.args.target c.args.choice c.args.expected) old x c.read.new.store
     c.args.text.now.items c.requires.empty c.requires.card c.right_length.result
     (reads_then old c.find_records.new.store c.read.new.store c.find_records.ensures.store.only c.read.ensures.store.only)
@@ -102,8 +101,8 @@ pointer_after-requires g c =
     ∙ c.if-not-has_record.false) in
     omega (arith, few)
 
-pub returns-clause-serves : goal.returns-clause-serves
-returns-clause-serves g c =
+pub returns : goal.returns
+returns g c =
     let old = c.args.store.now in
     let x = c.args.current.now in
     let body = c.in-Ok.file.body in
@@ -125,46 +124,22 @@ returns-clause-serves g c =
     let y_is : c.pointing.result ≡ pointing_from x c.args.target e (pointer_after (pointer_from x c.args.target)
     c.args.choice (chosen_in body (pointer_from x c.args.target) c.args.choice)) =
     c.pointing.ensures ∙ ap (pointing_from x c.args.target e) pointer in
-    let given_is = c.hand.ensures.given ∙ text in
+    let given_is = c.give.ensures.given ∙ text in
     let current = current-is (committed old) sized c.requires.card x c.args.target _ e body found c.requires.current
     (pointer_after (pointer_from x c.args.target) c.args.choice (chosen_in body (pointer_from x c.args.target)
     c.args.choice)) in
     answered (read_record c.args.target c.args.choice c.args.expected) old x c.read.new.store c.requires.card
-    c.pointing.result c.hand.new.text.items DONE
+    c.pointing.result c.give.new.text.items DONE
     (reads_then old c.find_records.new.store c.read.new.store c.find_records.ensures.store.only c.read.ensures.store.only)
     c.in_ok-read.ensures.store.ready
     (subst (λ (y : Current). IsCurrent (table_in old) y) (sym y_is) current)
-    c.hand.ensures.room
+    c.give.ensures.room
     (read-whole (committed old) sized c.requires.card x c.args.target _ e body found found.named.unrefused
     c.args.choice c.args.expected has whole
     ∙ (λ i. outcome (card_in old) (session_in old (sym y_is i)) (sym given_is i) DONE))
 
-pub returns-in-Err-clause-space : goal.returns-in-Err-clause-space
-returns-in-Err-clause-space g c =
-    space-same c.args.store.now c.find_records.new.store c.find_records.ensures.store.only.keeps.committed_words
-
-pub returns-then-not-has_record-clause-space : goal.returns-then-not-has_record-clause-space
-returns-then-not-has_record-clause-space g c =
-    space-same c.args.store.now c.find_records.new.store c.find_records.ensures.store.only.keeps.committed_words
-
-pub returns-then-is_other_length-clause-space : goal.returns-then-is_other_length-clause-space
-returns-then-is_other_length-clause-space g c =
-    space-same c.args.store.now c.read.new.store (c.read.ensures.store.only.keeps.committed_words
-    ∙ c.find_records.ensures.store.only.keeps.committed_words)
-
-pub returns-clause-space : goal.returns-clause-space
-returns-clause-space g c =
-    space-same c.args.store.now c.read.new.store (c.read.ensures.store.only.keeps.committed_words
-    ∙ c.find_records.ensures.store.only.keeps.committed_words)
-
-pub returns-in_err-file-clause-space : goal.returns-in_err-file-clause-space
-returns-in_err-file-clause-space g c = none-done _ _ _ c.from_residual.ensures.1
-
-pub returns-in_err-read-clause-space : goal.returns-in_err-read-clause-space
-returns-in_err-read-clause-space g c = none-done _ _ _ c.from_residual-in_err-read.ensures.1
-
-pub returns-in_err-file-clause-serves : goal.returns-in_err-file-clause-serves
-returns-in_err-file-clause-serves g c =
+pub returns-in_err-file : goal.returns-in_err-file
+returns-in_err-file g c =
     let none : length c.args.text.now.items ≡ 0 = ap (λ (l : List ℕ). length l) c.requires.empty in
     handed (read_record c.args.target c.args.choice c.args.expected) c.args.store.now
     c.args.current.now c.find_records.new.store c.requires.card c.args.current.now c.args.text.now.items _ _

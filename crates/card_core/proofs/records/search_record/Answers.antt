@@ -16,12 +16,11 @@ use Rattle.card_core.specs.Working.{IsBodyIn, IsCurrent}
 use Rattle.card_core.proofs.Answering.{said_ok, said_err}
 use Rattle.card_core.proofs.Recording.{agree, current-is, declined-empty, search-gone, search-less, search-refused, search-whole}
 use Rattle.card_core.proofs.Serves.{answered, stopped, handed}
-use Rattle.card_core.proofs.Stopping.{err-is, none-done}
-use Rattle.card_core.proofs.SpaceKept.{space-same}
+use Rattle.card_core.proofs.Stopping.{err-is}
 use Rattle.card_core.proofs.records.search_record.Goals as goal
 
-pub returns-in-Err-clause-serves : goal.returns-in-Err-clause-serves
-returns-in-Err-clause-serves g c =
+pub returns-in-Err : goal.returns-in-Err
+returns-in-Err g c =
     let old = c.args.store.now in
     let x = c.args.current.now in
     let refused = said_err _ _ c.in_ok-file.field-0 c.in-Err.refusal c.in-Err.is c.in_ok-file.ensures.found in
@@ -31,8 +30,8 @@ returns-in-Err-clause-serves g c =
     (search-refused (card_in old) (session_in old x) c.args.target c.in-Err.refusal refused c.args.first c.args.direction
     c.args.text.now c.args.expected)
 
-pub returns-then-not-has_record-clause-serves : goal.returns-then-not-has_record-clause-serves
-returns-then-not-has_record-clause-serves g c =
+pub returns-then-not-has_record : goal.returns-then-not-has_record
+returns-then-not-has_record g c =
     let old = c.args.store.now in
     let x = c.args.current.now in
     let body = c.in-Ok.file.body in
@@ -56,8 +55,8 @@ search-requires-clause-body g c =
     (agree (committed old) c.requires.ready.usable.committed_size c.requires.card c.args.current.now c.args.target _
     c.in-Ok.file.number body found).stands
 
-pub returns-in_err-search-clause-serves : goal.returns-in_err-search-clause-serves
-returns-in_err-search-clause-serves g c =
+pub returns-in_err-search : goal.returns-in_err-search
+returns-in_err-search g c =
     let old = c.args.store.now in
     let x = c.args.current.now in
     let none : length c.args.answer.now.items ≡ 0 = ap (λ (l : List ℕ). length l) c.requires.empty in
@@ -69,8 +68,8 @@ returns-in_err-search-clause-serves g c =
     (reads_then old c.find_records.new.store c.search.new.store c.find_records.ensures.store.only c.search.ensures.store.only)
     c.in_err-search.ensures.store.tells (omega (arith, none)))
 
-pub returns-then-asks_less-clause-serves : goal.returns-then-asks_less-clause-serves
-returns-then-asks_less-clause-serves g c =
+pub returns-then-asks_less : goal.returns-then-asks_less
+returns-then-asks_less g c =
     let old = c.args.store.now in
     let x = c.args.current.now in
     let body = c.in-Ok.file.body in
@@ -83,9 +82,9 @@ returns-then-asks_less-clause-serves g c =
     let numbers : c.search.new.numbers.items ≡ found_in (searching c.args.direction) (place_number c.args.first
     (pointer_from x c.args.target)) c.args.text.now (records_at (committed old) body) =
     c.in_ok-search.ensures.numbers ∙ (λ i. found_in (way i) (number i) c.args.text.now (records_at (same i) body)) in
-    let less = ap (asks_less c.args.expected) (sym (c.deref.ensures.0 ∙ numbers)) ∙ sym c.asks_less.ensures
+    let less = ap (asks_less c.args.expected) (sym numbers) ∙ sym c.asks_less.ensures
     ∙ c.if-asks_less.true in
-    let status = ap right_length (sym (c.deref-then-asks_less.ensures.0 ∙ numbers)) ∙ sym c.right_length.ensures in
+    let status = ap right_length (sym numbers) ∙ sym c.right_length.ensures in
     declined-empty (search_record c.args.target c.args.first c.args.direction c.args.text.now c.args.expected) old x
     c.search.new.store c.args.answer.now.items c.requires.empty c.requires.card c.right_length.result
     (reads_then old c.find_records.new.store c.search.new.store c.find_records.ensures.store.only c.search.ensures.store.only)
@@ -95,8 +94,8 @@ returns-then-asks_less-clause-serves g c =
     has less
     ∙ ap (refused (card_in old) (session_in old x)) status)
 
-pub returns-clause-serves : goal.returns-clause-serves
-returns-clause-serves g c =
+pub returns : goal.returns
+returns g c =
     let old = c.args.store.now in
     let x = c.args.current.now in
     let body = c.in-Ok.file.body in
@@ -112,53 +111,29 @@ returns-clause-serves g c =
     c.args.text.now (records_at (committed old) body) in
     let numbers : c.search.new.numbers.items ≡ all =
     c.in_ok-search.ensures.numbers ∙ (λ i. found_in (way i) (number i) c.args.text.now (records_at (same i) body)) in
-    let enough = ap (asks_less c.args.expected) (sym (c.deref.ensures.0 ∙ numbers)) ∙ sym c.asks_less.ensures
+    let enough = ap (asks_less c.args.expected) (sym numbers) ∙ sym c.asks_less.ensures
     ∙ c.if-asks_less.false in
     let pointer : c.first_of.result ≡ pointer_found (pointer_from x c.args.target) all =
     c.first_of.ensures ∙ (λ i. pointer_found (c.pointer_at-pointer.ensures i) (numbers i)) in
     let y_is : c.pointing.result ≡ pointing_from x c.args.target e (pointer_found (pointer_from x c.args.target) all) =
     c.pointing.ensures ∙ ap (pointing_from x c.args.target e) pointer in
-    let given_is : c.hand.new.text.items ≡ given c.args.expected all =
-    c.hand.ensures.given ∙ ap (given c.args.expected) numbers in
+    let given_is : c.give.new.text.items ≡ given c.args.expected all =
+    c.give.ensures.given ∙ ap (given c.args.expected) numbers in
     let status : c.status_of.result ≡ search_status all = c.status_of.ensures ∙ ap search_status numbers in
     let current = current-is (committed old) sized c.requires.card x c.args.target _ e body found c.requires.current
     (pointer_found (pointer_from x c.args.target) all) in
     answered (search_record c.args.target c.args.first c.args.direction c.args.text.now c.args.expected) old x
-    c.search.new.store c.requires.card c.pointing.result c.hand.new.text.items c.status_of.result
+    c.search.new.store c.requires.card c.pointing.result c.give.new.text.items c.status_of.result
     (reads_then old c.find_records.new.store c.search.new.store c.find_records.ensures.store.only c.search.ensures.store.only)
     c.in_ok-search.ensures.store.ready
     (subst (λ (y : Current). IsCurrent (table_in old) y) (sym y_is) current)
-    c.hand.ensures.room
+    c.give.ensures.room
     (search-whole (committed old) sized c.requires.card x c.args.target _ e body found found.named.unrefused
     c.args.first c.args.direction c.args.text.now c.args.expected has enough
     ∙ (λ i. outcome (card_in old) (session_in old (sym y_is i)) (sym given_is i) (sym status i)))
 
-pub returns-in-Err-clause-space : goal.returns-in-Err-clause-space
-returns-in-Err-clause-space g c =
-    space-same c.args.store.now c.find_records.new.store c.find_records.ensures.store.only.keeps.committed_words
-
-pub returns-then-not-has_record-clause-space : goal.returns-then-not-has_record-clause-space
-returns-then-not-has_record-clause-space g c =
-    space-same c.args.store.now c.find_records.new.store c.find_records.ensures.store.only.keeps.committed_words
-
-pub returns-then-asks_less-clause-space : goal.returns-then-asks_less-clause-space
-returns-then-asks_less-clause-space g c =
-    space-same c.args.store.now c.search.new.store (c.search.ensures.store.only.keeps.committed_words
-    ∙ c.find_records.ensures.store.only.keeps.committed_words)
-
-pub returns-clause-space : goal.returns-clause-space
-returns-clause-space g c =
-    space-same c.args.store.now c.search.new.store (c.search.ensures.store.only.keeps.committed_words
-    ∙ c.find_records.ensures.store.only.keeps.committed_words)
-
-pub returns-in_err-file-clause-space : goal.returns-in_err-file-clause-space
-returns-in_err-file-clause-space g c = none-done _ _ _ c.from_residual.ensures.1
-
-pub returns-in_err-search-clause-space : goal.returns-in_err-search-clause-space
-returns-in_err-search-clause-space g c = none-done _ _ _ c.from_residual-in_err-search.ensures.1
-
-pub returns-in_err-file-clause-serves : goal.returns-in_err-file-clause-serves
-returns-in_err-file-clause-serves g c =
+pub returns-in_err-file : goal.returns-in_err-file
+returns-in_err-file g c =
     let none : length c.args.answer.now.items ≡ 0 = ap (λ (l : List ℕ). length l) c.requires.empty in
     handed (search_record c.args.target c.args.first c.args.direction c.args.text.now c.args.expected) c.args.store.now
     c.args.current.now c.find_records.new.store c.requires.card c.args.current.now c.args.answer.now.items _ _

@@ -1,4 +1,4 @@
-use Rattle.std.proofs.Common.{◌≡◌, ◌≤◌, ℕ, List, [], length, Option, None, Some, Result, Ok, IfSome, option_map, subst, sym, ◌∙◌, ap, arith}
+use Rattle.std.proofs.Common.{◌≡◌, ℕ, List, [], length, Option, Result, Ok, IfSome, option_map, subst, sym, ◌∙◌, ap, arith}
 use Rattle.undo_journal.specs.Memory.{committed}
 use Rattle.undo_journal.specs.laws.Calls.{reads_then}
 use Rattle.undo_journal.specs.declared.error.StoreErr.{StoreErr}
@@ -22,13 +22,8 @@ use Rattle.card_core.proofs.Stopping.{err-is}
 use Rattle.card_core.proofs.Told.{told-entry}
 use Rattle.card_core.proofs.select.select_file.Goals as goal
 
--- what is given is no longer than what was found
-given-short : (expected : Option ℕ) (found : List ℕ) → length found ≤ 256 → length (given expected found) ≤ 256
-given-short None found short = omega arith
-given-short (Some le) found short = short
-
-pub returns-in_err-e-clause-serves : goal.returns-in_err-e-clause-serves
-returns-in_err-e-clause-serves g c =
+pub returns-in_err-e : goal.returns-in_err-e
+returns-in_err-e g c =
     let old = c.args.store.now in
     let x = c.args.current.now in
     let request = select (selection_of c.args.selector) c.args.returned c.args.expected in
@@ -38,8 +33,8 @@ returns-in_err-e-clause-serves g c =
     (stopped request old x c.find_selected.new.store c.requires.card x c.args.text.now.items c.in_err-e.field-0.0
     c.find_selected.ensures.store.only c.in_err-e.ensures.store.tells (omega (arith, none)))
 
-pub returns-in_default-clause-serves : goal.returns-in_default-clause-serves
-returns-in_default-clause-serves g c =
+pub returns-in_default : goal.returns-in_default
+returns-in_default g c =
     let old = c.args.store.now in
     let x = c.args.current.now in
     let m = committed old in
@@ -52,8 +47,8 @@ returns-in_default-clause-serves g c =
     (select-missed (card_of m) s (selection_of c.args.selector) c.args.returned c.args.expected
     (c.in_ok-e.ensures.found ∙ ap (λ (o : Option ℕ). option_map (path_of t) o) c.in_default.is)))
 
-pub returns-in_err-entry-clause-serves : goal.returns-in_err-entry-clause-serves
-returns-in_err-entry-clause-serves g c =
+pub returns-in_err-entry : goal.returns-in_err-entry
+returns-in_err-entry g c =
     let old = c.args.store.now in
     let x = c.args.current.now in
     let request = select (selection_of c.args.selector) c.args.returned c.args.expected in
@@ -80,8 +75,8 @@ data_of-data-requires g c =
     c.find_selected.ensures.store.only.keeps.committed_words in
     subst IsToldEntry (sym entry) (told-entry m c.requires.ready.usable.committed_size c.requires.card e used)
 
-pub returns-then-asks_less-clause-serves : goal.returns-then-asks_less-clause-serves
-returns-then-asks_less-clause-serves g c =
+pub returns-then-asks_less : goal.returns-then-asks_less
+returns-then-asks_less g c =
     let old = c.args.store.now in
     let m = committed old in
     let t = table m in
@@ -97,11 +92,9 @@ returns-then-asks_less-clause-serves g c =
     c.in_ok-entry.ensures.entry ∙ ap (λ (l : List ℕ). entry_in (table l) e)
     c.find_selected.ensures.store.only.keeps.committed_words in
     let told : c.data_of-data.result.items ≡ data_in c.args.returned (entry_in t e) =
-    c.data_of-data.ensures.data ∙ ap (λ (y : Entry). data_in c.args.returned y) entry in
-    let tested = c.deref.ensures.0 ∙ told in
-    let named = c.deref-then-asks_less.ensures.0 ∙ told in
-    let less = ap (asks_less expected) (sym tested) ∙ sym c.asks_less.ensures ∙ c.if-asks_less.true in
-    let status = ap right_length (sym named) ∙ sym c.right_length.ensures in
+    c.data_of-data.ensures ∙ ap (λ (y : Entry). data_in c.args.returned y) entry in
+    let less = ap (asks_less expected) (sym told) ∙ sym c.asks_less.ensures ∙ c.if-asks_less.true in
+    let status = ap right_length (sym told) ∙ sym c.right_length.ensures in
     subst (λ (l : List ℕ). Serves request old x c.read_entry.new.store x l (Ok c.right_length.result)) (sym c.requires.empty)
     (declined request old x c.read_entry.new.store c.requires.card c.right_length.result reads c.in_ok-entry.ensures.store.ready
     c.requires.current
@@ -109,8 +102,8 @@ returns-then-asks_less-clause-serves g c =
     c.args.returned expected place less
     ∙ ap (λ (sw : Sw). outcome (card_of m) (session_of t x) [] sw) status))
 
-pub returns-clause-serves : goal.returns-clause-serves
-returns-clause-serves g c =
+pub returns : goal.returns
+returns g c =
     let old = c.args.store.now in
     let m = committed old in
     let t = table m in
@@ -126,22 +119,16 @@ returns-clause-serves g c =
     c.in_ok-entry.ensures.entry ∙ ap (λ (l : List ℕ). entry_in (table l) e)
     c.find_selected.ensures.store.only.keeps.committed_words in
     let told : c.data_of-data.result.items ≡ data_in c.args.returned (entry_in t e) =
-    c.data_of-data.ensures.data ∙ ap (λ (y : Entry). data_in c.args.returned y) entry in
-    let tested = c.deref.ensures.0 ∙ told in
-    let named = c.deref-2.ensures.0 ∙ told in
-    let enough = ap (asks_less expected) (sym tested) ∙ sym c.asks_less.ensures ∙ c.if-asks_less.false in
+    c.data_of-data.ensures ∙ ap (λ (y : Entry). data_in c.args.returned y) entry in
+    let enough = ap (asks_less expected) (sym told) ∙ sym c.asks_less.ensures ∙ c.if-asks_less.false in
     let at = c.at.ensures ∙ ap (λ (y : Entry). current_at x e y) entry in
     let current = sym at in
-    let text = sym (c.give.ensures ∙ ap (given expected) named) in
+    let text = sym (c.give.ensures.given ∙ ap (given expected) told) in
     let status = sym (c.status_of.ensures ∙ ap (λ (y : Entry). selection_status (life_of y)) entry) in
-    let short = c.data_of-data.ensures.short in
-    let size = ap (λ (l : List ℕ). length l) told in
-    let few : length (data_in c.args.returned (entry_in t e)) ≤ 256 = omega (arith, short, size) in
-    let room = given-short expected (data_in c.args.returned (entry_in t e)) few in
     answered request old x c.read_entry.new.store c.requires.card c.at.result c.give.new.text.items c.status_of.result
     reads c.in_ok-entry.ensures.store.ready
     (subst (λ (y : Current). IsCurrent t y) current (current-entry m c.requires.card e used x c.requires.current.marks))
-    (subst (λ (l : List ℕ). length l ≤ 256) text room)
+    c.give.ensures.room
     (select-entry m c.requires.card e used c.requires.ready.usable.committed_size x (selection_of c.args.selector)
     c.args.returned expected place enough
     ∙ (λ i. outcome (card_of m) (session_of t (current i)) (text i) (status i)))

@@ -1,23 +1,44 @@
-use Rattle.undo_journal.specs.Memory.{committed}
-use Rattle.card_core.proofs.RecordBodies.{decides-none, none-missing, ok-then}
-use Rattle.undo_journal.specs.declared.error.StoreErr.{StoreErr}
+use Rattle.std.proofs.Common.{◌≡◌, OnOk, sym, subst}
 use Rattle.undo_journal.specs.Calls.{Reads}
-use Rattle.std.proofs.Common.{Option, sym, subst}
+use Rattle.undo_journal.specs.Memory.{committed}
+use Rattle.ef_body.specs.Records.{record_of}
+use Rattle.card_core.specs.declared.record_body.RecordBody.{RecordBody}
+use Rattle.card_core.specs.Working.{records_at}
+use Rattle.card_core.proofs.RecordBodies.{decides-none, none-missing-of, ok-then}
 use Rattle.card_core.proofs.record_body.RecordBody.read.Goals as goal
 
 pub unrefused-requires : goal.unrefused-requires
 unrefused-requires g c =
-    decides-none _ _ (none-missing (committed c.args.store.now) c.args.self c.requires.body c.args.number c.requires.record)
-    c.try_read.ensures.refusal
+    decides-none _ _ (none-missing-of (committed c.args.store.now) c.args.self _ c.in-Linear.is c.requires.body
+    c.args.number c.requires.record) c.read.ensures.refusal
 
-pub returns-clause-bytes : goal.returns-clause-bytes
-returns-clause-bytes g c =
-    ok-then _ c.try_read.result c.unrefused.result
-    (decides-none _ _ (none-missing (committed c.args.store.now) c.args.self c.requires.body c.args.number c.requires.record)
-    c.try_read.ensures.refusal)
-    c.unrefused.ensures c.try_read.ensures.bytes
+pub returns-in-Linear-clause-bytes : goal.returns-in-Linear-clause-bytes
+returns-in-Linear-clause-bytes g c =
+    let m = committed c.args.store.now in
+    subst (λ (it : RecordBody). OnOk c.unrefused.result (c.read.new.bytes.items ≡ record_of (records_at m it) c.args.number))
+    (sym c.in-Linear.is)
+    (ok-then _ c.read.result c.unrefused.result
+    (decides-none _ _ (none-missing-of m c.args.self _ c.in-Linear.is c.requires.body c.args.number c.requires.record)
+    c.read.ensures.refusal) c.unrefused.ensures c.read.ensures.bytes)
 
-pub returns-clause-store : goal.returns-clause-store
-returns-clause-store g c =
-    subst (λ (told : Option StoreErr). Reads c.args.store.now c.try_read.new.store told) (sym c.unrefused.ensures)
-    c.try_read.ensures.store
+pub returns-in-Linear-clause-store : goal.returns-in-Linear-clause-store
+returns-in-Linear-clause-store g c =
+    subst (Reads c.args.store.now c.read.new.store) (sym c.unrefused.ensures) c.read.ensures.store
+
+pub unrefused-requires-in-Cyclic : goal.unrefused-requires-in-Cyclic
+unrefused-requires-in-Cyclic g c =
+    decides-none _ _ (none-missing-of (committed c.args.store.now) c.args.self _ c.in-Cyclic.is c.requires.body
+    c.args.number c.requires.record) c.read-in-Cyclic.ensures.refusal
+
+pub returns-in-Cyclic-clause-bytes : goal.returns-in-Cyclic-clause-bytes
+returns-in-Cyclic-clause-bytes g c =
+    let m = committed c.args.store.now in
+    subst (λ (it : RecordBody). OnOk c.unrefused-in-Cyclic.result (c.read-in-Cyclic.new.bytes.items ≡ record_of (records_at m it) c.args.number))
+    (sym c.in-Cyclic.is)
+    (ok-then _ c.read-in-Cyclic.result c.unrefused-in-Cyclic.result
+    (decides-none _ _ (none-missing-of m c.args.self _ c.in-Cyclic.is c.requires.body c.args.number c.requires.record)
+    c.read-in-Cyclic.ensures.refusal) c.unrefused-in-Cyclic.ensures c.read-in-Cyclic.ensures.bytes)
+
+pub returns-in-Cyclic-clause-store : goal.returns-in-Cyclic-clause-store
+returns-in-Cyclic-clause-store g c =
+    subst (Reads c.args.store.now c.read-in-Cyclic.new.store) (sym c.unrefused-in-Cyclic.ensures) c.read-in-Cyclic.ensures.store

@@ -1,23 +1,46 @@
-use Rattle.undo_journal.specs.Memory.{committed}
-use Rattle.card_core.proofs.RecordBodies.{decides-none, none-missing, ok-then}
-use Rattle.undo_journal.specs.declared.error.StoreErr.{StoreErr}
+use Rattle.std.proofs.Common.{◌≡◌, OnOk, sym, subst}
 use Rattle.undo_journal.specs.Calls.{Reads}
-use Rattle.std.proofs.Common.{Option, sym, subst}
+use Rattle.undo_journal.specs.Memory.{committed}
+use Rattle.ef_body.specs.Searching.{found}
+use Rattle.card_core.specs.declared.record_body.RecordBody.{RecordBody}
+use Rattle.card_core.specs.Working.{records_at}
+use Rattle.card_core.proofs.RecordBodies.{decides-none, none-missing-of, ok-then}
 use Rattle.card_core.proofs.record_body.RecordBody.search.Goals as goal
 
 pub unrefused-requires : goal.unrefused-requires
 unrefused-requires g c =
-    decides-none _ _ (none-missing (committed c.args.store.now) c.args.self c.requires.body c.args.first c.requires.record)
-    c.try_search.ensures.refusal
+    decides-none _ _ (none-missing-of (committed c.args.store.now) c.args.self _ c.in-Linear.is c.requires.body
+    c.args.first c.requires.record) c.search.ensures.refusal
 
-pub returns-clause-numbers : goal.returns-clause-numbers
-returns-clause-numbers g c =
-    ok-then _ c.try_search.result c.unrefused.result
-    (decides-none _ _ (none-missing (committed c.args.store.now) c.args.self c.requires.body c.args.first c.requires.record)
-    c.try_search.ensures.refusal)
-    c.unrefused.ensures c.try_search.ensures.numbers
+pub returns-in-Linear-clause-numbers : goal.returns-in-Linear-clause-numbers
+returns-in-Linear-clause-numbers g c =
+    let m = committed c.args.store.now in
+    subst (λ (it : RecordBody). OnOk c.unrefused.result (c.search.new.numbers.items ≡ found c.args.direction c.args.first
+    c.args.text.now (records_at m it)))
+    (sym c.in-Linear.is)
+    (ok-then _ c.search.result c.unrefused.result
+    (decides-none _ _ (none-missing-of m c.args.self _ c.in-Linear.is c.requires.body c.args.first c.requires.record)
+    c.search.ensures.refusal) c.unrefused.ensures c.search.ensures.numbers)
 
-pub returns-clause-store : goal.returns-clause-store
-returns-clause-store g c =
-    subst (λ (told : Option StoreErr). Reads c.args.store.now c.try_search.new.store told) (sym c.unrefused.ensures)
-    c.try_search.ensures.store
+pub returns-in-Linear-clause-store : goal.returns-in-Linear-clause-store
+returns-in-Linear-clause-store g c =
+    subst (Reads c.args.store.now c.search.new.store) (sym c.unrefused.ensures) c.search.ensures.store
+
+pub unrefused-requires-in-Cyclic : goal.unrefused-requires-in-Cyclic
+unrefused-requires-in-Cyclic g c =
+    decides-none _ _ (none-missing-of (committed c.args.store.now) c.args.self _ c.in-Cyclic.is c.requires.body
+    c.args.first c.requires.record) c.search-in-Cyclic.ensures.refusal
+
+pub returns-in-Cyclic-clause-numbers : goal.returns-in-Cyclic-clause-numbers
+returns-in-Cyclic-clause-numbers g c =
+    let m = committed c.args.store.now in
+    subst (λ (it : RecordBody). OnOk c.unrefused-in-Cyclic.result (c.search-in-Cyclic.new.numbers.items ≡ found c.args.direction c.args.first
+    c.args.text.now (records_at m it)))
+    (sym c.in-Cyclic.is)
+    (ok-then _ c.search-in-Cyclic.result c.unrefused-in-Cyclic.result
+    (decides-none _ _ (none-missing-of m c.args.self _ c.in-Cyclic.is c.requires.body c.args.first c.requires.record)
+    c.search-in-Cyclic.ensures.refusal) c.unrefused-in-Cyclic.ensures c.search-in-Cyclic.ensures.numbers)
+
+pub returns-in-Cyclic-clause-store : goal.returns-in-Cyclic-clause-store
+returns-in-Cyclic-clause-store g c =
+    subst (Reads c.args.store.now c.search-in-Cyclic.new.store) (sym c.unrefused-in-Cyclic.ensures) c.search-in-Cyclic.ensures.store
