@@ -1,5 +1,5 @@
-use Rattle.std.proofs.Common.{arith}
-use Rattle.apdu_core.specs.laws.Identifiers.{identifier_stands}
+use Rattle.std.proofs.Common.{arith, rules}
+use Rattle.apdu_core.specs.laws.Identifiers.{identifier_at, identifier_stands}
 use Rattle.apdu_core.proofs.path.FilePath.identifier.Goals as goal
 
 pub overflow_mul-first : goal.overflow_mul-first
@@ -21,3 +21,6 @@ overflow_add-first c =
 
 pub bounds-self-first-2 : goal.bounds-self-first-2
 bounds-self-first-2 c = identifier_stands c.args.self.bytes.now c.args.index c.requires
+
+pub returns : goal.returns
+returns c = search (rules, identifier_at)

@@ -1,0 +1,5 @@
+use Rattle.std.proofs.Common.{rules}
+use Rattle.fcp_template.proofs.reading.is_filled.Goals as goal
+
+pub returns-then-contains : goal.returns-then-contains
+returns-then-contains c = search rules
