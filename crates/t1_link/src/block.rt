@@ -1,10 +1,10 @@
 //! Blocks, and their bytes (ISO/IEC 7816-3, 11.3).
 
-ghost use Rattle.std.specs.Prelude.{◌≡◌, ◌≤◌, ◌++◌, [], length, IfOk};
+ghost use Rattle.std.specs.Prelude.{◌≡◌, ◌≤◌, ◌+◌, ◌++◌, [], false, length, slice_index, Ok};
 ghost use Rattle.std.specs.Option.{ok_or};
 ghost use Rattle.arrayvec.specs.ArrayVec.{array_vec_len};
-ghost use Rattle.t1_link.specs.Blocks.{IsSpellable, at_byte, bare, control_byte, exclusive_or, field_of, frame, heard};
-ghost use Rattle.t1_link.specs.Blocks.{kinds, size_told, told_as};
+ghost use Rattle.t1_link.specs.Blocks.{at_byte, bare, control_byte, error_code, exclusive_or, field_of, frame};
+ghost use Rattle.t1_link.specs.Blocks.{has_wrong_length, heard, information, kinds, receive_ready, size_told, told_as};
 ghost use Rattle.t1_link.specs.Garbled.{last_bit_turned};
 ghost use Rattle.t1_link.specs.Spoken.{block_of, spoken};
 
@@ -41,12 +41,17 @@ const INFORMATION_1: u8 = INFORMATION_0 | NUMBER_SENT;
 
 const INFORMATION_1_MORE: u8 = INFORMATION_1 | MORE;
 
+// Bits of an R-block's control byte that tell the kind of error.
+const REDUNDANCY: u8 = 0x01;
+
+const OTHER: u8 = 0x02;
+
 // The control bytes of R-blocks, by number and kind of error.
 const READY_0: u8 = 0x80;
 
-const READY_0_REDUNDANCY: u8 = 0x81;
+const READY_0_REDUNDANCY: u8 = READY_0 | REDUNDANCY;
 
-const READY_0_OTHER: u8 = 0x82;
+const READY_0_OTHER: u8 = READY_0 | OTHER;
 
 const READY_1: u8 = READY_0 | NUMBER_EXPECTED;
 
@@ -133,6 +138,20 @@ pub enum ErrorKind {
     OtherError,
 }
 
+impl ErrorKind {
+    /// The bits of a control byte that tell it.
+    fn code(self) -> u8
+        ensures value { result ≡ error_code self }
+        ensures low { result ≤ OTHER }
+    {
+        match self {
+            ErrorKind::ErrorFree => 0,
+            ErrorKind::RedundancyError => REDUNDANCY,
+            ErrorKind::OtherError => OTHER,
+        }
+    }
+}
+
 /// Why bytes are no block.
 #[derive(Clone, Copy)]
 pub enum Fault {
@@ -178,14 +197,9 @@ impl<'a> Block<'a> {
     /// The block that these bytes are, or what is wrong with them.
     #[tactic(auto, unfolding(crate::specs::Blocks::heard))]
     pub(crate) fn parse(bytes: &'a [u8]) -> Result<Block<'a>, Fault>
-        ensures heard { spoken result ≡ heard bytes.now }
-        ensures spellable { IfOk result (λ b. IsSpellable (block_of b)) }
+        ensures { spoken result ≡ heard bytes.now }
     {
-        if bytes.len() < OVERHEAD {
-            return Err(Fault::WrongLength);
-        }
-        let len = usize::from(bytes[2]);
-        if len > FIELD_LIMIT || bytes.len() != len + OVERHEAD {
+        if has_wrong_length(bytes) {
             return Err(Fault::WrongLength);
         }
         if exclusive_or(bytes) != 0 {
@@ -194,36 +208,34 @@ impl<'a> Block<'a> {
         if bytes[0] != NODE_ADDRESS {
             return Err(Fault::UnknownBlock);
         }
-        Block::of_kind(bytes[1], &bytes[3..3 + len])
+        Block::of_kind(bytes[1], &bytes[3..3 + usize::from(bytes[2])])
     }
 
     /// The block that a control byte makes of an information field.
     fn of_kind(control: u8, field: &'a [u8]) -> Result<Block<'a>, Fault>
-        requires { length field.now ≤ 254 }
-        ensures kind { spoken result ≡ ok_or (at_byte control (kinds field.now)) Fault.UnknownBlock }
-        ensures spellable { IfOk result (λ b. IsSpellable (block_of b)) }
+        ensures { spoken result ≡ ok_or (at_byte control (kinds field.now)) Fault.UnknownBlock }
     {
-        let information = |number, more| Ok(Block::Information {
-            number,
-            more,
-            field,
-        });
-        let ready = |number, error| bare(field, Block::ReceiveReady { number, error });
         match control {
-            INFORMATION_0 => information(SequenceNumber::Zero, false),
-            INFORMATION_0_MORE => information(SequenceNumber::Zero, true),
-            INFORMATION_1 => information(SequenceNumber::One, false),
-            INFORMATION_1_MORE => information(SequenceNumber::One, true),
-            READY_0 => ready(SequenceNumber::Zero, ErrorKind::ErrorFree),
-            READY_0_REDUNDANCY => ready(SequenceNumber::Zero, ErrorKind::RedundancyError),
-            READY_0_OTHER => ready(SequenceNumber::Zero, ErrorKind::OtherError),
-            READY_1 => ready(SequenceNumber::One, ErrorKind::ErrorFree),
-            READY_1_REDUNDANCY => ready(SequenceNumber::One, ErrorKind::RedundancyError),
-            READY_1_OTHER => ready(SequenceNumber::One, ErrorKind::OtherError),
+            INFORMATION_0 => information(SequenceNumber::Zero, false, field),
+            INFORMATION_0_MORE => information(SequenceNumber::Zero, true, field),
+            INFORMATION_1 => information(SequenceNumber::One, false, field),
+            INFORMATION_1_MORE => information(SequenceNumber::One, true, field),
+            READY_0 => ready(SequenceNumber::Zero, ErrorKind::ErrorFree, field),
+            READY_0_REDUNDANCY => ready(SequenceNumber::Zero, ErrorKind::RedundancyError, field),
+            READY_0_OTHER => ready(SequenceNumber::Zero, ErrorKind::OtherError, field),
+            READY_1 => ready(SequenceNumber::One, ErrorKind::ErrorFree, field),
+            READY_1_REDUNDANCY => ready(SequenceNumber::One, ErrorKind::RedundancyError, field),
+            READY_1_OTHER => ready(SequenceNumber::One, ErrorKind::OtherError, field),
             RESYNCH_REQUEST => bare(field, Block::ResynchRequest),
             RESYNCH_RESPONSE => bare(field, Block::ResynchResponse),
-            IFS_REQUEST => Ok(Block::IfsRequest(size_told(field)?)),
-            IFS_RESPONSE => Ok(Block::IfsResponse(size_told(field)?)),
+            IFS_REQUEST => match size_told(field) {
+                Some(size) => Ok(Block::IfsRequest(size)),
+                None => Err(Fault::UnknownBlock),
+            },
+            IFS_RESPONSE => match size_told(field) {
+                Some(size) => Ok(Block::IfsResponse(size)),
+                None => Err(Fault::UnknownBlock),
+            },
             _ => Err(Fault::UnknownBlock),
         }
     }
@@ -251,12 +263,7 @@ impl<'a> Block<'a> {
                 INFORMATION_0 + number.at_bit(NUMBER_SENT) + (if more { MORE } else { 0 })
             }
             Block::ReceiveReady { number, error } => {
-                let ready = match error {
-                    ErrorKind::ErrorFree => READY_0,
-                    ErrorKind::RedundancyError => READY_0_REDUNDANCY,
-                    ErrorKind::OtherError => READY_0_OTHER,
-                };
-                ready + number.at_bit(NUMBER_EXPECTED)
+                READY_0 + number.at_bit(NUMBER_EXPECTED) + error.code()
             }
             Block::ResynchRequest => RESYNCH_REQUEST,
             Block::ResynchResponse => RESYNCH_RESPONSE,
@@ -291,10 +298,39 @@ impl<'a> Block<'a> {
     }
 }
 
+/// Whether bytes are fewer than 4, or have a length byte FF or one that tells another length.
+fn has_wrong_length(bytes: &[u8]) -> bool
+    ensures wrong { result ≡ has_wrong_length bytes.now }
+    ensures right { result ≡ false → length bytes.now ≡ slice_index bytes.now 2 + 4 }
+{
+    if bytes.len() < OVERHEAD {
+        return true;
+    }
+    let size = usize::from(bytes[2]);
+    size > FIELD_LIMIT || bytes.len() != size + OVERHEAD
+}
+
+/// An I-block.
+fn information(number: SequenceNumber, more: bool, field: &[u8]) -> Result<Block<'_>, Fault>
+    ensures { spoken result ≡ Ok (information number more field.now) }
+{
+    Ok(Block::Information {
+        number,
+        more,
+        field,
+    })
+}
+
+/// An R-block, which has no information field.
+fn ready<'a>(number: SequenceNumber, error: ErrorKind, field: &[u8]) -> Result<Block<'a>, Fault>
+    ensures { spoken result ≡ ok_or (bare field.now (receive_ready number error)) Fault.UnknownBlock }
+{
+    bare(field, Block::ReceiveReady { number, error })
+}
+
 /// A block of a kind that has no information field.
 fn bare<'a>(field: &[u8], block: Block<'a>) -> Result<Block<'a>, Fault>
-    ensures kind { spoken result ≡ ok_or (bare field.now (block_of block.entry)) Fault.UnknownBlock }
-    ensures same { IfOk result (λ b. block_of b ≡ block_of block.entry) }
+    ensures { spoken result ≡ ok_or (bare field.now (block_of block.entry)) Fault.UnknownBlock }
 {
     if field.is_empty() {
         Ok(block)
@@ -304,13 +340,12 @@ fn bare<'a>(field: &[u8], block: Block<'a>) -> Result<Block<'a>, Fault>
 }
 
 /// The information field size that the field of an S-block tells.
-fn size_told(field: &[u8]) -> Result<u8, Fault>
-    ensures size { result ≡ ok_or (size_told field.now) Fault.UnknownBlock }
-    ensures range { IfOk result (λ size. (1 ≤ size) × (size ≤ 254)) }
+fn size_told(field: &[u8]) -> Option<u8>
+    ensures { result ≡ size_told field.now }
 {
     match field {
-        [size] if (1..=254).contains(size) => Ok(*size),
-        _ => Err(Fault::UnknownBlock),
+        [size] if (1..=254).contains(size) => Some(*size),
+        _ => None,
     }
 }
 

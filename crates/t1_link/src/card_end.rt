@@ -1,9 +1,10 @@
 //! The card's end of T=1.
 
-ghost use Rattle.std.specs.Prelude.{◌≡◌, ◌≤◌, ◌++◌, None, IsSome, IsTrue, ◌↔◌, Some, length, take, Ok};
+ghost use Rattle.std.specs.Prelude.{◌≡◌, ◌≤◌, ◌++◌, ◌&&◌, not, None, IsSome, IsTrue, ◌↔◌, Some, length, take, Ok};
 ghost use Rattle.t1_link.specs.Blocks.{IsSpellable, frame, receive_ready};
 ghost use Rattle.t1_link.specs.CardTable.{CardLink, link_step, action_of, after, answers, reply_bytes, card_takes, fresh};
-ghost use Rattle.t1_link.specs.CardTable.{sending, sent_block, takes_information, takes_receive_ready};
+ghost use Rattle.t1_link.specs.CardTable.{sending, sent_block, sent_more, takes_information, takes_receive_ready};
+ghost use Rattle.t1_link.specs.SequenceNumbers.{same};
 ghost use Rattle.t1_link.specs.Spoken.{block_of};
 
 use crate::block::{Block, BlockBytes, ErrorKind};
@@ -165,7 +166,7 @@ impl CardEnd {
         ensures action { result ≡ action_of (takes_information self.old.link number more field.now).reaction }
         ensures block { out.new ≡ reply_bytes (takes_information self.old.link number more field.now).reaction }
     {
-        if self.answer.has_more() || number != self.expected {
+        if !self.expects(number) {
             return self.receive_ready(ErrorKind::OtherError, out);
         }
         keep(&mut self.command, field);
@@ -176,6 +177,13 @@ impl CardEnd {
         self.waits = true;
         out.clear();
         Action::Run
+    }
+
+    /// Whether an I-block with this number is the next one of a command: no answer is on its way.
+    fn expects(&self, number: SequenceNumber) -> bool
+        ensures { result ≡ (not (sent_more self.now.link) && same number self.now.link.nr) }
+    {
+        !self.answer.has_more() && number == self.expected
     }
 
     /// An R-block came.

@@ -1,6 +1,7 @@
 //! The reader's end of T=1.
 
-ghost use Rattle.std.specs.Prelude.{◌≡◌, ◌≢◌, ◌≤◌, ◌++◌, ◌<◌, ◌↔◌, IsTrue, length, Ok};
+ghost use Rattle.std.specs.Prelude.{◌≡◌, ◌≢◌, ◌≤◌, ◌++◌, ◌<◌, ◌↔◌, ◌+◌, ◌&&◌, IsTrue, if◌then◌else◌, length};
+ghost use Rattle.std.specs.Prelude.{nat_lt, not, Ok};
 ghost use Rattle.t1_link.specs.Blocks.{field_of};
 ghost use Rattle.t1_link.specs.ReaderTable.{reader_step, advancing, asking, failing, fresh_reader, last_block};
 ghost use Rattle.t1_link.specs.ReaderTable.{reader_sends, reader_times_out};
@@ -158,11 +159,10 @@ impl ReaderEnd {
         // The command stays in hand exactly where a block is to be sent.
         ensures busy { IsSend result ↔ (self.new.phase ≡ Phase.Busy) }
     {
-        if self.resynchs == 0 {
-            self.ask(ErrorKind::OtherError)
-        } else {
-            self.request_again()
+        if self.resynchs > 0 {
+            return self.request_again();
         }
+        self.ask(ErrorKind::OtherError)
     }
 
     /// What follows from a block while the answer is awaited.
@@ -228,8 +228,8 @@ impl ReaderEnd {
         ensures state { self.new ≡ (turns_answer self.old more (self.old.answer ++ field.now)).reader }
         ensures next { result ≡ next_of (turns_answer self.old more (self.old.answer ++ field.now)).outcome }
     {
-        let is_short = !more && self.answer.len() + field.len() < SHORTEST_ANSWER;
-        if is_short || self.answer.remaining_capacity() < field.len() {
+        let size = self.answer.len() + field.len();
+        if is_too_short(size, more) || size > self.answer.capacity() {
             return self.fail(Failure::BadAnswer);
         }
         self.answer.try_extend_from_slice(field).unwrap();
@@ -275,8 +275,7 @@ impl ReaderEnd {
         ensures state { self.new ≡ (trying self.old (last_block self.old)).reader }
         ensures next { result ≡ next_of (trying self.old (last_block self.old)).outcome }
     {
-        if self.tries < TRIES {
-            self.tries += 1;
+        if self.counts_try() {
             self.last_block()
         } else {
             self.request()
@@ -289,14 +288,26 @@ impl ReaderEnd {
         ensures state { self.new ≡ (asking self.old error).reader }
         ensures next { result ≡ next_of (asking self.old error).outcome }
     {
-        if self.tries < TRIES {
-            self.tries += 1;
+        if self.counts_try() {
             sent(Block::ReceiveReady {
                 number: self.expected,
                 error,
             })
         } else {
             self.request()
+        }
+    }
+
+    /// Counts a try, if one is left.
+    fn counts_try(&mut self) -> bool
+        ensures left { result ≡ nat_lt self.old.tries 3 }
+        ensures state { self.new ≡ (if result then record self.old { tries = self.old.tries + 1 } else self.old) }
+    {
+        if self.tries < TRIES {
+            self.tries += 1;
+            true
+        } else {
+            false
         }
     }
 
@@ -330,6 +341,13 @@ impl ReaderEnd {
         self.phase = Phase::Dead;
         Next::Failed(failure)
     }
+}
+
+/// Whether an answer ends with fewer bytes than it must have.
+fn is_too_short(size: usize, more: bool) -> bool
+    ensures { result ≡ (not more && nat_lt size 2) }
+{
+    !more && size < SHORTEST_ANSWER
 }
 
 /// A block that is to be sent.

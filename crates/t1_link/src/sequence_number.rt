@@ -1,6 +1,6 @@
 //! Sequence numbers N(S) and N(R) (ISO/IEC 7816-3, 11.3.2.2).
 
-ghost use Rattle.std.specs.Prelude.{◌≡◌};
+ghost use Rattle.std.specs.Prelude.{◌≡◌, ◌≤◌};
 ghost use Rattle.t1_link.specs.SequenceNumbers.{at_bit, other_number};
 
 /// The number of an I-block, N(S), or of the I-block that is expected, N(R): both are counted modulo 2.
@@ -23,7 +23,8 @@ impl SequenceNumber {
 
     /// What it adds to a control byte in which this is its bit.
     pub(crate) fn at_bit(self, bit: u8) -> u8
-        ensures { result ≡ at_bit bit self }
+        ensures value { result ≡ at_bit bit self }
+        ensures low { result ≤ bit }
     {
         match self {
             SequenceNumber::Zero => 0,
