@@ -1,10 +1,10 @@
 //! What a line of a script asks for.
-ghost use Rattle.std.specs.Prelude.{◌≡◌, ◌≤◌, length, true, IfSome};
+ghost use Rattle.std.specs.Prelude.{◌≡◌, ◌≤◌, length, true};
 ghost use Rattle.std.specs.List.{list_all};
 ghost use Rattle.std.specs.Str.Parse.{digits_value};
 ghost use Rattle.std.specs.Char.{is_ascii_digit};
 ghost use Rattle.hex.specs.Hex.{decode_of};
-ghost use Rattle.card_bench.specs.Orders.{IsSized, bytes_in, cut_in, mask_by, number_in};
+ghost use Rattle.card_bench.specs.Orders.{bytes_in, cut_in, mask_by, number_in};
 
 use arrayvec::ArrayVec;
 
@@ -47,13 +47,12 @@ pub(crate) enum Order {
 }
 
 impl Order {
-    ghost use Rattle.card_bench.specs.Orders.{order_of, IsSized};
+    ghost use Rattle.card_bench.specs.Orders.{order_of};
 
     /// What a line asks for, if it is a line of a script.
     #[tactic(auto, unfolding(crate::specs::Orders::order_of))]
     pub fn parse(line: &[u8]) -> Option<Order>
-        ensures order { result ≡ order_of line.now }
-        ensures sized { IfSome result IsSized }
+        ensures { result ≡ order_of line.now }
     {
         if line.len() > LINE_LIMIT {
             None
@@ -66,15 +65,15 @@ impl Order {
         } else if line == b"free".as_slice() {
             Some(Order::Free)
         } else if let Some(digits) = line.strip_prefix(b"apdu ") {
-            Some(Order::Apdu(bytes_in(digits, COMMAND_LIMIT)?))
+            bytes_in(digits, COMMAND_LIMIT).map(Order::Apdu)
         } else if let Some(digits) = line.strip_prefix(b"block ") {
-            Some(Order::Block(bytes_in(digits, BLOCK_LIMIT)?))
+            bytes_in(digits, BLOCK_LIMIT).map(Order::Block)
         } else if let Some(words) = line.strip_prefix(b"cut ") {
             cut_of(words)
         } else if let Some(digits) = line.strip_prefix(b"lose ") {
-            Some(Order::Lose(number_of(digits)?))
+            number_of(digits).map(Order::Lose)
         } else if let Some(digits) = line.strip_prefix(b"garble ") {
-            Some(Order::Garble(number_of(digits)?))
+            number_of(digits).map(Order::Garble)
         } else {
             None
         }
@@ -84,23 +83,23 @@ impl Order {
 /// The bytes that hexadecimal digits spell, where they are 1 to `limit`.
 fn bytes_in(digits: &[u8], limit: usize) -> Option<GivenBytes>
     requires { limit ≤ BLOCK_LIMIT }
-    ensures bytes { result ≡ bytes_in digits.now limit }
-    ensures sized { IfSome result (λ bytes. (1 ≤ length bytes.items) × (length bytes.items ≤ limit)) }
+    ensures { result ≡ bytes_in digits.now limit }
 {
     let size = digits.len() / 2;
-    if !(1..=limit).contains(&size) {
+    if size == 0 || size > limit {
         return None;
     }
     let mut bytes = GivenBytes::from([0; BLOCK_LIMIT]);
     bytes.truncate(size);
-    hex::decode_to_slice(digits, &mut bytes).ok()?;
-    Some(bytes)
+    match hex::decode_to_slice(digits, &mut bytes) {
+        Ok(()) => Some(bytes),
+        Err(_) => None,
+    }
 }
 
 /// The number that decimal digits spell, where they are 1 to 6 and it is at least 1.
 fn number_of(digits: &[u8]) -> Option<u32>
-    ensures number { result ≡ number_in digits.now }
-    ensures sized { IfSome result (λ number. (1 ≤ number) × (number ≤ 999999)) }
+    ensures { result ≡ number_in digits.now }
 {
     if digits.is_empty() || digits.len() > NUMBER_DIGITS || !are_decimal(digits) {
         return None;
@@ -111,15 +110,18 @@ fn number_of(digits: &[u8]) -> Option<u32>
 
 /// A cut: a number, a space, and four hexadecimal digits.
 fn cut_of(words: &[u8]) -> Option<Order>
-    ensures cut { result ≡ cut_in words.now }
-    ensures sized { IfSome result IsSized }
+    ensures { result ≡ cut_in words.now }
 {
     let [number @ .., b' ', first, second, third, fourth] = words else {
         return None;
     };
-    let number = number_of(number)?;
-    let mask = mask_of(&[*first, *second, *third, *fourth])?;
-    Some(Order::Cut { number, mask })
+    match (
+        number_of(number),
+        mask_of(&[*first, *second, *third, *fourth]),
+    ) {
+        (Some(number), Some(mask)) => Some(Order::Cut { number, mask }),
+        _ => None,
+    }
 }
 
 /// The number that four hexadecimal digits spell.
@@ -127,8 +129,10 @@ fn mask_of(digits: &[u8; 4]) -> Option<u16>
     ensures { result ≡ mask_by (decode_of digits.now) }
 {
     let mut bytes = [0; 2];
-    hex::decode_to_slice(digits, &mut bytes).ok()?;
-    Some(u16::from_be_bytes(bytes))
+    match hex::decode_to_slice(digits, &mut bytes) {
+        Ok(()) => Some(u16::from_be_bytes(bytes)),
+        Err(_) => None,
+    }
 }
 
 /// Whether each of these is a decimal digit.

@@ -287,9 +287,9 @@ impl<B: Socket> Power<B> {
         ensures kept { IsKept result.0 }
     {
         let mut board = self.into_dark_board();
-        if board.light().is_err() {
+        let Ok(()) = board.light() else {
             return (Power::Off(board), PowerOn::Mute);
-        }
+        };
         match Powered::start(board) {
             Ok(powered) => (Power::On(powered), PowerOn::Started),
             Err((mut board, fault)) => {

@@ -1,10 +1,11 @@
 //! A script, run from its first line to its last.
-ghost use Rattle.std.specs.Prelude.{◌≡◌, Err, IfSome, IfErr, OnOk};
+ghost use Rattle.std.specs.Prelude.{◌≡◌, ◌≢◌, Err, IfSome, IfErr, OnOk};
 ghost use Rattle.nvm_board.specs.Cut.{cut_facts};
 ghost use Rattle.nvm_board.specs.Facts.{new_board};
 ghost use Rattle.card_core.specs.Factory.{factory_card};
 ghost use Rattle.card_core.specs.Finding.{Finds};
 ghost use Rattle.card_bench.specs.Endings.{IsRunToEnd, RunStopsBy};
+ghost use Rattle.card_bench.specs.Prints.{IsFirstDesk};
 
 use crate::desk::Desk;
 use crate::fault::RunFault;
@@ -39,6 +40,22 @@ pub fn run<R: BufRead, W: Write>(
         return Err(RunFault::Memory);
     };
     let mut desk = Desk::new(factory_board(board));
+    run_lines(&mut desk, reader, writer)
+}
+
+/// Runs a script's lines on the first desk.
+fn run_lines<R: BufRead, W: Write>(
+    desk: &mut Desk<CutBoard>,
+    reader: &mut R,
+    writer: &mut W,
+) -> Result<(), RunFault>
+    requires { IsFirstDesk (record { bench = desk.old.bench; reader = desk.old.reader; line = desk.old.line }) }
+    ensures done { OnOk result (IfSome (R.remaining reader.old)
+        (λ script. IsRunToEnd script (W.contents writer.old) (W.contents writer.new))) }
+    ensures stopped { IfErr result (λ fault.
+        RunStopsBy fault (R.remaining reader.old) (W.contents writer.old) (W.contents writer.new)) }
+    ensures memory { result ≢ Err RunFault.Memory }
+{
     let mut line = LineBytes::new();
     let mut text = PrintedText::new();
     let mut taken = 0;

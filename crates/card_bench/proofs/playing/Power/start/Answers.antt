@@ -1,6 +1,4 @@
-use Rattle.std.specs.Prelude.{◌≡◌, false}
-use Rattle.std.proofs.Common.{rules, subst, sym}
-use Rattle.nvm_board.specs.Facts.{IsWornOut}
+use Rattle.std.proofs.Common.{refl, subst, sym}
 use Rattle.card_bench.proofs.PowerTurns.{starts, stays_mute, ends_dark, ends_mute}
 use Rattle.card_bench.specs.declared.playing.PowerOn.{PowerOn}
 use Rattle.card_bench.specs.declared.playing.Turn.TheVariants.{On}
@@ -10,20 +8,18 @@ use Rattle.card_bench.specs.Plays.{Plays, powered_item}
 use Rattle.card_bench.proofs.playing.Power.start.Goals as goal
 use Rattle.card_bench.proofs.playing.Power.start.Goals.{in-PowerLost, in-Fault}
 
-pub returns-in-Ok-clause-plays : goal.returns-in-Ok-clause-plays
-returns-in-Ok-clause-plays g c =
+pub returns-in-Ok-start-clause-plays : goal.returns-in-Ok-start-clause-plays
+returns-in-Ok-start-clause-plays g c =
     let dark = g.B.Board.facts c.into_dark_board-board.result in
     let lit = g.B.Board.facts c.light.new.self in
-    let lights : lit ≡ record dark { dark = false } = search rules in
-    starts (power_state g.B.Board.facts c.args.self) dark c.into_dark_board-board.ensures lit lights c.in-Ok.powered
-    c.in-Ok.ensures.started.0 c.in-Ok.ensures.started.1 c.in-Ok.ensures.found
+    starts (power_state g.B.Board.facts c.args.self) dark c.into_dark_board-board.ensures lit c.in-Ok.ensures.lit
+    c.in-Ok-start.powered c.in-Ok-start.ensures.started.0 c.in-Ok-start.ensures.started.1 c.in-Ok-start.ensures.found
 
-pub returns-then-is_err-clause-plays : goal.returns-then-is_err-clause-plays
-returns-then-is_err-clause-plays g c =
+pub returns-in_default-clause-plays : goal.returns-in_default-clause-plays
+returns-in_default-clause-plays g c =
     let dark = g.B.Board.facts c.into_dark_board-board.result in
-    let same : g.B.Board.facts c.light.new.self ≡ dark = search rules in
-    let worn : IsWornOut dark = search rules in
-    stays_mute (power_state g.B.Board.facts c.args.self) dark c.into_dark_board-board.ensures (g.B.Board.facts c.light.new.self) worn same
+    stays_mute (power_state g.B.Board.facts c.args.self) dark c.into_dark_board-board.ensures (g.B.Board.facts c.light.new.self)
+    (c.in_default.ensures.worn.0 refl) c.in_default.ensures.same
 
 pub returns-after-fault-clause-plays : goal.returns-after-fault-clause-plays
 returns-after-fault-clause-plays g c =
@@ -32,7 +28,7 @@ returns-after-fault-clause-plays g c =
     let lit = g.B.Board.facts c.light.new.self in
     let stopped = g.B.Board.facts c.in-Err.board in
     let new = g.B.Board.facts c.power_off.new.self in
-    let lights : lit ≡ record dark { dark = false } = search rules in
+    let lights = c.in-Ok.ensures.lit in
     elim c.match-fault.branch [
       | in-PowerLost w ↦
           subst (λ (p : PowerOn). Plays old On (powered_item p) (off new)) (sym w.power_on-is)

@@ -2,7 +2,7 @@ use Rattle.std.proofs.Common.{◌≤◌, ◌-◌}
 use Rattle.card_bench.specs.Plays.{IsGood}
 use Rattle.card_bench.specs.declared.reading.TheConstants.{SCRIPT_LIMIT}
 use Rattle.card_bench.proofs.ScriptLines.{HasRun}
-use Rattle.card_bench.proofs.script.run.Given as goal
+use Rattle.card_bench.proofs.script.run_lines.Given as goal
 
 abbrev pub invariant-loop-number : goal.invariant-loop-number
 invariant-loop-number g l = record {

@@ -1,0 +1,98 @@
+use Rattle.std.proofs.Common.{◌≡◌, ◌+◌, ◌-◌, ℕ, List, Some, None, IfSome, Err, take, subst, sym, ◌∙◌, ap, arith}
+use Rattle.std.specs.Io.KnownBytes.{Appends}
+use Rattle.card_bench.specs.Endings.{IsRunToLine}
+use Rattle.card_bench.specs.Orders.{order_of}
+use Rattle.card_bench.specs.Printouts.{print_of, text_of}
+use Rattle.card_bench.specs.Scripts.{TakesLine}
+use Rattle.card_bench.proofs.ScriptLines.{begins_run, goes_on, is_done, is_bad, is_too_long, is_unread, is_unwritten, HasRun}
+use Rattle.card_bench.proofs.SizedOrders.{order_of-sized}
+use Rattle.card_bench.proofs.script.run_lines.Goals as goal
+
+pub returns-in-Err-TooLong-clause-stopped : goal.returns-in-Err-TooLong-clause-stopped
+returns-in-Err-TooLong-clause-stopped g c =
+    let script = g.R.Read.remaining c.args.reader.now in
+    let number : (c.loop-number.number - 1) + 1 ≡ c.loop-number.number = omega arith in
+    let held = g.W.Write.contents c.args.writer.now in
+    let holds = g.W.Write.contents c.loop-number.writer in
+    subst (λ (n : ℕ). IfSome script (λ bytes. IsRunToLine n bytes held holds)) number
+    (is_too_long script _ _ (c.loop-number.number - 1) _ _ _ held holds
+    c.loop-number.invariant.so_far (c.in-Err-TooLong.ensures.too_long (ap Err c.in-Err-TooLong.field-0-is)) c.read_line.ensures.taken)
+
+pub returns-in-Err-Read-clause-stopped : goal.returns-in-Err-Read-clause-stopped
+returns-in-Err-Read-clause-stopped g c = is_unread _ _ _ _ _ _ _ c.loop-number.invariant.so_far
+
+pub returns-clause-stopped : goal.returns-clause-stopped
+returns-clause-stopped g c = is_unread _ _ _ _ _ _ _ c.loop-number.invariant.so_far
+
+pub returns-in_default-clause-stopped : goal.returns-in_default-clause-stopped
+returns-in_default-clause-stopped g c =
+    let script = g.R.Read.remaining c.args.reader.now in
+    let number : (c.loop-number.number - 1) + 1 ≡ c.loop-number.number = omega arith in
+    let bad : order_of c.read_line.new.line.items ≡ None = ap order_of (sym c.deref.ensures.0) ∙ sym c.in_default.ensures in
+    let held = g.W.Write.contents c.args.writer.now in
+    let holds = g.W.Write.contents c.loop-number.writer in
+    subst (λ (n : ℕ). IfSome script (λ bytes. IsRunToLine n bytes held holds)) number
+    (is_bad script _ _ (c.loop-number.number - 1) _ _ c.read_line.new.line.items c.in-Ok.end _ held holds
+    c.loop-number.invariant.so_far c.in-Ok.ensures.line c.in-Ok.ensures.counted c.read_line.ensures.taken bad)
+
+pub returns-in_default-print-clause-stopped : goal.returns-in_default-print-clause-stopped
+returns-in_default-print-clause-stopped g c =
+    let good : order_of c.read_line.new.line.items ≡ Some c.in-Some.order = ap order_of (sym c.deref.ensures.0) ∙ sym c.in-Some.ensures in
+    let printed = c.perform-printed.result in
+    let before = g.W.Write.contents c.loop-number.writer in
+    let after = g.W.Write.contents c.print.new.writer in
+    let bytes = c.perform-printed.new.self.bytes.items in
+    let began : (size : ℕ) × Appends before after (take size (text_of (print_of printed bytes))) =
+    subst (λ (l : List ℕ). (size : ℕ) × Appends before after (take size (text_of (print_of printed l))))
+    c.bytes.ensures.bytes c.in_default-print.ensures.began in
+    is_unwritten _ _ _ _ _ _ _ c.in-Ok.end _ _ _ _ _ _ _ c.loop-number.invariant.so_far c.in-Ok.ensures.line
+    c.in-Ok.ensures.counted good c.perform-printed.ensures.performs began
+
+pub perform-printed-requires-clause-sized : goal.perform-printed-requires-clause-sized
+perform-printed-requires-clause-sized g c =
+    let good : order_of c.read_line.new.line.items ≡ Some c.in-Some.order = ap order_of (sym c.deref.ensures.0) ∙ sym c.in-Some.ensures in
+    order_of-sized _ _ good
+
+pub returns-in-EndOfScript-clause-done : goal.returns-in-EndOfScript-clause-done
+returns-in-EndOfScript-clause-done g c =
+    let good : order_of c.read_line.new.line.items ≡ Some c.in-Some.order = ap order_of (sym c.deref.ensures.0) ∙ sym c.in-Some.ensures in
+    let old = g.R.Read.remaining c.loop-number.reader in
+    let new = g.R.Read.remaining c.read_line.new.reader in
+    let printed = c.perform-printed.result in
+    let before = g.W.Write.contents c.loop-number.writer in
+    let after = g.W.Write.contents c.print.new.writer in
+    let bytes = c.perform-printed.new.self.bytes.items in
+    let wrote : Appends before after (text_of (print_of printed bytes)) =
+    subst (λ (l : List ℕ). Appends before after (text_of (print_of printed l))) c.bytes.ensures.bytes c.in-Ok-print.ensures.wrote in
+    is_done _ old new _ _ _ _ _ _ _ _ _ _ _ c.loop-number.invariant.so_far
+    (subst (TakesLine old new c.read_line.new.line.items) c.in-EndOfScript.is c.in-Ok.ensures.line)
+    c.in-Ok.ensures.counted c.read_line.ensures.taken good c.perform-printed.ensures.performs wrote
+
+pub loop-number-init : goal.loop-number-init
+loop-number-init g c =
+    record { taken = omega arith; good = c.requires.good; so_far = begins_run _ _ _ c.requires }
+
+pub loop-number-preserved : goal.loop-number-preserved
+loop-number-preserved g c =
+    let good : order_of c.read_line.new.line.items ≡ Some c.in-Some.order = ap order_of (sym c.deref.ensures.0) ∙ sym c.in-Some.ensures in
+    let first = g.R.Read.remaining c.args.reader.now in
+    let old = g.R.Read.remaining c.loop-number.reader in
+    let new = g.R.Read.remaining c.read_line.new.reader in
+    let number : (c.loop-number.number - 1) + 1 ≡ c.loop-number.number + 1 - 1 = omega arith in
+    let printed = c.perform-printed.result in
+    let before = g.W.Write.contents c.loop-number.writer in
+    let after = g.W.Write.contents c.print.new.writer in
+    let bytes = c.perform-printed.new.self.bytes.items in
+    let wrote : Appends before after (text_of (print_of printed bytes)) =
+    subst (λ (l : List ℕ). Appends before after (text_of (print_of printed l))) c.bytes.ensures.bytes c.in-Ok-print.ensures.wrote in
+    let held = g.W.Write.contents c.args.writer.now in
+    let desk = c.perform-printed.new.self in
+    record {
+      taken = c.read_line.ensures.taken;
+      good = c.perform-printed.ensures.good;
+      so_far = subst (λ (n : ℕ). HasRun first new n c.read_line.new.taken
+          (record { bench = desk.bench; reader = desk.reader; line = desk.line }) held after) number
+          (goes_on first old new _ _ _ _ _ _ _ _ _ _ _ c.loop-number.invariant.so_far
+          (subst (TakesLine old new c.read_line.new.line.items) c.in-LineFeed.is c.in-Ok.ensures.line)
+          c.in-Ok.ensures.counted good c.perform-printed.ensures.performs wrote);
+    }
