@@ -1,6 +1,6 @@
 //! The access mode byte of a rule, and what its bits stand for.
 
-ghost use Rattle.std.specs.Prelude.{⊤, ℕ, ◌≡◌, ◌-◌, ◌==◌, [], ◌∷◌, codes, count_ones, nat_lt, option_map, Some, None};
+ghost use Rattle.std.specs.Prelude.{⊤, ◌≡◌, ◌-◌, [], ◌∷◌, codes, count_ones, nat_lt, option_map, Some, None};
 ghost use Rattle.std.specs.Prelude.{if◌then◌else◌};
 ghost use Rattle.card_rules.specs.Access.{bit_number, flag_of, is_set, set_down_to, mode_byte};
 

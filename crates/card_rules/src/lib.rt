@@ -3,13 +3,15 @@
 
 mod access_mode;
 mod compact;
+pub mod identifiers;
 pub mod laws;
 mod life_cycle;
+pub mod limits;
 mod pins;
 mod status;
 
 pub use access_mode::{AccessBit, AccessMode};
 pub use compact::Compact;
 pub use life_cycle::{LifeCycle, LifeCycleCommand};
-pub use pins::{PinNumber, Verified};
+pub use pins::{PINS, PinNumber, Verified};
 pub use status::Sw;

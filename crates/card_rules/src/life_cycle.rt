@@ -4,12 +4,17 @@ ghost use Rattle.std.specs.Prelude.{◌≡◌, Some};
 ghost use Rattle.card_rules.specs.LifeCycle.{life_cycle_at, life_cycle_byte, state_after};
 
 /// The life cycle status of a file (ISO/IEC 7816-4, 7.4.10).
-#[derive(Clone, Copy, PartialEq, Eq)]
+#[derive(Clone, Copy)]
 pub enum LifeCycle {
+    /// The file is being made, and no access rule is asked yet.
     Creation,
+    /// The file is being filled, and no access rule is asked yet.
     Initialisation,
+    /// The file is out of use until it is activated again.
     Deactivated,
+    /// The file is in use.
     Activated,
+    /// The file is out of use for good.
     Terminated,
 }
 

@@ -1,9 +1,13 @@
 //! PIN numbers, and the set of PINs that are verified.
 
-ghost use Rattle.std.specs.Prelude.{◌≡◌, ◌≤◌, ◌<◌, ◌-◌, ◌↔◌, IsSome, IfSome, List, Bool, length};
+ghost use Rattle.std.specs.Prelude.{◌≡◌, ◌<◌, ◌-◌, ◌↔◌, IsSome, IfSome, List, Bool};
 ghost use Rattle.card_rules.specs.Pins.{IsPinNumber, no_pins, has_pin, with_pin, without_pin};
+ghost use Rattle.card_rules.specs.declared.pins.TheConstants.{PINS};
 
 use std::marker::Model;
+
+/// How many PINs a card has. Their numbers are 1 to this one.
+pub const PINS: u8 = 8;
 
 /// The number of a PIN, 1 to 8.
 #[derive(Clone, Copy)]
@@ -30,7 +34,7 @@ impl PinNumber {
         ensures valid { IsSome result ↔ IsPinNumber number }
         ensures value { IfSome result (λ pin. pin ≡ number) }
     {
-        if (1..=8).contains(&number) {
+        if (1..=PINS).contains(&number) {
             Some(PinNumber { number })
         } else {
             None
@@ -48,16 +52,16 @@ impl PinNumber {
     /// The place of the PIN in a list of all PINs.
     fn index(self) -> usize
         ensures value { result ≡ self - 1 }
-        ensures in_range { result < 8 }
+        ensures in_range { result < PINS }
     {
         usize::from(self.get() - 1)
     }
 }
 
 /// The set of PINs that were verified in a session (ISO/IEC 7816-4, 11.5: the security status).
-#[derive(Clone, Copy, PartialEq, Eq)]
+#[derive(Clone, Copy)]
 pub struct Verified {
-    marks: [bool; 8],
+    marks: [bool; PINS as usize],
 }
 
 impl Model for Verified {
@@ -73,7 +77,9 @@ impl Verified {
     pub const fn new() -> Verified
         ensures { result ≡ no_pins }
     {
-        Verified { marks: [false; 8] }
+        Verified {
+            marks: [false; PINS as usize],
+        }
     }
 
     /// Whether the PIN is in the set.

@@ -3,6 +3,36 @@
 ghost use Rattle.std.specs.Prelude.{◌≡◌};
 ghost use Rattle.fcp_template.specs.Table.{plain_descriptor, structure_of, record_descriptor, descriptor_of};
 
+/// The bit of a descriptor byte that says that a file is shareable. CREATE FILE may set it or not; an answer sets it.
+const SHAREABLE: u8 = 0x40;
+
+/// The descriptor byte of a DF.
+pub(crate) const DF: u8 = 0x38;
+
+/// The descriptor byte of a transparent EF.
+const TRANSPARENT: u8 = 0x01;
+
+/// The descriptor byte of a linear EF.
+const LINEAR: u8 = 0x02;
+
+/// The descriptor byte of a cyclic EF.
+const CYCLIC: u8 = 0x06;
+
+/// The descriptor byte of a DF that is shareable.
+pub(crate) const SHAREABLE_DF: u8 = DF | SHAREABLE;
+
+/// The descriptor byte of a transparent EF that is shareable.
+pub(crate) const SHAREABLE_TRANSPARENT: u8 = TRANSPARENT | SHAREABLE;
+
+/// The descriptor byte of a linear EF that is shareable.
+pub(crate) const SHAREABLE_LINEAR: u8 = LINEAR | SHAREABLE;
+
+/// The descriptor byte of a cyclic EF that is shareable.
+pub(crate) const SHAREABLE_CYCLIC: u8 = CYCLIC | SHAREABLE;
+
+/// The data coding byte that follows the descriptor byte in an answer. Of one that is read nothing is taken.
+pub(crate) const DATA_CODING: u8 = 0x21;
+
 /// In which order the records of an elementary file are.
 #[derive(Clone, Copy)]
 pub(crate) enum Structure {
@@ -47,8 +77,8 @@ impl Descriptor {
         ensures { result ≡ plain_descriptor byte }
     {
         match byte {
-            0x38 | 0x78 => Some(Descriptor::Df),
-            0x01 | 0x41 => Some(Descriptor::Transparent),
+            DF | SHAREABLE_DF => Some(Descriptor::Df),
+            TRANSPARENT | SHAREABLE_TRANSPARENT => Some(Descriptor::Transparent),
             _ => None,
         }
     }
@@ -72,8 +102,8 @@ impl Structure {
         ensures { result ≡ structure_of byte }
     {
         match byte {
-            0x02 | 0x42 => Some(Structure::Linear),
-            0x06 | 0x46 => Some(Structure::Cyclic),
+            LINEAR | SHAREABLE_LINEAR => Some(Structure::Linear),
+            CYCLIC | SHAREABLE_CYCLIC => Some(Structure::Cyclic),
             _ => None,
         }
     }

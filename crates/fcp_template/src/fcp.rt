@@ -2,6 +2,7 @@
 
 ghost use Rattle.std.specs.Prelude.{◌≡◌, ◌≤◌, length, Some, None, nat_le, ◌&&◌, if◌then◌else◌};
 
+use card_rules::limits::MOST_NAME_BYTES;
 use card_rules::{Compact, LifeCycle};
 use std::marker::Model;
 
@@ -118,7 +119,7 @@ impl<'a> DfName<'a> {
         ensures { result ≡ (if nat_le 1 (length bytes.now) && nat_le (length bytes.now) 16 then Some bytes.now else
             None) }
     {
-        if (1..=16).contains(&bytes.len()) {
+        if (1..=MOST_NAME_BYTES).contains(&bytes.len()) {
             Some(DfName { bytes })
         } else {
             None

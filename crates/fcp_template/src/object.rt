@@ -1,8 +1,9 @@
 //! Data objects, and the templates that they make.
 
-ghost use Rattle.std.specs.Prelude.{◌≡◌, ℕ, List, [], ◌∷◌, ◌++◌, ◌≤◌, length, IfSome, IfNone};
+ghost use Rattle.std.specs.Prelude.{◌≡◌, ℕ, List, [], ◌++◌, ◌≤◌, length, IfSome, IfNone};
 ghost use Rattle.fcp_template.specs.DataObjects.{DataObject, object_text, objects_text, IsTemplate};
 
+use crate::tag::TEMPLATE;
 use arrayvec::ArrayVec;
 use std::marker::Model;
 
@@ -37,6 +38,7 @@ impl<'a> Object<'a> {
     }
 }
 
+// `ArrayVec` fills the places behind its last item with the default.
 impl Default for Object<'_> {
     ghost is_default = { λ o. o ≡ record { tag = 0; value = [] } };
 
@@ -45,20 +47,27 @@ impl Default for Object<'_> {
     }
 }
 
-/// The objects of a template; as a template has at most 127 bytes of them, they are at most 63.
-pub(crate) type Objects<'a> = ArrayVec<Object<'a>, 63>;
+/// The most bytes of a template's objects: as many as a length byte without bit 8 tells.
+pub(crate) const BODY_LIMIT: usize = 127;
+
+/// The most objects of a template, since each has two bytes or more.
+const MOST_OBJECTS: usize = BODY_LIMIT / 2;
+
+/// The objects of a template.
+pub(crate) type Objects<'a> = ArrayVec<Object<'a>, MOST_OBJECTS>;
 
 /// The objects of a text, where it is a template.
 pub(crate) fn objects_of(text: &[u8]) -> Option<Objects<'_>>
     ensures template { IfSome result (λ os. IsTemplate text.now os.items) }
     ensures none { IfNone result ((os : List DataObject) → IsTemplate text.now os → ⊥) }
 {
-    match text {
-        [0x62, length, body @ ..] if *length <= 0x7F && body.len() == *length as usize => {
-            split(body)
-        }
-        _ => None,
+    let [TEMPLATE, length, body @ ..] = text else {
+        return None;
+    };
+    if body.len() != *length as usize || body.len() > BODY_LIMIT {
+        return None;
     }
+    split(body)
 }
 
 /// The objects that fill the bytes exactly.

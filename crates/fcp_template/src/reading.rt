@@ -13,14 +13,21 @@ ghost use Rattle.fcp_template.specs.Function.{fcp_read};
 ghost use Rattle.fcp_template.specs.Ranges.{IsShort, IsSize, IsName, IsRecords, IsKind, IsCreatable};
 ghost use Rattle.card_rules.specs.declared.life_cycle.LifeCycle.TheVariants.{Terminated};
 
-use crate::descriptor::{Descriptor, Structure};
+use crate::descriptor::{DF, Descriptor, SHAREABLE_DF, Structure};
 use crate::fault::FcpFault;
 use crate::fcp::{DfName, Fcp, FileKind, Records, ShortIdentifier};
 use crate::object::{Object, objects_of};
 use crate::tag::Tag;
+use card_rules::identifiers::{CURRENT_FILE, MASTER_FILE, RESERVED};
+use card_rules::limits::{MOST_BYTES, MOST_RECORD_BYTES, MOST_RECORDS, MOST_SHORT};
 use card_rules::{Compact, LifeCycle};
 
-/// The file control parameters that a text spells, its objects in any order, or the least fault that it has.
+/// The file control parameters that a text spells, its objects in any order.
+///
+/// # Errors
+///
+/// The least fault that the text has: `Shape` where it is no template, `Missing` where an object that must be there
+/// isn't, `Twice` where a tag of the table comes again, and `Value` where a tag, a length or a value isn't of the table.
 pub fn parse(text: &[u8]) -> Result<Fcp<'_>, FcpFault>
     ensures reads { FcpReads text.now result }
 
@@ -81,7 +88,7 @@ fn value_at<'a>(objects: &[Object<'a>], tag: Tag) -> Option<&'a [u8]>
 fn is_df_descriptor(object: &Object<'_>) -> bool
     ensures { result ≡ is_df_descriptor object.now }
 {
-    object.tag() == Tag::FileDescriptor.byte() && matches!(object.value(), [0x38 | 0x78, ..])
+    object.tag() == Tag::FileDescriptor.byte() && matches!(object.value(), [DF | SHAREABLE_DF, ..])
 }
 
 /// Whether an object is the file descriptor of a DF.
@@ -263,7 +270,7 @@ fn identifier_of(value: &[u8]) -> Option<u16>
 {
     match *value {
         [high, low] => match u16::from_be_bytes([high, low]) {
-            0x3F00 | 0x3FFF | 0xFFFF => None,
+            MASTER_FILE | CURRENT_FILE | RESERVED => None,
             identifier => Some(identifier),
         },
         _ => None,
@@ -291,7 +298,7 @@ fn short_of(value: Option<&[u8]>) -> Option<ShortIdentifier>
         Some([]) => Some(ShortIdentifier::Empty),
         Some([byte]) => {
             let number = *byte / 8;
-            if *byte % 8 == 0 && (1..=30).contains(&number) {
+            if *byte % 8 == 0 && (1..=MOST_SHORT).contains(&number) {
                 Some(ShortIdentifier::Given(number))
             } else {
                 None
@@ -325,8 +332,8 @@ fn size_of(number: Option<u32>) -> Option<u16>
     ensures value { result ≡ size_of number }
     ensures ranges { IfSome result IsSize }
 {
-    match number {
-        Some(number @ 1..=32767) => Some(number as u16),
+    match u16::try_from(number?) {
+        Ok(size @ 1..=MOST_BYTES) => Some(size),
         _ => None,
     }
 }
@@ -360,14 +367,14 @@ fn records_of(record_length: u16, existing: Option<u8>, size: u16) -> Option<Rec
 fn is_filled(size: u16, record_length: u16) -> bool
     ensures { result ≡ (nat_le 1 record_length && nat_le record_length 255 && (size % record_length == 0)) }
 {
-    (1..=255).contains(&record_length) && size % record_length == 0
+    (1..=MOST_RECORD_BYTES).contains(&record_length) && size % record_length == 0
 }
 
 /// Whether so many records can exist in a file with room for `capacity`, 1 to 254.
 fn can_exist(number: u16, capacity: u16) -> bool
     ensures { result ≡ (nat_le 1 capacity && nat_le capacity 254 && nat_le number capacity) }
 {
-    (1..=254).contains(&capacity) && number <= capacity
+    (1..=MOST_RECORDS).contains(&capacity) && number <= capacity
 }
 
 /// The life cycle status in object 8A; a file without it is activated.

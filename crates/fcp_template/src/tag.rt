@@ -3,6 +3,9 @@
 ghost use Rattle.std.specs.Prelude.{◌≡◌, Some, None, option_map, if◌then◌else◌};
 ghost use Rattle.fcp_template.specs.Table.{tag_byte, is_tag};
 
+/// The tag of a template of file control parameters (ISO/IEC 7816-4, 7.4.3).
+pub(crate) const TEMPLATE: u8 = 0x62;
+
 /// The tags of file control parameters (ISO/IEC 7816-4, 7.4.3).
 #[derive(Clone, Copy)]
 pub(crate) enum Tag {

@@ -7,22 +7,27 @@ ghost use Rattle.fcp_template.specs.Ranges.{IsKind, IsShort};
 ghost use Rattle.fcp_template.specs.Spelling.{IsInFull, data_object, two_bytes, short_value, descriptor_value};
 ghost use Rattle.fcp_template.specs.Spelling.{kind_objects, fcp_objects, fcp_text};
 
+use crate::descriptor::{
+    DATA_CODING, SHAREABLE_CYCLIC, SHAREABLE_DF, SHAREABLE_LINEAR, SHAREABLE_TRANSPARENT,
+};
 use crate::fcp::{Fcp, FileKind, Records, ShortIdentifier};
-use crate::tag::Tag;
+use crate::object::BODY_LIMIT;
+use crate::tag::{TEMPLATE, Tag};
 use arrayvec::ArrayVec;
+use card_rules::limits::MOST_ANSWER_DATA;
 
-/// The objects of a template, which has at most 127 bytes of them.
-type Body = ArrayVec<u8, 127>;
+/// The bytes of a template's objects.
+type Body = ArrayVec<u8, BODY_LIMIT>;
 
 /// Writes the one spelling of file control parameters in an answer into an empty buffer.
-pub fn write(fcp: &Fcp<'_>, out: &mut ArrayVec<u8, 256>)
+pub fn write(fcp: &Fcp<'_>, out: &mut ArrayVec<u8, MOST_ANSWER_DATA>)
     requires empty { out.old.items ≡ [] }
     requires full { IsInFull fcp.now }
     ensures { out.new.items ≡ fcp_text fcp.now }
 {
     let mut body = Body::new();
     put_objects(fcp, &mut body);
-    out.push(0x62);
+    out.push(TEMPLATE);
     out.push(body.len() as u8);
     out.try_extend_from_slice(&body).unwrap();
 }
@@ -47,10 +52,14 @@ fn put_descriptor(kind: &FileKind<'_>, body: &mut Body)
     ensures room { length body.new.items ≤ length body.old.items + 7 }
 {
     match kind {
-        FileKind::Df { .. } => put(body, Tag::FileDescriptor, &[0x78, 0x21]),
-        FileKind::Transparent { .. } => put(body, Tag::FileDescriptor, &[0x41, 0x21]),
-        FileKind::Linear { records, .. } => put_record_descriptor(0x42, records, body),
-        FileKind::Cyclic { records, .. } => put_record_descriptor(0x46, records, body),
+        FileKind::Df { .. } => put(body, Tag::FileDescriptor, &[SHAREABLE_DF, DATA_CODING]),
+        FileKind::Transparent { .. } => put(
+            body,
+            Tag::FileDescriptor,
+            &[SHAREABLE_TRANSPARENT, DATA_CODING],
+        ),
+        FileKind::Linear { records, .. } => put_record_descriptor(SHAREABLE_LINEAR, records, body),
+        FileKind::Cyclic { records, .. } => put_record_descriptor(SHAREABLE_CYCLIC, records, body),
     }
 }
 
@@ -64,7 +73,7 @@ fn put_record_descriptor(byte: u8, records: &Records, body: &mut Body)
     put(
         body,
         Tag::FileDescriptor,
-        &[byte, 0x21, high, low, records.existing],
+        &[byte, DATA_CODING, high, low, records.existing],
     );
 }
 

@@ -1,0 +1,19 @@
+//! Limits of files (ISO/IEC 7816-4, 7.4.1 and 7.4.3), and of answers (5.1).
+
+/// The most bytes of a file.
+pub const MOST_BYTES: u16 = 32_767;
+
+/// The most bytes of a record.
+pub const MOST_RECORD_BYTES: u16 = 255;
+
+/// The most records of a file.
+pub const MOST_RECORDS: u16 = 254;
+
+/// The highest short identifier of a file.
+pub const MOST_SHORT: u8 = 30;
+
+/// The most bytes of the name of a dedicated file.
+pub const MOST_NAME_BYTES: usize = 16;
+
+/// The most bytes of data in an answer: as many as Le, a byte, can ask for.
+pub const MOST_ANSWER_DATA: usize = 256;
