@@ -8,17 +8,16 @@ ghost use Rattle.undo_journal.specs.Memory.{committed, current, room, IsOpen, Is
 ghost use Rattle.undo_journal.specs.Calls.{Changes, ReadsIn, SetsIn};
 ghost use Rattle.block_chain.specs.Chains.{free_chain, bytes_of, IsChain, chain_of, HasFree};
 ghost use Rattle.block_chain.specs.Changes.{OnlyContent, Overwrites};
-ghost use Rattle.block_chain.specs.Parts.{filled_word, byte_over, PutsWord};
+ghost use Rattle.block_chain.specs.Parts.{byte_over, PutsWord};
 ghost use Rattle.block_chain.specs.Words.{link, word_bytes, IsBlock};
 ghost use Rattle.nvm_board.specs.Facts.{address};
 ghost use Rattle.nvm_board.specs.declared.board.TheConstants.{PAGES};
 ghost use Rattle.nvm_board.specs.Torn.{Torn, written};
 ghost use Rattle.undo_journal.specs.Lent.{memory_of};
-ghost use Rattle.undo_journal.specs.Undo.{IsDataAddress};
 
 use crate::chain::Chain;
 use crate::layout::{BLOCK_BYTES, BLOCK_WORDS, WORD_BYTES};
-use crate::words::{next, put, read_head, read_link, walk};
+use crate::words::{next, read_head, read_link, walk};
 use undo_journal::{Board, PAGE_WORDS, Store, StoreErr, Txn};
 
 /// A word whose first byte is that at `at`, with bytes from an offset on put in place of its own.
@@ -64,19 +63,9 @@ fn put_word<B: Board>(
     ensures store { SetsIn 1 txn.old txn.new (result_err result) }
 {
     let at = PAGE_WORDS * page + 1 + k % BLOCK_WORDS;
-    let word = content(txn, at)?;
+    let word = txn.read(at)?;
     let new = overwritten_word(word, WORD_BYTES * k, offset, bytes);
-    put(txn, at, new)
-}
-
-/// A word, within a transaction.
-fn content<B: Board>(txn: &mut Txn<'_, B>, at: u16) -> Result<u32, StoreErr>
-    requires ready { IsOpen (memory_of txn.old) }
-    requires place { IsDataAddress (current (memory_of txn.old)) at }
-    ensures word { IfOk result (λ word. word ≡ slice_index (current (memory_of txn.old)) at) }
-    ensures store { ReadsIn txn.old txn.new (result_err result) }
-{
-    txn.read(at)
+    txn.set(at, new)
 }
 
 /// The block that holds word k of a chain, by the block of the word before it: where a block ends between them, the

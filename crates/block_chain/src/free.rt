@@ -10,7 +10,7 @@ ghost use Rattle.block_chain.specs.Parts.{IsFirstFree, first_of, joined};
 
 use crate::chain::Chain;
 use crate::layout::FREE_HEAD;
-use crate::words::{head, next, put, read_head, read_link, walk};
+use crate::words::{head, next, read_head, read_link, walk};
 use undo_journal::{Board, PAGE_WORDS, Store, StoreErr, Txn};
 
 /// How many blocks are free: one device read a free block.
@@ -61,8 +61,8 @@ pub fn take<B: Board>(txn: &mut Txn<'_, B>, n: u16) -> Result<Chain, StoreErr>
     ensures store { SetsIn 2 txn.old txn.new (result_err result) }
 {
     let (chain, rest) = first_free(txn, n)?;
-    put(txn, PAGE_WORDS * chain.last, 0)?;
-    put(txn, FREE_HEAD, u32::from(rest))?;
+    txn.set(PAGE_WORDS * chain.last, 0)?;
+    txn.set(FREE_HEAD, u32::from(rest))?;
     Ok(chain)
 }
 
@@ -84,7 +84,7 @@ pub fn give_back<B: Board>(txn: &mut Txn<'_, B>, chains: &[Chain]) -> Result<(),
         return Ok(());
     }
     let page = join(txn, chains)?;
-    put(txn, FREE_HEAD, u32::from(page))
+    txn.set(FREE_HEAD, u32::from(page))
 }
 
 /// Joins chains to the free one. The answer is the first block of all, or 0.
@@ -102,7 +102,7 @@ fn join<B: Board>(txn: &mut Txn<'_, B>, chains: &[Chain]) -> Result<u16, StoreEr
     while left > 0 {
         left -= 1;
         let chain = chains[left];
-        put(txn, PAGE_WORDS * chain.last, u32::from(page))?;
+        txn.set(PAGE_WORDS * chain.last, u32::from(page))?;
         page = chain.first;
     }
     Ok(page)

@@ -1,14 +1,14 @@
 //! The check of the layout: a walk over each chain that marks its blocks.
-ghost use Rattle.std.specs.Prelude.{◌≡◌, ◌+◌, ◌-◌, ◌≤◌, ◌↔◌, length, IfOk, IsTrue, IfSome, Some, None};
-ghost use Rattle.std.specs.Prelude.{slice_index, slice_set, if◌then◌else◌};
+ghost use Rattle.std.specs.Prelude.{◌≡◌, ◌+◌, ◌-◌, ◌↔◌, IfOk, IsTrue, IfSome, Some, None};
+ghost use Rattle.std.specs.Prelude.{slice_set};
 ghost use Rattle.std.specs.Result.{result_err};
 ghost use Rattle.nvm_board.specs.declared.board.TheConstants.{PAGES};
 ghost use Rattle.undo_journal.specs.Memory.{committed, IsReady};
 ghost use Rattle.undo_journal.specs.Calls.{Reads};
-ghost use Rattle.block_chain.specs.Chains.{chain, free_chain};
+ghost use Rattle.block_chain.specs.Chains.{chain};
 ghost use Rattle.block_chain.specs.Layout.{TellsFree};
 ghost use Rattle.block_chain.specs.Parts.{marked, AreMarks, IsFresh, IsWalked};
-ghost use Rattle.block_chain.specs.Words.{link, IsBlock};
+ghost use Rattle.block_chain.specs.Words.{IsBlock};
 ghost use Rattle.block_chain.specs.declared.layout.TheConstants.{FIRST_BLOCK_PAGE};
 
 use crate::chain::Extent;
@@ -28,7 +28,7 @@ fn mark(page: u32, seen: &mut [u8; BLOCKS as usize]) -> bool
     ensures new { IsTrue result ↔ (IsBlock page × (marked seen.old page ≡ 0)) }
     ensures marks { IsTrue result → seen.new ≡ slice_set seen.old (page - FIRST_BLOCK_PAGE) 1 }
 {
-    if page < u32::from(FIRST_BLOCK_PAGE) || page >= u32::from(PAGES) {
+    if !(u32::from(FIRST_BLOCK_PAGE)..u32::from(PAGES)).contains(&page) {
         return false;
     }
     let place = (page - u32::from(FIRST_BLOCK_PAGE)) as usize;

@@ -1,14 +1,13 @@
 //! Links of blocks, read from a store or within a transaction.
-ghost use Rattle.std.specs.Prelude.{◌≡◌, ◌+◌, ◌*◌, ◌<◌, length, IfOk, OnOk, slice_index, slice_set};
+ghost use Rattle.std.specs.Prelude.{◌≡◌, ◌*◌, ◌<◌, length, IfOk, slice_index};
 ghost use Rattle.std.specs.Result.{result_err};
 ghost use Rattle.nvm_board.specs.declared.board.TheConstants.{PAGES};
-ghost use Rattle.undo_journal.specs.Memory.{committed, current, room, IsReady, IsOpen};
+ghost use Rattle.undo_journal.specs.Memory.{committed, current, IsReady, IsOpen};
 ghost use Rattle.undo_journal.specs.Lent.{memory_of};
-ghost use Rattle.undo_journal.specs.Calls.{Reads, ReadsIn, SetsIn};
+ghost use Rattle.undo_journal.specs.Calls.{Reads, ReadsIn};
 ghost use Rattle.block_chain.specs.Chains.{Leads, chain};
 ghost use Rattle.block_chain.specs.Words.{link, IsBlock};
 ghost use Rattle.block_chain.specs.declared.layout.TheConstants.{FREE_HEAD};
-ghost use Rattle.undo_journal.specs.Undo.{IsDataAddress};
 
 use crate::layout::FREE_HEAD;
 use undo_journal::{Board, PAGE_WORDS, Store, StoreErr, Txn};
@@ -72,15 +71,4 @@ pub(crate) fn walk<B: Board>(txn: &mut Txn<'_, B>, first: u16, k: u16) -> Result
         page = next(txn, page)?;
     }
     Ok(page)
-}
-
-/// One set of a transaction.
-pub(crate) fn put<B: Board>(txn: &mut Txn<'_, B>, at: u16, word: u32) -> Result<(), StoreErr>
-    requires ready { IsOpen (memory_of txn.old) }
-    requires room { 0 < room (memory_of txn.old) }
-    requires place { IsDataAddress (current (memory_of txn.old)) at }
-    ensures done { OnOk result (current (memory_of txn.new) ≡ slice_set (current (memory_of txn.old)) at word) }
-    ensures store { SetsIn 1 txn.old txn.new (result_err result) }
-{
-    txn.set(at, word)
 }

@@ -14,7 +14,7 @@ ghost use Rattle.ef_body.specs.Refusals.{IfRefused, failure};
 ghost use Rattle.ef_body.specs.Bodies.{cyclic_records, IsCyclic};
 ghost use Rattle.ef_body.specs.Changes.{CyclicBecomes, Increases};
 
-use crate::error::{BodyErr, unrefused};
+use crate::error::{BodyErr, from_store};
 use crate::number::add;
 use crate::reading::read_record;
 use crate::search::{Direction, search_records};
@@ -72,7 +72,7 @@ impl Cyclic {
         if !self.has_record(number) {
             return Err(BodyErr::Refused(Sw::RECORD_NOT_FOUND));
         }
-        unrefused(read_record(self, store, number, bytes))
+        from_store(read_record(self, store, number, bytes))
     }
 
     /// Puts a record in front and drops the oldest one, in one transaction: the number of records stays (UPDATE
@@ -96,7 +96,7 @@ impl Cyclic {
         if !self.has_record(1) {
             return Err(BodyErr::Refused(Sw::RECORD_NOT_FOUND));
         }
-        unrefused(put_front(self, store, bytes, self.records))
+        from_store(put_front(self, store, bytes, self.records))
     }
 
     /// Adds a record in front, in one transaction: where there is room for no more, the oldest one is dropped (APPEND
@@ -116,7 +116,7 @@ impl Cyclic {
         ensures refusal { Decides None (result_err result) }
         ensures store { Changes RECORD_WRITES store.old store.new (failure (result_err result)) }
     {
-        unrefused(put_front(self, store, bytes, self.appended()))
+        from_store(put_front(self, store, bytes, self.appended()))
     }
 
     /// How many records there are with one more: as many as there is room for at most.
@@ -190,7 +190,7 @@ impl Cyclic {
         ensures store { Changes RECORD_WRITES store.old store.new (failure (result_err result)) }
     {
         self.sum(store, sent, bytes)?;
-        unrefused(put_front(self, store, bytes, self.records))
+        from_store(put_front(self, store, bytes, self.records))
     }
 
     /// Puts the numbers of the records that hold the text into the buffer, in place of what stood there: from the
@@ -224,6 +224,6 @@ impl Cyclic {
         if !self.has_record(first) {
             return Err(BodyErr::Refused(Sw::RECORD_NOT_FOUND));
         }
-        unrefused(search_records(self, store, direction, first, text, numbers))
+        from_store(search_records(self, store, direction, first, text, numbers))
     }
 }

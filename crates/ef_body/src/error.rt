@@ -23,8 +23,8 @@ impl From<StoreErr> for BodyErr {
     }
 }
 
-/// What a call on a body answers that nothing refuses: what the store answered.
-pub(crate) fn unrefused(answered: Result<(), StoreErr>) -> Result<(), BodyErr>
+/// The store's answer, as a body's.
+pub(crate) fn from_store(answered: Result<(), StoreErr>) -> Result<(), BodyErr>
     ensures { result_err result ≡ option_map Store (result_err answered) }
 {
     match answered {

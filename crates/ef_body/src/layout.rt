@@ -1,7 +1,8 @@
 //! Numbers of bodies.
+use card_rules::limits;
 
-/// The most bytes of a record.
-pub const MOST_RECORD_BYTES: usize = 255;
+/// The most bytes of a record, as a length.
+pub const MOST_RECORD_BYTES: usize = limits::MOST_RECORD_BYTES as usize;
 
 /// Device writes at most where up to 255 bytes of a body are set in one transaction: three for each of the 65 words
 /// that they may touch, and one that makes them lasting.

@@ -13,7 +13,7 @@ ghost use Rattle.ef_body.specs.Bodies.{linear_records, ring_of, IsLinear};
 ghost use Rattle.ef_body.specs.Changes.{LinearBecomes};
 
 use crate::cyclic::Cyclic;
-use crate::error::{BodyErr, unrefused};
+use crate::error::{BodyErr, from_store};
 use crate::search::Direction;
 use crate::writing::{counts, put_bytes, put_record};
 use arrayvec::ArrayVec;
@@ -114,7 +114,7 @@ impl Linear {
             return Err(BodyErr::Refused(Sw::RECORD_NOT_FOUND));
         }
         let offset = (number - 1) * self.record_length;
-        unrefused(put_bytes(store, self.chain, offset, bytes))
+        from_store(put_bytes(store, self.chain, offset, bytes))
     }
 
     /// Adds a record behind the last one, in one transaction: its bytes, and then how many there are (APPEND RECORD,
@@ -141,7 +141,7 @@ impl Linear {
         }
         let offset = self.records * self.record_length;
         let told = counts(self.records + 1, 0);
-        unrefused(put_record(store, self.chain, offset, bytes, self.told_at, told))
+        from_store(put_record(store, self.chain, offset, bytes, self.told_at, told))
     }
 
     /// Puts the numbers of the records that hold the text into the buffer, in place of what stood there: from the

@@ -8,7 +8,7 @@ ghost use Rattle.ef_body.specs.Refusals.{past_end, overlong, Decides, IfRefused,
 ghost use Rattle.ef_body.specs.Bodies.{transparent_bytes, IsTransparent};
 ghost use Rattle.ef_body.specs.Changes.{TransparentBecomes};
 
-use crate::error::{BodyErr, unrefused};
+use crate::error::{BodyErr, from_store};
 use crate::reading::read_anew;
 use crate::writing::put_bytes;
 use arrayvec::ArrayVec;
@@ -69,7 +69,7 @@ impl Transparent {
             return Err(BodyErr::Refused(Sw::WRONG_OFFSET));
         }
         let count = smaller(most, self.size - offset);
-        unrefused(read_anew(store, self.chain, offset, count, bytes))
+        from_store(read_anew(store, self.chain, offset, count, bytes))
     }
 
     /// Puts bytes, 255 at most, in place of those from an offset on, in one transaction (UPDATE BINARY, ISO/IEC
@@ -106,7 +106,7 @@ impl Transparent {
         if self.ends_before(offset, bytes.len()) {
             return Err(BodyErr::Refused(Sw::NO_ROOM));
         }
-        unrefused(put_bytes(store, self.chain, offset, bytes))
+        from_store(put_bytes(store, self.chain, offset, bytes))
     }
 }
 

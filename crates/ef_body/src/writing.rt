@@ -1,5 +1,5 @@
 //! The words of bodies that are written, each time in one transaction.
-ghost use Rattle.std.specs.Prelude.{◌≡◌, ◌⊎◌, ◌≤◌, ◌<◌, ◌+◌, ◌*◌, ◌-◌, ◌%◌, length, slice_set, OnOk};
+ghost use Rattle.std.specs.Prelude.{◌≡◌, ◌⊎◌, ◌≤◌, ◌<◌, ◌+◌, ◌*◌, ◌-◌, ◌%◌, length, OnOk};
 ghost use Rattle.std.specs.Result.{result_err};
 ghost use Rattle.undo_journal.specs.Memory.{committed, current, room, IsOpen, IsReady};
 ghost use Rattle.undo_journal.specs.Calls.{Changes, SetsIn};
@@ -45,6 +45,7 @@ pub(crate) fn put_bytes<B: Board>(
     let mut txn = store.begin();
     match set_bytes(&mut txn, chain, offset, bytes) {
         Ok(()) => txn.commit(),
+        // The store keeps its error, and abandon answers it.
         Err(_) => txn.abandon(),
     }
 }
@@ -73,6 +74,7 @@ pub(crate) fn put_record<B: Board>(
     let mut txn = store.begin();
     match set_record(&mut txn, chain, offset, bytes, told_at, told) {
         Ok(()) => txn.commit(),
+        // The store keeps its error, and abandon answers it.
         Err(_) => txn.abandon(),
     }
 }
@@ -98,18 +100,7 @@ fn set_record<B: Board>(
     ensures store { SetsIn (touched_words offset (length bytes.now) + 1) txn.old txn.new (result_err result) }
 {
     set_bytes(txn, chain, offset, bytes)?;
-    set_word(txn, told_at, told)
-}
-
-/// One set of a transaction.
-fn set_word<B: Board>(txn: &mut Txn<'_, B>, at: u16, word: u32) -> Result<(), StoreErr>
-    requires ready { IsOpen (memory_of txn.old) }
-    requires room { 0 < room (memory_of txn.old) }
-    requires place { at < GATE }
-    ensures done { OnOk result (current (memory_of txn.new) ≡ slice_set (current (memory_of txn.old)) at word) }
-    ensures store { SetsIn 1 txn.old txn.new (result_err result) }
-{
-    txn.set(at, word)
+    txn.set(told_at, told)
 }
 
 /// Puts a record before the others of a cyclic body, in one transaction: its bytes into the slot before that of

@@ -1,6 +1,6 @@
 //! What a board is: its calls, and what each does to its words, its light and its counts.
 ghost use Rattle.std.specs.Prelude.{◌≡◌, ◌⊎◌, ◌+◌, ◌-◌, ◌<◌, ◌≤◌, ◌↔◌, if◌then◌else◌, true, false, length, Some};
-ghost use Rattle.std.specs.Prelude.{IsTrue, IsErr, IsErrOf, IfOk, OnOk, OnErr, slice_index};
+ghost use Rattle.std.specs.Prelude.{IsTrue, IsErr, IfOk, OnOk, OnErr, slice_index};
 ghost use Rattle.nvm_board.specs.declared.board.TheConstants.{PAGES, PAGE_WORDS, WORDS, SECRETS, COUNT_END};
 ghost use Rattle.nvm_board.specs.Facts.{Facts, AreWords, CountsFit, Answered, IsLostRightly, RisesAt, IsWornOut};
 ghost use Rattle.nvm_board.specs.Facts.{address, raised};
@@ -147,5 +147,6 @@ pub trait Faultless: Board {
 pub fn has_no_fault<B: Faultless>(board: &B)
     ensures { (B.facts board.now).faults ≡ 0 }
 {
+    // Only its law is asked for.
     let _ = board;
 }

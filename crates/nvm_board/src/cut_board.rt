@@ -19,6 +19,9 @@ impl CutBoard {
     ghost use Rattle.nvm_board.specs.Cut.{cut_facts};
 
     /// A lit board whose words and counts are 0, with no cut to come.
+    ///
+    /// # Errors
+    /// There is too little memory for the words.
     pub fn new(alloc: Global) -> Result<CutBoard, AllocError>
         ensures { IfOk result (λ b. cut_facts b ≡ new_board) }
     {

@@ -1,5 +1,5 @@
 //! A board in working memory, which never fails and loses power only by call or at the end of a count.
-ghost use Rattle.std.specs.Prelude.{◌≡◌, ◌⊎◌, ◌+◌, ◌<◌, ◌≤◌, ◌↔◌, if◌then◌else◌, true, false, length, IsTrue, All};
+ghost use Rattle.std.specs.Prelude.{◌≡◌, ◌+◌, ◌<◌, ◌≤◌, ◌↔◌, if◌then◌else◌, true, false, length, IsTrue, All};
 ghost use Rattle.std.specs.Prelude.{Contains, IfOk, slice_index};
 ghost use Rattle.nvm_board.specs.declared.board.TheConstants.{WORDS, SECRETS, COUNT_END, PAGES, PAGE_WORDS};
 ghost use Rattle.nvm_board.specs.Facts.{AreWords, address};
@@ -36,6 +36,9 @@ impl RamBoard {
     ghost use Rattle.nvm_board.specs.Torn.{IsTornBy};
 
     /// A lit board whose words and counts are 0.
+    ///
+    /// # Errors
+    /// There is too little memory for the words.
     pub fn new(alloc: Global) -> Result<RamBoard, AllocError>
         ensures { IfOk result (λ b. ram_facts b ≡ new_board) }
     {

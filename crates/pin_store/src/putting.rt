@@ -1,11 +1,9 @@
 //! PINs that are set after a match.
-ghost use Rattle.std.specs.Prelude.{◌≡◌, ◌⊎◌, ◌≤◌, length, OnOk};
+ghost use Rattle.std.specs.Prelude.{◌≡◌, ◌⊎◌, ◌≤◌, OnOk};
 ghost use Rattle.std.specs.Result.{result_err};
-ghost use Rattle.nvm_board.specs.Torn.{written};
 ghost use Rattle.undo_journal.specs.Calls.{Changes, SetsIn};
 ghost use Rattle.undo_journal.specs.Lent.{memory_of};
 ghost use Rattle.undo_journal.specs.Memory.{committed, current, room, IsOpen, IsReady};
-ghost use Rattle.undo_journal.specs.Undo.{IsDataRun};
 ghost use Rattle.pin_store.specs.Pins.{changed_pin, owner, reset_pin, tries_left, verified_pin, with_tries};
 ghost use Rattle.pin_store.specs.Renewals.{renewal_sets, renewal_writes, renewed_pin};
 ghost use Rattle.pin_store.specs.Pages.{pin_at, ArePinPages, SetsPin};
@@ -14,17 +12,6 @@ ghost use Rattle.pin_store.specs.Trials.{pin_in};
 use crate::layout::{PINS, TRIES, UNBLOCKING_TRIES};
 use crate::words::{address_of, tries_place, words_of};
 use undo_journal::{Board, Store, StoreErr, Txn};
-
-/// Sets some words of a transaction in a row.
-fn put_run<B: Board>(txn: &mut Txn<'_, B>, at: u16, words: &[u32]) -> Result<(), StoreErr>
-    requires ready { IsOpen (memory_of txn.old) }
-    requires room { length words.now ≤ room (memory_of txn.old) }
-    requires place { IsDataRun (current (memory_of txn.old)) at (length words.now) }
-    ensures done { OnOk result (current (memory_of txn.new) ≡ written (current (memory_of txn.old)) at words.now) }
-    ensures store { SetsIn (length words.now) txn.old txn.new (result_err result) }
-{
-    txn.set_run(at, words)
-}
 
 /// Sets the tries of a PIN to 3, and its value, within a transaction: words 0, 2 and 3 of its page, in this order.
 fn set_value<B: Board>(txn: &mut Txn<'_, B>, secret: u8, new: &[u8; 8]) -> Result<(), StoreErr>
@@ -35,8 +22,8 @@ fn set_value<B: Board>(txn: &mut Txn<'_, B>, secret: u8, new: &[u8; 8]) -> Resul
     ensures store { SetsIn 3 txn.old txn.new (result_err result) }
 {
     let [first, second] = words_of(new);
-    put_run(txn, address_of(secret, 0), &[u32::from(TRIES)])?;
-    put_run(txn, address_of(secret, 2), &[first, second])
+    txn.set_run(address_of(secret, 0), &[u32::from(TRIES)])?;
+    txn.set_run(address_of(secret, 2), &[first, second])
 }
 
 /// Sets the tries of a PIN to 3, its unblocking tries to 10, and its value, within a transaction: words 0 to 3 of its page,
@@ -49,8 +36,7 @@ fn set_all<B: Board>(txn: &mut Txn<'_, B>, secret: u8, new: &[u8; 8]) -> Result<
     ensures store { SetsIn 4 txn.old txn.new (result_err result) }
 {
     let [first, second] = words_of(new);
-    put_run(
-        txn,
+    txn.set_run(
         address_of(secret, 0),
         &[u32::from(TRIES), u32::from(UNBLOCKING_TRIES), first, second],
     )
@@ -118,6 +104,7 @@ pub(crate) fn put_renewed<B: Board>(
     let mut txn = store.begin();
     match set_renewed(&mut txn, secret, new) {
         Ok(()) => txn.commit(),
+        // The store keeps its error, and abandon answers it.
         Err(_) => txn.abandon(),
     }
 }

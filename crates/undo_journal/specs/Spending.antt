@@ -16,6 +16,10 @@ pub record KeepsBoard (old new : Facts) : Type 0 where
   pub compares : new.compares ≡ old.compares
   pub matches : new.matches ≡ old.matches
 
+-- where no pair of the journal counts, a start leaves the board as it is
+abbrev pub KeepsShut : Facts → Facts → Type 0
+KeepsShut old new = gate old.words ≡ 0 → KeepsBoard old new
+
 -- device writes of a rollback: one a pair, and the gate; none where no pair counts
 abbrev pub rollback_writes : ℕ → ℕ
 rollback_writes pairs = if pairs == 0 then 0 else pairs + 1

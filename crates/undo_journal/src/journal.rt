@@ -1,5 +1,5 @@
 //! The work of the journal on a board: a set behind its pair, the test of a journal, and the rollback.
-ghost use Rattle.std.specs.Prelude.{◌≡◌, ◌⊎◌, ◌↔◌, ◌+◌, ◌*◌, ◌<◌, ◌≤◌, ℕ, false, IsTrue, IfOk, OnOk, MatchOption, List};
+ghost use Rattle.std.specs.Prelude.{◌≡◌, ◌⊎◌, ◌↔◌, ◌+◌, ◌*◌, ◌<◌, ◌≤◌, ℕ, false, IsTrue, IfOk, OnOk, MatchOption};
 ghost use Rattle.std.specs.Prelude.{[], ◌∷◌, slice_set};
 ghost use Rattle.nvm_board.specs.declared.board.TheConstants.{WORDS};
 ghost use Rattle.nvm_board.specs.Facts.{Answered};
@@ -91,7 +91,7 @@ pub(crate) fn save_and_write<B: Board>(
 fn is_data_address(at: u32) -> bool
     ensures { IsTrue result ↔ (IsOutside at × (at < WORDS)) }
 {
-    at < u32::from(GATE) || at >= u32::from(JOURNAL_END) && at < u32::from(WORDS)
+    at < u32::from(GATE) || (u32::from(JOURNAL_END)..u32::from(WORDS)).contains(&at)
 }
 
 /// Whether each of the first pairs names a data word.

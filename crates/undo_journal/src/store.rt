@@ -9,8 +9,8 @@ ghost use Rattle.nvm_board.specs.Torn.{Torn, written};
 ghost use Rattle.undo_journal.specs.declared.layout.TheConstants.{PAIRS};
 ghost use Rattle.undo_journal.specs.declared.error.StoreErr.TheVariants.{PowerLost};
 ghost use Rattle.undo_journal.specs.Undo.{gate, undo, data_words, IsDataAddress, IsDataRun, IsSound};
-ghost use Rattle.undo_journal.specs.Spending.{KeepsBoard, WritesAtMost, rollback_writes, start_writes};
-ghost use Rattle.undo_journal.specs.Memory.{committed, current, room, store_err_of, store_result_of, IsOpen, IsIdle};
+ghost use Rattle.undo_journal.specs.Spending.{KeepsShut, WritesAtMost, rollback_writes, start_writes};
+ghost use Rattle.undo_journal.specs.Memory.{committed, current, room, store_result_of, IsOpen, IsIdle};
 ghost use Rattle.undo_journal.specs.Memory.{IsReady, KeepsWords, OpensNot, Reports};
 
 use crate::address::Address;
@@ -47,6 +47,9 @@ impl<B: Board> Store<B> {
 
     /// Opens the store of a board, and takes back what was not committed. Where that fails it gives the board
     /// back.
+    ///
+    /// # Errors
+    /// `PowerLost` or `Fault` of the device; `BadJournal` where undo isn't defined, and nothing was written.
     pub fn open(mut board: B) -> Result<Store<B>, (B, OpenFault)>
         ensures ready { IfOk result IsReady }
         ensures undone { IfOk result (λ s. s.facts.words ≡ undo (B.facts board).words) }
@@ -54,14 +57,14 @@ impl<B: Board> Store<B> {
         ensures sound { OnOk result (IsSound (B.facts board).words) }
         ensures defined { IfOk result (λ s. IsSound s.facts.words) }
         ensures light { IfOk result (λ s. Steady (B.facts board) s.facts) }
-        ensures shut { IfOk result (λ s. gate (B.facts board).words ≡ 0 → KeepsBoard (B.facts board) s.facts) }
+        ensures shut { IfOk result (λ s. KeepsShut (B.facts board) s.facts) }
         ensures writes { IfOk result (λ s. WritesAtMost (start_writes (B.facts board)) (B.facts board) s.facts) }
 
         // The undone words stay where the store is not opened, too, and undo is defined just where it was.
         ensures kept_err { IfErr result (λ e. undo (B.facts e.0).words ≡ undo (B.facts board).words) }
         ensures sound_err { IfErr result (λ e. IsSound (B.facts e.0).words ↔ IsSound (B.facts board).words) }
         ensures not_opened { IfErr result (λ e. OpensNot e.1 (B.facts board) (B.facts e.0)) }
-        ensures shut_err { IfErr result (λ e. gate (B.facts board).words ≡ 0 → KeepsBoard (B.facts board) (B.facts e.0)) }
+        ensures shut_err { IfErr result (λ e. KeepsShut (B.facts board) (B.facts e.0)) }
         ensures writes_err { IfErr result
             (λ e. WritesAtMost (start_writes (B.facts board)) (B.facts board) (B.facts e.0)) }
     {
@@ -81,6 +84,9 @@ impl<B: Board> Store<B> {
     }
 
     /// The current word at an address.
+    ///
+    /// # Errors
+    /// The store's failure: power was lost, or the device failed, in this call or in an earlier one.
     pub fn read(&mut self, at: u16) -> Result<u32, StoreErr>
         requires { IsDataAddress (current self.old) at }
         ensures word { IfOk result (λ w. w ≡ slice_index (current self.old) at) }
@@ -106,6 +112,9 @@ impl<B: Board> Store<B> {
     }
 
     /// Writes one word lastingly, in one device write.
+    ///
+    /// # Errors
+    /// The store's failure: power was lost, or the device failed, in this call or in an earlier one.
     pub fn put_alone(&mut self, at: u16, word: u32) -> Result<(), StoreErr>
         requires idle { IsIdle self.old }
         requires place { IsDataAddress (current self.old) at }
@@ -123,6 +132,9 @@ impl<B: Board> Store<B> {
 
     /// Writes 1 to 16 words of one page in one device write, without undo: after an error each of them is old
     /// or new by itself.
+    ///
+    /// # Errors
+    /// The store's failure: power was lost, or the device failed, in this call or in an earlier one.
     pub fn write_plain(&mut self, page: u16, first: u8, words: &[u32]) -> Result<(), StoreErr>
         requires idle { IsIdle self.old }
         requires some { 0 < length words.now }
@@ -139,6 +151,9 @@ impl<B: Board> Store<B> {
     }
 
     /// Hands a comparison on to the board, and writes nothing.
+    ///
+    /// # Errors
+    /// The store's failure: power was lost, or the device failed, in this call or in an earlier one.
     pub fn compare(&mut self, secret: u8, kept: &[u8; 8], shown: &[u8; 8]) -> Result<bool, StoreErr>
         requires { secret < SECRETS }
         ensures equal { IfOk result (λ e. IsTrue e ↔ (kept.now ≡ shown.now)) }

@@ -5,8 +5,8 @@ ghost use Rattle.std.specs.Result.{result_err};
 ghost use Rattle.nvm_board.specs.Torn.{written};
 ghost use Rattle.undo_journal.specs.declared.error.StoreErr.TheVariants.{PowerLost};
 ghost use Rattle.undo_journal.specs.Undo.{gate, IsDataAddress, IsDataRun};
-ghost use Rattle.undo_journal.specs.Spending.{WritesAtMost, rollback_writes};
-ghost use Rattle.undo_journal.specs.Memory.{committed, current, room, IsOpen, IsIdle, IsReady, KeepsWords, Reports};
+ghost use Rattle.undo_journal.specs.Spending.{rollback_writes};
+ghost use Rattle.undo_journal.specs.Memory.{committed, current, room};
 
 use crate::error::StoreErr;
 use crate::store::Store;
@@ -19,7 +19,7 @@ pub struct Txn<'a, B: Board> {
 }
 
 impl<B: Board> Txn<'_, B> {
-    ghost use Rattle.undo_journal.specs.Lent.{memory_of, store_of};
+    ghost use Rattle.undo_journal.specs.Lent.{memory_of};
     ghost use Rattle.undo_journal.specs.Calls.{Changes, ReadsIn, SetsIn};
 
     /// How many more sets there is room for.
@@ -30,6 +30,9 @@ impl<B: Board> Txn<'_, B> {
     }
 
     /// The current word at an address.
+    ///
+    /// # Errors
+    /// The store's failure: power was lost, or the device failed, in this call or in an earlier one.
     pub fn read(&mut self, at: u16) -> Result<u32, StoreErr>
         requires { IsDataAddress (current (memory_of self.old)) at }
         ensures word { IfOk result (λ w. w ≡ slice_index (current (memory_of self.old)) at) }
@@ -41,6 +44,9 @@ impl<B: Board> Txn<'_, B> {
 
     /// Sets the current word at an address. It makes three device writes: the pair that takes the earlier word,
     /// the gate that counts the pair, and the word.
+    ///
+    /// # Errors
+    /// The store's failure: power was lost, or the device failed, in this call or in an earlier one.
     pub fn set(&mut self, at: u16, word: u32) -> Result<(), StoreErr>
         requires room { 0 < room (memory_of self.old) }
         requires place { IsDataAddress (current (memory_of self.old)) at }
@@ -52,6 +58,9 @@ impl<B: Board> Txn<'_, B> {
     }
 
     /// Sets the words from an address on, one by one.
+    ///
+    /// # Errors
+    /// The store's failure: power was lost, or the device failed, in this call or in an earlier one.
     pub fn set_run(&mut self, at: u16, words: &[u32]) -> Result<(), StoreErr>
         requires room { length words.now ≤ room (memory_of self.old) }
         requires place { IsDataRun (current (memory_of self.old)) at (length words.now) }
@@ -67,6 +76,9 @@ impl<B: Board> Txn<'_, B> {
     }
 
     /// Makes the current words lasting, in one device write: the gate turns to 0.
+    ///
+    /// # Errors
+    /// The store's failure: power was lost, or the device failed, in this call or in an earlier one.
     pub fn commit(self) -> Result<(), StoreErr>
         ensures any_exit { (committed self.exit.0.now ≡ committed (memory_of self.entry))
             ⊎ ((committed self.exit.0.now ≡ current (memory_of self.entry)) × (gate self.exit.0.now.facts.words ≡ 0)) }
@@ -79,6 +91,9 @@ impl<B: Board> Txn<'_, B> {
     }
 
     /// Takes the sets back: earlier words from the last pair to the first, and then the gate.
+    ///
+    /// # Errors
+    /// The store's failure: power was lost, or the device failed, in this call or in an earlier one.
     pub fn abandon(self) -> Result<(), StoreErr>
         ensures kept { committed self.exit.0.now ≡ committed (memory_of self.entry) }
         ensures done { OnOk result (current self.exit.0.now ≡ committed (memory_of self.entry)) }

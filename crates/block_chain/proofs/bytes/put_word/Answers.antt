@@ -13,21 +13,21 @@ use Rattle.block_chain.proofs.bytes.put_word.Goals as goal
 use Rattle.nvm_board.specs.declared.board.TheConstants.{PAGE_WORDS}
 use Rattle.block_chain.specs.declared.layout.TheConstants.{BLOCK_WORDS}
 
-pub content-requires-clause-place : goal.content-requires-clause-place
-content-requires-clause-place g c =
+pub read-requires : goal.read-requires
+read-requires g c =
     let block = c.requires.block in let size = c.requires.ready.current_size in
     (inr (omega (arith, block.0)), omega (arith, block.1, size))
 
-pub put-requires-clause-place : goal.put-requires-clause-place
-put-requires-clause-place g c =
+pub set-requires-clause-place : goal.set-requires-clause-place
+set-requires-clause-place g c =
     let block = c.requires.block in let size = c.requires.ready.current_size in
-    let same = ap (λ (l : List ℕ). length l) c.content.ensures.store.only.reads.keeps.current_words in
+    let same = ap (λ (l : List ℕ). length l) c.read.ensures.store.only.reads.keeps.current_words in
     (inr (omega (arith, block.0)), omega (arith, block.1, size, same))
 
 pub returns-clause-store : goal.returns-clause-store
 returns-clause-store g c =
     record {
-      sets = sets_then 0 1 1 _ _ _ (omega arith) (reads_sets _ _ _ c.content.ensures.store.only) c.put.ensures.store.sets;
+      sets = sets_then 0 1 1 _ _ _ (omega arith) (reads_sets _ _ _ c.read.ensures.store.only) c.set.ensures.store.sets;
       ready = search rules;
       tells = search rules;
     }
@@ -38,18 +38,18 @@ returns-clause-done g c =
     let page = c.args.page in
     let k = c.args.k in
     let at : PAGE_WORDS * page + 1 + k % BLOCK_WORDS ≡ address page (1 + k % BLOCK_WORDS) = omega arith in
-    let read : current (memory_of c.content.new.txn) ≡ m = c.content.ensures.store.only.reads.keeps.current_words in
+    let read : current (memory_of c.read.new.self) ≡ m = c.read.ensures.store.only.reads.keeps.current_words in
     let was : c.in_ok-word.word ≡ word m page (1 + k % BLOCK_WORDS) =
     c.in_ok-word.ensures.word ∙ ap (slice_index m) at in
-    on_ok_weaker c.put.result (λ
-    (done : current (memory_of c.put.new.txn) ≡ slice_set (current (memory_of c.content.new.txn))
+    on_ok_weaker c.set.result (λ
+    (done : current (memory_of c.set.new.self) ≡ slice_set (current (memory_of c.read.new.self))
     (PAGE_WORDS * page + 1 + k % BLOCK_WORDS) c.overwritten_word-new.result). record {
       put = c.overwritten_word-new.result;
       done = done ∙ ap₂ (λ (l : List ℕ) (i : ℕ). slice_set l i c.overwritten_word-new.result) read at;
       over = λ place lt. c.overwritten_word-new.ensures place lt
           ∙ ap (λ (w : ℕ). byte_over c.args.offset c.args.bytes.now (4 * k + place)
           (slice_index (word_bytes w) place)) was;
-    }) c.put.ensures.done
+    }) c.set.ensures.done
 
 pub returns-in_err-word-clause-done : goal.returns-in_err-word-clause-done
 returns-in_err-word-clause-done g c = none_ok _ _ _ c.from_residual.ensures.1

@@ -19,17 +19,17 @@ returns-clause-done g c =
     let page : c.from.result ≡ first_of m cs = c.from.ensures ∙ c.in_ok-page.ensures.page in
     let words : current (memory_of c.join.new.txn) ≡ joined m cs = c.in_ok-page.ensures.done in
     let family : List ℕ → Type 0 = λ l. GivesBack m cs l in
-    on_ok_weaker c.put.result (λ
-    (done : current (memory_of c.put.new.txn) ≡ slice_set (current (memory_of c.join.new.txn))
+    on_ok_weaker c.set.result (λ
+    (done : current (memory_of c.set.new.self) ≡ slice_set (current (memory_of c.join.new.txn))
     (address HEADER_PAGE FREE_HEAD_WORD) c.from.result).
-    let after : current (memory_of c.put.new.txn) ≡ slice_set (joined m cs) (address HEADER_PAGE FREE_HEAD_WORD)
+    let after : current (memory_of c.set.new.self) ≡ slice_set (joined m cs) (address HEADER_PAGE FREE_HEAD_WORD)
     (first_of m cs) = done ∙ (λ i. slice_set (words i) (address HEADER_PAGE FREE_HEAD_WORD) (page i)) in
     subst family (sym after)
-    (gives_back m cs c.requires.ready.current_size c.requires.free c.requires.apart)) c.put.ensures.done
+    (gives_back m cs c.requires.ready.current_size c.requires.free c.requires.apart)) c.set.ensures.done
 
 pub returns-clause-store : goal.returns-clause-store
 returns-clause-store g c =
-    sets_in_on _ _ _ _ _ _ _ (omega arith) c.join.ensures.store.sets c.put.ensures.store
+    sets_in_on _ _ _ _ _ _ _ (omega arith) c.join.ensures.store.sets c.set.ensures.store
 
 pub returns-in_err-page-clause-done : goal.returns-in_err-page-clause-done
 returns-in_err-page-clause-done g c = none_ok _ _ _ c.from_residual.ensures.1

@@ -39,8 +39,8 @@ overflow_mul-chain g c =
     let block = whole_block m _ (c.requires.apart.each (c.loop-left.left - 1) (record { first = 0; last = 0 }) lt) in
     omega (arith, block.1)
 
-pub put-requires-clause-place : goal.put-requires-clause-place
-put-requires-clause-place g c =
+pub set-requires-clause-place : goal.set-requires-clause-place
+set-requires-clause-place g c =
     let m = current (memory_of c.args.txn.now) in
     let lt : c.loop-left.left - 1 < length c.args.chains.now =
     omega (arith, c.loop-left.invariant.within, c.loop-left-test.true) in
@@ -67,10 +67,10 @@ loop-left-preserved g c =
     let page : c.from.result ≡ first_of m (drop left cs) = c.from.ensures ∙ c.loop-left.invariant.page in
     record {
       within = omega (arith, lt);
-      ready = c.in_ok-put.ensures.store.ready;
-      sets = sets_then _ _ _ _ _ _ fits c.loop-left.invariant.sets c.put.ensures.store.sets;
+      ready = c.in_ok-set.ensures.store.ready;
+      sets = sets_then _ _ _ _ _ _ fits c.loop-left.invariant.sets c.set.ensures.store.sets;
       page = sym (ap (first_of m) more);
-      words = c.in_ok-put.ensures.done
+      words = c.in_ok-set.ensures.done
           ∙ (λ i. slice_set (c.loop-left.invariant.words i) (at i) (page i))
           ∙ sym (ap (joined m) more ∙ joined-cons m _ _);
     }
@@ -89,18 +89,18 @@ returns-in_err-page-clause-store g c =
       sets = search rules;
     })
 
-pub returns-in_err-put-clause-page : goal.returns-in_err-put-clause-page
-returns-in_err-put-clause-page g c = none_ok _ _ _ c.from_residual-in_err-put.ensures.1
+pub returns-in_err-set-clause-page : goal.returns-in_err-set-clause-page
+returns-in_err-set-clause-page g c = none_ok _ _ _ c.from_residual-in_err-set.ensures.1
 
-pub returns-in_err-put-clause-done : goal.returns-in_err-put-clause-done
-returns-in_err-put-clause-done g c = none_ok _ _ _ c.from_residual-in_err-put.ensures.1
+pub returns-in_err-set-clause-done : goal.returns-in_err-set-clause-done
+returns-in_err-set-clause-done g c = none_ok _ _ _ c.from_residual-in_err-set.ensures.1
 
-pub returns-in_err-put-clause-store : goal.returns-in_err-put-clause-store
-returns-in_err-put-clause-store g c =
-    sets_in_handed _ _ _ _ _ c.from_residual-in_err-put.ensures.1 (record {
+pub returns-in_err-set-clause-store : goal.returns-in_err-set-clause-store
+returns-in_err-set-clause-store g c =
+    sets_in_handed _ _ _ _ _ c.from_residual-in_err-set.ensures.1 (record {
       ready = tt;
       sets = let fits : length c.args.chains.now - c.loop-left.left + 1 ≤ length c.args.chains.now =
           omega (arith, c.loop-left.invariant.within, c.loop-left-test.true) in
-          sets_then _ _ _ _ _ _ fits c.loop-left.invariant.sets c.put.ensures.store.sets;
-      tells = c.in_err-put.ensures.store.tells;
+          sets_then _ _ _ _ _ _ fits c.loop-left.invariant.sets c.set.ensures.store.sets;
+      tells = c.in_err-set.ensures.store.tells;
     })

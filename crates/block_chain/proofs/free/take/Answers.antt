@@ -17,7 +17,7 @@ pub returns-clause-store : goal.returns-clause-store
 returns-clause-store g c =
     record {
       sets = sets_then 1 1 2 _ _ _ (omega arith) (sets_then 0 1 1 _ _ _ (omega arith)
-          (reads_sets _ _ _ c.first_free.ensures.store.only) c.put.ensures.store.sets) c.put-2.ensures.store.sets;
+          (reads_sets _ _ _ c.first_free.ensures.store.only) c.set.ensures.store.sets) c.set-2.ensures.store.sets;
       ready = search rules;
       tells = search rules;
     }
@@ -29,13 +29,13 @@ returns-clause-done g c =
     let rest = c.in_ok-chain.rest in
     let found = c.in_ok-chain.ensures.found in
     let read = c.first_free.ensures.store.only.reads.keeps.current_words in
-    let first : current (memory_of c.put.new.txn) ≡ slice_set m (address chain.last 0) 0 =
+    let first : current (memory_of c.set.new.self) ≡ slice_set m (address chain.last 0) 0 =
     let at : PAGE_WORDS * chain.last ≡ address chain.last 0 = omega arith in
-    c.in_ok-put.ensures.done ∙ ap₂ (λ (l : List ℕ) (k : ℕ). slice_set l k 0) read at in
+    c.in_ok-set.ensures.done ∙ ap₂ (λ (l : List ℕ) (k : ℕ). slice_set l k 0) read at in
     let word : c.from.result ≡ rest = c.from.ensures in
-    let after : current (memory_of c.put-2.new.txn) ≡ slice_set (slice_set m (address chain.last 0) 0)
+    let after : current (memory_of c.set-2.new.self) ≡ slice_set (slice_set m (address chain.last 0) 0)
     (address HEADER_PAGE FREE_HEAD_WORD) rest =
-    c.in_ok-put-2.ensures.done
+    c.in_ok-set-2.ensures.done
     ∙ ap₂ (λ (l : List ℕ) (w : ℕ). slice_set l (address HEADER_PAGE FREE_HEAD_WORD) w) first word in
     let family : List ℕ → Type 0 = λ l. Takes m c.args.n chain l in
     subst family (sym after)
@@ -53,25 +53,25 @@ returns-in_err-chain-clause-store g c =
       sets = search rules;
     })
 
-pub returns-in_err-put-clause-done : goal.returns-in_err-put-clause-done
-returns-in_err-put-clause-done g c = none_ok _ _ _ c.from_residual-in_err-put.ensures.1
+pub returns-in_err-set-clause-done : goal.returns-in_err-set-clause-done
+returns-in_err-set-clause-done g c = none_ok _ _ _ c.from_residual-in_err-set.ensures.1
 
-pub returns-in_err-put-clause-store : goal.returns-in_err-put-clause-store
-returns-in_err-put-clause-store g c =
-    sets_in_handed _ _ _ _ _ c.from_residual-in_err-put.ensures.1 (record {
+pub returns-in_err-set-clause-store : goal.returns-in_err-set-clause-store
+returns-in_err-set-clause-store g c =
+    sets_in_handed _ _ _ _ _ c.from_residual-in_err-set.ensures.1 (record {
       ready = tt;
-      sets = sets_then 0 1 2 _ _ _ (omega arith) (reads_sets _ _ _ c.first_free.ensures.store.only) c.put.ensures.store.sets;
-      tells = c.in_err-put.ensures.store.tells;
+      sets = sets_then 0 1 2 _ _ _ (omega arith) (reads_sets _ _ _ c.first_free.ensures.store.only) c.set.ensures.store.sets;
+      tells = c.in_err-set.ensures.store.tells;
     })
 
-pub returns-in_err-put-2-clause-done : goal.returns-in_err-put-2-clause-done
-returns-in_err-put-2-clause-done g c = none_ok _ _ _ c.from_residual-in_err-put-2.ensures.1
+pub returns-in_err-set-2-clause-done : goal.returns-in_err-set-2-clause-done
+returns-in_err-set-2-clause-done g c = none_ok _ _ _ c.from_residual-in_err-set-2.ensures.1
 
-pub returns-in_err-put-2-clause-store : goal.returns-in_err-put-2-clause-store
-returns-in_err-put-2-clause-store g c =
-    sets_in_handed _ _ _ _ _ c.from_residual-in_err-put-2.ensures.1 (record {
+pub returns-in_err-set-2-clause-store : goal.returns-in_err-set-2-clause-store
+returns-in_err-set-2-clause-store g c =
+    sets_in_handed _ _ _ _ _ c.from_residual-in_err-set-2.ensures.1 (record {
       ready = tt;
       sets = sets_then 1 1 2 _ _ _ (omega arith) (sets_then 0 1 1 _ _ _ (omega arith)
-          (reads_sets _ _ _ c.first_free.ensures.store.only) c.put.ensures.store.sets) c.put-2.ensures.store.sets;
-      tells = c.in_err-put-2.ensures.store.tells;
+          (reads_sets _ _ _ c.first_free.ensures.store.only) c.set.ensures.store.sets) c.set-2.ensures.store.sets;
+      tells = c.in_err-set-2.ensures.store.tells;
     })

@@ -8,8 +8,8 @@ use Rattle.block_chain.specs.Changes.{touched_words}
 use Rattle.ef_body.proofs.Putting.{puts}
 use Rattle.ef_body.proofs.writing.set_record.Goals as goal
 
-pub set_word-requires-clause-room : goal.set_word-requires-clause-room
-set_word-requires-clause-room g c =
+pub set-requires-clause-room : goal.set-requires-clause-room
+set-requires-clause-room g c =
     let left = c.set_bytes.ensures.store.sets.room in omega (arith, left, c.requires.room)
 
 pub returns-in_err-set_bytes-clause-store : goal.returns-in_err-set_bytes-clause-store
@@ -22,15 +22,15 @@ returns-in_err-set_bytes-clause-store g c =
 pub returns-clause-store : goal.returns-clause-store
 returns-clause-store g c =
     sets_in_on (touched_words c.args.offset (length c.args.bytes.now)) 1 _ _ _ _ _ (omega arith)
-    c.set_bytes.ensures.store.sets c.set_word.ensures.store
+    c.set_bytes.ensures.store.sets c.set.ensures.store
 
 pub returns-clause-done : goal.returns-clause-done
 returns-clause-done g c =
     let m = current (memory_of c.args.txn.now) in
-    on_ok_weaker c.set_word.result (λ
-    (done : current (memory_of c.set_word.new.txn) ≡ slice_set (current (memory_of c.set_bytes.new.txn))
+    on_ok_weaker c.set.result (λ
+    (done : current (memory_of c.set.new.self) ≡ slice_set (current (memory_of c.set_bytes.new.txn))
     c.args.told_at c.args.told).
-    puts m (current (memory_of c.set_bytes.new.txn)) (current (memory_of c.set_word.new.txn)) c.args.chain
+    puts m (current (memory_of c.set_bytes.new.txn)) (current (memory_of c.set.new.self)) c.args.chain
     c.args.offset
     c.args.bytes.now c.args.told_at c.args.told c.requires.ready.current_size c.requires.chain c.requires.entry
-    c.in_ok-set_bytes.ensures.done done) c.set_word.ensures.done
+    c.in_ok-set_bytes.ensures.done done) c.set.ensures.done

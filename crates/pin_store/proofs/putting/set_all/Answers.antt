@@ -22,7 +22,7 @@ returns-clause-done g c =
     ≡ written m (address (pin_page pin) 0) (TRIES ∷ UNBLOCKING_TRIES ∷ first ∷ second ∷ []) =
     λ i. written m (c.address_of.ensures i) (c.from.ensures i ∷ c.from-2.ensures i ∷ first ∷ second ∷ []) in
     let family : List ℕ → Type 0 = λ after. SetsPin m pin (reset_pin new (pin_at m pin)) after in
-    on_then _ _ c.put_run.result
+    on_then _ _ c.set_run.result
     (λ done. subst family (sym (done ∙ words))
     (sets_all m new pin first second c.requires.ready.current_size small c.words_of.ensures))
-    c.put_run.ensures.done
+    c.set_run.ensures.done

@@ -19,17 +19,17 @@ returns-clause-done g c =
     let first = slice_index c.words_of.result 0 in
     let second = slice_index c.words_of.result 1 in
     let small : pin < PINS = omega arith in
-    let between : current (memory_of c.put_run.new.txn) ≡ slice_set m (address (pin_page pin) 0) TRIES =
-    c.in_ok-put_run.ensures.done ∙ (λ i. slice_set m (c.address_of.ensures i) (c.from.ensures i)) in
-    let words : written (current (memory_of c.put_run.new.txn)) c.address_of-2.result (first ∷ second ∷ [])
+    let between : current (memory_of c.set_run.new.self) ≡ slice_set m (address (pin_page pin) 0) TRIES =
+    c.in_ok-set_run.ensures.done ∙ (λ i. slice_set m (c.address_of.ensures i) (c.from.ensures i)) in
+    let words : written (current (memory_of c.set_run.new.self)) c.address_of-2.result (first ∷ second ∷ [])
     ≡ written (slice_set m (address (pin_page pin) 0) TRIES) (address (pin_page pin) 2) (first ∷ second ∷ []) =
     λ i. written (between i) (c.address_of-2.ensures i) (first ∷ second ∷ []) in
     let family : List ℕ → Type 0 = λ after. SetsPin m pin (changed_pin new (pin_at m pin)) after in
-    on_then _ _ c.put_run-2.result
+    on_then _ _ c.set_run-2.result
     (λ done. subst family (sym (done ∙ words))
     (sets_value m new pin first second c.requires.ready.current_size small c.words_of.ensures))
-    c.put_run-2.ensures.done
+    c.set_run-2.ensures.done
 
 pub returns-clause-store : goal.returns-clause-store
 returns-clause-store g c =
-    sets_in_on 1 2 3 _ _ _ _ (lit< tt) c.put_run.ensures.store.sets c.put_run-2.ensures.store
+    sets_in_on 1 2 3 _ _ _ _ (lit< tt) c.set_run.ensures.store.sets c.set_run-2.ensures.store

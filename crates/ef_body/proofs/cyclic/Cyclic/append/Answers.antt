@@ -29,15 +29,15 @@ returns-clause-done g c =
     let is : c.appended.result ≡ min (length rs + 1) c.args.self.capacity =
     c.appended.ensures ∙ ap (λ (n : ℕ). min (n + 1) c.args.self.capacity) (sym (length-cyclic m c.args.self
     c.requires.body)) in
-    store_done c.put_front.result c.unrefused.result c.unrefused.ensures _
+    store_done c.put_front.result c.from_store.result c.from_store.ensures _
     (subst (λ (l : List (List ℕ)). OnOk c.put_front.result (CyclicBecomes m c.args.self l (committed
     c.put_front.new.store))) (front-most c.appended.result c.args.self.capacity c.args.bytes.now rs is)
     c.put_front.ensures.done)
 
 pub returns-clause-refusal : goal.returns-clause-refusal
-returns-clause-refusal g c = store_decides c.put_front.result c.unrefused.result c.unrefused.ensures None refl
+returns-clause-refusal g c = store_decides c.put_front.result c.from_store.result c.from_store.ensures None refl
 
 pub returns-clause-store : goal.returns-clause-store
 returns-clause-store g c =
-    store_told c.put_front.result c.unrefused.result c.unrefused.ensures
+    store_told c.put_front.result c.from_store.result c.from_store.ensures
     (Changes RECORD_WRITES c.args.store.now c.put_front.new.store) c.put_front.ensures.store

@@ -64,23 +64,23 @@ returns-clause-done g c =
     let m = committed c.args.store.now in
     let now = committed c.sum.new.store in
     let same = c.sum.ensures.store.only.keeps.committed_words in
-    store_done c.put_front.result c.unrefused.result c.unrefused.ensures _
+    store_done c.put_front.result c.from_store.result c.from_store.ensures _
     (on_ok_weaker c.put_front.result
     (increases m now (committed c.put_front.new.store) c.args.self c.deref.result.now c.args.sent.now same
     c.requires.body (c.deref.ensures.0 ∙ c.in_ok-sum.ensures.bytes)) c.put_front.ensures.done)
 
 pub returns-clause-store : goal.returns-clause-store
 returns-clause-store g c =
-    store_told c.put_front.result c.unrefused.result c.unrefused.ensures
+    store_told c.put_front.result c.from_store.result c.from_store.ensures
     (Changes RECORD_WRITES c.args.store.now c.put_front.new.store)
     (changes_after _ _ _ _ _ c.sum.ensures.store.only c.put_front.ensures.store)
 
 pub returns-clause-bytes : goal.returns-clause-bytes
-returns-clause-bytes g c = ok_anyway c.unrefused.result _ c.in_ok-sum.ensures.bytes
+returns-clause-bytes g c = ok_anyway c.from_store.result _ c.in_ok-sum.ensures.bytes
 
 pub returns-clause-refusal : goal.returns-clause-refusal
 returns-clause-refusal g c =
-    store_undecided c.put_front.result c.unrefused.result c.unrefused.ensures _ c.in_ok-sum.ensures.refusal
+    store_undecided c.put_front.result c.from_store.result c.from_store.ensures _ c.in_ok-sum.ensures.refusal
 
 pub returns-in_err-sum-clause-refusal : goal.returns-in_err-sum-clause-refusal
 returns-in_err-sum-clause-refusal g c =

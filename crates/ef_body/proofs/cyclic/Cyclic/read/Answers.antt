@@ -25,7 +25,7 @@ read_record-requires g c =
 
 pub returns-clause-bytes : goal.returns-clause-bytes
 returns-clause-bytes g c =
-    store_done c.read_record.result c.unrefused.result c.unrefused.ensures _ c.read_record.ensures.bytes
+    store_done c.read_record.result c.from_store.result c.from_store.ensures _ c.read_record.ensures.bytes
 
 pub returns-clause-any_exit : goal.returns-clause-any_exit
 returns-clause-any_exit g c = c.read_record.ensures.any_exit
@@ -33,16 +33,16 @@ returns-clause-any_exit g c = c.read_record.ensures.any_exit
 pub returns-clause-refusal : goal.returns-clause-refusal
 returns-clause-refusal g c =
     let m = committed c.args.store.now in
-    store_decides c.read_record.result c.unrefused.result c.unrefused.ensures _
+    store_decides c.read_record.result c.from_store.result c.from_store.ensures _
     (present (cyclic_records m c.args.self) c.args.self.records c.args.number c.has_record.result
     (length-cyclic m c.args.self c.requires.body) c.has_record.ensures c.if-not-has_record.false)
 
 pub returns-clause-refused : goal.returns-clause-refused
-returns-clause-refused g c = store_refuses c.read_record.result c.unrefused.result c.unrefused.ensures _
+returns-clause-refused g c = store_refuses c.read_record.result c.from_store.result c.from_store.ensures _
 
 pub returns-clause-store : goal.returns-clause-store
 returns-clause-store g c =
-    store_told c.read_record.result c.unrefused.result c.unrefused.ensures
+    store_told c.read_record.result c.from_store.result c.from_store.ensures
     (Reads c.args.store.now c.read_record.new.store) c.read_record.ensures.store
 
 pub returns-then-not-has_record-clause-store : goal.returns-then-not-has_record-clause-store

@@ -25,7 +25,7 @@ search_records-requires g c =
 
 pub returns-clause-numbers : goal.returns-clause-numbers
 returns-clause-numbers g c =
-    store_done c.search_records.result c.unrefused.result c.unrefused.ensures _ c.search_records.ensures.numbers
+    store_done c.search_records.result c.from_store.result c.from_store.ensures _ c.search_records.ensures.numbers
 
 pub returns-clause-any_exit : goal.returns-clause-any_exit
 returns-clause-any_exit g c = c.search_records.ensures.any_exit
@@ -33,16 +33,16 @@ returns-clause-any_exit g c = c.search_records.ensures.any_exit
 pub returns-clause-refusal : goal.returns-clause-refusal
 returns-clause-refusal g c =
     let m = committed c.args.store.now in
-    store_decides c.search_records.result c.unrefused.result c.unrefused.ensures _
+    store_decides c.search_records.result c.from_store.result c.from_store.ensures _
     (present (cyclic_records m c.args.self) c.args.self.records c.args.first c.has_record.result
     (length-cyclic m c.args.self c.requires.body) c.has_record.ensures c.if-not-has_record.false)
 
 pub returns-clause-refused : goal.returns-clause-refused
-returns-clause-refused g c = store_refuses c.search_records.result c.unrefused.result c.unrefused.ensures _
+returns-clause-refused g c = store_refuses c.search_records.result c.from_store.result c.from_store.ensures _
 
 pub returns-clause-store : goal.returns-clause-store
 returns-clause-store g c =
-    store_told c.search_records.result c.unrefused.result c.unrefused.ensures
+    store_told c.search_records.result c.from_store.result c.from_store.ensures
     (Reads c.args.store.now c.search_records.new.store) c.search_records.ensures.store
 
 pub returns-then-not-has_record-clause-store : goal.returns-then-not-has_record-clause-store

@@ -30,23 +30,23 @@ pub returns-clause-done : goal.returns-clause-done
 returns-clause-done g c =
     let m = committed c.args.store.now in
     let rs = cyclic_records m c.args.self in
-    store_done c.put_front.result c.unrefused.result c.unrefused.ensures _
+    store_done c.put_front.result c.from_store.result c.from_store.ensures _
     (subst (λ (n : ℕ). OnOk c.put_front.result (CyclicBecomes m c.args.self (front n c.args.bytes.now rs)
     (committed c.put_front.new.store))) (sym (length-cyclic m c.args.self c.requires.body)) c.put_front.ensures.done)
 
 pub returns-clause-refusal : goal.returns-clause-refusal
 returns-clause-refusal g c =
     let m = committed c.args.store.now in
-    store_decides c.put_front.result c.unrefused.result c.unrefused.ensures _
+    store_decides c.put_front.result c.from_store.result c.from_store.ensures _
     (present (cyclic_records m c.args.self) c.args.self.records 1 c.has_record.result
     (length-cyclic m c.args.self c.requires.body) c.has_record.ensures c.if-not-has_record.false)
 
 pub returns-clause-refused : goal.returns-clause-refused
-returns-clause-refused g c = store_refuses c.put_front.result c.unrefused.result c.unrefused.ensures _
+returns-clause-refused g c = store_refuses c.put_front.result c.from_store.result c.from_store.ensures _
 
 pub returns-clause-store : goal.returns-clause-store
 returns-clause-store g c =
-    store_told c.put_front.result c.unrefused.result c.unrefused.ensures
+    store_told c.put_front.result c.from_store.result c.from_store.ensures
     (Changes RECORD_WRITES c.args.store.now c.put_front.new.store) c.put_front.ensures.store
 
 pub returns-then-not-has_record-clause-store : goal.returns-then-not-has_record-clause-store

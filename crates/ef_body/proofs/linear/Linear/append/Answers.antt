@@ -54,7 +54,7 @@ returns-clause-done g c =
     let n = committed c.put_record.new.store in
     let room = has_room c.args.self.capacity (linear_records m c.args.self) c.args.self.records c.is_full.result
     (length-linear m c.args.self c.requires.body) c.is_full.ensures c.if-is_full.false in
-    store_done c.put_record.result c.unrefused.result c.unrefused.ensures _
+    store_done c.put_record.result c.from_store.result c.from_store.ensures _
     (on_ok_weaker c.put_record.result
     (linear_added m n c.args.self c.args.bytes.now c.requires.ready.usable.committed_size c.requires.body
     c.requires.size room c.counts-told.result c.counts-told.ensures) c.put_record.ensures.done)
@@ -62,16 +62,16 @@ returns-clause-done g c =
 pub returns-clause-refusal : goal.returns-clause-refusal
 returns-clause-refusal g c =
     let m = committed c.args.store.now in
-    store_decides c.put_record.result c.unrefused.result c.unrefused.ensures _
+    store_decides c.put_record.result c.from_store.result c.from_store.ensures _
     (not_full c.args.self.capacity (linear_records m c.args.self) c.args.self.records c.is_full.result
     (length-linear m c.args.self c.requires.body) c.is_full.ensures c.if-is_full.false)
 
 pub returns-clause-refused : goal.returns-clause-refused
-returns-clause-refused g c = store_refuses c.put_record.result c.unrefused.result c.unrefused.ensures _
+returns-clause-refused g c = store_refuses c.put_record.result c.from_store.result c.from_store.ensures _
 
 pub returns-clause-store : goal.returns-clause-store
 returns-clause-store g c =
-    store_told c.put_record.result c.unrefused.result c.unrefused.ensures
+    store_told c.put_record.result c.from_store.result c.from_store.ensures
     (Changes RECORD_WRITES c.args.store.now c.put_record.new.store) c.put_record.ensures.store
 
 pub returns-then-is_full-clause-store : goal.returns-then-is_full-clause-store

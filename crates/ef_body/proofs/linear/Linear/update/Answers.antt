@@ -37,7 +37,7 @@ returns-clause-done g c =
     let n = committed c.put_bytes.new.store in
     let both = c.has_record.ensures.0 c.if-not-has_record.false in
     let lt : c.args.number - 1 < c.args.self.records = omega (arith, both.0, both.1) in
-    store_done c.put_bytes.result c.unrefused.result c.unrefused.ensures _
+    store_done c.put_bytes.result c.from_store.result c.from_store.ensures _
     (on_ok_weaker c.put_bytes.result
     (linear_put m n c.args.self (c.args.number - 1) c.args.bytes.now c.requires.ready.usable.committed_size
     c.requires.body c.requires.size lt) c.put_bytes.ensures.done)
@@ -45,17 +45,17 @@ returns-clause-done g c =
 pub returns-clause-refusal : goal.returns-clause-refusal
 returns-clause-refusal g c =
     let m = committed c.args.store.now in
-    store_decides c.put_bytes.result c.unrefused.result c.unrefused.ensures _
+    store_decides c.put_bytes.result c.from_store.result c.from_store.ensures _
     (present (linear_records m c.args.self) c.args.self.records c.args.number c.has_record.result
     (length-linear m c.args.self c.requires.body) c.has_record.ensures c.if-not-has_record.false)
 
 pub returns-clause-refused : goal.returns-clause-refused
-returns-clause-refused g c = store_refuses c.put_bytes.result c.unrefused.result c.unrefused.ensures _
+returns-clause-refused g c = store_refuses c.put_bytes.result c.from_store.result c.from_store.ensures _
 
 pub returns-clause-store : goal.returns-clause-store
 returns-clause-store g c =
     let short = c.requires.body.slots.short in
-    store_told c.put_bytes.result c.unrefused.result c.unrefused.ensures
+    store_told c.put_bytes.result c.from_store.result c.from_store.ensures
     (Changes UPDATE_WRITES c.args.store.now c.put_bytes.new.store)
     (update_within ((c.args.number - 1) * c.args.self.record_length) (length c.args.bytes.now) _ _ _
     (omega (arith, short, c.requires.size)) c.put_bytes.ensures.store)

@@ -59,7 +59,7 @@ returns-clause-bytes g c =
     let low = inside (transparent_bytes m c.args.self) c.args.self.size c.args.offset c.ends_at.result
     (length-transparent m c.args.self c.requires.ready.usable.committed_size c.requires.body) c.ends_at.ensures
     c.if-ends_at.false in
-    store_done c.read_anew.result c.unrefused.result c.unrefused.ensures _
+    store_done c.read_anew.result c.from_store.result c.from_store.ensures _
     (subst (λ (l : List ℕ). OnOk c.read_anew.result (c.read_anew.new.bytes.items ≡ l))
     (taken m c.args.self c.requires.ready.usable.committed_size c.requires.body c.args.offset c.args.most
     c.smaller-count.result low c.smaller-count.ensures) c.read_anew.ensures.bytes)
@@ -67,17 +67,17 @@ returns-clause-bytes g c =
 pub returns-clause-refusal : goal.returns-clause-refusal
 returns-clause-refusal g c =
     let m = committed c.args.store.now in
-    store_decides c.read_anew.result c.unrefused.result c.unrefused.ensures _
+    store_decides c.read_anew.result c.from_store.result c.from_store.ensures _
     (offset_inside (transparent_bytes m c.args.self) c.args.self.size c.args.offset c.ends_at.result
     (length-transparent m c.args.self c.requires.ready.usable.committed_size c.requires.body) c.ends_at.ensures
     c.if-ends_at.false)
 
 pub returns-clause-refused : goal.returns-clause-refused
-returns-clause-refused g c = store_refuses c.read_anew.result c.unrefused.result c.unrefused.ensures _
+returns-clause-refused g c = store_refuses c.read_anew.result c.from_store.result c.from_store.ensures _
 
 pub returns-clause-store : goal.returns-clause-store
 returns-clause-store g c =
-    store_told c.read_anew.result c.unrefused.result c.unrefused.ensures
+    store_told c.read_anew.result c.from_store.result c.from_store.ensures
     (Reads c.args.store.now c.read_anew.new.store) c.read_anew.ensures.store
 
 pub returns-then-ends_at-clause-store : goal.returns-then-ends_at-clause-store

@@ -52,7 +52,7 @@ returns-clause-done g c =
     let within = new_fits (transparent_bytes m c.args.self) c.args.self.size c.args.offset c.ends_at.result
     (length-transparent m c.args.self c.requires.ready.usable.committed_size c.requires.body) c.ends_at.ensures
     c.args.bytes.now c.ends_before.result c.ends_before.ensures c.if-ends_at.false c.if-ends_before.false in
-    store_done c.put_bytes.result c.unrefused.result c.unrefused.ensures _
+    store_done c.put_bytes.result c.from_store.result c.from_store.ensures _
     (on_ok_weaker c.put_bytes.result
     (bytes_put m n c.args.self c.args.offset c.args.bytes.now c.requires.ready.usable.committed_size c.requires.body
     within) c.put_bytes.ensures.done)
@@ -60,17 +60,17 @@ returns-clause-done g c =
 pub returns-clause-refusal : goal.returns-clause-refusal
 returns-clause-refusal g c =
     let m = committed c.args.store.now in
-    store_decides c.put_bytes.result c.unrefused.result c.unrefused.ensures _
+    store_decides c.put_bytes.result c.from_store.result c.from_store.ensures _
     (new_inside (transparent_bytes m c.args.self) c.args.self.size c.args.offset c.ends_at.result
     (length-transparent m c.args.self c.requires.ready.usable.committed_size c.requires.body) c.ends_at.ensures
     c.args.bytes.now c.ends_before.result c.ends_before.ensures c.if-ends_at.false c.if-ends_before.false)
 
 pub returns-clause-refused : goal.returns-clause-refused
-returns-clause-refused g c = store_refuses c.put_bytes.result c.unrefused.result c.unrefused.ensures _
+returns-clause-refused g c = store_refuses c.put_bytes.result c.from_store.result c.from_store.ensures _
 
 pub returns-clause-store : goal.returns-clause-store
 returns-clause-store g c =
-    store_told c.put_bytes.result c.unrefused.result c.unrefused.ensures
+    store_told c.put_bytes.result c.from_store.result c.from_store.ensures
     (Changes (3 * touched_words c.args.offset (length c.args.bytes.now) + 1) c.args.store.now c.put_bytes.new.store)
     c.put_bytes.ensures.store
 
