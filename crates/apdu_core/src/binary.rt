@@ -11,7 +11,7 @@ use byteorder::{BigEndian, ByteOrder};
 use card_rules::Sw;
 
 /// The elementary file of a binary command.
-#[derive(Clone, Copy, PartialEq, Eq)]
+#[derive(Clone, Copy)]
 pub enum Target {
     /// The current one.
     Current,
@@ -59,16 +59,13 @@ pub(crate) fn parse_read_binary<'a>(p1: u8, p2: u8, rest: &'a [u8]) -> Result<Co
     let Some(place) = Place::of(p1, p2) else {
         return Err(Sw::WRONG_PARAMETERS);
     };
-    let Some(body) = CommandBody::parse(rest) else {
-        return Err(Sw::WRONG_LENGTH);
-    };
-    match body.expected {
-        Some(expected) if body.sent.is_empty() => Ok(Command::ReadBinary {
+    match CommandBody::parse(rest).and_then(CommandBody::le_alone) {
+        Some(expected) => Ok(Command::ReadBinary {
             target: place.target,
             offset: place.offset,
             expected,
         }),
-        _ => Err(Sw::WRONG_LENGTH),
+        None => Err(Sw::WRONG_LENGTH),
     }
 }
 

@@ -18,7 +18,7 @@ use crate::select::{Returned, Selector, parse_select};
 use card_rules::Sw;
 
 /// A command as a value. `expected` is its Le byte: how many bytes of data are wanted, 0 for all that there are.
-#[derive(Clone, Copy, PartialEq, Eq)]
+#[derive(Clone, Copy)]
 pub enum Command<'a> {
     /// SELECT (ISO/IEC 7816-4, 11.2.2), with a template in return or with no data.
     Select {
@@ -122,8 +122,12 @@ enum Instruction {
 }
 
 impl<'a> Command<'a> {
-    /// Reads the bytes of a command. The status word of a refusal is the first in this order: too few bytes for a
-    /// header 6700, class 6E00, instruction 6D00, P1 and P2 6A86, and then lengths 6700.
+    /// Reads the bytes of a command.
+    ///
+    /// # Errors
+    ///
+    /// The status word of a refusal is the first in this order: too few bytes for a header 6700, class 6E00, instruction
+    /// 6D00, P1 and P2 6A86, and then lengths 6700.
     pub fn parse(bytes: &'a [u8]) -> Result<Command<'a>, Sw>
         ensures asked { Gives result (asked bytes.now) }
         ensures ranges { IfOk result IsInRange }

@@ -1,5 +1,5 @@
 //! Commands on files as such: CREATE FILE and DELETE FILE (ISO/IEC 7816-9).
-ghost use Rattle.std.specs.Prelude.{◌≡◌, ◌==◌, ◌||◌, Some, is_some, IfOk, IfSome, length};
+ghost use Rattle.std.specs.Prelude.{◌≡◌, ◌==◌, ◌||◌, ◌&&◌, not, Some, is_some, IfOk, IfSome, length};
 ghost use Rattle.apdu_core.specs.Asked.{asked_by_row};
 ghost use Rattle.apdu_core.specs.FileRows.{create_file_row, delete_file_row, subject_named};
 ghost use Rattle.apdu_core.specs.Ranges.{IsInRange};
@@ -11,7 +11,7 @@ use byteorder::{BigEndian, ByteOrder};
 use card_rules::Sw;
 
 /// The file that a command on files is about.
-#[derive(Clone, Copy, PartialEq, Eq)]
+#[derive(Clone, Copy)]
 pub enum Subject {
     /// The current elementary file, and where none is current the current dedicated file.
     Current,
@@ -20,14 +20,15 @@ pub enum Subject {
 }
 
 impl Subject {
-    /// The file that the sent bytes name: none for the current one, or two for an identifier.
-    pub(crate) fn of(sent: &[u8]) -> Option<Subject>
-        ensures known { is_some result ≡ ((length sent.now == 0) || (length sent.now == 2)) }
-        ensures named { IfSome result (λ subject. subject ≡ subject_named sent.now) }
+    /// The file that the sent bytes name, where Le does not stand: none for the current one, or two for an identifier.
+    pub(crate) fn of(body: CommandBody<'_>) -> Option<Subject>
+        ensures known { is_some result ≡ (((length body.entry.sent.now == 0) || (length body.entry.sent.now == 2))
+            && not (is_some body.entry.expected)) }
+        ensures named { IfSome result (λ subject. subject ≡ subject_named body.entry.sent.now) }
     {
-        match sent {
-            [] => Some(Subject::Current),
-            [_, _] => Some(Subject::Identifier(BigEndian::read_u16(sent))),
+        match (body.sent, body.expected) {
+            ([], None) => Some(Subject::Current),
+            ([_, _], None) => Some(Subject::Identifier(BigEndian::read_u16(body.sent))),
             _ => None,
         }
     }
@@ -59,11 +60,8 @@ pub(crate) fn parse_delete_file<'a>(p1: u8, p2: u8, rest: &'a [u8]) -> Result<Co
     if p1 != 0x00 || p2 != 0x00 {
         return Err(Sw::WRONG_PARAMETERS);
     }
-    let Some(body) = CommandBody::parse(rest) else {
-        return Err(Sw::WRONG_LENGTH);
-    };
-    match Subject::of(body.sent) {
-        Some(subject) if body.expected.is_none() => Ok(Command::DeleteFile { subject }),
-        _ => Err(Sw::WRONG_LENGTH),
+    match CommandBody::parse(rest).and_then(Subject::of) {
+        Some(subject) => Ok(Command::DeleteFile { subject }),
+        None => Err(Sw::WRONG_LENGTH),
     }
 }

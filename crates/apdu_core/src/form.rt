@@ -1,6 +1,6 @@
 //! The bytes after the header of a short command (ISO/IEC 7816-4, 5.2).
 ghost use Rattle.std.specs.Prelude.{◌≡◌, ◌≢◌, ◌≤◌, ◌∷◌, ◌&&◌, [], nat_le, not, length, option_map, IfSome};
-ghost use Rattle.std.specs.Prelude.{is_some};
+ghost use Rattle.std.specs.Prelude.{is_some, None, ◌==◌, if◌then◌else◌};
 ghost use Rattle.apdu_core.specs.Bodies.{body_of};
 ghost use Rattle.apdu_core.specs.BodyView.{body_view};
 
@@ -19,6 +19,17 @@ impl<'a> CommandBody<'a> {
             && not (is_some self.entry.expected)) }
     {
         !self.sent.is_empty() && self.expected.is_none()
+    }
+
+    /// Le, where it stands and no bytes are sent.
+    pub fn le_alone(self) -> Option<u8>
+        ensures { result ≡ (if length self.entry.sent.now == 0 then self.entry.expected else None) }
+    {
+        if self.sent.is_empty() {
+            self.expected
+        } else {
+            None
+        }
     }
 
     /// Reads the bytes after a header, where they have one of the four forms.

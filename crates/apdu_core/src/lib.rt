@@ -15,6 +15,7 @@ mod select;
 use arrayvec::ArrayVec;
 pub use binary::Target;
 pub use card_rules::Sw;
+use card_rules::limits::MOST_ANSWER_DATA;
 pub use commands::Command;
 pub use files::Subject;
 pub use life_cycles::LifeCycleChange;
@@ -23,5 +24,8 @@ pub use pins::Replacement;
 pub use records::{Direction, RecordChoice, RecordPlace};
 pub use select::{Returned, Selector};
 
+/// The most bytes of an answer: its data, and a status word.
+pub const LONGEST_ANSWER: usize = MOST_ANSWER_DATA + 2;
+
 /// The data and the status word of an answer: 2 to 258 bytes.
-pub type Answer = ArrayVec<u8, 258>;
+pub type Answer = ArrayVec<u8, LONGEST_ANSWER>;

@@ -11,7 +11,7 @@ use crate::form::CommandBody;
 use card_rules::Sw;
 
 /// What a command does to the life cycle of a file.
-#[derive(Clone, Copy, PartialEq, Eq)]
+#[derive(Clone, Copy)]
 pub enum LifeCycleChange {
     /// DEACTIVATE FILE.
     Deactivate,
@@ -37,15 +37,9 @@ pub(crate) fn parse_life_cycle_change<'a>(
     if p1 != 0x00 || p2 != 0x00 {
         return Err(Sw::WRONG_PARAMETERS);
     }
-    let Some(body) = CommandBody::parse(rest) else {
-        return Err(Sw::WRONG_LENGTH);
-    };
-    match Subject::of(body.sent) {
-        Some(subject) if body.expected.is_none() => Ok(Command::ChangeLifeCycle {
-            change,
-            subject,
-        }),
-        _ => Err(Sw::WRONG_LENGTH),
+    match CommandBody::parse(rest).and_then(Subject::of) {
+        Some(subject) => Ok(Command::ChangeLifeCycle { change, subject }),
+        None => Err(Sw::WRONG_LENGTH),
     }
 }
 

@@ -5,8 +5,12 @@ ghost use Rattle.apdu_core.specs.Selections.{identifiers, identifiers_in, is_pat
 
 use byteorder::{BigEndian, ByteOrder};
 
+/// The most bytes of a path: 7 identifiers of two bytes each, since no file stands below level 8 and the master file
+/// stands at level 1.
+const LONGEST_PATH: usize = 14;
+
 /// A path of 1 to 7 identifiers, each two bytes, the more significant first.
-#[derive(Clone, Copy, PartialEq, Eq)]
+#[derive(Clone, Copy)]
 pub struct FilePath<'a> {
     bytes: &'a [u8],
 }
@@ -19,7 +23,7 @@ impl<'a> FilePath<'a> {
             ≡ (if is_path (length bytes.now) then Some (identifiers bytes.now) else None) }
         ensures ranges { IfSome result IsFilePath }
     {
-        if bytes.len() % 2 == 0 && (2..=14).contains(&bytes.len()) {
+        if bytes.len() % 2 == 0 && (2..=LONGEST_PATH).contains(&bytes.len()) {
             Some(FilePath { bytes })
         } else {
             None

@@ -7,10 +7,10 @@ ghost use Rattle.apdu_core.specs.Requests.{Gives};
 
 use crate::commands::Command;
 use crate::form::CommandBody;
-use card_rules::Sw;
+use card_rules::{PINS, Sw};
 
 /// A value that is shown, and the new value of the PIN.
-#[derive(Clone, Copy, PartialEq, Eq)]
+#[derive(Clone, Copy)]
 pub struct Replacement<'a> {
     pub shown: &'a [u8; 8],
     pub new: &'a [u8; 8],
@@ -33,7 +33,7 @@ impl<'a> Replacement<'a> {
 fn names_pin(p1: u8, p2: u8) -> bool
     ensures { result ≡ is_pin p1 p2 }
 {
-    p1 == 0x00 && (1..=8).contains(&p2)
+    p1 == 0x00 && (1..=PINS).contains(&p2)
 }
 
 /// Reads P1, P2 and what follows the header of VERIFY (ISO/IEC 7816-4, 11.5.6). P1 and P2 that name no PIN are 6A86, other

@@ -1,5 +1,5 @@
 //! Commands on records (ISO/IEC 7816-4, 11.4), and INCREASE (ETSI TS 102 221, 11.1.8).
-ghost use Rattle.std.specs.Prelude.{◌≡◌, ◌≤◌, ◌&&◌, Some, is_some, IfOk, IfSome};
+ghost use Rattle.std.specs.Prelude.{◌≡◌, ◌&&◌, Some, is_some, IfOk, IfSome};
 ghost use Rattle.apdu_core.specs.Asked.{asked_by_row};
 ghost use Rattle.apdu_core.specs.Ranges.{IsTarget, IsRecordPlace, IsRecordChoice, IsInRange};
 ghost use Rattle.apdu_core.specs.RecordRows.{read_record_row, update_record_row, append_record_row, search_record_row};
@@ -13,7 +13,7 @@ use crate::form::CommandBody;
 use card_rules::Sw;
 
 /// A record by its number, or the current one.
-#[derive(Clone, Copy, PartialEq, Eq)]
+#[derive(Clone, Copy)]
 pub enum RecordPlace {
     /// The record that the record pointer stands at.
     CurrentRecord,
@@ -22,7 +22,7 @@ pub enum RecordPlace {
 }
 
 /// How a command names a record.
-#[derive(Clone, Copy, PartialEq, Eq)]
+#[derive(Clone, Copy)]
 pub enum RecordChoice {
     /// The one after the current record.
     Next,
@@ -33,7 +33,7 @@ pub enum RecordChoice {
 }
 
 /// Which way a search goes from the record that it begins at.
-#[derive(Clone, Copy, PartialEq, Eq)]
+#[derive(Clone, Copy)]
 pub enum Direction {
     /// Up to the last record.
     Forward,
@@ -128,16 +128,13 @@ pub(crate) fn parse_read_record<'a>(p1: u8, p2: u8, rest: &'a [u8]) -> Result<Co
     let Some(name) = RecordName::of(p1, p2) else {
         return Err(Sw::WRONG_PARAMETERS);
     };
-    let Some(body) = CommandBody::parse(rest) else {
-        return Err(Sw::WRONG_LENGTH);
-    };
-    match body.expected {
-        Some(expected) if body.sent.is_empty() => Ok(Command::ReadRecord {
+    match CommandBody::parse(rest).and_then(CommandBody::le_alone) {
+        Some(expected) => Ok(Command::ReadRecord {
             target: name.target,
             choice: name.choice,
             expected,
         }),
-        _ => Err(Sw::WRONG_LENGTH),
+        None => Err(Sw::WRONG_LENGTH),
     }
 }
 

@@ -12,9 +12,10 @@ use crate::form::CommandBody;
 use crate::path::FilePath;
 use byteorder::{BigEndian, ByteOrder};
 use card_rules::Sw;
+use card_rules::limits::MOST_NAME_BYTES;
 
 /// How SELECT names a file (ISO/IEC 7816-4, 11.2.2).
-#[derive(Clone, Copy, PartialEq, Eq)]
+#[derive(Clone, Copy)]
 pub enum Selector<'a> {
     /// The master file.
     MasterFile,
@@ -31,7 +32,7 @@ pub enum Selector<'a> {
 }
 
 /// What SELECT answers.
-#[derive(Clone, Copy, PartialEq, Eq)]
+#[derive(Clone, Copy)]
 pub enum Returned {
     /// The template of the file's control parameters.
     Template,
@@ -90,7 +91,9 @@ impl<'a> Selector<'a> {
         match way {
             Way::ByIdentifier => Selector::by_identifier(sent),
             Way::ToParent if sent.is_empty() => Some(Selector::Parent),
-            Way::ByName if (1..=16).contains(&sent.len()) => Some(Selector::Name(sent)),
+            Way::ByName if (1..=MOST_NAME_BYTES).contains(&sent.len()) => Some(Selector::Name(
+                sent,
+            )),
             Way::DownFromMaster => Some(Selector::PathFromMaster(FilePath::new(sent)?)),
             Way::DownFromCurrent => Some(Selector::PathFromCurrent(FilePath::new(sent)?)),
             Way::ToParent | Way::ByName => None,
