@@ -25,47 +25,61 @@ const LONGEST_BLOCK: usize = FIELD_LIMIT + OVERHEAD;
 /// The node address of every block.
 const NODE_ADDRESS: u8 = 0x00;
 
-// Bits of a control byte: N(S), M and N(R).
+/// The bit of an I-block's control byte that is its number, N(S).
 const NUMBER_SENT: u8 = 0x40;
 
+/// The bit of an I-block's control byte that says that more blocks follow, M.
 const MORE: u8 = 0x20;
 
+/// The bit of an R-block's control byte that is the number of the I-block that is expected, N(R).
 const NUMBER_EXPECTED: u8 = 0x10;
 
-// The control bytes of I-blocks, by number and by whether more blocks follow.
+/// The control byte of the last I-block of a chain, with number 0.
 const INFORMATION_0: u8 = 0x00;
 
+/// The control byte of an I-block with number 0 that more blocks follow.
 const INFORMATION_0_MORE: u8 = INFORMATION_0 | MORE;
 
+/// The control byte of the last I-block of a chain, with number 1.
 const INFORMATION_1: u8 = INFORMATION_0 | NUMBER_SENT;
 
+/// The control byte of an I-block with number 1 that more blocks follow.
 const INFORMATION_1_MORE: u8 = INFORMATION_1 | MORE;
 
-// Bits of an R-block's control byte that tell the kind of error.
+/// The bit of an R-block's control byte that tells of a wrong check byte.
 const REDUNDANCY: u8 = 0x01;
 
+/// The bit of an R-block's control byte that tells of any other error.
 const OTHER: u8 = 0x02;
 
-// The control bytes of R-blocks, by number and kind of error.
+/// The control byte of an R-block that expects number 0 and tells of no error.
 const READY_0: u8 = 0x80;
 
+/// The control byte of an R-block that expects number 0 after a wrong check byte.
 const READY_0_REDUNDANCY: u8 = READY_0 | REDUNDANCY;
 
+/// The control byte of an R-block that expects number 0 after another error.
 const READY_0_OTHER: u8 = READY_0 | OTHER;
 
+/// The control byte of an R-block that expects number 1 and tells of no error.
 const READY_1: u8 = READY_0 | NUMBER_EXPECTED;
 
+/// The control byte of an R-block that expects number 1 after a wrong check byte.
 const READY_1_REDUNDANCY: u8 = READY_0_REDUNDANCY | NUMBER_EXPECTED;
 
+/// The control byte of an R-block that expects number 1 after another error.
 const READY_1_OTHER: u8 = READY_0_OTHER | NUMBER_EXPECTED;
 
-// The control bytes of S-blocks.
+/// The control byte of an S-block that asks to begin anew.
 const RESYNCH_REQUEST: u8 = 0xC0;
 
+/// The control byte of the S-block that answers it.
 const RESYNCH_RESPONSE: u8 = 0xE0;
 
+/// The control byte of an S-block that tells the size of information field that its sender takes.
 const IFS_REQUEST: u8 = 0xC1;
 
+/// The control byte of the S-block that answers it with the same size.
 const IFS_RESPONSE: u8 = 0xE1;
 
 /// The bytes of a block: prologue, information field and check byte. A type of its own, since an answer may have as many
@@ -228,14 +242,8 @@ impl<'a> Block<'a> {
             READY_1_OTHER => ready(SequenceNumber::One, ErrorKind::OtherError, field),
             RESYNCH_REQUEST => bare(field, Block::ResynchRequest),
             RESYNCH_RESPONSE => bare(field, Block::ResynchResponse),
-            IFS_REQUEST => match size_told(field) {
-                Some(size) => Ok(Block::IfsRequest(size)),
-                None => Err(Fault::UnknownBlock),
-            },
-            IFS_RESPONSE => match size_told(field) {
-                Some(size) => Ok(Block::IfsResponse(size)),
-                None => Err(Fault::UnknownBlock),
-            },
+            IFS_REQUEST => Ok(Block::IfsRequest(size_told(field).ok_or(Fault::UnknownBlock)?)),
+            IFS_RESPONSE => Ok(Block::IfsResponse(size_told(field).ok_or(Fault::UnknownBlock)?)),
             _ => Err(Fault::UnknownBlock),
         }
     }
@@ -344,7 +352,7 @@ fn size_told(field: &[u8]) -> Option<u8>
     ensures { result ≡ size_told field.now }
 {
     match field {
-        [size] if (1..=254).contains(size) => Some(*size),
+        [size] if (1..=FIELD_LIMIT).contains(&usize::from(*size)) => Some(*size),
         _ => None,
     }
 }

@@ -1,6 +1,6 @@
 //! The card's end of T=1.
 
-ghost use Rattle.std.specs.Prelude.{◌≡◌, ◌≤◌, ◌++◌, ◌&&◌, not, None, IsSome, IsTrue, ◌↔◌, Some, length, take, Ok};
+ghost use Rattle.std.specs.Prelude.{◌≡◌, ◌++◌, ◌&&◌, not, None, IsSome, IsTrue, ◌↔◌, Some, take, Ok};
 ghost use Rattle.t1_link.specs.Blocks.{IsSpellable, frame, receive_ready};
 ghost use Rattle.t1_link.specs.CardTable.{CardLink, link_step, action_of, after, answers, reply_bytes, card_takes, fresh};
 ghost use Rattle.t1_link.specs.CardTable.{sending, sent_block, sent_more, takes_information, takes_receive_ready};
@@ -13,12 +13,12 @@ use crate::sequence_number::SequenceNumber;
 use arrayvec::ArrayVec;
 use std::marker::Model;
 
+/// The most bytes of an answer: 256 of data and a status word.
+pub const LONGEST_ANSWER: usize = 258;
+
 /// The bytes of an answer. It is the card that fills them, and it knows no link: so this is the plain buffer that the card takes,
 /// and no type of this crate, as that of a block is (`BlockBytes`).
 pub type AnswerBytes = ArrayVec<u8, LONGEST_ANSWER>;
-
-/// The most bytes of an answer: 256 of data and a status word.
-const LONGEST_ANSWER: usize = 258;
 
 /// The most bytes of a command that are kept: one more than it may have, which is enough to refuse it.
 const KEPT_COMMAND: usize = LONGEST_COMMAND + 1;

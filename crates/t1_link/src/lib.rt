@@ -9,5 +9,6 @@ mod reader_end;
 mod sequence_number;
 
 pub use block::{BlockBytes, ErrorKind, Fault};
-pub use card_end::{Action, AnswerBytes, CardEnd};
+pub use card_end::{Action, AnswerBytes, CardEnd, LONGEST_ANSWER};
+pub use outgoing::LONGEST_COMMAND;
 pub use reader_end::{Failure, Next, Phase, ReaderEnd};
