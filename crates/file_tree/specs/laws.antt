@@ -1,4 +1,5 @@
 -- What follows from the definitions, for the proofs of this crate and of those above it.
+pub mod Terms
 pub mod Tables
 pub mod Alikes
 pub mod Levels

@@ -1,32 +1,28 @@
 //! Creating a file.
 
-ghost use Rattle.std.specs.Prelude.{◌≡◌, ◌≢◌, ◌⊎◌, ◌&&◌, ◌<◌, ◌≤◌, ◌+◌, nat_le, length, Some, IfOk, OnOk, if◌then◌else◌};
-ghost use Rattle.std.specs.Result.{result_err};
+ghost use Rattle.std.specs.Prelude.{◌≡◌, ◌≢◌, ◌⊎◌, ◌&&◌, ◌<◌, ◌≤◌, nat_le, length, Some, IfOk, OnOk, if◌then◌else◌};
 ghost use Rattle.card_rules.specs.declared.status.Sw.{Sw};
 ghost use Rattle.fcp_template.specs.declared.fcp.ShortIdentifier.TheVariants.{Absent};
-ghost use Rattle.fcp_template.specs.Ranges.{IsShort, IsCreatable};
-ghost use Rattle.undo_journal.specs.Memory.{committed, current, room, IsOpen, IsReady};
-ghost use Rattle.undo_journal.specs.Lent.{memory_of};
-ghost use Rattle.undo_journal.specs.Calls.{OnlyReads, Reads, Changes, SetsIn};
+ghost use Rattle.fcp_template.specs.Ranges.{IsCreatable};
 ghost use Rattle.block_chain.specs.Chains.{HasFree, free_chain};
 ghost use Rattle.file_tree.specs.declared.layout.TheConstants.{CREATE_WRITES, MOST_FILE_BLOCKS};
-ghost use Rattle.file_tree.specs.laws.Created.{AddsFile, FillsAndAdds, FillsOrAdds};
-ghost use Rattle.file_tree.specs.Table.{table, entry_in, path_of, IsUsed};
-ghost use Rattle.file_tree.specs.Trees.{tree_of, TreeStands};
+ghost use Rattle.file_tree.specs.laws.Created.{AddsFile, FillsAndAdds, FillsOrAdds, FindsPlace};
 ghost use Rattle.file_tree.specs.Changes.{SameTree};
 ghost use Rattle.file_tree.specs.Creations.{CreatesNew, TellsCreation};
-ghost use Rattle.file_tree.specs.laws.Created.{FindsPlace};
 ghost use Rattle.file_tree.specs.NewFiles.{low_bits, short_for, short_of_new, creation_refusal};
-ghost use Rattle.file_tree.specs.laws.NewEntries.{entry_for, kind_number, no_chain, padded, short_option};
-ghost use Rattle.file_tree.specs.laws.NewEntries.{record_length_of_kind, existing_of_kind};
+ghost use Rattle.file_tree.specs.laws.NewEntries.{entry_for, kind_number, no_chain, padded, short_option, record_length_of_kind, existing_of_kind};
+ghost use Rattle.file_tree.specs.laws.Terms.{committed, current, room, IsOpen, IsReady, memory_of, OnlyReads, Reads, Changes, SetsIn, result_err, table};
+ghost use Rattle.file_tree.specs.laws.Terms.{entry_in, path_of, IsUsed, tree_of, TreeStands};
 
 use crate::entry::Entry;
+use crate::kinds;
 use crate::look_up::find_short;
 use crate::placing::{Place, blocks_for, place_for};
 use crate::refusing::taken;
 use crate::writing::write_entry;
 use block_chain::{fill, take};
 use card_rules::Sw;
+use card_rules::limits::MOST_SHORT;
 use fcp_template::{Fcp, FileKind, ShortIdentifier};
 use undo_journal::{Board, Store, StoreErr, Txn};
 
@@ -41,16 +37,6 @@ pub enum Creation {
 
 /// What each byte of a new file is.
 const BLANK: u8 = 0xFF;
-
-/// The most that a short identifier is.
-const MOST_SHORT: u8 = 30;
-
-/// A short identifier, or 0 where a child has it.
-fn if_free(short: u8, is_taken: bool) -> u8
-    ensures { result ≡ (if is_taken then 0 else short) }
-{
-    if is_taken { 0 } else { short }
-}
 
 /// The low five bits of an identifier, if they are 1 to 30; else 0.
 fn low_short(identifier: u16) -> u8
@@ -78,29 +64,9 @@ fn short_by_default<B: Board>(store: &mut Store<B>, df: u8, identifier: u16) -> 
     if low == 0 {
         return Ok(0);
     }
-    let found = find_short(store, df, low)?;
-    Ok(if_free(low, found.is_some()))
-}
-
-/// The short identifier of a new file of a kind that has one; 0 for none.
-fn short_number<B: Board>(
-    store: &mut Store<B>,
-    df: u8,
-    identifier: u16,
-    short: ShortIdentifier,
-) -> Result<u8, StoreErr>
-    requires ready { IsReady store.old }
-    requires tree { TreeStands (committed store.old) }
-    requires df { IsUsed (table (committed store.old)) df }
-    requires short { IsShort short }
-    ensures short { IfOk result (λ n. short_option n
-        ≡ short_for (tree_of (committed store.old)) (path_of (table (committed store.old)) df) identifier short) }
-    ensures store { Reads store.old store.new (result_err result) }
-{
-    match short {
-        ShortIdentifier::Absent => short_by_default(store, df, identifier),
-        ShortIdentifier::Empty => Ok(0),
-        ShortIdentifier::Given(number) => Ok(number),
+    match find_short(store, df, low)? {
+        Some(_) => Ok(0),
+        None => Ok(low),
     }
 }
 
@@ -114,9 +80,13 @@ fn short_of<B: Board>(store: &mut Store<B>, df: u8, fcp: &Fcp<'_>) -> Result<u8,
         ≡ short_of_new (tree_of (committed store.old)) (path_of (table (committed store.old)) df) fcp.now) }
     ensures store { Reads store.old store.new (result_err result) }
 {
-    match fcp.kind {
-        FileKind::Df { .. } => Ok(0),
-        _ => short_number(store, df, fcp.identifier, fcp.kind.short()),
+    if let FileKind::Df { .. } = fcp.kind {
+        return Ok(0);
+    }
+    match fcp.kind.short() {
+        ShortIdentifier::Absent => short_by_default(store, df, fcp.identifier),
+        ShortIdentifier::Empty => Ok(0),
+        ShortIdentifier::Given(number) => Ok(number),
     }
 }
 
@@ -125,31 +95,23 @@ fn kind_number(kind: &FileKind<'_>) -> u8
     ensures { result ≡ kind_number kind.now }
 {
     match kind {
-        FileKind::Df { .. } => 1,
-        FileKind::Transparent { .. } => 2,
-        FileKind::Linear { .. } => 3,
-        FileKind::Cyclic { .. } => 4,
+        FileKind::Df { .. } => kinds::DEDICATED,
+        FileKind::Transparent { .. } => kinds::TRANSPARENT,
+        FileKind::Linear { .. } => kinds::LINEAR,
+        FileKind::Cyclic { .. } => kinds::CYCLIC,
     }
 }
 
-/// How many bytes a record of a file has; 0 where its kind has no records.
-fn record_length(kind: &FileKind<'_>) -> u8
-    ensures { result ≡ record_length_of_kind kind.now }
+/// How many bytes a record of a file has, and how many records of a new one exist; 0 where its kind has no records.
+fn records_of(kind: &FileKind<'_>) -> (u8, u8)
+    ensures { result ≡ (record_length_of_kind kind.now, existing_of_kind kind.now) }
 {
     match kind {
-        FileKind::Df { .. } | FileKind::Transparent { .. } => 0,
-        FileKind::Linear { records, .. } | FileKind::Cyclic { records, .. } =>
+        FileKind::Df { .. } | FileKind::Transparent { .. } => (0, 0),
+        FileKind::Linear { records, .. } | FileKind::Cyclic { records, .. } => (
             records.record_length,
-    }
-}
-
-/// How many records of a new file exist; 0 where its kind has none.
-fn existing(kind: &FileKind<'_>) -> u8
-    ensures { result ≡ existing_of_kind kind.now }
-{
-    match kind {
-        FileKind::Df { .. } | FileKind::Transparent { .. } => 0,
-        FileKind::Linear { records, .. } | FileKind::Cyclic { records, .. } => records.existing,
+            records.existing,
+        ),
     }
 }
 
@@ -172,6 +134,7 @@ fn entry_for(fcp: &Fcp<'_>, parent: u8, short: u8) -> Entry
 {
     let name = fcp.kind.name();
     let rule = fcp.rule.as_bytes();
+    let (record_length, existing) = records_of(&fcp.kind);
     Entry {
         kind: kind_number(&fcp.kind),
         life: fcp.life_cycle.to_byte(),
@@ -183,10 +146,10 @@ fn entry_for(fcp: &Fcp<'_>, parent: u8, short: u8) -> Entry
         rule: padded(rule),
         name: padded(name),
         size: fcp.kind.size(),
-        record_length: u16::from(record_length(&fcp.kind)),
+        record_length: u16::from(record_length),
         first: 0,
         last: 0,
-        records: u16::from(existing(&fcp.kind)),
+        records: u16::from(existing),
         start: 0,
     }
 }
@@ -240,6 +203,7 @@ fn write_file<B: Board>(
     let mut txn = store.begin();
     match add_file(&mut txn, e, entry, blocks) {
         Ok(()) => txn.commit(),
+        // the store keeps the error, and `abandon` answers it
         Err(_) => txn.abandon(),
     }
 }

@@ -1,36 +1,32 @@
 //! Deleting a file, with all files below it.
 
-ghost use Rattle.std.specs.Prelude.{◌≡◌, ◌≢◌, ◌⊎◌, ◌<◌, ◌≤◌, ◌+◌, ◌*◌, length, IfOk, OnOk, slice_set};
+ghost use Rattle.std.specs.Prelude.{◌≡◌, ◌⊎◌, ◌<◌, ◌≤◌, ◌+◌, length, IfOk, OnOk};
 ghost use Rattle.std.specs.List.{sum_by};
-ghost use Rattle.std.specs.Result.{result_err};
-ghost use Rattle.nvm_board.specs.declared.board.TheConstants.{WORDS};
-ghost use Rattle.undo_journal.specs.Memory.{committed, current, room, IsOpen, IsReady};
-ghost use Rattle.undo_journal.specs.Lent.{memory_of};
-ghost use Rattle.undo_journal.specs.Undo.{IsDataAddress};
-ghost use Rattle.undo_journal.specs.Calls.{Reads, Changes, SetsIn};
 ghost use Rattle.block_chain.specs.declared.layout.TheConstants.{BLOCKS};
 ghost use Rattle.block_chain.specs.Layout.{chains_of};
 ghost use Rattle.file_tree.specs.declared.layout.TheConstants.{DELETE_WRITES};
 ghost use Rattle.file_tree.specs.Spaces.{free_space};
-ghost use Rattle.file_tree.specs.Table.{table, extents, free_entries, IsUsed};
-ghost use Rattle.file_tree.specs.Trees.{tree_of, TreeStands};
+ghost use Rattle.file_tree.specs.Table.{extents};
 ghost use Rattle.file_tree.specs.Changes.{Deletes, with_freed};
 ghost use Rattle.file_tree.specs.laws.Removals.{IsRemoval};
 ghost use Rattle.file_tree.specs.laws.Subtrees.{leads_up};
 ghost use Rattle.file_tree.specs.laws.Parting.{going, part_below};
 ghost use Rattle.file_tree.specs.laws.Deleting.{CanGive, FreesEntries, Removes};
+ghost use Rattle.file_tree.specs.laws.Terms.{committed, current, room, IsOpen, IsReady, memory_of, Reads, Changes, SetsIn, result_err, table, IsUsed};
+ghost use Rattle.file_tree.specs.laws.Terms.{tree_of, TreeStands};
 
-use crate::entry::{Entry, ExtentList, FREE, Table};
-use crate::layout::{DEEPEST, ENTRIES, FIRST_ENTRY_PAGE};
+use crate::entry::{Entry, ExtentList, TABLE_ROOM, Table};
+use crate::kinds;
+use crate::layout::{DEEPEST, ENTRIES, ENTRIES_END, entry_address};
 use crate::reading::read_table;
 use crate::space::FreeSpace;
 use crate::table::{count_free, extents_of, parent_of};
 use arrayvec::ArrayVec;
 use block_chain::{Chain, Extent, give_back};
-use undo_journal::{Board, PAGE_WORDS, Store, StoreErr, Txn};
+use undo_journal::{Board, Store, StoreErr, Txn};
 
 /// The chains of some elementary files.
-type ChainList = ArrayVec<Chain, 64>;
+type ChainList = ArrayVec<Chain, TABLE_ROOM>;
 
 /// An entry is another one, or stands below it: at most seven steps to parents lead to that.
 fn is_within(entries: &[Entry], top: u8, e: u8) -> bool
@@ -52,10 +48,10 @@ fn going_entry(entries: &[Entry], top: u8, e: u8) -> Entry
     ensures { result ≡ going entries.now top e }
 {
     let entry = entries[usize::from(e)];
-    if entry.kind != 0 && is_within(entries, top, e) {
+    if entry.kind != kinds::FREE && is_within(entries, top, e) {
         entry
     } else {
-        FREE
+        Entry::free()
     }
 }
 
@@ -65,7 +61,7 @@ fn part_of(entries: &[Entry], top: u8) -> Table
     ensures { result.items ≡ part_below entries.now top }
 {
     let mut part = Table::new();
-    for e in 0..ENTRIES as u8 {
+    for e in 0..ENTRIES_END {
         part.push(going_entry(entries, top, e));
     }
     part
@@ -95,17 +91,6 @@ fn blocks_in(extents: &[Extent]) -> u16
     blocks
 }
 
-/// One set of a transaction.
-pub(crate) fn put<B: Board>(txn: &mut Txn<'_, B>, at: u16, word: u32) -> Result<(), StoreErr>
-    requires ready { IsOpen (memory_of txn.old) }
-    requires room { 0 < room (memory_of txn.old) }
-    requires place { IsDataAddress (current (memory_of txn.old)) at }
-    ensures done { OnOk result (current (memory_of txn.new) ≡ slice_set (current (memory_of txn.old)) at word) }
-    ensures store { SetsIn 1 txn.old txn.new (result_err result) }
-{
-    txn.set(at, word)
-}
-
 /// Frees each entry of which a part of the table has a file.
 fn free_part<B: Board>(txn: &mut Txn<'_, B>, part: &[Entry]) -> Result<(), StoreErr>
     requires ready { IsOpen (memory_of txn.old) }
@@ -114,9 +99,9 @@ fn free_part<B: Board>(txn: &mut Txn<'_, B>, part: &[Entry]) -> Result<(), Store
     ensures done { OnOk result (FreesEntries (current (memory_of txn.old)) part.now (current (memory_of txn.new))) }
     ensures store { SetsIn 64 txn.old txn.new (result_err result) }
 {
-    for e in 0..ENTRIES {
-        if part[usize::from(e)].kind != 0 {
-            put(txn, PAGE_WORDS * (FIRST_ENTRY_PAGE + e), 0)?;
+    for e in 0..ENTRIES_END {
+        if part[usize::from(e)].kind != kinds::FREE {
+            txn.set(entry_address(e), 0)?;
         }
     }
     Ok(())
@@ -153,6 +138,7 @@ fn remove<B: Board>(store: &mut Store<B>, part: &[Entry], chains: &[Chain]) -> R
     let mut txn = store.begin();
     match take_away(&mut txn, part, chains) {
         Ok(()) => txn.commit(),
+        // the store keeps the error, and `abandon` answers it
         Err(_) => txn.abandon(),
     }
 }

@@ -1,10 +1,12 @@
 //! File entries, as their pages hold them.
 
-ghost use Rattle.std.specs.Prelude.{◌≡◌, ◌++◌, IsTrue, ◌↔◌};
+ghost use Rattle.std.specs.Prelude.{◌≡◌, ◌++◌};
 ghost use Rattle.block_chain.specs.Words.{word_bytes};
-ghost use Rattle.file_tree.specs.Entries.{high, low, entry_of, name_of, rule_of, extent_of};
+ghost use Rattle.file_tree.specs.Entries.{high, low, free_entry, entry_of, name_of, rule_of, extent_of};
 
-use crate::layout::ENTRIES;
+use crate::kinds;
+use crate::layout::{ENTRIES, ENTRY_WORDS, RECORDS_WORD};
+use crate::placing::blocks_for;
 use arrayvec::ArrayVec;
 use block_chain::{Chain, Extent};
 
@@ -12,7 +14,7 @@ use block_chain::{Chain, Extent};
 /// entries are a tree.
 #[derive(Clone, Copy, Default)]
 pub struct Entry {
-    /// 0 free, 1 a dedicated file, 2 a transparent, 3 a linear, 4 a cyclic elementary file.
+    /// One of `kinds`.
     pub kind: u8,
     /// The life cycle status byte (ISO/IEC 7816-4, 7.4.10).
     pub life: u8,
@@ -44,7 +46,8 @@ pub struct Entry {
     pub start: u16,
 }
 
-const TABLE_ROOM: usize = ENTRIES as usize;
+/// The most elements of a list that has at most one for each entry.
+pub(crate) const TABLE_ROOM: usize = ENTRIES as usize;
 
 /// The file entries of a memory, in the order of their numbers.
 pub type Table = ArrayVec<Entry, TABLE_ROOM>;
@@ -52,35 +55,20 @@ pub type Table = ArrayVec<Entry, TABLE_ROOM>;
 /// The extents of elementary files.
 pub type ExtentList = ArrayVec<Extent, TABLE_ROOM>;
 
-/// The words of a page that an entry takes.
-pub(crate) const ENTRY_WORDS: usize = 11;
-
-/// The entry that no file has.
-pub(crate) const FREE: Entry = Entry {
-    kind: 0,
-    life: 0,
-    identifier: 0,
-    parent: 0,
-    short: 0,
-    name_length: 0,
-    rule_length: 0,
-    rule: [0; 8],
-    name: [0; 16],
-    size: 0,
-    record_length: 0,
-    first: 0,
-    last: 0,
-    records: 0,
-    start: 0,
-};
-
 impl Entry {
+    /// The entry that no file has.
+    pub(crate) fn free() -> Entry
+        ensures { result ≡ free_entry }
+    {
+        Entry::default()
+    }
+
     /// The entry that the first words of a page tell.
     pub(crate) fn from_words(words: &[u32; ENTRY_WORDS]) -> Entry
         ensures { result ≡ entry_of words.now }
     {
         if words[0] == 0 {
-            return FREE;
+            return Entry::free();
         }
         let [kind, life, _, _] = words[0].to_be_bytes();
         let [parent, short, name_length, rule_length] = words[1].to_be_bytes();
@@ -98,8 +86,8 @@ impl Entry {
             record_length: low(words[8]),
             first: high(words[9]),
             last: low(words[9]),
-            records: high(words[10]),
-            start: low(words[10]),
+            records: high(words[RECORDS_WORD as usize]),
+            start: low(words[RECORDS_WORD as usize]),
         }
     }
 
@@ -124,18 +112,15 @@ impl Entry {
     pub(crate) fn extent(&self) -> Option<Extent>
         ensures { result ≡ extent_of self.now }
     {
-        if self.kind < 2 {
+        if self.kind < kinds::TRANSPARENT {
             return None;
         }
         let chain = Chain {
             first: self.first,
             last: self.last,
         };
-        let blocks = (u32::from(self.size) + 59) / 60;
-        Some(Extent {
-            chain,
-            blocks: blocks as u16,
-        })
+        let blocks = blocks_for(self.size);
+        Some(Extent { chain, blocks })
     }
 }
 

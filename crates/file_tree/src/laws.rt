@@ -1,19 +1,19 @@
 //! Laws of the tree that a memory stands for.
 
-ghost use Rattle.std.specs.Prelude.{◌≡◌, ◌<◌, ◌&&◌, ℕ, List, ◌∷◌, ◌++◌, length, Option, Some, None, false, IsTrue};
+ghost use Rattle.std.specs.Prelude.{◌≡◌, ◌&&◌, ℕ, List, ◌∷◌, ◌++◌, length, Some, None, false, IsTrue};
 ghost use Rattle.std.specs.FinMap.{get};
 ghost use Rattle.nvm_board.specs.declared.board.TheConstants.{WORDS};
+ghost use Rattle.card_rules.specs.declared.identifiers.TheConstants.{MASTER_FILE};
 ghost use Rattle.block_chain.specs.Chains.{free_chain};
-ghost use Rattle.file_tree.specs.declared.layout.TheConstants.{FIRST_ENTRY_PAGE, ENTRIES, DEEPEST, MASTER_FILE};
-ghost use Rattle.file_tree.specs.declared.layout.TheConstants.{MOST_FILE_BLOCKS, CREATE_WRITES, DELETE_WRITES};
+ghost use Rattle.file_tree.specs.declared.layout.TheConstants.{FIRST_ENTRY_PAGE, ENTRIES, DEEPEST, MOST_FILE_BLOCKS, CREATE_WRITES, DELETE_WRITES};
 ghost use Rattle.file_tree.specs.declared.layout.TheConstants.{STATE_WORD, CARD_TERMINATED};
 ghost use Rattle.file_tree.specs.Cards.{Path, IsTree, master_file, exists, file_at, is_dedicated};
 ghost use Rattle.file_tree.specs.Reaching.{IsReserved};
 ghost use Rattle.file_tree.specs.Spaces.{free_space};
-ghost use Rattle.file_tree.specs.Table.{table, path_of, free_entries, IsUsed};
-ghost use Rattle.file_tree.specs.Trees.{tree_of, TreeStands};
+ghost use Rattle.file_tree.specs.Table.{free_entries};
 ghost use Rattle.file_tree.specs.laws.Footprints.{KeepsTree};
 ghost use Rattle.file_tree.specs.laws.Nodes.{file_in};
+ghost use Rattle.file_tree.specs.laws.Terms.{table, path_of, IsUsed, tree_of, TreeStands};
 
 /// Entry 0 is on page 1, there are 64 entries, no file is more than seven steps below the master file, and this has the
 /// identifier 3F00. The largest file has 547 blocks; a creation makes at most 587 device writes, a deletion 388.

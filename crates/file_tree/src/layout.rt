@@ -1,30 +1,52 @@
 //! Where file entries lie in the memory, and how deep the tree may be.
 
+ghost use Rattle.std.specs.Prelude.{◌≡◌, ◌<◌, ◌+◌};
+ghost use Rattle.nvm_board.specs.Facts.{address};
+ghost use Rattle.file_tree.specs.declared.layout.TheConstants.{FIRST_ENTRY_PAGE};
+
+use block_chain::BLOCK_BYTES;
+use card_rules::limits::MOST_BYTES;
+use undo_journal::PAGE_WORDS;
+
 /// The page of entry 0, which is the master file's. Each entry has a page of its own.
 pub const FIRST_ENTRY_PAGE: u16 = 1;
 
 /// File entries, the master file's among them.
 pub const ENTRIES: u16 = 64;
 
+/// The number that follows the last entry's: entries count from 0.
+pub(crate) const ENTRIES_END: u8 = ENTRIES as u8;
+
+/// The words of a page that an entry takes.
+pub(crate) const ENTRY_WORDS: usize = 11;
+
+/// The word of an entry that tells how many records there are, and the slot of record 1.
+pub const RECORDS_WORD: u16 = 10;
+
 /// The most steps from a file up to the master file, which stands at level 1: no file stands below level 8.
 pub const DEEPEST: u8 = 7;
-
-/// The identifier of the master file (ISO/IEC 7816-4, 7.4.1).
-pub const MASTER_FILE: u16 = 0x3F00;
 
 /// The most device writes of a deletion: three for each entry that is freed, for each chain that is given back and for
 /// the header's word of free blocks, and one for the commit.
 pub(crate) const DELETE_WRITES: u16 = 3 * (ENTRIES + ENTRIES + 1) + 1;
 
-/// The most blocks of a file: those of 32,767 bytes.
-pub(crate) const MOST_FILE_BLOCKS: u16 = 547;
+/// The most blocks of a file.
+pub(crate) const MOST_FILE_BLOCKS: u16 = (MOST_BYTES + BLOCK_BYTES - 1) / BLOCK_BYTES;
 
 /// The most device writes of a creation: one for each block that is filled, three for each word of the entry, for the last
 /// block's link and for the header's word of free blocks, and one for the commit.
-pub(crate) const CREATE_WRITES: u16 = MOST_FILE_BLOCKS + 3 * (11 + 2) + 1;
+pub(crate) const CREATE_WRITES: u16 = MOST_FILE_BLOCKS + 3 * (ENTRY_WORDS as u16 + 2) + 1;
 
 /// The header's word that holds the state of the card: 0 in use, 1 terminated.
 pub const STATE_WORD: u16 = 2;
 
 /// The state of a card whose use has ended.
 pub const CARD_TERMINATED: u32 = 1;
+
+/// The address of the first word of an entry.
+pub(crate) fn entry_address(e: u8) -> u16
+    requires { e < 64 }
+    ensures { result ≡ address (FIRST_ENTRY_PAGE + e) 0 }
+{
+    PAGE_WORDS * (FIRST_ENTRY_PAGE + u16::from(e))
+}

@@ -4,6 +4,7 @@
 mod creating;
 mod deleting;
 mod entry;
+pub mod kinds;
 pub mod laws;
 mod layout;
 mod life_cycles;
@@ -21,7 +22,7 @@ mod writing;
 pub use creating::{Creation, create};
 pub use deleting::delete;
 pub use entry::{Entry, ExtentList, Table};
-pub use layout::{CARD_TERMINATED, DEEPEST, ENTRIES, FIRST_ENTRY_PAGE, MASTER_FILE, STATE_WORD};
+pub use layout::{CARD_TERMINATED, DEEPEST, ENTRIES, FIRST_ENTRY_PAGE, RECORDS_WORD, STATE_WORD};
 pub use life_cycles::{is_allowed, is_barred, next_life_cycle, set_life_cycle, terminate_card};
 pub use look_up::{find_child, find_short, select};
 pub use naming::{find_name, find_parent, find_path, find_path_from_master};

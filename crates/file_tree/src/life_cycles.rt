@@ -1,24 +1,15 @@
 //! Life cycles of files (ISO/IEC 7816-9; ISO/IEC 7816-4, 7.4.10): which files are barred, and a file in another state.
 
-ghost use Rattle.std.specs.Prelude.{◌≡◌, ◌≢◌, ◌⊎◌, ◌||◌, ◌<◌, ◌+◌, ℕ, length, slice_set, None, IsTrue, if◌then◌else◌, IfOk, OnOk};
-ghost use Rattle.std.specs.Result.{result_err};
-ghost use Rattle.card_rules.specs.LifeCycle.{state_after};
-ghost use Rattle.card_rules.specs.Rule.{allows, is_rule};
-ghost use Rattle.nvm_board.specs.Facts.{address};
-ghost use Rattle.undo_journal.specs.Memory.{committed, IsReady};
+ghost use Rattle.std.specs.Prelude.{◌≡◌, ◌⊎◌, ◌<◌, ◌+◌, slice_set, None, IfOk, OnOk};
 ghost use Rattle.undo_journal.specs.Undo.{IsDataAddress};
-ghost use Rattle.undo_journal.specs.Calls.{OnlyReads, Reads, Changes};
-ghost use Rattle.file_tree.specs.declared.layout.TheConstants.{FIRST_ENTRY_PAGE};
-ghost use Rattle.file_tree.specs.Entries.{rule_of};
 ghost use Rattle.file_tree.specs.States.{bars, is_allowed, is_barred, life_at, next_life, with_card_terminated, ChangesLife};
-ghost use Rattle.file_tree.specs.Table.{table, entry_in, path_of, IsUsed};
-ghost use Rattle.file_tree.specs.Trees.{tree_of, TreeStands};
 ghost use Rattle.file_tree.specs.laws.Barring.{barred_up, life_told};
 ghost use Rattle.file_tree.specs.laws.Living.{TellsLife};
+ghost use Rattle.file_tree.specs.laws.Terms.{committed, IsReady, OnlyReads, Reads, Changes, result_err, table, entry_in, path_of, IsUsed, tree_of};
+ghost use Rattle.file_tree.specs.laws.Terms.{TreeStands};
 
-use crate::deleting::put;
 use crate::entry::Entry;
-use crate::layout::{CARD_TERMINATED, DEEPEST, FIRST_ENTRY_PAGE, STATE_WORD};
+use crate::layout::{CARD_TERMINATED, DEEPEST, STATE_WORD, entry_address};
 use crate::reading::read_entry;
 use crate::writing::two_bytes;
 use block_chain::HEADER_PAGE;
@@ -39,10 +30,7 @@ fn bars(life: LifeCycle) -> bool
 fn life_of(entry: &Entry) -> LifeCycle
     ensures { result ≡ life_told entry.now }
 {
-    match LifeCycle::from_byte(entry.life) {
-        Some(life) => life,
-        None => LifeCycle::Activated,
-    }
+    LifeCycle::from_byte(entry.life).unwrap_or(LifeCycle::Activated)
 }
 
 /// A file above that of an entry is deactivated or terminated. By at most seven steps from child to parent all files above
@@ -70,18 +58,6 @@ fn is_below_barred<B: Board>(store: &mut Store<B>, e: u8, parent: u8) -> Result<
         above = entry.parent;
     }
     Ok(false)
-}
-
-/// The state of an entry's file after a command, or None where it is refused: `barred` says that a file above is
-/// deactivated or terminated.
-fn next_of(entry: &Entry, barred: bool, command: LifeCycleCommand) -> Option<LifeCycle>
-    ensures { result ≡ (if barred then None else state_after command (life_told entry.now)) }
-{
-    if barred {
-        None
-    } else {
-        LifeCycle::next_state(command, life_of(entry))
-    }
 }
 
 /// The file of an entry is barred: it, or a file above it, is deactivated or terminated.
@@ -122,7 +98,10 @@ pub fn next_life_cycle<B: Board>(
 {
     let entry = read_entry(store, e)?;
     let barred = is_below_barred(store, e, entry.parent)?;
-    Ok(next_of(&entry, barred, command))
+    if barred {
+        return Ok(None);
+    }
+    Ok(LifeCycle::next_state(command, life_of(&entry)))
 }
 
 /// The first word of an entry in another state.
@@ -142,23 +121,11 @@ fn write_word<B: Board>(store: &mut Store<B>, at: u16, word: u32) -> Result<(), 
     ensures store { Changes 4 store.old store.new (result_err result) }
 {
     let mut txn = store.begin();
-    match put(&mut txn, at, word) {
+    match txn.set(at, word) {
         Ok(()) => txn.commit(),
+        // the store keeps the error, and `abandon` answers it
         Err(_) => txn.abandon(),
     }
-}
-
-/// Writes the first word of an entry, in a transaction.
-fn write_life<B: Board>(store: &mut Store<B>, e: u8, word: u32) -> Result<(), StoreErr>
-    requires ready { IsReady store.old }
-    requires within { e < 64 }
-    ensures any_exit { (committed store.new ≡ committed store.old)
-        ⊎ (committed store.new ≡ slice_set (committed store.old) (address (FIRST_ENTRY_PAGE + e) 0) word) }
-    ensures done { OnOk result
-        (committed store.new ≡ slice_set (committed store.old) (address (FIRST_ENTRY_PAGE + e) 0) word) }
-    ensures store { Changes 4 store.old store.new (result_err result) }
-{
-    write_word(store, PAGE_WORDS * (FIRST_ENTRY_PAGE + u16::from(e)), word)
 }
 
 /// Brings the file of an entry into a state: ACTIVATE, DEACTIVATE and TERMINATE, once nothing refuses them. Where the file
@@ -187,18 +154,7 @@ pub fn set_life_cycle<B: Board>(
     if entry.life == life {
         return Ok(());
     }
-    write_life(store, e, life_word(&entry, life))
-}
-
-/// Whether the rule that an entry has allows what the bit stands for, in the state that it tells.
-fn allows_in(entry: &Entry, bit: AccessBit, verified: &Verified) -> bool
-    requires { IsTrue (is_rule (rule_of entry.now)) }
-    ensures { result ≡ allows (rule_of entry.now) bit (life_told entry.now) verified.now }
-{
-    match Compact::parse(entry.rule()) {
-        Some(rule) => rule.allows(bit, life_of(entry), verified),
-        None => false,
-    }
+    write_word(store, entry_address(e), life_word(&entry, life))
 }
 
 /// Whether the access rule of an entry's file allows what the bit stands for, where these PINs are verified (ISO/IEC
@@ -220,7 +176,10 @@ pub fn is_allowed<B: Board>(
     ensures store { Reads store.old store.new (result_err result) }
 {
     let entry = read_entry(store, e)?;
-    Ok(allows_in(&entry, bit, verified))
+    match Compact::parse(entry.rule()) {
+        Some(rule) => Ok(rule.allows(bit, life_of(&entry), verified)),
+        None => Ok(false),
+    }
 }
 
 /// Ends the use of the card: the state of the card in the header is "terminated". No other word changes. A card whose use

@@ -1,36 +1,68 @@
 //! Files by their names: every look-up of an identifier goes through `find_child`.
 
-ghost use Rattle.std.specs.Prelude.{◌≡◌, ◌==◌, ◌≤◌, ◌<◌, ◌&&◌, ◌↔◌, not, IsTrue, IfOk, IfSome, Some, None};
-ghost use Rattle.std.specs.Prelude.{if◌then◌else◌, option_map};
-ghost use Rattle.std.specs.Result.{result_err};
-ghost use Rattle.undo_journal.specs.Memory.{committed, IsReady};
-ghost use Rattle.undo_journal.specs.Calls.{Reads};
+ghost use Rattle.std.specs.Prelude.{◌≡◌, ◌==◌, ◌≤◌, ◌<◌, ◌&&◌, ◌↔◌, not, IsTrue, IfOk, IfSome, Some, None, if◌then◌else◌, option_map};
 ghost use Rattle.file_tree.specs.Cards.{master_file};
 ghost use Rattle.file_tree.specs.Reaching.{reached, child_by_short};
-ghost use Rattle.file_tree.specs.Table.{table, entry_in, path_of, IsUsed, IsChild};
-ghost use Rattle.file_tree.specs.Trees.{tree_of, TreeStands};
-ghost use Rattle.file_tree.specs.laws.LookUps.{StandsIn, NamesChild, NamesShort, TellsChild, TellsShort, TellsBeside, TellsAbove};
+ghost use Rattle.file_tree.specs.Table.{IsChild};
+ghost use Rattle.file_tree.specs.laws.LookUps.{IsKnownBy, IsChildBy, TellsChildBy, TellsChild, TellsBeside, TellsAbove};
+ghost use Rattle.file_tree.specs.laws.Terms.{committed, IsReady, Reads, result_err, table, entry_in, path_of, IsUsed, tree_of, TreeStands};
 
 use crate::entry::Entry;
-use crate::layout::{ENTRIES, MASTER_FILE};
+use crate::kinds;
+use crate::layout::ENTRIES_END;
 use crate::reading::read_entry;
+use card_rules::identifiers::MASTER_FILE;
 use undo_journal::{Board, Store, StoreErr};
 
-/// An entry is that of a child of a dedicated file.
-fn stands_in(entry: &Entry, df: u8) -> bool
-    ensures { IsTrue result ↔ StandsIn entry.now df }
-{
-    entry.kind != 0 && entry.parent == df
+/// What a child of a dedicated file is known by.
+#[derive(Clone, Copy)]
+enum ChildKey {
+    /// The file identifier.
+    Identifier(u16),
+    /// The short identifier, 1 to 30.
+    ShortIdentifier(u8),
 }
 
-/// An entry is that of a child of a dedicated file with this identifier.
-fn is_child(entry: &Entry, df: u8, identifier: u16) -> bool
-    ensures { IsTrue result ↔ NamesChild entry.now df identifier }
+/// An entry tells what a child is known by.
+fn is_known_by(entry: &Entry, key: ChildKey) -> bool
+    ensures { IsTrue result ↔ IsKnownBy key entry.now }
 {
-    stands_in(entry, df) && entry.identifier == identifier
+    match key {
+        ChildKey::Identifier(identifier) => entry.identifier == identifier,
+        ChildKey::ShortIdentifier(short) => entry.short == short,
+    }
+}
+
+/// An entry is that of the child of a dedicated file that is known by this.
+fn is_child(entry: &Entry, df: u8, key: ChildKey) -> bool
+    ensures { IsTrue result ↔ IsChildBy entry.now df key }
+{
+    entry.kind != kinds::FREE && entry.parent == df && is_known_by(entry, key)
+}
+
+/// The entry of the child of a dedicated file that is known by this, if it has one.
+fn first_child<B: Board>(
+    store: &mut Store<B>,
+    df: u8,
+    key: ChildKey,
+) -> Result<Option<u8>, StoreErr>
+    requires ready { IsReady store.old }
+    ensures found { IfOk result (TellsChildBy (table (committed store.old)) df key) }
+    ensures store { Reads store.old store.new (result_err result) }
+{
+    for e in 1..ENTRIES_END {
+        let entry = read_entry(store, e)?;
+        if is_child(&entry, df, key) {
+            return Ok(Some(e));
+        }
+    }
+    Ok(None)
 }
 
 /// The entry of the child of a dedicated file with this identifier, if it has one.
+///
+/// # Errors
+/// What the store answers: power was lost, or the device failed.
 pub fn find_child<B: Board>(
     store: &mut Store<B>,
     df: u8,
@@ -40,39 +72,7 @@ pub fn find_child<B: Board>(
     ensures found { IfOk result (TellsChild (table (committed store.old)) df identifier) }
     ensures store { Reads store.old store.new (result_err result) }
 {
-    for e in 1..ENTRIES as u8 {
-        let entry = read_entry(store, e)?;
-        if is_child(&entry, df, identifier) {
-            return Ok(Some(e));
-        }
-    }
-    Ok(None)
-}
-
-/// An entry is that of a child of a dedicated file with this short identifier.
-fn has_short_identifier(entry: &Entry, df: u8, short: u8) -> bool
-    ensures { IsTrue result ↔ NamesShort entry.now df short }
-{
-    stands_in(entry, df) && entry.short == short
-}
-
-/// The entry of the child of a dedicated file with this short identifier, 1 to 30, if it has one.
-fn find_short_child<B: Board>(
-    store: &mut Store<B>,
-    df: u8,
-    short: u8,
-) -> Result<Option<u8>, StoreErr>
-    requires ready { IsReady store.old }
-    ensures found { IfOk result (TellsShort (table (committed store.old)) df short) }
-    ensures store { Reads store.old store.new (result_err result) }
-{
-    for e in 1..ENTRIES as u8 {
-        let entry = read_entry(store, e)?;
-        if has_short_identifier(&entry, df, short) {
-            return Ok(Some(e));
-        }
-    }
-    Ok(None)
+    first_child(store, df, ChildKey::Identifier(identifier))
 }
 
 /// The entry of the child of a dedicated file that a short identifier names, if it has one.
@@ -90,14 +90,7 @@ pub fn find_short<B: Board>(store: &mut Store<B>, df: u8, short: u8) -> Result<O
     ensures elementary { IfOk result (λ found. IfSome found (λ e. 2 ≤ (entry_in (table (committed store.old)) e).kind)) }
     ensures store { Reads store.old store.new (result_err result) }
 {
-    find_short_child(store, df, short)
-}
-
-/// The number of an entry whose file is a dedicated one.
-fn if_dedicated(e: u8, entry: &Entry) -> Option<u8>
-    ensures { result ≡ (if entry.now.kind == 1 then Some e else None) }
-{
-    if entry.kind == 1 { Some(e) } else { None }
+    first_child(store, df, ChildKey::ShortIdentifier(short))
 }
 
 /// A dedicated file beside this one with this identifier. The master file has none beside it.
@@ -120,7 +113,7 @@ fn find_beside<B: Board>(
         return Ok(None);
     };
     let other = read_entry(store, beside)?;
-    Ok(if_dedicated(beside, &other))
+    Ok((other.kind == kinds::DEDICATED).then_some(beside))
 }
 
 /// The first with this identifier of the parent of a dedicated file, itself and the master file, by their entries.

@@ -1,17 +1,14 @@
 //! Files by their names, and along paths: what SELECT reaches but by two bytes (ISO/IEC 7816-4, 7.3.1 and 11.2.2).
 
-ghost use Rattle.std.specs.Prelude.{◌≡◌, ◌↔◌, ℕ, length, option_map, IfOk, IfSome, IsTrue};
-ghost use Rattle.std.specs.Result.{result_err};
-ghost use Rattle.undo_journal.specs.Memory.{committed, IsReady};
-ghost use Rattle.undo_journal.specs.Calls.{Reads};
+ghost use Rattle.std.specs.Prelude.{◌≡◌, ◌↔◌, length, option_map, IfOk, IfSome, IsTrue};
 ghost use Rattle.file_tree.specs.Cards.{Path};
 ghost use Rattle.file_tree.specs.Reaching.{selected, the_parent, by_name, path_from_master, path_from_current};
-ghost use Rattle.file_tree.specs.Table.{table, path_of, IsUsed};
-ghost use Rattle.file_tree.specs.Trees.{tree_of, TreeStands};
 ghost use Rattle.file_tree.specs.laws.Refusing.{BearsName, TellsNamed};
+ghost use Rattle.file_tree.specs.laws.Terms.{committed, IsReady, Reads, result_err, table, path_of, IsUsed, tree_of, TreeStands};
 
 use crate::entry::Entry;
-use crate::layout::ENTRIES;
+use crate::kinds;
+use crate::layout::ENTRIES_END;
 use crate::look_up::find_child;
 use crate::reading::{read_entry, read_table};
 use undo_journal::{Board, Store, StoreErr};
@@ -20,7 +17,7 @@ use undo_journal::{Board, Store, StoreErr};
 fn bears_name(entry: &Entry, name: &[u8]) -> bool
     ensures { IsTrue result ↔ BearsName entry.now name.now }
 {
-    entry.kind == 1 && entry.name_length != 0 && entry.name() == name
+    entry.kind == kinds::DEDICATED && entry.name_length != 0 && entry.name() == name
 }
 
 /// The entry of the dedicated file with this name, if there is one.
@@ -28,7 +25,7 @@ pub(crate) fn entry_named(entries: &[Entry], name: &[u8]) -> Option<u8>
     requires { length entries.now ≡ 64 }
     ensures { TellsNamed entries.now name.now result }
 {
-    for e in 0..ENTRIES as u8 {
+    for e in 0..ENTRIES_END {
         if bears_name(&entries[usize::from(e)], name) {
             return Some(e);
         }

@@ -1,15 +1,12 @@
 //! Entries read from a store.
 
 ghost use Rattle.std.specs.Prelude.{◌≡◌, ◌+◌, ◌<◌, ℕ, slice_index, IfOk};
-ghost use Rattle.std.specs.Result.{result_err};
-ghost use Rattle.undo_journal.specs.Memory.{committed, IsReady};
-ghost use Rattle.undo_journal.specs.Calls.{Reads};
 ghost use Rattle.block_chain.specs.Words.{word};
-ghost use Rattle.file_tree.specs.Table.{table, entry_in};
+ghost use Rattle.file_tree.specs.laws.Terms.{committed, IsReady, Reads, result_err, table, entry_in};
 
-use crate::entry::{ENTRY_WORDS, Entry, Table};
-use crate::layout::{ENTRIES, FIRST_ENTRY_PAGE};
-use undo_journal::{Board, PAGE_WORDS, Store, StoreErr};
+use crate::entry::{Entry, Table};
+use crate::layout::{ENTRIES_END, ENTRY_WORDS, entry_address};
+use undo_journal::{Board, Store, StoreErr};
 
 /// The words of an entry's page that an entry takes, each read once.
 fn read_words<B: Board>(store: &mut Store<B>, e: u8) -> Result<[u32; ENTRY_WORDS], StoreErr>
@@ -19,15 +16,18 @@ fn read_words<B: Board>(store: &mut Store<B>, e: u8) -> Result<[u32; ENTRY_WORDS
         → slice_index words k ≡ word (committed store.old) (1 + e) k) }
     ensures store { Reads store.old store.new (result_err result) }
 {
-    let page = FIRST_ENTRY_PAGE + u16::from(e);
+    let first = entry_address(e);
     let mut words = [0; ENTRY_WORDS];
     for k in 0..ENTRY_WORDS {
-        words[k] = store.read(PAGE_WORDS * page + k as u16)?;
+        words[k] = store.read(first + k as u16)?;
     }
     Ok(words)
 }
 
 /// An entry by its number, as its page tells it.
+///
+/// # Errors
+/// What the store answers: power was lost, or the device failed.
 pub fn read_entry<B: Board>(store: &mut Store<B>, e: u8) -> Result<Entry, StoreErr>
     requires ready { IsReady store.old }
     requires within { e < 64 }
@@ -39,13 +39,16 @@ pub fn read_entry<B: Board>(store: &mut Store<B>, e: u8) -> Result<Entry, StoreE
 }
 
 /// All entries, in the order of their numbers. It reads eleven words of each.
+///
+/// # Errors
+/// What the store answers: power was lost, or the device failed.
 pub fn read_table<B: Board>(store: &mut Store<B>) -> Result<Table, StoreErr>
     requires ready { IsReady store.old }
     ensures table { IfOk result (λ entries. entries.items ≡ table (committed store.old)) }
     ensures store { Reads store.old store.new (result_err result) }
 {
     let mut entries = Table::new();
-    for e in 0..ENTRIES as u8 {
+    for e in 0..ENTRIES_END {
         entries.push(read_entry(store, e)?);
     }
     Ok(entries)

@@ -1,22 +1,20 @@
 //! Whether a new file is refused, and why.
 
-ghost use Rattle.std.specs.Prelude.{◌≡◌, ◌≢◌, ◌↔◌, ◌<◌, ◌≤◌, ◌∷◌, [], ◌++◌, length, IfOk, IsTrue, if◌then◌else◌, Some, None};
-ghost use Rattle.std.specs.Result.{result_err};
+ghost use Rattle.std.specs.Prelude.{◌≡◌, ◌≢◌, ◌↔◌, ◌<◌, length, IfOk, IsTrue, if◌then◌else◌, Some, None};
 ghost use Rattle.card_rules.specs.declared.status.TheConstants.Sw.{FILE_EXISTS, NAME_EXISTS, WRONG_DATA};
 ghost use Rattle.fcp_template.specs.Ranges.{IsShort, IsCreatable};
-ghost use Rattle.undo_journal.specs.Memory.{committed, IsReady};
-ghost use Rattle.undo_journal.specs.Calls.{Reads};
-ghost use Rattle.file_tree.specs.Table.{table, entry_in, ancestor, path_of, IsUsed};
-ghost use Rattle.file_tree.specs.Trees.{tree_of, TreeStands};
+ghost use Rattle.file_tree.specs.Table.{ancestor};
 ghost use Rattle.file_tree.specs.NewFiles.{has_short_given, taken_refusal};
 ghost use Rattle.file_tree.specs.laws.Refusing.{TellsFreeEntry};
+ghost use Rattle.file_tree.specs.laws.Terms.{committed, IsReady, Reads, result_err, table, path_of, IsUsed, tree_of, TreeStands};
 
 use crate::entry::Entry;
-use crate::layout::{DEEPEST, ENTRIES};
+use crate::kinds;
+use crate::layout::{DEEPEST, ENTRIES_END};
 use crate::look_up::{find_child, find_short};
 use crate::naming::entry_named;
 use crate::reading::read_table;
-use crate::table::parent_of;
+use crate::table::ancestor;
 use card_rules::Sw;
 use fcp_template::{Fcp, ShortIdentifier};
 use undo_journal::{Board, Store, StoreErr};
@@ -25,11 +23,7 @@ use undo_journal::{Board, Store, StoreErr};
 pub(crate) fn is_deepest(entries: &[Entry], df: u8) -> bool
     ensures { IsTrue result ↔ (ancestor entries.now 6 df ≢ 0) }
 {
-    let mut at = df;
-    for _step in 0..DEEPEST - 1 {
-        at = parent_of(entries, at);
-    }
-    at != 0
+    ancestor(entries, DEEPEST - 1, df) != 0
 }
 
 /// The first entry that no file has.
@@ -37,8 +31,8 @@ pub(crate) fn first_free(entries: &[Entry]) -> Option<u8>
     requires { length entries.now ≡ 64 }
     ensures { TellsFreeEntry entries.now result }
 {
-    for e in 0..ENTRIES as u8 {
-        if entries[usize::from(e)].kind == 0 {
+    for e in 0..ENTRIES_END {
+        if entries[usize::from(e)].kind == kinds::FREE {
             return Some(e);
         }
     }
@@ -68,17 +62,24 @@ fn is_short_taken<B: Board>(
     }
 }
 
-/// The first reason why a new file is refused, of which of its names are taken: first its identifier, then its name, then
-/// its short identifier.
-fn first_taken(identifier: bool, name: bool, short: bool) -> Option<Sw>
-    ensures { result ≡ (if identifier then Some FILE_EXISTS else if name then Some NAME_EXISTS else
-        if short then Some WRONG_DATA else None) }
+/// Which names of a new file other files have.
+#[derive(Clone, Copy)]
+struct TakenNames {
+    identifier: bool,
+    name: bool,
+    short: bool,
+}
+
+/// The first reason why a new file is refused: its identifier is taken, its name, or its short identifier.
+fn first_taken(taken: TakenNames) -> Option<Sw>
+    ensures { result ≡ (if taken.identifier then Some FILE_EXISTS else if taken.name then Some NAME_EXISTS else
+        if taken.short then Some WRONG_DATA else None) }
 {
-    if identifier {
+    if taken.identifier {
         Some(Sw::FILE_EXISTS)
-    } else if name {
+    } else if taken.name {
         Some(Sw::NAME_EXISTS)
-    } else if short {
+    } else if taken.short {
         Some(Sw::WRONG_DATA)
     } else {
         None
@@ -103,5 +104,9 @@ pub(crate) fn taken<B: Board>(
     let entries = read_table(store)?;
     let named = entry_named(entries.as_slice(), fcp.kind.name());
     let short = is_short_taken(store, df, fcp.kind.short())?;
-    Ok(first_taken(child.is_some(), named.is_some(), short))
+    Ok(first_taken(TakenNames {
+        identifier: child.is_some(),
+        name: named.is_some(),
+        short,
+    }))
 }

@@ -1,30 +1,19 @@
 //! The rules on one entry.
 
-ghost use Rattle.std.specs.Prelude.{◌≡◌, ◌≢◌, ◌⊎◌, ◌↔◌, IsTrue, All};
-ghost use Rattle.file_tree.specs.Table.{IsTransparentBody, IsRecordBody, HasShort, HasName, HasRule, HasBody};
-ghost use Rattle.file_tree.specs.Table.{IsFileEntry, IsEntry};
+ghost use Rattle.std.specs.Prelude.{◌↔◌, IsTrue, All};
+ghost use Rattle.file_tree.specs.Table.{IsTransparentBody, IsRecordBody, HasShort, HasName, HasRule, HasBody, IsFileEntry, IsEntry};
 
 use crate::entry::Entry;
+use crate::kinds;
+use card_rules::identifiers::{CURRENT_FILE, RESERVED};
+use card_rules::limits::{MOST_BYTES, MOST_RECORD_BYTES, MOST_RECORDS, MOST_SHORT};
 use card_rules::{Compact, LifeCycle};
-
-/// The most bytes of a body.
-const MOST_BYTES: u16 = 32_767;
-
-/// The most bytes of a record.
-const MOST_RECORD_BYTES: u16 = 255;
-
-/// The most records of a body.
-const MOST_RECORDS: u16 = 254;
-
-/// The highest short identifier.
-const MOST_SHORT: u8 = 30;
 
 /// A body of bytes: 1 to 32,767 of them, and no records.
 fn is_transparent_body(entry: &Entry) -> bool
     ensures { IsTrue result ↔ IsTransparentBody entry.now }
 {
-    1 <= entry.size
-        && entry.size <= MOST_BYTES
+    (1..=MOST_BYTES).contains(&entry.size)
         && entry.record_length == 0
         && entry.records == 0
         && entry.start == 0
@@ -35,19 +24,17 @@ fn is_record_body(entry: &Entry) -> bool
     ensures { IsTrue result ↔ IsRecordBody entry.now }
 {
     let length = entry.record_length;
-    if length == 0
-        || length > MOST_RECORD_BYTES
+    if !(1..=MOST_RECORD_BYTES).contains(&length)
         || entry.size > MOST_BYTES
         || entry.size % length != 0
     {
         return false;
     }
     let capacity = entry.size / length;
-    1 <= capacity
-        && capacity <= MOST_RECORDS
+    (1..=MOST_RECORDS).contains(&capacity)
         && entry.records <= capacity
         && entry.start < capacity
-        && (entry.kind != 3 || entry.start == 0)
+        && (entry.kind != kinds::LINEAR || entry.start == 0)
 }
 
 /// A body of the entry's kind.
@@ -55,8 +42,8 @@ fn has_body(entry: &Entry) -> bool
     ensures { IsTrue result ↔ HasBody entry.now }
 {
     match entry.kind {
-        2 => is_transparent_body(entry),
-        3 | 4 => is_record_body(entry),
+        kinds::TRANSPARENT => is_transparent_body(entry),
+        kinds::LINEAR | kinds::CYCLIC => is_record_body(entry),
         _ => true,
     }
 }
@@ -65,7 +52,7 @@ fn has_body(entry: &Entry) -> bool
 fn has_short(entry: &Entry) -> bool
     ensures { IsTrue result ↔ HasShort entry.now }
 {
-    entry.short <= MOST_SHORT && (entry.kind != 1 || entry.short == 0)
+    entry.short <= MOST_SHORT && (entry.kind != kinds::DEDICATED || entry.short == 0)
 }
 
 /// A name of at most 16 bytes, of a dedicated file alone.
@@ -73,7 +60,7 @@ fn has_name(entry: &Entry) -> bool
     ensures { IsTrue result ↔ HasName entry.now }
 {
     usize::from(entry.name_length) <= entry.name.len()
-        && (entry.kind == 1 || entry.name_length == 0)
+        && (entry.kind == kinds::DEDICATED || entry.name_length == 0)
 }
 
 /// An access rule of at most 8 bytes.
@@ -87,10 +74,10 @@ fn has_rule(entry: &Entry) -> bool
 fn is_file_entry(entry: &Entry) -> bool
     ensures { IsTrue result ↔ IsFileEntry entry.now }
 {
-    entry.kind <= 4
+    entry.kind <= kinds::CYCLIC
         && LifeCycle::from_byte(entry.life).is_some()
-        && entry.identifier != 0x3FFF
-        && entry.identifier != 0xFFFF
+        && entry.identifier != CURRENT_FILE
+        && entry.identifier != RESERVED
         && has_short(entry)
         && has_name(entry)
         && has_rule(entry)
@@ -101,7 +88,7 @@ fn is_file_entry(entry: &Entry) -> bool
 pub(crate) fn is_entry(entry: &Entry) -> bool
     ensures { IsTrue result ↔ IsEntry entry.now }
 {
-    if entry.kind == 0 {
+    if entry.kind == kinds::FREE {
         entry.life == 0 && entry.identifier == 0
     } else {
         is_file_entry(entry)

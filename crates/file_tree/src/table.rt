@@ -1,15 +1,14 @@
 //! The rules on the table of entries. They look at entries that were read; no store is touched.
 
-ghost use Rattle.std.specs.Prelude.{◌≡◌, ◌≢◌, ◌⊎◌, ◌↔◌, ◌==◌, ◌<◌, ◌≤◌, ℕ, length, slice_index_or, IsTrue, All};
-ghost use Rattle.std.specs.List.{filter_map};
-ghost use Rattle.file_tree.specs.Entries.{extent_of};
-ghost use Rattle.file_tree.specs.Table.{entry_in, ancestor, extents, IsUsed, IsMasterFile, IsBelowMaster, IsTable};
-ghost use Rattle.file_tree.specs.Table.{free_entries};
+ghost use Rattle.std.specs.Prelude.{◌≡◌, ◌↔◌, ◌==◌, ◌<◌, ◌≤◌, length, IsTrue};
+ghost use Rattle.file_tree.specs.Table.{entry_in, ancestor, extents, free_entries, IsMasterFile, IsBelowMaster, IsTable};
 ghost use Rattle.file_tree.specs.laws.Alikes.{Alike, BearOneName, AreBelow, AreApart, IsAlone};
 
 use crate::entry::{Entry, ExtentList};
-use crate::layout::{DEEPEST, MASTER_FILE};
+use crate::kinds;
+use crate::layout::DEEPEST;
 use crate::rules::are_entries;
+use card_rules::identifiers::MASTER_FILE;
 
 /// The parent of an entry's file; past the table that of a free entry.
 pub(crate) fn parent_of(entries: &[Entry], e: u8) -> u8
@@ -21,23 +20,23 @@ pub(crate) fn parent_of(entries: &[Entry], e: u8) -> u8
     }
 }
 
-/// From an entry, by at most seven steps to parents, the master file is reached.
+/// The entry that so many steps to parents lead to; the master file is its own parent.
 #[tactic(auto, using(crate::specs::laws::Levels::levels))]
-fn is_low_enough(entries: &[Entry], from: u8) -> bool
-    ensures { IsTrue result ↔ (ancestor entries.now 7 from ≡ 0) }
+pub(crate) fn ancestor(entries: &[Entry], steps: u8, e: u8) -> u8
+    ensures { result ≡ ancestor entries.now steps e }
 {
-    let mut at = from;
-    for _step in 0..DEEPEST {
+    let mut at = e;
+    for _step in 0..steps {
         at = parent_of(entries, at);
     }
-    at == 0
+    at
 }
 
 /// Entry 0 is that of the master file.
 fn is_master_file(entry: &Entry) -> bool
     ensures { IsTrue result ↔ IsMasterFile entry.now }
 {
-    entry.kind == 1 && entry.identifier == MASTER_FILE && entry.parent == 0
+    entry.kind == kinds::DEDICATED && entry.identifier == MASTER_FILE && entry.parent == 0
 }
 
 /// The file of an entry stands in a dedicated file, no more than seven steps below the master file.
@@ -47,9 +46,9 @@ fn is_below_master(entries: &[Entry], e: u8) -> bool
 {
     let entry = entries[usize::from(e)];
     match entries.get(usize::from(entry.parent)) {
-        Some(parent) => parent.kind == 1
+        Some(parent) => parent.kind == kinds::DEDICATED
             && entry.identifier != MASTER_FILE
-            && is_low_enough(entries, e),
+            && ancestor(entries, DEEPEST, e) == 0,
         None => false,
     }
 }
@@ -60,7 +59,7 @@ fn are_below_master(entries: &[Entry]) -> bool
     ensures { IsTrue result ↔ AreBelow entries.now }
 {
     for e in 1..entries.len() {
-        if entries[e].kind != 0 && !is_below_master(entries, e as u8) {
+        if entries[e].kind != kinds::FREE && !is_below_master(entries, e as u8) {
             return false;
         }
     }
@@ -93,7 +92,7 @@ fn is_alone(entries: &[Entry], e: usize) -> bool
     let one = entries[e];
     for f in e + 1..entries.len() {
         let other = entries[f];
-        if other.kind != 0 && are_alike(e, &one, &other) {
+        if other.kind != kinds::FREE && are_alike(e, &one, &other) {
             return false;
         }
     }
@@ -105,7 +104,7 @@ fn are_apart(entries: &[Entry]) -> bool
     ensures { IsTrue result ↔ AreApart entries.now }
 {
     for e in 0..entries.len() {
-        if entries[e].kind != 0 && !is_alone(entries, e) {
+        if entries[e].kind != kinds::FREE && !is_alone(entries, e) {
             return false;
         }
     }
@@ -144,13 +143,6 @@ pub fn extents_of(entries: &[Entry]) -> ExtentList
     extents
 }
 
-/// No file has an entry.
-fn is_free(entry: &Entry) -> bool
-    ensures { result ≡ (entry.now.kind == 0) }
-{
-    entry.kind == 0
-}
-
 /// How many entries no file has.
 pub(crate) fn count_free(entries: &[Entry]) -> u16
     requires { length entries.now ≡ 64 }
@@ -158,7 +150,7 @@ pub(crate) fn count_free(entries: &[Entry]) -> u16
 {
     let mut free = 0;
     for entry in entries {
-        if is_free(entry) {
+        if entry.kind == kinds::FREE {
             free += 1;
         }
     }

@@ -1,21 +1,15 @@
 //! Entries written within a transaction.
 
-ghost use Rattle.std.specs.Prelude.{◌≡◌, ◌≢◌, ◌∷◌, [], ◌<◌, ◌≤◌, ◌+◌, ◌*◌, OnOk, length, take, drop, slice_index};
-ghost use Rattle.std.specs.Result.{result_err};
-ghost use Rattle.nvm_board.specs.Facts.{address};
+ghost use Rattle.std.specs.Prelude.{◌≡◌, ◌≢◌, ◌∷◌, [], ◌<◌, ◌≤◌, ◌+◌, ◌*◌, OnOk, length, take, drop};
 ghost use Rattle.nvm_board.specs.Torn.{written};
-ghost use Rattle.undo_journal.specs.Memory.{current, room, IsOpen};
-ghost use Rattle.undo_journal.specs.Lent.{memory_of};
-ghost use Rattle.undo_journal.specs.Undo.{IsDataRun};
-ghost use Rattle.undo_journal.specs.Calls.{SetsIn};
 ghost use Rattle.block_chain.specs.Words.{word_bytes};
-ghost use Rattle.file_tree.specs.declared.layout.TheConstants.{FIRST_ENTRY_PAGE};
 ghost use Rattle.file_tree.specs.Entries.{entry_told};
 ghost use Rattle.file_tree.specs.laws.EntryWords.{WritesEntry};
+ghost use Rattle.file_tree.specs.laws.Terms.{current, room, IsOpen, memory_of, SetsIn, result_err};
 
-use crate::entry::{ENTRY_WORDS, Entry};
-use crate::layout::FIRST_ENTRY_PAGE;
-use undo_journal::{Board, PAGE_WORDS, StoreErr, Txn};
+use crate::entry::Entry;
+use crate::layout::{ENTRY_WORDS, entry_address};
+use undo_journal::{Board, StoreErr, Txn};
 
 /// The words that tell an entry.
 fn words_of(entry: Entry) -> [u32; ENTRY_WORDS]
@@ -86,5 +80,5 @@ pub(crate) fn write_entry<B: Board>(
     ensures store { SetsIn 11 txn.old txn.new (result_err result) }
 {
     let words = words_of(entry);
-    txn.set_run(PAGE_WORDS * (FIRST_ENTRY_PAGE + u16::from(e)), &words)
+    txn.set_run(entry_address(e), &words)
 }

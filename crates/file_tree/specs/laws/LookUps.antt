@@ -6,6 +6,8 @@ use Rattle.std.specs.FinMap.{get}
 use Rattle.std.proofs.Common.{refl, sym, ◌∙◌, ap, ap₂, subst, arith, inl, inr}
 use Rattle.std.proofs.lemmas.Bool.Decides.{eqb_tells}
 use Rattle.file_tree.specs.declared.entry.Entry.{Entry}
+use Rattle.file_tree.specs.declared.look_up.ChildKey.{ChildKey}
+use Rattle.file_tree.specs.declared.look_up.ChildKey.TheVariants.{Identifier, ShortIdentifier}
 use Rattle.file_tree.specs.Cards.{Path, File, master_file, parent, identifier, no_file, exists, file_at, is_dedicated}
 use Rattle.file_tree.specs.Reaching.{Candidate, first_reached, reached}
 use Rattle.file_tree.specs.Table.{table, entry_in, path_of, IsUsed, IsChild, HaveIdentifiers, IsTable}
@@ -15,30 +17,27 @@ use Rattle.file_tree.specs.laws.Paths.{master_used, child_of_path, path_of_child
 use Rattle.file_tree.specs.laws.Nodes.{used_small, entry_found, exists-used, exists-none, file_at_entry}
 use Rattle.file_tree.specs.laws.Nodes.{dedicated_entry}
 
--- an entry is a file's in a dedicated file; with an identifier; with a short identifier
-pub record StandsIn (x : Entry) (df : ℕ) : Type 0 where
+-- an entry has what a child is known by, and is a file's in a dedicated file
+abbrev pub IsKnownBy : ChildKey → Entry → Type 0
+IsKnownBy (Identifier id) x = x.identifier ≡ id
+IsKnownBy (ShortIdentifier n) x = x.short ≡ n
+
+pub record IsChildBy (x : Entry) (df : ℕ) (key : ChildKey) : Type 0 where
   pub used : x.kind ≢ 0
   pub parent : x.parent ≡ df
+  pub known : IsKnownBy key x
 
-pub record NamesChild (x : Entry) (df id : ℕ) : Type 0 where
-  pub used : x.kind ≢ 0
-  pub parent : x.parent ≡ df
-  pub identifier : x.identifier ≡ id
+-- the child that is known by this, or None where no child is
+abbrev pub TellsChildBy : List Entry → ℕ → ChildKey → Option ℕ → Type 0
+TellsChildBy t df key None = (e : ℕ) → IsChild t df e → IsKnownBy key (entry_in t e) → ⊥
+TellsChildBy t df key (Some e) = IsChild t df e × IsKnownBy key (entry_in t e)
 
-pub record NamesShort (x : Entry) (df n : ℕ) : Type 0 where
-  pub used : x.kind ≢ 0
-  pub parent : x.parent ≡ df
-  pub short : x.short ≡ n
-
--- the child with an identifier, or None where no child has it
+-- the child with an identifier, and with a short identifier
 abbrev pub TellsChild : List Entry → ℕ → ℕ → Option ℕ → Type 0
-TellsChild t df id None = (e : ℕ) → IsChild t df e → (entry_in t e).identifier ≡ id → ⊥
-TellsChild t df id (Some e) = IsChild t df e × ((entry_in t e).identifier ≡ id)
+TellsChild t df id = TellsChildBy t df (Identifier id)
 
--- the child with a short identifier, or None where no child has it
 abbrev pub TellsShort : List Entry → ℕ → ℕ → Option ℕ → Type 0
-TellsShort t df n None = (e : ℕ) → IsChild t df e → (entry_in t e).short ≡ n → ⊥
-TellsShort t df n (Some e) = IsChild t df e × ((entry_in t e).short ≡ n)
+TellsShort t df n = TellsChildBy t df (ShortIdentifier n)
 
 -- the dedicated file beside this one, or None where there is none with the identifier
 abbrev pub TellsBeside : List Entry → ℕ → ℕ → Option ℕ → Type 0
@@ -55,30 +54,18 @@ TellsAbove t df id found =
     if (entry_in t df).identifier == id then Some df else
     if master_file == id then Some 0 else None)
 
--- the entry of a number names a child, or names none
-pub child_there : (t : List Entry) (df id e : ℕ) (x : Entry) → x ≡ entry_in t e → 0 < e → NamesChild x df id
-    → TellsChild t df id (Some e)
-child_there t df id e x is below names =
-    let here = subst (λ (y : Entry). NamesChild y df id) is names in
-    (record { below = below; used = here.used; parent = here.parent }, here.identifier)
+-- the entry of a number is that of the child that is looked for, or it is not
+pub child_there : (t : List Entry) (df e : ℕ) (key : ChildKey) (x : Entry) → x ≡ entry_in t e → 0 < e → IsChildBy x df key
+    → TellsChildBy t df key (Some e)
+child_there t df e key x is below found =
+    let here = subst (λ (y : Entry). IsChildBy y df key) is found in
+    (record { below = below; used = here.used; parent = here.parent }, here.known)
 
-pub no_child_there : (t : List Entry) (df id e : ℕ) (x : Entry) → x ≡ entry_in t e → (NamesChild x df id → ⊥)
-    → IsChild t df e → (entry_in t e).identifier ≡ id → ⊥
-no_child_there t df id e x is not_named child same =
-    not_named (subst (λ (y : Entry). NamesChild y df id) (sym is)
-    (record { used = child.used; parent = child.parent; identifier = same }))
-
-pub short_there : (t : List Entry) (df n e : ℕ) (x : Entry) → x ≡ entry_in t e → 0 < e → NamesShort x df n
-    → TellsShort t df n (Some e)
-short_there t df n e x is below names =
-    let here = subst (λ (y : Entry). NamesShort y df n) is names in
-    (record { below = below; used = here.used; parent = here.parent }, here.short)
-
-pub no_short_there : (t : List Entry) (df n e : ℕ) (x : Entry) → x ≡ entry_in t e → (NamesShort x df n → ⊥)
-    → IsChild t df e → (entry_in t e).short ≡ n → ⊥
-no_short_there t df n e x is not_named child same =
-    not_named (subst (λ (y : Entry). NamesShort y df n) (sym is)
-    (record { used = child.used; parent = child.parent; short = same }))
+pub no_child_there : (t : List Entry) (df e : ℕ) (key : ChildKey) (x : Entry) → x ≡ entry_in t e
+    → (IsChildBy x df key → ⊥) → IsChild t df e → IsKnownBy key (entry_in t e) → ⊥
+no_child_there t df e key x is other child known =
+    other (subst (λ (y : Entry). IsChildBy y df key) (sym is)
+    (record { used = child.used; parent = child.parent; known = known }))
 
 -- of the children of the parent the one with the identifier is beside, if it is a dedicated file
 pub beside_there : (t : List Entry) (df id e : ℕ) (x : Entry) (found : Option ℕ) → HaveIdentifiers t → df ≢ 0

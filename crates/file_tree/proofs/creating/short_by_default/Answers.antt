@@ -63,24 +63,39 @@ find_short-requires-clause-df g c = c.requires.df
 pub find_short-requires-clause-some : goal.find_short-requires-clause-some
 find_short-requires-clause-some g c = let some = c.if-low-eq0.false in omega (arith, some)
 
-pub returns-in_err-found-clause-short : goal.returns-in_err-found-clause-short
-returns-in_err-found-clause-short g c = none_ok _ _ _ c.from_residual.ensures.1
+pub returns-in_err-find_short-clause-short : goal.returns-in_err-find_short-clause-short
+returns-in_err-find_short-clause-short g c = none_ok _ _ _ c.from_residual.ensures.1
 
-pub returns-in_err-found-clause-store : goal.returns-in_err-found-clause-store
-returns-in_err-found-clause-store g c =
-    reads_handed _ _ _ _ c.from_residual.ensures.1 c.in_err-found.ensures.store
+pub returns-in_err-find_short-clause-store : goal.returns-in_err-find_short-clause-store
+returns-in_err-find_short-clause-store g c =
+    reads_handed _ _ _ _ c.from_residual.ensures.1 c.in_err-find_short.ensures.store
 
-pub returns-clause-short : goal.returns-clause-short
-returns-clause-short g c =
+pub returns-in-Some-clause-short : goal.returns-in-Some-clause-short
+returns-in-Some-clause-short g c =
     let m = committed c.args.store.now in
     let n = low_bits c.args.identifier in
     let low = c.low_short-low.result in
     let child = child_by_short (tree_of m) (path_of (table m) c.args.df) in
     let is : low ≡ n = used_bits n low (nat_le 1 n) (nat_le n 30) c.low_short-low.ensures c.if-low-eq0.false in
-    let taken = c.is_some.ensures ∙ taken_is (path_of (table m)) c.in_ok-found.found (child low) c.in_ok-found.ensures.found
+    let taken = sym (ap is_some c.in-Some.is) ∙ taken_is (path_of (table m)) _ (child low) c.in_ok-find_short.ensures.found
     ∙ ap (λ (k : ℕ). not (is_none (child k))) is in
-    by_default n low c.if_free.result (nat_le 1 n) (nat_le n 30) (is_none (child n)) c.low_short-low.ensures c.if-low-eq0.false
-    (c.if_free.ensures ∙ ap (λ (b : Bool). if b then 0 else low) taken)
+    by_default n low 0 (nat_le 1 n) (nat_le n 30) (is_none (child n)) c.low_short-low.ensures c.if-low-eq0.false
+    (ap (λ (b : Bool). if b then 0 else low) taken)
 
-pub returns-clause-store : goal.returns-clause-store
-returns-clause-store g c = c.in_ok-found.ensures.store
+pub returns-in-None-clause-short : goal.returns-in-None-clause-short
+returns-in-None-clause-short g c =
+    let m = committed c.args.store.now in
+    let n = low_bits c.args.identifier in
+    let low = c.low_short-low.result in
+    let child = child_by_short (tree_of m) (path_of (table m) c.args.df) in
+    let is : low ≡ n = used_bits n low (nat_le 1 n) (nat_le n 30) c.low_short-low.ensures c.if-low-eq0.false in
+    let taken = sym (ap is_some c.in-None.is) ∙ taken_is (path_of (table m)) _ (child low) c.in_ok-find_short.ensures.found
+    ∙ ap (λ (k : ℕ). not (is_none (child k))) is in
+    by_default n low low (nat_le 1 n) (nat_le n 30) (is_none (child n)) c.low_short-low.ensures c.if-low-eq0.false
+    (ap (λ (b : Bool). if b then 0 else low) taken)
+
+pub returns-in-Some-clause-store : goal.returns-in-Some-clause-store
+returns-in-Some-clause-store g c = c.in_ok-find_short.ensures.store
+
+pub returns-in-None-clause-store : goal.returns-in-None-clause-store
+returns-in-None-clause-store g c = c.in_ok-find_short.ensures.store

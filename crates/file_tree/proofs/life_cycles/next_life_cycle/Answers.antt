@@ -16,17 +16,36 @@ use Rattle.file_tree.proofs.life_cycles.next_life_cycle.Goals as goal
 pub read_entry-requires-clause-within : goal.read_entry-requires-clause-within
 read_entry-requires-clause-within g c = used_small (committed c.args.store.now) c.args.e c.requires.used
 
-pub returns-clause-next : goal.returns-clause-next
-returns-clause-next g c =
+pub returns-then-barred-clause-next : goal.returns-then-barred-clause-next
+returns-then-barred-clause-next g c =
     let m = committed c.args.store.now in
     let e = c.args.e in
     let rules = c.requires.tree.entries in
-    c.next_of.ensures
+    ap (λ (b : Bool). if b then None else state_after c.args.command (life_told c.in_ok-entry.entry))
+    (sym c.if-barred.true)
     ∙ ap₂ (λ (b : Bool) (life : LifeCycle). if b then None else state_after c.args.command life)
     (c.in_ok-barred.ensures.barred ∙ ap (λ (l : List ℕ). barred_up
     (table l) 7 e) c.read_entry.ensures.store.only.keeps.committed_words
     ∙ barred_told m rules e c.requires.used)
     (ap (λ (x : Entry). life_told x) c.in_ok-entry.ensures.entry ∙ sym (life_told_there m rules e c.requires.used))
+
+pub returns-clause-next : goal.returns-clause-next
+returns-clause-next g c =
+    let m = committed c.args.store.now in
+    let e = c.args.e in
+    let rules = c.requires.tree.entries in
+    c.next_state.ensures ∙ ap (λ (life : LifeCycle). state_after c.args.command life) c.life_of.ensures
+    ∙ ap (λ (b : Bool). if b then None else state_after c.args.command (life_told c.in_ok-entry.entry))
+    (sym c.if-barred.false)
+    ∙ ap₂ (λ (b : Bool) (life : LifeCycle). if b then None else state_after c.args.command life)
+    (c.in_ok-barred.ensures.barred ∙ ap (λ (l : List ℕ). barred_up
+    (table l) 7 e) c.read_entry.ensures.store.only.keeps.committed_words
+    ∙ barred_told m rules e c.requires.used)
+    (ap (λ (x : Entry). life_told x) c.in_ok-entry.ensures.entry ∙ sym (life_told_there m rules e c.requires.used))
+
+pub returns-then-barred-clause-store : goal.returns-then-barred-clause-store
+returns-then-barred-clause-store g c =
+    reads_on _ _ _ _ c.read_entry.ensures.store.only c.in_ok-barred.ensures.store
 
 pub read_entry-requires-clause-ready : goal.read_entry-requires-clause-ready
 read_entry-requires-clause-ready g c = c.requires.ready

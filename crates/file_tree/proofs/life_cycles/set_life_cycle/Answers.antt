@@ -1,5 +1,6 @@
 use Rattle.undo_journal.specs.laws.Exits.{none_ok, on_then}
-use Rattle.std.proofs.Common.{◌≡◌, ◌+◌, ℕ, List, slice_set, sym, ◌∙◌, ap, subst, inl, inr, ⊎_elim}
+use Rattle.std.specs.Prelude.{OnOk}
+use Rattle.std.proofs.Common.{◌≡◌, ◌⊎◌, ◌+◌, arith, ℕ, List, slice_set, sym, ◌∙◌, ap, subst, inl, inr, ⊎_elim}
 use Rattle.nvm_board.specs.Facts.{address}
 use Rattle.undo_journal.specs.Memory.{committed}
 use Rattle.nvm_board.specs.declared.board.TheConstants.{WORDS}
@@ -40,34 +41,44 @@ returns-then-entry-life-clause-done g c =
 pub read_entry-requires-clause-within : goal.read_entry-requires-clause-within
 read_entry-requires-clause-within g c = used_small (committed c.args.store.now) c.args.e c.requires.used
 
-pub write_life-requires-clause-within : goal.write_life-requires-clause-within
-write_life-requires-clause-within g c = used_small (committed c.args.store.now) c.args.e c.requires.used
+pub entry_address-requires : goal.entry_address-requires
+entry_address-requires g c = used_small (committed c.args.store.now) c.args.e c.requires.used
+
+pub write_word-requires-clause-place : goal.write_word-requires-clause-place
+write_word-requires-clause-place g c =
+    let small = used_small (committed c.args.store.now) c.args.e c.requires.used in
+    let size = c.in_ok-entry.ensures.store.ready.usable.committed_size in
+    (inl (omega (arith, c.entry_address.ensures, small)), omega (arith, size, c.entry_address.ensures, small))
 
 pub returns-clause-done : goal.returns-clause-done
 returns-clause-done g c =
     let m = committed c.args.store.now in
+    let family : ℕ → Type 0 = λ a. OnOk c.write_word.result (committed c.write_word.new.store
+    ≡ slice_set (committed c.read_entry.new.store) a c.life_word.result) in
     on_then _ _ _ (changed m (committed c.read_entry.new.store)
-    (committed c.write_life.new.store) c.args.e c.life_word.result c.to_byte-life.result
+    (committed c.write_word.new.store) c.args.e c.life_word.result c.to_byte-life.result
     c.args.state c.in_ok-entry.entry c.requires.ready.usable.committed_size c.requires.tree c.requires.used
     c.read_entry.ensures.store.only.keeps.committed_words c.in_ok-entry.ensures.entry c.to_byte-life.ensures.value
     c.life_word.ensures)
-    c.write_life.ensures.done
+    (subst family c.entry_address.ensures c.write_word.ensures.done)
 
 pub returns-clause-any_exit : goal.returns-clause-any_exit
 returns-clause-any_exit g c =
     let m = committed c.args.store.now in
+    let family : ℕ → Type 0 = λ a. (committed c.write_word.new.store ≡ committed c.read_entry.new.store)
+    ⊎ (committed c.write_word.new.store ≡ slice_set (committed c.read_entry.new.store) a c.life_word.result) in
     ⊎_elim
-    (λ (same : committed c.write_life.new.store ≡ committed c.read_entry.new.store).
+    (λ (same : committed c.write_word.new.store ≡ committed c.read_entry.new.store).
     inl (same ∙ c.read_entry.ensures.store.only.keeps.committed_words))
-    (λ (set : committed c.write_life.new.store
+    (λ (set : committed c.write_word.new.store
     ≡ slice_set (committed c.read_entry.new.store) (address (FIRST_ENTRY_PAGE + c.args.e) 0) c.life_word.result).
     inr (changed m (committed c.read_entry.new.store)
-    (committed c.write_life.new.store) c.args.e c.life_word.result c.to_byte-life.result
+    (committed c.write_word.new.store) c.args.e c.life_word.result c.to_byte-life.result
     c.args.state c.in_ok-entry.entry c.requires.ready.usable.committed_size c.requires.tree c.requires.used
     c.read_entry.ensures.store.only.keeps.committed_words c.in_ok-entry.ensures.entry c.to_byte-life.ensures.value
     c.life_word.ensures
     set))
-    c.write_life.ensures.any_exit
+    (subst family c.entry_address.ensures c.write_word.ensures.any_exit)
 
 -- a file that is in the state has its byte
 has_byte : (m : List ℕ) (e : ℕ) (state : LifeCycle) (entry : Entry) (life : ℕ) → TreeStands m → IsUsed (table m) e
@@ -108,9 +119,9 @@ pub returns-then-entry-life-clause-store : goal.returns-then-entry-life-clause-s
 returns-then-entry-life-clause-store g c =
     reads_change _ _ _ _ c.requires.ready.idle c.in_ok-entry.ensures.store
 
-pub write_life-requires-clause-ready : goal.write_life-requires-clause-ready
-write_life-requires-clause-ready g c = c.in_ok-entry.ensures.store.ready
+pub write_word-requires-clause-ready : goal.write_word-requires-clause-ready
+write_word-requires-clause-ready g c = c.in_ok-entry.ensures.store.ready
 
 pub returns-clause-store : goal.returns-clause-store
 returns-clause-store g c =
-    changes_after _ _ _ _ _ c.read_entry.ensures.store.only c.write_life.ensures.store
+    changes_after _ _ _ _ _ c.read_entry.ensures.store.only c.write_word.ensures.store

@@ -8,36 +8,36 @@ use Rattle.file_tree.proofs.life_cycles.write_word.Goals as goal
 
 pub returns-in-Ok-clause-any_exit : goal.returns-in-Ok-clause-any_exit
 returns-in-Ok-clause-any_exit g c =
-    let last = c.store-1.given.1 (sym (c.put.ensures.store.sets.same_store ∙ c.begin-txn.ensures.same_store)) in
+    let last = c.store-1.given.1 (sym (c.set.ensures.store.sets.same_store ∙ c.begin-txn.ensures.same_store)) in
     stays_or_lasts (λ m after. after ≡ slice_set m c.args.at c.args.word) _ _ _
-    (memory_of c.put.new.txn) _ _ c.begin-txn.ensures.same last c.requires.ready c.put.ensures.store.sets.kept
+    (memory_of c.set.new.self) _ _ c.begin-txn.ensures.same last c.requires.ready c.set.ensures.store.sets.kept
     c.in-Ok.ensures.done c.commit.ensures.any_exit
 
 pub returns-in-Ok-clause-done : goal.returns-in-Ok-clause-done
 returns-in-Ok-clause-done g c =
-    let last = c.store-1.given.1 (sym (c.put.ensures.store.sets.same_store ∙ c.begin-txn.ensures.same_store)) in
+    let last = c.store-1.given.1 (sym (c.set.ensures.store.sets.same_store ∙ c.begin-txn.ensures.same_store)) in
     on_then _ _ c.commit.result
     (λ made. lasts (λ m after. after ≡ slice_set m c.args.at c.args.word) _ _
-    (memory_of c.put.new.txn) _ _ c.begin-txn.ensures.same last c.requires.ready c.in-Ok.ensures.done made)
+    (memory_of c.set.new.self) _ _ c.begin-txn.ensures.same last c.requires.ready c.in-Ok.ensures.done made)
     c.commit.ensures.done
 
 pub returns-in-Ok-clause-store : goal.returns-in-Ok-clause-store
 returns-in-Ok-clause-store g c =
-    let last = c.store-1.given.1 (sym (c.put.ensures.store.sets.same_store ∙ c.begin-txn.ensures.same_store)) in
-    spent 3 1 4 _ _ (memory_of c.put.new.txn) _ _ _ (lit< tt) c.begin-txn.ensures.same last
-    c.put.ensures.store.sets.reports c.put.ensures.store.sets.writes c.commit.ensures.store
+    let last = c.store-1.given.1 (sym (c.set.ensures.store.sets.same_store ∙ c.begin-txn.ensures.same_store)) in
+    spent 3 1 4 _ _ (memory_of c.set.new.self) _ _ _ (lit< tt) c.begin-txn.ensures.same last
+    c.set.ensures.store.sets.reports c.set.ensures.store.sets.writes c.commit.ensures.store
 
 pub returns-in-Err-clause-store : goal.returns-in-Err-clause-store
 returns-in-Err-clause-store g c =
-    let last = c.store-in-Err-1.given.1 (sym (c.put.ensures.store.sets.same_store ∙ c.begin-txn.ensures.same_store)) in
-    spent_failed 3 _ 4 _ _ (memory_of c.put.new.txn) _ _ _ _ (lit< tt) c.begin-txn.ensures.same last
-    c.put.ensures.store.sets.reports c.put.ensures.store.sets.writes c.in-Err.ensures.store.tells
+    let last = c.store-in-Err-1.given.1 (sym (c.set.ensures.store.sets.same_store ∙ c.begin-txn.ensures.same_store)) in
+    spent_failed 3 _ 4 _ _ (memory_of c.set.new.self) _ _ _ _ (lit< tt) c.begin-txn.ensures.same last
+    c.set.ensures.store.sets.reports c.set.ensures.store.sets.writes c.in-Err.ensures.store.tells
     c.abandon.ensures.store
 
 pub returns-in-Err-clause-any_exit : goal.returns-in-Err-clause-any_exit
 returns-in-Err-clause-any_exit g c =
-    let last = c.store-in-Err-1.given.1 (sym (c.put.ensures.store.sets.same_store ∙ c.begin-txn.ensures.same_store)) in
-    inl (stays _ _ (memory_of c.put.new.txn) _ _ c.begin-txn.ensures.same last c.put.ensures.store.sets.kept c.abandon.ensures.kept)
+    let last = c.store-in-Err-1.given.1 (sym (c.set.ensures.store.sets.same_store ∙ c.begin-txn.ensures.same_store)) in
+    inl (stays _ _ (memory_of c.set.new.self) _ _ c.begin-txn.ensures.same last c.set.ensures.store.sets.kept c.abandon.ensures.kept)
 
 pub returns-in-Err-clause-done : goal.returns-in-Err-clause-done
 returns-in-Err-clause-done g c =

@@ -1,5 +1,6 @@
 use Rattle.undo_journal.specs.laws.Exits.{none_ok}
-use Rattle.std.proofs.Common.{◌∙◌, ℕ, List, None, Some, ap}
+use Rattle.std.specs.Bool.{then_some}
+use Rattle.std.proofs.Common.{◌≡◌, ◌==◌, ◌∙◌, ℕ, Bool, true, false, if◌then◌else◌, List, None, Some, refl, ap}
 use Rattle.undo_journal.specs.Memory.{committed}
 use Rattle.undo_journal.specs.laws.Calls.{reads_then}
 use Rattle.file_tree.specs.declared.entry.Entry.{Entry}
@@ -8,6 +9,10 @@ use Rattle.file_tree.specs.laws.Nodes.{used_small}
 use Rattle.file_tree.specs.laws.LookUps.{told_child, beside_there}
 use Rattle.undo_journal.specs.laws.Told.{reads_none, reads_handed, reads_on}
 use Rattle.file_tree.proofs.look_up.find_beside.Goals as goal
+
+some_if : (b : Bool) (e : ℕ) → then_some b e ≡ (if b then Some e else None)
+some_if true e = refl
+some_if false e = refl
 
 pub read_entry-requires-clause-within : goal.read_entry-requires-clause-within
 read_entry-requires-clause-within g c = used_small (committed c.args.store.now) c.args.df c.requires.df
@@ -69,8 +74,8 @@ returns-clause-found g c =
     let is = c.in_ok-other.ensures.entry
     ∙ ap (λ (l : List ℕ). entry_in (table l) c.in-Some.beside)
     (c.find_child.ensures.store.only.keeps.committed_words ∙ c.read_entry.ensures.store.only.keeps.committed_words) in
-    beside_there (table m) c.args.df c.args.identifier c.in-Some.beside c.in_ok-other.other c.if_dedicated.result
-    c.requires.tree.entries.identifiers c.if-df-eq0.false told is c.if_dedicated.ensures
+    beside_there (table m) c.args.df c.args.identifier c.in-Some.beside c.in_ok-other.other c.then_some.result
+    c.requires.tree.entries.identifiers c.if-df-eq0.false told is (c.then_some.ensures ∙ some_if (c.in_ok-other.other.kind == 1) c.in-Some.beside)
 
 pub returns-clause-store : goal.returns-clause-store
 returns-clause-store g c =

@@ -12,19 +12,19 @@ pub returns-clause-found : goal.returns-clause-found
 returns-clause-found g c =
     let some : c.args.short ≢ 0 = λ none. let z : ⊥ = omega (arith, none, c.requires.some) in z in
     IfOk-weaker _ _ _ (short_named (committed c.args.store.now) c.requires.tree.entries c.args.df c.args.short c.requires.df some)
-    c.find_short_child.ensures.found
+    c.first_child.ensures.found
 
 pub returns-clause-elementary : goal.returns-clause-elementary
 returns-clause-elementary g c =
     let some : c.args.short ≢ 0 = λ none. let z : ⊥ = omega (arith, none, c.requires.some) in z in
     IfOk-weaker _ _ _ (short_found (committed c.args.store.now) c.requires.tree.entries c.args.df c.args.short c.requires.df some)
-    c.find_short_child.ensures.found
+    c.first_child.ensures.found
 
-pub find_short_child-requires : goal.find_short_child-requires
-find_short_child-requires g c = record { ready = c.requires.ready }
+pub first_child-requires : goal.first_child-requires
+first_child-requires g c = record { ready = c.requires.ready }
 
 pub returns-clause-store : goal.returns-clause-store
-returns-clause-store g c = c.find_short_child.ensures.store
+returns-clause-store g c = c.first_child.ensures.store
 
 -- what is told is a child
 told_is_child : (t : List Entry) (df n : ℕ) (found : Option ℕ) → TellsShort t df n found → IfSome found (IsChild t df)
@@ -33,4 +33,4 @@ told_is_child t df n (Some e) told = told.0
 
 pub returns-clause-child : goal.returns-clause-child
 returns-clause-child g c =
-    IfOk-weaker _ _ _ (told_is_child (table (committed c.args.store.now)) c.args.df c.args.short) c.find_short_child.ensures.found
+    IfOk-weaker _ _ _ (told_is_child (table (committed c.args.store.now)) c.args.df c.args.short) c.first_child.ensures.found

@@ -15,11 +15,11 @@ loop-k-preserved g c =
     let at = c.loop-k.k in
     let small : at < 11 = search rules in
     let size = c.loop-k.invariant.size in
-    let page : c.from-page.result ≡ c.args.e = search rules in
+    let place : c.entry_address-first.result + at ≡ address (1 + c.args.e) at = omega (arith, c.entry_address-first.ensures) in
     let kept = sym c.loop-k.invariant.ready.same ∙ c.loop-k.invariant.reads.keeps.committed_words in
     let here : c.in_ok-words.field-0 ≡ word m (1 + c.args.e) at =
     c.in_ok-words.ensures.word
-    ∙ ap₂ (λ (l : List ℕ) (i : ℕ). slice_index l i) kept (ap (λ (e : ℕ). address (1 + e) at) page) in
+    ∙ ap₂ (λ (l : List ℕ) (i : ℕ). slice_index l i) kept place in
     let w = c.in_ok-words.field-0 in
     record {
       ready = search rules;

@@ -1,5 +1,5 @@
 use Rattle.std.proofs.Common.{rules}
 use Rattle.file_tree.proofs.refusing.first_taken.Goals as goal
 
-pub returns-then-name : goal.returns-then-name
-returns-then-name c = search rules
+pub returns-then-taken-2 : goal.returns-then-taken-2
+returns-then-taken-2 c = search rules

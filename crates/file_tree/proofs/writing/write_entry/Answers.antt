@@ -1,7 +1,6 @@
-use Rattle.std.proofs.Common.{rules, ◌≡◌, ◌+◌, ◌*◌, ℕ, List, length, sym, ◌∙◌, ap, subst, arith}
+use Rattle.std.proofs.Common.{rules, ◌≡◌, ◌+◌, ℕ, List, length, sym, ◌∙◌, ap, subst}
 use Rattle.std.proofs.lemmas.Result.{on_ok_weaker}
 use Rattle.nvm_board.specs.Facts.{address}
-use Rattle.nvm_board.specs.declared.board.TheConstants.{PAGE_WORDS}
 use Rattle.nvm_board.specs.Torn.{written}
 use Rattle.undo_journal.specs.Memory.{current}
 use Rattle.undo_journal.specs.Lent.{memory_of}
@@ -14,11 +13,10 @@ returns-clause-done g c =
     let m = current (memory_of c.args.txn.now) in
     let ws = c.words_of-words.result in
     let long : length ws ≡ 11 = search rules in
-    let page : c.from.result ≡ c.args.e = c.from.ensures in
-    let at : PAGE_WORDS * (FIRST_ENTRY_PAGE + c.from.result) ≡ address (FIRST_ENTRY_PAGE + c.args.e) 0 = omega (arith, page) in
+    let at : c.entry_address.result ≡ address (FIRST_ENTRY_PAGE + c.args.e) 0 = c.entry_address.ensures in
     let family : List ℕ → Type 0 = λ l. WritesEntry m c.args.e c.args.entry l in
     on_ok_weaker c.set_run.result
-    (λ (done : current (memory_of c.set_run.new.self) ≡ written m (PAGE_WORDS * (FIRST_ENTRY_PAGE + c.from.result)) ws).
+    (λ (done : current (memory_of c.set_run.new.self) ≡ written m c.entry_address.result ws).
     subst family (sym (done ∙ ap (λ (k : ℕ). written m k ws) at))
     (written_entry m ws c.args.e c.args.entry c.requires.ready.current_size c.requires.within long c.words_of-words.ensures c.requires.used))
     c.set_run.ensures.done

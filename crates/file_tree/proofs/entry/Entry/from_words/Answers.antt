@@ -4,7 +4,7 @@ use Rattle.file_tree.specs.laws.Tables.{entry_of-free, entry_of-used}
 use Rattle.file_tree.proofs.entry.Entry.from_words.Goals as goal
 
 pub returns-then-words-eq0 : goal.returns-then-words-eq0
-returns-then-words-eq0 c = sym (entry_of-free c.args.words.now c.if-words-eq0.true)
+returns-then-words-eq0 c = c.free.ensures ∙ sym (entry_of-free c.args.words.now c.if-words-eq0.true)
 
 pub returns : goal.returns
 returns c =
