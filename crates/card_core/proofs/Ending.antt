@@ -25,7 +25,8 @@ use Rattle.file_tree.specs.declared.entry.Entry.{Entry}
 use Rattle.pin_store.specs.Pages.{pin_page, KeepsPins}
 use Rattle.pin_store.specs.laws.AllPins.{pages_kept, pins_kept}
 use Rattle.card_core.specs.declared.current.Current.{Current}
-use Rattle.card_core.specs.declared.layout.TheConstants.{HEADER_PAGE, STATE_WORD}
+use Rattle.block_chain.specs.declared.layout.TheConstants.{HEADER_PAGE}
+use Rattle.file_tree.specs.declared.layout.TheConstants.{STATE_WORD}
 use Rattle.card_core.specs.Cards.{Card}
 use Rattle.card_core.specs.Comparing.{comparisons, ComparesNothing}
 use Rattle.card_core.specs.Guards.{allowed}

@@ -1,5 +1,5 @@
 -- What refuses a command on contents by its file, and then by further limits; and what a refusal, or none, makes of a step.
-use Rattle.std.proofs.Common.{◌≡◌, Bool, true, false, not, List, [], Option, Some, None, is_none, unwrap_or}
+use Rattle.std.proofs.Common.{◌≡◌, Bool, true, false, not, List, [], ◌∷◌, Option, Some, None, is_none, unwrap_or}
 use Rattle.std.proofs.Common.{if◌then◌else◌, refl, ◌∙◌, ap}
 use Rattle.std.specs.FinMap.{get}
 use Rattle.card_rules.specs.declared.access_mode.AccessBit.{AccessBit}
@@ -55,7 +55,28 @@ by_none target false false false permitted rest is = cc
 by_none target false false true false rest is = cc
 by_none target false false true true rest is = refl
 
+-- the same of five, a limit behind the four
+by_five : (target : Target) (none barred fit permitted applies : Bool) (first status : Sw) (rest : Option Sw)
+    → verdict target none barred fit permitted (if applies then Some first else None) ≡ Some status
+    → verdict target none barred fit permitted (if applies then Some first else rest) ≡ Some status
+by_five target true barred fit permitted applies first status rest is = is
+by_five target false true fit permitted applies first status rest is = is
+by_five target false false false permitted applies first status rest is = is
+by_five target false false true false applies first status rest is = is
+by_five target false false true true true first status rest is = is
+by_five target false false true true false first status rest is = cc
+
 module _ (c : Card) (s : Session) (target : Target) (fitting : Kind → Bool) (bit : AccessBit) where
+  -- a refusal by the file or by a limit stands before all further limits
+  pub guarded-first : (limit : Refusal) (status : Sw)
+      → refused_by (with_limits (file_refusals c s target fitting bit) (limit ∷ [])) ≡ Some status
+      → (limits : List Refusal)
+      → refused_by (with_limits (file_refusals c s target fitting bit) (limit ∷ limits)) ≡ Some status
+  guarded-first limit status is limits =
+      by_five target (is_none (target_of c.tree s target)) (is_barred c.tree (target_path c s target))
+      (fitting (target_kind c s target)) (allowed c s (target_path c s target) bit) limit.applies limit.status status
+      (first_applying limits) is
+
   -- a refusal by the file stands before all limits
   pub guarded-refused : (status : Sw) → refused_by (file_refusals c s target fitting bit) ≡ Some status
       → (limits : List Refusal)

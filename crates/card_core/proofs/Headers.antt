@@ -4,7 +4,9 @@ use Rattle.std.proofs.Common.{◌≡◌, ◌≢◌, ◌≤◌, ◌==◌, ℕ, Li
 use Rattle.std.proofs.Math.Dec.{leb}
 use Rattle.std.proofs.lemmas.Bool.{leb-true, le-leb}
 use Rattle.block_chain.specs.Words.{word}
-use Rattle.card_core.specs.declared.layout.TheConstants.{MARK, HEADER_PAGE, STATE_WORD}
+use Rattle.block_chain.specs.declared.layout.TheConstants.{HEADER_PAGE}
+use Rattle.file_tree.specs.declared.layout.TheConstants.{STATE_WORD}
+use Rattle.card_core.specs.declared.layout.TheConstants.{MARK}
 use Rattle.card_core.specs.laws.FoundLaws.{same-of}
 use Rattle.card_core.specs.Standing.{IsHeader}
 

@@ -8,7 +8,7 @@ use Rattle.file_tree.specs.Trees.{tree_of, TreeStands}
 use Rattle.pin_store.specs.Pages.{pin_page, KeepsPins}
 use Rattle.pin_store.specs.declared.layout.TheConstants.{PINS, PIN_WORDS}
 use Rattle.pin_store.specs.laws.AllPins.{pages_kept, pins_kept}
-use Rattle.card_core.specs.declared.layout.TheConstants.{HEADER_PAGE}
+use Rattle.block_chain.specs.declared.layout.TheConstants.{HEADER_PAGE}
 use Rattle.card_core.specs.Standing.{card_of, IsCard}
 
 -- two memories with the same header, but for the free chain, and the same words of PINs

@@ -30,6 +30,7 @@ use Rattle.card_core.specs.Lengths.{asks_less, given, length_refusal, right_leng
 use Rattle.card_core.specs.Outcomes.{refused, refused_by, Refusal}
 use Rattle.card_core.specs.Records.{has_records, next_record, place_number, pointer_after, pointer_at, pointer_found}
 use Rattle.card_core.specs.Records.{matches, no_record}
+use Rattle.card_core.specs.RecordGuards.{choice_refusals}
 use Rattle.card_core.specs.Records.{pointing, previous_record, records_of, search_status, searching, target_number}
 use Rattle.card_core.specs.Sessions.{Session}
 use Rattle.card_core.specs.Standing.{card_of, IsCard}
@@ -38,37 +39,42 @@ use Rattle.card_core.specs.Working.{chosen_in, has_in, outcome, pointer_from, po
 use Rattle.card_core.specs.Working.{IsCurrent, IsRecordFile}
 use Rattle.card_core.proofs.RecordBodies.{body-agrees, Agree}
 use Rattle.card_core.proofs.Entries.{there}
-use Rattle.card_core.proofs.Guarding.{guarded-free, guarded-refused, named-kind, named-path, served-done, served-refused}
+use Rattle.card_core.proofs.Guarding.{guarded-first, guarded-free, named-kind, named-path, served-done, served-refused}
 use Rattle.card_core.proofs.Serves.{declined}
 use Rattle.card_core.proofs.Serving.{named-current, naming-entry}
 
 -- what refuses besides the file
+abbrev other_length : Card → Session → Target → RecordChoice → ℕ → Refusal
+other_length c s target choice expected =
+    let text = record_of (records_of (target_kind c s target)) (target_number c s target choice) in
+    record { applies = not (expected == 0) && not (expected == length text); status = right_length text }
+
 abbrev pub read_limits : Card → Session → Target → RecordChoice → ℕ → List Refusal
 read_limits c s target choice expected =
-    let text = record_of (records_of (target_kind c s target)) (target_number c s target choice) in
-    no_record c s target (target_number c s target choice)
-    ∷ record { applies = not (expected == 0) && not (expected == length text); status = right_length text } ∷ []
+    no_record c s target (target_number c s target choice) ∷ other_length c s target choice expected ∷ []
 
 abbrev pub search_limits : Card → Session → Target → RecordPlace → Direction → List ℕ → Option ℕ → List Refusal
 search_limits c s target first direction sought expected =
     no_record c s target (place_number first (pointer_at s target))
     ∷ length_refusal expected (matches c s target first direction sought) ∷ []
 
--- what the file refuses
-module _ (c : Card) (s : Session) (target : Target) (status : Sw)
-    (is : refused_by (file_refusals c s target has_records Read) ≡ Some status) where
-  pub read-refused : (choice : RecordChoice) (expected : ℕ)
+-- what its file refuses, or that there is no such record
+module _ (c : Card) (s : Session) (target : Target) (status : Sw) where
+  pub read-refused : (choice : RecordChoice) → refused_by (choice_refusals c s target choice) ≡ Some status → (expected : ℕ)
       → served c s (read_record target choice expected) ≡ refused c s status
   unfolding refusals_of
-  read-refused choice expected = served-refused c s (read_record target choice expected) status
-      (guarded-refused c s target has_records Read status is (read_limits c s target choice expected))
+  read-refused choice is expected = served-refused c s (read_record target choice expected) status
+      (guarded-first c s target has_records Read (no_record c s target (target_number c s target choice)) status is
+      (other_length c s target choice expected ∷ []))
 
-  pub search-refused : (first : RecordPlace) (direction : Direction) (sought : List ℕ) (expected : Option ℕ)
+  pub search-refused : (first : RecordPlace) → refused_by (choice_refusals c s target (At first)) ≡ Some status
+      → (direction : Direction) (sought : List ℕ) (expected : Option ℕ)
       → served c s (search_record target first direction sought expected) ≡ refused c s status
   unfolding refusals_of
-  search-refused first direction sought expected =
+  search-refused first is direction sought expected =
       served-refused c s (search_record target first direction sought expected) status
-      (guarded-refused c s target has_records Read status is (search_limits c s target first direction sought expected))
+      (guarded-first c s target has_records Read (no_record c s target (place_number first (pointer_at s target))) status is
+      (length_refusal expected (matches c s target first direction sought) ∷ []))
 
 -- a refusal after reads leaves an empty buffer empty
 pub declined-empty : (request : Request) (old : Memory) (x : CurrentFiles) (new : Memory) (text : List ℕ) → text ≡ []
@@ -141,6 +147,15 @@ module _ (m : List ℕ) (sized : length m ≡ WORDS) (words : IsCard m) (x : Cur
       record { df = named.df; ef = named.ef; marks = named.marks }
 
   module _ (unrefused : refused_by (file_refusals c s target has_records Read) ≡ None) where
+    -- there is no such record
+    pub record-gone : (choice : RecordChoice) → has_in body (chosen_in body (pointer_from x target) choice) ≡ false
+        → refused_by (choice_refusals c s target choice) ≡ Some RECORD_NOT_FOUND
+    record-gone choice gone =
+        let has : has_record (records_of kind) (target_number c s target choice) ≡ false =
+        ap (has_record (records_of kind)) (chosen-is choice) ∙ has-is _ ∙ gone in
+        guarded-free c s target has_records Read unrefused (no_record c s target (target_number c s target choice) ∷ [])
+        ∙ (λ i. if not (has i) then Some RECORD_NOT_FOUND else None)
+
     -- READ RECORD
     module _ (choice : RecordChoice) (expected : ℕ) where
       abbrev number : ℕ
@@ -167,11 +182,6 @@ module _ (m : List ℕ) (sized : length m ≡ WORDS) (words : IsCard m) (x : Cur
           let t = text-is in
           guarded-free c s target has_records Read unrefused (read_limits c s target choice expected)
           ∙ (λ i. read_verdict (has i) (t i))
-
-      pub read-gone : has_in body number ≡ false
-          → served c s (read_record target choice expected) ≡ refused c s RECORD_NOT_FOUND
-      read-gone gone = served-refused c s (read_record target choice expected) RECORD_NOT_FOUND
-          (read-is ∙ ap (λ (b : Bool). read_verdict b text) gone)
 
       pub read-other : has_in body number ≡ true → is_other text ≡ true
           → served c s (read_record target choice expected) ≡ refused c s (right_length text)
@@ -226,11 +236,6 @@ module _ (m : List ℕ) (sized : length m ≡ WORDS) (words : IsCard m) (x : Cur
           guarded-free c s target has_records Read unrefused
           (search_limits c s target first direction sought expected)
           ∙ (λ i. search_verdict (has i) (ns i))
-
-      pub search-gone : has_in body start ≡ false
-          → served c s (search_record target first direction sought expected) ≡ refused c s RECORD_NOT_FOUND
-      search-gone gone = served-refused c s (search_record target first direction sought expected) RECORD_NOT_FOUND
-          (search-is ∙ ap (λ (b : Bool). search_verdict b numbers) gone)
 
       pub search-less : has_in body start ≡ true → asks_less expected numbers ≡ true
           → served c s (search_record target first direction sought expected) ≡ refused c s (right_length numbers)

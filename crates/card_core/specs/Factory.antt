@@ -10,7 +10,8 @@ use Rattle.block_chain.specs.Words.{page_words}
 use Rattle.file_tree.specs.declared.layout.TheConstants.{FIRST_ENTRY_PAGE}
 use Rattle.file_tree.specs.declared.space.FreeSpace.{FreeSpace}
 use Rattle.pin_store.specs.declared.layout.TheConstants.{FIRST_PIN_PAGE, PINS}
-use Rattle.card_core.specs.declared.layout.TheConstants.{MARK, HEADER_PAGE}
+use Rattle.block_chain.specs.declared.layout.TheConstants.{HEADER_PAGE}
+use Rattle.card_core.specs.declared.layout.TheConstants.{MARK}
 use Rattle.card_core.specs.Cards.{transparent, dedicated, elementary, File, Tree, Pin, Card}
 
 -- the words of a page that begins with these, and has one filler behind them

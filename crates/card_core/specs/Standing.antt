@@ -5,7 +5,9 @@ use Rattle.undo_journal.specs.Undo.{gate}
 use Rattle.block_chain.specs.Words.{word}
 use Rattle.file_tree.specs.Trees.{tree_of, TreeStands}
 use Rattle.pin_store.specs.Pages.{pins_of, ArePinPages}
-use Rattle.card_core.specs.declared.layout.TheConstants.{MARK, HEADER_PAGE, STATE_WORD}
+use Rattle.block_chain.specs.declared.layout.TheConstants.{HEADER_PAGE}
+use Rattle.file_tree.specs.declared.layout.TheConstants.{STATE_WORD}
+use Rattle.card_core.specs.declared.layout.TheConstants.{MARK}
 use Rattle.card_core.specs.Cards.{Card}
 
 -- the header: the mark "TSC1", and the state, 0 in use or 1 terminated

@@ -45,6 +45,8 @@ use Rattle.fcp_template.specs.Spelling.{fcp_text}
 use Rattle.card_core.specs.declared.card_state.CardState.{CardState}
 use Rattle.card_core.specs.declared.card_state.CardState.TheVariants.{Working, Failed, Dark}
 use Rattle.card_core.specs.declared.current.Current.{Current}
+use Rattle.card_core.specs.declared.current.Shown.{Shown}
+use Rattle.card_core.specs.declared.current.Shown.TheVariants.{Value, UnblockingValue}
 use Rattle.card_core.specs.declared.named.Need.{Need}
 use Rattle.card_core.specs.declared.named.Structure.{Structure}
 use Rattle.card_core.specs.declared.named.Structure.TheVariants.{Bytes, Records, Linear, Cyclic}
@@ -338,6 +340,11 @@ abbrev pub tried_from : Current → ℕ → Bool → AttemptEnd → Current
 tried_from x n unverifies Matched = record x { verified = with_pin x.verified n }
 tried_from x n true (Wrong left) = record x { verified = without_pin x.verified n }
 tried_from x n false (Wrong left) = x
+
+-- a wrong value takes the PIN out of the verified ones, if it was to be the value of the PIN itself
+abbrev pub unverifies : Shown → Bool
+unverifies Value = true
+unverifies UnblockingValue = false
 
 abbrev pub end_of_attempt : AttemptEnd → Sw
 end_of_attempt Matched = DONE

@@ -12,49 +12,51 @@ use crate::named::{Need, Structure, find_file};
 use apdu_core::{Answer, Sw, Target};
 use block_chain::Chain;
 use card_rules::AccessBit;
+use card_rules::limits::MOST_ANSWER_DATA;
 use ef_body::{BodyErr, Transparent};
 use file_tree::Entry;
 use undo_journal::{Board, Store, StoreErr};
 
-/// What READ BINARY needs of its file, and what UPDATE BINARY needs.
+/// What READ BINARY needs of its file.
 const READING: Need = Need {
     structure: Structure::Bytes,
     bit: AccessBit::Read,
 };
 
+/// What UPDATE BINARY needs of its file.
 const UPDATING: Need = Need {
     structure: Structure::Bytes,
     bit: AccessBit::Update,
 };
 
-/// READ BINARY: the bytes from the offset on go into `text`, as many as Le asks for, and the status word is the result.
+/// READ BINARY: the bytes from the offset on go into `answer`, as many as Le asks for, and the status word is the result.
 pub(crate) fn read_file<B: Board>(
     store: &mut Store<B>,
     current: &mut Current,
     target: Target,
     offset: u16,
     expected: u8,
-    text: &mut Answer,
+    answer: &mut Answer,
 ) -> Result<Sw, StoreErr>
     requires ready { IsReady store.old }
     requires card { IsCard (committed store.old) }
     requires current { IsCurrent (table_in store.old) current.old }
     requires target { IsTarget target }
-    requires empty { text.old.items ≡ [] }
-    ensures { Serves (read_binary target offset expected) store.old current.old store.new current.new text.new.items result }
+    requires empty { answer.old.items ≡ [] }
+    ensures { Serves (read_binary target offset expected) store.old current.old store.new current.new answer.new.items result }
 {
     let file = match find_file(store, current, target, READING)? {
         Ok(file) => file,
         Err(refusal) => return Ok(refusal),
     };
     let body = body_of(&file.entry);
-    match body.read(store, offset, most_of(expected), text) {
+    match body.read(store, offset, most_of(expected), answer) {
         Ok(()) => {}
         Err(BodyErr::Refused(refusal)) => return Ok(refusal),
         Err(BodyErr::Store(e)) => return Err(e),
     }
     *current = current.naming(target, file.number);
-    Ok(read_status(text.len(), expected))
+    Ok(read_status(answer.len(), expected))
 }
 
 /// UPDATE BINARY: the bytes take the place of those from the offset on, in one transaction, all or none.
@@ -106,7 +108,7 @@ fn most_of(expected: u8) -> u16
     ensures { result ≡ (if expected == 0 then 256 else expected) }
 {
     if expected == 0 {
-        256
+        MOST_ANSWER_DATA as u16
     } else {
         u16::from(expected)
     }

@@ -1,13 +1,14 @@
 //! Whether the words of a memory are those of a card.
-ghost use Rattle.std.specs.Prelude.{◌≡◌, ◌↔◌, IfOk, IsTrue};
+ghost use Rattle.std.specs.Prelude.{◌↔◌, IfOk, IsTrue};
 ghost use Rattle.std.specs.Result.{result_err};
 ghost use Rattle.undo_journal.specs.Calls.{Reads};
 ghost use Rattle.undo_journal.specs.Memory.{committed, IsReady};
 ghost use Rattle.card_core.specs.Standing.{IsHeader};
 ghost use Rattle.card_core.specs.Working.{TellsCard};
 
-use crate::layout::{HEADER_PAGE, MARK, STATE_WORD};
-use file_tree::{FreeSpace, is_tree};
+use crate::layout::MARK;
+use block_chain::HEADER_PAGE;
+use file_tree::{CARD_TERMINATED, FreeSpace, STATE_WORD, is_tree};
 use pin_store::are_pins;
 use undo_journal::{Board, PAGE_WORDS, Store, StoreErr};
 
@@ -20,7 +21,7 @@ fn is_header<B: Board>(store: &mut Store<B>) -> Result<bool, StoreErr>
 {
     let mark = store.read(PAGE_WORDS * HEADER_PAGE)?;
     let state = store.read(PAGE_WORDS * HEADER_PAGE + STATE_WORD)?;
-    Ok(mark == MARK && state <= 1)
+    Ok(mark == MARK && state <= CARD_TERMINATED)
 }
 
 /// The free space of a card, if the words are those of one: its header, its PINs, its files and their blocks are looked at.

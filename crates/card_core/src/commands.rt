@@ -1,5 +1,5 @@
 //! A command on a card: one step of the tree machine.
-ghost use Rattle.std.specs.Prelude.{◌≡◌, ◌==◌, [], not, IfOk, OnOk};
+ghost use Rattle.std.specs.Prelude.{◌≡◌, ◌==◌, [], IfOk, OnOk};
 ghost use Rattle.std.specs.Result.{result_err};
 ghost use Rattle.undo_journal.specs.Calls.{Reads};
 ghost use Rattle.undo_journal.specs.Memory.{committed, IsReady};
@@ -13,30 +13,31 @@ use crate::binary::{read_file, update_file};
 use crate::current::Current;
 use crate::files::{create_file, delete_file};
 use crate::increasing::increase;
-use crate::layout::{HEADER_PAGE, STATE_WORD};
+use crate::layout::CARD_IN_USE;
 use crate::life_cycles::{change_life_cycle, terminate_card_usage};
 use crate::pins::{change_reference_data, reset_retry_counter, verify};
 use crate::records::{append_record, read_record, search_record, update_record};
 use crate::select::select_file;
 use apdu_core::{Answer, Command, Sw};
-use file_tree::FreeSpace;
+use block_chain::HEADER_PAGE;
+use file_tree::{FreeSpace, STATE_WORD};
 use undo_journal::{Board, PAGE_WORDS, Store, StoreErr};
 
-/// Carries out the bytes of a command: the data goes into `text`, the free space is kept, and the status word is the result.
+/// Carries out the bytes of a command: the data goes into `answer`, the free space is kept, and the status word is the result.
 /// What the form of the command calls for comes first, and then whether the use of the card has ended.
 pub(crate) fn carry_out<B: Board>(
     store: &mut Store<B>,
     current: &mut Current,
     free: &mut FreeSpace,
     command: &[u8],
-    text: &mut Answer,
+    answer: &mut Answer,
 ) -> Result<Sw, StoreErr>
     requires ready { IsReady store.old }
     requires card { IsCard (committed store.old) }
     requires current { IsCurrent (table_in store.old) current.old }
     requires space { free.old ≡ space_in store.old }
-    requires empty { text.old.items ≡ [] }
-    ensures carries { CarriesOut command.now store.old current.old store.new current.new text.new.items result }
+    requires empty { answer.old.items ≡ [] }
+    ensures carries { CarriesOut command.now store.old current.old store.new current.new answer.new.items result }
     ensures space { OnOk result (free.new ≡ space_in store.new) }
 {
     let command = match Command::parse(command) {
@@ -46,7 +47,7 @@ pub(crate) fn carry_out<B: Board>(
     if !is_in_use(store)? {
         return Ok(Sw::CONDITIONS_NOT_SATISFIED);
     }
-    serve(store, current, free, command, text)
+    serve(store, current, free, command, answer)
 }
 
 /// The use of the card has not ended.
@@ -56,7 +57,7 @@ fn is_in_use<B: Board>(store: &mut Store<B>) -> Result<bool, StoreErr>
     ensures store { Reads store.old store.new (result_err result) }
 {
     let state = store.read(PAGE_WORDS * HEADER_PAGE + STATE_WORD)?;
-    Ok(state == 0)
+    Ok(state == CARD_IN_USE)
 }
 
 /// Carries out a command on a card that is in use.
@@ -65,15 +66,15 @@ fn serve<B: Board>(
     current: &mut Current,
     free: &mut FreeSpace,
     command: Command<'_>,
-    text: &mut Answer,
+    answer: &mut Answer,
 ) -> Result<Sw, StoreErr>
     requires ready { IsReady store.old }
     requires card { IsCard (committed store.old) }
     requires current { IsCurrent (table_in store.old) current.old }
     requires space { free.old ≡ space_in store.old }
-    requires empty { text.old.items ≡ [] }
+    requires empty { answer.old.items ≡ [] }
     requires in_range { IsInRange command }
-    ensures serves { Serves (request_of command.entry) store.old current.old store.new current.new text.new.items result }
+    ensures serves { Serves (request_of command.entry) store.old current.old store.new current.new answer.new.items result }
     ensures space { OnOk result (free.new ≡ space_in store.new) }
 {
     match command {
@@ -81,12 +82,12 @@ fn serve<B: Board>(
             selector,
             returned,
             expected,
-        } => select_file(store, current, selector, returned, expected, text),
+        } => select_file(store, current, selector, returned, expected, answer),
         Command::ReadBinary {
             target,
             offset,
             expected,
-        } => read_file(store, current, target, offset, expected, text),
+        } => read_file(store, current, target, offset, expected, answer),
         Command::UpdateBinary {
             target,
             offset,
@@ -98,7 +99,7 @@ fn serve<B: Board>(
             target,
             choice,
             expected,
-        } => read_record(store, current, target, choice, expected, text),
+        } => read_record(store, current, target, choice, expected, answer),
         Command::UpdateRecord {
             target,
             choice,
@@ -109,12 +110,14 @@ fn serve<B: Board>(
             target,
             first,
             direction,
-            text: sought,
+            text,
             expected,
         } => search_record(
-            store, current, target, first, direction, sought, expected, text,
+            store, current, target, first, direction, text, expected, answer,
         ),
-        Command::Increase { amount, expected } => increase(store, current, amount, expected, text),
+        Command::Increase { amount, expected } => increase(
+            store, current, amount, expected, answer,
+        ),
         Command::ChangeLifeCycle { change, subject } => change_life_cycle(
             store, current, change, subject,
         ),

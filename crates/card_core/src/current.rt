@@ -1,11 +1,11 @@
 //! The current files of a session (ISO/IEC 7816-4, 7.3.1), by the numbers of their entries, and the PINs that are verified in it.
 ghost use Rattle.std.specs.Prelude.{◌≡◌};
 ghost use Rattle.card_rules.specs.Pins.{IsPinNumber};
-ghost use Rattle.card_core.specs.Working.{current_at, fresh_current, named_from, pointer_from, pointing_from, tried_from};
+ghost use Rattle.card_core.specs.Working.{current_at, fresh_current, named_from, pointer_from, pointing_from, tried_from, unverifies};
 
 use apdu_core::Target;
 use card_rules::{PinNumber, Verified};
-use file_tree::Entry;
+use file_tree::{Entry, kinds};
 use pin_store::Outcome;
 
 /// The current dedicated file, the current elementary file in it, if there is one, and the PINs that are verified.
@@ -17,6 +17,15 @@ pub(crate) struct Current {
     pub pointer: Option<u8>,
     /// The PINs that are verified.
     pub verified: Verified,
+}
+
+/// Which value of a PIN is shown.
+#[derive(Clone, Copy)]
+pub(crate) enum Shown {
+    /// The value of the PIN itself.
+    Value,
+    /// Its unblocking value.
+    UnblockingValue,
 }
 
 impl Current {
@@ -36,7 +45,7 @@ impl Current {
     pub fn at(self, e: u8, entry: &Entry) -> Current
         ensures { result ≡ current_at self e entry.now }
     {
-        let (df, ef) = if entry.kind == 1 {
+        let (df, ef) = if entry.kind == kinds::DEDICATED {
             (e, None)
         } else {
             (entry.parent, Some(e))
@@ -49,16 +58,16 @@ impl Current {
         }
     }
 
-    /// A value of a PIN was shown: the PIN is verified where it was right; where it was wrong, a command that shows the value of the
-    /// PIN itself takes it out of the verified ones.
-    pub fn after_attempt(self, pin: u8, unverifies: bool, outcome: Outcome) -> Current
+    /// A value of a PIN was shown: the PIN is verified where it was right; where it was wrong, and the value of the PIN itself,
+    /// the PIN is taken out of the verified ones.
+    pub fn after_attempt(self, pin: u8, shown: Shown, outcome: Outcome) -> Current
         requires { IsPinNumber pin }
-        ensures { result ≡ tried_from self pin unverifies outcome }
+        ensures { result ≡ tried_from self pin (unverifies shown) outcome }
     {
         let mut verified = self.verified;
-        match (PinNumber::new(pin), outcome) {
-            (Some(pin), Outcome::Matched) => verified.insert(pin),
-            (Some(pin), Outcome::Wrong(_)) if unverifies => verified.remove(pin),
+        match (PinNumber::new(pin), outcome, shown) {
+            (Some(pin), Outcome::Matched, _) => verified.insert(pin),
+            (Some(pin), Outcome::Wrong(_), Shown::Value) => verified.remove(pin),
             _ => {}
         }
         Current { verified, ..self }

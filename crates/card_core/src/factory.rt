@@ -2,7 +2,7 @@
 ghost use Rattle.std.specs.Prelude.{◌≡◌, ◌+◌, ◌<◌, ◌≤◌, false, Err, OnOk, IfOk, IfErr};
 ghost use Rattle.nvm_board.specs.Facts.{Answered, Steady};
 ghost use Rattle.nvm_board.specs.declared.board.TheConstants.{PAGES};
-ghost use Rattle.card_core.specs.declared.layout.TheConstants.{HEADER_PAGE};
+ghost use Rattle.block_chain.specs.declared.layout.TheConstants.{HEADER_PAGE};
 ghost use Rattle.block_chain.specs.Words.{page_words};
 ghost use Rattle.file_tree.specs.Spaces.{free_space};
 ghost use Rattle.undo_journal.specs.Spending.{WritesAtMost};
@@ -11,17 +11,18 @@ ghost use Rattle.card_core.specs.Factory.{factory_page as factory_page_of};
 ghost use Rattle.card_core.specs.Finding.{Finds, found};
 ghost use Rattle.card_core.specs.Standing.{StandsFor};
 
-use crate::layout::{HEADER_PAGE, MARK};
-use block_chain::FIRST_BLOCK_PAGE;
+use crate::layout::{CARD_IN_USE, MARK};
+use block_chain::{FIRST_BLOCK_PAGE, HEADER_PAGE};
 use file_tree::FIRST_ENTRY_PAGE;
 use pin_store::{FIRST_PIN_PAGE, PINS};
 use undo_journal::{Board, DeviceErr, PAGE_WORDS, PAGES};
 
+/// The words of a page.
 type PageWords = [u32; PAGE_WORDS as usize];
 
 /// The mark, the first free block, a card in use.
 #[rattlefmt::skip]
-const HEADER: PageWords = [MARK, FIRST_BLOCK_PAGE as u32 + 1, 0, 0, 0, 0, 0, 0, 0, 0, 0, 0, 0, 0, 0, 0];
+const HEADER: PageWords = [MARK, FIRST_BLOCK_PAGE as u32 + 1, CARD_IN_USE, 0, 0, 0, 0, 0, 0, 0, 0, 0, 0, 0, 0, 0];
 
 /// The master file, with its rule.
 #[rattlefmt::skip]
@@ -57,7 +58,7 @@ fn factory_page(page: u16) -> PageWords
         MASTER_ENTRY
     } else if page == FIRST_ENTRY_PAGE + 1 {
         FILE_ENTRY
-    } else if FIRST_PIN_PAGE <= page && page < FIRST_PIN_PAGE + u16::from(PINS) {
+    } else if (FIRST_PIN_PAGE..FIRST_PIN_PAGE + u16::from(PINS)).contains(&page) {
         PIN_PAGE
     } else if page < FIRST_BLOCK_PAGE {
         [0; PAGE_WORDS as usize]
@@ -110,7 +111,11 @@ fn write_pages<B: Board>(board: &mut B) -> Result<(), DeviceErr>
 }
 
 /// Writes the factory's memory to a board: its two files, its PINs, and all other blocks free. Then 895 blocks and 62
-/// entries are free. The board comes back at every exit. After an error the memory stands for nothing that is promised.
+/// entries are free.
+///
+/// # Errors
+/// What the device answers, with the board: power was off, or was lost; or it failed. The memory then stands for nothing that is
+/// promised.
 pub fn format<B: Board>(mut board: B) -> Result<B, (B, DeviceErr)>
     ensures factory { IfOk result (λ b. IsFactory (B.facts b).words) }
     ensures stands { IfOk result (λ b. StandsFor (B.facts b).words factory_card) }

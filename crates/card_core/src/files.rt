@@ -17,7 +17,7 @@ ghost use Rattle.card_core.specs.Served.{Serves};
 ghost use Rattle.card_core.specs.Working.{card_in, file_refusal, session_in, space_in, table_in, IsCurrent};
 
 use crate::current::Current;
-use crate::named::{Named, refusal_by};
+use crate::named::{Findings, Named};
 use apdu_core::{Subject, Sw};
 use card_rules::AccessBit;
 use fcp_template::{Fcp, FileKind, parse};
@@ -79,12 +79,8 @@ fn find_new_file<'a, B: Board>(
     let Ok(fcp) = parse(template) else {
         return Ok(Err(Sw::WRONG_DATA));
     };
-    if !is_allowed(
-        store,
-        current.df,
-        creation_bit(&fcp.kind),
-        &current.verified,
-    )? {
+    let bit = creation_bit(&fcp.kind);
+    if !is_allowed(store, current.df, bit, &current.verified)? {
         return Ok(Err(Sw::ACCESS_DENIED));
     }
     Ok(Ok(fcp))
@@ -187,7 +183,12 @@ fn deletion_refusal<B: Board>(
     let barred = is_barred(store, parent)?;
     let own = is_allowed(store, number, AccessBit::DeleteSelf, &current.verified)?;
     let by_parent = is_allowed(store, parent, AccessBit::DeleteChild, &current.verified)?;
-    Ok(refusal_by(barred, true, own || by_parent))
+    let findings = Findings {
+        barred,
+        fits: true,
+        allowed: own || by_parent,
+    };
+    Ok(findings.refusal())
 }
 
 /// The entry of the file that a command on files is about.

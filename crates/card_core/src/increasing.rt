@@ -17,12 +17,13 @@ ghost use Rattle.card_core.specs.Steps.{refusals_of};
 ghost use Rattle.card_core.specs.Working.{card_in, session_in, space_in, table_in, IsCurrent};
 
 use crate::current::Current;
-use crate::lengths::{Found, asks_less, give, right_length};
+use crate::lengths::{ResponseData, asks_less, give, right_length};
 use crate::named::{Need, Structure};
-use crate::record_body::unrefused;
+use crate::record_body::unless_failed;
 use crate::records::find_records;
 use apdu_core::{Answer, Sw, Target};
 use card_rules::AccessBit;
+use card_rules::limits::MOST_ANSWER_DATA;
 use ef_body::{BodyErr, Cyclic};
 use undo_journal::{Board, Store, StoreErr};
 
@@ -33,29 +34,29 @@ const INCREASING: Need = Need {
 };
 
 /// INCREASE: the sum of the newest record of the current cyclic file and the sent number is the new record 1, which is the
-/// current one then. The new record, and then what was sent, go into `text`, and the status word is the result.
+/// current one then. The new record, and then what was sent, go into `answer`, and the status word is the result.
 pub(crate) fn increase<B: Board>(
     store: &mut Store<B>,
     current: &mut Current,
     amount: &[u8],
     expected: Option<u8>,
-    text: &mut Answer,
+    answer: &mut Answer,
 ) -> Result<Sw, StoreErr>
     requires ready { IsReady store.old }
     requires card { IsCard (committed store.old) }
     requires current { IsCurrent (table_in store.old) current.old }
     requires few { length amount.now ≤ 255 }
-    requires empty { text.old.items ≡ [] }
-    ensures serves { Serves (increasing amount.now expected) store.old current.old store.new current.new text.new.items result }
+    requires empty { answer.old.items ≡ [] }
+    ensures serves { Serves (increasing amount.now expected) store.old current.old store.new current.new answer.new.items result }
     ensures space { OnOk result (space_in store.new ≡ space_in store.old) }
 {
-    let mut found = Found::new();
-    let file = match find_increased(store, current, amount, expected, &mut found)? {
+    let mut response = ResponseData::new();
+    let file = match find_increased(store, current, amount, expected, &mut response)? {
         Ok(file) => file,
         Err(refusal) => return Ok(refusal),
     };
     put_sum(file.body, store, amount)?;
-    give(expected, &found, text);
+    give(expected, &response, answer);
     *current = current.pointing(Target::Current, file.number, Some(1));
     Ok(Sw::DONE)
 }
@@ -67,21 +68,21 @@ struct CyclicFile {
     body: Cyclic,
 }
 
-/// The file that INCREASE is for, and what it answers, put into `bytes`; or else the refusal: by the current file; the
+/// The file that INCREASE is for, and what it answers, put into `response`; or else the refusal: by the current file; the
 /// sent number is too long; there is no record; the sum is too long; Le asks for less than the answer.
 fn find_increased<B: Board>(
     store: &mut Store<B>,
     current: &Current,
     amount: &[u8],
     expected: Option<u8>,
-    bytes: &mut Found,
+    response: &mut ResponseData,
 ) -> Result<Result<CyclicFile, Sw>, StoreErr>
     requires ready { IsReady store.old }
     requires card { IsCard (committed store.old) }
     requires current { IsCurrent (table_in store.old) current.now }
     requires few { length amount.now ≤ 255 }
     ensures found { IfOk result (λ answer. MatchResult answer
-        (λ file. IsIncreasable (committed store.old) current.now amount.now expected file.number file.body bytes.new.items)
+        (λ file. IsIncreasable (committed store.old) current.now amount.now expected file.number file.body response.new.items)
         (λ refusal. refused_by (refusals_of (card_in store.old) (session_in store.old current.now)
         (increasing amount.now expected)) ≡ Some refusal)) }
     ensures store { Reads store.old store.new (result_err result) }
@@ -94,17 +95,15 @@ fn find_increased<B: Board>(
     if is_too_long(body, amount) {
         return Ok(Err(Sw::WRONG_LENGTH));
     }
-    let mut sum = Found::new();
-    let refused = raised(body, store, amount, &mut sum)?;
-    match refused {
-        Some(refusal) => return Ok(Err(refusal)),
-        None => {}
+    let mut sum = ResponseData::new();
+    if let Some(refusal) = raised(body, store, amount, &mut sum)? {
+        return Ok(Err(refusal));
     }
     let found = answer_of(&sum, amount);
     if asks_less(expected, &found) {
         return Ok(Err(right_length(&found)));
     }
-    *bytes = found;
+    *response = found;
     let number = file.number;
     Ok(Ok(CyclicFile { number, body }))
 }
@@ -114,7 +113,7 @@ fn raised<B: Board>(
     body: Cyclic,
     store: &mut Store<B>,
     amount: &[u8],
-    sum: &mut Found,
+    sum: &mut ResponseData,
 ) -> Result<Option<Sw>, StoreErr>
     requires ready { IsReady store.old }
     requires body { IsCyclic (committed store.old) body }
@@ -143,19 +142,19 @@ fn put_sum<B: Board>(body: Cyclic, store: &mut Store<B>, amount: &[u8]) -> Resul
     ensures done { OnOk result (Increases (committed store.old) body amount.now (committed store.new)) }
     ensures store { Changes RECORD_WRITES store.old store.new (result_err result) }
 {
-    let mut sum = Found::new();
-    unrefused(body.increase(store, amount, &mut sum))
+    let mut sum = ResponseData::new();
+    unless_failed(body.increase(store, amount, &mut sum))
 }
 
 /// What INCREASE answers: the new record, and then what was sent.
-fn answer_of(sum: &Found, amount: &[u8]) -> Found
+fn answer_of(sum: &ResponseData, amount: &[u8]) -> ResponseData
     requires { length sum.now.items + length amount.now ≤ 256 }
     ensures { result.items ≡ sum.now.items ++ amount.now }
 {
-    let mut found = Found::new();
-    found.try_extend_from_slice(sum).unwrap();
-    found.try_extend_from_slice(amount).unwrap();
-    found
+    let mut response = ResponseData::new();
+    response.try_extend_from_slice(sum).unwrap();
+    response.try_extend_from_slice(amount).unwrap();
+    response
 }
 
 /// More bytes than a record has, or an answer of more than 256 bytes.
@@ -165,5 +164,5 @@ fn is_too_long(body: Cyclic, amount: &[u8]) -> bool
         || nat_lt 256 (body.record_length + length amount.now)) }
 {
     let long = usize::from(body.record_length);
-    long < amount.len() || 256 < long + amount.len()
+    long < amount.len() || MOST_ANSWER_DATA < long + amount.len()
 }

@@ -3,7 +3,9 @@ ghost use Rattle.std.specs.Prelude.{◌≡◌, ◌≤◌, ◌+◌, ◌/◌, ℕ,
 ghost use Rattle.block_chain.specs.Changes.{touched_words};
 ghost use Rattle.card_core.specs.declared.machine.TheConstants.{COMMAND_WRITES};
 ghost use Rattle.card_core.specs.Spending.{writes_of};
-ghost use Rattle.card_core.specs.declared.layout.TheConstants.{MARK, HEADER_PAGE, STATE_WORD};
+ghost use Rattle.card_core.specs.declared.layout.TheConstants.{MARK};
+ghost use Rattle.block_chain.specs.declared.layout.TheConstants.{HEADER_PAGE};
+ghost use Rattle.file_tree.specs.declared.layout.TheConstants.{STATE_WORD};
 ghost use Rattle.pin_store.specs.declared.layout.TheConstants.{FIRST_PIN_PAGE, PINS};
 ghost use Rattle.nvm_board.specs.declared.board.TheConstants.{WORDS};
 ghost use Rattle.apdu_core.specs.OfBytes.{AreBytes};

@@ -1,11 +1,8 @@
-//! Where the header lies in the memory: pages of 16 words. File entries, PINs and blocks are file_tree's, pin_store's and
-//! block_chain's, and the gate's page and the journal's pages are the store's.
-
-/// The header: the mark, the first free block, the card state.
-pub(crate) const HEADER_PAGE: u16 = 0;
+//! What the header holds. Where it lies is block_chain's and file_tree's, as are the places of blocks and of file entries; PINs are
+//! pin_store's, and the gate's page and the journal's pages are the store's.
 
 /// The mark "TSC1" in the header's first word.
 pub(crate) const MARK: u32 = 0x5453_4331;
 
-/// The header's word that holds the card state: 0 in use, 1 terminated.
-pub(crate) const STATE_WORD: u16 = 2;
+/// The state of a card that is in use, in the header's word of the state.
+pub(crate) const CARD_IN_USE: u32 = 0;

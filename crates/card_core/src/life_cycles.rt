@@ -17,7 +17,7 @@ use crate::current::Current;
 use apdu_core::{LifeCycleChange, Subject, Sw};
 use card_rules::{AccessBit, LifeCycle, LifeCycleCommand};
 use file_tree::{
-    Entry, is_allowed, next_life_cycle, read_entry, select, set_life_cycle, terminate_card,
+    Entry, is_allowed, kinds, next_life_cycle, read_entry, select, set_life_cycle, terminate_card,
 };
 use undo_journal::{Board, Store, StoreErr};
 
@@ -217,7 +217,7 @@ fn is_for(change: LifeCycleChange, kind: u8) -> bool
 {
     match change {
         LifeCycleChange::Activate | LifeCycleChange::Deactivate => true,
-        LifeCycleChange::TerminateDf => kind == 1,
-        LifeCycleChange::TerminateEf => kind != 1,
+        LifeCycleChange::TerminateDf => kind == kinds::DEDICATED,
+        LifeCycleChange::TerminateEf => kind != kinds::DEDICATED,
     }
 }

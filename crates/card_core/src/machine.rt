@@ -4,8 +4,7 @@ ghost use Rattle.std.specs.Prelude.{IfErr, IsErrOf, Ok, Err, MatchOption, MatchR
 ghost use Rattle.undo_journal.specs.declared.error.StoreErr.TheVariants as StoreErr;
 ghost use Rattle.card_core.specs.declared.faults.StartFault.TheVariants as StartFault;
 ghost use Rattle.card_core.specs.StartFaults.{fault_of_store};
-ghost use Rattle.undo_journal.specs.Spending.{WritesAtMost, KeepsBoard, start_writes};
-ghost use Rattle.undo_journal.specs.Undo.{gate};
+ghost use Rattle.undo_journal.specs.Spending.{WritesAtMost, KeepsBoard, KeepsShut, start_writes};
 ghost use Rattle.file_tree.specs.Spaces.{free_space};
 ghost use Rattle.apdu_core.specs.Asked.{asked};
 ghost use Rattle.card_core.specs.Comparing.{comparisons, ComparesAsked};
@@ -64,16 +63,19 @@ impl<B: Board> Model for Card<B> {
 impl<B: Board> Card<B> {
     /// Starts the card that the memory stands for, its journal undone, in a fresh session. At every exit the card that is
     /// found is what it was, so that a start may itself be cut any number of times; where no pair of the journal counts, it
-    /// changes no word and writes nothing. The board comes back where the card doesn't start.
+    /// changes no word and writes nothing.
+    ///
+    /// # Errors
+    /// Why the card doesn't start, with the board: power was off, or was lost; the device failed; the journal can't be undone;
+    /// or the memory, its journal undone, stands for no card.
     pub fn start(board: B) -> Result<Card<B>, (B, StartFault)>
         ensures started { IfOk result (Starts (B.facts board)) }
         ensures stopped { IfErr result (λ e. StartStopsBy e.1 (B.facts board) (B.facts e.0)) }
         ensures has_card { IfOk result (λ c. HasCard c.facts.words) }
         ensures found { IfOk result (λ c. FindsAgain (B.facts board).words c.facts.words) }
         ensures found_err { IfErr result (λ e. FindsAgain (B.facts board).words (B.facts e.0).words) }
-        ensures shut { IfOk result (λ c. gate (B.facts board).words ≡ 0 → KeepsBoard (B.facts board) c.facts) }
-        ensures shut_err { IfErr result (λ e. gate (B.facts board).words ≡ 0
-            → KeepsBoard (B.facts board) (B.facts e.0)) }
+        ensures shut { IfOk result (λ c. KeepsShut (B.facts board) c.facts) }
+        ensures shut_err { IfErr result (λ e. KeepsShut (B.facts board) (B.facts e.0)) }
         ensures writes { IfOk result (λ c. WritesAtMost (start_writes (B.facts board)) (B.facts board) c.facts) }
         ensures writes_err { IfErr result (λ e. WritesAtMost (start_writes (B.facts board)) (B.facts board) (B.facts
             e.0)) }
@@ -111,8 +113,10 @@ impl<B: Board> Card<B> {
     }
 
     /// Carries out the bytes of a command (ISO/IEC 7816-4, clause 5), and puts its answer into the buffer, whatever that held.
-    /// A refusal is an answer too. A fault of the device is answered 6581, here and from then on, until the next start; where
-    /// power is lost, `PowerLost` is the result and nothing is answered, here and from then on.
+    /// A refusal is an answer too. A fault of the device is answered 6581, here and from then on, until the next start.
+    ///
+    /// # Errors
+    /// `PowerLost` where power is lost, or was lost in an earlier command: nothing is answered, until the next start.
     pub fn command(&mut self, command: &[u8], answer: &mut Answer) -> Result<(), PowerLost>
         // At every exit, cut or fault or neither, the card that is found is one of the command's stages.
         ensures has_card { HasCard self.new.facts.words }

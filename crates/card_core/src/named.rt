@@ -16,7 +16,7 @@ ghost use Rattle.card_core.specs.Working.{card_in, file_refusal, fits, fits_kind
 use crate::current::Current;
 use apdu_core::{Sw, Target};
 use card_rules::AccessBit;
-use file_tree::{Entry, find_short, is_allowed, is_barred, read_entry};
+use file_tree::{Entry, find_short, is_allowed, is_barred, kinds, read_entry};
 use undo_journal::{Board, Store, StoreErr};
 
 /// The structures that a command is for.
@@ -93,23 +93,37 @@ fn refusal_of<B: Board>(
         (allowed (card_in store.old) (session_in store.old current.now) (path_of (table_in store.old) number) need.bit)) }
     ensures store { Reads store.old store.new (result_err result) }
 {
-    let barred = is_barred(store, number)?;
-    let allowed = is_allowed(store, number, need.bit, &current.verified)?;
-    Ok(refusal_by(barred, need.structure.fits(kind), allowed))
+    let findings = Findings {
+        barred: is_barred(store, number)?,
+        fits: need.structure.fits(kind),
+        allowed: is_allowed(store, number, need.bit, &current.verified)?,
+    };
+    Ok(findings.refusal())
 }
 
-/// The refusal of a command whose file may be barred, of a structure that the command is for, and allowed by its rule.
-pub(crate) fn refusal_by(barred: bool, fits: bool, allowed: bool) -> Option<Sw>
-    ensures { result ≡ file_refusal barred fits allowed }
-{
-    if barred {
-        Some(Sw::CONDITIONS_NOT_SATISFIED)
-    } else if !fits {
-        Some(Sw::WRONG_STRUCTURE)
-    } else if !allowed {
-        Some(Sw::ACCESS_DENIED)
-    } else {
-        None
+/// What is found of the file that a command is for: it is barred; it is of a structure that the command is for; its rule
+/// allows the command.
+#[derive(Clone, Copy)]
+pub(crate) struct Findings {
+    pub barred: bool,
+    pub fits: bool,
+    pub allowed: bool,
+}
+
+impl Findings {
+    /// What refuses a command on such a file.
+    pub fn refusal(self) -> Option<Sw>
+        ensures { result ≡ file_refusal self.barred self.fits self.allowed }
+    {
+        if self.barred {
+            Some(Sw::CONDITIONS_NOT_SATISFIED)
+        } else if !self.fits {
+            Some(Sw::WRONG_STRUCTURE)
+        } else if !self.allowed {
+            Some(Sw::ACCESS_DENIED)
+        } else {
+            None
+        }
     }
 }
 
@@ -119,10 +133,10 @@ impl Structure {
         ensures { result ≡ fits_kind self kind }
     {
         match self {
-            Structure::Bytes => kind == 2,
-            Structure::Records => kind == 3 || kind == 4,
-            Structure::Linear => kind == 3,
-            Structure::Cyclic => kind == 4,
+            Structure::Bytes => kind == kinds::TRANSPARENT,
+            Structure::Records => kind == kinds::LINEAR || kind == kinds::CYCLIC,
+            Structure::Linear => kind == kinds::LINEAR,
+            Structure::Cyclic => kind == kinds::CYCLIC,
         }
     }
 }

@@ -13,9 +13,9 @@ ghost use Rattle.pin_store.specs.Trials.{pin_in, Charges};
 ghost use Rattle.card_core.specs.Pins.{tries_told};
 ghost use Rattle.card_core.specs.Served.{Serves};
 ghost use Rattle.card_core.specs.Standing.{IsCard};
-ghost use Rattle.card_core.specs.Working.{end_of_attempt, session_in, table_in, tried_from, IsCurrent};
+ghost use Rattle.card_core.specs.Working.{end_of_attempt, table_in, IsCurrent};
 
-use crate::current::Current;
+use crate::current::{Current, Shown};
 use apdu_core::{Replacement, Sw};
 use pin_store::{Charged, Outcome, PINS, PinErr, change, charge, reset_counter, settle, tries};
 use undo_journal::{Board, Store, StoreErr};
@@ -61,7 +61,7 @@ pub(crate) fn change_reference_data<B: Board>(
         None => return Ok(Sw::METHOD_BLOCKED),
     };
     let outcome = change(store, charged, values.shown, values.new)?;
-    *current = current.after_attempt(pin, true, outcome);
+    *current = current.after_attempt(pin, Shown::Value, outcome);
     Ok(status_of(outcome))
 }
 
@@ -104,7 +104,7 @@ fn verify_value<B: Board>(
         None => return Ok(Sw::METHOD_BLOCKED),
     };
     let outcome = settle(store, charged, shown)?;
-    *current = current.after_attempt(pin, true, outcome);
+    *current = current.after_attempt(pin, Shown::Value, outcome);
     Ok(status_of(outcome))
 }
 
@@ -127,7 +127,7 @@ fn reset_value<B: Board>(
         None => return Ok(Sw::METHOD_BLOCKED),
     };
     let outcome = reset_counter(store, charged, values.shown, values.new)?;
-    *current = current.after_attempt(pin, false, outcome);
+    *current = current.after_attempt(pin, Shown::UnblockingValue, outcome);
     Ok(status_of(outcome))
 }
 

@@ -7,22 +7,18 @@ ghost use Rattle.ef_body.specs.declared.layout.TheConstants.{RECORD_WRITES};
 ghost use Rattle.ef_body.specs.Records.{record_of};
 ghost use Rattle.ef_body.specs.Refusals.{failure, Decides};
 ghost use Rattle.ef_body.specs.Searching.{found};
+ghost use Rattle.file_tree.specs.declared.kinds.TheConstants.{LINEAR, CYCLIC};
 ghost use Rattle.card_core.specs.declared.record_body.RecordBody.TheVariants as bodies;
 ghost use Rattle.card_core.specs.Records.{next_record, place_number, pointer_after, previous_record};
-ghost use Rattle.card_core.specs.Working.{appended_in, body_in, chosen_in, count_in, has_in, is_full_in, length_in};
-ghost use Rattle.card_core.specs.Working.{number_added_in, number_replaced_in};
-ghost use Rattle.card_core.specs.Working.{looked_at, records_at, replaced_in, wraps_in, BodyBecomes, IsBodyIn};
-ghost use Rattle.card_core.specs.Working.{IsToldEntry};
+ghost use Rattle.card_core.specs.Working.{appended_in, body_in, chosen_in, count_in, has_in, is_full_in, length_in, looked_at, number_added_in};
+ghost use Rattle.card_core.specs.Working.{number_replaced_in, records_at, replaced_in, wraps_in, BodyBecomes, IsBodyIn, IsToldEntry};
 
-use crate::lengths::Found;
+use crate::lengths::ResponseData;
 use apdu_core::{RecordChoice, RecordPlace};
 use block_chain::Chain;
 use ef_body::{BodyErr, Cyclic, Direction, Linear};
-use file_tree::{Entry, FIRST_ENTRY_PAGE};
+use file_tree::{Entry, FIRST_ENTRY_PAGE, RECORDS_WORD, kinds};
 use undo_journal::{Board, PAGE_WORDS, Store, StoreErr};
-
-/// The word of an entry that tells how many records there are, and the slot of record 1.
-const RECORDS_WORD: u16 = 10;
 
 /// The body of an elementary file of records.
 #[derive(Clone, Copy)]
@@ -36,7 +32,7 @@ impl RecordBody {
     pub fn of(number: u8, entry: &Entry) -> RecordBody
         requires number { number ≤ 63 }
         requires told { IsToldEntry entry.now }
-        requires records { (entry.now.kind ≡ 3) ⊎ (entry.now.kind ≡ 4) }
+        requires records { (entry.now.kind ≡ LINEAR) ⊎ (entry.now.kind ≡ CYCLIC) }
         ensures { body_in number entry.now ≡ Some result }
     {
         let chain = Chain {
@@ -45,7 +41,7 @@ impl RecordBody {
         };
         let capacity = entry.size / entry.record_length;
         let told_at = PAGE_WORDS * (FIRST_ENTRY_PAGE + u16::from(number)) + RECORDS_WORD;
-        if entry.kind == 3 {
+        if entry.kind == kinds::LINEAR {
             RecordBody::Linear(Linear {
                 chain,
                 record_length: entry.record_length,
@@ -133,7 +129,7 @@ impl RecordBody {
     pub fn has_record(self, number: u16) -> bool
         ensures { result ≡ has_in self number }
     {
-        1 <= number && number <= self.count()
+        (1..=self.count()).contains(&number)
     }
 
     /// Whether these are as many bytes as a record has.
@@ -186,7 +182,7 @@ impl RecordBody {
         self,
         store: &mut Store<B>,
         number: u16,
-        bytes: &mut Found,
+        bytes: &mut ResponseData,
     ) -> Result<(), StoreErr>
         requires ready { IsReady store.old }
         requires body { IsBodyIn (committed store.old) self }
@@ -195,8 +191,8 @@ impl RecordBody {
         ensures store { Reads store.old store.new (result_err result) }
     {
         match self {
-            RecordBody::Linear(body) => unrefused(body.read(store, number, bytes)),
-            RecordBody::Cyclic(body) => unrefused(body.read(store, number, bytes)),
+            RecordBody::Linear(body) => unless_failed(body.read(store, number, bytes)),
+            RecordBody::Cyclic(body) => unless_failed(body.read(store, number, bytes)),
         }
     }
 
@@ -208,7 +204,7 @@ impl RecordBody {
         direction: Direction,
         first: u16,
         text: &[u8],
-        numbers: &mut Found,
+        numbers: &mut ResponseData,
     ) -> Result<(), StoreErr>
         requires ready { IsReady store.old }
         requires body { IsBodyIn (committed store.old) self }
@@ -218,10 +214,10 @@ impl RecordBody {
         ensures store { Reads store.old store.new (result_err result) }
     {
         match self {
-            RecordBody::Linear(body) => unrefused(body.search(
+            RecordBody::Linear(body) => unless_failed(body.search(
                 store, direction, first, text, numbers,
             )),
-            RecordBody::Cyclic(body) => unrefused(body.search(
+            RecordBody::Cyclic(body) => unless_failed(body.search(
                 store, direction, first, text, numbers,
             )),
         }
@@ -246,8 +242,8 @@ impl RecordBody {
         ensures store { Changes RECORD_WRITES store.old store.new (result_err result) }
     {
         match self {
-            RecordBody::Linear(body) => unrefused(body.update(store, number, bytes)),
-            RecordBody::Cyclic(body) => unrefused(body.update_oldest(store, bytes)),
+            RecordBody::Linear(body) => unless_failed(body.update(store, number, bytes)),
+            RecordBody::Cyclic(body) => unless_failed(body.update_oldest(store, bytes)),
         }
     }
 
@@ -266,14 +262,14 @@ impl RecordBody {
         ensures store { Changes RECORD_WRITES store.old store.new (result_err result) }
     {
         match self {
-            RecordBody::Linear(body) => unrefused(body.append(store, bytes)),
-            RecordBody::Cyclic(body) => unrefused(body.append(store, bytes)),
+            RecordBody::Linear(body) => unless_failed(body.append(store, bytes)),
+            RecordBody::Cyclic(body) => unless_failed(body.append(store, bytes)),
         }
     }
 }
 
 /// What a body answers where nothing refuses: the store alone can fail.
-pub(crate) fn unrefused(answered: Result<(), BodyErr>) -> Result<(), StoreErr>
+pub(crate) fn unless_failed(answered: Result<(), BodyErr>) -> Result<(), StoreErr>
     requires { Decides None (result_err answered) }
     ensures { result_err result ≡ failure (result_err answered) }
 {
@@ -290,13 +286,8 @@ fn next_record(wraps: bool, last: u16, pointer: Option<u8>) -> u16
 {
     match pointer {
         None => 1,
-        Some(number) => {
-            if wraps && last <= u16::from(number) {
-                1
-            } else {
-                u16::from(number) + 1
-            }
-        }
+        Some(number) if wraps && last <= u16::from(number) => 1,
+        Some(number) => u16::from(number) + 1,
     }
 }
 
@@ -306,18 +297,13 @@ fn previous_record(wraps: bool, last: u16, pointer: Option<u8>) -> u16
 {
     match pointer {
         None => last,
-        Some(number) => {
-            if wraps && number <= 1 {
-                last
-            } else {
-                u16::from(number).saturating_sub(1)
-            }
-        }
+        Some(number) if wraps && number <= 1 => last,
+        Some(number) => u16::from(number).saturating_sub(1),
     }
 }
 
 /// The number of a place; where the pointer is unset, it is at no record, 0.
-pub(crate) fn place_number(place: RecordPlace, pointer: Option<u8>) -> u16
+fn place_number(place: RecordPlace, pointer: Option<u8>) -> u16
     ensures { result ≡ place_number place pointer }
 {
     match place {

@@ -4,35 +4,34 @@ ghost use Rattle.std.specs.Result.{result_err};
 ghost use Rattle.undo_journal.specs.Calls.{Reads};
 ghost use Rattle.undo_journal.specs.Memory.{committed, IsReady};
 ghost use Rattle.apdu_core.specs.Ranges.{IsTarget};
-ghost use Rattle.apdu_core.specs.Requests.{append_record as appending, read_record as reading, search_record as searching};
+ghost use Rattle.apdu_core.specs.Requests.{append_record as appending, read_record as reading, search_record as searching, update_record as updating};
 ghost use Rattle.card_rules.specs.declared.access_mode.AccessBit.TheVariants as AccessBit;
 ghost use Rattle.card_core.specs.declared.named.Structure.TheVariants as Structure;
 ghost use Rattle.card_core.specs.Outcomes.{refused_by};
-ghost use Rattle.apdu_core.specs.Requests.{update_record as updating};
 ghost use Rattle.card_core.specs.Elementary.{file_refusals};
 ghost use Rattle.card_core.specs.Standing.{IsCard};
-ghost use Rattle.card_core.specs.RecordGuards.{IsAppendable, IsReplaceable};
+ghost use Rattle.card_core.specs.RecordGuards.{choice_refusals, IsAppendable, IsChosen, IsReplaceable};
 ghost use Rattle.card_core.specs.Served.{Serves};
 ghost use Rattle.card_core.specs.Steps.{refusals_of};
-ghost use Rattle.card_core.specs.Working.{card_in, fits, session_in, space_in, table_in, IsCurrent, IsRecordFile};
+ghost use Rattle.card_core.specs.Working.{card_in, fits, session_in, space_in, structure_replaced, table_in, IsCurrent, IsRecordFile};
 ghost use Rattle.card_core.specs.Records.{pointer_found, search_status, searching as searching_way};
-ghost use Rattle.card_core.specs.Working.{structure_replaced};
 
 use crate::current::Current;
-use crate::lengths::{Found, asks_less, give, right_length};
+use crate::lengths::{ResponseData, asks_less, give, right_length};
 use crate::named::{Need, Structure, find_file};
-use crate::record_body::{RecordBody, place_number, pointer_after};
+use crate::record_body::{RecordBody, pointer_after};
 use apdu_core::{Answer, Direction as Way, RecordChoice, RecordPlace, Sw, Target};
 use card_rules::AccessBit;
 use ef_body::Direction;
 use undo_journal::{Board, Store, StoreErr};
 
-/// What READ RECORD and SEARCH RECORD need of their file, and what APPEND RECORD needs.
+/// What READ RECORD and SEARCH RECORD need of their file.
 const READING: Need = Need {
     structure: Structure::Records,
     bit: AccessBit::Read,
 };
 
+/// What APPEND RECORD needs of its file.
 const APPENDING: Need = Need {
     structure: Structure::Records,
     bit: AccessBit::Append,
@@ -58,6 +57,13 @@ fn replacing(choice: RecordChoice) -> Need
 pub(crate) struct RecordFile {
     pub number: u8,
     pub body: RecordBody,
+}
+
+/// A record of a file: the file, and the number of the record.
+#[derive(Clone, Copy)]
+struct FileRecord {
+    file: RecordFile,
+    number: u16,
 }
 
 /// The way of a search, as bodies know it.
@@ -88,50 +94,72 @@ pub(crate) fn find_records<B: Board>(
         (fits need.structure) need.bit) ≡ Some refusal)) }
     ensures store { Reads store.old store.new (result_err result) }
 {
-    match find_file(store, current, target, need)? {
-        Ok(file) => {
-            let body = RecordBody::of(file.number, &file.entry);
-            Ok(Ok(RecordFile {
-                number: file.number,
-                body,
-            }))
-        }
-        Err(refusal) => Ok(Err(refusal)),
-    }
+    let file = match find_file(store, current, target, need)? {
+        Ok(file) => file,
+        Err(refusal) => return Ok(Err(refusal)),
+    };
+    let number = file.number;
+    let body = RecordBody::of(number, &file.entry);
+    Ok(Ok(RecordFile { number, body }))
 }
 
-/// READ RECORD: the record goes into `text`, and the status word is the result. Le is 00 or the length of a record.
+/// The record that READ RECORD reads, or SEARCH RECORD begins with, or else the refusal: by the file; there is no such record.
+fn find_record<B: Board>(
+    store: &mut Store<B>,
+    current: &Current,
+    target: Target,
+    choice: RecordChoice,
+) -> Result<Result<FileRecord, Sw>, StoreErr>
+    requires ready { IsReady store.old }
+    requires card { IsCard (committed store.old) }
+    requires current { IsCurrent (table_in store.old) current.now }
+    requires target { IsTarget target }
+    ensures found { IfOk result (λ answer. MatchResult answer
+        (λ found. IsChosen (committed store.old) current.now target choice found.file.number found.file.body found.number)
+        (λ refusal. refused_by (choice_refusals (card_in store.old) (session_in store.old current.now) target choice)
+        ≡ Some refusal)) }
+    ensures store { Reads store.old store.new (result_err result) }
+{
+    let file = match find_records(store, current, target, READING)? {
+        Ok(file) => file,
+        Err(refusal) => return Ok(Err(refusal)),
+    };
+    let number = file.body.chosen(current.pointer_at(target), choice);
+    if !file.body.has_record(number) {
+        return Ok(Err(Sw::RECORD_NOT_FOUND));
+    }
+    Ok(Ok(FileRecord { file, number }))
+}
+
+/// READ RECORD: the record goes into `answer`, and the status word is the result. Le is 00 or the length of a record.
 pub(crate) fn read_record<B: Board>(
     store: &mut Store<B>,
     current: &mut Current,
     target: Target,
     choice: RecordChoice,
     expected: u8,
-    text: &mut Answer,
+    answer: &mut Answer,
 ) -> Result<Sw, StoreErr>
     requires ready { IsReady store.old }
     requires card { IsCard (committed store.old) }
     requires current { IsCurrent (table_in store.old) current.old }
     requires target { IsTarget target }
-    requires empty { text.old.items ≡ [] }
-    ensures { Serves (reading target choice expected) store.old current.old store.new current.new text.new.items result }
+    requires empty { answer.old.items ≡ [] }
+    ensures { Serves (reading target choice expected) store.old current.old store.new current.new answer.new.items result }
 {
-    let file = match find_records(store, current, target, READING)? {
-        Ok(file) => file,
+    let found = match find_record(store, current, target, choice)? {
+        Ok(found) => found,
         Err(refusal) => return Ok(refusal),
     };
-    let pointer = current.pointer_at(target);
-    let number = file.body.chosen(pointer, choice);
-    if !file.body.has_record(number) {
-        return Ok(Sw::RECORD_NOT_FOUND);
-    }
-    let mut bytes = Found::new();
-    file.body.read(store, number, &mut bytes)?;
+    let file = found.file;
+    let mut bytes = ResponseData::new();
+    file.body.read(store, found.number, &mut bytes)?;
     if is_other_length(expected, &bytes) {
         return Ok(right_length(&bytes));
     }
-    give(Some(expected), &bytes, text);
-    *current = current.pointing(target, file.number, pointer_after(pointer, choice, number));
+    give(Some(expected), &bytes, answer);
+    let pointer = pointer_after(current.pointer_at(target), choice, found.number);
+    *current = current.pointing(target, file.number, pointer);
     Ok(Sw::DONE)
 }
 
@@ -163,13 +191,6 @@ pub(crate) fn update_record<B: Board>(
     let after = file.body.pointer_replaced(pointer, choice, replaced.number);
     *current = current.pointing(target, file.number, after);
     Ok(Sw::DONE)
-}
-
-/// A record of a file: the file, and the number of the record.
-#[derive(Clone, Copy)]
-struct FileRecord {
-    file: RecordFile,
-    number: u16,
 }
 
 /// The record that UPDATE RECORD replaces by the bytes, or else the refusal: by the file; there is no such record; the
@@ -284,45 +305,40 @@ pub(crate) fn search_record<B: Board>(
     requires empty { answer.old.items ≡ [] }
     ensures { Serves (searching target first direction text.now expected) store.old current.old store.new current.new answer.new.items result }
 {
-    let file = match find_records(store, current, target, READING)? {
-        Ok(file) => file,
+    let found = match find_record(store, current, target, RecordChoice::At(first))? {
+        Ok(found) => found,
         Err(refusal) => return Ok(refusal),
     };
-    let pointer = current.pointer_at(target);
-    let number = place_number(first, pointer);
-    if !file.body.has_record(number) {
-        return Ok(Sw::RECORD_NOT_FOUND);
-    }
-    let mut numbers = Found::new();
+    let file = found.file;
+    let way = way_of(direction);
+    let mut numbers = ResponseData::new();
     file.body
-        .search(store, way_of(direction), number, text, &mut numbers)?;
+        .search(store, way, found.number, text, &mut numbers)?;
     if asks_less(expected, &numbers) {
         return Ok(right_length(&numbers));
     }
     give(expected, &numbers, answer);
-    *current = current.pointing(target, file.number, first_of(&numbers, pointer));
+    let pointer = first_of(&numbers, current.pointer_at(target));
+    *current = current.pointing(target, file.number, pointer);
     Ok(status_of(&numbers))
 }
 
 /// Whether Le is neither 00 nor the length of a record.
-fn is_other_length(expected: u8, bytes: &Found) -> bool
+fn is_other_length(expected: u8, bytes: &ResponseData) -> bool
     ensures { result ≡ (not (expected == 0) && not (expected == length bytes.now.items)) }
 {
     expected != 0 && usize::from(expected) != bytes.len()
 }
 
 /// The record pointer after a search that found these: at the first of them, or where it was.
-fn first_of(numbers: &Found, pointer: Option<u8>) -> Option<u8>
+fn first_of(numbers: &ResponseData, pointer: Option<u8>) -> Option<u8>
     ensures { result ≡ pointer_found pointer numbers.now.items }
 {
-    match numbers.first() {
-        Some(number) => Some(*number),
-        None => pointer,
-    }
+    numbers.first().copied().or(pointer)
 }
 
 /// The status word of a search that found these.
-fn status_of(numbers: &Found) -> Sw
+fn status_of(numbers: &ResponseData) -> Sw
     ensures { result ≡ search_status numbers.now.items }
 {
     match numbers.first() {

@@ -14,7 +14,7 @@ ghost use Rattle.card_core.specs.Served.{Serves};
 ghost use Rattle.card_core.specs.Working.{card_in, data_in, life_of, session_in, table_in, IsCurrent, IsToldEntry};
 
 use crate::current::Current;
-use crate::lengths::{Found, asks_less, give, right_length};
+use crate::lengths::{ResponseData, asks_less, give, right_length};
 use crate::templates::{life_of, template_of};
 use apdu_core::{Answer, FilePath, Returned, Selector, Sw};
 use arrayvec::ArrayVec;
@@ -27,7 +27,7 @@ use undo_journal::{Board, Store, StoreErr};
 /// The most identifiers of a path.
 const PATH_ROOM: usize = 7;
 
-/// SELECT: the file that is reached becomes the current one, its template goes into `text` where it is asked for, and the
+/// SELECT: the file that is reached becomes the current one, its template goes into `answer` where it is asked for, and the
 /// status word is the result. An Le that asks for less than the template is refused.
 pub(crate) fn select_file<B: Board>(
     store: &mut Store<B>,
@@ -35,14 +35,14 @@ pub(crate) fn select_file<B: Board>(
     selector: Selector<'_>,
     returned: Returned,
     expected: Option<u8>,
-    text: &mut Answer,
+    answer: &mut Answer,
 ) -> Result<Sw, StoreErr>
     requires ready { IsReady store.old }
     requires card { IsCard (committed store.old) }
     requires current { IsCurrent (table_in store.old) current.old }
     requires selector { IsSelector selector }
-    requires empty { text.old.items ≡ [] }
-    ensures { Serves (selection (selection_of selector.entry) returned expected) store.old current.old store.new current.new text.new.items result }
+    requires empty { answer.old.items ≡ [] }
+    ensures { Serves (selection (selection_of selector.entry) returned expected) store.old current.old store.new current.new answer.new.items result }
 {
     let Some(e) = find_selected(store, *current, selector)? else {
         return Ok(Sw::FILE_NOT_FOUND);
@@ -52,7 +52,7 @@ pub(crate) fn select_file<B: Board>(
     if asks_less(expected, &data) {
         return Ok(right_length(&data));
     }
-    give(expected, &data, text);
+    give(expected, &data, answer);
     *current = current.at(e, &entry);
     Ok(status_of(&entry))
 }
@@ -96,13 +96,13 @@ fn identifiers_of(path: FilePath<'_>) -> ArrayVec<u16, PATH_ROOM>
 }
 
 /// The data that SELECT finds: the template of the file of a used entry, where it is asked for.
-fn data_of(entry: &Entry, returned: Returned) -> Found
+fn data_of(entry: &Entry, returned: Returned) -> ResponseData
     requires { IsToldEntry entry.now }
     ensures { result.items ≡ data_in returned entry.now }
 {
     match returned {
         Returned::Template => template_of(entry),
-        Returned::Nothing => Found::new(),
+        Returned::Nothing => ResponseData::new(),
     }
 }
 

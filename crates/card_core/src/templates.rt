@@ -4,20 +4,20 @@ ghost use Rattle.file_tree.specs.Table.{IsRecordBody};
 ghost use Rattle.card_core.specs.Working.{kind_in_entry, life_of, parameters_in, records_in_entry, short_in_entry};
 ghost use Rattle.card_core.specs.Working.{template_in, IsToldEntry};
 
-use crate::lengths::Found;
+use crate::lengths::ResponseData;
 use card_rules::{Compact, LifeCycle};
 use fcp_template::{DfName, Fcp, FileKind, Records, ShortIdentifier, write};
-use file_tree::Entry;
+use file_tree::{Entry, kinds};
 
 /// The template that tells of the file of a used entry.
 #[tactic(auto, unfolding(crate::specs::Working::template_in))]
-pub(crate) fn template_of(entry: &Entry) -> Found
+pub(crate) fn template_of(entry: &Entry) -> ResponseData
     requires { IsToldEntry entry.now }
     ensures { result.items ≡ template_in entry.now }
 {
-    let mut text = Found::new();
-    write(&parameters_of(entry), &mut text);
-    text
+    let mut template = ResponseData::new();
+    write(&parameters_of(entry), &mut template);
+    template
 }
 
 /// The file control parameters of the file of a used entry.
@@ -47,14 +47,14 @@ fn kind_of(entry: &Entry) -> FileKind<'_>
 {
     let short = short_of(entry);
     match entry.kind {
-        1 => FileKind::Df {
+        kinds::DEDICATED => FileKind::Df {
             name: DfName::new(entry.name()),
         },
-        2 => FileKind::Transparent {
+        kinds::TRANSPARENT => FileKind::Transparent {
             short,
             size: entry.size,
         },
-        3 => FileKind::Linear {
+        kinds::LINEAR => FileKind::Linear {
             short,
             records: records_of(entry),
         },

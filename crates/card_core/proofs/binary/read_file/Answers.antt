@@ -23,11 +23,11 @@ pub returns-in_err-file : goal.returns-in_err-file
 returns-in_err-file g c =
     let old = c.args.store.now in
     let x = c.args.current.now in
-    let none : length c.args.text.now.items ≡ 0 = ap (λ (l : List ℕ). length l) c.requires.empty in
+    let none : length c.args.answer.now.items ≡ 0 = ap (λ (l : List ℕ). length l) c.requires.empty in
     subst (λ (r : Result Sw StoreErr). Serves (read_binary c.args.target c.args.offset c.args.expected) old x
-    c.find_file.new.store x c.args.text.now.items r) (sym (err-is _ _ c.from_residual.ensures.1))
+    c.find_file.new.store x c.args.answer.now.items r) (sym (err-is _ _ c.from_residual.ensures.1))
     (stopped (read_binary c.args.target c.args.offset c.args.expected) old x c.find_file.new.store c.requires.card x
-    c.args.text.now.items c.in_err-file.field-0.0 c.find_file.ensures.store.only c.in_err-file.ensures.store.tells
+    c.args.answer.now.items c.in_err-file.field-0.0 c.find_file.ensures.store.only c.in_err-file.ensures.store.tells
     (omega (arith, none)))
 
 pub returns-in-Err : goal.returns-in-Err

@@ -2,7 +2,8 @@ use Rattle.std.proofs.Common.{◌≡◌, ℕ, List, sym, ◌∙◌, ap}
 use Rattle.undo_journal.specs.Memory.{committed}
 use Rattle.undo_journal.specs.laws.Calls.{reads_then}
 use Rattle.block_chain.specs.Words.{word}
-use Rattle.card_core.specs.declared.layout.TheConstants.{HEADER_PAGE, STATE_WORD}
+use Rattle.block_chain.specs.declared.layout.TheConstants.{HEADER_PAGE}
+use Rattle.file_tree.specs.declared.layout.TheConstants.{STATE_WORD}
 use Rattle.card_core.proofs.Headers.{by_mark, by_state}
 use Rattle.undo_journal.specs.laws.Told.{reads_handed, reads_on, reads_so_far}
 use Rattle.card_core.proofs.check.is_header.Goals as goal

@@ -15,7 +15,7 @@ returns-in_err-is_in_use-clause-carries g c =
     let x = c.args.current.now in
     let new = c.is_in_use.new.store in
     let bytes = c.args.command.now in
-    subst (λ (r : Result Sw StoreErr). CarriesOut bytes old x new x c.args.text.now.items r) (sym (err-is _ _
+    subst (λ (r : Result Sw StoreErr). CarriesOut bytes old x new x c.args.answer.now.items r) (sym (err-is _ _
     c.from_residual.ensures.1))
     (subst (λ (text : List ℕ). CarriesOut bytes old x new x text (Err c.in_err-is_in_use.field-0.0)) (sym c.requires.empty)
     (failed-reading bytes old new x c.requires.card c.requires.current x c.in_err-is_in_use.field-0.0
@@ -38,9 +38,9 @@ returns-clause-carries g c =
     let x = c.args.current.now in
     let request = request_of c.in-Ok.command in
     let in_use = sym c.in_ok-is_in_use.ensures.in_use ∙ c.if-not-branch.false in
-    carried c.args.command.now old c.serve.new.store x c.serve.new.current c.serve.new.text.items c.serve.result request
+    carried c.args.command.now old c.serve.new.store x c.serve.new.current c.serve.new.answer.items c.serve.result request
     c.in-Ok.ensures.asked in_use
-    (serves-after request old c.is_in_use.new.store c.serve.new.store x c.serve.new.current c.serve.new.text.items
+    (serves-after request old c.is_in_use.new.store c.serve.new.store x c.serve.new.current c.serve.new.answer.items
     c.serve.result c.in_ok-is_in_use.ensures.store.only c.serve.ensures.serves)
 
 pub returns-in_err-is_in_use-clause-space : goal.returns-in_err-is_in_use-clause-space

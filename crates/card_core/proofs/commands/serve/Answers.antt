@@ -8,7 +8,7 @@ use Rattle.apdu_core.specs.Ranges.{IsInRange}
 use Rattle.apdu_core.specs.Requests.{request_of}
 use Rattle.card_core.specs.declared.current.Current.{Current}
 use Rattle.card_core.specs.Served.{Serves}
-use Rattle.card_core.specs.Working.{card_in, space_in}
+use Rattle.card_core.specs.Working.{card_in}
 use Rattle.card_core.specs.Pins.{changing}
 use Rattle.card_core.specs.Stages.{commits}
 use Rattle.card_core.proofs.Looking.{attempt-files, pin-files, space_left}
@@ -33,31 +33,21 @@ pub select_file-requires-clause-selector : goal.select_file-requires-clause-sele
 select_file-requires-clause-selector g c = subst IsInRange c.in-Select.is c.requires.in_range
 
 pub returns-in-Select-clause-serves : goal.returns-in-Select-clause-serves
-returns-in-Select-clause-serves g c =
-    told c.args.store.now c.args.current.now c.select_file.new.store c.select_file.new.current c.select_file.result
-    c.args.command _
-    c.in-Select.is c.select_file.new.text.items c.select_file.ensures
+returns-in-Select-clause-serves g c = told _ _ _ _ _ _ _ c.in-Select.is _ c.select_file.ensures
 
 pub returns-in-Select-clause-space : goal.returns-in-Select-clause-space
 unfolding commits
-returns-in-Select-clause-space g c =
-    space_left _ c.args.store.now c.args.current.now c.select_file.new.store c.select_file.new.current _
-    c.select_file.result c.args.free.now c.select_file.ensures tt c.requires.space
+returns-in-Select-clause-space g c = space_left _ _ _ _ _ _ _ _ c.select_file.ensures tt c.requires.space
 
 pub read_file-requires-clause-target : goal.read_file-requires-clause-target
 read_file-requires-clause-target g c = (subst IsInRange c.in-ReadBinary.is c.requires.in_range).0
 
 pub returns-in-ReadBinary-clause-serves : goal.returns-in-ReadBinary-clause-serves
-returns-in-ReadBinary-clause-serves g c =
-    told c.args.store.now c.args.current.now c.read_file.new.store c.read_file.new.current c.read_file.result
-    c.args.command _
-    c.in-ReadBinary.is c.read_file.new.text.items c.read_file.ensures
+returns-in-ReadBinary-clause-serves g c = told _ _ _ _ _ _ _ c.in-ReadBinary.is _ c.read_file.ensures
 
 pub returns-in-ReadBinary-clause-space : goal.returns-in-ReadBinary-clause-space
 unfolding commits
-returns-in-ReadBinary-clause-space g c =
-    space_left _ c.args.store.now c.args.current.now c.read_file.new.store c.read_file.new.current _
-    c.read_file.result c.args.free.now c.read_file.ensures tt c.requires.space
+returns-in-ReadBinary-clause-space g c = space_left _ _ _ _ _ _ _ _ c.read_file.ensures tt c.requires.space
 
 pub update_file-requires-clause-target : goal.update_file-requires-clause-target
 update_file-requires-clause-target g c = (subst IsInRange c.in-UpdateBinary.is c.requires.in_range).0
@@ -70,42 +60,28 @@ update_file-requires-clause-few g c = (subst IsInRange c.in-UpdateBinary.is c.re
 
 pub returns-in-UpdateBinary-clause-serves : goal.returns-in-UpdateBinary-clause-serves
 returns-in-UpdateBinary-clause-serves g c =
-    silent c.args.store.now c.args.current.now c.update_file.new.store c.update_file.new.current c.update_file.result
-    c.args.command _
-    c.in-UpdateBinary.is c.args.text.now.items c.requires.empty c.update_file.ensures.serves
+    silent _ _ _ _ _ _ _ c.in-UpdateBinary.is _ c.requires.empty c.update_file.ensures.serves
 
 pub returns-in-UpdateBinary-clause-space : goal.returns-in-UpdateBinary-clause-space
-returns-in-UpdateBinary-clause-space g c =
-    space_kept c.args.free.now (space_in c.args.store.now) (space_in c.update_file.new.store) c.update_file.result
-    c.requires.space
-    c.update_file.ensures.space
+returns-in-UpdateBinary-clause-space g c = space_kept _ _ _ _ c.requires.space c.update_file.ensures.space
 
 pub returns-in-CreateFile-clause-serves : goal.returns-in-CreateFile-clause-serves
 returns-in-CreateFile-clause-serves g c =
-    silent c.args.store.now c.args.current.now c.create_file.new.store c.create_file.new.current c.create_file.result
-    c.args.command _
-    c.in-CreateFile.is c.args.text.now.items c.requires.empty c.create_file.ensures.serves
+    silent _ _ _ _ _ _ _ c.in-CreateFile.is _ c.requires.empty c.create_file.ensures.serves
 
 pub returns-in-DeleteFile-clause-serves : goal.returns-in-DeleteFile-clause-serves
 returns-in-DeleteFile-clause-serves g c =
-    silent c.args.store.now c.args.current.now c.delete_file.new.store c.delete_file.new.current c.delete_file.result
-    c.args.command _
-    c.in-DeleteFile.is c.args.text.now.items c.requires.empty c.delete_file.ensures.serves
+    silent _ _ _ _ _ _ _ c.in-DeleteFile.is _ c.requires.empty c.delete_file.ensures.serves
 
 pub read_record-requires-clause-target : goal.read_record-requires-clause-target
 read_record-requires-clause-target g c = (subst IsInRange c.in-ReadRecord.is c.requires.in_range).0
 
 pub returns-in-ReadRecord-clause-serves : goal.returns-in-ReadRecord-clause-serves
-returns-in-ReadRecord-clause-serves g c =
-    told c.args.store.now c.args.current.now c.read_record.new.store c.read_record.new.current c.read_record.result
-    c.args.command _
-    c.in-ReadRecord.is c.read_record.new.text.items c.read_record.ensures
+returns-in-ReadRecord-clause-serves g c = told _ _ _ _ _ _ _ c.in-ReadRecord.is _ c.read_record.ensures
 
 pub returns-in-ReadRecord-clause-space : goal.returns-in-ReadRecord-clause-space
 unfolding commits
-returns-in-ReadRecord-clause-space g c =
-    space_left _ c.args.store.now c.args.current.now c.read_record.new.store c.read_record.new.current _
-    c.read_record.result c.args.free.now c.read_record.ensures tt c.requires.space
+returns-in-ReadRecord-clause-space g c = space_left _ _ _ _ _ _ _ _ c.read_record.ensures tt c.requires.space
 
 pub update_record-requires-clause-target : goal.update_record-requires-clause-target
 update_record-requires-clause-target g c = (subst IsInRange c.in-UpdateRecord.is c.requires.in_range).0
@@ -118,15 +94,10 @@ update_record-requires-clause-few g c = (subst IsInRange c.in-UpdateRecord.is c.
 
 pub returns-in-UpdateRecord-clause-serves : goal.returns-in-UpdateRecord-clause-serves
 returns-in-UpdateRecord-clause-serves g c =
-    silent c.args.store.now c.args.current.now c.update_record.new.store c.update_record.new.current
-    c.update_record.result c.args.command _
-    c.in-UpdateRecord.is c.args.text.now.items c.requires.empty c.update_record.ensures.serves
+    silent _ _ _ _ _ _ _ c.in-UpdateRecord.is _ c.requires.empty c.update_record.ensures.serves
 
 pub returns-in-UpdateRecord-clause-space : goal.returns-in-UpdateRecord-clause-space
-returns-in-UpdateRecord-clause-space g c =
-    space_kept c.args.free.now (space_in c.args.store.now) (space_in c.update_record.new.store)
-    c.update_record.result c.requires.space
-    c.update_record.ensures.space
+returns-in-UpdateRecord-clause-space g c = space_kept _ _ _ _ c.requires.space c.update_record.ensures.space
 
 pub append_record-requires-clause-target : goal.append_record-requires-clause-target
 append_record-requires-clause-target g c = (subst IsInRange c.in-AppendRecord.is c.requires.in_range).0
@@ -139,15 +110,10 @@ append_record-requires-clause-few g c = (subst IsInRange c.in-AppendRecord.is c.
 
 pub returns-in-AppendRecord-clause-serves : goal.returns-in-AppendRecord-clause-serves
 returns-in-AppendRecord-clause-serves g c =
-    silent c.args.store.now c.args.current.now c.append_record.new.store c.append_record.new.current
-    c.append_record.result c.args.command _
-    c.in-AppendRecord.is c.args.text.now.items c.requires.empty c.append_record.ensures.serves
+    silent _ _ _ _ _ _ _ c.in-AppendRecord.is _ c.requires.empty c.append_record.ensures.serves
 
 pub returns-in-AppendRecord-clause-space : goal.returns-in-AppendRecord-clause-space
-returns-in-AppendRecord-clause-space g c =
-    space_kept c.args.free.now (space_in c.args.store.now) (space_in c.append_record.new.store)
-    c.append_record.result c.requires.space
-    c.append_record.ensures.space
+returns-in-AppendRecord-clause-space g c = space_kept _ _ _ _ c.requires.space c.append_record.ensures.space
 
 pub search_record-requires-clause-target : goal.search_record-requires-clause-target
 search_record-requires-clause-target g c = (subst IsInRange c.in-SearchRecord.is c.requires.in_range).0
@@ -156,97 +122,70 @@ pub search_record-requires-clause-few : goal.search_record-requires-clause-few
 search_record-requires-clause-few g c = (subst IsInRange c.in-SearchRecord.is c.requires.in_range).3
 
 pub returns-in-SearchRecord-clause-serves : goal.returns-in-SearchRecord-clause-serves
-returns-in-SearchRecord-clause-serves g c =
-    told c.args.store.now c.args.current.now c.search_record.new.store c.search_record.new.current
-    c.search_record.result c.args.command _
-    c.in-SearchRecord.is c.search_record.new.answer.items c.search_record.ensures
+returns-in-SearchRecord-clause-serves g c = told _ _ _ _ _ _ _ c.in-SearchRecord.is _ c.search_record.ensures
 
 pub returns-in-SearchRecord-clause-space : goal.returns-in-SearchRecord-clause-space
 unfolding commits
-returns-in-SearchRecord-clause-space g c =
-    space_left _ c.args.store.now c.args.current.now c.search_record.new.store c.search_record.new.current _
-    c.search_record.result c.args.free.now c.search_record.ensures tt c.requires.space
+returns-in-SearchRecord-clause-space g c = space_left _ _ _ _ _ _ _ _ c.search_record.ensures tt c.requires.space
 
 pub increase-requires-clause-few : goal.increase-requires-clause-few
 increase-requires-clause-few g c = (subst IsInRange c.in-Increase.is c.requires.in_range).1
 
 pub returns-in-Increase-clause-serves : goal.returns-in-Increase-clause-serves
-returns-in-Increase-clause-serves g c =
-    told c.args.store.now c.args.current.now c.increase.new.store c.increase.new.current c.increase.result
-    c.args.command _
-    c.in-Increase.is c.increase.new.text.items c.increase.ensures.serves
+returns-in-Increase-clause-serves g c = told _ _ _ _ _ _ _ c.in-Increase.is _ c.increase.ensures.serves
 
 pub returns-in-Increase-clause-space : goal.returns-in-Increase-clause-space
-returns-in-Increase-clause-space g c =
-    space_kept c.args.free.now (space_in c.args.store.now) (space_in c.increase.new.store) c.increase.result
-    c.requires.space
-    c.increase.ensures.space
+returns-in-Increase-clause-space g c = space_kept _ _ _ _ c.requires.space c.increase.ensures.space
 
 pub returns-in-ChangeLifeCycle-clause-serves : goal.returns-in-ChangeLifeCycle-clause-serves
 returns-in-ChangeLifeCycle-clause-serves g c =
-    silent c.args.store.now c.args.current.now c.change_life_cycle.new.store c.change_life_cycle.new.current
-    c.change_life_cycle.result c.args.command _
-    c.in-ChangeLifeCycle.is c.args.text.now.items c.requires.empty c.change_life_cycle.ensures.serves
+    silent _ _ _ _ _ _ _ c.in-ChangeLifeCycle.is _ c.requires.empty c.change_life_cycle.ensures.serves
 
 pub returns-in-ChangeLifeCycle-clause-space : goal.returns-in-ChangeLifeCycle-clause-space
-returns-in-ChangeLifeCycle-clause-space g c =
-    space_kept c.args.free.now (space_in c.args.store.now) (space_in c.change_life_cycle.new.store)
-    c.change_life_cycle.result c.requires.space
-    c.change_life_cycle.ensures.space
+returns-in-ChangeLifeCycle-clause-space g c = space_kept _ _ _ _ c.requires.space c.change_life_cycle.ensures.space
 
 pub returns-in-TerminateCardUsage-clause-serves : goal.returns-in-TerminateCardUsage-clause-serves
 returns-in-TerminateCardUsage-clause-serves g c =
-    silent c.args.store.now c.args.current.now c.terminate_card_usage.new.store c.args.current.now
-    c.terminate_card_usage.result c.args.command _
-    c.in-TerminateCardUsage.is c.args.text.now.items c.requires.empty c.terminate_card_usage.ensures
+    silent _ _ _ _ _ _ _ c.in-TerminateCardUsage.is _ c.requires.empty c.terminate_card_usage.ensures
 
 pub returns-in-TerminateCardUsage-clause-space : goal.returns-in-TerminateCardUsage-clause-space
 unfolding commits
 returns-in-TerminateCardUsage-clause-space g c =
-    space_left _ c.args.store.now c.args.current.now c.terminate_card_usage.new.store c.args.current.now _
-    c.terminate_card_usage.result c.args.free.now c.terminate_card_usage.ensures (refl, tt) c.requires.space
+    space_left _ _ _ _ _ _ _ _ c.terminate_card_usage.ensures (refl, tt) c.requires.space
 
 pub verify-requires-clause-pin : goal.verify-requires-clause-pin
 verify-requires-clause-pin g c = subst IsInRange c.in-Verify.is c.requires.in_range
 
 pub returns-in-Verify-clause-serves : goal.returns-in-Verify-clause-serves
-returns-in-Verify-clause-serves g c =
-    silent c.args.store.now c.args.current.now c.verify.new.store c.verify.new.current c.verify.result c.args.command _
-    c.in-Verify.is c.args.text.now.items c.requires.empty c.verify.ensures
+returns-in-Verify-clause-serves g c = silent _ _ _ _ _ _ _ c.in-Verify.is _ c.requires.empty c.verify.ensures
 
 pub returns-in-Verify-clause-space : goal.returns-in-Verify-clause-space
 unfolding commits
-returns-in-Verify-clause-space g c =
-    space_left _ c.args.store.now c.args.current.now c.verify.new.store c.verify.new.current _
-    c.verify.result c.args.free.now c.verify.ensures (pin-files _ _) c.requires.space
+returns-in-Verify-clause-space g c = space_left _ _ _ _ _ _ _ _ c.verify.ensures (pin-files _ _) c.requires.space
 
 pub change_reference_data-requires-clause-pin : goal.change_reference_data-requires-clause-pin
 change_reference_data-requires-clause-pin g c = subst IsInRange c.in-ChangeReferenceData.is c.requires.in_range
 
 pub returns-in-ChangeReferenceData-clause-serves : goal.returns-in-ChangeReferenceData-clause-serves
 returns-in-ChangeReferenceData-clause-serves g c =
-    silent c.args.store.now c.args.current.now c.change_reference_data.new.store c.change_reference_data.new.current
-    c.change_reference_data.result c.args.command _
-    c.in-ChangeReferenceData.is c.args.text.now.items c.requires.empty c.change_reference_data.ensures
+    silent _ _ _ _ _ _ _ c.in-ChangeReferenceData.is _ c.requires.empty c.change_reference_data.ensures
 
 pub returns-in-ChangeReferenceData-clause-space : goal.returns-in-ChangeReferenceData-clause-space
 unfolding commits
 returns-in-ChangeReferenceData-clause-space g c =
-    space_left _ c.args.store.now c.args.current.now c.change_reference_data.new.store c.change_reference_data.new.current _
-    c.change_reference_data.result c.args.free.now c.change_reference_data.ensures (attempt-files (card_in c.args.store.now)
-    (changing c.in-ChangeReferenceData.pin c.in-ChangeReferenceData.values.shown.now c.in-ChangeReferenceData.values.new.now)) c.requires.space
+    let values = c.in-ChangeReferenceData.values in
+    let attempt = changing c.in-ChangeReferenceData.pin values.shown.now values.new.now in
+    space_left _ _ _ _ _ _ _ _ c.change_reference_data.ensures (attempt-files (card_in c.args.store.now) attempt)
+    c.requires.space
 
 pub reset_retry_counter-requires-clause-pin : goal.reset_retry_counter-requires-clause-pin
 reset_retry_counter-requires-clause-pin g c = subst IsInRange c.in-ResetRetryCounter.is c.requires.in_range
 
 pub returns-in-ResetRetryCounter-clause-serves : goal.returns-in-ResetRetryCounter-clause-serves
 returns-in-ResetRetryCounter-clause-serves g c =
-    silent c.args.store.now c.args.current.now c.reset_retry_counter.new.store c.reset_retry_counter.new.current
-    c.reset_retry_counter.result c.args.command _
-    c.in-ResetRetryCounter.is c.args.text.now.items c.requires.empty c.reset_retry_counter.ensures
+    silent _ _ _ _ _ _ _ c.in-ResetRetryCounter.is _ c.requires.empty c.reset_retry_counter.ensures
 
 pub returns-in-ResetRetryCounter-clause-space : goal.returns-in-ResetRetryCounter-clause-space
 unfolding commits
 returns-in-ResetRetryCounter-clause-space g c =
-    space_left _ c.args.store.now c.args.current.now c.reset_retry_counter.new.store c.reset_retry_counter.new.current _
-    c.reset_retry_counter.result c.args.free.now c.reset_retry_counter.ensures (pin-files _ _) c.requires.space
+    space_left _ _ _ _ _ _ _ _ c.reset_retry_counter.ensures (pin-files _ _) c.requires.space

@@ -1,6 +1,6 @@
 use Rattle.std.proofs.Common.{◌≤◌, length, refl, ap, ◌∙◌, ⊎_elim, arith}
 use Rattle.nvm_board.specs.Facts.{address}
-use Rattle.card_core.specs.declared.layout.TheConstants.{HEADER_PAGE}
+use Rattle.block_chain.specs.declared.layout.TheConstants.{HEADER_PAGE}
 use Rattle.card_core.specs.Factory.{factory_header}
 use Rattle.block_chain.specs.Words.{page_words}
 use Rattle.card_core.proofs.FactoryPages.{page_words-written}

@@ -44,11 +44,11 @@ returns-clause-found g c =
     ∙ (λ i. is_allowed (tree_of (still i)) (path_of (table (still i)) c.args.parent) DeleteChild (shown i))
     ∙ sym (ap (λ (tree : Tree). is_allowed tree (path_of t c.args.parent) DeleteChild (marks_of (session_of t x).verified))
     (card-tree m)) in
-    let both : c.if-own.refusal_by ≡ (c.in_ok-own.own || c.in_ok-by_parent.by_parent) = elim c.if-own.branch [
-      | then-own w ↦ w.refusal_by-is ∙ w.if-own.true ∙ sym (ap (λ (b : Bool). b || c.in_ok-by_parent.by_parent) w.if-own.true)
-      | else-own w ↦ w.refusal_by-is ∙ sym (ap (λ (b : Bool). b || c.in_ok-by_parent.by_parent) w.if-own.false)
+    let both : c.if-own.findings ≡ (c.in_ok-own.own || c.in_ok-by_parent.by_parent) = elim c.if-own.branch [
+      | then-own w ↦ w.findings-is ∙ w.if-own.true ∙ sym (ap (λ (b : Bool). b || c.in_ok-by_parent.by_parent) w.if-own.true)
+      | else-own w ↦ w.findings-is ∙ sym (ap (λ (b : Bool). b || c.in_ok-by_parent.by_parent) w.if-own.false)
     ] in
-    c.refusal_by.ensures ∙ (λ i. file_refusal (barred i) true (both i))
+    c.refusal.ensures ∙ (λ i. file_refusal (barred i) true (both i))
     ∙ (λ i. file_refusal (is_barred (card_of m).tree (path_of t c.args.parent)) true (own i || by_parent i))
 
 pub is_allowed-requires-clause-tree : goal.is_allowed-requires-clause-tree

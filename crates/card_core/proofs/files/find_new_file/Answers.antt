@@ -51,8 +51,8 @@ returns-then-not-branch-clause-found g c =
     (barred-is (committed old) x c.in_ok-is_barred.field-0 c.in_ok-is_barred.ensures.barred ∙ c.if-branch.false)
     fcp (sym c.parse.ensures.value ∙ c.in-Ok.is)
     (permits-is (committed old) (committed c.is_barred.new.store) x c.requires.current.marks
-    c.is_barred.ensures.store.only.keeps.committed_words c.creation_bit.result (creation_bit fcp.kind)
-    c.creation_bit.ensures _ refl c.in_ok-is_allowed.field-0
+    c.is_barred.ensures.store.only.keeps.committed_words c.creation_bit-bit.result (creation_bit fcp.kind)
+    c.creation_bit-bit.ensures _ refl c.in_ok-is_allowed.field-0
     c.in_ok-is_allowed.ensures.allowed ∙ c.if-not-branch.true)
 
 pub returns-then-not-branch-clause-store : goal.returns-then-not-branch-clause-store
@@ -70,8 +70,8 @@ returns-clause-found g c =
       unbarred = barred-is (committed old) x c.in_ok-is_barred.field-0 c.in_ok-is_barred.ensures.barred
           ∙ c.if-branch.false;
       permitted = permits-is (committed old) (committed c.is_barred.new.store) x c.requires.current.marks
-          c.is_barred.ensures.store.only.keeps.committed_words c.creation_bit.result (creation_bit fcp.kind)
-          c.creation_bit.ensures _ refl c.in_ok-is_allowed.field-0
+          c.is_barred.ensures.store.only.keeps.committed_words c.creation_bit-bit.result (creation_bit fcp.kind)
+          c.creation_bit-bit.ensures _ refl c.in_ok-is_allowed.field-0
           c.in_ok-is_allowed.ensures.allowed ∙ c.if-not-branch.false;
     }
 

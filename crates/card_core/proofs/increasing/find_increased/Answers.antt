@@ -43,10 +43,10 @@ raised-requires-clause-body g c =
 pub raised-requires-clause-sent : goal.raised-requires-clause-sent
 raised-requires-clause-sent g c = short-sent _ _ (sym c.is_too_long.ensures ∙ c.if-is_too_long.false)
 
-pub returns-in_err-refused-clause-store : goal.returns-in_err-refused-clause-store
-returns-in_err-refused-clause-store g c =
-    reads_handed _ _ _ _ c.from_residual-in_err-refused.ensures.1
-    (reads_on _ _ _ _ c.find_records.ensures.store.only c.in_err-refused.ensures.store)
+pub returns-in_err-refusal-clause-store : goal.returns-in_err-refusal-clause-store
+returns-in_err-refusal-clause-store g c =
+    reads_handed _ _ _ _ c.from_residual-in_err-refusal.ensures.1
+    (reads_on _ _ _ _ c.find_records.ensures.store.only c.in_err-refusal.ensures.store)
 
 pub returns-in-Some-clause-found : goal.returns-in-Some-clause-found
 returns-in-Some-clause-found g c =
@@ -59,16 +59,16 @@ returns-in-Some-clause-found g c =
     c.in-Ok.file.number body found sent c.args.expected found.named.unrefused
     (sym c.is_too_long.ensures ∙ c.if-is_too_long.false) c.in-Some.refusal
     (ap (λ (l : List ℕ). unraised body.record_length (cyclic_records l body) sent)
-    (sym c.find_records.ensures.store.only.keeps.committed_words) ∙ c.in_ok-refused.ensures.refusal ∙ c.in-Some.is)
+    (sym c.find_records.ensures.store.only.keeps.committed_words) ∙ c.in_ok-refusal.ensures.refusal ∙ c.in-Some.is)
 
 pub returns-in-Some-clause-store : goal.returns-in-Some-clause-store
 returns-in-Some-clause-store g c =
-    reads_on _ _ _ _ c.find_records.ensures.store.only c.in_ok-refused.ensures.store
+    reads_on _ _ _ _ c.find_records.ensures.store.only c.in_ok-refusal.ensures.store
 
 pub answer_of-found-requires : goal.answer_of-found-requires
 answer_of-found-requires g c =
     let body = c.cyclic-body.result in
-    let sum_is = c.in_ok-refused.ensures.bytes c.in-None.is in
+    let sum_is = c.in_ok-refusal.ensures.bytes c.in_default.is in
     let size = ap (λ (l : List ℕ). length l) sum_is in
     let long = length-spelled body.record_length (raised_number (cyclic_records (committed c.find_records.new.store)
     body) c.args.amount.now) in
@@ -86,11 +86,11 @@ returns-then-asks_less-clause-found g c =
     let found = found-cyclic m c.args.current.now target.Current _ c.in-Ok.file.number c.in-Ok.file.body body
     c.cyclic-body.ensures (said_ok _ _ c.in_ok-file.field-0 c.in-Ok.file c.in-Ok.is c.in_ok-file.ensures.found) in
     let free = ap (λ (l : List ℕ). unraised body.record_length (cyclic_records l body) sent) (sym same)
-    ∙ c.in_ok-refused.ensures.refusal ∙ c.in-None.is in
+    ∙ c.in_ok-refusal.ensures.refusal ∙ c.in_default.is in
     let data_is : c.answer_of-found.result.items
     ≡ spelled body.record_length (raised_number (cyclic_records m body) sent) ++ sent =
-    c.answer_of-found.ensures ∙ ap (λ (l : List ℕ). l ++ sent) (c.in_ok-refused.ensures.bytes
-    c.in-None.is ∙ ap (λ (l : List ℕ). spelled body.record_length (raised_number (cyclic_records l body) sent)) same) in
+    c.answer_of-found.ensures ∙ ap (λ (l : List ℕ). l ++ sent) (c.in_ok-refusal.ensures.bytes
+    c.in_default.is ∙ ap (λ (l : List ℕ). spelled body.record_length (raised_number (cyclic_records l body) sent)) same) in
     let less = ap (asks_less expected) (sym data_is) ∙ sym c.asks_less.ensures
     ∙ c.if-asks_less.true in
     let status = ap right_length (sym data_is) ∙ sym c.right_length.ensures in
@@ -100,7 +100,7 @@ returns-then-asks_less-clause-found g c =
 
 pub returns-then-asks_less-clause-store : goal.returns-then-asks_less-clause-store
 returns-then-asks_less-clause-store g c =
-    reads_on _ _ _ _ c.find_records.ensures.store.only c.in_ok-refused.ensures.store
+    reads_on _ _ _ _ c.find_records.ensures.store.only c.in_ok-refusal.ensures.store
 
 pub returns-clause-found : goal.returns-clause-found
 returns-clause-found g c =
@@ -110,18 +110,18 @@ returns-clause-found g c =
     let same = c.find_records.ensures.store.only.keeps.committed_words in
     let data_is : c.answer_of-found.result.items
     ≡ spelled body.record_length (raised_number (cyclic_records m body) sent) ++ sent =
-    c.answer_of-found.ensures ∙ ap (λ (l : List ℕ). l ++ sent) (c.in_ok-refused.ensures.bytes
-    c.in-None.is ∙ ap (λ (l : List ℕ). spelled body.record_length (raised_number (cyclic_records l body) sent)) same) in
+    c.answer_of-found.ensures ∙ ap (λ (l : List ℕ). l ++ sent) (c.in_ok-refusal.ensures.bytes
+    c.in_default.is ∙ ap (λ (l : List ℕ). spelled body.record_length (raised_number (cyclic_records l body) sent)) same) in
     record {
       file = found-cyclic m c.args.current.now target.Current _ c.in-Ok.file.number c.in-Ok.file.body body
           c.cyclic-body.ensures (said_ok _ _ c.in_ok-file.field-0 c.in-Ok.file c.in-Ok.is c.in_ok-file.ensures.found);
       short = sym c.is_too_long.ensures ∙ c.if-is_too_long.false;
       raises = ap (λ (l : List ℕ). unraised body.record_length (cyclic_records l body) sent) (sym same)
-          ∙ c.in_ok-refused.ensures.refusal ∙ c.in-None.is;
+          ∙ c.in_ok-refusal.ensures.refusal ∙ c.in_default.is;
       answer_is = data_is;
       enough = sym c.asks_less.ensures ∙ c.if-asks_less.false;
     }
 
 pub returns-clause-store : goal.returns-clause-store
 returns-clause-store g c =
-    reads_on _ _ _ _ c.find_records.ensures.store.only c.in_ok-refused.ensures.store
+    reads_on _ _ _ _ c.find_records.ensures.store.only c.in_ok-refusal.ensures.store

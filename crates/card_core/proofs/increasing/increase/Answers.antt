@@ -14,9 +14,9 @@ use Rattle.card_core.proofs.increasing.increase.Goals as goal
 
 pub returns-in_err-file-clause-serves : goal.returns-in_err-file-clause-serves
 returns-in_err-file-clause-serves g c =
-    let none_yet : length c.args.text.now.items ≡ 0 = ap (λ (l : List ℕ). length l) c.requires.empty in
+    let none_yet : length c.args.answer.now.items ≡ 0 = ap (λ (l : List ℕ). length l) c.requires.empty in
     handed (increase c.args.amount.now c.args.expected) c.args.store.now c.args.current.now c.find_increased.new.store
-    c.requires.card c.args.current.now c.args.text.now.items _ _ c.from_residual.ensures.1 c.in_err-file.ensures.store
+    c.requires.card c.args.current.now c.args.answer.now.items _ _ c.from_residual.ensures.1 c.in_err-file.ensures.store
     (omega (arith, none_yet))
 
 pub returns-in-Err-clause-serves : goal.returns-in-Err-clause-serves
@@ -25,7 +25,7 @@ returns-in-Err-clause-serves g c =
     let x = c.args.current.now in
     let request = increase c.args.amount.now c.args.expected in
     let refused = said_err _ _ c.in_ok-file.field-0 c.in-Err.refusal c.in-Err.is c.in_ok-file.ensures.found in
-    declined-empty request old x c.find_increased.new.store c.args.text.now.items c.requires.empty c.requires.card
+    declined-empty request old x c.find_increased.new.store c.args.answer.now.items c.requires.empty c.requires.card
     c.in-Err.refusal c.find_increased.ensures.store.only c.in_ok-file.ensures.store.ready c.requires.current
     (served-refused (card_in old) (session_in old x) request c.in-Err.refusal refused)
 
@@ -56,7 +56,7 @@ returns-in_err-put_sum-clause-serves g c =
     let found = said_ok _ _ c.in_ok-file.field-0 c.in-Ok.file c.in-Ok.is c.in_ok-file.ensures.found in
     increased-torn c.args.store.now c.find_increased.new.store c.put_sum.new.store c.requires.ready c.requires.card
     c.args.current.now c.requires.current c.find_increased.ensures.store.only _ _ _ _ _ found
-    c.put_sum.ensures.any_exit _ c.in_err-put_sum.ensures.store c.args.text.now.items c.requires.empty _ _
+    c.put_sum.ensures.any_exit _ c.in_err-put_sum.ensures.store c.args.answer.now.items c.requires.empty _ _
     c.from_residual-in_err-put_sum.ensures.1 refl
 
 pub returns-clause-serves : goal.returns-clause-serves
@@ -65,11 +65,11 @@ returns-clause-serves g c =
     let x = c.args.current.now in
     let found = said_ok _ _ c.in_ok-file.field-0 c.in-Ok.file c.in-Ok.is c.in_ok-file.ensures.found in
     subst (λ (y : Current). Serves (increase c.args.amount.now c.args.expected) old x c.put_sum.new.store y
-    c.give.new.text.items (Ok DONE)) (sym c.pointing.ensures)
+    c.give.new.answer.items (Ok DONE)) (sym c.pointing.ensures)
     (increased-done old c.find_increased.new.store c.put_sum.new.store c.requires.ready c.requires.card x
     c.requires.current c.find_increased.ensures.store.only _ _ c.in-Ok.file.number c.in-Ok.file.body _ found
     c.put_sum.ensures.any_exit _ c.in_ok-put_sum.ensures.store c.in_ok-put_sum.ensures.done
-    c.in_ok-put_sum.ensures.store.ready c.give.new.text.items c.give.ensures.given c.give.ensures.room)
+    c.in_ok-put_sum.ensures.store.ready c.give.new.answer.items c.give.ensures.given c.give.ensures.room)
 
 pub returns-clause-space : goal.returns-clause-space
 returns-clause-space g c =

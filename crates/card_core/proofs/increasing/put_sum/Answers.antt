@@ -12,10 +12,10 @@ fits-none refusal None none fits = refl
 fits-none refusal (Some (Refused status)) none fits = sym none ∙ fits
 fits-none refusal (Some (Store e)) none fits = refl
 
-pub unrefused-requires : goal.unrefused-requires
-unrefused-requires g c = fits-none _ _ c.requires.free c.increase.ensures.refusal
+pub unless_failed-requires : goal.unless_failed-requires
+unless_failed-requires g c = fits-none _ _ c.requires.free c.increase.ensures.refusal
 
 pub returns-clause-done : goal.returns-clause-done
 returns-clause-done g c =
-    ok-then _ c.increase.result c.unrefused.result (fits-none _ _ c.requires.free c.increase.ensures.refusal)
-    c.unrefused.ensures c.increase.ensures.done
+    ok-then _ c.increase.result c.unless_failed.result (fits-none _ _ c.requires.free c.increase.ensures.refusal)
+    c.unless_failed.ensures c.increase.ensures.done

@@ -20,15 +20,15 @@ returns-clause-found g c =
     let t = table m in
     let path = path_of t c.args.number in
     let bit = c.args.need.bit in
-    let barred : c.in_ok-barred.barred ≡ is_barred (card_of m).tree path =
-    c.in_ok-barred.ensures.barred ∙ sym (ap (λ (tree : Tree). is_barred tree path) (card-tree m)) in
+    let barred : c.in_ok-is_barred.field-0 ≡ is_barred (card_of m).tree path =
+    c.in_ok-is_barred.ensures.barred ∙ sym (ap (λ (tree : Tree). is_barred tree path) (card-tree m)) in
     let same = c.is_barred.ensures.store.only.keeps.committed_words in
     let marks = sym (marks-are t c.args.current.now c.requires.current.marks) in
-    let permitted : c.in_ok-allowed.allowed ≡ allowed (card_of m) (session_of t c.args.current.now) path bit =
-    c.in_ok-allowed.ensures.allowed
+    let permitted : c.in_ok-is_allowed.field-0 ≡ allowed (card_of m) (session_of t c.args.current.now) path bit =
+    c.in_ok-is_allowed.ensures.allowed
     ∙ (λ i. is_allowed (tree_of (same i)) (path_of (table (same i)) c.args.number) bit (marks i))
     ∙ sym (ap (λ (tree : Tree). is_allowed tree path bit (marks_of (session_of t c.args.current.now).verified)) (card-tree m)) in
-    c.refusal_by.ensures ∙ (λ i. file_refusal (barred i) (c.fits.ensures i) (permitted i))
+    c.refusal.ensures ∙ (λ i. file_refusal (barred i) (c.fits.ensures i) (permitted i))
 
 pub is_allowed-requires-clause-tree : goal.is_allowed-requires-clause-tree
 is_allowed-requires-clause-tree g c =
@@ -38,11 +38,11 @@ pub is_allowed-requires-clause-used : goal.is_allowed-requires-clause-used
 is_allowed-requires-clause-used g c =
     used_still c.args.store.now c.is_barred.new.store c.args.number c.is_barred.ensures.store.only c.requires.used
 
-pub returns-in_err-allowed-clause-store : goal.returns-in_err-allowed-clause-store
-returns-in_err-allowed-clause-store g c =
-    reads_handed _ _ _ _ c.from_residual-in_err-allowed.ensures.1
-    (reads_on _ _ _ _ c.is_barred.ensures.store.only c.in_err-allowed.ensures.store)
+pub returns-in_err-is_allowed-clause-store : goal.returns-in_err-is_allowed-clause-store
+returns-in_err-is_allowed-clause-store g c =
+    reads_handed _ _ _ _ c.from_residual-in_err-is_allowed.ensures.1
+    (reads_on _ _ _ _ c.is_barred.ensures.store.only c.in_err-is_allowed.ensures.store)
 
 pub returns-clause-store : goal.returns-clause-store
 returns-clause-store g c =
-    reads_on _ _ _ _ c.is_barred.ensures.store.only c.in_ok-allowed.ensures.store
+    reads_on _ _ _ _ c.is_barred.ensures.store.only c.in_ok-is_allowed.ensures.store

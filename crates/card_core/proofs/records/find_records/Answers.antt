@@ -21,8 +21,8 @@ of-body-requires-clause-told g c =
     (told-entry (committed c.args.store.now) c.requires.ready.usable.committed_size c.requires.card
     c.in-Ok.file.number named.file.child.used)
 
-pub returns-in-Ok-clause-found : goal.returns-in-Ok-clause-found
-returns-in-Ok-clause-found g c =
+pub returns-clause-found : goal.returns-clause-found
+returns-clause-found g c =
     let m = committed c.args.store.now in
     let e = c.in-Ok.file.number in
     let body = c.of-body.result in

@@ -1,6 +1,6 @@
 use Rattle.std.proofs.Common.{◌≡◌, ℕ, List, Result, length, sym, not, ◌==◌, ◌&&◌, ◌∙◌, ap, subst, arith}
 use Rattle.card_rules.specs.declared.status.Sw.{Sw}
-use Rattle.card_rules.specs.declared.status.TheConstants.Sw.{DONE, RECORD_NOT_FOUND}
+use Rattle.card_rules.specs.declared.status.TheConstants.Sw.{DONE}
 use Rattle.undo_journal.specs.declared.error.StoreErr.{StoreErr}
 use Rattle.undo_journal.specs.Memory.{committed}
 use Rattle.undo_journal.specs.laws.Calls.{reads_then}
@@ -15,7 +15,7 @@ use Rattle.card_core.specs.Working.{IsBodyIn, IsCurrent}
 use Rattle.card_core.specs.Outcomes.{refused}
 use Rattle.card_core.proofs.Answering.{said_ok, said_err}
 use Rattle.card_core.proofs.RecordBodies.{has-few}
-use Rattle.card_core.proofs.Recording.{agree, current-is, declined-empty, read-gone, read-other, read-refused, read-whole}
+use Rattle.card_core.proofs.Recording.{agree, current-is, declined-empty, read-other, read-refused, read-whole}
 use Rattle.card_core.proofs.Serves.{answered, stopped, handed}
 use Rattle.card_core.proofs.Stopping.{err-is}
 use Rattle.card_core.proofs.records.read_record.Goals as goal
@@ -24,58 +24,42 @@ pub returns-in-Err : goal.returns-in-Err
 returns-in-Err g c =
     let old = c.args.store.now in
     let x = c.args.current.now in
-    let refused = said_err _ _ c.in_ok-file.field-0 c.in-Err.refusal c.in-Err.is c.in_ok-file.ensures.found in
-    declined-empty (read_record c.args.target c.args.choice c.args.expected) old x c.find_records.new.store
-    c.args.text.now.items c.requires.empty c.requires.card c.in-Err.refusal c.find_records.ensures.store.only
-    c.in_ok-file.ensures.store.ready c.requires.current
-    (read-refused (card_in old) (session_in old x) c.args.target c.in-Err.refusal refused c.args.choice c.args.expected)
-
-pub returns-then-not-has_record : goal.returns-then-not-has_record
-returns-then-not-has_record g c =
-    let old = c.args.store.now in
-    let x = c.args.current.now in
-    let body = c.in-Ok.file.body in
-    let found = said_ok _ _ c.in_ok-file.field-0 c.in-Ok.file c.in-Ok.is c.in_ok-file.ensures.found in
-    let number : c.chosen-number.result ≡ chosen_in body (pointer_from x c.args.target) c.args.choice =
-    c.chosen-number.ensures ∙ ap (λ p. chosen_in body p c.args.choice) c.pointer_at-pointer.ensures in
-    let gone = sym (ap (has_in body) number) ∙ sym c.has_record.ensures ∙ c.if-not-has_record.true in
-    declined-empty (read_record c.args.target c.args.choice c.args.expected) old x c.find_records.new.store
-    c.args.text.now.items c.requires.empty c.requires.card RECORD_NOT_FOUND c.find_records.ensures.store.only
-    c.in_ok-file.ensures.store.ready c.requires.current
-    (read-gone (committed old) c.requires.ready.usable.committed_size c.requires.card x c.args.target _
-    c.in-Ok.file.number body found found.named.unrefused c.args.choice c.args.expected gone)
+    let refused = said_err _ _ c.in_ok-found.field-0 c.in-Err.refusal c.in-Err.is c.in_ok-found.ensures.found in
+    declined-empty (read_record c.args.target c.args.choice c.args.expected) old x c.find_record.new.store
+    c.args.answer.now.items c.requires.empty c.requires.card c.in-Err.refusal c.find_record.ensures.store.only
+    c.in_ok-found.ensures.store.ready c.requires.current
+    (read-refused (card_in old) (session_in old x) c.args.target c.in-Err.refusal c.args.choice refused c.args.expected)
 
 pub read-requires-clause-body : goal.read-requires-clause-body
 read-requires-clause-body g c =
     let old = c.args.store.now in
-    let body = c.in-Ok.file.body in
-    let found = said_ok _ _ c.in_ok-file.field-0 c.in-Ok.file c.in-Ok.is c.in_ok-file.ensures.found in
-    subst (λ (l : List ℕ). IsBodyIn l body) (sym c.find_records.ensures.store.only.keeps.committed_words)
+    let body = c.in-Ok.found.file.body in
+    let found = said_ok _ _ c.in_ok-found.field-0 c.in-Ok.found c.in-Ok.is c.in_ok-found.ensures.found in
+    subst (λ (l : List ℕ). IsBodyIn l body) (sym c.find_record.ensures.store.only.keeps.committed_words)
     (agree (committed old) c.requires.ready.usable.committed_size c.requires.card c.args.current.now c.args.target _
-    c.in-Ok.file.number body found).stands
+    c.in-Ok.found.file.number body found.file).stands
 
 pub returns-in_err-read : goal.returns-in_err-read
 returns-in_err-read g c =
     let old = c.args.store.now in
     let x = c.args.current.now in
-    let none : length c.args.text.now.items ≡ 0 = ap (λ (l : List ℕ). length l) c.requires.empty in
+    let none : length c.args.answer.now.items ≡ 0 = ap (λ (l : List ℕ). length l) c.requires.empty in
     subst (λ (r : Result Sw StoreErr). Serves (read_record c.args.target c.args.choice c.args.expected) old x
-    c.read.new.store x c.args.text.now.items r) (sym (err-is _ _ c.from_residual-in_err-read.ensures.1))
+    c.read.new.store x c.args.answer.now.items r) (sym (err-is _ _ c.from_residual-in_err-read.ensures.1))
     (stopped (read_record c.args.target c.args.choice c.args.expected) old x c.read.new.store c.requires.card x
-    c.args.text.now.items c.in_err-read.field-0.0
-    (reads_then old c.find_records.new.store c.read.new.store c.find_records.ensures.store.only c.read.ensures.store.only)
+    c.args.answer.now.items c.in_err-read.field-0.0
+    (reads_then old c.find_record.new.store c.read.new.store c.find_record.ensures.store.only c.read.ensures.store.only)
     c.in_err-read.ensures.store.tells (omega (arith, none)))
 
 pub returns-then-is_other_length : goal.returns-then-is_other_length
 returns-then-is_other_length g c =
     let old = c.args.store.now in
     let x = c.args.current.now in
-    let body = c.in-Ok.file.body in
-    let same = c.find_records.ensures.store.only.keeps.committed_words in
-    let found = said_ok _ _ c.in_ok-file.field-0 c.in-Ok.file c.in-Ok.is c.in_ok-file.ensures.found in
-    let number : c.chosen-number.result ≡ chosen_in body (pointer_from x c.args.target) c.args.choice =
-    c.chosen-number.ensures ∙ ap (λ p. chosen_in body p c.args.choice) c.pointer_at-pointer.ensures in
-    let has = sym (ap (has_in body) number) ∙ sym c.has_record.ensures ∙ c.if-not-has_record.false in
+    let body = c.in-Ok.found.file.body in
+    let same = c.find_record.ensures.store.only.keeps.committed_words in
+    let found = said_ok _ _ c.in_ok-found.field-0 c.in-Ok.found c.in-Ok.is c.in_ok-found.ensures.found in
+    let number = found.number_is in
+    let has = sym (ap (has_in body) number) ∙ found.has in
     let text : c.read.new.bytes.items ≡ record_of (records_at (committed old) body) (chosen_in body (pointer_from x
     c.args.target) c.args.choice) =
     c.in_ok-read.ensures.bytes ∙ (λ i. record_of (records_at (same i) body) (number i)) in
@@ -83,64 +67,62 @@ returns-then-is_other_length g c =
     ∙ sym c.is_other_length.ensures ∙ c.if-is_other_length.true in
     let status = ap right_length (sym text) ∙ sym c.right_length.ensures in
     declined-empty (read_record c.args.target c.args.choice c.args.expected) old x c.read.new.store
-    c.args.text.now.items c.requires.empty c.requires.card c.right_length.result
-    (reads_then old c.find_records.new.store c.read.new.store c.find_records.ensures.store.only c.read.ensures.store.only)
+    c.args.answer.now.items c.requires.empty c.requires.card c.right_length.result
+    (reads_then old c.find_record.new.store c.read.new.store c.find_record.ensures.store.only c.read.ensures.store.only)
     c.in_ok-read.ensures.store.ready c.requires.current
     (read-other (committed old) c.requires.ready.usable.committed_size c.requires.card x c.args.target _
-    c.in-Ok.file.number body found found.named.unrefused c.args.choice c.args.expected has other
+    c.in-Ok.found.file.number body found.file found.file.named.unrefused c.args.choice c.args.expected has other
     ∙ ap (refused (card_in old) (session_in old x)) status)
 
-pub pointer_after-requires : goal.pointer_after-requires
-pointer_after-requires g c =
+pub pointer_after-pointer-requires : goal.pointer_after-pointer-requires
+pointer_after-pointer-requires g c =
     let old = c.args.store.now in
-    let body = c.in-Ok.file.body in
-    let found = said_ok _ _ c.in_ok-file.field-0 c.in-Ok.file c.in-Ok.is c.in_ok-file.ensures.found in
+    let body = c.in-Ok.found.file.body in
+    let found = said_ok _ _ c.in_ok-found.field-0 c.in-Ok.found c.in-Ok.is c.in_ok-found.ensures.found in
     let stands = (agree (committed old) c.requires.ready.usable.committed_size c.requires.card c.args.current.now
-    c.args.target _ c.in-Ok.file.number body found).stands in
-    let few = has-few (committed old) body stands c.chosen-number.result (sym c.has_record.ensures
-    ∙ c.if-not-has_record.false) in
+    c.args.target _ c.in-Ok.found.file.number body found.file).stands in
+    let few = has-few (committed old) body stands c.in-Ok.found.number found.has in
     omega (arith, few)
 
 pub returns : goal.returns
 returns g c =
     let old = c.args.store.now in
     let x = c.args.current.now in
-    let body = c.in-Ok.file.body in
-    let e = c.in-Ok.file.number in
+    let body = c.in-Ok.found.file.body in
+    let e = c.in-Ok.found.file.number in
     let sized = c.requires.ready.usable.committed_size in
-    let same = c.find_records.ensures.store.only.keeps.committed_words in
-    let found = said_ok _ _ c.in_ok-file.field-0 c.in-Ok.file c.in-Ok.is c.in_ok-file.ensures.found in
-    let number : c.chosen-number.result ≡ chosen_in body (pointer_from x c.args.target) c.args.choice =
-    c.chosen-number.ensures ∙ ap (λ p. chosen_in body p c.args.choice) c.pointer_at-pointer.ensures in
-    let has = sym (ap (has_in body) number) ∙ sym c.has_record.ensures ∙ c.if-not-has_record.false in
+    let same = c.find_record.ensures.store.only.keeps.committed_words in
+    let found = said_ok _ _ c.in_ok-found.field-0 c.in-Ok.found c.in-Ok.is c.in_ok-found.ensures.found in
+    let number = found.number_is in
+    let has = sym (ap (has_in body) number) ∙ found.has in
     let text : c.read.new.bytes.items ≡ record_of (records_at (committed old) body) (chosen_in body (pointer_from x
     c.args.target) c.args.choice) =
     c.in_ok-read.ensures.bytes ∙ (λ i. record_of (records_at (same i) body) (number i)) in
     let whole = ap (λ (l : List ℕ). not (c.args.expected == 0) && not (c.args.expected == length l)) (sym text)
     ∙ sym c.is_other_length.ensures ∙ c.if-is_other_length.false in
-    let pointer : c.pointer_after.result ≡ pointer_after (pointer_from x c.args.target) c.args.choice (chosen_in body
+    let pointer : c.pointer_after-pointer.result ≡ pointer_after (pointer_from x c.args.target) c.args.choice (chosen_in body
     (pointer_from x c.args.target) c.args.choice) =
-    c.pointer_after.ensures ∙ (λ i. pointer_after (c.pointer_at-pointer.ensures i) c.args.choice (number i)) in
+    c.pointer_after-pointer.ensures ∙ (λ i. pointer_after (c.pointer_at.ensures i) c.args.choice (number i)) in
     let y_is : c.pointing.result ≡ pointing_from x c.args.target e (pointer_after (pointer_from x c.args.target)
     c.args.choice (chosen_in body (pointer_from x c.args.target) c.args.choice)) =
     c.pointing.ensures ∙ ap (pointing_from x c.args.target e) pointer in
     let given_is = c.give.ensures.given ∙ text in
-    let current = current-is (committed old) sized c.requires.card x c.args.target _ e body found c.requires.current
+    let current = current-is (committed old) sized c.requires.card x c.args.target _ e body found.file c.requires.current
     (pointer_after (pointer_from x c.args.target) c.args.choice (chosen_in body (pointer_from x c.args.target)
     c.args.choice)) in
     answered (read_record c.args.target c.args.choice c.args.expected) old x c.read.new.store c.requires.card
-    c.pointing.result c.give.new.text.items DONE
-    (reads_then old c.find_records.new.store c.read.new.store c.find_records.ensures.store.only c.read.ensures.store.only)
+    c.pointing.result c.give.new.answer.items DONE
+    (reads_then old c.find_record.new.store c.read.new.store c.find_record.ensures.store.only c.read.ensures.store.only)
     c.in_ok-read.ensures.store.ready
     (subst (λ (y : Current). IsCurrent (table_in old) y) (sym y_is) current)
     c.give.ensures.room
-    (read-whole (committed old) sized c.requires.card x c.args.target _ e body found found.named.unrefused
+    (read-whole (committed old) sized c.requires.card x c.args.target _ e body found.file found.file.named.unrefused
     c.args.choice c.args.expected has whole
     ∙ (λ i. outcome (card_in old) (session_in old (sym y_is i)) (sym given_is i) DONE))
 
-pub returns-in_err-file : goal.returns-in_err-file
-returns-in_err-file g c =
-    let none : length c.args.text.now.items ≡ 0 = ap (λ (l : List ℕ). length l) c.requires.empty in
+pub returns-in_err-found : goal.returns-in_err-found
+returns-in_err-found g c =
+    let none : length c.args.answer.now.items ≡ 0 = ap (λ (l : List ℕ). length l) c.requires.empty in
     handed (read_record c.args.target c.args.choice c.args.expected) c.args.store.now
-    c.args.current.now c.find_records.new.store c.requires.card c.args.current.now c.args.text.now.items _ _
-    c.from_residual.ensures.1 c.in_err-file.ensures.store (omega (arith, none))
+    c.args.current.now c.find_record.new.store c.requires.card c.args.current.now c.args.answer.now.items _ _
+    c.from_residual.ensures.1 c.in_err-found.ensures.store (omega (arith, none))

@@ -1,6 +1,5 @@
 use Rattle.std.proofs.Common.{◌≡◌, ℕ, List, Result, length, sym, ◌∙◌, ap, subst, arith}
 use Rattle.card_rules.specs.declared.status.Sw.{Sw}
-use Rattle.card_rules.specs.declared.status.TheConstants.Sw.{RECORD_NOT_FOUND}
 use Rattle.undo_journal.specs.declared.error.StoreErr.{StoreErr}
 use Rattle.undo_journal.specs.Memory.{committed}
 use Rattle.undo_journal.specs.laws.Calls.{reads_then}
@@ -14,7 +13,7 @@ use Rattle.card_core.specs.Served.{Serves}
 use Rattle.card_core.specs.Working.{card_in, has_in, outcome, pointer_from, pointing_from, records_at, session_in, table_in}
 use Rattle.card_core.specs.Working.{IsBodyIn, IsCurrent}
 use Rattle.card_core.proofs.Answering.{said_ok, said_err}
-use Rattle.card_core.proofs.Recording.{agree, current-is, declined-empty, search-gone, search-less, search-refused, search-whole}
+use Rattle.card_core.proofs.Recording.{agree, current-is, declined-empty, search-less, search-refused, search-whole}
 use Rattle.card_core.proofs.Serves.{answered, stopped, handed}
 use Rattle.card_core.proofs.Stopping.{err-is}
 use Rattle.card_core.proofs.records.search_record.Goals as goal
@@ -23,37 +22,21 @@ pub returns-in-Err : goal.returns-in-Err
 returns-in-Err g c =
     let old = c.args.store.now in
     let x = c.args.current.now in
-    let refused = said_err _ _ c.in_ok-file.field-0 c.in-Err.refusal c.in-Err.is c.in_ok-file.ensures.found in
+    let refused = said_err _ _ c.in_ok-found.field-0 c.in-Err.refusal c.in-Err.is c.in_ok-found.ensures.found in
     declined-empty (search_record c.args.target c.args.first c.args.direction c.args.text.now c.args.expected) old x
-    c.find_records.new.store c.args.answer.now.items c.requires.empty c.requires.card c.in-Err.refusal
-    c.find_records.ensures.store.only c.in_ok-file.ensures.store.ready c.requires.current
-    (search-refused (card_in old) (session_in old x) c.args.target c.in-Err.refusal refused c.args.first c.args.direction
+    c.find_record.new.store c.args.answer.now.items c.requires.empty c.requires.card c.in-Err.refusal
+    c.find_record.ensures.store.only c.in_ok-found.ensures.store.ready c.requires.current
+    (search-refused (card_in old) (session_in old x) c.args.target c.in-Err.refusal c.args.first refused c.args.direction
     c.args.text.now c.args.expected)
-
-pub returns-then-not-has_record : goal.returns-then-not-has_record
-returns-then-not-has_record g c =
-    let old = c.args.store.now in
-    let x = c.args.current.now in
-    let body = c.in-Ok.file.body in
-    let found = said_ok _ _ c.in_ok-file.field-0 c.in-Ok.file c.in-Ok.is c.in_ok-file.ensures.found in
-    let number : c.place_number-number.result ≡ place_number c.args.first (pointer_from x c.args.target) =
-    c.place_number-number.ensures ∙ ap (place_number c.args.first) c.pointer_at-pointer.ensures in
-    let gone = sym (ap (has_in body) number) ∙ sym c.has_record.ensures ∙ c.if-not-has_record.true in
-    declined-empty (search_record c.args.target c.args.first c.args.direction c.args.text.now c.args.expected) old x
-    c.find_records.new.store c.args.answer.now.items c.requires.empty c.requires.card RECORD_NOT_FOUND
-    c.find_records.ensures.store.only c.in_ok-file.ensures.store.ready c.requires.current
-    (search-gone (committed old) c.requires.ready.usable.committed_size c.requires.card x c.args.target _
-    c.in-Ok.file.number body found found.named.unrefused c.args.first c.args.direction c.args.text.now c.args.expected
-    gone)
 
 pub search-requires-clause-body : goal.search-requires-clause-body
 search-requires-clause-body g c =
     let old = c.args.store.now in
-    let body = c.in-Ok.file.body in
-    let found = said_ok _ _ c.in_ok-file.field-0 c.in-Ok.file c.in-Ok.is c.in_ok-file.ensures.found in
-    subst (λ (l : List ℕ). IsBodyIn l body) (sym c.find_records.ensures.store.only.keeps.committed_words)
+    let body = c.in-Ok.found.file.body in
+    let found = said_ok _ _ c.in_ok-found.field-0 c.in-Ok.found c.in-Ok.is c.in_ok-found.ensures.found in
+    subst (λ (l : List ℕ). IsBodyIn l body) (sym c.find_record.ensures.store.only.keeps.committed_words)
     (agree (committed old) c.requires.ready.usable.committed_size c.requires.card c.args.current.now c.args.target _
-    c.in-Ok.file.number body found).stands
+    c.in-Ok.found.file.number body found.file).stands
 
 pub returns-in_err-search : goal.returns-in_err-search
 returns-in_err-search g c =
@@ -65,20 +48,19 @@ returns-in_err-search g c =
     (sym (err-is _ _ c.from_residual-in_err-search.ensures.1))
     (stopped (search_record c.args.target c.args.first c.args.direction c.args.text.now c.args.expected) old x
     c.search.new.store c.requires.card x c.args.answer.now.items c.in_err-search.field-0.0
-    (reads_then old c.find_records.new.store c.search.new.store c.find_records.ensures.store.only c.search.ensures.store.only)
+    (reads_then old c.find_record.new.store c.search.new.store c.find_record.ensures.store.only c.search.ensures.store.only)
     c.in_err-search.ensures.store.tells (omega (arith, none)))
 
 pub returns-then-asks_less : goal.returns-then-asks_less
 returns-then-asks_less g c =
     let old = c.args.store.now in
     let x = c.args.current.now in
-    let body = c.in-Ok.file.body in
-    let same = c.find_records.ensures.store.only.keeps.committed_words in
-    let found = said_ok _ _ c.in_ok-file.field-0 c.in-Ok.file c.in-Ok.is c.in_ok-file.ensures.found in
-    let number : c.place_number-number.result ≡ place_number c.args.first (pointer_from x c.args.target) =
-    c.place_number-number.ensures ∙ ap (place_number c.args.first) c.pointer_at-pointer.ensures in
-    let has = sym (ap (has_in body) number) ∙ sym c.has_record.ensures ∙ c.if-not-has_record.false in
-    let way = c.way_of.ensures in
+    let body = c.in-Ok.found.file.body in
+    let same = c.find_record.ensures.store.only.keeps.committed_words in
+    let found = said_ok _ _ c.in_ok-found.field-0 c.in-Ok.found c.in-Ok.is c.in_ok-found.ensures.found in
+    let number : c.in-Ok.found.number ≡ place_number c.args.first (pointer_from x c.args.target) = found.number_is in
+    let has = sym (ap (has_in body) number) ∙ found.has in
+    let way = c.way_of-way.ensures in
     let numbers : c.search.new.numbers.items ≡ found_in (searching c.args.direction) (place_number c.args.first
     (pointer_from x c.args.target)) c.args.text.now (records_at (committed old) body) =
     c.in_ok-search.ensures.numbers ∙ (λ i. found_in (way i) (number i) c.args.text.now (records_at (same i) body)) in
@@ -87,10 +69,10 @@ returns-then-asks_less g c =
     let status = ap right_length (sym numbers) ∙ sym c.right_length.ensures in
     declined-empty (search_record c.args.target c.args.first c.args.direction c.args.text.now c.args.expected) old x
     c.search.new.store c.args.answer.now.items c.requires.empty c.requires.card c.right_length.result
-    (reads_then old c.find_records.new.store c.search.new.store c.find_records.ensures.store.only c.search.ensures.store.only)
+    (reads_then old c.find_record.new.store c.search.new.store c.find_record.ensures.store.only c.search.ensures.store.only)
     c.in_ok-search.ensures.store.ready c.requires.current
     (search-less (committed old) c.requires.ready.usable.committed_size c.requires.card x c.args.target _
-    c.in-Ok.file.number body found found.named.unrefused c.args.first c.args.direction c.args.text.now c.args.expected
+    c.in-Ok.found.file.number body found.file found.file.named.unrefused c.args.first c.args.direction c.args.text.now c.args.expected
     has less
     ∙ ap (refused (card_in old) (session_in old x)) status)
 
@@ -98,43 +80,42 @@ pub returns : goal.returns
 returns g c =
     let old = c.args.store.now in
     let x = c.args.current.now in
-    let body = c.in-Ok.file.body in
-    let e = c.in-Ok.file.number in
+    let body = c.in-Ok.found.file.body in
+    let e = c.in-Ok.found.file.number in
     let sized = c.requires.ready.usable.committed_size in
-    let same = c.find_records.ensures.store.only.keeps.committed_words in
-    let found = said_ok _ _ c.in_ok-file.field-0 c.in-Ok.file c.in-Ok.is c.in_ok-file.ensures.found in
-    let number : c.place_number-number.result ≡ place_number c.args.first (pointer_from x c.args.target) =
-    c.place_number-number.ensures ∙ ap (place_number c.args.first) c.pointer_at-pointer.ensures in
-    let has = sym (ap (has_in body) number) ∙ sym c.has_record.ensures ∙ c.if-not-has_record.false in
-    let way = c.way_of.ensures in
+    let same = c.find_record.ensures.store.only.keeps.committed_words in
+    let found = said_ok _ _ c.in_ok-found.field-0 c.in-Ok.found c.in-Ok.is c.in_ok-found.ensures.found in
+    let number : c.in-Ok.found.number ≡ place_number c.args.first (pointer_from x c.args.target) = found.number_is in
+    let has = sym (ap (has_in body) number) ∙ found.has in
+    let way = c.way_of-way.ensures in
     let all : List ℕ = found_in (searching c.args.direction) (place_number c.args.first (pointer_from x c.args.target))
     c.args.text.now (records_at (committed old) body) in
     let numbers : c.search.new.numbers.items ≡ all =
     c.in_ok-search.ensures.numbers ∙ (λ i. found_in (way i) (number i) c.args.text.now (records_at (same i) body)) in
     let enough = ap (asks_less c.args.expected) (sym numbers) ∙ sym c.asks_less.ensures
     ∙ c.if-asks_less.false in
-    let pointer : c.first_of.result ≡ pointer_found (pointer_from x c.args.target) all =
-    c.first_of.ensures ∙ (λ i. pointer_found (c.pointer_at-pointer.ensures i) (numbers i)) in
+    let pointer : c.first_of-pointer.result ≡ pointer_found (pointer_from x c.args.target) all =
+    c.first_of-pointer.ensures ∙ (λ i. pointer_found (c.pointer_at.ensures i) (numbers i)) in
     let y_is : c.pointing.result ≡ pointing_from x c.args.target e (pointer_found (pointer_from x c.args.target) all) =
     c.pointing.ensures ∙ ap (pointing_from x c.args.target e) pointer in
-    let given_is : c.give.new.text.items ≡ given c.args.expected all =
+    let given_is : c.give.new.answer.items ≡ given c.args.expected all =
     c.give.ensures.given ∙ ap (given c.args.expected) numbers in
     let status : c.status_of.result ≡ search_status all = c.status_of.ensures ∙ ap search_status numbers in
-    let current = current-is (committed old) sized c.requires.card x c.args.target _ e body found c.requires.current
+    let current = current-is (committed old) sized c.requires.card x c.args.target _ e body found.file c.requires.current
     (pointer_found (pointer_from x c.args.target) all) in
     answered (search_record c.args.target c.args.first c.args.direction c.args.text.now c.args.expected) old x
-    c.search.new.store c.requires.card c.pointing.result c.give.new.text.items c.status_of.result
-    (reads_then old c.find_records.new.store c.search.new.store c.find_records.ensures.store.only c.search.ensures.store.only)
+    c.search.new.store c.requires.card c.pointing.result c.give.new.answer.items c.status_of.result
+    (reads_then old c.find_record.new.store c.search.new.store c.find_record.ensures.store.only c.search.ensures.store.only)
     c.in_ok-search.ensures.store.ready
     (subst (λ (y : Current). IsCurrent (table_in old) y) (sym y_is) current)
     c.give.ensures.room
-    (search-whole (committed old) sized c.requires.card x c.args.target _ e body found found.named.unrefused
+    (search-whole (committed old) sized c.requires.card x c.args.target _ e body found.file found.file.named.unrefused
     c.args.first c.args.direction c.args.text.now c.args.expected has enough
     ∙ (λ i. outcome (card_in old) (session_in old (sym y_is i)) (sym given_is i) (sym status i)))
 
-pub returns-in_err-file : goal.returns-in_err-file
-returns-in_err-file g c =
+pub returns-in_err-found : goal.returns-in_err-found
+returns-in_err-found g c =
     let none : length c.args.answer.now.items ≡ 0 = ap (λ (l : List ℕ). length l) c.requires.empty in
     handed (search_record c.args.target c.args.first c.args.direction c.args.text.now c.args.expected) c.args.store.now
-    c.args.current.now c.find_records.new.store c.requires.card c.args.current.now c.args.answer.now.items _ _
-    c.from_residual.ensures.1 c.in_err-file.ensures.store (omega (arith, none))
+    c.args.current.now c.find_record.new.store c.requires.card c.args.current.now c.args.answer.now.items _ _
+    c.from_residual.ensures.1 c.in_err-found.ensures.store (omega (arith, none))

@@ -27,10 +27,10 @@ returns-in_err-e g c =
     let old = c.args.store.now in
     let x = c.args.current.now in
     let request = select (selection_of c.args.selector) c.args.returned c.args.expected in
-    let none : length c.args.text.now.items ≡ 0 = ap (λ (l : List ℕ). length l) c.requires.empty in
-    subst (λ (r : Result Sw StoreErr). Serves request old x c.find_selected.new.store x c.args.text.now.items r)
+    let none : length c.args.answer.now.items ≡ 0 = ap (λ (l : List ℕ). length l) c.requires.empty in
+    subst (λ (r : Result Sw StoreErr). Serves request old x c.find_selected.new.store x c.args.answer.now.items r)
     (sym (err-is _ _ c.from_residual.ensures.1))
-    (stopped request old x c.find_selected.new.store c.requires.card x c.args.text.now.items c.in_err-e.field-0.0
+    (stopped request old x c.find_selected.new.store c.requires.card x c.args.answer.now.items c.in_err-e.field-0.0
     c.find_selected.ensures.store.only c.in_err-e.ensures.store.tells (omega (arith, none)))
 
 pub returns-in_default : goal.returns-in_default
@@ -52,10 +52,10 @@ returns-in_err-entry g c =
     let old = c.args.store.now in
     let x = c.args.current.now in
     let request = select (selection_of c.args.selector) c.args.returned c.args.expected in
-    let none : length c.args.text.now.items ≡ 0 = ap (λ (l : List ℕ). length l) c.requires.empty in
-    subst (λ (r : Result Sw StoreErr). Serves request old x c.read_entry.new.store x c.args.text.now.items r)
+    let none : length c.args.answer.now.items ≡ 0 = ap (λ (l : List ℕ). length l) c.requires.empty in
+    subst (λ (r : Result Sw StoreErr). Serves request old x c.read_entry.new.store x c.args.answer.now.items r)
     (sym (err-is _ _ c.from_residual-in_err-entry.ensures.1))
-    (stopped request old x c.read_entry.new.store c.requires.card x c.args.text.now.items c.in_err-entry.field-0.0
+    (stopped request old x c.read_entry.new.store c.requires.card x c.args.answer.now.items c.in_err-entry.field-0.0
     (reads_then old c.find_selected.new.store c.read_entry.new.store c.find_selected.ensures.store.only
     c.read_entry.ensures.store.only)
     c.in_err-entry.ensures.store.tells (omega (arith, none)))
@@ -125,7 +125,7 @@ returns g c =
     let current = sym at in
     let text = sym (c.give.ensures.given ∙ ap (given expected) told) in
     let status = sym (c.status_of.ensures ∙ ap (λ (y : Entry). selection_status (life_of y)) entry) in
-    answered request old x c.read_entry.new.store c.requires.card c.at.result c.give.new.text.items c.status_of.result
+    answered request old x c.read_entry.new.store c.requires.card c.at.result c.give.new.answer.items c.status_of.result
     reads c.in_ok-entry.ensures.store.ready
     (subst (λ (y : Current). IsCurrent t y) current (current-entry m c.requires.card e used x c.requires.current.marks))
     c.give.ensures.room

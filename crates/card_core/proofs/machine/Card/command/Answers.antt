@@ -19,7 +19,7 @@ use Rattle.card_core.proofs.machine.Card.command.Goals as goal
 
 -- the end of the command, as the call told it
 ends : (g : Over) (c : After-end_command g) → Ends c.carry_out-carried.result c.self.inside.state c.end_command.new.state
-    c.carry_out-carried.new.text.items c.end_command.new.answer.items c.end_command.result
+    c.carry_out-carried.new.answer.items c.end_command.new.answer.items c.end_command.result
 ends g c = record {
   done = c.end_command.ensures.done;
   failed = c.end_command.ensures.failed;
@@ -66,11 +66,11 @@ returns-clause-done g c =
     let bytes = c.args.command.now in
     let said = c.end_command.new.answer.items in
     let ready = (c.self.invariant.1 c.in-Working.is).ready in
-    let leaves = after inside.store new inside.current y bytes c.carry_out-carried.new.text.items said ready inside.state
+    let leaves = after inside.store new inside.current y bytes c.carry_out-carried.new.answer.items said ready inside.state
     c.end_command.new.state c.in-Working.is c.end_command.result in
     subst (λ (r : Running). OnOk c.end_command.result (r.state ≡ Working → Steps r bytes leaves said
     ⊎ FailsIn r leaves said)) c.self.view_is
-    (ended-done inside.store new inside.current y bytes c.carry_out-carried.new.text.items said ready inside.state
+    (ended-done inside.store new inside.current y bytes c.carry_out-carried.new.answer.items said ready inside.state
     c.end_command.new.state c.in-Working.is c.end_command.result c.carry_out-carried.result
     c.carry_out-carried.ensures.carries (ends g c))
 
@@ -82,10 +82,10 @@ returns-clause-lost g c =
     let bytes = c.args.command.now in
     let said = c.end_command.new.answer.items in
     let ready = (c.self.invariant.1 c.in-Working.is).ready in
-    let leaves = after inside.store new inside.current y bytes c.carry_out-carried.new.text.items said ready inside.state
+    let leaves = after inside.store new inside.current y bytes c.carry_out-carried.new.answer.items said ready inside.state
     c.end_command.new.state c.in-Working.is c.end_command.result in
     subst (λ (r : Running). OnErr c.end_command.result (r.state ≡ Working → IsCutIn r leaves said)) c.self.view_is
-    (ended-lost inside.store new inside.current y bytes c.carry_out-carried.new.text.items said ready inside.state
+    (ended-lost inside.store new inside.current y bytes c.carry_out-carried.new.answer.items said ready inside.state
     c.end_command.new.state c.in-Working.is c.end_command.result c.carry_out-carried.result
     c.carry_out-carried.ensures.carries (ends g c))
 
@@ -93,7 +93,7 @@ pub returns-clause-unlit : goal.returns-clause-unlit
 returns-clause-unlit g c =
     let inside = c.self.inside in
     ended-unlit inside.store c.carry_out-carried.new.store inside.current c.carry_out-carried.new.current c.args.command.now
-    c.carry_out-carried.new.text.items c.end_command.new.answer.items (c.self.invariant.1 c.in-Working.is).ready
+    c.carry_out-carried.new.answer.items c.end_command.new.answer.items (c.self.invariant.1 c.in-Working.is).ready
     inside.state c.end_command.new.state c.in-Working.is c.end_command.result c.carry_out-carried.result
     c.carry_out-carried.ensures.carries (ends g c)
 
@@ -101,7 +101,7 @@ pub invariant_of-self : goal.invariant_of-self
 invariant_of-self g c =
     let inside = c.self.inside in
     let kept = ended-kept inside.store c.carry_out-carried.new.store inside.current c.carry_out-carried.new.current
-    c.args.command.now c.carry_out-carried.new.text.items c.end_command.new.answer.items
+    c.args.command.now c.carry_out-carried.new.answer.items c.end_command.new.answer.items
     (c.self.invariant.1 c.in-Working.is).ready inside.state c.end_command.new.state c.in-Working.is c.end_command.result
     c.carry_out-carried.result c.carry_out-carried.ensures.carries (ends g c) c.carry_out-carried.new.free
     c.carry_out-carried.ensures.space in

@@ -27,8 +27,8 @@ pub append-requires-clause-size : goal.append-requires-clause-size
 append-requires-clause-size g c =
     subst (λ (it : RecordBody). length c.args.bytes.now ≡ length_in it) c.in-Linear.is c.requires.size
 
-pub unrefused-requires : goal.unrefused-requires
-unrefused-requires g c =
+pub unless_failed-requires : goal.unless_failed-requires
+unless_failed-requires g c =
     decides-none _ _ (none-full-of (committed c.args.store.now) c.args.self _ c.in-Linear.is c.requires.body
     c.requires.room) c.append.ensures.refusal
 
@@ -40,15 +40,15 @@ returns-in-Linear-clause-any_exit g c =
 pub returns-in-Linear-clause-done : goal.returns-in-Linear-clause-done
 returns-in-Linear-clause-done g c =
     let m = committed c.args.store.now in
-    on_ok_weaker c.unrefused.result
+    on_ok_weaker c.unless_failed.result
     (made c.args.self _ c.in-Linear.is m (committed c.append.new.store) c.args.bytes.now)
-    (ok-then _ c.append.result c.unrefused.result
+    (ok-then _ c.append.result c.unless_failed.result
     (decides-none _ _ (none-full-of m c.args.self _ c.in-Linear.is c.requires.body c.requires.room)
-    c.append.ensures.refusal) c.unrefused.ensures c.append.ensures.done)
+    c.append.ensures.refusal) c.unless_failed.ensures c.append.ensures.done)
 
 pub returns-in-Linear-clause-store : goal.returns-in-Linear-clause-store
 returns-in-Linear-clause-store g c =
-    subst (Changes RECORD_WRITES c.args.store.now c.append.new.store) (sym c.unrefused.ensures)
+    subst (Changes RECORD_WRITES c.args.store.now c.append.new.store) (sym c.unless_failed.ensures)
     c.append.ensures.store
 
 pub append-requires-in-Cyclic-clause-body : goal.append-requires-in-Cyclic-clause-body
@@ -59,8 +59,8 @@ pub append-requires-in-Cyclic-clause-size : goal.append-requires-in-Cyclic-claus
 append-requires-in-Cyclic-clause-size g c =
     subst (λ (it : RecordBody). length c.args.bytes.now ≡ length_in it) c.in-Cyclic.is c.requires.size
 
-pub unrefused-requires-in-Cyclic : goal.unrefused-requires-in-Cyclic
-unrefused-requires-in-Cyclic g c =
+pub unless_failed-requires-in-Cyclic : goal.unless_failed-requires-in-Cyclic
+unless_failed-requires-in-Cyclic g c =
     decides-none _ _ (none-full-of (committed c.args.store.now) c.args.self _ c.in-Cyclic.is c.requires.body
     c.requires.room) c.append-in-Cyclic.ensures.refusal
 
@@ -72,13 +72,13 @@ returns-in-Cyclic-clause-any_exit g c =
 pub returns-in-Cyclic-clause-done : goal.returns-in-Cyclic-clause-done
 returns-in-Cyclic-clause-done g c =
     let m = committed c.args.store.now in
-    on_ok_weaker c.unrefused-in-Cyclic.result
+    on_ok_weaker c.unless_failed-in-Cyclic.result
     (made c.args.self _ c.in-Cyclic.is m (committed c.append-in-Cyclic.new.store) c.args.bytes.now)
-    (ok-then _ c.append-in-Cyclic.result c.unrefused-in-Cyclic.result
+    (ok-then _ c.append-in-Cyclic.result c.unless_failed-in-Cyclic.result
     (decides-none _ _ (none-full-of m c.args.self _ c.in-Cyclic.is c.requires.body c.requires.room)
-    c.append-in-Cyclic.ensures.refusal) c.unrefused-in-Cyclic.ensures c.append-in-Cyclic.ensures.done)
+    c.append-in-Cyclic.ensures.refusal) c.unless_failed-in-Cyclic.ensures c.append-in-Cyclic.ensures.done)
 
 pub returns-in-Cyclic-clause-store : goal.returns-in-Cyclic-clause-store
 returns-in-Cyclic-clause-store g c =
-    subst (Changes RECORD_WRITES c.args.store.now c.append-in-Cyclic.new.store) (sym c.unrefused-in-Cyclic.ensures)
+    subst (Changes RECORD_WRITES c.args.store.now c.append-in-Cyclic.new.store) (sym c.unless_failed-in-Cyclic.ensures)
     c.append-in-Cyclic.ensures.store

@@ -28,8 +28,8 @@ pub update-requires-clause-size : goal.update-requires-clause-size
 update-requires-clause-size g c =
     subst (λ (it : RecordBody). length c.args.bytes.now ≡ length_in it) c.in-Linear.is c.requires.size
 
-pub unrefused-requires : goal.unrefused-requires
-unrefused-requires g c =
+pub unless_failed-requires : goal.unless_failed-requires
+unless_failed-requires g c =
     decides-none _ _ (none-replaced-of (committed c.args.store.now) c.args.self _ c.in-Linear.is c.requires.body
     c.args.number c.requires.record) c.update.ensures.refusal
 
@@ -41,15 +41,15 @@ returns-in-Linear-clause-any_exit g c =
 pub returns-in-Linear-clause-done : goal.returns-in-Linear-clause-done
 returns-in-Linear-clause-done g c =
     let m = committed c.args.store.now in
-    on_ok_weaker c.unrefused.result
+    on_ok_weaker c.unless_failed.result
     (made c.args.self _ c.in-Linear.is m (committed c.update.new.store) c.args.bytes.now c.args.number)
-    (ok-then _ c.update.result c.unrefused.result
+    (ok-then _ c.update.result c.unless_failed.result
     (decides-none _ _ (none-replaced-of m c.args.self _ c.in-Linear.is c.requires.body c.args.number c.requires.record)
-    c.update.ensures.refusal) c.unrefused.ensures c.update.ensures.done)
+    c.update.ensures.refusal) c.unless_failed.ensures c.update.ensures.done)
 
 pub returns-in-Linear-clause-store : goal.returns-in-Linear-clause-store
 returns-in-Linear-clause-store g c =
-    subst (Changes RECORD_WRITES c.args.store.now c.update.new.store) (sym c.unrefused.ensures)
+    subst (Changes RECORD_WRITES c.args.store.now c.update.new.store) (sym c.unless_failed.ensures)
     (changes_within UPDATE_WRITES RECORD_WRITES _ _ _ (omega arith) c.update.ensures.store)
 
 pub update_oldest-requires-clause-body : goal.update_oldest-requires-clause-body
@@ -60,8 +60,8 @@ pub update_oldest-requires-clause-size : goal.update_oldest-requires-clause-size
 update_oldest-requires-clause-size g c =
     subst (λ (it : RecordBody). length c.args.bytes.now ≡ length_in it) c.in-Cyclic.is c.requires.size
 
-pub unrefused-requires-in-Cyclic : goal.unrefused-requires-in-Cyclic
-unrefused-requires-in-Cyclic g c =
+pub unless_failed-requires-in-Cyclic : goal.unless_failed-requires-in-Cyclic
+unless_failed-requires-in-Cyclic g c =
     decides-none _ _ (none-replaced-of (committed c.args.store.now) c.args.self _ c.in-Cyclic.is c.requires.body
     c.args.number c.requires.record) c.update_oldest.ensures.refusal
 
@@ -73,13 +73,13 @@ returns-in-Cyclic-clause-any_exit g c =
 pub returns-in-Cyclic-clause-done : goal.returns-in-Cyclic-clause-done
 returns-in-Cyclic-clause-done g c =
     let m = committed c.args.store.now in
-    on_ok_weaker c.unrefused-in-Cyclic.result
+    on_ok_weaker c.unless_failed-in-Cyclic.result
     (made c.args.self _ c.in-Cyclic.is m (committed c.update_oldest.new.store) c.args.bytes.now c.args.number)
-    (ok-then _ c.update_oldest.result c.unrefused-in-Cyclic.result
+    (ok-then _ c.update_oldest.result c.unless_failed-in-Cyclic.result
     (decides-none _ _ (none-replaced-of m c.args.self _ c.in-Cyclic.is c.requires.body c.args.number c.requires.record)
-    c.update_oldest.ensures.refusal) c.unrefused-in-Cyclic.ensures c.update_oldest.ensures.done)
+    c.update_oldest.ensures.refusal) c.unless_failed-in-Cyclic.ensures c.update_oldest.ensures.done)
 
 pub returns-in-Cyclic-clause-store : goal.returns-in-Cyclic-clause-store
 returns-in-Cyclic-clause-store g c =
-    subst (Changes RECORD_WRITES c.args.store.now c.update_oldest.new.store) (sym c.unrefused-in-Cyclic.ensures)
+    subst (Changes RECORD_WRITES c.args.store.now c.update_oldest.new.store) (sym c.unless_failed-in-Cyclic.ensures)
     c.update_oldest.ensures.store
