@@ -5,10 +5,12 @@ use Rattle.std.proofs.lemmas.Bool.{and_from}
 use Rattle.t1_link.specs.ReaderFields.{next_of}
 use Rattle.t1_link.specs.ReaderTable.{Reader, Turned, is_busy, reader_sends}
 use Rattle.card_core.specs.laws.AnswerLaws.{answers_are_short, step_keeps_proper}
+use Rattle.card_bench.specs.declared.exchange.Ending.{Ending}
+use Rattle.card_bench.specs.declared.exchange.Ending.TheVariants.{Answered, SetBack, Lost, Dark}
 use Rattle.card_bench.specs.declared.exchange.TheConstants.{LINE_BLOCKS}
 use Rattle.card_bench.specs.declared.line.Line.{Line}
 use Rattle.card_bench.specs.BenchStates.{BenchState, off, on}
-use Rattle.card_bench.specs.Exchanges.{Ended, Ends, Exchanges, GoesThrough, Way, answered, cut_off, following, given_up, set_back}
+use Rattle.card_bench.specs.Exchanges.{Ends, Exchanges, GoesThrough, NextBlock, following}
 use Rattle.card_bench.specs.ExchangeWorlds.{Course, EndsSo, ExchangeLaw, GoesAs, ExchangeIsCut, StandIn, bytes_of_line, exchange_events, fate, fates}
 use Rattle.card_bench.specs.Lines.{line_after}
 use Rattle.card_bench.specs.TreeMachine.{IsProperState, Served, tree_machine}
@@ -44,17 +46,17 @@ course_from limit pending w = record {
 }
 
 -- an exchange that ends with the first block from here
-one-block : (limit : ℕ) (w : World Served) (old new : Ends) (ending : Ended) → is_under_way w.line ≡ true
+one-block : (limit : ℕ) (w : World Served) (old new : Ends) (ending : Ending) → is_under_way w.line ≡ true
     → LeadsTo (Err ending) w (arrival w.line (fate old.line (bytes_of_line w.line))) new → EndsSo ending (course_from limit old.line w) 1 new
 unfolding fates world
-one-block limit w old new (answered bytes) busy leads =
-    subst (λ (x : World Served). StandIn new.bench new.reader x × ShowsIn (Err (answered bytes)) w.sent w.reports x) (sym (stepped-is w old.line)) leads
-one-block limit w old new set_back busy leads =
-    subst (λ (x : World Served). StandIn new.bench new.reader x × ShowsIn (Err set_back) w.sent w.reports x) (sym (stepped-is w old.line)) leads
-one-block limit w old new given_up busy leads =
-    let there = subst (λ (x : World Served). StandIn new.bench new.reader x × ShowsIn (Err given_up) w.sent w.reports x) (sym (stepped-is w old.line)) leads in
+one-block limit w old new (Answered answer) busy leads =
+    subst (λ (x : World Served). StandIn new.bench new.reader x × ShowsIn (Err (Answered answer)) w.sent w.reports x) (sym (stepped-is w old.line)) leads
+one-block limit w old new SetBack busy leads =
+    subst (λ (x : World Served). StandIn new.bench new.reader x × ShowsIn (Err SetBack) w.sent w.reports x) (sym (stepped-is w old.line)) leads
+one-block limit w old new Lost busy leads =
+    let there = subst (λ (x : World Served). StandIn new.bench new.reader x × ShowsIn (Err Lost) w.sent w.reports x) (sym (stepped-is w old.line)) leads in
     (there.0, inl there.1)
-one-block limit w old new cut_off busy leads = (
+one-block limit w old new Dark busy leads = (
   0,
   omega arith,
   record { reports = refl; line = busy },
@@ -74,14 +76,14 @@ abbrev longer : Course → Line → World Served → Course
 longer course pending w = record course { limit = suc course.limit; pending = pending; after = world_at pending w }
 
 -- an exchange that goes on after the first block from here
-more-blocks : (course : Course) (blocks : ℕ) (w : World Served) (pending : Line) (new : Ends) (ending : Ended)
+more-blocks : (course : Course) (blocks : ℕ) (w : World Served) (pending : Line) (new : Ends) (ending : Ending)
     → EndsSo ending (next_course course pending w) blocks new → EndsSo ending (longer course pending w) (suc blocks) new
 unfolding fates world
-more-blocks course blocks w pending new (answered bytes) ended = ended
-more-blocks course blocks w pending new set_back ended = ended
-more-blocks course blocks w pending new given_up (there, inl failed) = (there, inl failed)
-more-blocks course blocks w pending new given_up (there, inr (all, unreported)) = (there, inr (ap suc all, unreported))
-more-blocks course blocks w pending new cut_off (before, all, unreported, cut) = (
+more-blocks course blocks w pending new (Answered answer) ended = ended
+more-blocks course blocks w pending new SetBack ended = ended
+more-blocks course blocks w pending new Lost (there, inl failed) = (there, inl failed)
+more-blocks course blocks w pending new Lost (there, inr (all, unreported)) = (there, inr (ap suc all, unreported))
+more-blocks course blocks w pending new Dark (before, all, unreported, cut) = (
   suc before,
   omega (arith, all),
   unreported,
@@ -97,18 +99,18 @@ reached-step start w event proper reached = record {
   sound = sound-step tree_machine IsProperState tree-bytes w event reached.sound;
 }
 
-goes : (start : Served) (limit : ℕ) (w : World Served) (old new : Ends) (way : Way) (ending : Ended) → IsProperState start → IsReached start w
+goes : (start : Served) (limit : ℕ) (w : World Served) (old new : Ends) (way : NextBlock) (ending : Ending) → IsProperState start → IsReached start w
     → StandIn old.bench old.reader w → IsWay way w.line → Exchanges limit old way new ending → GoesAs (course_from limit old.line w) new ending
 unfolding Exchanges fates world
 goes start zero w old new way ending proper reached s is run =
-    let base : GoesAs (course_from zero old.line w) old given_up = record {
+    let base : GoesAs (course_from zero old.line w) old Lost = record {
       blocks = 0;
       most = omega arith;
       line = sym (line_after-none old.line);
       ended = (s, inr (refl, record { reports = refl; line = is-way-under_way way w.line is }));
     } in
-    subst (λ (e : Ended). GoesAs (course_from zero old.line w) new e) (sym run.1)
-    (subst (λ (x : Ends). GoesAs (course_from zero old.line w) x given_up) (sym run.0) base)
+    subst (λ (e : Ending). GoesAs (course_from zero old.line w) new e) (sym run.1)
+    (subst (λ (x : Ends). GoesAs (course_from zero old.line w) x Lost) (sym run.0) base)
 goes start (suc limit) w old new way ending proper reached s is (inl passes) = record {
   blocks = 1;
   most = omega arith;
@@ -147,13 +149,13 @@ course_with sent earlier pending w = record {
 }
 
 -- what follows from what the reader's end says at first
-nothing-went : (course : Course) (here new : Ends) (ending ended : Ended) → here.line ≡ course.pending → (new ≡ here) × (ending ≡ ended)
+nothing-went : (course : Course) (here new : Ends) (ending ended : Ending) → here.line ≡ course.pending → (new ≡ here) × (ending ≡ ended)
     → EndsSo ended course 0 here → GoesAs course new ending
 nothing-went course here new ending ended pending run so =
     let base : GoesAs course here ended = record { blocks = 0; most = omega arith; line = pending ∙ sym (line_after-none course.pending); ended = so } in
-    subst (λ (e : Ended). GoesAs course new e) (sym run.1) (subst (λ (x : Ends). GoesAs course x ended) (sym run.0) base)
+    subst (λ (e : Ending). GoesAs course new e) (sym run.1) (subst (λ (x : Ends). GoesAs course x ended) (sym run.0) base)
 
-through : (start : Served) (f : Result Way Ended) (w : World Served) (sent : List (List ℕ)) (earlier : List Report) (here new : Ends) (ending : Ended)
+through : (start : Served) (f : Result NextBlock Ending) (w : World Served) (sent : List (List ℕ)) (earlier : List Report) (here new : Ends) (ending : Ending)
     → IsProperState start → IsReached start w → StandIn here.bench here.reader w → ShowsIn f sent earlier w → GoesThrough f here new ending
     → GoesAs (course_with sent earlier here.line w) new ending
 unfolding fates world
@@ -161,13 +163,13 @@ through start (Ok way) w sent earlier here new ending proper reached s shows run
     let same : course_from LINE_BLOCKS here.line w ≡ course_with sent earlier here.line w =
     λ i. course_with (shows.sent_is i) (shows.reports i) here.line w in
     subst (λ (course : Course). GoesAs course new ending) same (goes start LINE_BLOCKS w here new way ending proper reached s shows.way_is run)
-through start (Err (answered bytes)) w sent earlier here new ending proper reached s shows run =
-    nothing-went _ here new ending (answered bytes) refl run (s, shows)
-through start (Err set_back) w sent earlier here new ending proper reached s shows run =
-    nothing-went _ here new ending set_back refl run (s, shows)
-through start (Err given_up) w sent earlier here new ending proper reached s shows run =
-    nothing-went _ here new ending given_up refl run (s, inl shows)
-through start (Err cut_off) w sent earlier here new ending proper reached s shows run = absurd shows
+through start (Err (Answered answer)) w sent earlier here new ending proper reached s shows run =
+    nothing-went _ here new ending (Answered answer) refl run (s, shows)
+through start (Err SetBack) w sent earlier here new ending proper reached s shows run =
+    nothing-went _ here new ending SetBack refl run (s, shows)
+through start (Err Lost) w sent earlier here new ending proper reached s shows run =
+    nothing-went _ here new ending Lost refl run (s, inl shows)
+through start (Err Dark) w sent earlier here new ending proper reached s shows run = absurd shows
 
 -- worlds go on from where they are
 worlds-go_on : (w : World Served) (events more : List Event) → world tree_machine w (events ++ more) ≡ world tree_machine (world tree_machine w events) more

@@ -13,11 +13,13 @@ use Rattle.card_core.specs.Cards.{Card}
 use Rattle.card_core.specs.Running.{card_found}
 use Rattle.card_core.specs.Stages.{IsStage}
 use Rattle.card_core.specs.Steps.{answer_bytes}
+use Rattle.card_bench.specs.declared.exchange.Ending.{Ending}
+use Rattle.card_bench.specs.declared.exchange.Ending.TheVariants.{Answered, SetBack, Lost, Dark}
 use Rattle.card_bench.specs.declared.line.Line.{Line}
 use Rattle.card_bench.specs.BenchStates.{BenchState, off, on, bench_card}
 use Rattle.card_bench.specs.CardBlocks.{IsBlockStage, IsRun, Powered, Replies, answering, card_by, machine, session_by}
-use Rattle.card_bench.specs.Exchanges.{Arrives, CardTakes, Ended, Ends, Passes, Way, answered, bytes_under_way, cut_off, following}
-use Rattle.card_bench.specs.Exchanges.{ReaderTurns, given_up, set_back}
+use Rattle.card_bench.specs.Exchanges.{Arrives, CardTakes, Ends, Passes, NextBlock, bytes_under_way, following}
+use Rattle.card_bench.specs.Exchanges.{ReaderTurns}
 use Rattle.card_bench.specs.Exchanges as ways
 use Rattle.card_bench.specs.ExchangeWorlds.{AreOfWorld, ExchangeIsCut, IsReported, StandIn, bytes_of_line, fate, state_served}
 use Rattle.card_bench.specs.Lines as lines
@@ -36,41 +38,41 @@ use Rattle.card_bench.proofs.SoundWorlds.{IsSoundLine, IsSoundWorld}
 use Rattle.card_bench.proofs.WorldPhases.{Good}
 
 -- the block that goes on the line next is the one under way
-abbrev pub IsWay : Way → WorldLine → Type 0
+abbrev pub IsWay : NextBlock → WorldLine → Type 0
 IsWay (ways.toward_card bytes) line = (b : Block) × (line ≡ toward_card b) × (bytes ≡ frame b)
 IsWay (ways.toward_reader bytes) line = (b : Block) × (line ≡ toward_reader b) × (bytes ≡ frame b)
 
-pub is-way-under_way : (way : Way) (line : WorldLine) → IsWay way line → is_under_way line ≡ true
+pub is-way-under_way : (way : NextBlock) (line : WorldLine) → IsWay way line → is_under_way line ≡ true
 is-way-under_way (ways.toward_card bytes) line is = ap is_under_way is.1
 is-way-under_way (ways.toward_reader bytes) line is = ap is_under_way is.1
 
 -- a block goes toward the card
-abbrev goes_there : Way → Bool
+abbrev goes_there : NextBlock → Bool
 goes_there (ways.toward_card bytes) = true
 goes_there (ways.toward_reader bytes) = false
 
 -- the exchange goes on, with this block under way
-pub record GoesOnIn (way : Way) (sent : List (List ℕ)) (earlier : List Report) (w : World Served) : Type 0 where
+pub record GoesOnIn (way : NextBlock) (sent : List (List ℕ)) (earlier : List Report) (w : World Served) : Type 0 where
   pub reports : w.reports ≡ earlier
   pub sent_is : w.sent ≡ sent
   pub way_is : IsWay way w.line
 
 -- what follows in the exchange shows in the world
-abbrev pub ShowsIn : Result Way Ended → List (List ℕ) → List Report → World Served → Type 0
+abbrev pub ShowsIn : Result NextBlock Ending → List (List ℕ) → List Report → World Served → Type 0
 ShowsIn (Ok way) sent earlier w = GoesOnIn way sent earlier w
-ShowsIn (Err (answered bytes)) sent earlier w = IsReported (Done bytes) earlier w
-ShowsIn (Err set_back) sent earlier w = IsReported Unknown earlier w
-ShowsIn (Err given_up) sent earlier w = (failure : Failure) × IsReported (Failed failure) earlier w
-ShowsIn (Err cut_off) sent earlier w = ⊥
+ShowsIn (Err (Answered answer)) sent earlier w = IsReported (Done answer.items) earlier w
+ShowsIn (Err SetBack) sent earlier w = IsReported Unknown earlier w
+ShowsIn (Err Lost) sent earlier w = (failure : Failure) × IsReported (Failed failure) earlier w
+ShowsIn (Err Dark) sent earlier w = ⊥
 
 -- what the arrival of a block led to: power was lost, or the ends stand in the world after it, where what follows shows
-abbrev pub LeadsTo : Result Way Ended → World Served → Arrival → Ends → Type 0
-LeadsTo (Err cut_off) w came new = ExchangeIsCut (newest w.sent) came w new.bench
+abbrev pub LeadsTo : Result NextBlock Ending → World Served → Arrival → Ends → Type 0
+LeadsTo (Err Dark) w came new = ExchangeIsCut (newest w.sent) came w new.bench
 LeadsTo follows w came new = StandIn new.bench new.reader (after_arrival tree_machine w came)
     × ShowsIn follows w.sent w.reports (after_arrival tree_machine w came)
 
 -- what arrives, in the words of the world
-abbrev arrival_of : Way → Option (List ℕ) → Arrival
+abbrev arrival_of : NextBlock → Option (List ℕ) → Arrival
 arrival_of way None = in_vain
 arrival_of (ways.toward_card block) (Some got) = at_card got
 arrival_of (ways.toward_reader block) (Some got) = at_reader got
@@ -94,7 +96,7 @@ fated-back b false true s = simp (garbled-arrives b s) refl
 fated-back b false false s = refl
 
 -- the fate of the block under way is what arrives of it
-fated : (line : WorldLine) (way : Way) (pending : Line) → IsWay way line → IsSoundLine line
+fated : (line : WorldLine) (way : NextBlock) (pending : Line) → IsWay way line → IsSoundLine line
     → arrival line (fate pending (bytes_of_line line)) ≡ arrival_of way (lines.arriving pending 0 (bytes_under_way way))
 fated line (ways.toward_card bytes) pending is s =
     subst (λ (l : WorldLine). arrival l (fate pending (bytes_of_line l)) ≡ arrival_of (ways.toward_card bytes) (lines.arriving pending 0 bytes)) (sym is.1)
@@ -161,7 +163,7 @@ leads-noted w came bench line r (fails failure) arrives stands =
     (stands, shows-noted (record w { reader = r }) (fails failure))
 
 -- something came to the reader's end, or nothing did in time
-reader-leads : (w : World Served) (came : Arrival) (old new : Ends) (turn : Reader → Turned) (follows : Result Way Ended)
+reader-leads : (w : World Served) (came : Arrival) (old new : Ends) (turn : Reader → Turned) (follows : Result NextBlock Ending)
     → StandIn old.bench old.reader w → after_arrival tree_machine w came ≡ turning w (turn w.reader) → new.bench ≡ old.bench
     → ReaderTurns (turn old.reader) new.reader follows → LeadsTo follows w came new
 reader-leads w came old new turn follows stands arrives same turns =
@@ -172,7 +174,7 @@ reader-leads w came old new turn follows stands arrives same turns =
     (stands-turned old.bench old.reader w t stands) in
     let ends : record { bench = old.bench; reader = t.reader; line = new.line } ≡ new =
     λ i. record { bench = sym same i; reader = sym turns.reader_is i; line = new.line } in
-    subst (λ (f : Result Way Ended). LeadsTo f w came new) (sym turns.follows_so)
+    subst (λ (f : Result NextBlock Ending). LeadsTo f w came new) (sym turns.follows_so)
     (subst (λ (e : Ends). LeadsTo (following (next_of t.outcome)) w came e) ends base)
 
 -- the card's end replied, and where it ran a command, so did the world's machine
@@ -222,7 +224,7 @@ abbrev pub IsKnown : World Served → Option (List ℕ) → Type 0
 IsKnown w None = Unit {0}
 IsKnown w (Some got) = (command : List ℕ) → (link_step w.card got).reaction ≡ runs command → command ≡ newest w.sent
 
-card-leads : (w : World Served) (bench after : BenchState) (old reader : Reader) (line : Line) (got : List ℕ) (follows : Result Way Ended)
+card-leads : (w : World Served) (bench after : BenchState) (old reader : Reader) (line : Line) (got : List ℕ) (follows : Result NextBlock Ending)
     → IsKnown w (Some got) → StandIn bench old w → reader ≡ old → CardTakes bench got after follows
     → LeadsTo follows w (at_card got) (record { bench = after; reader = reader; line = line })
 card-leads w (off facts) after old reader line got follows known s same t = absurd s
@@ -230,10 +232,10 @@ card-leads w (on p) after old reader line got (Ok (ways.toward_card bytes)) know
 card-leads w (on p) (off facts) old reader line got (Ok (ways.toward_reader bytes)) known s same t = absurd t.one
 card-leads w (on p) (on after) old reader line got (Ok (ways.toward_reader bytes)) known s same t =
     replied p after old reader w got bytes s (same ∙ s.reader_is) t.one
-card-leads w (on p) after old reader line got (Err (answered bytes)) known s same t = absurd t
-card-leads w (on p) after old reader line got (Err set_back) known s same t = absurd t
-card-leads w (on p) after old reader line got (Err given_up) known s same t = absurd t
-card-leads w (on p) after old reader line got (Err cut_off) known s same t =
+card-leads w (on p) after old reader line got (Err (Answered answer)) known s same t = absurd t
+card-leads w (on p) after old reader line got (Err SetBack) known s same t = absurd t
+card-leads w (on p) after old reader line got (Err Lost) known s same t = absurd t
+card-leads w (on p) after old reader line got (Err Dark) known s same t =
     let cut = cut-so p (link_step p.link got).reaction (bench_card after) t.one.run t.one.stage in
     let ran : (link_step w.card got).reaction ≡ runs cut.0 = ap (λ (l : Link). (link_step l got).reaction) (sym s.link_is) ∙ cut.1 in
     let given : cut.0 ≡ newest w.sent = known cut.0 ran in
@@ -246,7 +248,7 @@ card-leads w (on p) after old reader line got (Err cut_off) known s same t =
           (subst (λ (m : Served). IsStage m.card m.session cut.0 (bench_card after)) s.card_is cut.2);
     }
 
-arrived : (w : World Served) (old new : Ends) (way : Way) (o : Option (List ℕ)) (follows : Result Way Ended)
+arrived : (w : World Served) (old new : Ends) (way : NextBlock) (o : Option (List ℕ)) (follows : Result NextBlock Ending)
     → (goes_there way ≡ true → IsKnown w o) → StandIn old.bench old.reader w → Arrives old way o new follows → LeadsTo follows w (arrival_of way o) new
 arrived w old new (ways.toward_card block) None follows known s a = reader-leads w in_vain old new reader_times_out follows s refl a.0 a.1
 arrived w old new (ways.toward_reader block) None follows known s a = reader-leads w in_vain old new reader_times_out follows s refl a.0 a.1
@@ -271,14 +273,14 @@ known-there start w b false false reached s line = λ command e.
     runs-given tree_machine start reached.counts w b command reached.good line
     (ap (λ (h : Result Block Fault). (card_takes w.card h).reaction) (sym (heard-frame b s.spellable)) ∙ e)
 
-known-so : (start : Served) (w : World Served) (way : Way) (pending : Line) → IsReached start w → IsWay way w.line → goes_there way ≡ true
+known-so : (start : Served) (w : World Served) (way : NextBlock) (pending : Line) → IsReached start w → IsWay way w.line → goes_there way ≡ true
     → IsKnown w (lines.arriving pending 0 (bytes_under_way way))
 known-so start w (ways.toward_card bytes) pending reached is there =
     subst (λ (x : List ℕ). IsKnown w (lines.arriving pending 0 x)) (sym is.2)
     (known-there start w is.0 (is_due pending.lose 0) (is_due pending.garble 0) reached (subst IsSoundLine is.1 reached.sound.line) is.1)
 known-so start w (ways.toward_reader bytes) pending reached is there = absurd (cc there)
 
-pub passed : (start : Served) (w : World Served) (old new : Ends) (way : Way) (follows : Result Way Ended) → IsReached start w
+pub passed : (start : Served) (w : World Served) (old new : Ends) (way : NextBlock) (follows : Result NextBlock Ending) → IsReached start w
     → StandIn old.bench old.reader w → IsWay way w.line → Passes old way new follows
     → LeadsTo follows w (arrival w.line (fate old.line (bytes_of_line w.line))) new
 passed start w old new way follows reached s is passes =

@@ -52,10 +52,10 @@ counts_more a b old between new all more =
 -- no turn
 pub plays_none : (old : BenchState) → PlaysAll old [] [] old
 plays_none old = record {
-  there = λ there. there;
+  has_card = λ before. before;
   counts = record { cuts = omega (arith, none_dark); due = omega (arith, none_dark); undue = omega arith; faults = omega arith };
   well = λ good. good.well;
-  runs = λ there good. none_run old;
+  runs = λ before good. none_run old;
 }
 
 -- one more turn
@@ -69,19 +69,19 @@ plays_more old between new turns trace turn item all more =
       well = all.well (first good);
     } in
     record {
-      there = λ there. more.there (all.there there);
+      has_card = λ before. more.has_card (all.has_card before);
       counts = subst (λ (n : ℕ). CountsLosses n (bench_facts old) (bench_facts new)) (sym (darks_more trace item))
           (counts_more (darks trace) (dark_of item) (bench_facts old) (bench_facts between) (bench_facts new) all.counts more.counts);
       well = λ good. more.well (second good);
-      runs = λ there good. run_more old between new turns trace turn item (all.runs there (first good)) (more.one (all.there there) (second good));
+      runs = λ before good. run_more old between new turns trace turn item (all.runs before (first good)) (more.one (all.has_card before) (second good));
     }
 
 -- a block in which power was lost, which is then turned off
 pub plays_cut : (old new : Powered) (got out : List ℕ) → IsCutAt old got new out → HasCard new.card.facts.words
     → IsBlockStage old (link_step old.link got).reaction (card_found new.card)
     → PlaysBlock (on old) got Dark (off (record new.card.facts { dark = true }))
-plays_cut old new got out cut there stage = record {
-  there = λ before. there;
+plays_cut old new got out cut found stage = record {
+  has_card = λ before. found;
   counts = record { cuts = cut.power.cuts; due = cut.power.due; faults = omega (arith, cut.power.faults) };
   well = λ good. tt;
   one = λ before good. record { power = tt; run = cut.run; stage = stage };

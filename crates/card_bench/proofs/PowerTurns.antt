@@ -15,11 +15,11 @@ use Rattle.card_bench.specs.CardBlocks.{Powered}
 use Rattle.card_bench.specs.Plays.{Plays}
 use Rattle.card_bench.specs.Turns.{RestsOff}
 
--- what is found again is there
-there-again : (old new : List ℕ) → FindsAgain old new → HasCard old → HasCard new
-there-again old new again there = record {
-  journal = again.journal.1 there.journal;
-  words = subst IsCard (sym again.words) there.words;
+-- a card that is found again
+again-found : (old new : List ℕ) → FindsAgain old new → HasCard old → HasCard new
+again-found old new again before = record {
+  journal = again.journal.1 before.journal;
+  words = subst IsCard (sym again.words) before.words;
 }
 
 -- the bench before, and its board with power off
@@ -36,10 +36,10 @@ module _ (old : BenchState) (dark : Facts) (darkened : dark ≡ record (bench_fa
       let due : new.due ≡ (bench_facts old).due = ap (λ (f : Facts). f.due) is in
       let faults : new.faults ≡ (bench_facts old).faults = ap (λ (f : Facts). f.faults) is in
       record {
-        there = λ there. subst HasCard (sym words) there;
+        has_card = λ before. subst HasCard (sym words) before;
         counts = record { cuts = omega (arith, cuts); due = inl (omega (arith, due)); faults = omega (arith, faults) };
         well = λ good. tt;
-        one = λ there good. (record { power = tt; card = ap found words }, subst IsWornOut (sym same) worn);
+        one = λ before good. (record { power = tt; card = ap found words }, subst IsWornOut (sym same) worn);
       }
 
   -- the board with power on
@@ -59,8 +59,8 @@ module _ (old : BenchState) (dark : Facts) (darkened : dark ≡ record (bench_fa
     found-again : (new : List ℕ) → FindsAgain lit.words new → found new ≡ found (bench_facts old).words
     found-again new again = ap card_of again.words ∙ ap found lit-words
 
-    has-card : (new : List ℕ) → FindsAgain lit.words new → HasCard (bench_facts old).words → HasCard new
-    has-card new again there = there-again lit.words new again (subst HasCard (sym lit-words) there)
+    has-card-again : (new : List ℕ) → FindsAgain lit.words new → HasCard (bench_facts old).words → HasCard new
+    has-card-again new again before = again-found lit.words new again (subst HasCard (sym lit-words) before)
 
     -- the card starts
     pub starts : (p : Powered) → Starts lit p.card → p.link ≡ fresh → FindsAgain lit.words p.card.facts.words
@@ -68,14 +68,14 @@ module _ (old : BenchState) (dark : Facts) (darkened : dark ≡ record (bench_fa
     starts p started link again =
         let power = started.power in
         record {
-          there = has-card p.card.facts.words again;
+          has_card = has-card-again p.card.facts.words again;
           counts = record {
             cuts = omega (arith, power.cuts, lit-cuts);
             due = inl (omega (arith, power.due, lit-due));
             faults = omega (arith, power.faults, lit-faults);
           };
           well = λ good. started.state;
-          one = λ there good. ((started.session, link), found-again p.card.facts.words again);
+          one = λ before good. ((started.session, link), found-again p.card.facts.words again);
         }
 
     dark-lit : lit.dark ≡ true → ⊥
@@ -89,8 +89,8 @@ module _ (old : BenchState) (dark : Facts) (darkened : dark ≡ record (bench_fa
       rests : RestsOff old (off new)
       rests = record { power = tt; card = ap found new-words ∙ found-again stopped.words again }
 
-      there : HasCard (bench_facts old).words → HasCard new.words
-      there before = subst HasCard (sym new-words) (has-card stopped.words again before)
+      has-card : HasCard (bench_facts old).words → HasCard new.words
+      has-card before = subst HasCard (sym new-words) (has-card-again stopped.words again before)
 
       lost-so : GoesDark lit stopped → Plays old turn.On item.Dark (off new)
       lost-so lost =
@@ -98,7 +98,7 @@ module _ (old : BenchState) (dark : Facts) (darkened : dark ≡ record (bench_fa
           let faults : new.faults ≡ stopped.faults = ap (λ (f : Facts). f.faults) turned in
           let due : new.due ≡ stopped.due = ap (λ (f : Facts). f.due) turned in
           record {
-            there = there;
+            has_card = has-card;
             counts = record {
               cuts = omega (arith, lost.cuts, cuts, lit-cuts);
               due = elim lost.due [
@@ -126,7 +126,7 @@ module _ (old : BenchState) (dark : Facts) (darkened : dark ≡ record (bench_fa
           let faults : new.faults ≡ stopped.faults = ap (λ (f : Facts). f.faults) turned in
           let due : new.due ≡ stopped.due = ap (λ (f : Facts). f.due) turned in
           record {
-            there = there;
+            has_card = has-card;
             counts = record {
               cuts = omega (arith, same_cuts, cuts, lit-cuts);
               due = inl (omega (arith, same_due, due, lit-due));
@@ -150,5 +150,5 @@ module _ (old : BenchState) (dark : Facts) (darkened : dark ≡ record (bench_fa
       ]
       ends_mute Fault is stops =
           mute-so stops.cuts stops.due (omega (arith, stops.faults)) (λ before same. let rises = stops.faults in omega (arith, rises, same))
-      ends_mute BadJournal is stops = steady-so stops.1 (λ there. stops.0 there.journal)
-      ends_mute Damaged is stops = steady-so stops.2 (λ there. stops.1 there.words)
+      ends_mute BadJournal is stops = steady-so stops.1 (λ before. stops.0 before.journal)
+      ends_mute Damaged is stops = steady-so stops.2 (λ before. stops.1 before.words)

@@ -8,11 +8,13 @@ use Rattle.t1_link.specs.Garbled.{last_bit_turned}
 use Rattle.t1_link.specs.ReaderTable.{Reader}
 use Rattle.card_core.specs.Running.{card_found}
 use Rattle.card_core.specs.Stages.{IsStage}
+use Rattle.card_bench.specs.declared.exchange.Ending.{Ending}
+use Rattle.card_bench.specs.declared.exchange.Ending.TheVariants.{Answered, SetBack, Lost, Dark}
 use Rattle.card_bench.specs.declared.exchange.TheConstants.{LINE_BLOCKS}
 use Rattle.card_bench.specs.declared.line.Line.{Line}
 use Rattle.card_bench.specs.BenchStates.{BenchState, off, on, bench_card, IsOff}
 use Rattle.card_bench.specs.CardBlocks.{Powered}
-use Rattle.card_bench.specs.Exchanges.{Ended, Ends, Exchanged, answered, cut_off, given_up, set_back}
+use Rattle.card_bench.specs.Exchanges.{Ends, Exchanged}
 use Rattle.card_bench.specs.Lines.{is_due, line_after}
 use Rattle.card_bench.specs.TreeMachine.{IsProperState, Served, tree_machine}
 use Rattle.card_bench.specs.Worlds.{Arrival, Done, Event, Failed, Line as WorldLine, Report, Unknown, World, arrival, at_card, garble}
@@ -89,21 +91,21 @@ arrival_after course blocks =
 
 -- How an exchange ended when so many blocks had gone on the line: with a report; without one, as no more blocks may go on the
 -- line; or with the last of them, by which power was lost.
-abbrev pub EndsSo : Ended → Course → ℕ → Ends → Type 0
-EndsSo (answered bytes) course blocks new =
-    StandIn new.bench new.reader (course.after blocks) × IsReported (Done bytes) course.earlier (course.after blocks)
-EndsSo set_back course blocks new =
+abbrev pub EndsSo : Ending → Course → ℕ → Ends → Type 0
+EndsSo (Answered answer) course blocks new =
+    StandIn new.bench new.reader (course.after blocks) × IsReported (Done answer.items) course.earlier (course.after blocks)
+EndsSo SetBack course blocks new =
     StandIn new.bench new.reader (course.after blocks) × IsReported Unknown course.earlier (course.after blocks)
-EndsSo given_up course blocks new =
+EndsSo Lost course blocks new =
     StandIn new.bench new.reader (course.after blocks)
     × (((failure : Failure) × IsReported (Failed failure) course.earlier (course.after blocks))
     ⊎ ((blocks ≡ course.limit) × IsUnreported course.earlier (course.after blocks)))
-EndsSo cut_off course blocks new =
+EndsSo Dark course blocks new =
     (before : ℕ) × (blocks ≡ before + 1) × IsUnreported course.earlier (course.after before)
     × ExchangeIsCut course.command (arrival_after course before) (course.after before) new.bench
 
 -- An exchange takes this course.
-pub record GoesAs (course : Course) (new : Ends) (ending : Ended) : Type 0 where
+pub record GoesAs (course : Course) (new : Ends) (ending : Ending) : Type 0 where
   pub blocks : ℕ
   pub most : blocks ≤ course.limit
   pub line : new.line ≡ line_after blocks course.pending
@@ -128,7 +130,7 @@ course_of start events command pending =
 
 -- Each exchange takes that course, where nothing was under way before.
 abbrev pub ExchangeLaw : Type 0
-ExchangeLaw = (start : Served) (events : List Event) (old new : Ends) (command : List ℕ) (ending : Ended)
+ExchangeLaw = (start : Served) (events : List Event) (old new : Ends) (command : List ℕ) (ending : Ending)
     → IsProperState start → StandIn old.bench old.reader (comes_of tree_machine start events)
     → (comes_of tree_machine start events).line ≡ quiet → is_command command ≡ true → Exchanged old command new ending
     → GoesAs (course_of start events command old.line) new ending

@@ -17,7 +17,7 @@ pub record HasNoFault (old new : BenchState) : Type 0 where
 
 -- A bench whose card is found, and never had a fault.
 pub record IsGood (b : BenchState) : Type 0 where
-  pub there : BenchHasCard b
+  pub has_card : BenchHasCard b
   pub faults : (bench_facts b).faults ≡ 0
   pub well : IsWell b
 
@@ -43,14 +43,14 @@ IsHeard (Reply block) new = IsOn new
 
 -- A turn is played.
 pub record Plays (old : BenchState) (turn : Turn) (item : Item) (new : BenchState) : Type 0 where
-  pub there : BenchHasCard old → BenchHasCard new
+  pub has_card : BenchHasCard old → BenchHasCard new
   pub counts : Spends (dark_of item) (bench_facts old) (bench_facts new)
   pub well : HasNoFault old new → IsWell new
   pub one : BenchHasCard old → HasNoFault old new → OneTurn old turn item new
 
 -- A block is played.
 pub record PlaysBlock (old : BenchState) (got : List ℕ) (item : Item) (new : BenchState) : Type 0 where
-  pub there : BenchHasCard old → BenchHasCard new
+  pub has_card : BenchHasCard old → BenchHasCard new
   pub counts : Spends (dark_of item) (bench_facts old) (bench_facts new)
   pub well : HasNoFault old new → IsWell new
   pub one : BenchHasCard old → HasNoFault old new → TakesBlock old got item new
@@ -58,7 +58,7 @@ pub record PlaysBlock (old : BenchState) (got : List ℕ) (item : Item) (new : B
 
 -- Turns are played.
 pub record PlaysAll (old : BenchState) (turns : List Turn) (trace : List Item) (new : BenchState) : Type 0 where
-  pub there : BenchHasCard old → BenchHasCard new
+  pub has_card : BenchHasCard old → BenchHasCard new
   pub counts : CountsLosses (darks trace) (bench_facts old) (bench_facts new)
   pub well : HasNoFault old new → IsWell new
   pub runs : BenchHasCard old → HasNoFault old new → Runs old turns trace new

@@ -3,8 +3,8 @@ use Rattle.std.specs.Prelude.{ℕ, List, [], ◌∷◌, ◌++◌, codes, Option,
 use Rattle.std.specs.Fmt.{decimal}
 use Rattle.hex.specs.Hex.{encode_upper}
 use Rattle.file_tree.specs.declared.space.FreeSpace.{FreeSpace}
-use Rattle.card_bench.specs.declared.desk.Printed.{Printed}
-use Rattle.card_bench.specs.declared.desk.Printed.TheVariants.{Nothing, Atr, Mute, Dark, Lost, Bytes, Free}
+use Rattle.card_bench.specs.declared.desk.PrintKind.{PrintKind}
+use Rattle.card_bench.specs.declared.desk.PrintKind.TheVariants.{Nothing, Atr, Mute, Dark, Lost, Bytes, Free}
 
 -- nothing; the answer to reset; that the card doesn't answer; that power was lost; that the link was; bytes of the card; or what
 -- is free
@@ -38,7 +38,7 @@ free_print None = prints_mute
 free_print (Some free) = prints_free free
 
 -- what is printed, where the bytes stand in a buffer
-abbrev pub print_of : Printed → List ℕ → Print
+abbrev pub print_of : PrintKind → List ℕ → Print
 print_of Nothing bytes = prints_nothing
 print_of Atr bytes = prints_atr
 print_of Mute bytes = prints_mute

@@ -1,9 +1,8 @@
 -- The tree machine as the machine of a world: a card, and the session that it is in.
-use Rattle.std.specs.Prelude.{ℕ, List}
 use Rattle.card_core.specs.Cards.{Card}
 use Rattle.card_core.specs.Proper.{IsProper}
 use Rattle.card_core.specs.Sessions.{Session}
-use Rattle.card_core.specs.Steps.{Outcome, answer_bytes, carried_out}
+use Rattle.card_core.specs.Steps.{answer_bytes, carried_out}
 use Rattle.card_bench.specs.Worlds.{Machine}
 
 pub record Served : Type 0 where
@@ -14,12 +13,10 @@ pub record Served : Type 0 where
 abbrev pub IsProperState : Served → Type 0
 IsProperState s = IsProper s.card
 
--- one step of the tree machine
-abbrev pub served : Served → List ℕ → Outcome
-served s command = carried_out s.card s.session command
-
+-- each command is one step of the tree machine
 abbrev pub tree_machine : Machine Served
 tree_machine = record {
-  answer = λ s command. answer_bytes (served s command).response;
-  next = λ s command. record { card = (served s command).card; session = (served s command).session };
+  answer = λ s command. answer_bytes (carried_out s.card s.session command).response;
+  next = λ s command.
+      let outcome = carried_out s.card s.session command in record { card = outcome.card; session = outcome.session };
 }

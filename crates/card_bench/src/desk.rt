@@ -6,7 +6,7 @@ ghost use Rattle.card_bench.specs.declared.order.TheConstants.{COMMAND_LIMIT};
 ghost use Rattle.card_bench.specs.declared.printing.TheConstants.{BYTES_ROOM};
 ghost use Rattle.card_bench.specs.BenchStates.{off};
 ghost use Rattle.card_bench.specs.Orders.{IsSized};
-ghost use Rattle.card_bench.specs.Performing.{Performs, PerformsCommand, free_shown, shown};
+ghost use Rattle.card_bench.specs.Performing.{Performs, PerformsBlock, PerformsCommand, PerformsOn, free_shown, shown};
 ghost use Rattle.card_bench.specs.Plays.{IsGood, powered_item, sent_item};
 ghost use Rattle.card_bench.specs.Printouts.{free_print, print_of};
 
@@ -19,9 +19,9 @@ use card_core::FreeSpace;
 use nvm_board::{Armed, Faultless, Socket};
 use t1_link::{BlockBytes, ReaderEnd};
 
-/// What a line of a script prints.
+/// What kind of thing a line of a script prints. The card's bytes aren't in it: they stand in the desk's buffer.
 #[derive(Clone, Copy)]
-pub(crate) enum Printed {
+pub(crate) enum PrintKind {
     Nothing,
     /// The answer to reset.
     Atr,
@@ -31,7 +31,7 @@ pub(crate) enum Printed {
     Dark,
     /// The link was lost.
     Lost,
-    /// Bytes that the card sent, which stand in the desk's buffer of them.
+    /// Bytes that the card sent.
     Bytes,
     /// What is free.
     Free(FreeSpace),
@@ -80,7 +80,7 @@ impl<B: Socket> Desk<B> {
 
 impl<B: Armed + Faultless> Desk<B> {
     /// Does what a line asks for, and tells what it prints.
-    pub(crate) fn perform(&mut self, order: &Order) -> Printed
+    pub(crate) fn perform(&mut self, order: &Order) -> PrintKind
         requires sized { IsSized order.now }
         requires good { IsGood self.old.bench }
         ensures good { IsGood self.new.bench }
@@ -90,44 +90,64 @@ impl<B: Armed + Faultless> Desk<B> {
             (print_of result self.new.bytes.items) }
     {
         match order {
-            Order::Nothing => Printed::Nothing,
-            Order::On => {
-                let power_on = self.bench.good_on();
-                self.reader = match power_on {
-                    PowerOn::Started => Some(ReaderEnd::new()),
-                    PowerOn::Mute | PowerOn::Dark => None,
-                };
-                print_of_power(power_on)
-            }
+            Order::Nothing => PrintKind::Nothing,
+            Order::On => self.perform_on(),
             Order::Off => {
                 self.bench.good_off();
                 self.reader = None;
-                Printed::Nothing
+                PrintKind::Nothing
             }
             Order::Free => self.tell_free(),
             Order::Apdu(command) => self.command(command),
-            Order::Block(block) => {
-                self.reader = None;
-                let sent = self.bench.good_send(block, &mut self.blocks.toward_reader);
-                print_of_sent(sent, &self.blocks.toward_reader, &mut self.bytes)
-            }
+            Order::Block(block) => self.perform_block(block),
             Order::Cut { number, mask } => {
                 self.bench.arm(*number, *mask);
-                Printed::Nothing
+                PrintKind::Nothing
             }
             Order::Lose(number) => {
                 self.line.lose(*number);
-                Printed::Nothing
+                PrintKind::Nothing
             }
             Order::Garble(number) => {
                 self.line.garble(*number);
-                Printed::Nothing
+                PrintKind::Nothing
             }
         }
     }
 
+    /// Power off if it is on, and then a start. A card that starts has a reader's end before it.
+    fn perform_on(&mut self) -> PrintKind
+        requires good { IsGood self.old.bench }
+        ensures good { IsGood self.new.bench }
+        ensures performs { PerformsOn
+            (record { bench = self.old.bench; reader = self.old.reader; line = self.old.line })
+            (record { bench = self.new.bench; reader = self.new.reader; line = self.new.line })
+            (print_of result self.new.bytes.items) }
+    {
+        let power_on = self.bench.good_on();
+        self.reader = match power_on {
+            PowerOn::Started => Some(ReaderEnd::new()),
+            PowerOn::Mute | PowerOn::Dark => None,
+        };
+        print_of_power(power_on)
+    }
+
+    /// A block straight to the card's end, of which the reader's end doesn't know.
+    fn perform_block(&mut self, block: &[u8]) -> PrintKind
+        requires good { IsGood self.old.bench }
+        ensures good { IsGood self.new.bench }
+        ensures performs { PerformsBlock
+            (record { bench = self.old.bench; reader = self.old.reader; line = self.old.line }) block.now
+            (record { bench = self.new.bench; reader = self.new.reader; line = self.new.line })
+            (print_of result self.new.bytes.items) }
+    {
+        self.reader = None;
+        let sent = self.bench.good_send(block, &mut self.blocks.toward_reader);
+        print_of_sent(sent, &self.blocks.toward_reader, &mut self.bytes)
+    }
+
     /// The free space, which is told of every card that works, and on a board without faults each card does.
-    fn tell_free(&self) -> Printed
+    fn tell_free(&self) -> PrintKind
         requires good { IsGood self.now.bench }
         ensures { (bytes : List ℕ) → print_of result bytes ≡ free_shown self.now.bench }
     {
@@ -135,7 +155,7 @@ impl<B: Armed + Faultless> Desk<B> {
     }
 
     /// A command through both ends of the link, where power is on and the reader's end is there.
-    fn command(&mut self, command: &[u8]) -> Printed
+    fn command(&mut self, command: &[u8]) -> PrintKind
         requires some { 1 ≤ length command.now }
         requires size { length command.now ≤ COMMAND_LIMIT }
         requires good { IsGood self.old.bench }
@@ -146,10 +166,10 @@ impl<B: Armed + Faultless> Desk<B> {
             (print_of result self.new.bytes.items) }
     {
         if !self.bench.is_on() {
-            return Printed::Mute;
+            return PrintKind::Mute;
         }
         let Some(mut reader) = self.reader.take() else {
-            return Printed::Lost;
+            return PrintKind::Lost;
         };
         match exchange(
             &mut self.bench,
@@ -161,50 +181,50 @@ impl<B: Armed + Faultless> Desk<B> {
             Ending::Answered(answer) => {
                 self.reader = Some(reader);
                 self.bytes = answer;
-                Printed::Bytes
+                PrintKind::Bytes
             }
             Ending::SetBack => {
                 self.reader = Some(reader);
-                Printed::Lost
+                PrintKind::Lost
             }
-            Ending::Lost => Printed::Lost,
-            Ending::Dark => Printed::Dark,
+            Ending::Lost => PrintKind::Lost,
+            Ending::Dark => PrintKind::Dark,
         }
     }
 }
 
 /// What is printed of a power-on.
-fn print_of_power(power_on: PowerOn) -> Printed
+fn print_of_power(power_on: PowerOn) -> PrintKind
     ensures { (bytes : List ℕ) → print_of result bytes ≡ shown (powered_item power_on) }
 {
     match power_on {
-        PowerOn::Started => Printed::Atr,
-        PowerOn::Mute => Printed::Mute,
-        PowerOn::Dark => Printed::Dark,
+        PowerOn::Started => PrintKind::Atr,
+        PowerOn::Mute => PrintKind::Mute,
+        PowerOn::Dark => PrintKind::Dark,
     }
 }
 
 /// What is printed of a block. Where there is a reply, its bytes go to the buffer.
-fn print_of_sent(sent: Sent, reply: &BlockBytes, bytes: &mut SentBytes) -> Printed
+fn print_of_sent(sent: Sent, reply: &BlockBytes, bytes: &mut SentBytes) -> PrintKind
     ensures { print_of result bytes.new.items ≡ shown (sent_item sent reply.now) }
 {
     match sent {
         Sent::Reply => {
             bytes.clear();
             bytes.try_extend_from_slice(reply.as_slice()).unwrap();
-            Printed::Bytes
+            PrintKind::Bytes
         }
-        Sent::Mute => Printed::Mute,
-        Sent::Dark => Printed::Dark,
+        Sent::Mute => PrintKind::Mute,
+        Sent::Dark => PrintKind::Dark,
     }
 }
 
 /// What is printed of the free space.
-fn print_of_free(free: Option<FreeSpace>) -> Printed
+fn print_of_free(free: Option<FreeSpace>) -> PrintKind
     ensures { (bytes : List ℕ) → print_of result bytes ≡ free_print free }
 {
     match free {
-        Some(free) => Printed::Free(free),
-        None => Printed::Mute,
+        Some(free) => PrintKind::Free(free),
+        None => PrintKind::Mute,
     }
 }

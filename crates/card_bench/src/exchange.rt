@@ -5,7 +5,7 @@ ghost use Rattle.t1_link.specs.ReaderFields.{IsSend};
 ghost use Rattle.card_bench.specs.declared.order.TheConstants.{COMMAND_LIMIT};
 ghost use Rattle.card_bench.specs.BenchStates.{IsOn};
 ghost use Rattle.card_bench.specs.Exchanges.{Exchanged, Exchanges, GoesOn, Passes, following};
-ghost use Rattle.card_bench.specs.ExchangeViews.{ended_by, follows_of, way_of};
+ghost use Rattle.card_bench.specs.ExchangeViews.{follows_of, next_block};
 ghost use Rattle.card_bench.specs.Plays.{IsGood};
 
 use crate::line::Line;
@@ -59,9 +59,9 @@ pub(crate) fn exchange<B: Socket + Faultless>(
     requires power { IsOn bench.old }
     ensures exchanged { Exchanged
         (record { bench = bench.old; reader = reader.old; line = line.old }) command.now
-        (record { bench = bench.new; reader = reader.new; line = line.new }) (ended_by result) }
+        (record { bench = bench.new; reader = reader.new; line = line.new }) result }
     ensures good { IsGood bench.new }
-    ensures idle { GoesOn (ended_by result) → reader.new.phase ≢ Busy }
+    ensures idle { GoesOn result → reader.new.phase ≢ Busy }
 {
     match saying(reader.send(command), blocks) {
         ControlFlow::Continue(first) => pass_blocks(
@@ -89,10 +89,10 @@ fn pass_blocks<B: Socket + Faultless>(
     requires good { IsGood bench.old }
     requires power { IsOn bench.old }
     ensures run { Exchanges limit
-        (record { bench = bench.old; reader = reader.old; line = line.old }) (way_of first blocks.old)
-        (record { bench = bench.new; reader = reader.new; line = line.new }) (ended_by result) }
+        (record { bench = bench.old; reader = reader.old; line = line.old }) (next_block first blocks.old)
+        (record { bench = bench.new; reader = reader.new; line = line.new }) result }
     ensures good { IsGood bench.new }
-    ensures idle { GoesOn (ended_by result) → reader.new.phase ≢ Busy }
+    ensures idle { GoesOn result → reader.new.phase ≢ Busy }
 {
     let mut toward = first;
     for _ in 0..limit {
@@ -121,7 +121,7 @@ fn pass<B: Socket + Faultless>(
     ensures busy { OnOk (follows_of result blocks.new) (reader.new.phase ≡ Busy) }
     ensures idle { IfErr (follows_of result blocks.new) (λ ended. GoesOn ended → reader.new.phase ≢ Busy) }
     ensures passes { Passes
-        (record { bench = bench.old; reader = reader.old; line = line.old }) (way_of toward blocks.old)
+        (record { bench = bench.old; reader = reader.old; line = line.old }) (next_block toward blocks.old)
         (record { bench = bench.new; reader = reader.new; line = line.new }) (follows_of result blocks.new) }
 {
     match toward {

@@ -7,12 +7,13 @@ ghost use Rattle.hex.specs.Hex.{decode_of};
 ghost use Rattle.card_bench.specs.Orders.{bytes_in, cut_in, mask_by, number_in};
 
 use arrayvec::ArrayVec;
+use t1_link::LONGEST_COMMAND;
 
 /// The most bytes of a line, without its end.
 pub(crate) const LINE_LIMIT: usize = 1024;
 
 /// The most bytes of a command.
-const COMMAND_LIMIT: usize = 261;
+const COMMAND_LIMIT: usize = LONGEST_COMMAND;
 
 /// The most bytes of a block line.
 const BLOCK_LIMIT: usize = 300;
@@ -86,6 +87,7 @@ fn bytes_in(digits: &[u8], limit: usize) -> Option<GivenBytes>
     ensures { result ≡ bytes_in digits.now limit }
 {
     let size = digits.len() / 2;
+    // Two comparisons, since what `contains` tells of a range has to be proved end by end.
     if size == 0 || size > limit {
         return None;
     }

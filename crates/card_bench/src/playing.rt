@@ -106,7 +106,7 @@ impl<B: Socket> Bench<B> {
     pub fn play(&mut self, turns: &[Turn<'_>], trace: &mut [Item])
         requires { length turns.now ≡ length trace.old }
         // Whatever is cut, and whatever fails: where a card was found, one is found.
-        ensures there { BenchHasCard self.old → BenchHasCard self.new }
+        ensures has_card { BenchHasCard self.old → BenchHasCard self.new }
 
         // The board counts as many cuts more as there are Dark in the trace, and so many of those due are gone at most.
         ensures counts { CountsLosses (darks trace.new) (bench_facts self.old) (bench_facts self.new) }
@@ -126,22 +126,15 @@ impl<B: Socket> Bench<B> {
         ensures { Plays self.old turn.entry result self.new }
     {
         match turn {
-            Turn::On => match self.turn_on() {
-                PowerOn::Started => Item::Atr,
-                PowerOn::Mute => Item::Mute,
-                PowerOn::Dark => Item::Dark,
-            },
+            Turn::On => item_of_power_on(self.turn_on()),
             Turn::Off => {
                 self.turn_off();
                 Item::Quiet
             }
             Turn::Block(block) => {
                 let mut reply = BlockBytes::new();
-                match self.send(block, &mut reply) {
-                    Sent::Reply => Item::Reply(reply),
-                    Sent::Mute => Item::Mute,
-                    Sent::Dark => Item::Dark,
-                }
+                let sent = self.send(block, &mut reply);
+                item_of_sent(sent, reply)
             }
         }
     }
@@ -302,5 +295,27 @@ impl<B: Socket> Power<B> {
                 (Power::Off(board), power_on)
             }
         }
+    }
+}
+
+/// What comes of a power-on.
+fn item_of_power_on(power_on: PowerOn) -> Item
+    ensures { result ≡ powered_item power_on }
+{
+    match power_on {
+        PowerOn::Started => Item::Atr,
+        PowerOn::Mute => Item::Mute,
+        PowerOn::Dark => Item::Dark,
+    }
+}
+
+/// What comes of a block, whose reply stood in a buffer.
+fn item_of_sent(sent: Sent, reply: BlockBytes) -> Item
+    ensures { result ≡ sent_item sent reply }
+{
+    match sent {
+        Sent::Reply => Item::Reply(reply),
+        Sent::Mute => Item::Mute,
+        Sent::Dark => Item::Dark,
     }
 }

@@ -1,7 +1,6 @@
 //! A card behind its end of the link.
 ghost use Rattle.std.specs.Prelude.{◌≡◌, ◌≢◌, ◌⊎◌, ◌+◌, ◌-◌, ◌≤◌, Some, true, [], IsOk, IsErr, OnOk, OnErr, IfOk, IfErr};
-ghost use Rattle.undo_journal.specs.Spending.{KeepsBoard, WritesAtMost, start_writes};
-ghost use Rattle.undo_journal.specs.Undo.{gate};
+ghost use Rattle.undo_journal.specs.Spending.{KeepsBoard, KeepsShut, WritesAtMost, start_writes};
 ghost use Rattle.card_core.specs.declared.machine.TheConstants.{COMMAND_WRITES};
 ghost use Rattle.card_core.specs.Finding.{HasCard, FindsAgain};
 ghost use Rattle.card_core.specs.Running.{Starts, StartStopsBy, card_found};
@@ -46,32 +45,39 @@ impl<B: Board> Model for Powered<B> {
 impl<B: Board> Powered<B> {
     /// Starts the card that the memory stands for, with its link as after power-on. The board comes back where the card
     /// doesn't start.
+    ///
+    /// # Errors
+    ///
+    /// The board, and why no card starts: `PowerLost` where power was lost in the start, or was off; `Fault` of the
+    /// device; `BadJournal` where the journal can't be undone; `Damaged` where the memory stands for no card.
     pub fn start(board: B) -> Result<Powered<B>, (B, StartFault)>
         ensures started { IfOk result (λ p. Starts (B.facts board) p.card × (p.link ≡ fresh)) }
         ensures stopped { IfErr result (λ e. StartStopsBy e.1 (B.facts board) (B.facts e.0)) }
         ensures found { IfOk result (λ p. FindsAgain (B.facts board).words p.card.facts.words) }
         ensures found_err { IfErr result (λ e. FindsAgain (B.facts board).words (B.facts e.0).words) }
         // Where no pair of the journal counts, no word changes, and nothing is written.
-        ensures shut { IfOk result (λ p. gate (B.facts board).words ≡ 0 → KeepsBoard (B.facts board) p.card.facts) }
-        ensures shut_err { IfErr result (λ e. gate (B.facts board).words ≡ 0 → KeepsBoard (B.facts board) (B.facts e.0)) }
+        ensures shut { IfOk result (λ p. KeepsShut (B.facts board) p.card.facts) }
+        ensures shut_err { IfErr result (λ e. KeepsShut (B.facts board) (B.facts e.0)) }
         ensures writes { IfOk result (λ p. WritesAtMost (start_writes (B.facts board)) (B.facts board) p.card.facts) }
         ensures writes_err { IfErr result (λ e. WritesAtMost (start_writes (B.facts board)) (B.facts board) (B.facts e.0)) }
     {
-        match Card::start(board) {
-            Ok(card) => Ok(Powered {
-                card,
-                link: CardEnd::new(),
-                answer: Answer::new(),
-            }),
-            Err((board, fault)) => Err((board, fault)),
-        }
+        let card = Card::start(board)?;
+        Ok(Powered {
+            card,
+            link: CardEnd::new(),
+            answer: Answer::new(),
+        })
     }
 
     /// Takes a block, of whatever bytes, and puts the reply into the buffer, whatever that held.
+    ///
+    /// # Errors
+    ///
+    /// `PowerLost` where power was lost while the block's command ran, or before: then nothing goes back.
     pub fn block(&mut self, got: &[u8], out: &mut BlockBytes) -> Result<(), PowerLost>
         // At every exit, cut or fault or neither, the card that is found is one of the stages of the command that ran, or
         // what it was where none ran.
-        ensures there { HasCard self.new.card.facts.words }
+        ensures has_card { HasCard self.new.card.facts.words }
         ensures stage { IsBlockStage self.old (link_step self.old.link got.now).reaction (card_found self.new.card) }
         ensures replies { OnOk result (self.old.card.state ≡ CardState.Working
             → Replies self.old got.now self.new out.new ⊎ FailsAt self.old got.now self.new out.new) }

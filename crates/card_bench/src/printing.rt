@@ -3,13 +3,13 @@ ghost use Rattle.std.specs.Prelude.{◌≡◌, ◌≤◌, ℕ, length, take, IfE
 ghost use Rattle.std.specs.Io.KnownBytes.{Appends};
 ghost use Rattle.card_bench.specs.Printouts.{print_of, prints_bytes, prints_free, text_of};
 
-use crate::desk::Printed;
+use crate::desk::PrintKind;
 use crate::fault::RunFault;
 use arrayvec::ArrayVec;
 use card_core::FreeSpace;
 use itoa::Buffer;
 use std::io::Write;
-use t1_link::AnswerBytes;
+use t1_link::{AnswerBytes, LONGEST_ANSWER};
 
 /// The answer to reset of the card.
 const ATR: &[u8] = b"atr 3B808131FE458B\n";
@@ -18,7 +18,7 @@ const ATR: &[u8] = b"atr 3B808131FE458B\n";
 const DIGITS: &[u8; 16] = b"0123456789ABCDEF";
 
 /// The most bytes that the card sends at once.
-const BYTES_ROOM: usize = 258;
+const BYTES_ROOM: usize = LONGEST_ANSWER;
 
 /// Room for a printed line: two digits a byte, what stands before them, and the line feed.
 const PRINTED_ROOM: usize = 2 + 2 * BYTES_ROOM + 1;
@@ -32,7 +32,7 @@ pub(crate) type PrintedText = ArrayVec<u8, PRINTED_ROOM>;
 /// Writes what a line prints, and flushes it. The bytes of the card stand in a buffer.
 pub(crate) fn print<W: Write>(
     writer: &mut W,
-    printed: Printed,
+    printed: PrintKind,
     bytes: &[u8],
     text: &mut PrintedText,
 ) -> Result<(), RunFault>
@@ -43,13 +43,13 @@ pub(crate) fn print<W: Write>(
     ensures fault { IfErr result (λ fault. fault ≡ RunFault.Write) }
 {
     match printed {
-        Printed::Nothing => Ok(()),
-        Printed::Atr => write_line(writer, ATR),
-        Printed::Mute => write_line(writer, b"mute\n"),
-        Printed::Dark => write_line(writer, b"dark\n"),
-        Printed::Lost => write_line(writer, b"lost\n"),
-        Printed::Bytes => print_bytes(writer, bytes, text),
-        Printed::Free(free) => {
+        PrintKind::Nothing => Ok(()),
+        PrintKind::Atr => write_line(writer, ATR),
+        PrintKind::Mute => write_line(writer, b"mute\n"),
+        PrintKind::Dark => write_line(writer, b"dark\n"),
+        PrintKind::Lost => write_line(writer, b"lost\n"),
+        PrintKind::Bytes => print_bytes(writer, bytes, text),
+        PrintKind::Free(free) => {
             tell(free, text);
             write_line(writer, text)
         }

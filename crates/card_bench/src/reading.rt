@@ -1,5 +1,6 @@
 //! The lines of a script, read from the reader's own buffer.
-ghost use Rattle.std.specs.Prelude.{◌≡◌, ◌⊎◌, ◌+◌, ◌<◌, ◌≤◌, length, slice_index, take, IsTrue, IfOk, IfErr, OnOk, Err};
+ghost use Rattle.std.specs.Prelude.{◌≡◌, ◌⊎◌, ◌↔◌, ◌+◌, ◌<◌, ◌≤◌};
+ghost use Rattle.std.specs.Prelude.{length, slice_index, take, IsTrue, IfOk, IfErr, OnOk, Err};
 ghost use Rattle.std.specs.Str.Lines.{strip_carriage_return};
 ghost use Rattle.card_bench.specs.Scripts.{CountsTaken, IsInLine, IsTooLong, TakesLine, TakesPart, TakesTooMuch, size_of};
 ghost use Rattle.card_bench.specs.declared.order.TheConstants.{LINE_LIMIT};
@@ -19,7 +20,7 @@ const LINE_ROOM: usize = LINE_LIMIT + 2;
 pub(crate) type LineBytes = ArrayVec<u8, LINE_ROOM>;
 
 /// How a line ended.
-#[derive(Clone, Copy, PartialEq, Eq)]
+#[derive(Clone, Copy)]
 pub(crate) enum LineEnd {
     /// With a line feed.
     LineFeed,
@@ -28,7 +29,7 @@ pub(crate) enum LineEnd {
 }
 
 /// Why a line was not read.
-#[derive(Clone, Copy, PartialEq, Eq)]
+#[derive(Clone, Copy)]
 pub(crate) enum LineFault {
     /// The reader failed, or the script is too long.
     Read,
@@ -130,7 +131,7 @@ pub(crate) fn read_line<R: BufRead>(
 
 /// Whether a begun line is too long: only a carriage return may follow 1,024 bytes, since a line feed may follow that.
 fn is_too_long(line: &[u8]) -> bool
-    ensures long { IsTrue result → IsTooLong line.now }
+    ensures long { IsTrue result ↔ IsTooLong line.now }
     ensures short { IsTrue result ⊎ (length line.now ≤ LINE_LIMIT + 1) }
 {
     let size = line.len();

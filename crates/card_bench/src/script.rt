@@ -19,6 +19,12 @@ use std::io::{BufRead, Write};
 
 /// Runs a script on the factory's card, power off at first. What a line prints is written, and flushed, before the next
 /// line is read. All memory is taken before the first byte is read.
+///
+/// # Errors
+///
+/// `Memory` before anything is read; `BadLine` at the first line that asks for nothing that is known, or is too long,
+/// behind what the lines before it print; `Read` where the reader fails, or the script has more than 16,777,216 bytes;
+/// `Write` where the writer fails, or takes nothing.
 pub fn run<R: BufRead, W: Write>(
     alloc: Global,
     reader: &mut R,

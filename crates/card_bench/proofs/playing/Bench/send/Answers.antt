@@ -7,7 +7,7 @@ returns-in-Err g c =
     let lit = rw c.in-On.is at c.self.invariant in
     let old = rw c.in-On.is at c.self.view_is in
     rw (← old, c.replace_with.ensures.0)
-    (plays_cut c.in-On.powered c.block.new.self c.args.block.now _ (c.in-Err.ensures.lost lit) c.in-Err.ensures.there c.in-Err.ensures.stage)
+    (plays_cut c.in-On.powered c.block.new.self c.args.block.now _ (c.in-Err.ensures.lost lit) c.in-Err.ensures.has_card c.in-Err.ensures.stage)
 
 pub returns-in-Ok : goal.returns-in-Ok
 returns-in-Ok g c = search rules
