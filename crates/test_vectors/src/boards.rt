@@ -1,8 +1,7 @@
 //! Boards: an armed write is torn by its mask, an arm outlives power, secrets are compared.
 
-use nvm_board::{Armed, Board, CutBoard, DeviceErr, RamBoard, Socket, laws};
+use nvm_board::{Armed, Board, CutBoard, DeviceErr, RamBoard, Socket};
 use std::alloc::Global;
-use std::process::Abort;
 use std::test::Fail;
 
 /// A board with words at these addresses. It has 16,384.
@@ -28,16 +27,15 @@ const MASKS: &[(u16, [u32; 3])] = &[
     (0xFFFA, [4, 8, 6]),
 ];
 
-/// Whether the board answers nothing.
-fn is_dark(board: &mut CutBoard) -> bool {
+/// Whether a board answers nothing without power, and with it has these words and is written as before.
+fn comes_back(board: &mut CutBoard, want: [u32; 3]) -> bool {
     board.read(50) == Err(DeviceErr::PowerLost)
         && board.write(3, 2, &[1]) == Err(DeviceErr::PowerLost)
         && board.compare(0, &[1; 8], &[1; 8]) == Err(DeviceErr::PowerLost)
-}
-
-/// Whether words are written as before.
-fn is_written_again(board: &mut CutBoard) -> bool {
-    board.write(3, 2, &[1, 2, 3]) == Ok(()) && holds(board, [1, 2, 3])
+        && board.light().is_ok()
+        && holds(board, want)
+        && board.write(3, 2, &[1, 2, 3]) == Ok(())
+        && holds(board, [1, 2, 3])
 }
 
 /// A board whose third write was armed, and torn by this mask.
@@ -56,13 +54,9 @@ fn torn_by(alloc: Global, mask: u16) -> Result<CutBoard, Fail> {
 
 #[test]
 fn tears_the_armed_write_by_its_mask(rt: HostRuntime) -> Result<(), Fail> {
-    laws::torn_by_words();
     for &(mask, want) in MASKS {
         let mut board = torn_by(rt.alloc(), mask)?;
-        assert!(rt; is_dark(&mut board));
-        board.light()?;
-        assert!(rt; holds(&mut board, want), "by the mask {mask}");
-        assert!(rt; is_written_again(&mut board), "by the mask {mask}");
+        assert!(rt; comes_back(&mut board, want), "by the mask {mask}");
     }
     Ok(())
 }
@@ -76,14 +70,12 @@ fn armed_without_power(alloc: Global) -> Result<CutBoard, Fail> {
     Ok(board)
 }
 
-/// Whether power comes back to a board without it.
-fn lights(board: &mut CutBoard) -> bool {
-    board.read(0) == Err(DeviceErr::PowerLost) && board.light().is_ok()
-}
-
-/// Whether the first of two words is written.
-fn writes_one(board: &mut CutBoard) -> bool {
-    board.write(0, 0, &[5, 6]) == Err(DeviceErr::PowerLost)
+/// Whether power comes back with the last word as it was, and the first of two words is written then.
+fn keeps_its_arm(board: &mut CutBoard) -> bool {
+    board.read(0) == Err(DeviceErr::PowerLost)
+        && board.light().is_ok()
+        && board.read(16_383) == Ok(0xFFFF_FFFF)
+        && board.write(0, 0, &[5, 6]) == Err(DeviceErr::PowerLost)
         && board.light().is_ok()
         && board.read(0) == Ok(5)
         && board.read(1) == Ok(0)
@@ -92,26 +84,17 @@ fn writes_one(board: &mut CutBoard) -> bool {
 #[test]
 fn keeps_an_arm_and_its_words_over_power_off(rt: HostRuntime) -> Result<(), Fail> {
     let mut board = armed_without_power(rt.alloc())?;
-    assert!(rt; lights(&mut board));
-    assert!(rt; board.read(16_383) == Ok(0xFFFF_FFFF));
-    assert!(rt; writes_one(&mut board));
+    assert!(rt; keeps_its_arm(&mut board));
     Ok(())
 }
 
-// Secrets, what is shown of each, and whether it is 1 to 8.
-const SHOWN: &[(u8, [u8; 8], bool)] = &[
-    (15, [1, 2, 3, 4, 5, 6, 7, 8], true),
-    (15, [1, 2, 3, 4, 5, 6, 7, 9], false),
-    (0, [0, 2, 3, 4, 5, 6, 7, 8], false),
-];
+const SECRET: [u8; 8] = [1, 2, 3, 4, 5, 6, 7, 8];
 
-/// A board with power compares these.
-fn check_shown(rt: &impl Abort, board: &mut RamBoard) {
-    for (secret, shown, want) in SHOWN {
-        assert!(rt; *secret < 16);
-        let compared = board.compare(*secret, &[1, 2, 3, 4, 5, 6, 7, 8], shown);
-        assert!(rt; compared == Ok(*want), "of secret {secret}");
-    }
+/// Whether all bytes of a secret are compared, the first and the last.
+fn compares_all(board: &mut RamBoard) -> bool {
+    board.compare(15, &SECRET, &SECRET) == Ok(true)
+        && board.compare(15, &SECRET, &[1, 2, 3, 4, 5, 6, 7, 9]) == Ok(false)
+        && board.compare(0, &SECRET, &[0, 2, 3, 4, 5, 6, 7, 8]) == Ok(false)
 }
 
 /// Whether the words of a fresh board are 0, and those of a page that is written are not.
@@ -130,8 +113,6 @@ fn needs_power(board: &mut RamBoard) -> bool {
 #[test]
 fn compares_secrets(rt: HostRuntime) -> Result<(), Fail> {
     let mut board = RamBoard::new(rt.alloc())?;
-    assert!(rt; is_written(&mut board));
-    check_shown(&rt, &mut board);
-    assert!(rt; needs_power(&mut board));
+    assert!(rt; is_written(&mut board) && compares_all(&mut board) && needs_power(&mut board));
     Ok(())
 }

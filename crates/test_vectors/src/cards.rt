@@ -1,7 +1,7 @@
 //! The factory's memory, memories that start and that don't, and boards without power.
 
 use crate::boards::with_words;
-use card_core::{Card, StartFault, format, laws};
+use card_core::{Card, StartFault, format};
 use nvm_board::{Armed, Board, CutBoard, DeviceErr, RamBoard, Socket};
 use std::alloc::Global;
 use std::test::Fail;
@@ -36,8 +36,7 @@ const FACTORY: &[(u16, u32)] = &[
 fn formats_the_factory_memory(rt: HostRuntime) -> Result<(), Fail> {
     let mut board = formatted(RamBoard::new(rt.alloc())?)?;
     for &(at, want) in FACTORY {
-        assert!(rt; at < 16_384);
-        assert!(rt; board.read(at) == Ok(want), "at {at}");
+        assert!(rt; at < 16_384 && board.read(at) == Ok(want), "at {at}");
     }
     Ok(())
 }
@@ -72,6 +71,8 @@ const MEMORIES: &[(&[(u16, u32)], Option<StartFault>)] = &[
     (&[(19, 0x0100_0000)], DAMAGED),
     (&[(40, 0x0000_0000)], DAMAGED),
     (&[(40, 0x003D_0000)], DAMAGED),
+    // A life cycle state that is none.
+    (&[(32, 0x0202_2FE2)], DAMAGED),
     // A third file that says nothing else, in the first free entry and in the last.
     (&[(48, 0x0205_6F01)], DAMAGED),
     (&[(1024, 0x0205_6F01)], DAMAGED),
@@ -94,8 +95,9 @@ const MEMORIES: &[(&[(u16, u32)], Option<StartFault>)] = &[
     (&[(1168, 1), (1184, 1168)], BAD_JOURNAL),
     (&[(1168, 1), (1184, 2047)], BAD_JOURNAL),
     (&[(1168, 1), (1184, 16384)], BAD_JOURNAL),
-    // The same pair, which doesn't count.
+    // The same pair, which doesn't count; one that names the last word.
     (&[(1184, 16384)], None),
+    (&[(1168, 1), (1184, 16383)], None),
     // What isn't looked at: the rest of the header, of the gate, of a free entry, of the file's entry, of a PIN's page.
     (&[(3, 0xFFFF_FFFF), (1169, 0xFFFF_FFFF)], None),
     (&[(49, 0xFFFF_FFFF), (43, 0xFFFF_FFFF)], None),
@@ -126,8 +128,6 @@ const MEMORIES: &[(&[(u16, u32)], Option<StartFault>)] = &[
 
 #[test]
 fn starts_what_stands_for_a_card(rt: HostRuntime) -> Result<(), Fail> {
-    laws::one_card();
-    laws::standing_card_is_found();
     for &(words, want) in MEMORIES {
         let fault = start_with(rt.alloc(), words)?;
         assert!(rt; fault == want, "with {words:?}");
@@ -135,30 +135,24 @@ fn starts_what_stands_for_a_card(rt: HostRuntime) -> Result<(), Fail> {
     Ok(())
 }
 
-/// A board that a card was started on without power.
-fn stopped(mut board: RamBoard) -> Result<RamBoard, Fail> {
+/// Whether a card isn't started without power, and then is with it.
+fn starts_by_power(mut board: RamBoard) -> bool {
     board.power_off();
-    match Card::start(board) {
-        Err((board, StartFault::PowerLost)) => Ok(board),
-        _ => Err(Fail::from("a start without power")),
-    }
+    let Err((mut board, StartFault::PowerLost)) = Card::start(board) else {
+        return false;
+    };
+    board.light().is_ok() && fault_of(board).is_none()
 }
 
-/// Why the factory's memory isn't written.
-fn format_fault<B: Board + Drop>(board: B) -> Option<DeviceErr> {
-    match format(board) {
-        Ok(_) => None,
-        Err((_, error)) => Some(error),
-    }
+/// Whether the factory's memory isn't written where power is lost.
+fn stops_by_power(mut board: CutBoard) -> bool {
+    board.arm(5, 0x0001);
+    matches!(format(board), Err((_, DeviceErr::PowerLost)))
 }
 
 #[test]
 fn stops_without_power(rt: HostRuntime) -> Result<(), Fail> {
-    let mut board = stopped(formatted(RamBoard::new(rt.alloc())?)?)?;
-    board.light()?;
-    assert!(rt; fault_of(board).is_none());
-    let mut board = CutBoard::new(rt.alloc())?;
-    board.arm(5, 0x0001);
-    assert!(rt; format_fault(board) == Some(DeviceErr::PowerLost));
+    let board = formatted(RamBoard::new(rt.alloc())?)?;
+    assert!(rt; starts_by_power(board) && stops_by_power(CutBoard::new(rt.alloc())?));
     Ok(())
 }

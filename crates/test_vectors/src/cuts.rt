@@ -5,17 +5,214 @@ use std::alloc::Global;
 use std::process::Abort;
 use std::test::Fail;
 
-/// A command that is cut, what is sent before it, and how the card is looked at after the next start.
-#[derive(Drop)]
+/// A command that is cut at each of its device writes.
 struct Torn {
+    /// The lines before it, and its own.
     prepare: &'static str,
     command: &'static str,
+    /// How many device writes it makes. The last one decides.
+    writes: u32,
+    /// What it answers where it isn't cut.
+    answer: &'static str,
+    /// Whether each write is torn by each single word, or by few masks.
+    has_all_masks: bool,
+    /// Whether starts that are cut come between the cut and the next start.
+    has_torn_starts: bool,
+    /// The next start, and how the card is looked at.
     look: &'static str,
+    /// What is found as long as the first write isn't made, then the last one, and at the end.
+    found: [&'static str; 3],
 }
 
-/// The line of a cut, without its end.
-fn cut_of(alloc: Global, number: u32, mask: &str) -> Result<String, Fail> {
-    Ok(format!(in alloc; "cut {number} {mask}")?)
+// Which words of a torn write are new: none, all, or a single one; and whether the first is.
+const MASKS: &[(&str, bool)] = &[
+    ("0000", false),
+    ("FFFF", true),
+    ("0001", true),
+    ("0002", false),
+    ("0004", false),
+    ("0008", false),
+    ("0010", false),
+    ("0020", false),
+    ("0040", false),
+    ("0080", false),
+    ("0100", false),
+    ("0200", false),
+    ("0400", false),
+    ("0800", false),
+    ("1000", false),
+    ("2000", false),
+    ("4000", false),
+    ("8000", false),
+];
+
+const FEW_MASKS: &[(&str, bool)] = &[
+    ("0000", false),
+    ("FFFF", true),
+    ("0001", true),
+    ("0002", false),
+    ("4000", false),
+];
+
+// None, and starts of which one of the first writes is cut too.
+const STARTS: &[&str] = &[
+    "",
+    "cut 1 0000\non\n",
+    "cut 1 0001\non\n",
+    "cut 2 0000\non\n",
+    "cut 2 0001\non\n",
+    "cut 3 0000\non\n",
+    "cut 3 0001\non\n",
+    "cut 4 0000\non\n",
+    "cut 4 0001\non\n",
+];
+
+// Three answers: the tries of PIN 1, those of its unblocking value, and what a VERIFY of another value answers.
+const TRIES: &str =
+    "on\ncut 999999 0000\napdu 00200001\napdu 002C0001\napdu 002000010835363738FFFFFFFF\n";
+
+const FRESH: &str = "< 63C3\n< 63CA\n< 63C2\n";
+
+const CHARGED: &str = "< 63C2\n< 63CA\n< 63C1\n";
+
+const UNBLOCKING_CHARGED: &str = "< 63C3\n< 63C9\n< 63C2\n";
+
+const CHANGED: &str = "< 63C3\n< 63CA\n< 9000\n";
+
+// A command that shows a secret to PIN 1 of the factory card.
+macro_rules! on_pin {
+    ($command:expr, $writes:expr, $answer:expr, $charged:expr, $done:expr) => {
+        Torn {
+            prepare: "on\n",
+            command: $command,
+            writes: $writes,
+            answer: $answer,
+            has_all_masks: false,
+            has_torn_starts: false,
+            look: TRIES,
+            found: [FRESH, $charged, $done],
+        }
+    };
+}
+
+const SPACES: &[Torn] = &[
+    // DELETE FILE of the factory's file: an entry, a chain and the header, three writes each, and the commit.
+    Torn {
+        prepare: "on\n",
+        command: "apdu 00E40000022FE2\n",
+        writes: 10,
+        answer: "< 9000",
+        has_all_masks: true,
+        has_torn_starts: false,
+        look: "on\nfree\n",
+        found: ["free 895 62\n", "free 895 62\n", "free 896 63\n"],
+    },
+    // And of a dedicated file with two files and a dedicated file in it: four entries, two chains, and the header.
+    Torn {
+        prepare: "on\napdu 00E000001362118202782183027F108A01058C0407000000\n\
+            apdu 00E000001962178202412183026F018801088002000A8A01058C03030000\n\
+            apdu 00E000001862168202412183026F0588008002003D8A01058C03030000\n\
+            apdu 00E000001362118202782183025F018A01058C0407000000\n\
+            apdu 00A4000C023F00\n",
+        command: "apdu 00E40000027F10\n",
+        writes: 22,
+        answer: "< 9000",
+        has_all_masks: true,
+        has_torn_starts: false,
+        look: "on\nfree\n",
+        found: ["free 892 58\n", "free 892 58\n", "free 895 62\n"],
+    },
+    // CREATE FILE of a file of two blocks: they are filled, and then eleven words of the entry, the header and a link are set.
+    Torn {
+        prepare: "on\n",
+        command: "apdu 00E000001862168202412183026F0588008002003D8A01058C03030000\n",
+        writes: 42,
+        answer: "< 9000",
+        has_all_masks: false,
+        has_torn_starts: false,
+        look: "on\nfree\n",
+        found: ["free 895 62\n", "free 895 62\n", "free 893 61\n"],
+    },
+];
+
+const UPDATES: &[Torn] = &[
+    // UPDATE BINARY of eight bytes from byte 1 on, which lie in three words.
+    Torn {
+        prepare: "on\napdu 00E000001962178202412183026F018801088002000A8A01058C03030000\n",
+        command: "apdu 00D68101080102030405060708\n",
+        writes: 10,
+        answer: "< 9000",
+        has_all_masks: false,
+        has_torn_starts: true,
+        look: "on\napdu 00B081000A\n",
+        found: [
+            "< FFFFFFFFFFFFFFFFFFFF9000\n",
+            "< FFFFFFFFFFFFFFFFFFFF9000\n",
+            "< FF0102030405060708FF9000\n",
+        ],
+    },
+    // UPDATE RECORD of a cyclic file, whose slot 1 touches two words; one word of the entry is set too.
+    Torn {
+        prepare: "on\napdu 00E000001A621882044621000383026F038800800200098A01058C03030000\n\
+            apdu 00DC000303010203\n",
+        command: "apdu 00DC000303040506\n",
+        writes: 10,
+        answer: "< 9000",
+        has_all_masks: false,
+        has_torn_starts: false,
+        look: "on\napdu 00A4000C026F03\napdu 00B2010403\napdu 00B2020403\napdu 00B2030403\n",
+        found: [
+            "< 9000\n< 0102039000\n< FFFFFF9000\n< FFFFFF9000\n",
+            "< 9000\n< 0102039000\n< FFFFFF9000\n< FFFFFF9000\n",
+            "< 9000\n< 0405069000\n< 0102039000\n< FFFFFF9000\n",
+        ],
+    },
+];
+
+const COMPARISONS: &[Torn] = &[
+    // VERIFY, wrong and right; CHANGE REFERENCE DATA and RESET RETRY COUNTER: the first word decides that a try is gone.
+    on_pin!(
+        "apdu 002000010835363738FFFFFFFF\n",
+        1,
+        "< 63C2",
+        CHARGED,
+        CHARGED
+    ),
+    on_pin!(
+        "apdu 002000010831323334FFFFFFFF\n",
+        2,
+        "< 9000",
+        CHARGED,
+        FRESH
+    ),
+    on_pin!(
+        "apdu 002400011031323334FFFFFFFF35363738FFFFFFFF\n",
+        11,
+        "< 9000",
+        CHARGED,
+        CHANGED
+    ),
+    on_pin!(
+        "apdu 002C000110313233343536373835363738FFFFFFFF\n",
+        14,
+        "< 9000",
+        UNBLOCKING_CHARGED,
+        CHANGED
+    ),
+];
+
+/// What such a command says that is cut at a write, counted from 1, and what is then found.
+fn wanted_of(torn: &Torn, write: u32, is_new: bool) -> (&'static str, &'static str) {
+    let [before, charged, after] = torn.found;
+    if write > torn.writes {
+        (torn.answer, after)
+    } else if write == torn.writes && is_new {
+        ("dark", after)
+    } else if write == 1 && !is_new {
+        ("dark", before)
+    } else {
+        ("dark", charged)
+    }
 }
 
 /// What is printed where a command is cut, and then perhaps a start.
@@ -24,136 +221,23 @@ fn printed_by(alloc: Global, torn: &Torn, cut: &str, start: &str) -> Result<Vec<
         prepare,
         command,
         look,
+        ..
     } = torn;
-    let script = format!(in alloc; "on\n{prepare}{cut}\napdu {command}\n{start}on\n{look}\n")?;
+    let script = format!(in alloc; "{prepare}{cut}{command}{start}{look}")?;
     match outcome_of(alloc, &mut script.as_bytes()) {
         (printed, 0) => Ok(printed),
         _ => Err(Fail::from("the script isn't played")),
     }
 }
 
-/// Whether a text ends by two others.
-fn ends_by(printed: &[u8], (says, found): (&str, &str)) -> bool {
-    match printed.strip_suffix(found.as_bytes()) {
-        Some(rest) => rest.ends_with(says.as_bytes()),
+/// Whether a text ends by what a command says, unless a cut start follows, by power-on, and by what is found.
+fn ends_by(printed: &[u8], start: &str, (says, found): (&str, &str)) -> bool {
+    let Some(rest) = printed.strip_suffix(found.as_bytes()) else {
+        return false;
+    };
+    match rest.strip_suffix("\natr 3B808131FE458B\n".as_bytes()) {
+        Some(rest) => !start.is_empty() || rest.ends_with(says.as_bytes()),
         None => false,
-    }
-}
-
-// Which words of a torn write are new: none, all, or a single one.
-const MASKS: &[&str] = &[
-    "0000", "FFFF", "0001", "0002", "0004", "0008", "0010", "0020", "0040", "0080", "0100", "0200",
-    "0400", "0800", "1000", "2000", "4000", "8000",
-];
-
-/// What is found after a cut: whether it is as before the command, and whether it is as after it.
-fn met_after(
-    alloc: Global,
-    torn: &Torn,
-    cut: &str,
-    [before, after]: [&str; 2],
-) -> Result<(bool, bool), Fail> {
-    let printed = printed_by(alloc, torn, cut, "")?;
-    Ok((
-        printed.as_slice().ends_with(before.as_bytes()),
-        printed.as_slice().ends_with(after.as_bytes()),
-    ))
-}
-
-/// A command is cut at each of so many device writes, with each of these masks. What is free afterwards is as before it or
-/// as after it, and both are met.
-fn check_space<R: Abort + AllocGlobal>(
-    rt: &R,
-    torn: &Torn,
-    (writes, masks): (u32, &[&str]),
-    found: [&str; 2],
-) -> Result<(), Fail> {
-    let mut is_before_met = false;
-    let mut is_after_met = false;
-    for number in 1..=writes {
-        for mask in masks {
-            let cut = cut_of(rt.alloc(), number, mask)?;
-            let (is_before, is_after) = met_after(rt.alloc(), torn, &cut, found)?;
-            assert!(rt; is_before | is_after, "at {cut}");
-            is_before_met |= is_before;
-            is_after_met |= is_after;
-        }
-    }
-    assert!(rt; is_before_met & is_after_met);
-    Ok(())
-}
-
-#[test]
-fn delete_frees_all_or_nothing(rt: HostRuntime) -> Result<(), Fail> {
-    let torn = Torn {
-        prepare: "",
-        command: "00E40000022FE2",
-        look: "free",
-    };
-    let found = [
-        "dark\natr 3B808131FE458B\nfree 895 62\n",
-        "\natr 3B808131FE458B\nfree 896 63\n",
-    ];
-    check_space(&rt, &torn, (12, MASKS), found)
-}
-
-/// A dedicated file with two files and a dedicated file in it, deleted with all of them.
-#[test]
-fn delete_of_a_tree_frees_all_or_nothing(rt: HostRuntime) -> Result<(), Fail> {
-    let torn = Torn {
-        prepare: "apdu 00E000001362118202782183027F108A01058C0407000000\n\
-            apdu 00E000001962178202412183026F018801088002000A8A01058C03030000\n\
-            apdu 00E000001862168202412183026F0588008002003D8A01058C03030000\n\
-            apdu 00E000001362118202782183025F018A01058C0407000000\n\
-            apdu 00A4000C023F00\n",
-        command: "00E40000027F10",
-        look: "free",
-    };
-    let found = [
-        "dark\natr 3B808131FE458B\nfree 892 58\n",
-        "\natr 3B808131FE458B\nfree 895 62\n",
-    ];
-    check_space(&rt, &torn, (24, MASKS), found)
-}
-
-/// A new file of two blocks: a cut while its blocks are filled leaves the card as it was.
-#[test]
-fn create_takes_all_or_nothing(rt: HostRuntime) -> Result<(), Fail> {
-    let torn = Torn {
-        prepare: "",
-        command: "00E000001862168202412183026F0588008002003D8A01058C03030000",
-        look: "free",
-    };
-    let found = [
-        "dark\natr 3B808131FE458B\nfree 895 62\n",
-        "\natr 3B808131FE458B\nfree 893 61\n",
-    ];
-    check_space(&rt, &torn, (46, &["0000", "FFFF", "0001", "4000"]), found)
-}
-
-// A command whose last device write, the tenth, is its commit is cut at each of them and past them.
-const WRITES: u32 = 10;
-
-// Masks, and whether the first word of a write torn so is new.
-const FIRST_WORDS: &[(&str, bool)] = &[
-    ("0000", false),
-    ("FFFF", true),
-    ("0001", true),
-    ("0002", false),
-];
-
-/// What such a command, cut at a write, says, and what is then found.
-fn wanted_of<'a>(
-    number: u32,
-    is_new: bool,
-    [before, after]: [&'a str; 2],
-) -> (&'static str, &'a str) {
-    if number > WRITES {
-        ("< 9000", after)
-    } else if number == WRITES && is_new {
-        ("dark", after)
-    } else {
-        ("dark", before)
     }
 }
 
@@ -161,153 +245,61 @@ fn wanted_of<'a>(
 fn check_starts<R: Abort + AllocGlobal>(
     rt: &R,
     torn: &Torn,
-    (cut, starts): (&str, &[&str]),
-    (says, found): (&str, &str),
+    cut: &str,
+    wanted: (&str, &str),
 ) -> Result<(), Fail> {
+    let starts = if torn.has_torn_starts { STARTS } else { &[""] };
     for start in starts {
         let printed = printed_by(rt.alloc(), torn, cut, start)?;
-        let says = if start.is_empty() { says } else { "" };
-        assert!(rt; ends_by(&printed, (says, found)), "at {cut} and {start}");
+        assert!(rt;
+            ends_by(&printed, start, wanted),
+            "{} at {cut}",
+            torn.command
+        );
     }
     Ok(())
 }
 
-/// Such a command is found as before it, and as after it from that write on, where its first word is new.
-fn check_commit<R: Abort + AllocGlobal>(
-    rt: &R,
-    torn: &Torn,
-    starts: &[&str],
-    found: [&str; 2],
-) -> Result<(), Fail> {
-    for number in 1..=WRITES + 1 {
-        for &(mask, is_new) in FIRST_WORDS {
-            let cut = cut_of(rt.alloc(), number, mask)?;
-            let wanted = wanted_of(number, is_new, found);
-            check_starts(rt, torn, (&cut, starts), wanted)?;
-        }
+/// A command is cut at a write, by each of its masks.
+fn check_masks<R: Abort + AllocGlobal>(rt: &R, torn: &Torn, write: u32) -> Result<(), Fail> {
+    let masks = if torn.has_all_masks { MASKS } else { FEW_MASKS };
+    for &(mask, is_new) in masks {
+        let cut = format!(in rt.alloc(); "cut {write} {mask}\n")?;
+        check_starts(rt, torn, &cut, wanted_of(torn, write, is_new))?;
     }
     Ok(())
 }
 
-/// An UPDATE BINARY of eight bytes from byte 1 on, which lie in three words: three device writes each, and the commit. Each of
-/// the next start's first writes is cut too.
+/// A command is cut at each of its writes, and past them.
+fn check_writes<R: Abort + AllocGlobal>(rt: &R, torn: &Torn) -> Result<(), Fail> {
+    for write in 1..=torn.writes.saturating_add(1) {
+        check_masks(rt, torn, write)?;
+    }
+    Ok(())
+}
+
+/// What is free is as before the command, or as after it.
 #[test]
-fn bytes_are_those_before_or_after(rt: HostRuntime) -> Result<(), Fail> {
-    let torn = Torn {
-        prepare: "apdu 00E000001962178202412183026F018801088002000A8A01058C03030000\n",
-        command: "00D68101080102030405060708",
-        look: "apdu 00B081000A",
-    };
-    let starts = [
-        "",
-        "cut 1 0000\non\n",
-        "cut 1 0001\non\n",
-        "cut 2 0000\non\n",
-        "cut 2 0001\non\n",
-        "cut 3 0000\non\n",
-        "cut 3 0001\non\n",
-        "cut 4 0000\non\n",
-        "cut 4 0001\non\n",
-    ];
-    let found = [
-        "\natr 3B808131FE458B\n< FFFFFFFFFFFFFFFFFFFF9000\n",
-        "\natr 3B808131FE458B\n< FF0102030405060708FF9000\n",
-    ];
-    check_commit(&rt, &torn, &starts, found)
-}
-
-/// An UPDATE RECORD of a cyclic file, whose slot 1 touches two words: with the entry's three words, three writes each, and the
-/// commit.
-#[test]
-fn records_are_those_before_or_after(rt: HostRuntime) -> Result<(), Fail> {
-    let torn = Torn {
-        prepare: "apdu 00E000001A621882044621000383026F038800800200098A01058C03030000\n\
-            apdu 00DC000303010203\n",
-        command: "00DC000303040506",
-        look: "apdu 00A4000C026F03\napdu 00B2010403\napdu 00B2020403\napdu 00B2030403",
-    };
-    let found = [
-        "\natr 3B808131FE458B\n< 9000\n< 0102039000\n< FFFFFF9000\n< FFFFFF9000\n",
-        "\natr 3B808131FE458B\n< 9000\n< 0405069000\n< 0102039000\n< FFFFFF9000\n",
-    ];
-    check_commit(&rt, &torn, &[""], found)
-}
-
-// Commands that show a secret to PIN 1, the device writes of each, and what is found after a cut that comes behind the charge,
-// and after one that lets the last word be: the tries of the PIN, of its unblocking value, and what a VERIFY of the
-// new value answers.
-const PINS: &[(&str, u32, &str, &str)] = &[
-    // VERIFY, wrong and right.
-    (
-        "002000010835363738FFFFFFFF",
-        1,
-        "\natr 3B808131FE458B\n< 63C2\n< 63CA\n< 63C1\n",
-        "\natr 3B808131FE458B\n< 63C2\n< 63CA\n< 63C1\n",
-    ),
-    (
-        "002000010831323334FFFFFFFF",
-        2,
-        "\natr 3B808131FE458B\n< 63C2\n< 63CA\n< 63C1\n",
-        "\natr 3B808131FE458B\n< 63C3\n< 63CA\n< 63C2\n",
-    ),
-    // CHANGE REFERENCE DATA and RESET RETRY COUNTER.
-    (
-        "002400011031323334FFFFFFFF35363738FFFFFFFF",
-        11,
-        "\natr 3B808131FE458B\n< 63C2\n< 63CA\n< 63C1\n",
-        "\natr 3B808131FE458B\n< 63C3\n< 63CA\n< 9000\n",
-    ),
-    (
-        "002C000110313233343536373835363738FFFFFFFF",
-        14,
-        "\natr 3B808131FE458B\n< 63C3\n< 63C9\n< 63C2\n",
-        "\natr 3B808131FE458B\n< 63C3\n< 63CA\n< 9000\n",
-    ),
-];
-
-/// What is found after a cut of such a command at a write.
-fn tries_after(
-    (number, writes): (u32, u32),
-    is_new: bool,
-    (charged, done): (&'static str, &'static str),
-) -> &'static str {
-    if number == writes && is_new {
-        done
-    } else if number == 1 && !is_new {
-        "\natr 3B808131FE458B\n< 63C3\n< 63CA\n< 63C2\n"
-    } else {
-        charged
-    }
-}
-
-/// A command is cut at each of its writes.
-fn check_tries<R: Abort + AllocGlobal>(
-    rt: &R,
-    torn: &Torn,
-    writes: u32,
-    ends: (&'static str, &'static str),
-) -> Result<(), Fail> {
-    for number in 1..=writes {
-        for &(mask, is_new) in FIRST_WORDS {
-            let cut = cut_of(rt.alloc(), number, mask)?;
-            let found = tries_after((number, writes), is_new, ends);
-            check_starts(rt, torn, (&cut, &[""]), ("dark", found))?;
-        }
+fn files_come_and_go_whole(rt: HostRuntime) -> Result<(), Fail> {
+    for torn in SPACES {
+        check_writes(&rt, torn)?;
     }
     Ok(())
 }
 
-/// Whatever write a cut falls into, it leaves the PIN as it was, as it is after the charge, or as it is after the end: the
-/// first word decides that a try is gone, the last one that all is done.
+#[test]
+fn contents_are_those_before_or_after(rt: HostRuntime) -> Result<(), Fail> {
+    for torn in UPDATES {
+        check_writes(&rt, torn)?;
+    }
+    Ok(())
+}
+
+/// The PIN is as before the command, as after its charge, or as after the command.
 #[test]
 fn a_try_is_taken_at_each_cut(rt: HostRuntime) -> Result<(), Fail> {
-    for &(command, writes, charged, done) in PINS {
-        let torn = Torn {
-            prepare: "",
-            command,
-            look: "apdu 00200001\napdu 002C0001\napdu 002000010835363738FFFFFFFF",
-        };
-        check_tries(&rt, &torn, writes, (charged, done))?;
+    for torn in COMPARISONS {
+        check_writes(&rt, torn)?;
     }
     Ok(())
 }

@@ -1,14 +1,14 @@
-//! The store: words before or after a cut at each write, of a change and of the openings after it; bad journals; errors.
+//! The store: words before or after a cut at each write, of a change and of the openings after it; errors. Which journals are bad stands in `cards`.
 ghost use Rattle.std.specs.Prelude.{◌≤◌, IfOk, OnOk};
 ghost use Rattle.undo_journal.specs.Memory.{room, IsOpen, IsReady};
 ghost use Rattle.undo_journal.specs.Lent.{memory_of};
 
 use crate::boards::with_words;
-use nvm_board::{Armed, Board, CutBoard, DeviceErr, RamBoard, Socket};
+use nvm_board::{Armed, Board, CutBoard, DeviceErr, Socket};
 use std::alloc::Global;
 use std::process::Abort;
 use std::test::Fail;
-use undo_journal::{OpenFault, Store, StoreErr, Txn};
+use undo_journal::{Store, StoreErr, Txn};
 
 // Words 5, 2048 and 2049, one before the journal and two after it: before the change, and after it.
 const BEFORE: [u32; 3] = [50, 60, 61];
@@ -25,13 +25,8 @@ const WORDS: &[(u16, u32)] = &[
     (2049, 61),
 ];
 
-/// A lit board with these.
-fn board_before(alloc: Global) -> Result<CutBoard, Fail> {
-    with_words(CutBoard::new(alloc)?, WORDS)
-}
-
 /// A store of a board that can be opened.
-fn opened<B: Board + Drop>(board: B) -> Result<Store<B>, Fail>
+pub fn opened<B: Board + Drop>(board: B) -> Result<Store<B>, Fail>
     ensures { IfOk result IsReady }
 {
     match Store::open(board) {
@@ -97,21 +92,23 @@ fn found_again(mut board: CutBoard) -> Result<[u32; 3], Fail> {
 fn changed(alloc: Global, end: End, cut: Cut) -> Result<CutBoard, Fail>
     requires { 1 ≤ cut.write }
 {
-    let mut store = opened(board_before(alloc)?)?;
+    let mut store = opened(with_words(CutBoard::new(alloc)?, WORDS)?)?;
     store.arm(cut.write, cut.mask);
     let _ = change(&mut store, end);
     Ok(store.into_board())
 }
 
-/// A board on which an opening is cut.
-fn reopened(mut board: CutBoard, cut: Cut) -> Result<CutBoard, Fail>
-    requires { 1 ≤ cut.write }
+/// The words after a change that is cut, and whose next opening is cut at a write, or not where it makes fewer.
+fn words_after(alloc: Global, end: End, cut: Cut, next: u32) -> Result<[u32; 3], Fail>
+    requires change { 1 ≤ cut.write }
+    requires opening { 1 ≤ next }
 {
+    let mut board = changed(alloc, end, cut)?;
     board.light()?;
-    board.arm(cut.write, cut.mask);
+    board.arm(next, cut.mask & 1);
     match Store::open(board) {
-        Ok(store) => Ok(store.into_board()),
-        Err((board, _)) => Ok(board),
+        Ok(store) => found_again(store.into_board()),
+        Err((board, _)) => found_again(board),
     }
 }
 
@@ -128,30 +125,14 @@ const ENDS: &[(End, u32)] = &[(End::Commits, 13), (End::Abandons, 17)];
 
 const MASKS: &[u16] = &[0x0000, 0xFFFF, 0x0001, 0x0002];
 
-/// The words after a change that is cut, and whose next opening may be cut too, at a write counted from 1.
-fn words_after(alloc: Global, end: End, cut: Cut, next: u32) -> Result<[u32; 3], Fail>
-    requires { 1 ≤ cut.write }
-{
-    let board = changed(alloc, end, cut)?;
-    if next == 0 {
-        return found_again(board);
-    }
-    let again = Cut {
-        write: next,
-        mask: cut.mask & 1,
-    };
-    found_again(reopened(board, again)?)
-}
-
 /// A change is cut, and the next opening isn't or is.
 fn check_cut<R: Abort + AllocGlobal>(rt: &R, end: End, cut: Cut) -> Result<(), Fail>
     requires { 1 ≤ cut.write }
 {
-    let Cut { write, mask } = cut;
     let want = if is_after(end, cut) { AFTER } else { BEFORE };
-    for next in 0..=6 {
+    for next in 1..=7 {
         let words = words_after(rt.alloc(), end, cut, next)?;
-        assert!(rt; words == want, "at {write} by {mask}, and then at {next}");
+        assert!(rt; words == want, "at {}", cut.write);
     }
     Ok(())
 }
@@ -168,35 +149,6 @@ fn finds_before_or_after_each_cut(rt: HostRuntime) -> Result<(), Fail> {
     Ok(())
 }
 
-const BAD: Option<OpenFault> = Some(OpenFault::BadJournal);
-
-// Too many pairs; an address of the gate, at the end of the journal, and past the last page; and the same not counted.
-const JOURNALS: &[(&[(u16, u32)], Option<OpenFault>)] = &[
-    (&[(1168, 433), (1184, 5)], BAD),
-    (&[(1168, 1), (1184, 1168)], BAD),
-    (&[(1168, 1), (1184, 2047)], BAD),
-    (&[(1168, 1), (1184, 16384)], BAD),
-    (&[(1168, 0), (1184, 16384)], None),
-    (&[(1168, 1), (1184, 16383)], None),
-];
-
-/// Why a board isn't opened.
-fn fault_of(board: RamBoard) -> Option<OpenFault> {
-    match Store::open(board) {
-        Ok(_) => None,
-        Err((_, fault)) => Some(fault),
-    }
-}
-
-#[test]
-fn opens_what_undo_is_defined_for(rt: HostRuntime) -> Result<(), Fail> {
-    for &(words, want) in JOURNALS {
-        let board = with_words(RamBoard::new(rt.alloc())?, words)?;
-        assert!(rt; fault_of(board) == want, "at {words:?}");
-    }
-    Ok(())
-}
-
 // Two pairs that name one word: the first of them counts.
 const TWICE: &[(u16, u32)] = &[
     (1168, 2),
@@ -209,31 +161,8 @@ const TWICE: &[(u16, u32)] = &[
 
 #[test]
 fn takes_back_the_first_pair_of_a_word(rt: HostRuntime) -> Result<(), Fail> {
-    let mut store = opened(with_words(RamBoard::new(rt.alloc())?, TWICE)?)?;
-    assert!(rt; store.read(2049) == Ok(0x9810_3254));
-    Ok(())
-}
-
-/// Whether a transaction whose first set is cut answers so, and the store after it.
-fn stays_dark<B: Board>(store: &mut Store<B>) -> bool
-    requires { IsReady store.old }
-{
-    let mut txn = store.begin();
-    let set = txn.set(2048, 3);
-    let abandoned = txn.abandon();
-    let compared = store.compare(0, &[1; 8], &[1; 8]);
-    let answers = [set, abandoned, store.begin().commit()];
-    answers == [Err(StoreErr::PowerLost); 3] && compared == Err(StoreErr::PowerLost)
-}
-
-#[test]
-fn answers_the_same_error_until_it_is_opened_again(rt: HostRuntime) -> Result<(), Fail> {
-    let mut store = opened(board_before(rt.alloc())?)?;
-    store.arm(1, 0x0000);
-    assert!(rt; stays_dark(&mut store));
-    let mut board = store.into_board();
-    assert!(rt; board.read(0) == Err(DeviceErr::PowerLost));
-    assert!(rt; found_again(board)? == BEFORE);
+    let board = with_words(CutBoard::new(rt.alloc())?, TWICE)?;
+    assert!(rt; found_again(board)? == [0, 0, 0x9810_3254]);
     Ok(())
 }
 
@@ -246,11 +175,34 @@ fn write_without_undo<B: Board>(store: &mut Store<B>) -> Result<(), StoreErr>
     store.write_plain(128, 0, &[1, 2])
 }
 
+/// Whether a store without power answers so, whatever is asked.
+fn stays_dark<B: Board>(store: &mut Store<B>) -> bool
+    requires { IsReady store.old }
+{
+    let mut txn = store.begin();
+    let set = txn.set(2048, 3);
+    let abandoned = txn.abandon();
+    let compared = store.compare(0, &[1; 8], &[1; 8]);
+    let answers = [set, abandoned, store.begin().commit()];
+    answers == [Err(StoreErr::PowerLost); 3] && compared == Err(StoreErr::PowerLost)
+}
+
 #[test]
 fn writes_without_undo(rt: HostRuntime) -> Result<(), Fail> {
-    let mut store = opened(board_before(rt.alloc())?)?;
+    let mut store = opened(with_words(CutBoard::new(rt.alloc())?, WORDS)?)?;
     store.arm(3, 0x0001);
     assert!(rt; write_without_undo(&mut store) == Err(StoreErr::PowerLost));
     assert!(rt; found_again(store.into_board())? == [7, 1, 9]);
+    Ok(())
+}
+
+#[test]
+fn answers_the_same_error_until_it_is_opened_again(rt: HostRuntime) -> Result<(), Fail> {
+    let mut store = opened(with_words(CutBoard::new(rt.alloc())?, WORDS)?)?;
+    store.arm(1, 0x0000);
+    let is_dark = stays_dark(&mut store);
+    let mut board = store.into_board();
+    assert!(rt; is_dark && board.read(0) == Err(DeviceErr::PowerLost));
+    assert!(rt; found_again(board)? == BEFORE);
     Ok(())
 }

@@ -5,17 +5,15 @@
 #[cfg(test)]
 mod boards;
 #[cfg(test)]
-mod bodies;
-#[cfg(test)]
 mod cards;
 #[cfg(test)]
 mod commands;
 #[cfg(test)]
 mod cuts;
 #[cfg(test)]
-mod digits;
-#[cfg(test)]
 mod journal;
+#[cfg(test)]
+mod laws;
 #[cfg(test)]
 mod link;
 #[cfg(test)]

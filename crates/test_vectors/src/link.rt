@@ -1,9 +1,7 @@
 //! The reader's end of the block protocol T=1 (ISO/IEC 7816-3, third edition, clause 11), and blocks of many bytes to both
 //! ends. What the card's end answers stands in rows.
 
-use crate::digits::bytes_of;
 use std::process::Abort;
-use std::test::Fail;
 use t1_link::{Action, BlockBytes, CardEnd, Failure, Next, ReaderEnd};
 
 // What the reader's end is told.
@@ -54,41 +52,71 @@ fn is_said(next: &Next, is_busy: bool, says: Says, bytes: &[u8]) -> bool {
     }
 }
 
-// What the end is told and what it says, each with its bytes in hexadecimal digits.
-type Row = (Event, &'static str, Says, &'static str);
+// What the end is told and what it says, each with its bytes.
+type Row = (Event, &'static [u8], Says, &'static [u8]);
 
 const SELECT: Row = (
     Event::Send,
-    "00A4000C023F00",
+    b"\x00\xA4\x00\x0C\x02\x3F\x00",
     Says::Block,
-    "00000700A4000C023F0092",
+    b"\x00\x00\x07\x00\xA4\x00\x0C\x02\x3F\x00\x92",
 );
 
 // Three blocks are sent again, and the fourth want sends RESYNCH.
-const TIME_OUT: Row = (Event::TimedOut, "", Says::Block, "00820082");
+const TIME_OUT: Row = (Event::TimedOut, b"", Says::Block, b"\x00\x82\x00\x82");
 
-const RESYNCH: Row = (Event::TimedOut, "", Says::Block, "00C000C0");
+const RESYNCH: Row = (Event::TimedOut, b"", Says::Block, b"\x00\xC0\x00\xC0");
 
 // Each list begins after power-on.
 const EXCHANGES: &[&[Row]] = &[
     &[
         SELECT,
-        (Event::Got, "000002900092", Says::Answer, "9000"),
-        (Event::Send, "00B0820001", Says::Block, "00400500B082000176"),
-        (Event::Got, "0040039890004B", Says::Answer, "989000"),
+        (
+            Event::Got,
+            b"\x00\x00\x02\x90\x00\x92",
+            Says::Answer,
+            b"\x90\x00",
+        ),
+        (
+            Event::Send,
+            b"\x00\xB0\x82\x00\x01",
+            Says::Block,
+            b"\x00\x40\x05\x00\xB0\x82\x00\x01\x76",
+        ),
+        (
+            Event::Got,
+            b"\x00\x40\x03\x98\x90\x00\x4B",
+            Says::Answer,
+            b"\x98\x90\x00",
+        ),
     ],
     // A block that is spoiled, a block of another number, and an R-block that asks for the command again.
     &[
         SELECT,
-        (Event::Got, "000002900093", Says::Block, "00810081"),
-        (Event::Got, "0040029000D2", Says::Block, "00820082"),
         (
             Event::Got,
-            "00800080",
+            b"\x00\x00\x02\x90\x00\x93",
             Says::Block,
-            "00000700A4000C023F0092",
+            b"\x00\x81\x00\x81",
         ),
-        (Event::Got, "000002900092", Says::Answer, "9000"),
+        (
+            Event::Got,
+            b"\x00\x40\x02\x90\x00\xD2",
+            Says::Block,
+            b"\x00\x82\x00\x82",
+        ),
+        (
+            Event::Got,
+            b"\x00\x80\x00\x80",
+            Says::Block,
+            b"\x00\x00\x07\x00\xA4\x00\x0C\x02\x3F\x00\x92",
+        ),
+        (
+            Event::Got,
+            b"\x00\x00\x02\x90\x00\x92",
+            Says::Answer,
+            b"\x90\x00",
+        ),
     ],
     // RESYNCH that is answered: whether the command was carried out isn't known, and numbers begin anew.
     &[
@@ -97,7 +125,7 @@ const EXCHANGES: &[&[Row]] = &[
         TIME_OUT,
         TIME_OUT,
         RESYNCH,
-        (Event::Got, "00E000E0", Says::Unknown, ""),
+        (Event::Got, b"\x00\xE0\x00\xE0", Says::Unknown, b""),
         SELECT,
     ],
     // RESYNCH that isn't, three times.
@@ -107,52 +135,78 @@ const EXCHANGES: &[&[Row]] = &[
         TIME_OUT,
         TIME_OUT,
         RESYNCH,
-        (Event::Got, "000002900092", Says::Block, "00C000C0"),
+        (
+            Event::Got,
+            b"\x00\x00\x02\x90\x00\x92",
+            Says::Block,
+            b"\x00\xC0\x00\xC0",
+        ),
         RESYNCH,
-        (Event::TimedOut, "", Says::LinkLost, ""),
-        (Event::Send, "00A4000C023F00", Says::LinkLost, ""),
+        (Event::TimedOut, b"", Says::LinkLost, b""),
+        (
+            Event::Send,
+            b"\x00\xA4\x00\x0C\x02\x3F\x00",
+            Says::LinkLost,
+            b"",
+        ),
     ],
     // An answer of one byte.
     &[
         SELECT,
-        (Event::Got, "0000019091", Says::BadAnswer, ""),
-        (Event::Send, "00A4000C023F00", Says::LinkLost, ""),
+        (Event::Got, b"\x00\x00\x01\x90\x91", Says::BadAnswer, b""),
+        (
+            Event::Send,
+            b"\x00\xA4\x00\x0C\x02\x3F\x00",
+            Says::LinkLost,
+            b"",
+        ),
     ],
     // An answer in two blocks.
     &[
-        (Event::Send, "00B0820002", Says::Block, "00000500B082000235"),
-        (Event::Got, "002002010221", Says::Block, "00900090"),
-        (Event::Got, "0040029000D2", Says::Answer, "01029000"),
+        (
+            Event::Send,
+            b"\x00\xB0\x82\x00\x02",
+            Says::Block,
+            b"\x00\x00\x05\x00\xB0\x82\x00\x02\x35",
+        ),
+        (
+            Event::Got,
+            b"\x00\x20\x02\x01\x02\x21",
+            Says::Block,
+            b"\x00\x90\x00\x90",
+        ),
+        (
+            Event::Got,
+            b"\x00\x40\x02\x90\x00\xD2",
+            Says::Answer,
+            b"\x01\x02\x90\x00",
+        ),
     ],
 ];
 
 /// The end is told this, and says that.
-fn check<R: Abort + AllocGlobal>(rt: &R, reader: &mut ReaderEnd, row: Row) -> Result<(), Fail> {
-    let (event, told, says, wanted) = row;
-    let bytes = bytes_of(rt.alloc(), told)?;
-    let next = tell(rt, reader, event, &bytes);
-    let bytes = bytes_of(rt.alloc(), wanted)?;
+fn check(rt: &impl Abort, reader: &mut ReaderEnd, row: Row) {
+    let (event, told, says, bytes) = row;
+    let next = tell(rt, reader, event, told);
     assert!(rt;
-        is_said(&next, reader.busy(), says, &bytes),
-        "when told {told}"
+        is_said(&next, reader.busy(), says, bytes),
+        "when told {told:?}"
     );
-    Ok(())
 }
 
 #[test]
-fn reader_end_has_its_commands_answered(rt: HostRuntime) -> Result<(), Fail> {
+fn reader_end_has_its_commands_answered(rt: HostRuntime) {
     for exchange in EXCHANGES {
         let mut reader = ReaderEnd::new();
         for row in *exchange {
-            check(&rt, &mut reader, *row)?;
+            check(&rt, &mut reader, *row);
         }
     }
-    Ok(())
 }
 
 /// The longest command goes in two blocks.
 #[test]
-fn longest_command_goes_in_a_chain(rt: HostRuntime) -> Result<(), Fail> {
+fn longest_command_goes_in_a_chain(rt: HostRuntime) {
     let mut reader = ReaderEnd::new();
     let begins = match reader.send(&[0xAA; 261]) {
         Next::Send(block) => block.as_slice().len() == 258
@@ -160,42 +214,38 @@ fn longest_command_goes_in_a_chain(rt: HostRuntime) -> Result<(), Fail> {
         _ => false,
     };
     assert!(rt; begins);
-    let rest = "004007AAAAAAAAAAAAAAED";
+    let rest = b"\x00\x40\x07\xAA\xAA\xAA\xAA\xAA\xAA\xAA\xED";
     check(
         &rt,
         &mut reader,
-        (Event::Got, "00900090", Says::Block, rest),
-    )
+        (Event::Got, b"\x00\x90\x00\x90", Says::Block, rest),
+    );
 }
 
-/// The card's end takes a block, whatever its bytes.
-fn card_takes(block: &[u8]) -> bool {
+/// Whether both ends take a block, whatever its bytes.
+fn is_taken(block: &[u8]) -> bool {
     let mut out = BlockBytes::new();
     let mut card = CardEnd::new();
-    match card.take(block, &mut out) {
+    let is_right = match card.take(block, &mut out) {
         Action::Reply => 4 <= out.as_slice().len(),
         Action::Run => card.waiting(),
-    }
-}
-
-/// And so does the reader's.
-fn reader_takes(rt: &impl Abort, block: &[u8]) {
+    };
     let mut reader = ReaderEnd::new();
     let _ = reader.send(&[0x00, 0xA4, 0x00, 0x0C]);
-    assert!(rt; reader.busy());
+    if !reader.busy() {
+        return false;
+    }
     let next = reader.got(block);
-    assert!(rt; reader.busy() == matches!(next, Next::Send(_)));
+    is_right && reader.busy() == matches!(next, Next::Send(_))
 }
 
-/// Both ends take this block, and the same with its right last byte.
-fn both_take(rt: &impl Abort, block: &mut [u8], spoils: u8) {
-    assert!(rt; card_takes(block));
-    reader_takes(rt, block);
+/// Whether both ends take this block, and the same with its right last byte.
+fn is_taken_spoiled(block: &mut [u8], spoils: u8) -> bool {
+    let is_right = is_taken(block);
     if let Some(last) = block.last_mut() {
         *last ^= spoils;
     }
-    assert!(rt; card_takes(block));
-    reader_takes(rt, block);
+    is_right && is_taken(block)
 }
 
 const LENGTHS: &[usize] = &[0, 1, 2, 3, 4, 5, 6, 35, 36, 37, 257, 258, 259, 300];
@@ -209,7 +259,7 @@ fn blocks_of_many_lengths_are_taken(rt: HostRuntime) {
                 let mut bytes = [0x00; 300];
                 bytes[1] = control;
                 bytes[2] = len;
-                both_take(&rt, &mut bytes[..length], control ^ len);
+                assert!(rt; is_taken_spoiled(&mut bytes[..length], control ^ len));
             }
         }
     }

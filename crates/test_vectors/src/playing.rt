@@ -1,9 +1,8 @@
-//! Turns that a bench plays by blocks from outside, and the laws of the bench.
+//! Turns that a bench plays by blocks from outside.
 
 use crate::cards::formatted;
-use card_bench::{Bench, Item, Turn, laws};
+use card_bench::{Bench, Item, Turn};
 use nvm_board::CutBoard;
-use std::process::Abort;
 use std::test::Fail;
 
 // Power on and off, blocks with wrong check bytes and lengths and of another node, and requests of the link.
@@ -73,12 +72,6 @@ fn is_so(item: Option<&Item>, wanted: &Wanted) -> bool {
     }
 }
 
-fn check_trace(rt: &impl Abort, trace: &[Item]) {
-    for (at, wanted) in WANTED {
-        assert!(rt; is_so(trace.get(*at), wanted), "at {at}");
-    }
-}
-
 /// A trace before the turns: no item is yet what its turn is to end in.
 fn blank() -> [Item; 10] {
     [
@@ -101,19 +94,8 @@ fn turns_are_played(rt: HostRuntime) -> Result<(), Fail> {
     let mut trace = blank();
     bench.play(&TURNS, &mut trace);
     let _ = bench.into_board();
-    check_trace(&rt, &trace);
+    for (at, wanted) in WANTED {
+        assert!(rt; is_so(trace.get(*at), wanted), "at {at}");
+    }
     Ok(())
-}
-
-/// The laws hold for the tree machine, and for machines of any type.
-#[test]
-fn laws_are_there() {
-    laws::world();
-    laws::world_of_any_machine::<u8>();
-    laws::faults_fall_due_in_turn();
-    laws::garbled_block_is_no_block();
-    laws::exchange_is_a_run_of_the_world();
-    laws::script_goes_on_in_a_world();
-    laws::spellings_are_read_back();
-    laws::limits();
 }
