@@ -11,7 +11,8 @@ zeros xs n long each =
 
 pub returns : goal.returns
 returns c =
-    let (kind, (life, (identifier, (parent, (short, (name_length, (rule_length, (rule, (name, (size, (record_length, (first, (last, (records, start)))))))))))))) = c.default.ensures in
+    let (kind, (life, (identifier, (parent, (short, (name_length, rest)))))) = c.default.ensures in
+    let (rule_length, (rule, (name, (size, (record_length, (first, (last, (records, start)))))))) = rest in
     λ i. record {
       kind = kind i;
       life = life i;
