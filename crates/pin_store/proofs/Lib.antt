@@ -1,2 +1,3 @@
 mod Pages
+mod Renewed
 mod Settled

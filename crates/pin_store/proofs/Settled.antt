@@ -1,6 +1,6 @@
 -- What the calls of a charge, and of an end, leave together: reads, a comparison, and then writes that set the PIN.
-use Rattle.std.specs.Prelude.{◌-◌, Option, Some, Result, Ok, Err, IsErrAnd}
-use Rattle.std.proofs.Common.{◌≡◌, ◌⊎◌, ◌<◌, ℕ, List, sym, ◌∙◌, ap, subst, inl, arith}
+use Rattle.std.specs.Prelude.{◌-◌, if◌then◌else◌, Bool, true, false, Option, Some, Result, Ok, Err, IsErrAnd}
+use Rattle.std.proofs.Common.{◌≡◌, ◌⊎◌, ◌<◌, ◌↔◌, ℕ, List, refl, sym, ◌∙◌, ap, subst, inl, inr, true≢false, arith}
 use Rattle.std.proofs.Math.Logic.{⊎_map}
 use Rattle.nvm_board.specs.Facts.{Facts, RisesAt, raised}
 use Rattle.undo_journal.specs.declared.error.StoreErr.{StoreErr}
@@ -16,7 +16,7 @@ use Rattle.pin_store.specs.Trials.{IsMatch, IsWrong, SetsByMatch}
 use Rattle.pin_store.specs.declared.errors.PinErr.{PinErr}
 use Rattle.pin_store.specs.declared.errors.PinErr.TheVariants as pin_err
 use Rattle.pin_store.specs.declared.errors.Outcome.{Outcome}
-use Rattle.pin_store.specs.declared.errors.Outcome.TheVariants.{Matched}
+use Rattle.pin_store.specs.declared.errors.Outcome.TheVariants.{Matched, Wrong}
 
 -- where what is committed stays, the pages of PINs do
 pub pages_stay : (m after : List ℕ) → after ≡ m → ArePinPages m → ArePinPages after
@@ -110,6 +110,25 @@ is_wrong secret named left shown bytes a b c is reads read differs told compared
       writes = writes ∙ reads.board.writes;
       same = same ∙ reads.keeps.committed_words;
     })
+
+-- what is counted of a comparison rises, or stays
+pub rises_if : (right : Bool) (secret : ℕ) (old new : List ℕ) → new ≡ (if right then raised old secret else old)
+    → RisesAt old secret new
+rises_if true secret old new counted = inr counted
+rises_if false secret old new counted = inl counted
+
+-- what was read is what was shown, or it isn't
+pub compared : (right : Bool) (secret named left : ℕ) (shown bytes : List ℕ) (a b c : Memory) → named ≡ secret → OnlyReads a b
+    → bytes ≡ kept named (pin_in a named) → (right ≡ true ↔ (bytes ≡ shown)) → left ≡ tries_left named (pin_in a named)
+    → c.facts.compares ≡ raised b.facts.compares named
+    → c.facts.matches ≡ (if right then raised b.facts.matches named else b.facts.matches)
+    → c.facts.writes ≡ b.facts.writes → committed c ≡ committed b
+    → Compared secret shown a c (if right then Matched else Wrong left)
+compared true secret named left shown bytes a b c is reads read equal told counted matched writes same =
+    is_match secret named shown bytes a b c is reads read (equal.0 refl) counted matched
+compared false secret named left shown bytes a b c is reads read equal told counted matched writes same =
+    is_wrong secret named left shown bytes a b c is reads read (λ right. true≢false (sym (equal.1 right))) told counted
+    matched writes same
 
 -- writes after a comparison
 pub compares_then : (n secret : ℕ) (a b c : Facts) → ComparesOnce 0 secret a b → WritesAtMost n b c

@@ -1,5 +1,5 @@
 //! The ends that follow a charge: each compares once, what was charged, and sets the PIN where it was right.
-ghost use Rattle.std.specs.Prelude.{◌≡◌, ◌⊎◌, ◌<◌, ◌≤◌, IfOk};
+ghost use Rattle.std.specs.Prelude.{◌≡◌, ◌⊎◌, ◌<◌, ◌≤◌, if◌then◌else◌, IfOk};
 ghost use Rattle.std.specs.Result.{result_err};
 ghost use Rattle.undo_journal.specs.Calls.{Reads, Leaves};
 ghost use Rattle.undo_journal.specs.Memory.{committed, IsReady};
@@ -139,11 +139,18 @@ fn compare<B: Board>(
     let left = tries(store, secret)?;
     let kept = kept(store, secret)?;
     let right = store.compare(secret, &kept, shown)?;
-    Ok(if right {
+    Ok(outcome_of(right, left))
+}
+
+/// The outcome of a comparison, before which so many tries were left.
+fn outcome_of(right: bool, left: u8) -> Outcome
+    ensures { result ≡ (if right then Outcome.Matched else Outcome.Wrong left) }
+{
+    if right {
         Outcome::Matched
     } else {
         Outcome::Wrong(left)
-    })
+    }
 }
 
 /// What is kept of a secret.
