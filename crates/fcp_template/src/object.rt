@@ -64,7 +64,7 @@ pub(crate) fn objects_of(text: &[u8]) -> Option<Objects<'_>>
     let [TEMPLATE, length, body @ ..] = text else {
         return None;
     };
-    if body.len() != *length as usize || body.len() > BODY_LIMIT {
+    if body.len() != usize::from(*length) || body.len() > BODY_LIMIT {
         return None;
     }
     split(body)
@@ -92,8 +92,8 @@ fn split_first(bytes: &[u8]) -> Option<(Object<'_>, &[u8])>
     ensures none { IfNone result ((o : DataObject) (rest : List ℕ) → bytes.now ≡ object_text o ++ rest → ⊥) }
 {
     match bytes {
-        [tag, length, rest @ ..] if *length as usize <= rest.len() => {
-            let (value, rest) = rest.split_at(*length as usize);
+        [tag, length, rest @ ..] if usize::from(*length) <= rest.len() => {
+            let (value, rest) = rest.split_at(usize::from(*length));
             Some((Object { tag: *tag, value }, rest))
         }
         _ => None,
