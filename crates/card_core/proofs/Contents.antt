@@ -16,9 +16,8 @@ use Rattle.file_tree.specs.declared.entry.Entry.{Entry}
 use Rattle.file_tree.specs.Cards.{transparent, linear, cyclic, dedicated, elementary, is_transparent}
 use Rattle.file_tree.specs.Entries.{file_of, extent_told, capacity_of, linear_records, cyclic_records, name_of}
 use Rattle.file_tree.specs.Table.{table, entry_in, extents}
-use Rattle.file_tree.specs.Trees.{content}
+use Rattle.file_tree.specs.Trees.{content, file_in}
 use Rattle.file_tree.specs.laws.Costs.{all_extents, entry_extent, extent_of-some, room_for_size}
-use Rattle.file_tree.specs.laws.Nodes.{file_in}
 use Rattle.file_tree.specs.laws.Tables.{length-table}
 use Rattle.card_core.specs.Binaries.{read_response}
 use Rattle.card_core.specs.Outcomes.{Response}

@@ -19,8 +19,8 @@ use Rattle.file_tree.specs.NewFiles.{creation_refusal, new_file, short_of_new}
 use Rattle.file_tree.specs.Spaces.{free_space}
 use Rattle.file_tree.specs.States.{is_allowed, is_barred}
 use Rattle.file_tree.specs.Table.{table, entry_in, path_of}
-use Rattle.file_tree.specs.Trees.{tree_of}
-use Rattle.file_tree.specs.laws.Nodes.{file_in, get-used, same_of_one}
+use Rattle.file_tree.specs.Trees.{tree_of, file_in}
+use Rattle.file_tree.specs.laws.Nodes.{get-used, same_of_one}
 use Rattle.card_core.specs.declared.current.Current.{Current as CurrentFiles}
 use Rattle.card_core.specs.Cards.{Card, File, Kind, Path, Tree, dedicated, elementary, no_file}
 use Rattle.card_core.specs.Files.{create_refusals, creation_bit, with_new}

@@ -20,7 +20,8 @@ use Rattle.apdu_core.specs.Requests.{terminate_card_usage}
 use Rattle.file_tree.specs.States.{is_allowed, with_card_terminated}
 use Rattle.file_tree.specs.Table.{table, path_of}
 use Rattle.file_tree.specs.Trees.{tree_of, TreeStands}
-use Rattle.file_tree.specs.laws.Footprints.{tree_kept, KeepsTree}
+use Rattle.file_tree.specs.Changes.{KeepsTree}
+use Rattle.file_tree.specs.laws.Footprints.{tree_kept}
 use Rattle.file_tree.specs.declared.entry.Entry.{Entry}
 use Rattle.pin_store.specs.Pages.{pin_page, KeepsPins}
 use Rattle.pin_store.specs.laws.AllPins.{pages_kept, pins_kept}

@@ -16,8 +16,8 @@ use Rattle.file_tree.specs.Entries.{file_of}
 use Rattle.file_tree.specs.Table.{table, entry_in, path_of, IsUsed}
 use Rattle.file_tree.specs.declared.space.FreeSpace.{FreeSpace}
 use Rattle.file_tree.specs.Spaces.{free_space}
-use Rattle.file_tree.specs.Trees.{tree_of, TellsSpace}
-use Rattle.file_tree.specs.laws.Nodes.{file_in, get-used}
+use Rattle.file_tree.specs.Trees.{tree_of, TellsSpace, file_in}
+use Rattle.file_tree.specs.laws.Nodes.{get-used}
 use Rattle.file_tree.specs.laws.Paths.{parent_path, identifier_path, path_of_child, path-zero}
 use Rattle.card_core.specs.declared.current.Current.{Current}
 use Rattle.apdu_core.specs.declared.binary.Target.TheVariants as target

@@ -9,7 +9,8 @@ use Rattle.undo_journal.specs.declared.layout.TheConstants.{GATE}
 use Rattle.undo_journal.specs.UndoLaws.{length-undo, length-data_words, undo-at, data_words-outside}
 use Rattle.block_chain.specs.Words.{word}
 use Rattle.file_tree.specs.Trees.{tree_of}
-use Rattle.file_tree.specs.laws.Footprints.{KeepsTree, tree_kept}
+use Rattle.file_tree.specs.Changes.{KeepsTree}
+use Rattle.file_tree.specs.laws.Footprints.{tree_kept}
 use Rattle.card_core.specs.Cards.{Card}
 use Rattle.pin_store.specs.Pages.{pin_page, KeepsPins}
 use Rattle.card_core.specs.Standing.{StandsFor, card_of}

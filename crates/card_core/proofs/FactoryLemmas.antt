@@ -19,10 +19,10 @@ use Rattle.file_tree.specs.declared.space.FreeSpace.{FreeSpace}
 use Rattle.file_tree.specs.Spaces.{free_space}
 use Rattle.file_tree.specs.Entries.{entry_of, file_of}
 use Rattle.file_tree.specs.Table.{table, entry_in, path_of, extents, free_entries, IsTable}
-use Rattle.file_tree.specs.Trees.{content, node, tree_of, TreeStands}
+use Rattle.file_tree.specs.Trees.{content, node, tree_of, TreeStands, file_in}
 use Rattle.file_tree.specs.laws.Tables.{entry_of-free}
 use Rattle.file_tree.specs.laws.Paths.{path-zero}
-use Rattle.file_tree.specs.laws.Nodes.{Node, file_in, node-used, node-free}
+use Rattle.file_tree.specs.laws.Nodes.{Node, node-used, node-free}
 use Rattle.file_tree.specs.laws.Costs.{space_counted}
 use Rattle.file_tree.specs.laws.Contents.{content-some}
 use Rattle.pin_store.specs.declared.layout.TheConstants.{PINS}

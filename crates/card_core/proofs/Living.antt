@@ -21,10 +21,10 @@ use Rattle.file_tree.specs.Entries.{file_of, free_entry}
 use Rattle.file_tree.specs.States.{is_allowed, life_at, next_life, ChangesLife}
 use Rattle.file_tree.specs.Spaces.{free_space}
 use Rattle.file_tree.specs.Table.{table, entry_in, free_entries, path_of, IsUsed}
-use Rattle.file_tree.specs.Trees.{tree_of}
+use Rattle.file_tree.specs.Trees.{tree_of, file_in}
 use Rattle.file_tree.specs.laws.Costs.{space_counted}
 use Rattle.file_tree.specs.laws.NewEntries.{life_again}
-use Rattle.file_tree.specs.laws.Nodes.{file_in, file_at_entry}
+use Rattle.file_tree.specs.laws.Nodes.{file_at_entry}
 use Rattle.file_tree.specs.laws.Tables.{length-table}
 use Rattle.card_core.specs.declared.current.Current.{Current}
 use Rattle.card_core.specs.declared.life_cycles.Changed.{Changed}

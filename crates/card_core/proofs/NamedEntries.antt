@@ -9,8 +9,7 @@ use Rattle.file_tree.specs.Cards.{Kind, transparent, linear, cyclic, dedicated, 
 use Rattle.file_tree.specs.Entries.{file_of, capacity_of, linear_records, cyclic_records, name_of}
 use Rattle.file_tree.specs.States.{is_barred}
 use Rattle.file_tree.specs.Table.{table, entry_in, path_of}
-use Rattle.file_tree.specs.Trees.{content}
-use Rattle.file_tree.specs.laws.Nodes.{file_in}
+use Rattle.file_tree.specs.Trees.{content, file_in}
 use Rattle.card_core.specs.declared.current.Current.{Current}
 use Rattle.card_core.specs.declared.named.Need.{Need}
 use Rattle.card_core.specs.declared.named.Structure.{Structure}

@@ -6,7 +6,8 @@ use Rattle.nvm_board.specs.Facts.{address}
 use Rattle.nvm_board.specs.declared.board.TheConstants.{WORDS}
 use Rattle.block_chain.specs.Words.{word}
 use Rattle.file_tree.specs.Table.{table}
-use Rattle.file_tree.specs.laws.Footprints.{KeepsTree, tree_kept}
+use Rattle.file_tree.specs.Changes.{KeepsTree}
+use Rattle.file_tree.specs.laws.Footprints.{tree_kept}
 use Rattle.card_rules.specs.Pins.{IsPinNumber}
 use Rattle.pin_store.specs.Pages.{pin_at, pin_page, pins_of, ArePinPages, SetsPin}
 use Rattle.pin_store.specs.declared.layout.TheConstants.{PINS, PIN_WORDS}

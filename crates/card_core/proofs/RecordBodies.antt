@@ -24,8 +24,8 @@ use Rattle.file_tree.specs.Cards.{Kind, transparent, linear, cyclic, dedicated, 
 use Rattle.file_tree.specs.Entries.{file_of, free_entry, capacity_of, name_of, slot}
 use Rattle.file_tree.specs.Entries.{linear_records as linear_of, cyclic_records as cyclic_of}
 use Rattle.file_tree.specs.Table.{table, entry_in, IsRecordBody, IsUsed}
-use Rattle.file_tree.specs.Trees.{content}
-use Rattle.file_tree.specs.laws.Nodes.{file_in, used_small}
+use Rattle.file_tree.specs.Trees.{content, file_in}
+use Rattle.file_tree.specs.laws.Nodes.{used_small}
 use Rattle.file_tree.specs.laws.Tables.{entry_in-table, entry_of-free, entry_of-used, length-table}
 use Rattle.card_core.specs.declared.record_body.RecordBody.{RecordBody}
 use Rattle.card_core.specs.declared.record_body.RecordBody.TheVariants as bodies

@@ -23,10 +23,10 @@ use Rattle.file_tree.specs.Changes.{KeepsRest}
 use Rattle.file_tree.specs.Entries.{capacity_of, extent_told, file_of, free_entry, high, low}
 use Rattle.file_tree.specs.Spaces.{free_space}
 use Rattle.file_tree.specs.Table.{table, entry_in, free_entries, path_of, IsEntry, IsUsed}
-use Rattle.file_tree.specs.Trees.{content, tree_of, TreeStands}
+use Rattle.file_tree.specs.Trees.{content, tree_of, TreeStands, file_in}
 use Rattle.file_tree.specs.laws.Changing.{tree_inserted}
 use Rattle.file_tree.specs.laws.Costs.{entry_extent, space_counted}
-use Rattle.file_tree.specs.laws.Nodes.{file_in, file_at_entry, used_small}
+use Rattle.file_tree.specs.laws.Nodes.{file_at_entry, used_small}
 use Rattle.file_tree.specs.laws.Rewriting.{content_file, content_free, content_stands, content_table, entries_apart}
 use Rattle.file_tree.specs.laws.Tables.{length-table}
 use Rattle.card_core.specs.declared.current.Current.{Current}

@@ -19,10 +19,10 @@ use Rattle.file_tree.specs.Entries.{byte_of, entry_of, entry_told, extent_of, ex
 use Rattle.file_tree.specs.Entries.{high, low, name_of}
 use Rattle.file_tree.specs.Table.{table, ancestor, entry_in, extents, free_entries, path_in, path_of, IsChild, IsEntry}
 use Rattle.file_tree.specs.Table.{IsTable, IsUsed}
-use Rattle.file_tree.specs.Trees.{content, TreeStands}
+use Rattle.file_tree.specs.Trees.{content, TreeStands, file_in}
 use Rattle.file_tree.specs.laws.Contents.{content-none, content-some}
 use Rattle.file_tree.specs.laws.Costs.{all_extents, extent_of-some, sum-cons}
-use Rattle.file_tree.specs.laws.Nodes.{file_in, used_small}
+use Rattle.file_tree.specs.laws.Nodes.{used_small}
 use Rattle.file_tree.specs.laws.Tables.{entry_in-table, entry_of-free, entry_of-used, entry_past, entry_within}
 use Rattle.file_tree.specs.laws.Tables.{length-table}
 use Rattle.card_core.specs.declared.current.Current.{Current}

@@ -20,7 +20,7 @@ use Rattle.card_core.specs.Working.{card_in, session_in, table_in}
 use Rattle.ef_body.specs.Records.{has_record, record_of}
 use Rattle.ef_body.specs.Searching.{found as found_in}
 use Rattle.file_tree.specs.Table.{table, path_of, IsUsed}
-use Rattle.file_tree.specs.laws.Nodes.{file_in}
+use Rattle.file_tree.specs.Trees.{file_in}
 use Rattle.card_core.specs.declared.current.Current.{Current as CurrentFiles}
 use Rattle.card_core.specs.declared.named.Need.{Need}
 use Rattle.card_core.specs.declared.record_body.RecordBody.{RecordBody}

@@ -28,9 +28,9 @@ use Rattle.file_tree.specs.Changes.{Rewrites}
 use Rattle.file_tree.specs.Entries.{free_entry}
 use Rattle.file_tree.specs.Spaces.{free_space}
 use Rattle.file_tree.specs.Table.{table, entry_in, path_of, free_entries}
-use Rattle.file_tree.specs.Trees.{tree_of}
+use Rattle.file_tree.specs.Trees.{tree_of, file_in}
 use Rattle.file_tree.specs.laws.Costs.{space_counted}
-use Rattle.file_tree.specs.laws.Nodes.{file_in, file_at_entry, used_small}
+use Rattle.file_tree.specs.laws.Nodes.{file_at_entry, used_small}
 use Rattle.file_tree.specs.laws.Paths.{parent_path, identifier_path}
 use Rattle.file_tree.specs.laws.Rewriting.{rewritten}
 use Rattle.file_tree.specs.laws.Tables.{length-table}

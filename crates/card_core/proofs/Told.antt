@@ -13,8 +13,8 @@ use Rattle.file_tree.specs.Cards.{transparent, linear, cyclic, dedicated, elemen
 use Rattle.file_tree.specs.Entries.{file_of, free_entry, capacity_of, cyclic_records, kind_of, linear_records}
 use Rattle.file_tree.specs.Entries.{name_of, rule_of, slot}
 use Rattle.file_tree.specs.Table.{table, entry_in, path_of, IsFileEntry, IsRecordBody, IsUsed}
-use Rattle.file_tree.specs.Trees.{content}
-use Rattle.file_tree.specs.laws.Nodes.{file_in, used_small}
+use Rattle.file_tree.specs.Trees.{content, file_in}
+use Rattle.file_tree.specs.laws.Nodes.{used_small}
 use Rattle.file_tree.specs.laws.Paths.{identifier_path}
 use Rattle.file_tree.specs.laws.Refusing.{name_long}
 use Rattle.file_tree.specs.laws.Tables.{length-table}

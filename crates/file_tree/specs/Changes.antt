@@ -6,6 +6,7 @@ use Rattle.nvm_board.specs.declared.board.TheConstants.{PAGE_WORDS}
 use Rattle.block_chain.specs.declared.layout.TheConstants.{HEADER_PAGE, FREE_HEAD_WORD}
 use Rattle.block_chain.specs.Words.{word, IsBlock}
 use Rattle.block_chain.specs.Chains.{free_chain}
+use Rattle.block_chain.specs.Changes.{KeepsBlocks}
 use Rattle.file_tree.specs.declared.layout.TheConstants.{FIRST_ENTRY_PAGE, ENTRIES}
 use Rattle.file_tree.specs.declared.space.FreeSpace.{FreeSpace}
 use Rattle.file_tree.specs.Cards.{File, file_at, bytes_of, with_bytes, overwrite}
@@ -21,6 +22,12 @@ pub record KeepsRest (m after : List ℕ) : Type 0 where
   pub size : length after ≡ length m
   pub words : (page place : ℕ) → place < PAGE_WORDS → (IsEntryPage page → ⊥) → (IsBlock page → ⊥)
       → (page ≢ HEADER_PAGE) ⊎ (place ≢ FREE_HEAD_WORD) → word after page place ≡ word m page place
+
+-- The words that the tree depends on stay: those of file entries and of blocks, and the one that names the first free block.
+pub record KeepsTree (m after : List ℕ) : Type 0 where
+  pub entries : (page place : ℕ) → 1 ≤ page → page < 65 → place < PAGE_WORDS
+      → word after page place ≡ word m page place
+  pub blocks : KeepsBlocks m after
 
 -- a file with bytes put in place of its own from an offset on
 abbrev pub with_overwritten : File → ℕ → List ℕ → File

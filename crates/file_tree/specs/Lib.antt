@@ -10,4 +10,7 @@ pub mod Trees
 pub mod Changes
 pub mod NewFiles
 pub mod Creations
+pub mod Parts
+pub mod CreationParts
+pub mod DeletionParts
 pub mod laws

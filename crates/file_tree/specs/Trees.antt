@@ -16,11 +16,13 @@ use Rattle.file_tree.specs.Table.{table, entry_in, path_of, extents, IsTable}
 unfoldable pub content : List ℕ → Entry → List ℕ
 content m entry = option_map_or (λ extent. bytes_of m (blocks_of m extent)) (extent_of entry) []
 
+-- the file that an entry of a memory stands for
+abbrev pub file_in : List ℕ → ℕ → File
+file_in m e = file_of (entry_in (table m) e) (content m (entry_in (table m) e))
+
 -- the path and the file of an entry, if it has one
 unfoldable pub node : List ℕ → ℕ → Option (Path × File)
-node m e =
-    let t = table m in
-    if (entry_in t e).kind == 0 then None else Some (path_of t e, file_of (entry_in t e) (content m (entry_in t e)))
+node m e = if (entry_in (table m) e).kind == 0 then None else Some (path_of (table m) e, file_in m e)
 
 -- the tree of all files
 unfoldable pub tree_of : List ℕ → Tree

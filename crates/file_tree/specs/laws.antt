@@ -1,5 +1,4 @@
 -- What follows from the definitions, for the proofs of this crate and of those above it.
-pub mod Terms
 pub mod Tables
 pub mod Alikes
 pub mod Levels
@@ -25,7 +24,6 @@ pub mod Creating
 pub mod Refusing
 pub mod Allowed
 pub mod Places
-pub mod Created
 pub mod Made
 pub mod Selecting
 pub mod Barring

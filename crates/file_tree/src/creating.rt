@@ -1,18 +1,22 @@
 //! Creating a file.
 
 ghost use Rattle.std.specs.Prelude.{◌≡◌, ◌≢◌, ◌⊎◌, ◌&&◌, ◌<◌, ◌≤◌, nat_le, length, Some, IfOk, OnOk, if◌then◌else◌};
+ghost use Rattle.std.specs.Result.{result_err};
+ghost use Rattle.undo_journal.specs.Memory.{committed, current, room, IsOpen, IsReady};
+ghost use Rattle.undo_journal.specs.Lent.{memory_of};
+ghost use Rattle.undo_journal.specs.Calls.{OnlyReads, Reads, Changes, SetsIn};
 ghost use Rattle.card_rules.specs.declared.status.Sw.{Sw};
 ghost use Rattle.fcp_template.specs.declared.fcp.ShortIdentifier.TheVariants.{Absent};
 ghost use Rattle.fcp_template.specs.Ranges.{IsCreatable};
 ghost use Rattle.block_chain.specs.Chains.{HasFree, free_chain};
 ghost use Rattle.file_tree.specs.declared.layout.TheConstants.{CREATE_WRITES, MOST_FILE_BLOCKS};
-ghost use Rattle.file_tree.specs.laws.Created.{AddsFile, FillsAndAdds, FillsOrAdds, FindsPlace};
+ghost use Rattle.file_tree.specs.Table.{table, entry_in, path_of, IsUsed};
+ghost use Rattle.file_tree.specs.Trees.{tree_of, TreeStands};
 ghost use Rattle.file_tree.specs.Changes.{SameTree};
 ghost use Rattle.file_tree.specs.Creations.{CreatesNew, TellsCreation};
 ghost use Rattle.file_tree.specs.NewFiles.{low_bits, short_for, short_of_new, creation_refusal};
-ghost use Rattle.file_tree.specs.laws.NewEntries.{entry_for, kind_number, no_chain, padded, short_option, record_length_of_kind, existing_of_kind};
-ghost use Rattle.file_tree.specs.laws.Terms.{committed, current, room, IsOpen, IsReady, memory_of, OnlyReads, Reads, Changes, SetsIn, result_err, table};
-ghost use Rattle.file_tree.specs.laws.Terms.{entry_in, path_of, IsUsed, tree_of, TreeStands};
+ghost use Rattle.file_tree.specs.CreationParts.{FindsPlace, AddsFile, FillsAndAdds, FillsOrAdds};
+ghost use Rattle.file_tree.specs.CreationParts.{entry_for, kind_number, record_length_of_kind, existing_of_kind, padded, no_chain, short_option};
 
 use crate::entry::Entry;
 use crate::kinds;

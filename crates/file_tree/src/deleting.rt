@@ -2,18 +2,18 @@
 
 ghost use Rattle.std.specs.Prelude.{◌≡◌, ◌⊎◌, ◌<◌, ◌≤◌, ◌+◌, length, IfOk, OnOk};
 ghost use Rattle.std.specs.List.{sum_by};
+ghost use Rattle.std.specs.Result.{result_err};
+ghost use Rattle.undo_journal.specs.Memory.{committed, current, room, IsOpen, IsReady};
+ghost use Rattle.undo_journal.specs.Lent.{memory_of};
+ghost use Rattle.undo_journal.specs.Calls.{Reads, Changes, SetsIn};
 ghost use Rattle.block_chain.specs.declared.layout.TheConstants.{BLOCKS};
 ghost use Rattle.block_chain.specs.Layout.{chains_of};
 ghost use Rattle.file_tree.specs.declared.layout.TheConstants.{DELETE_WRITES};
 ghost use Rattle.file_tree.specs.Spaces.{free_space};
-ghost use Rattle.file_tree.specs.Table.{extents};
+ghost use Rattle.file_tree.specs.Table.{extents, table, IsUsed};
+ghost use Rattle.file_tree.specs.Trees.{tree_of, TreeStands};
 ghost use Rattle.file_tree.specs.Changes.{Deletes, with_freed};
-ghost use Rattle.file_tree.specs.laws.Removals.{IsRemoval};
-ghost use Rattle.file_tree.specs.laws.Subtrees.{leads_up};
-ghost use Rattle.file_tree.specs.laws.Parting.{going, part_below};
-ghost use Rattle.file_tree.specs.laws.Deleting.{CanGive, FreesEntries, Removes};
-ghost use Rattle.file_tree.specs.laws.Terms.{committed, current, room, IsOpen, IsReady, memory_of, Reads, Changes, SetsIn, result_err, table, IsUsed};
-ghost use Rattle.file_tree.specs.laws.Terms.{tree_of, TreeStands};
+ghost use Rattle.file_tree.specs.DeletionParts.{IsRemoval, leads_up, going, part_below, CanGive, FreesEntries, Removes};
 
 use crate::entry::{Entry, ExtentList, TABLE_ROOM, Table};
 use crate::kinds;

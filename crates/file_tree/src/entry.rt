@@ -50,10 +50,10 @@ pub struct Entry {
 pub(crate) const TABLE_ROOM: usize = ENTRIES as usize;
 
 /// The file entries of a memory, in the order of their numbers.
-pub type Table = ArrayVec<Entry, TABLE_ROOM>;
+pub(crate) type Table = ArrayVec<Entry, TABLE_ROOM>;
 
 /// The extents of elementary files.
-pub type ExtentList = ArrayVec<Extent, TABLE_ROOM>;
+pub(crate) type ExtentList = ArrayVec<Extent, TABLE_ROOM>;
 
 impl Entry {
     /// The entry that no file has.

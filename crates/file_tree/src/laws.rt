@@ -10,10 +10,9 @@ ghost use Rattle.file_tree.specs.declared.layout.TheConstants.{STATE_WORD, CARD_
 ghost use Rattle.file_tree.specs.Cards.{Path, IsTree, master_file, exists, file_at, is_dedicated};
 ghost use Rattle.file_tree.specs.Reaching.{IsReserved};
 ghost use Rattle.file_tree.specs.Spaces.{free_space};
-ghost use Rattle.file_tree.specs.Table.{free_entries};
-ghost use Rattle.file_tree.specs.laws.Footprints.{KeepsTree};
-ghost use Rattle.file_tree.specs.laws.Nodes.{file_in};
-ghost use Rattle.file_tree.specs.laws.Terms.{table, path_of, IsUsed, tree_of, TreeStands};
+ghost use Rattle.file_tree.specs.Table.{free_entries, table, path_of, IsUsed};
+ghost use Rattle.file_tree.specs.Trees.{file_in, tree_of, TreeStands};
+ghost use Rattle.file_tree.specs.Changes.{KeepsTree};
 
 /// Entry 0 is on page 1, there are 64 entries, no file is more than seven steps below the master file, and this has the
 /// identifier 3F00. The largest file has 547 blocks; a creation makes at most 587 device writes, a deletion 388.

@@ -21,12 +21,11 @@ mod writing;
 
 pub use creating::{Creation, create};
 pub use deleting::delete;
-pub use entry::{Entry, ExtentList, Table};
+pub use entry::Entry;
 pub use layout::{CARD_TERMINATED, DEEPEST, ENTRIES, FIRST_ENTRY_PAGE, RECORDS_WORD, STATE_WORD};
 pub use life_cycles::{is_allowed, is_barred, next_life_cycle, set_life_cycle, terminate_card};
-pub use look_up::{find_child, find_short, select};
+pub use look_up::{Found, find_short, select};
 pub use naming::{find_name, find_parent, find_path, find_path_from_master};
-pub use reading::{read_entry, read_table};
+pub use reading::read_entry;
 pub use space::FreeSpace;
-pub use table::{extents_of, is_table};
 pub use tree::is_tree;

@@ -1,12 +1,14 @@
 //! Life cycles of files (ISO/IEC 7816-9; ISO/IEC 7816-4, 7.4.10): which files are barred, and a file in another state.
 
-ghost use Rattle.std.specs.Prelude.{◌≡◌, ◌⊎◌, ◌<◌, ◌+◌, slice_set, None, IfOk, OnOk};
+ghost use Rattle.std.specs.Prelude.{◌≡◌, ◌⊎◌, slice_set, IfOk, OnOk};
+ghost use Rattle.std.specs.Result.{result_err};
 ghost use Rattle.undo_journal.specs.Undo.{IsDataAddress};
+ghost use Rattle.undo_journal.specs.Memory.{committed, IsReady};
+ghost use Rattle.undo_journal.specs.Calls.{OnlyReads, Reads, Changes};
 ghost use Rattle.file_tree.specs.States.{bars, is_allowed, is_barred, life_at, next_life, with_card_terminated, ChangesLife};
-ghost use Rattle.file_tree.specs.laws.Barring.{barred_up, life_told};
-ghost use Rattle.file_tree.specs.laws.Living.{TellsLife};
-ghost use Rattle.file_tree.specs.laws.Terms.{committed, IsReady, OnlyReads, Reads, Changes, result_err, table, entry_in, path_of, IsUsed, tree_of};
-ghost use Rattle.file_tree.specs.laws.Terms.{TreeStands};
+ghost use Rattle.file_tree.specs.Table.{table, entry_in, path_of, IsUsed};
+ghost use Rattle.file_tree.specs.Trees.{tree_of, TreeStands};
+ghost use Rattle.file_tree.specs.Parts.{barred_up, life_told, TellsLife};
 
 use crate::entry::Entry;
 use crate::layout::{CARD_TERMINATED, DEEPEST, STATE_WORD, entry_address};
@@ -20,10 +22,7 @@ use undo_journal::{Board, PAGE_WORDS, Store, StoreErr};
 fn bars(life: LifeCycle) -> bool
     ensures { result ≡ bars life }
 {
-    match life {
-        LifeCycle::Deactivated | LifeCycle::Terminated => true,
-        LifeCycle::Creation | LifeCycle::Initialisation | LifeCycle::Activated => false,
-    }
+    matches!(life, LifeCycle::Deactivated | LifeCycle::Terminated)
 }
 
 /// The state that an entry tells.

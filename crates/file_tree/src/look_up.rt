@@ -1,11 +1,14 @@
 //! Files by their names: every look-up of an identifier goes through `find_child`.
 
-ghost use Rattle.std.specs.Prelude.{◌≡◌, ◌==◌, ◌≤◌, ◌<◌, ◌&&◌, ◌↔◌, not, IsTrue, IfOk, IfSome, Some, None, if◌then◌else◌, option_map};
+ghost use Rattle.std.specs.Prelude.{◌≡◌, ◌==◌, ◌≤◌, ◌&&◌, ◌↔◌, not, IsTrue, IfOk, IfSome, Some, None, if◌then◌else◌, option_map};
+ghost use Rattle.std.specs.Result.{result_err};
+ghost use Rattle.undo_journal.specs.Memory.{committed, IsReady};
+ghost use Rattle.undo_journal.specs.Calls.{Reads};
 ghost use Rattle.file_tree.specs.Cards.{master_file};
 ghost use Rattle.file_tree.specs.Reaching.{reached, child_by_short};
-ghost use Rattle.file_tree.specs.Table.{IsChild};
-ghost use Rattle.file_tree.specs.laws.LookUps.{IsKnownBy, IsChildBy, TellsChildBy, TellsChild, TellsBeside, TellsAbove};
-ghost use Rattle.file_tree.specs.laws.Terms.{committed, IsReady, Reads, result_err, table, entry_in, path_of, IsUsed, tree_of, TreeStands};
+ghost use Rattle.file_tree.specs.Table.{IsChild, table, entry_in, path_of, IsUsed};
+ghost use Rattle.file_tree.specs.Trees.{tree_of, TreeStands};
+ghost use Rattle.file_tree.specs.Parts.{IsKnownBy, IsChildBy, TellsChildBy, TellsChild, TellsBeside, TellsAbove};
 
 use crate::entry::Entry;
 use crate::kinds;
@@ -13,6 +16,9 @@ use crate::layout::ENTRIES_END;
 use crate::reading::read_entry;
 use card_rules::identifiers::MASTER_FILE;
 use undo_journal::{Board, Store, StoreErr};
+
+/// What a look-up finds: the number of the entry, or None where no file is what is looked for.
+pub type Found = Option<u8>;
 
 /// What a child of a dedicated file is known by.
 #[derive(Clone, Copy)]
@@ -41,11 +47,7 @@ fn is_child(entry: &Entry, df: u8, key: ChildKey) -> bool
 }
 
 /// The entry of the child of a dedicated file that is known by this, if it has one.
-fn first_child<B: Board>(
-    store: &mut Store<B>,
-    df: u8,
-    key: ChildKey,
-) -> Result<Option<u8>, StoreErr>
+fn first_child<B: Board>(store: &mut Store<B>, df: u8, key: ChildKey) -> Result<Found, StoreErr>
     requires ready { IsReady store.old }
     ensures found { IfOk result (TellsChildBy (table (committed store.old)) df key) }
     ensures store { Reads store.old store.new (result_err result) }
@@ -63,11 +65,11 @@ fn first_child<B: Board>(
 ///
 /// # Errors
 /// What the store answers: power was lost, or the device failed.
-pub fn find_child<B: Board>(
+pub(crate) fn find_child<B: Board>(
     store: &mut Store<B>,
     df: u8,
     identifier: u16,
-) -> Result<Option<u8>, StoreErr>
+) -> Result<Found, StoreErr>
     requires ready { IsReady store.old }
     ensures found { IfOk result (TellsChild (table (committed store.old)) df identifier) }
     ensures store { Reads store.old store.new (result_err result) }
@@ -79,7 +81,7 @@ pub fn find_child<B: Board>(
 ///
 /// # Errors
 /// What the store answers: power was lost, or the device failed.
-pub fn find_short<B: Board>(store: &mut Store<B>, df: u8, short: u8) -> Result<Option<u8>, StoreErr>
+pub fn find_short<B: Board>(store: &mut Store<B>, df: u8, short: u8) -> Result<Found, StoreErr>
     requires ready { IsReady store.old }
     requires tree { TreeStands (committed store.old) }
     requires df { IsUsed (table (committed store.old)) df }
@@ -94,11 +96,7 @@ pub fn find_short<B: Board>(store: &mut Store<B>, df: u8, short: u8) -> Result<O
 }
 
 /// A dedicated file beside this one with this identifier. The master file has none beside it.
-fn find_beside<B: Board>(
-    store: &mut Store<B>,
-    df: u8,
-    identifier: u16,
-) -> Result<Option<u8>, StoreErr>
+fn find_beside<B: Board>(store: &mut Store<B>, df: u8, identifier: u16) -> Result<Found, StoreErr>
     requires ready { IsReady store.old }
     requires tree { TreeStands (committed store.old) }
     requires df { IsUsed (table (committed store.old)) df }
@@ -117,7 +115,7 @@ fn find_beside<B: Board>(
 }
 
 /// The first with this identifier of the parent of a dedicated file, itself and the master file, by their entries.
-fn named_above(df: u8, own: &Entry, above: &Entry, identifier: u16) -> Option<u8>
+fn named_above(df: u8, own: &Entry, above: &Entry, identifier: u16) -> Found
     ensures { result ≡ (if not (df == 0) && (above.now.identifier == identifier) then Some own.now.parent else
         if own.now.identifier == identifier then Some df else
         if master_file == identifier then Some 0 else None) }
@@ -134,11 +132,7 @@ fn named_above(df: u8, own: &Entry, above: &Entry, identifier: u16) -> Option<u8
 }
 
 /// The parent of a dedicated file, or itself, or the master file: the first that has this identifier.
-fn find_above<B: Board>(
-    store: &mut Store<B>,
-    df: u8,
-    identifier: u16,
-) -> Result<Option<u8>, StoreErr>
+fn find_above<B: Board>(store: &mut Store<B>, df: u8, identifier: u16) -> Result<Found, StoreErr>
     requires ready { IsReady store.old }
     requires tree { TreeStands (committed store.old) }
     requires df { IsUsed (table (committed store.old)) df }
@@ -155,11 +149,7 @@ fn find_above<B: Board>(
 ///
 /// # Errors
 /// What the store answers: power was lost, or the device failed.
-pub fn select<B: Board>(
-    store: &mut Store<B>,
-    df: u8,
-    identifier: u16,
-) -> Result<Option<u8>, StoreErr>
+pub fn select<B: Board>(store: &mut Store<B>, df: u8, identifier: u16) -> Result<Found, StoreErr>
     requires ready { IsReady store.old }
     requires tree { TreeStands (committed store.old) }
     requires df { IsUsed (table (committed store.old)) df }

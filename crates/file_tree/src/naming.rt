@@ -1,15 +1,19 @@
 //! Files by their names, and along paths: what SELECT reaches but by two bytes (ISO/IEC 7816-4, 7.3.1 and 11.2.2).
 
 ghost use Rattle.std.specs.Prelude.{◌≡◌, ◌↔◌, length, option_map, IfOk, IfSome, IsTrue};
+ghost use Rattle.std.specs.Result.{result_err};
+ghost use Rattle.undo_journal.specs.Memory.{committed, IsReady};
+ghost use Rattle.undo_journal.specs.Calls.{Reads};
 ghost use Rattle.file_tree.specs.Cards.{Path};
 ghost use Rattle.file_tree.specs.Reaching.{selected, the_parent, by_name, path_from_master, path_from_current};
-ghost use Rattle.file_tree.specs.laws.Refusing.{BearsName, TellsNamed};
-ghost use Rattle.file_tree.specs.laws.Terms.{committed, IsReady, Reads, result_err, table, path_of, IsUsed, tree_of, TreeStands};
+ghost use Rattle.file_tree.specs.Table.{table, path_of, IsUsed};
+ghost use Rattle.file_tree.specs.Trees.{tree_of, TreeStands};
+ghost use Rattle.file_tree.specs.Parts.{BearsName, TellsNamed};
 
 use crate::entry::Entry;
 use crate::kinds;
 use crate::layout::ENTRIES_END;
-use crate::look_up::find_child;
+use crate::look_up::{Found, find_child};
 use crate::reading::{read_entry, read_table};
 use undo_journal::{Board, Store, StoreErr};
 
@@ -21,7 +25,7 @@ fn bears_name(entry: &Entry, name: &[u8]) -> bool
 }
 
 /// The entry of the dedicated file with this name, if there is one.
-pub(crate) fn entry_named(entries: &[Entry], name: &[u8]) -> Option<u8>
+pub(crate) fn entry_named(entries: &[Entry], name: &[u8]) -> Found
     requires { length entries.now ≡ 64 }
     ensures { TellsNamed entries.now name.now result }
 {
@@ -37,7 +41,7 @@ pub(crate) fn entry_named(entries: &[Entry], name: &[u8]) -> Option<u8>
 ///
 /// # Errors
 /// What the store answers: power was lost, or the device failed.
-pub fn find_name<B: Board>(store: &mut Store<B>, name: &[u8]) -> Result<Option<u8>, StoreErr>
+pub fn find_name<B: Board>(store: &mut Store<B>, name: &[u8]) -> Result<Found, StoreErr>
     requires ready { IsReady store.old }
     requires tree { TreeStands (committed store.old) }
     ensures found { IfOk result (λ found. (df : Path) → option_map (path_of (table (committed store.old))) found
@@ -53,7 +57,7 @@ pub fn find_name<B: Board>(store: &mut Store<B>, name: &[u8]) -> Result<Option<u
 ///
 /// # Errors
 /// What the store answers: power was lost, or the device failed.
-pub fn find_parent<B: Board>(store: &mut Store<B>, df: u8) -> Result<Option<u8>, StoreErr>
+pub fn find_parent<B: Board>(store: &mut Store<B>, df: u8) -> Result<Found, StoreErr>
     requires ready { IsReady store.old }
     requires tree { TreeStands (committed store.old) }
     requires df { IsUsed (table (committed store.old)) df }
@@ -74,11 +78,7 @@ pub fn find_parent<B: Board>(store: &mut Store<B>, df: u8) -> Result<Option<u8>,
 ///
 /// # Errors
 /// What the store answers: power was lost, or the device failed.
-pub fn find_path<B: Board>(
-    store: &mut Store<B>,
-    df: u8,
-    path: &[u16],
-) -> Result<Option<u8>, StoreErr>
+pub fn find_path<B: Board>(store: &mut Store<B>, df: u8, path: &[u16]) -> Result<Found, StoreErr>
     requires ready { IsReady store.old }
     requires tree { TreeStands (committed store.old) }
     requires df { IsUsed (table (committed store.old)) df }
@@ -104,7 +104,7 @@ pub fn find_path<B: Board>(
 pub fn find_path_from_master<B: Board>(
     store: &mut Store<B>,
     path: &[u16],
-) -> Result<Option<u8>, StoreErr>
+) -> Result<Found, StoreErr>
     requires ready { IsReady store.old }
     requires tree { TreeStands (committed store.old) }
     ensures found { IfOk result (λ found. (df : Path) → option_map (path_of (table (committed store.old))) found

@@ -1,9 +1,13 @@
 //! Where a new file finds a place.
 
-ghost use Rattle.std.specs.Prelude.{◌≡◌, ◌<◌, IfOk};
+ghost use Rattle.std.specs.Prelude.{◌≡◌, IfOk};
+ghost use Rattle.std.specs.Result.{result_err};
+ghost use Rattle.undo_journal.specs.Memory.{committed, IsReady};
+ghost use Rattle.undo_journal.specs.Calls.{Reads};
 ghost use Rattle.file_tree.specs.Spaces.{blocks_for};
-ghost use Rattle.file_tree.specs.laws.Places.{TellsPlace};
-ghost use Rattle.file_tree.specs.laws.Terms.{committed, IsReady, Reads, result_err, table, IsUsed, TreeStands};
+ghost use Rattle.file_tree.specs.Table.{table, IsUsed};
+ghost use Rattle.file_tree.specs.Trees.{TreeStands};
+ghost use Rattle.file_tree.specs.CreationParts.{TellsPlace};
 
 use crate::reading::read_table;
 use crate::refusing::{first_free, is_deepest};

@@ -1,8 +1,11 @@
 //! Entries read from a store.
 
 ghost use Rattle.std.specs.Prelude.{◌≡◌, ◌+◌, ◌<◌, ℕ, slice_index, IfOk};
+ghost use Rattle.std.specs.Result.{result_err};
+ghost use Rattle.undo_journal.specs.Memory.{committed, IsReady};
+ghost use Rattle.undo_journal.specs.Calls.{Reads};
 ghost use Rattle.block_chain.specs.Words.{word};
-ghost use Rattle.file_tree.specs.laws.Terms.{committed, IsReady, Reads, result_err, table, entry_in};
+ghost use Rattle.file_tree.specs.Table.{table, entry_in};
 
 use crate::entry::{Entry, Table};
 use crate::layout::{ENTRIES_END, ENTRY_WORDS, entry_address};
@@ -42,7 +45,7 @@ pub fn read_entry<B: Board>(store: &mut Store<B>, e: u8) -> Result<Entry, StoreE
 ///
 /// # Errors
 /// What the store answers: power was lost, or the device failed.
-pub fn read_table<B: Board>(store: &mut Store<B>) -> Result<Table, StoreErr>
+pub(crate) fn read_table<B: Board>(store: &mut Store<B>) -> Result<Table, StoreErr>
     requires ready { IsReady store.old }
     ensures table { IfOk result (λ entries. entries.items ≡ table (committed store.old)) }
     ensures store { Reads store.old store.new (result_err result) }

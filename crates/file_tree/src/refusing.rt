@@ -1,12 +1,15 @@
 //! Whether a new file is refused, and why.
 
-ghost use Rattle.std.specs.Prelude.{◌≡◌, ◌≢◌, ◌↔◌, ◌<◌, length, IfOk, IsTrue, if◌then◌else◌, Some, None};
+ghost use Rattle.std.specs.Prelude.{◌≡◌, ◌≢◌, ◌↔◌, length, IfOk, IsTrue, if◌then◌else◌, Some, None};
+ghost use Rattle.std.specs.Result.{result_err};
+ghost use Rattle.undo_journal.specs.Memory.{committed, IsReady};
+ghost use Rattle.undo_journal.specs.Calls.{Reads};
 ghost use Rattle.card_rules.specs.declared.status.TheConstants.Sw.{FILE_EXISTS, NAME_EXISTS, WRONG_DATA};
 ghost use Rattle.fcp_template.specs.Ranges.{IsShort, IsCreatable};
-ghost use Rattle.file_tree.specs.Table.{ancestor};
+ghost use Rattle.file_tree.specs.Table.{ancestor, table, path_of, IsUsed};
+ghost use Rattle.file_tree.specs.Trees.{tree_of, TreeStands};
 ghost use Rattle.file_tree.specs.NewFiles.{has_short_given, taken_refusal};
-ghost use Rattle.file_tree.specs.laws.Refusing.{TellsFreeEntry};
-ghost use Rattle.file_tree.specs.laws.Terms.{committed, IsReady, Reads, result_err, table, path_of, IsUsed, tree_of, TreeStands};
+ghost use Rattle.file_tree.specs.CreationParts.{TellsFreeEntry};
 
 use crate::entry::Entry;
 use crate::kinds;

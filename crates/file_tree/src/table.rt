@@ -1,8 +1,8 @@
 //! The rules on the table of entries. They look at entries that were read; no store is touched.
 
-ghost use Rattle.std.specs.Prelude.{◌≡◌, ◌↔◌, ◌==◌, ◌<◌, ◌≤◌, length, IsTrue};
+ghost use Rattle.std.specs.Prelude.{◌≡◌, ◌↔◌, ◌<◌, ◌≤◌, length, IsTrue};
 ghost use Rattle.file_tree.specs.Table.{entry_in, ancestor, extents, free_entries, IsMasterFile, IsBelowMaster, IsTable};
-ghost use Rattle.file_tree.specs.laws.Alikes.{Alike, BearOneName, AreBelow, AreApart, IsAlone};
+ghost use Rattle.file_tree.specs.Parts.{Alike, BearOneName, AreBelow, AreApart, IsAlone};
 
 use crate::entry::{Entry, ExtentList};
 use crate::kinds;
@@ -112,25 +112,19 @@ fn are_apart(entries: &[Entry]) -> bool
 }
 
 /// Whether entries hold to the rules that make a tree of them.
-pub fn is_table(entries: &[Entry]) -> bool
+pub(crate) fn is_table(entries: &[Entry]) -> bool
     requires { length entries.now ≡ 64 }
     ensures { IsTrue result ↔ IsTable entries.now }
 {
-    if !is_master_file(&entries[0]) {
-        return false;
-    }
-    if !are_entries(entries) {
-        return false;
-    }
-    if !are_below_master(entries) {
-        return false;
-    }
-    are_apart(entries)
+    is_master_file(&entries[0])
+        && are_entries(entries)
+        && are_below_master(entries)
+        && are_apart(entries)
 }
 
 /// The extents that the entries of elementary files name, in the order of entries.
 #[tactic(auto, using(crate::specs::laws::Tables::extents_pushed))]
-pub fn extents_of(entries: &[Entry]) -> ExtentList
+pub(crate) fn extents_of(entries: &[Entry]) -> ExtentList
     requires { length entries.now ≤ 64 }
     ensures { result.items ≡ extents entries.now }
 {

@@ -1,8 +1,10 @@
 //! Whether a memory stands for a tree of files.
 
 ghost use Rattle.std.specs.Prelude.{IfOk};
+ghost use Rattle.std.specs.Result.{result_err};
+ghost use Rattle.undo_journal.specs.Memory.{committed, IsReady};
+ghost use Rattle.undo_journal.specs.Calls.{Reads};
 ghost use Rattle.file_tree.specs.Trees.{TellsSpace};
-ghost use Rattle.file_tree.specs.laws.Terms.{committed, IsReady, Reads, result_err};
 
 use crate::reading::read_table;
 use crate::space::FreeSpace;

@@ -1,11 +1,13 @@
 //! Entries written within a transaction.
 
 ghost use Rattle.std.specs.Prelude.{◌≡◌, ◌≢◌, ◌∷◌, [], ◌<◌, ◌≤◌, ◌+◌, ◌*◌, OnOk, length, take, drop};
-ghost use Rattle.nvm_board.specs.Torn.{written};
+ghost use Rattle.std.specs.Result.{result_err};
+ghost use Rattle.undo_journal.specs.Memory.{current, room, IsOpen};
+ghost use Rattle.undo_journal.specs.Lent.{memory_of};
+ghost use Rattle.undo_journal.specs.Calls.{SetsIn};
 ghost use Rattle.block_chain.specs.Words.{word_bytes};
 ghost use Rattle.file_tree.specs.Entries.{entry_told};
-ghost use Rattle.file_tree.specs.laws.EntryWords.{WritesEntry};
-ghost use Rattle.file_tree.specs.laws.Terms.{current, room, IsOpen, memory_of, SetsIn, result_err};
+ghost use Rattle.file_tree.specs.CreationParts.{WritesEntry};
 
 use crate::entry::Entry;
 use crate::layout::{ENTRY_WORDS, entry_address};

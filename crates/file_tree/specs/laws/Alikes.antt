@@ -1,36 +1,14 @@
 -- Entries that cannot stand in one table: children of one dedicated file with one identifier, or with one short
 -- identifier, and files with one name. The rules on identifiers and names say that no two used entries are so.
-use Rattle.std.specs.Prelude.{◌≡◌, ◌≢◌, ◌⊎◌, ◌<◌, ◌≤◌, ℕ, List, length, All}
+use Rattle.std.specs.Prelude.{◌≡◌, ◌≢◌, ◌<◌, ◌≤◌, ℕ, List, length, All}
 use Rattle.std.proofs.Common.{refl, sym, ◌∙◌, ap, subst, arith, inl, inr, ⊎_elim}
 use Rattle.std.proofs.lemmas.Bool.{cases_lt}
 use Rattle.file_tree.specs.declared.entry.Entry.{Entry}
 use Rattle.file_tree.specs.Entries.{name_of}
-use Rattle.file_tree.specs.Table.{entry_in, IsUsed, IsChild, IsEntry, IsMasterFile, IsBelowMaster, IsTable}
+use Rattle.file_tree.specs.Table.{entry_in, IsUsed, IsChild, IsEntry, IsMasterFile, IsTable}
 use Rattle.file_tree.specs.Table.{HaveIdentifiers, HaveShortIdentifiers, HaveNames}
+use Rattle.file_tree.specs.Parts.{Alike, AreApart, AreBelow}
 use Rattle.file_tree.specs.laws.Tables.{entry_past}
-
--- two entries have the same name, which has bytes
-abbrev pub BearOneName : Entry → Entry → Type 0
-BearOneName one other = (0 < length (name_of one)) × (name_of one ≡ name_of other)
-
--- an entry of this number cannot stand beside another
-abbrev pub Alike : ℕ → Entry → Entry → Type 0
-Alike e one other =
-    ((0 < e) × (one.parent ≡ other.parent)
-    × ((one.identifier ≡ other.identifier) ⊎ ((one.short ≢ 0) × (one.short ≡ other.short))))
-    ⊎ BearOneName one other
-
--- no used entry behind this one is like it
-abbrev pub IsAlone : List Entry → ℕ → Type 0
-IsAlone t e = (f : ℕ) → e < f → IsUsed t f → Alike e (entry_in t e) (entry_in t f) → ⊥
-
--- no two used entries are alike
-abbrev pub AreApart : List Entry → Type 0
-AreApart t = (e : ℕ) → IsUsed t e → IsAlone t e
-
--- each file but the master file stands below it
-abbrev pub AreBelow : List Entry → Type 0
-AreBelow t = (e : ℕ) → 0 < e → IsUsed t e → IsBelowMaster t e
 
 -- of two numbers neither is below the other
 same_number : (e f : ℕ) → (e < f → ⊥) → (f < e → ⊥) → e ≡ f

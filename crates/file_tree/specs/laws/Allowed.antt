@@ -19,12 +19,14 @@ use Rattle.file_tree.specs.Reaching.{child_by_short}
 use Rattle.file_tree.specs.Table.{table, entry_in, ancestor, path_of, IsUsed, IsTable}
 use Rattle.file_tree.specs.Trees.{tree_of}
 use Rattle.file_tree.specs.NewFiles.{short_for, short_of_new, low_bits, has_name, has_short_given, taken_refusal}
+use Rattle.file_tree.specs.Parts.{BearsName}
+use Rattle.file_tree.specs.CreationParts.{entry_for, kind_number, short_option}
 use Rattle.file_tree.specs.laws.Tables.{length-table}
 use Rattle.file_tree.specs.laws.Nodes.{used_small}
 use Rattle.file_tree.specs.laws.Shorts.{short_named}
 use Rattle.file_tree.specs.laws.Adding.{MayStand}
-use Rattle.file_tree.specs.laws.NewEntries.{entry_for, kind_number, some_kind, take_padded, short_option, new_entry}
-use Rattle.file_tree.specs.laws.Refusing.{BearsName, child_told, name_told}
+use Rattle.file_tree.specs.laws.NewEntries.{some_kind, take_padded, new_entry}
+use Rattle.file_tree.specs.laws.Refusing.{child_told, name_told}
 
 -- nothing is taken: each test failed
 pub record NoneTaken (tree : Tree) (df : Path) (fcp : Fcp) : Type 0 where

@@ -1,6 +1,6 @@
 -- Which files stand below a barred one: by steps to parents, and by their paths.
-use Rattle.std.specs.Prelude.{◌≡◌, ◌≢◌, ◌==◌, ◌<◌, ◌≤◌, ◌+◌, ◌||◌, ℕ, zero, suc, Bool, true, false, if◌then◌else◌}
-use Rattle.std.specs.Prelude.{List, [], ◌∷◌, ◌++◌, length, map, take, unwrap_or, IsTrue}
+use Rattle.std.specs.Prelude.{◌≡◌, ◌≢◌, ◌<◌, ◌≤◌, ◌+◌, ◌||◌, ℕ, zero, suc, Bool, true, false, if◌then◌else◌}
+use Rattle.std.specs.Prelude.{List, [], ◌∷◌, ◌++◌, length, map, take, IsTrue}
 use Rattle.std.specs.List.{list_any, range_with_len}
 use Rattle.std.proofs.Common.{refl, sym, ◌∙◌, ap, ap₂, arith, inl, inr}
 use Rattle.std.proofs.lemmas.Bool.Decides.{eqb_tells}
@@ -8,29 +8,17 @@ use Rattle.std.proofs.lemmas.List.{length-append, take-append-le}
 use Rattle.std.proofs.lemmas.List.Folds.{list_any-append}
 use Rattle.std.proofs.lemmas.List.FromFn.{map-range_with_len_more}
 use Rattle.std.proofs.Math.Seq.{take-append_seam}
-use Rattle.card_rules.specs.LifeCycle.{life_cycle_at}
 use Rattle.card_rules.specs.Rule.{is_rule}
-use Rattle.card_rules.specs.declared.life_cycle.LifeCycle.{LifeCycle}
-use Rattle.card_rules.specs.declared.life_cycle.LifeCycle.TheVariants.{Activated}
 use Rattle.file_tree.specs.declared.entry.Entry.{Entry}
 use Rattle.file_tree.specs.Cards.{Path, File, Tree, file_at}
 use Rattle.file_tree.specs.Entries.{free_entry, file_of, rule_of}
 use Rattle.file_tree.specs.States.{bars, above, life_at, has_barred_above}
 use Rattle.file_tree.specs.Table.{table, entry_in, ancestor, path_of, IsUsed, IsTable}
 use Rattle.file_tree.specs.Trees.{content, tree_of}
+use Rattle.file_tree.specs.Parts.{life_told, barred_up}
 use Rattle.file_tree.specs.laws.Paths.{path-zero, path_of-child, parent_used, reaches_master}
 use Rattle.file_tree.specs.laws.Nodes.{used_small, file_at_entry}
 use Rattle.file_tree.specs.laws.Tables.{length-table}
-
--- the state that an entry tells
-abbrev pub life_told : Entry → LifeCycle
-life_told x = unwrap_or (life_cycle_at x.life) Activated
-
--- whether at most so many steps to parents lead by a file that bars
-unfoldable pub barred_up : List Entry → ℕ → ℕ → Bool
-barred_up t zero e = false
-barred_up t (suc n) e =
-    if e == 0 then false else (bars (life_told (entry_in t (entry_in t e).parent)) || barred_up t n (entry_in t e).parent)
 
 pub barred_up-master : (t : List Entry) (n e : ℕ) → e ≡ 0 → barred_up t n e ≡ false
 unfolding barred_up

@@ -22,16 +22,16 @@ use Rattle.file_tree.specs.declared.entry.Entry.{Entry}
 use Rattle.file_tree.specs.Entries.{entry_of, file_of, extent_of, extent_told}
 use Rattle.file_tree.specs.Spaces.{blocks_for}
 use Rattle.file_tree.specs.Table.{table, entry_in, path_of, extents, free_entries, IsUsed, IsTable}
-use Rattle.file_tree.specs.Trees.{content, tree_of, TreeStands}
+use Rattle.file_tree.specs.Trees.{content, tree_of, TreeStands, file_in}
 use Rattle.file_tree.specs.Changes.{Creates}
+use Rattle.file_tree.specs.CreationParts.{WritesEntry}
 use Rattle.file_tree.specs.laws.Tables.{length-table, entry_in-table, entry_past, mapped-same}
-use Rattle.file_tree.specs.laws.Nodes.{file_in, used_small}
+use Rattle.file_tree.specs.laws.Nodes.{used_small}
 use Rattle.file_tree.specs.laws.Costs.{extent_of-none, extent_of-some, all_extents}
 use Rattle.file_tree.specs.laws.Contents.{content-none, content-some}
 use Rattle.file_tree.specs.laws.Changing.{tree_inserted}
 use Rattle.file_tree.specs.laws.Deleting.{on_page}
 use Rattle.file_tree.specs.laws.Parting.{one_less_free}
-use Rattle.file_tree.specs.laws.EntryWords.{WritesEntry}
 use Rattle.file_tree.specs.laws.Adding.{MayStand, rules_hold, used_now, used_before, new_used, path_stays, new_path}
 
 -- a range around one of its numbers

@@ -11,7 +11,6 @@ use Rattle.std.proofs.Math.ListN.{length-set}
 use Rattle.nvm_board.specs.Facts.{address}
 use Rattle.nvm_board.specs.declared.board.TheConstants.{WORDS, PAGE_WORDS}
 use Rattle.block_chain.specs.declared.layout.TheConstants.{HEADER_PAGE, FREE_HEAD_WORD}
-use Rattle.block_chain.specs.declared.chain.Chain.{Chain}
 use Rattle.block_chain.specs.declared.chain.Extent.{Extent}
 use Rattle.block_chain.specs.Counts.{count}
 use Rattle.block_chain.specs.Words.{word, page_words, IsBlock}
@@ -31,38 +30,17 @@ use Rattle.file_tree.specs.Spaces.{free_space}
 use Rattle.file_tree.specs.Entries.{free_entry, entry_of, file_of, name_of, extent_told}
 use Rattle.file_tree.specs.Table.{table, entry_in, ancestor, path_in, path_of, extents, free_entries, IsUsed, IsChild}
 use Rattle.file_tree.specs.Table.{IsEntry, IsMasterFile, IsTable}
-use Rattle.file_tree.specs.Trees.{content, tree_of, TreeStands}
+use Rattle.file_tree.specs.Trees.{content, tree_of, TreeStands, file_in}
 use Rattle.file_tree.specs.Changes.{KeepsRest, Deletes, with_freed}
+use Rattle.file_tree.specs.DeletionParts.{leads_up, is_gone, going, part_below, FreesUpTo, FreesEntries}
 use Rattle.file_tree.specs.laws.Tables.{length-table, entry_in-table, entry_of-free, entry_past, entry_within, index-mapped, table-same}
 use Rattle.file_tree.specs.laws.Paths.{parent_used}
-use Rattle.file_tree.specs.laws.Nodes.{file_in, used_small, get-used, entry_found}
+use Rattle.file_tree.specs.laws.Nodes.{used_small, get-used, entry_found}
 use Rattle.file_tree.specs.laws.Costs.{space_counted, laid_blocks, all_extents, extent_of-some}
 use Rattle.file_tree.specs.laws.Contents.{content-none, content-some}
 use Rattle.file_tree.specs.laws.Changing.{HasEntry, same_tree}
-use Rattle.file_tree.specs.laws.Subtrees.{and_false, leads_up, within_path, parent_out, master_out}
-use Rattle.file_tree.specs.laws.Parting.{is_gone, going, staying, part_below, GoesOrStays, parts_split, parts_all, parts_free, extents_have, shifted}
-
--- The first so many entries of a part are freed, by their word 0, and no other word is other.
-pub record FreesUpTo (m : List ℕ) (part : List Entry) (k : ℕ) (after : List ℕ) : Type 0 where
-  pub size : length after ≡ length m
-  pub freed : (f : ℕ) → f < k → (entry_in part f).kind ≢ 0 → word after (FIRST_ENTRY_PAGE + f) 0 ≡ 0
-  pub others : (page place : ℕ) → place < PAGE_WORDS
-      → (place ≢ 0) ⊎ ((f : ℕ) → f < k → page ≡ FIRST_ENTRY_PAGE + f → (entry_in part f).kind ≡ 0)
-      → word after page place ≡ word m page place
-
--- all of its entries
-abbrev pub FreesEntries : List ℕ → List Entry → List ℕ → Type 0
-FreesEntries m part after = FreesUpTo m part ENTRIES after
-
--- they are freed, and then chains are given back
-pub record Removes (m : List ℕ) (part : List Entry) (chains : List Chain) (after : List ℕ) : Type 0 where
-  pub between : List ℕ
-  pub freed : FreesEntries m part between
-  pub given : GivesBack between chains after
-
--- after they are freed, chains can be given back
-abbrev pub CanGive : List ℕ → List Entry → List Chain → Type 0
-CanGive m part chains = (between : List ℕ) → FreesEntries m part between → HasFree between × AreApart between chains
+use Rattle.file_tree.specs.laws.Subtrees.{and_false, within_path, parent_out, master_out}
+use Rattle.file_tree.specs.laws.Parting.{staying, GoesOrStays, parts_split, parts_all, parts_free, extents_have, shifted}
 
 -- The table after: entries stay, but those that go are free.
 module _ (t s : List Entry) (top : ℕ) (rules : IsTable t) (above : 0 < top) (used_top : IsUsed t top)

@@ -5,14 +5,15 @@ use Rattle.std.proofs.Math.Seq.{take-add, take-length}
 use Rattle.std.proofs.lemmas.List.{take-append-drop, length-drop, append-nil}
 use Rattle.std.proofs.lemmas.Bool.{cases_lt}
 use Rattle.nvm_board.specs.Facts.{address}
-use Rattle.nvm_board.specs.declared.board.TheConstants.{WORDS, PAGE_WORDS}
+use Rattle.nvm_board.specs.declared.board.TheConstants.{WORDS}
 use Rattle.nvm_board.specs.Torn.{written}
 use Rattle.nvm_board.specs.laws.Torn.{written-inside, written-elsewhere, length-written}
-use Rattle.block_chain.specs.Words.{word, page_words}
+use Rattle.block_chain.specs.Words.{page_words}
 use Rattle.block_chain.specs.laws.Words.{index-page_words}
 use Rattle.file_tree.specs.declared.layout.TheConstants.{FIRST_ENTRY_PAGE}
 use Rattle.file_tree.specs.declared.entry.Entry.{Entry}
-use Rattle.file_tree.specs.Entries.{byte_of, entry_told, entry_of}
+use Rattle.file_tree.specs.Entries.{byte_of, entry_told}
+use Rattle.file_tree.specs.CreationParts.{WritesEntry}
 use Rattle.file_tree.specs.laws.Tables.{entry_of-same, entry_of-used}
 
 -- four bytes of a list
@@ -60,12 +61,6 @@ sixteen_of bytes long =
     later zero b xs = let z : b ≡ zero + b = omega arith in ap (λ (k : ℕ). drop k xs) z
     later (suc a) b [] = drop-nil b ∙ sym (let z : suc a + b ≡ suc (a + b) = omega arith in ap (λ (k : ℕ). drop {A = ℕ} k []) z)
     later (suc a) b (x ∷ xs) = later a b xs ∙ sym (let z : suc a + b ≡ suc (a + b) = omega arith in ap (λ (k : ℕ). drop k (x ∷ xs)) z)
-
--- An entry's words are written on its page, and no other page changes.
-pub record WritesEntry (m : List ℕ) (e : ℕ) (x : Entry) (after : List ℕ) : Type 0 where
-  pub size : length after ≡ length m
-  pub entry : entry_of (page_words after (FIRST_ENTRY_PAGE + e)) ≡ x
-  pub others : (page place : ℕ) → place < PAGE_WORDS → page ≢ FIRST_ENTRY_PAGE + e → word after page place ≡ word m page place
 
 pub written_entry : (m ws : List ℕ) (e : ℕ) (x : Entry) → length m ≡ WORDS → e < 64 → length ws ≡ 11 → entry_told ws ≡ x
     → x.kind ≢ 0 → WritesEntry m e x (written m (address (FIRST_ENTRY_PAGE + e) 0) ws)

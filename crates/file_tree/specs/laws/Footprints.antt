@@ -8,26 +8,19 @@ use Rattle.std.specs.Ordering.{nat_cmp}
 use Rattle.std.specs.Cmp.Lexicographic.{slice_cmp}
 use Rattle.std.proofs.Common.{refl, sym, ◌∙◌, ap, ap₂, subst, arith, ⊎_elim}
 use Rattle.std.proofs.lemmas.Bool.{cases_lt}
-use Rattle.nvm_board.specs.declared.board.TheConstants.{PAGE_WORDS, WORDS}
+use Rattle.nvm_board.specs.declared.board.TheConstants.{WORDS}
 use Rattle.block_chain.specs.declared.chain.Extent.{Extent}
-use Rattle.block_chain.specs.Words.{word}
 use Rattle.block_chain.specs.Chains.{bytes_of, free_chain}
-use Rattle.block_chain.specs.Changes.{KeepsBlocks}
 use Rattle.block_chain.specs.Layout.{AreLaid, SameBytes, blocks_of}
 use Rattle.block_chain.specs.laws.Footprints.{page_words_same, laid_elsewhere}
 use Rattle.file_tree.specs.declared.entry.Entry.{Entry}
 use Rattle.file_tree.specs.Entries.{extent_told, file_of}
 use Rattle.file_tree.specs.Table.{table, entry_in, path_of, extents, IsTable}
 use Rattle.file_tree.specs.Trees.{content, node, tree_of, TreeStands}
+use Rattle.file_tree.specs.Changes.{KeepsTree}
 use Rattle.file_tree.specs.laws.Tables.{length-table, table-same}
 use Rattle.file_tree.specs.laws.Nodes.{Node}
 use Rattle.file_tree.specs.laws.Costs.{extent_of-none, extent_of-some, all_extents}
-
--- the words that the tree depends on stay
-pub record KeepsTree (m after : List ℕ) : Type 0 where
-  pub entries : (page place : ℕ) → 1 ≤ page → page < 65 → place < PAGE_WORDS
-      → word after page place ≡ word m page place
-  pub blocks : KeepsBlocks m after
 
 -- the bytes of an entry's file depend on those of its extent
 pub content_same : (m n : List ℕ) (t : List Entry) → length t ≡ 64 → All (SameBytes m n) (extents t) → (e : ℕ)

@@ -29,27 +29,22 @@ use Rattle.file_tree.specs.Entries.{free_entry, entry_told, entry_of, file_of, b
 use Rattle.file_tree.specs.States.{life_at, with_life, ChangesLife}
 use Rattle.file_tree.specs.Table.{table, entry_in, ancestor, path_in, path_of, extents, IsUsed, IsChild}
 use Rattle.file_tree.specs.Table.{IsEntry, IsTable}
-use Rattle.file_tree.specs.Trees.{content, tree_of, TreeStands}
+use Rattle.file_tree.specs.Trees.{content, tree_of, TreeStands, file_in}
+use Rattle.file_tree.specs.Parts.{TellsLife}
+use Rattle.file_tree.specs.CreationParts.{WritesEntry}
 use Rattle.file_tree.specs.laws.Tables.{length-table, entry_in-table, entry_past, entry_within, entry_of-free, entry_of-used, mapped-same}
-use Rattle.file_tree.specs.laws.Nodes.{file_in, file_at_entry, used_small}
+use Rattle.file_tree.specs.laws.Nodes.{file_at_entry, used_small}
 use Rattle.file_tree.specs.laws.Costs.{extent_of-some, all_extents}
 use Rattle.file_tree.specs.laws.Contents.{content-none, content-some}
 use Rattle.file_tree.specs.laws.Changing.{tree_inserted}
 use Rattle.file_tree.specs.laws.Creating.{before, behind, extents_around}
 use Rattle.file_tree.specs.laws.Deleting.{on_page}
 use Rattle.file_tree.specs.laws.Barring.{life_told_there}
-use Rattle.file_tree.specs.laws.EntryWords.{WritesEntry}
 use Rattle.file_tree.specs.laws.NewEntries.{life_again}
 
 -- an entry in another state
 abbrev pub living : Entry → ℕ → Entry
 living x life = record x { life = life }
-
--- a word that tells the kind and the identifier of an entry, and another state
-pub record TellsLife (x : Entry) (state w : ℕ) : Type 0 where
-  pub kind : byte_of w 0 ≡ x.kind
-  pub life : byte_of w 1 ≡ state
-  pub identifier : low w ≡ x.identifier
 
 -- the extent and the file of an entry in another state
 extent_of-living : (x : Entry) (life : ℕ) → extent_of (living x life) ≡ extent_of x

@@ -7,52 +7,20 @@ use Rattle.std.proofs.Common.{refl, sym, ◌∙◌, ap, ap₂, subst, arith, inl
 use Rattle.std.proofs.lemmas.Bool.Decides.{eqb_tells}
 use Rattle.file_tree.specs.declared.entry.Entry.{Entry}
 use Rattle.file_tree.specs.declared.look_up.ChildKey.{ChildKey}
-use Rattle.file_tree.specs.declared.look_up.ChildKey.TheVariants.{Identifier, ShortIdentifier}
+use Rattle.file_tree.specs.declared.look_up.ChildKey.TheVariants.{ShortIdentifier}
 use Rattle.file_tree.specs.Cards.{Path, File, master_file, parent, identifier, no_file, exists, file_at, is_dedicated}
 use Rattle.file_tree.specs.Reaching.{Candidate, first_reached, reached}
 use Rattle.file_tree.specs.Table.{table, entry_in, path_of, IsUsed, IsChild, HaveIdentifiers, IsTable}
 use Rattle.file_tree.specs.Trees.{content, tree_of}
+use Rattle.file_tree.specs.Parts.{IsKnownBy, IsChildBy, TellsChildBy, TellsChild, TellsBeside, TellsAbove}
 use Rattle.file_tree.specs.laws.Paths.{path-zero, path_of-empty, parent_path, identifier_path, parent_used}
 use Rattle.file_tree.specs.laws.Paths.{master_used, child_of_path, path_of_child}
 use Rattle.file_tree.specs.laws.Nodes.{used_small, entry_found, exists-used, exists-none, file_at_entry}
 use Rattle.file_tree.specs.laws.Nodes.{dedicated_entry}
 
--- an entry has what a child is known by, and is a file's in a dedicated file
-abbrev pub IsKnownBy : ChildKey → Entry → Type 0
-IsKnownBy (Identifier id) x = x.identifier ≡ id
-IsKnownBy (ShortIdentifier n) x = x.short ≡ n
-
-pub record IsChildBy (x : Entry) (df : ℕ) (key : ChildKey) : Type 0 where
-  pub used : x.kind ≢ 0
-  pub parent : x.parent ≡ df
-  pub known : IsKnownBy key x
-
--- the child that is known by this, or None where no child is
-abbrev pub TellsChildBy : List Entry → ℕ → ChildKey → Option ℕ → Type 0
-TellsChildBy t df key None = (e : ℕ) → IsChild t df e → IsKnownBy key (entry_in t e) → ⊥
-TellsChildBy t df key (Some e) = IsChild t df e × IsKnownBy key (entry_in t e)
-
--- the child with an identifier, and with a short identifier
-abbrev pub TellsChild : List Entry → ℕ → ℕ → Option ℕ → Type 0
-TellsChild t df id = TellsChildBy t df (Identifier id)
-
+-- the child with a short identifier, or None where no child has it
 abbrev pub TellsShort : List Entry → ℕ → ℕ → Option ℕ → Type 0
 TellsShort t df n = TellsChildBy t df (ShortIdentifier n)
-
--- the dedicated file beside this one, or None where there is none with the identifier
-abbrev pub TellsBeside : List Entry → ℕ → ℕ → Option ℕ → Type 0
-TellsBeside t df id None = df ≢ 0 → (e : ℕ) → IsChild t (entry_in t df).parent e → (entry_in t e).kind ≡ 1
-    → (entry_in t e).identifier ≡ id → ⊥
-TellsBeside t df id (Some e) = (df ≢ 0) × IsChild t (entry_in t df).parent e × ((entry_in t e).kind ≡ 1)
-    × ((entry_in t e).identifier ≡ id)
-
--- the first with the identifier of the parent, the file itself and the master file
-abbrev pub TellsAbove : List Entry → ℕ → ℕ → Option ℕ → Type 0
-TellsAbove t df id found =
-    let above = (entry_in t df).parent in
-    found ≡ (if not (df == 0) && ((entry_in t above).identifier == id) then Some above else
-    if (entry_in t df).identifier == id then Some df else
-    if master_file == id then Some 0 else None)
 
 -- the entry of a number is that of the child that is looked for, or it is not
 pub child_there : (t : List Entry) (df e : ℕ) (key : ChildKey) (x : Entry) → x ≡ entry_in t e → 0 < e → IsChildBy x df key

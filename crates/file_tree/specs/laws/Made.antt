@@ -21,15 +21,13 @@ use Rattle.file_tree.specs.Trees.{tree_of, TreeStands}
 use Rattle.file_tree.specs.Changes.{SameTree, Creates, with_freed}
 use Rattle.file_tree.specs.NewFiles.{blank, new_file, short_of_new, first_reason, taken_refusal, place_refusal}
 use Rattle.file_tree.specs.Creations.{CreatesNew, IsCreated}
+use Rattle.file_tree.specs.CreationParts.{entry_for, no_chain, short_option, kind_number, WritesEntry, IsPlace, TakesAndWrites, FillsAndAdds}
 use Rattle.file_tree.specs.laws.Costs.{space_counted}
 use Rattle.file_tree.specs.laws.Rewriting.{filled}
 use Rattle.file_tree.specs.laws.Adding.{MayStand}
-use Rattle.file_tree.specs.laws.NewEntries.{entry_for, no_chain, short_option, new_dedicated, new_by_kind, kind_number, kind_blocks}
-use Rattle.file_tree.specs.laws.EntryWords.{WritesEntry}
+use Rattle.file_tree.specs.laws.NewEntries.{new_dedicated, new_by_kind, kind_blocks}
 use Rattle.file_tree.specs.laws.Creating.{df_created, df_path, df_free, df_entries, ef_created, ef_path, ef_free, ef_entries}
 use Rattle.file_tree.specs.laws.Allowed.{none_taken, may_stand}
-use Rattle.file_tree.specs.laws.Places.{IsPlace}
-use Rattle.file_tree.specs.laws.Created.{TakesAndWrites, FillsAndAdds}
 
 -- after a change that the tree does not see
 creates_after : (m mid after : List ℕ) (df identifier : ℕ) (file : File) → SameTree m mid → Creates mid df identifier file after

@@ -1,6 +1,6 @@
 -- The entry of a new file: that it is a file's entry, its words, and that its file is new.
 use Rattle.std.specs.Prelude.{◌≢◌, ◌≡◌, ◌==◌, ◌⊎◌, ◌<◌, ◌≤◌, ◌+◌, ◌-◌, ◌*◌, ◌%◌, ℕ, zero, suc, Bool, true, if◌then◌else◌}
-use Rattle.std.specs.Prelude.{List, ◌∷◌, ◌++◌, length, map, take, drop, replicate, Option, None, Some, unwrap_or}
+use Rattle.std.specs.Prelude.{List, ◌∷◌, length, map, take, drop, replicate, Option, None, Some, unwrap_or}
 use Rattle.std.specs.Prelude.{IsTrue, IsSome}
 use Rattle.std.specs.List.{range_with_len}
 use Rattle.std.proofs.Common.{refl, sym, ◌∙◌, ap, ap₂, subst, arith, inl, inr, ⊎_elim}
@@ -19,7 +19,7 @@ use Rattle.fcp_template.specs.declared.fcp.FileKind.TheVariants as kinds
 use Rattle.fcp_template.specs.declared.fcp.Records.{Records}
 use Rattle.fcp_template.specs.declared.fcp.ShortIdentifier.{ShortIdentifier}
 use Rattle.fcp_template.specs.Ranges.{IsRecords, IsKind, IsCreatable}
-use Rattle.fcp_template.specs.Views.{size_of_kind, name_bytes}
+use Rattle.fcp_template.specs.Views.{size_of_kind}
 use Rattle.block_chain.specs.declared.chain.Chain.{Chain}
 use Rattle.file_tree.specs.declared.entry.Entry.{Entry}
 use Rattle.file_tree.specs.Cards.{transparent, linear, cyclic, dedicated, elementary}
@@ -27,16 +27,7 @@ use Rattle.file_tree.specs.Entries.{file_of, slot, linear_records, cyclic_record
 use Rattle.file_tree.specs.Spaces.{blocks_for}
 use Rattle.file_tree.specs.Table.{IsFileEntry, IsRecordBody, HasBody, HasName}
 use Rattle.file_tree.specs.NewFiles.{blank, new_file, capacity}
-
--- so many bytes, with zeros behind those that are there
-abbrev pub padded : ℕ → List ℕ → List ℕ
-padded n bytes = bytes ++ replicate (n - length bytes) 0
-
-abbrev pub kind_number : FileKind → ℕ
-kind_number (kinds.Df name) = 1
-kind_number (kinds.Transparent short size) = 2
-kind_number (kinds.Linear short records) = 3
-kind_number (kinds.Cyclic short records) = 4
+use Rattle.file_tree.specs.CreationParts.{padded, kind_number, entry_for, short_option}
 
 -- a new file's entry is a used one
 pub some_kind : (kind : FileKind) → kind_number kind ≢ 0
@@ -45,49 +36,12 @@ some_kind (kinds.Transparent told size) same = omega (arith, same)
 some_kind (kinds.Linear told records) same = omega (arith, same)
 some_kind (kinds.Cyclic told records) same = omega (arith, same)
 
--- the record length, and how many records exist; 0 where the kind has none
-abbrev pub record_length_of_kind : FileKind → ℕ
-record_length_of_kind (kinds.Df name) = 0
-record_length_of_kind (kinds.Transparent short size) = 0
-record_length_of_kind (kinds.Linear short records) = records.record_length
-record_length_of_kind (kinds.Cyclic short records) = records.record_length
-
-abbrev pub existing_of_kind : FileKind → ℕ
-existing_of_kind (kinds.Df name) = 0
-existing_of_kind (kinds.Transparent short size) = 0
-existing_of_kind (kinds.Linear short records) = records.existing
-existing_of_kind (kinds.Cyclic short records) = records.existing
-
 -- a file has 32,767 bytes at most
 pub size_most : (kind : FileKind) → IsKind kind → size_of_kind kind ≤ 32767
 size_most (kinds.Df name) is = omega arith
 size_most (kinds.Transparent short size) is = is.1.most
 size_most (kinds.Linear short records) is = is.1.size.most
 size_most (kinds.Cyclic short records) is = is.1.size.most
-
--- no blocks
-abbrev pub no_chain : Chain
-no_chain = record { first = 0; last = 0 }
-
--- the entry of a new file
-abbrev pub entry_for : Fcp → ℕ → ℕ → Chain → Entry
-entry_for fcp parent short chain = record {
-  kind = kind_number fcp.kind;
-  life = life_cycle_byte fcp.life_cycle;
-  identifier = fcp.identifier;
-  parent = parent;
-  short = short;
-  name_length = length (name_bytes fcp.kind);
-  rule_length = length fcp.rule;
-  rule = padded 8 fcp.rule;
-  name = padded 16 (name_bytes fcp.kind);
-  size = size_of_kind fcp.kind;
-  record_length = record_length_of_kind fcp.kind;
-  first = chain.first;
-  last = chain.last;
-  records = existing_of_kind fcp.kind;
-  start = 0;
-}
 
 -- the state that its byte stands for
 pub life_again : (state : LifeCycle) → life_cycle_at (life_cycle_byte state) ≡ Some state
@@ -125,10 +79,6 @@ all_one : (f : ℕ → List ℕ) (v : List ℕ) (a n : ℕ) → ((i : ℕ) → a
 all_one f v a zero each = refl
 all_one f v a (suc n) each = ap₂ (λ (x : List ℕ) (xs : List (List ℕ)). x ∷ xs) (each a (omega arith) (omega arith))
     (all_one f v (a + 1) n (λ i from below. each i (omega (arith, from)) (omega (arith, below))))
-
--- 0 stands for no short identifier
-abbrev pub short_option : ℕ → Option ℕ
-short_option short = if short == 0 then None else Some short
 
 pub some_option : (short : ℕ) → short ≢ 0 → short_option short ≡ Some short
 some_option short some = elim (eqb_tells short 0) [

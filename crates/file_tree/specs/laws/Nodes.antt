@@ -14,7 +14,7 @@ use Rattle.file_tree.specs.declared.entry.Entry.{Entry}
 use Rattle.file_tree.specs.Cards.{dedicated, elementary, Body, Path, File, no_file, exists, file_at, is_dedicated}
 use Rattle.file_tree.specs.Entries.{file_of}
 use Rattle.file_tree.specs.Table.{table, entry_in, path_of, IsUsed, IsTable}
-use Rattle.file_tree.specs.Trees.{content, node, tree_of}
+use Rattle.file_tree.specs.Trees.{node, tree_of, file_in}
 use Rattle.file_tree.specs.laws.Tables.{length-table, entry_past}
 use Rattle.file_tree.specs.laws.Paths.{one_path}
 
@@ -114,10 +114,6 @@ module _ (nodes : ℕ → Option Node) where
   node_found a zero p f found = absurd (none_some f found)
   node_found a (suc n) p f found =
       node_first a p f (filter_map nodes (range_with_len (a + 1) n)) (node_found (a + 1) n p f) (nodes a) refl found
-
--- the file that an entry of a memory stands for
-abbrev pub file_in : List ℕ → ℕ → File
-file_in m e = file_of (entry_in (table m) e) (content m (entry_in (table m) e))
 
 -- a used entry is one of the table
 pub used_small : (m : List ℕ) (e : ℕ) → IsUsed (table m) e → e < 64

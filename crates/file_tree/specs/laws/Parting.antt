@@ -1,6 +1,6 @@
 -- A table in two parts: the entries of a file and of all below it go, the others stay. In each part a free entry stands
 -- where the other part has one.
-use Rattle.std.specs.Prelude.{◌≡◌, ◌≢◌, ◌==◌, ◌⊎◌, ◌<◌, ◌≤◌, ◌+◌, ◌-◌, ◌*◌, ◌&&◌, ℕ, zero, suc, Bool, true, false, not, cond}
+use Rattle.std.specs.Prelude.{◌≡◌, ◌≢◌, ◌==◌, ◌⊎◌, ◌<◌, ◌≤◌, ◌+◌, ◌-◌, ◌*◌, ℕ, zero, suc, Bool, true, false, cond}
 use Rattle.std.specs.Prelude.{if◌then◌else◌, List, [], ◌∷◌, map, length, slice_index_or, Option, None, Some, All}
 use Rattle.std.specs.List.{range_with_len, cons_option, sum_by}
 use Rattle.std.proofs.Common.{refl, sym, ◌∙◌, ap, ap₂, subst, arith, inl, inr, ⊎_elim}
@@ -14,22 +14,12 @@ use Rattle.file_tree.specs.declared.entry.Entry.{Entry}
 use Rattle.file_tree.specs.Spaces.{blocks_for}
 use Rattle.file_tree.specs.Entries.{free_entry, extent_of, extent_told, capacity_of}
 use Rattle.file_tree.specs.Table.{entry_in, extents, free_entries, IsEntry}
+use Rattle.file_tree.specs.DeletionParts.{is_gone, going, part_below}
 use Rattle.file_tree.specs.laws.Costs.{extent_of-none, extent_of-some}
-use Rattle.file_tree.specs.laws.Subtrees.{leads_up}
 
--- whether an entry's file is the one of another entry, or stands below it
-abbrev pub is_gone : List Entry → ℕ → ℕ → Bool
-is_gone t top f = not ((entry_in t f).kind == 0) && leads_up t 7 top f
-
-abbrev pub going : List Entry → ℕ → ℕ → Entry
-going t top f = if is_gone t top f then entry_in t f else free_entry
-
+-- an entry, where it stays; else a free one
 abbrev pub staying : List Entry → ℕ → ℕ → Entry
 staying t top f = if is_gone t top f then free_entry else entry_in t f
-
--- the part that goes
-unfoldable pub part_below : List Entry → ℕ → List Entry
-part_below t top = map (going t top) (range_with_len 0 64)
 
 -- the same by pages, which are one more than the numbers
 pub shifted : (t : List Entry) (top a n : ℕ)

@@ -10,29 +10,17 @@ use Rattle.fcp_template.specs.declared.fcp.FileKind.{FileKind}
 use Rattle.fcp_template.specs.Views.{size_of_kind}
 use Rattle.block_chain.specs.Chains.{free_chain}
 use Rattle.file_tree.specs.declared.space.FreeSpace.{FreeSpace}
-use Rattle.file_tree.specs.declared.placing.Place.{Place}
-use Rattle.file_tree.specs.declared.placing.Place.TheVariants.{At, Refused}
+use Rattle.file_tree.specs.declared.placing.Place.TheVariants.{At}
 use Rattle.file_tree.specs.Cards.{Path, Tree}
 use Rattle.file_tree.specs.Spaces.{blocks_for, free_space}
-use Rattle.file_tree.specs.Table.{table, entry_in, ancestor, path_of, free_entries, IsUsed}
+use Rattle.file_tree.specs.Table.{table, ancestor, path_of, free_entries, IsUsed}
 use Rattle.file_tree.specs.Trees.{tree_of, TreeStands}
 use Rattle.file_tree.specs.NewFiles.{place_refusal}
+use Rattle.file_tree.specs.CreationParts.{TellsFreeEntry, TellsPlace}
 use Rattle.file_tree.specs.laws.Tables.{length-table}
 use Rattle.file_tree.specs.laws.Costs.{space_counted}
 use Rattle.file_tree.specs.laws.Parting.{none_free, some_free}
-use Rattle.file_tree.specs.laws.Refusing.{TellsFreeEntry, level_told}
-
--- an entry that is free, in a dedicated file that is not on the last level, and enough free blocks
-pub record IsPlace (m : List ℕ) (df : ℕ) (kind : FileKind) (e : ℕ) : Type 0 where
-  pub small : e < 64
-  pub free : (entry_in (table m) e).kind ≡ 0
-  pub level : ancestor (table m) 6 df ≡ 0
-  pub enough : blocks_for (size_of_kind kind) ≤ length (free_chain m)
-
--- a place, where there is one, or why not
-abbrev pub TellsPlace : List ℕ → ℕ → FileKind → Place → Type 0
-TellsPlace m df kind (Refused status) = place_refusal (tree_of m) (path_of (table m) df) kind ≡ Some status
-TellsPlace m df kind (At e) = (place_refusal (tree_of m) (path_of (table m) df) kind ≡ None) × IsPlace m df kind e
+use Rattle.file_tree.specs.laws.Refusing.{level_told}
 
 place_is : (tree : Tree) (df : Path) (kind : FileKind) (a b c : Bool) → (length df == 7) ≡ a → ((free_space tree).entries == 0) ≡ b
     → nat_lt (free_space tree).blocks (blocks_for (size_of_kind kind)) ≡ c

@@ -11,29 +11,15 @@ use Rattle.file_tree.specs.declared.entry.Entry.{Entry}
 use Rattle.file_tree.specs.Cards.{Path, File, Body, dedicated, elementary, exists}
 use Rattle.file_tree.specs.Entries.{free_entry, entry_told, entry_of, file_of, name_of}
 use Rattle.file_tree.specs.Table.{table, entry_in, ancestor, path_in, path_of, IsUsed, IsTable}
-use Rattle.file_tree.specs.Trees.{content, node, tree_of}
+use Rattle.file_tree.specs.Trees.{content, node, tree_of, file_in}
 use Rattle.file_tree.specs.Reaching.{is_named}
 use Rattle.file_tree.specs.NewFiles.{has_name}
+use Rattle.file_tree.specs.Parts.{TellsChild, IsNamed, TellsNamed}
 use Rattle.file_tree.specs.laws.Tables.{length-table, entry_in-table}
 use Rattle.file_tree.specs.laws.Paths.{path-zero, path-below, path-enough, child_of_path, path_of_child}
-use Rattle.file_tree.specs.laws.Nodes.{Node, same_path, one_of_same, same_of_one, file_in, used_small, node_tells}
+use Rattle.file_tree.specs.laws.Nodes.{Node, same_path, one_of_same, same_of_one, used_small, node_tells}
 use Rattle.file_tree.specs.laws.Nodes.{get-used, exists-used, exists-none}
-use Rattle.file_tree.specs.laws.LookUps.{TellsChild}
 use Rattle.file_tree.specs.laws.Shorts.{entries_each, nodes_each, find_none, find_one}
-
--- an entry is a dedicated file's with this name
-pub record BearsName (x : Entry) (text : List ℕ) : Type 0 where
-  pub kind : x.kind ≡ 1
-  pub some : x.name_length ≢ 0
-  pub name : name_of x ≡ text
-
-abbrev pub IsNamed : List Entry → List ℕ → ℕ → Type 0
-IsNamed t text f = BearsName (entry_in t f) text
-
--- the dedicated file that has this name, or None where none has it
-abbrev pub TellsNamed : List Entry → List ℕ → Option ℕ → Type 0
-TellsNamed t name None = (f : ℕ) → IsNamed t name f → ⊥
-TellsNamed t name (Some f) = IsNamed t name f
 
 -- whether the file of an entry has the name, by its kind
 kind_named : (is_df none : Bool) (own name : List ℕ) (short : Option ℕ) (body : Body)
@@ -197,8 +183,3 @@ module _ (m : List ℕ) (rules : IsTable (table m)) where
         some_path : (o : Option ℕ) → is_some (option_map (path_of (table m)) o) ≡ is_some o
         some_path None = refl
         some_path (Some f) = refl
-
--- an entry is free, or none is
-abbrev pub TellsFreeEntry : List Entry → Option ℕ → Type 0
-TellsFreeEntry t None = (f : ℕ) → f < 64 → (entry_in t f).kind ≢ 0
-TellsFreeEntry t (Some e) = (e < 64) × ((entry_in t e).kind ≡ 0)

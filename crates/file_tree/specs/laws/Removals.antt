@@ -11,25 +11,17 @@ use Rattle.block_chain.specs.declared.chain.Chain.{Chain}
 use Rattle.block_chain.specs.Chains.{free_chain}
 use Rattle.block_chain.specs.Layout.{laid_out, chains_of, IsExtent, AreSplit}
 use Rattle.file_tree.specs.declared.entry.Entry.{Entry}
-use Rattle.file_tree.specs.declared.space.FreeSpace.{FreeSpace}
 use Rattle.file_tree.specs.declared.deleting.Removal.{Removal}
 use Rattle.file_tree.specs.Spaces.{free_space}
 use Rattle.file_tree.specs.Entries.{free_entry}
-use Rattle.file_tree.specs.Table.{table, entry_in, extents, free_entries, IsUsed}
+use Rattle.file_tree.specs.Table.{table, entry_in, extents, IsUsed}
 use Rattle.file_tree.specs.Trees.{tree_of, TreeStands}
 use Rattle.file_tree.specs.Changes.{Deletes, with_freed}
+use Rattle.file_tree.specs.DeletionParts.{leads_up, is_gone, going, part_below, IsRemoval, Removes, CanGive}
 use Rattle.file_tree.specs.laws.Tables.{entry_in-table}
 use Rattle.file_tree.specs.laws.Costs.{laid_blocks}
-use Rattle.file_tree.specs.laws.Subtrees.{leads_up}
-use Rattle.file_tree.specs.laws.Parting.{is_gone, going, staying, part_below, GoesOrStays, parts_split, parts_all, shifted}
-use Rattle.file_tree.specs.laws.Deleting.{on_page, Removes, CanGive, mid_has_free, mid_apart, deleted, space_freed}
-
--- the part of the table that goes, the chains of its extents, and how many blocks and entries they are
-pub record IsRemoval (m : List ℕ) (e : ℕ) (removal : Removal) : Type 0 where
-  pub part : removal.part.items ≡ part_below (table m) e
-  pub chains : removal.chains.items ≡ chains_of (extents (part_below (table m) e))
-  pub blocks : removal.space.blocks ≡ sum_by (λ x. x.blocks) (extents (part_below (table m) e))
-  pub entries : removal.space.entries + free_entries (part_below (table m) e) ≡ 64
+use Rattle.file_tree.specs.laws.Parting.{staying, GoesOrStays, parts_split, parts_all, shifted}
+use Rattle.file_tree.specs.laws.Deleting.{on_page, mid_has_free, mid_apart, deleted, space_freed}
 
 -- the part that goes has no more blocks than there are
 module _ (m : List ℕ) (top : ℕ) (stands : TreeStands m) where
@@ -82,28 +74,36 @@ module _ (m : List ℕ) (top : ℕ) (stands : TreeStands m) where
       let size = split.size in
       omega (arith, long, whole, both, size)
 
-module _ (m : List ℕ) (top : ℕ) (sized : length m ≡ WORDS) (stands : TreeStands m) (above : 0 < top)
-    (used : IsUsed (table m) top) (part : List Entry) (chains : List Chain) (part_is : part ≡ part_below (table m) top)
-    (chains_are : chains ≡ chains_of (extents (part_below (table m) top))) where
-  pub can_give : CanGive m part chains
-  can_give =
-      let family : List Entry → List Chain → Type 0 = λ p cs. CanGive m p cs in
-      subst (λ (cs : List Chain). family part cs) (sym chains_are)
-      (subst (λ (p : List Entry). family p (chains_of (extents (part_below (table m) top)))) (sym part_is)
-      (λ between freed. (mid_has_free m between top sized stands above used freed, mid_apart m between top sized stands above used freed)))
+-- What goes is removed: from words that are the same, and by lists that hold what was found.
+module _ (m now : List ℕ) (top : ℕ) (sized : length m ≡ WORDS) (stands : TreeStands m) (above : 0 < top)
+    (used : IsUsed (table m) top) (removal : Removal) (found : IsRemoval m top removal) (same : now ≡ m)
+    (part : List Entry) (chains : List Chain) (part_is : part ≡ removal.part.items)
+    (chains_are : chains ≡ removal.chains.items) where
+  abbrev gone_part : List Entry
+  gone_part = part_below (table m) top
 
-  module _ (after : List ℕ) (removes : Removes m part chains after) where
-    removed : Removes m (part_below (table m) top) (chains_of (extents (part_below (table m) top))) after
+  abbrev gone_chains : List Chain
+  gone_chains = chains_of (extents gone_part)
+
+  pub can_give : CanGive now part chains
+  can_give =
+      let family : List ℕ → List Entry → List Chain → Type 0 = λ l p cs. CanGive l p cs in
+      subst (λ (l : List ℕ). family l part chains) (sym same)
+      (subst (λ (cs : List Chain). family m part cs) (sym (chains_are ∙ found.chains))
+      (subst (λ (p : List Entry). family m p gone_chains) (sym (part_is ∙ found.part))
+      (λ between freed. (mid_has_free m between top sized stands above used freed, mid_apart m between top sized stands above used freed))))
+
+  module _ (after : List ℕ) (removes : Removes now part chains after) where
+    removed : Removes m gone_part gone_chains after
     removed =
-        let family : List Entry → List Chain → Type 0 = λ p cs. Removes m p cs after in
-        subst (λ (cs : List Chain). family (part_below (table m) top) cs) chains_are
-        (subst (λ (p : List Entry). family p chains) part_is removes)
+        let family : List ℕ → List Entry → List Chain → Type 0 = λ l p cs. Removes l p cs after in
+        subst (λ (cs : List Chain). family m gone_part cs) (chains_are ∙ found.chains)
+        (subst (λ (p : List Entry). family m p chains) (part_is ∙ found.part)
+        (subst (λ (l : List ℕ). family l part chains) same removes))
 
     pub removed_deletes : Deletes m top after
     removed_deletes = deleted m removed.between top sized stands above used removed.freed after removed.given
 
-    pub removed_space : (space : FreeSpace) → space.blocks ≡ sum_by (λ x. x.blocks) (extents (part_below (table m) top))
-        → space.entries + free_entries (part_below (table m) top) ≡ 64
-        → free_space (tree_of after) ≡ with_freed (free_space (tree_of m)) space
-    removed_space space blocks entries =
-        space_freed m removed.between top sized stands above used removed.freed after removed.given space blocks entries
+    pub removed_space : free_space (tree_of after) ≡ with_freed (free_space (tree_of m)) removal.space
+    removed_space = space_freed m removed.between top sized stands above used removed.freed after removed.given
+        removal.space found.blocks found.entries

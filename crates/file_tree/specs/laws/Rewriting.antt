@@ -21,10 +21,10 @@ use Rattle.file_tree.specs.Cards.{transparent, linear, cyclic, dedicated, elemen
 use Rattle.file_tree.specs.Entries.{file_of, linear_records, cyclic_records, capacity_of, rule_of, name_of}
 use Rattle.file_tree.specs.Entries.{extent_told}
 use Rattle.file_tree.specs.Table.{table, entry_in, path_of, extents, IsUsed, IsTable}
-use Rattle.file_tree.specs.Trees.{content, tree_of, TreeStands}
+use Rattle.file_tree.specs.Trees.{content, tree_of, TreeStands, file_in}
 use Rattle.file_tree.specs.Changes.{KeepsRest, SameTree, Rewrites, with_overwritten}
 use Rattle.file_tree.specs.laws.Tables.{table-same, length-table}
-use Rattle.file_tree.specs.laws.Nodes.{file_in, file_at_entry, used_small}
+use Rattle.file_tree.specs.laws.Nodes.{file_at_entry, used_small}
 use Rattle.file_tree.specs.laws.Costs.{entry_extent}
 use Rattle.file_tree.specs.laws.Contents.{content-none, content-some, count_both, count_named, named-some}
 use Rattle.file_tree.specs.laws.Changing.{tree_inserted, tree_stays}

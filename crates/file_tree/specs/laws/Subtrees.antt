@@ -7,13 +7,9 @@ use Rattle.std.proofs.lemmas.Bool.Decides.{eqb_tells}
 use Rattle.file_tree.specs.declared.entry.Entry.{Entry}
 use Rattle.file_tree.specs.Cards.{Path}
 use Rattle.file_tree.specs.Table.{entry_in, ancestor, path_in, path_of, IsUsed, IsTable}
+use Rattle.file_tree.specs.DeletionParts.{leads_up}
 use Rattle.file_tree.specs.laws.Levels.{ancestor-more}
 use Rattle.file_tree.specs.laws.Paths.{path-zero, path-below, path-enough, path_of-child, parent_used, reaches_master, one_path}
-
--- whether at most so many steps to parents lead from an entry to another one, or it is that
-unfoldable pub leads_up : List Entry → ℕ → ℕ → ℕ → Bool
-leads_up t zero top f = f == top
-leads_up t (suc n) top f = (f == top) || leads_up t n top (entry_in t f).parent
 
 pub and_false : (b : Bool) → b && false ≡ false
 and_false true = refl

@@ -19,9 +19,9 @@ use Rattle.file_tree.specs.Table.{table, entry_in, path_of}
 use Rattle.file_tree.specs.Trees.{tree_of, TreeStands}
 use Rattle.file_tree.specs.Creations.{IsCreated}
 use Rattle.file_tree.specs.NewFiles.{short_of_new, first_reason, creation_refusal}
-use Rattle.file_tree.specs.laws.NewEntries.{entry_for, no_chain, short_option, size_most, some_kind}
+use Rattle.file_tree.specs.CreationParts.{entry_for, no_chain, short_option, FindsPlace, FillsAndAdds}
+use Rattle.file_tree.specs.laws.NewEntries.{size_most, some_kind}
 use Rattle.file_tree.specs.laws.Rewriting.{filled}
-use Rattle.file_tree.specs.laws.Created.{FindsPlace, FillsAndAdds}
 use Rattle.file_tree.specs.laws.Made.{is_created}
 use Rattle.undo_journal.specs.laws.Told.{changes_after, changes_handed, reads_change, reads_on}
 use Rattle.file_tree.proofs.creating.create.Goals as goal

@@ -7,14 +7,13 @@ use Rattle.file_tree.specs.declared.placing.Place.TheVariants.{At, Refused}
 use Rattle.file_tree.specs.NewFiles.{taken_refusal, place_refusal, first_reason}
 use Rattle.file_tree.specs.Table.{path_of}
 use Rattle.file_tree.specs.Trees.{tree_of}
-use Rattle.file_tree.specs.laws.Created.{FindsPlace}
-use Rattle.file_tree.specs.laws.Places.{TellsPlace}
 use Rattle.std.proofs.lemmas.Result.{IfOk-weaker}
 use Rattle.std.proofs.Common.{List, ℕ, sym, subst}
 use Rattle.file_tree.specs.Table.{table, IsUsed}
 use Rattle.file_tree.specs.Trees.{TreeStands}
 use Rattle.undo_journal.specs.laws.Exits.{none_ok}
 use Rattle.undo_journal.specs.laws.Told.{reads_on, reads_handed}
+use Rattle.file_tree.specs.CreationParts.{FindsPlace, TellsPlace}
 use Rattle.file_tree.proofs.creating.find_place.Goals as goal
 
 pub taken-requires-clause-ready : goal.taken-requires-clause-ready

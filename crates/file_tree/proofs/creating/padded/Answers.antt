@@ -5,7 +5,7 @@ use Rattle.std.proofs.lemmas.Bool.{cases_lt}
 use Rattle.std.proofs.lemmas.Bool.Decides.{eqb_tells}
 use Rattle.std.proofs.lemmas.Grind.{same_number_lists}
 use Rattle.std.proofs.lemmas.List.{length-append, length-replicate, get_or-append_right}
-use Rattle.file_tree.specs.laws.NewEntries.{padded}
+use Rattle.file_tree.specs.CreationParts.{padded}
 use Rattle.file_tree.proofs.creating.padded.Goals as goal
 
 zeros : (n j : ℕ) → slice_index (replicate n 0) j ≡ 0

@@ -7,7 +7,8 @@ use Rattle.file_tree.specs.Reaching.{child_by_short}
 use Rattle.file_tree.specs.Table.{table, path_of}
 use Rattle.file_tree.specs.Trees.{tree_of}
 use Rattle.file_tree.specs.NewFiles.{low_bits}
-use Rattle.file_tree.specs.laws.NewEntries.{short_option, some_option}
+use Rattle.file_tree.specs.CreationParts.{short_option}
+use Rattle.file_tree.specs.laws.NewEntries.{some_option}
 use Rattle.undo_journal.specs.laws.Exits.{none_ok}
 use Rattle.undo_journal.specs.laws.Told.{reads_none, reads_handed}
 use Rattle.file_tree.proofs.creating.short_by_default.Goals as goal

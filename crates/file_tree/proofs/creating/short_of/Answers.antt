@@ -11,8 +11,9 @@ use Rattle.file_tree.specs.Cards.{Path, Tree}
 use Rattle.file_tree.specs.NewFiles.{short_for, short_of_new}
 use Rattle.file_tree.specs.Table.{table, path_of}
 use Rattle.file_tree.specs.Trees.{tree_of}
+use Rattle.file_tree.specs.CreationParts.{short_option}
 use Rattle.file_tree.specs.laws.Allowed.{creatable_short}
-use Rattle.file_tree.specs.laws.NewEntries.{short_option, some_option}
+use Rattle.file_tree.specs.laws.NewEntries.{some_option}
 use Rattle.undo_journal.specs.laws.Told.{reads_none}
 use Rattle.std.proofs.lemmas.Result.{IfOk-weaker}
 use Rattle.file_tree.proofs.creating.short_of.Goals as goal

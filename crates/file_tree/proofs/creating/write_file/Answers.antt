@@ -10,7 +10,7 @@ use Rattle.file_tree.specs.declared.entry.Entry.{Entry}
 use Rattle.file_tree.specs.declared.layout.TheConstants.{CREATE_WRITES}
 use Rattle.file_tree.specs.NewFiles.{blank}
 use Rattle.file_tree.specs.Table.{table, extents}
-use Rattle.file_tree.specs.laws.Created.{AddsFile, FillsAndAdds}
+use Rattle.file_tree.specs.CreationParts.{AddsFile, FillsAndAdds}
 use Rattle.file_tree.specs.laws.Rewriting.{filled}
 use Rattle.undo_journal.specs.laws.Exits.{on_then, on_error}
 use Rattle.undo_journal.specs.laws.Transactions.{stays}

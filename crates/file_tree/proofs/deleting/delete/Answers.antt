@@ -1,10 +1,10 @@
 use Rattle.undo_journal.specs.laws.Exits.{none_ok}
-use Rattle.std.proofs.Common.{◌≡◌, ℕ, List, length, sym, ◌∙◌, ap, subst, inl, inr, ⊎_elim}
+use Rattle.std.proofs.Common.{◌≡◌, List, length, ◌∙◌, ap, inl, inr, ⊎_elim}
 use Rattle.undo_journal.specs.Memory.{committed}
 use Rattle.file_tree.specs.declared.entry.Entry.{Entry}
+use Rattle.file_tree.specs.DeletionParts.{Removes}
 use Rattle.file_tree.specs.laws.Parting.{length-part}
 use Rattle.file_tree.specs.Table.{table}
-use Rattle.file_tree.specs.laws.Deleting.{CanGive, Removes}
 use Rattle.file_tree.specs.laws.Removals.{can_give, removed_deletes, removed_space}
 use Rattle.undo_journal.specs.laws.Told.{changes_after, reads_change, changes_handed}
 use Rattle.file_tree.proofs.deleting.delete.Goals as goal
@@ -18,69 +18,47 @@ remove-requires-clause-size g c =
 pub remove-requires-clause-apart : goal.remove-requires-clause-apart
 remove-requires-clause-apart g c =
     let m = committed c.args.store.now in
-    let removal = c.in_ok-removal.ensures.removal in
-    let part = c.as_slice.ensures.value ∙ removal.part in
-    let chains = c.as_slice-2.ensures.value ∙ removal.chains in
     let sized = c.requires.ready.usable.committed_size in
     let read = c.removal_of.ensures.store.only.keeps.committed_words in
-    let family : List ℕ → Type 0 = λ l. CanGive l c.as_slice.result.now c.as_slice-2.result.now in
-    subst family (sym read) (can_give m c.args.e sized c.requires.tree c.requires.below c.requires.used _ _ part chains)
+    can_give m _ c.args.e sized c.requires.tree c.requires.below c.requires.used _ c.in_ok-removal.ensures.removal read
+    _ _ c.as_slice.ensures.value c.as_slice-2.ensures.value
 
 pub returns-in_err-remove-clause-any_exit : goal.returns-in_err-remove-clause-any_exit
 returns-in_err-remove-clause-any_exit g c =
     let m = committed c.args.store.now in
-    let removal = c.in_ok-removal.ensures.removal in
-    let part = c.as_slice.ensures.value ∙ removal.part in
-    let chains = c.as_slice-2.ensures.value ∙ removal.chains in
     let sized = c.requires.ready.usable.committed_size in
     let read = c.removal_of.ensures.store.only.keeps.committed_words in
-    let family : List ℕ → Type 0 = λ l. Removes l c.as_slice.result.now c.as_slice-2.result.now
-    (committed c.remove.new.store) in
+    let after = committed c.remove.new.store in
     ⊎_elim
-    (λ (kept : committed c.remove.new.store ≡ committed c.removal_of.new.store). inl (kept ∙ read))
-    (λ (removes : family (committed c.removal_of.new.store)).
-    inr (removed_deletes m c.args.e sized c.requires.tree c.requires.below c.requires.used _ _ part chains _
-    (subst family read removes)))
+    (λ (kept : after ≡ committed c.removal_of.new.store). inl (kept ∙ read))
+    (λ (removes : Removes (committed c.removal_of.new.store) c.as_slice.result.now c.as_slice-2.result.now after).
+    inr (removed_deletes m _ c.args.e sized c.requires.tree c.requires.below c.requires.used _ c.in_ok-removal.ensures.removal read
+    _ _ c.as_slice.ensures.value c.as_slice-2.ensures.value after removes))
     c.remove.ensures.any_exit
 
 pub returns-clause-done : goal.returns-clause-done
 returns-clause-done g c =
     let m = committed c.args.store.now in
-    let removal = c.in_ok-removal.ensures.removal in
-    let part = c.as_slice.ensures.value ∙ removal.part in
-    let chains = c.as_slice-2.ensures.value ∙ removal.chains in
     let sized = c.requires.ready.usable.committed_size in
     let read = c.removal_of.ensures.store.only.keeps.committed_words in
-    let family : List ℕ → Type 0 = λ l. Removes l c.as_slice.result.now c.as_slice-2.result.now
-    (committed c.remove.new.store) in
-    removed_deletes m c.args.e sized c.requires.tree c.requires.below c.requires.used _ _ part chains _
-    (subst family read c.in_ok-remove.ensures.done)
+    removed_deletes m _ c.args.e sized c.requires.tree c.requires.below c.requires.used _ c.in_ok-removal.ensures.removal read
+    _ _ c.as_slice.ensures.value c.as_slice-2.ensures.value _ c.in_ok-remove.ensures.done
 
 pub returns-clause-any_exit : goal.returns-clause-any_exit
 returns-clause-any_exit g c =
     let m = committed c.args.store.now in
-    let removal = c.in_ok-removal.ensures.removal in
-    let part = c.as_slice.ensures.value ∙ removal.part in
-    let chains = c.as_slice-2.ensures.value ∙ removal.chains in
     let sized = c.requires.ready.usable.committed_size in
     let read = c.removal_of.ensures.store.only.keeps.committed_words in
-    let family : List ℕ → Type 0 = λ l. Removes l c.as_slice.result.now c.as_slice-2.result.now
-    (committed c.remove.new.store) in
-    inr (removed_deletes m c.args.e sized c.requires.tree c.requires.below c.requires.used _ _ part chains _
-    (subst family read c.in_ok-remove.ensures.done))
+    inr (removed_deletes m _ c.args.e sized c.requires.tree c.requires.below c.requires.used _ c.in_ok-removal.ensures.removal read
+    _ _ c.as_slice.ensures.value c.as_slice-2.ensures.value _ c.in_ok-remove.ensures.done)
 
 pub returns-clause-space : goal.returns-clause-space
 returns-clause-space g c =
     let m = committed c.args.store.now in
-    let removal = c.in_ok-removal.ensures.removal in
-    let part = c.as_slice.ensures.value ∙ removal.part in
-    let chains = c.as_slice-2.ensures.value ∙ removal.chains in
     let sized = c.requires.ready.usable.committed_size in
     let read = c.removal_of.ensures.store.only.keeps.committed_words in
-    let family : List ℕ → Type 0 = λ l. Removes l c.as_slice.result.now c.as_slice-2.result.now
-    (committed c.remove.new.store) in
-    removed_space m c.args.e sized c.requires.tree c.requires.below c.requires.used _ _ part chains _
-    (subst family read c.in_ok-remove.ensures.done) c.in_ok-removal.removal.space removal.blocks removal.entries
+    removed_space m _ c.args.e sized c.requires.tree c.requires.below c.requires.used _ c.in_ok-removal.ensures.removal read
+    _ _ c.as_slice.ensures.value c.as_slice-2.ensures.value _ c.in_ok-remove.ensures.done
 
 pub removal_of-requires-clause-ready : goal.removal_of-requires-clause-ready
 removal_of-requires-clause-ready g c = c.requires.ready

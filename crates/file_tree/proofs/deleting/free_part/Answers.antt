@@ -7,8 +7,9 @@ use Rattle.undo_journal.specs.laws.Calls.{sets_then, sets_weaker}
 use Rattle.file_tree.specs.declared.entry.Entry.{Entry}
 use Rattle.file_tree.specs.declared.layout.TheConstants.{FIRST_ENTRY_PAGE}
 use Rattle.file_tree.specs.Table.{entry_in}
+use Rattle.file_tree.specs.DeletionParts.{FreesUpTo}
 use Rattle.file_tree.specs.laws.Tables.{entry_within}
-use Rattle.file_tree.specs.laws.Deleting.{FreesUpTo, frees_next, frees_skip}
+use Rattle.file_tree.specs.laws.Deleting.{frees_next, frees_skip}
 use Rattle.undo_journal.specs.laws.Told.{sets_in_on, sets_in_handed}
 use Rattle.file_tree.proofs.deleting.free_part.Goals as goal
 use Rattle.file_tree.proofs.deleting.free_part.Goals.{then-part-from-ne-FREE+in_ok-set, else-part-from-ne-FREE}

@@ -1,7 +1,7 @@
 use Rattle.undo_journal.specs.Memory.{current, IsOpen}
 use Rattle.undo_journal.specs.Lent.{memory_of}
 use Rattle.undo_journal.specs.Calls.{Sets}
-use Rattle.file_tree.specs.laws.Deleting.{FreesUpTo}
+use Rattle.file_tree.specs.DeletionParts.{FreesUpTo}
 use Rattle.file_tree.proofs.deleting.free_part.Given as goal
 
 abbrev pub invariant-loop-e : goal.invariant-loop-e

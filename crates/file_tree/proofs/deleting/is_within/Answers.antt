@@ -1,5 +1,6 @@
 use Rattle.std.proofs.Common.{◌≡◌, ◌+◌, ◌-◌, ℕ, suc, ◌∙◌, ap, arith, sym}
-use Rattle.file_tree.specs.laws.Subtrees.{leads_up, leads_up-step, leads_up-here, leads_up-zero}
+use Rattle.file_tree.specs.DeletionParts.{leads_up}
+use Rattle.file_tree.specs.laws.Subtrees.{leads_up-step, leads_up-here, leads_up-zero}
 use Rattle.file_tree.proofs.deleting.is_within.Goals as goal
 
 pub loop-step-preserved : goal.loop-step-preserved

@@ -1,5 +1,5 @@
 use Rattle.std.proofs.Common.{◌≡◌, ◌-◌}
-use Rattle.file_tree.specs.laws.Subtrees.{leads_up}
+use Rattle.file_tree.specs.DeletionParts.{leads_up}
 use Rattle.file_tree.proofs.deleting.is_within.Given as goal
 
 abbrev pub invariant-loop-step : goal.invariant-loop-step

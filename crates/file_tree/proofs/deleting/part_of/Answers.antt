@@ -2,7 +2,7 @@ use Rattle.std.proofs.Common.{rules, ◌≡◌, ◌+◌, ◌++◌, ◌∷◌, []
 use Rattle.std.specs.List.{range_with_len}
 use Rattle.std.proofs.lemmas.List.FromFn.{map-range_with_len_more}
 use Rattle.file_tree.specs.declared.entry.Entry.{Entry}
-use Rattle.file_tree.specs.laws.Parting.{going, part_below}
+use Rattle.file_tree.specs.DeletionParts.{going, part_below}
 use Rattle.file_tree.proofs.deleting.part_of.Goals as goal
 
 pub loop-e-preserved : goal.loop-e-preserved

@@ -1,6 +1,6 @@
 use Rattle.std.proofs.Common.{◌≡◌, length, map}
 use Rattle.std.specs.List.{range_with_len}
-use Rattle.file_tree.specs.laws.Parting.{going}
+use Rattle.file_tree.specs.DeletionParts.{going}
 use Rattle.file_tree.proofs.deleting.part_of.Given as goal
 
 abbrev pub invariant-loop-e : goal.invariant-loop-e

@@ -7,8 +7,9 @@ use Rattle.block_chain.specs.declared.chain.Extent.{Extent}
 use Rattle.block_chain.specs.Layout.{chains_of}
 use Rattle.file_tree.specs.declared.entry.Entry.{Entry}
 use Rattle.file_tree.specs.Table.{table, extents, free_entries}
+use Rattle.file_tree.specs.DeletionParts.{part_below}
 use Rattle.file_tree.specs.laws.Tables.{length-table}
-use Rattle.file_tree.specs.laws.Parting.{part_below, length-part, most_free}
+use Rattle.file_tree.specs.laws.Parting.{length-part, most_free}
 use Rattle.file_tree.specs.laws.Removals.{part_blocks}
 use Rattle.undo_journal.specs.laws.Told.{reads_handed}
 use Rattle.file_tree.proofs.deleting.removal_of.Goals as goal

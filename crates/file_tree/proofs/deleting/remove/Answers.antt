@@ -1,11 +1,11 @@
 use Rattle.std.proofs.Common.{◌+◌, ◌*◌, length, sym, ◌∙◌, inl, arith}
 use Rattle.undo_journal.specs.Lent.{memory_of}
 use Rattle.file_tree.specs.declared.layout.TheConstants.{DELETE_WRITES}
-use Rattle.file_tree.specs.laws.Deleting.{Removes}
 use Rattle.undo_journal.specs.laws.Exits.{on_then, on_error}
 use Rattle.undo_journal.specs.laws.Transactions.{stays}
 use Rattle.file_tree.proofs.Transactions.{lasts, stays_or_lasts}
 use Rattle.undo_journal.specs.laws.Told.{spent, spent_failed}
+use Rattle.file_tree.specs.DeletionParts.{Removes}
 use Rattle.file_tree.proofs.deleting.remove.Goals as goal
 
 pub returns-in-Ok-clause-any_exit : goal.returns-in-Ok-clause-any_exit

@@ -10,7 +10,8 @@ use Rattle.undo_journal.specs.Memory.{committed}
 use Rattle.card_rules.specs.Rule.{allows, is_rule}
 use Rattle.file_tree.specs.declared.entry.Entry.{Entry}
 use Rattle.file_tree.specs.Entries.{rule_of}
-use Rattle.file_tree.specs.laws.Barring.{life_told, life_told_there, rule_told_there, rule_is_one}
+use Rattle.file_tree.specs.Parts.{life_told}
+use Rattle.file_tree.specs.laws.Barring.{life_told_there, rule_told_there, rule_is_one}
 use Rattle.file_tree.specs.laws.Nodes.{used_small}
 use Rattle.undo_journal.specs.laws.Told.{reads_handed}
 use Rattle.file_tree.proofs.life_cycles.is_allowed.Goals as goal

@@ -7,7 +7,8 @@ use Rattle.file_tree.specs.declared.entry.Entry.{Entry}
 use Rattle.file_tree.specs.States.{bars, is_barred}
 use Rattle.file_tree.specs.Table.{table, entry_in, path_of, IsUsed}
 use Rattle.file_tree.specs.Trees.{tree_of, TreeStands}
-use Rattle.file_tree.specs.laws.Barring.{barred_up, barred_told, life_told, life_told_there}
+use Rattle.file_tree.specs.Parts.{barred_up, life_told}
+use Rattle.file_tree.specs.laws.Barring.{barred_told, life_told_there}
 use Rattle.file_tree.specs.laws.Nodes.{used_small}
 use Rattle.undo_journal.specs.laws.Told.{reads_handed, reads_on}
 use Rattle.file_tree.proofs.life_cycles.is_barred.Goals as goal

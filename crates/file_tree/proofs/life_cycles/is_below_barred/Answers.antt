@@ -5,7 +5,8 @@ use Rattle.undo_journal.specs.laws.Calls.{reads_then}
 use Rattle.file_tree.specs.declared.entry.Entry.{Entry}
 use Rattle.file_tree.specs.States.{bars}
 use Rattle.file_tree.specs.Table.{table, entry_in, IsUsed, IsTable}
-use Rattle.file_tree.specs.laws.Barring.{barred_up, barred_up-master, barred_up-none, barred_up-step, life_told}
+use Rattle.file_tree.specs.Parts.{barred_up, life_told}
+use Rattle.file_tree.specs.laws.Barring.{barred_up-master, barred_up-none, barred_up-step}
 use Rattle.file_tree.specs.laws.Nodes.{used_small}
 use Rattle.file_tree.specs.laws.Paths.{parent_used}
 use Rattle.undo_journal.specs.laws.Told.{reads_so_far, reads_handed, reads_on}

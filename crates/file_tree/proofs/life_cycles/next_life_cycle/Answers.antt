@@ -8,7 +8,8 @@ use Rattle.card_rules.specs.LifeCycle.{state_after}
 use Rattle.card_rules.specs.declared.life_cycle.LifeCycle.{LifeCycle}
 use Rattle.file_tree.specs.declared.entry.Entry.{Entry}
 use Rattle.file_tree.specs.Table.{table}
-use Rattle.file_tree.specs.laws.Barring.{barred_up, barred_told, life_told, life_told_there}
+use Rattle.file_tree.specs.Parts.{barred_up, life_told}
+use Rattle.file_tree.specs.laws.Barring.{barred_told, life_told_there}
 use Rattle.file_tree.specs.laws.Nodes.{used_small}
 use Rattle.undo_journal.specs.laws.Told.{reads_handed, reads_on}
 use Rattle.file_tree.proofs.life_cycles.next_life_cycle.Goals as goal

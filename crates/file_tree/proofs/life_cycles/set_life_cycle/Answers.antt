@@ -12,8 +12,9 @@ use Rattle.file_tree.specs.declared.layout.TheConstants.{FIRST_ENTRY_PAGE}
 use Rattle.file_tree.specs.States.{ChangesLife, life_at}
 use Rattle.file_tree.specs.Table.{table, entry_in, path_of, IsUsed}
 use Rattle.file_tree.specs.Trees.{tree_of, TreeStands}
+use Rattle.file_tree.specs.Parts.{TellsLife}
 use Rattle.file_tree.specs.laws.Nodes.{used_small}
-use Rattle.file_tree.specs.laws.Living.{TellsLife, life_written, life_changed, life_stays, byte_of_state}
+use Rattle.file_tree.specs.laws.Living.{life_written, life_changed, life_stays, byte_of_state}
 use Rattle.undo_journal.specs.laws.Told.{changes_after, reads_change, changes_handed}
 use Rattle.file_tree.proofs.life_cycles.set_life_cycle.Goals as goal
 

@@ -4,8 +4,9 @@ use Rattle.file_tree.specs.Cards.{master_file}
 use Rattle.file_tree.specs.Table.{table, entry_in}
 use Rattle.undo_journal.specs.Memory.{committed}
 use Rattle.file_tree.specs.declared.entry.Entry.{Entry}
+use Rattle.file_tree.specs.Parts.{TellsAbove}
 use Rattle.file_tree.specs.laws.Nodes.{used_small}
-use Rattle.file_tree.specs.laws.LookUps.{parent_small, TellsAbove}
+use Rattle.file_tree.specs.laws.LookUps.{parent_small}
 use Rattle.undo_journal.specs.laws.Told.{reads_handed, reads_on}
 use Rattle.file_tree.proofs.look_up.find_above.Goals as goal
 

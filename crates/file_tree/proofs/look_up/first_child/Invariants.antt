@@ -2,7 +2,7 @@ use Rattle.std.proofs.Common.{◌<◌, ℕ}
 use Rattle.undo_journal.specs.Memory.{committed, IsReady}
 use Rattle.undo_journal.specs.Calls.{OnlyReads}
 use Rattle.file_tree.specs.Table.{table, entry_in, IsChild}
-use Rattle.file_tree.specs.laws.LookUps.{IsKnownBy}
+use Rattle.file_tree.specs.Parts.{IsKnownBy}
 use Rattle.file_tree.proofs.look_up.first_child.Given as goal
 
 abbrev pub invariant-loop-e : goal.invariant-loop-e

@@ -7,7 +7,8 @@ use Rattle.std.proofs.lemmas.Result.{IfOk-weaker}
 use Rattle.undo_journal.specs.laws.Calls.{reads_then}
 use Rattle.undo_journal.specs.Memory.{committed}
 use Rattle.file_tree.specs.Table.{table}
-use Rattle.file_tree.specs.laws.LookUps.{TellsAbove, told_child, told_beside, told_above_used, reached_child, reached_beside, reached_above}
+use Rattle.file_tree.specs.Parts.{TellsAbove}
+use Rattle.file_tree.specs.laws.LookUps.{told_child, told_beside, told_above_used, reached_child, reached_beside, reached_above}
 use Rattle.undo_journal.specs.laws.Told.{reads_handed, reads_on}
 use Rattle.file_tree.proofs.look_up.select.Goals as goal
 

@@ -2,8 +2,8 @@ use Rattle.std.proofs.Common.{rules, ◌≡◌, ◌<◌, ◌≤◌, ℕ, length,
 use Rattle.std.proofs.lemmas.Bool.{cases_lt}
 use Rattle.file_tree.specs.declared.entry.Entry.{Entry}
 use Rattle.file_tree.specs.Table.{entry_in}
+use Rattle.file_tree.specs.Parts.{BearsName, IsNamed}
 use Rattle.file_tree.specs.laws.Tables.{entry_within}
-use Rattle.file_tree.specs.laws.Refusing.{BearsName, IsNamed}
 use Rattle.file_tree.proofs.naming.entry_named.Goals as goal
 
 pub returns-then-bears_name : goal.returns-then-bears_name

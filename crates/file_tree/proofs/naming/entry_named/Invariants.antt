@@ -1,5 +1,5 @@
 use Rattle.std.proofs.Common.{◌<◌, ℕ}
-use Rattle.file_tree.specs.laws.Refusing.{IsNamed}
+use Rattle.file_tree.specs.Parts.{IsNamed}
 use Rattle.file_tree.proofs.naming.entry_named.Given as goal
 
 abbrev pub invariant-loop-e : goal.invariant-loop-e

@@ -5,7 +5,8 @@ use Rattle.undo_journal.specs.Memory.{committed}
 use Rattle.undo_journal.specs.laws.Calls.{reads_same, reads_then}
 use Rattle.file_tree.specs.Cards.{Path}
 use Rattle.file_tree.specs.Table.{table, IsUsed}
-use Rattle.file_tree.specs.laws.LookUps.{TellsChild, told_child}
+use Rattle.file_tree.specs.Parts.{TellsChild}
+use Rattle.file_tree.specs.laws.LookUps.{told_child}
 use Rattle.file_tree.specs.laws.Selecting.{IsOnWay, way_goes_on, way_ends, way_is_lost}
 use Rattle.undo_journal.specs.laws.Told.{reads_so_far, reads_handed, reads_on}
 use Rattle.file_tree.proofs.naming.find_path.Goals as goal

@@ -1,5 +1,5 @@
 use Rattle.undo_journal.specs.laws.Exits.{none_ok}
-use Rattle.std.proofs.Common.{rules, ◌≡◌, ◌≢◌, ℕ, Bool, false, List, length, Option, None, Some, IsTrue, sym, ◌∙◌, ap, subst, arith, true≢false, inl, inr}
+use Rattle.std.proofs.Common.{rules, ◌≡◌, ◌≢◌, ℕ, Bool, false, List, length, Option, None, IsTrue, sym, ◌∙◌, ap, subst, arith, true≢false, inl, inr}
 use Rattle.std.proofs.lemmas.Bool.Decides.{eqb_tells}
 use Rattle.undo_journal.specs.Memory.{committed}
 use Rattle.block_chain.specs.Chains.{free_chain, HasFree}
@@ -7,18 +7,25 @@ use Rattle.block_chain.specs.laws.Extents.{laid_has_free}
 use Rattle.file_tree.specs.declared.entry.Entry.{Entry}
 use Rattle.file_tree.specs.Spaces.{blocks_for}
 use Rattle.file_tree.specs.Table.{table, ancestor, extents}
+use Rattle.file_tree.specs.CreationParts.{TellsFreeEntry}
 use Rattle.file_tree.specs.laws.Tables.{length-table}
-use Rattle.file_tree.specs.laws.Refusing.{TellsFreeEntry}
 use Rattle.file_tree.specs.laws.Places.{place_deepest, place_none, place_small, place_there}
 use Rattle.undo_journal.specs.laws.Told.{reads_handed, reads_on}
 use Rattle.file_tree.proofs.placing.place_for.Goals as goal
 
--- what is not on the last level
-level_zero : (t : List Entry) (df : ℕ) (b : Bool) → b ≡ false → (ancestor t 6 df ≢ 0 → IsTrue b) → ancestor t 6 df ≡ 0
-level_zero t df b fails tells = elim (eqb_tells (ancestor t 6 df) 0) [
-  | inl same ↦ same.1
+-- what the table that was read tells is so of the memory: the level of a dedicated file, and a free entry
+level_zero : (m : List ℕ) (t : List Entry) (df : ℕ) (b : Bool) → t ≡ table m → b ≡ false → (ancestor t 6 df ≢ 0 → IsTrue b)
+    → ancestor (table m) 6 df ≡ 0
+level_zero m t df b is fails tells = elim (eqb_tells (ancestor t 6 df) 0) [
+  | inl same ↦ sym (ap (λ (s : List Entry). ancestor s 6 df) is) ∙ same.1
   | inr other ↦ absurd (true≢false (sym (tells other.1) ∙ fails))
 ]
+
+free_there : (m : List ℕ) (t : List Entry) (found o : Option ℕ) → t ≡ table m → found ≡ o → TellsFreeEntry t found
+    → TellsFreeEntry (table m) o
+free_there m t found o is same told =
+    let tells : Option ℕ → List Entry → Type 0 = λ p s. TellsFreeEntry s p in
+    subst (λ (s : List Entry). tells o s) is (subst (λ (p : Option ℕ). tells p t) same told)
 
 pub returns-then-is_deepest-clause-place : goal.returns-then-is_deepest-clause-place
 returns-then-is_deepest-clause-place g c =
@@ -40,16 +47,10 @@ pub returns-in_default-clause-place : goal.returns-in_default-clause-place
 returns-in_default-clause-place g c =
     let m = committed c.args.store.now in
     let sized = c.requires.ready.usable.committed_size in
-    let entries = c.as_slice.ensures.value ∙ c.in_ok-entries.ensures.table in
-    let of_table : List Entry → Type 0 = λ t. ancestor t 6 c.args.df ≡ 0 in
-    let level : ancestor (table m) 6 c.args.df ≡ 0 = subst of_table entries
-    (level_zero c.as_slice.result.now c.args.df c.is_deepest.result
-    c.if-is_deepest.false c.is_deepest.ensures.1) in
-    let again = c.as_slice-2.ensures.value ∙ c.in_ok-entries.ensures.table in
-    let told : Option ℕ → List Entry → Type 0 = λ o t. TellsFreeEntry t o in
+    let read = c.in_ok-entries.ensures.table in
+    let level = level_zero m _ _ _ (c.as_slice.ensures.value ∙ read) c.if-is_deepest.false c.is_deepest.ensures.1 in
     let none : c.first_free.result ≡ None = search rules in
-    let free = subst (λ (t : List Entry). told None t) again (subst (λ
-    (o : Option ℕ). told o c.as_slice-2.result.now) none c.first_free.ensures) in
+    let free = free_there m _ _ _ (c.as_slice-2.ensures.value ∙ read) none c.first_free.ensures in
     sym (place_none m sized c.requires.tree c.args.df c.requires.df c.args.fcp.now.kind level free)
 
 pub free_count-requires-clause-free : goal.free_count-requires-clause-free
@@ -63,17 +64,11 @@ pub returns-then-free-blocks_for-clause-place : goal.returns-then-free-blocks_fo
 returns-then-free-blocks_for-clause-place g c =
     let m = committed c.args.store.now in
     let sized = c.requires.ready.usable.committed_size in
-    let entries = c.as_slice.ensures.value ∙ c.in_ok-entries.ensures.table in
-    let of_table : List Entry → Type 0 = λ t. ancestor t 6 c.args.df ≡ 0 in
-    let level : ancestor (table m) 6 c.args.df ≡ 0 = subst of_table entries
-    (level_zero c.as_slice.result.now c.args.df c.is_deepest.result
-    c.if-is_deepest.false c.is_deepest.ensures.1) in
-    let again = c.as_slice-2.ensures.value ∙ c.in_ok-entries.ensures.table in
-    let told : Option ℕ → List Entry → Type 0 = λ o t. TellsFreeEntry t o in
-    let free = subst (λ (t : List Entry). told (Some c.in-Some.e) t) again
-    (subst (λ (o : Option ℕ). told o c.as_slice-2.result.now) c.in-Some.is c.first_free.ensures) in
-    let count = c.in_ok-free.ensures.count ∙ ap (λ (l : List ℕ). length
-    (free_chain l)) c.read_table.ensures.store.only.keeps.committed_words in
+    let read = c.in_ok-entries.ensures.table in
+    let level = level_zero m _ _ _ (c.as_slice.ensures.value ∙ read) c.if-is_deepest.false c.is_deepest.ensures.1 in
+    let free = free_there m _ _ _ (c.as_slice-2.ensures.value ∙ read) c.in-Some.is c.first_free.ensures in
+    let count = c.in_ok-free.ensures.count
+    ∙ ap (λ (l : List ℕ). length (free_chain l)) c.read_table.ensures.store.only.keeps.committed_words in
     let blocks = c.blocks_for.ensures ∙ ap blocks_for c.size.ensures in
     sym (place_small m sized c.requires.tree c.args.df c.requires.df c.args.fcp.now.kind c.in-Some.e level free
     (omega (arith, count, blocks, c.if-free-blocks_for.true)))
@@ -82,17 +77,11 @@ pub returns-clause-place : goal.returns-clause-place
 returns-clause-place g c =
     let m = committed c.args.store.now in
     let sized = c.requires.ready.usable.committed_size in
-    let entries = c.as_slice.ensures.value ∙ c.in_ok-entries.ensures.table in
-    let of_table : List Entry → Type 0 = λ t. ancestor t 6 c.args.df ≡ 0 in
-    let level : ancestor (table m) 6 c.args.df ≡ 0 = subst of_table entries
-    (level_zero c.as_slice.result.now c.args.df c.is_deepest.result
-    c.if-is_deepest.false c.is_deepest.ensures.1) in
-    let again = c.as_slice-2.ensures.value ∙ c.in_ok-entries.ensures.table in
-    let told : Option ℕ → List Entry → Type 0 = λ o t. TellsFreeEntry t o in
-    let free = subst (λ (t : List Entry). told (Some c.in-Some.e) t) again
-    (subst (λ (o : Option ℕ). told o c.as_slice-2.result.now) c.in-Some.is c.first_free.ensures) in
-    let count = c.in_ok-free.ensures.count ∙ ap (λ (l : List ℕ). length
-    (free_chain l)) c.read_table.ensures.store.only.keeps.committed_words in
+    let read = c.in_ok-entries.ensures.table in
+    let level = level_zero m _ _ _ (c.as_slice.ensures.value ∙ read) c.if-is_deepest.false c.is_deepest.ensures.1 in
+    let free = free_there m _ _ _ (c.as_slice-2.ensures.value ∙ read) c.in-Some.is c.first_free.ensures in
+    let count = c.in_ok-free.ensures.count
+    ∙ ap (λ (l : List ℕ). length (free_chain l)) c.read_table.ensures.store.only.keeps.committed_words in
     let blocks = c.blocks_for.ensures ∙ ap blocks_for c.size.ensures in
     place_there m sized c.requires.tree c.args.df c.requires.df c.args.fcp.now.kind c.in-Some.e level free
     (omega (arith, count, blocks, c.if-free-blocks_for.false))

@@ -11,8 +11,9 @@ use Rattle.file_tree.specs.Cards.{exists}
 use Rattle.file_tree.specs.Table.{table, path_of, IsTable}
 use Rattle.file_tree.specs.Trees.{tree_of, TreeStands}
 use Rattle.file_tree.specs.NewFiles.{has_name, has_short_given}
+use Rattle.file_tree.specs.Parts.{TellsNamed}
 use Rattle.file_tree.specs.laws.Tables.{length-table}
-use Rattle.file_tree.specs.laws.Refusing.{TellsNamed, child_told, name_told}
+use Rattle.file_tree.specs.laws.Refusing.{child_told, name_told}
 use Rattle.file_tree.specs.laws.Allowed.{taken_is, creatable_short}
 use Rattle.undo_journal.specs.laws.Told.{reads_handed, reads_on}
 use Rattle.file_tree.proofs.refusing.taken.Goals as goal

@@ -5,7 +5,8 @@ use Rattle.nvm_board.specs.Torn.{written}
 use Rattle.undo_journal.specs.Memory.{current}
 use Rattle.undo_journal.specs.Lent.{memory_of}
 use Rattle.file_tree.specs.declared.layout.TheConstants.{FIRST_ENTRY_PAGE}
-use Rattle.file_tree.specs.laws.EntryWords.{WritesEntry, written_entry}
+use Rattle.file_tree.specs.CreationParts.{WritesEntry}
+use Rattle.file_tree.specs.laws.EntryWords.{written_entry}
 use Rattle.file_tree.proofs.writing.write_entry.Goals as goal
 
 pub returns-clause-done : goal.returns-clause-done

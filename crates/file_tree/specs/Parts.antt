@@ -1,0 +1,102 @@
+-- What single steps of the checks, the look-ups and the life cycles find. No public clause names these.
+use Rattle.std.specs.Prelude.{◌≡◌, ◌≢◌, ◌==◌, ◌⊎◌, ◌<◌, ◌&&◌, ◌||◌, ℕ, zero, suc, Bool, false, not, if◌then◌else◌}
+use Rattle.std.specs.Prelude.{List, length, Option, None, Some, unwrap_or}
+use Rattle.card_rules.specs.LifeCycle.{life_cycle_at}
+use Rattle.card_rules.specs.declared.life_cycle.LifeCycle.{LifeCycle}
+use Rattle.card_rules.specs.declared.life_cycle.LifeCycle.TheVariants.{Activated}
+use Rattle.file_tree.specs.declared.entry.Entry.{Entry}
+use Rattle.file_tree.specs.declared.look_up.ChildKey.{ChildKey}
+use Rattle.file_tree.specs.declared.look_up.ChildKey.TheVariants.{Identifier, ShortIdentifier}
+use Rattle.file_tree.specs.Cards.{master_file}
+use Rattle.file_tree.specs.States.{bars}
+use Rattle.file_tree.specs.Entries.{byte_of, low, name_of}
+use Rattle.file_tree.specs.Table.{entry_in, IsUsed, IsBelowMaster, IsChild}
+
+-- two entries have the same name, which has bytes
+abbrev pub BearOneName : Entry → Entry → Type 0
+BearOneName one other = (0 < length (name_of one)) × (name_of one ≡ name_of other)
+
+-- an entry of this number cannot stand beside another
+abbrev pub Alike : ℕ → Entry → Entry → Type 0
+Alike e one other =
+    ((0 < e) × (one.parent ≡ other.parent)
+    × ((one.identifier ≡ other.identifier) ⊎ ((one.short ≢ 0) × (one.short ≡ other.short))))
+    ⊎ BearOneName one other
+
+-- no used entry behind this one is like it
+abbrev pub IsAlone : List Entry → ℕ → Type 0
+IsAlone t e = (f : ℕ) → e < f → IsUsed t f → Alike e (entry_in t e) (entry_in t f) → ⊥
+
+-- no two used entries are alike
+abbrev pub AreApart : List Entry → Type 0
+AreApart t = (e : ℕ) → IsUsed t e → IsAlone t e
+
+-- each file but the master file stands below it
+abbrev pub AreBelow : List Entry → Type 0
+AreBelow t = (e : ℕ) → 0 < e → IsUsed t e → IsBelowMaster t e
+
+-- an entry has what a child is known by
+abbrev pub IsKnownBy : ChildKey → Entry → Type 0
+IsKnownBy (Identifier id) x = x.identifier ≡ id
+IsKnownBy (ShortIdentifier n) x = x.short ≡ n
+
+-- An entry is that of the child of a dedicated file that is known by this.
+pub record IsChildBy (x : Entry) (df : ℕ) (key : ChildKey) : Type 0 where
+  pub used : x.kind ≢ 0
+  pub parent : x.parent ≡ df
+  pub known : IsKnownBy key x
+
+-- the child that is known by this, or None where no child is
+abbrev pub TellsChildBy : List Entry → ℕ → ChildKey → Option ℕ → Type 0
+TellsChildBy t df key None = (e : ℕ) → IsChild t df e → IsKnownBy key (entry_in t e) → ⊥
+TellsChildBy t df key (Some e) = IsChild t df e × IsKnownBy key (entry_in t e)
+
+-- the child with an identifier
+abbrev pub TellsChild : List Entry → ℕ → ℕ → Option ℕ → Type 0
+TellsChild t df id = TellsChildBy t df (Identifier id)
+
+-- the dedicated file beside this one, or None where there is none with the identifier
+abbrev pub TellsBeside : List Entry → ℕ → ℕ → Option ℕ → Type 0
+TellsBeside t df id None = df ≢ 0 → (e : ℕ) → IsChild t (entry_in t df).parent e → (entry_in t e).kind ≡ 1
+    → (entry_in t e).identifier ≡ id → ⊥
+TellsBeside t df id (Some e) = (df ≢ 0) × IsChild t (entry_in t df).parent e × ((entry_in t e).kind ≡ 1)
+    × ((entry_in t e).identifier ≡ id)
+
+-- the first with the identifier of the parent, the file itself and the master file
+abbrev pub TellsAbove : List Entry → ℕ → ℕ → Option ℕ → Type 0
+TellsAbove t df id found =
+    let above = (entry_in t df).parent in
+    found ≡ (if not (df == 0) && ((entry_in t above).identifier == id) then Some above else
+    if (entry_in t df).identifier == id then Some df else
+    if master_file == id then Some 0 else None)
+
+-- An entry is a dedicated file's with this name.
+pub record BearsName (x : Entry) (text : List ℕ) : Type 0 where
+  pub kind : x.kind ≡ 1
+  pub some : x.name_length ≢ 0
+  pub name : name_of x ≡ text
+
+-- the same of an entry by its number
+abbrev pub IsNamed : List Entry → List ℕ → ℕ → Type 0
+IsNamed t text f = BearsName (entry_in t f) text
+
+-- the dedicated file that has this name, or None where none has it
+abbrev pub TellsNamed : List Entry → List ℕ → Option ℕ → Type 0
+TellsNamed t name None = (f : ℕ) → IsNamed t name f → ⊥
+TellsNamed t name (Some f) = IsNamed t name f
+
+-- the state that an entry tells
+abbrev pub life_told : Entry → LifeCycle
+life_told x = unwrap_or (life_cycle_at x.life) Activated
+
+-- whether at most so many steps to parents lead by a file that bars
+unfoldable pub barred_up : List Entry → ℕ → ℕ → Bool
+barred_up t zero e = false
+barred_up t (suc n) e =
+    if e == 0 then false else (bars (life_told (entry_in t (entry_in t e).parent)) || barred_up t n (entry_in t e).parent)
+
+-- A word tells the kind and the identifier of an entry, and another state.
+pub record TellsLife (x : Entry) (state w : ℕ) : Type 0 where
+  pub kind : byte_of w 0 ≡ x.kind
+  pub life : byte_of w 1 ≡ state
+  pub identifier : low w ≡ x.identifier
