@@ -56,7 +56,7 @@ pub first_desk : (d : Desk) (f : Facts) → d.bench ≡ off (record f { dark = t
     → Finds f.words factory_card → f.due ≡ 0 → f.faults ≡ 0 → IsFirstDesk d
 first_desk d f bench reader line finds due faults = record {
   power = subst IsOff (sym bench) tt;
-  good = subst IsGood (sym bench) (record { has_card = finds.there; faults = faults; well = tt });
+  good = subst IsGood (sym bench) (record { has_card = finds.has_card; faults = faults; well = tt });
   card = subst (λ (b : BenchState). bench_card b ≡ factory_card) (sym bench) finds.card;
   due = subst (λ (b : BenchState). (bench_facts b).due ≡ 0) (sym bench) due;
   reader = reader;

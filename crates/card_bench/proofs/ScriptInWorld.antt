@@ -118,7 +118,7 @@ begins-so (on p) line there new = record {
   start = state_served p;
   proper = found_is_proper p.card.facts.words there;
   fresh = new.0;
-  there = record {
+  in_world = record {
     reader = fresh_reader;
     may_send = refl;
     stands = record { reader_is = refl; link_is = new.1; card_is = refl };

@@ -52,7 +52,7 @@ pub record IsInNewWorld (d : Desk) : Type 0 where
   pub start : Served
   pub proper : IsProperState start
   pub fresh : start.session ≡ fresh_session
-  pub there : IsInWorld start [] d
+  pub in_world : IsInWorld start [] d
 
 -- A card that starts begins a world.
 abbrev pub PowerOnLaw : Type 0

@@ -73,7 +73,7 @@ module _ (m : List ℕ) (sized : length m ≡ WORDS) (shut : gate m ≡ 0) where
             (omega (arith, small));
       } in
       record {
-        there = record {
+        has_card = record {
           journal = record { room = omega (arith, shut); places = places };
           words = card-stands m (words_found m) mark state pins stands.words tree.0;
         };

@@ -19,7 +19,7 @@ found m = card_of (words_found m)
 
 -- this card is found
 pub record Finds (m : List ℕ) (c : Card) : Type 0 where
-  pub there : HasCard m
+  pub has_card : HasCard m
   pub card : found m ≡ c
 
 -- what is found stays: the same words, and undo is defined where it was
