@@ -1,3 +1,4 @@
+pub mod BlockGuesses
 pub mod BlockRuns
 pub mod BlocksOnLine
 pub mod CardStates
@@ -5,8 +6,10 @@ mod CommandsGiven
 pub mod ExchangeInWorld
 pub mod ExchangeRuns
 pub mod ExchangeSteps
+pub mod FewGuesses
 pub mod FormatLemmas
 pub mod FreeTold
+mod GuessesPaid
 pub mod HexLimits
 pub mod Numbers
 pub mod PartsTaken

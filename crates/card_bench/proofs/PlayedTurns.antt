@@ -5,6 +5,7 @@ use Rattle.nvm_board.specs.Facts.{Facts}
 use Rattle.card_bench.specs.declared.playing.Turn.{Turn}
 use Rattle.card_bench.specs.declared.playing.Item.{Item}
 use Rattle.t1_link.specs.CardTable.{link_step}
+use Rattle.card_core.specs.Comparing.{comparisons}
 use Rattle.card_core.specs.Finding.{HasCard}
 use Rattle.card_core.specs.Running.{card_found}
 use Rattle.card_bench.specs.declared.playing.Item.TheVariants.{Dark}
@@ -12,6 +13,8 @@ use Rattle.card_bench.specs.BenchStates.{BenchState, off, on, bench_facts}
 use Rattle.card_bench.specs.CardBlocks.{Powered, IsCutAt, IsBlockStage}
 use Rattle.card_bench.specs.Plays.{HasNoFault, Plays, PlaysAll, PlaysBlock}
 use Rattle.card_bench.specs.Turns.{CountsLosses, OneTurn, Runs, Spends, dark_of, darks}
+use Rattle.card_bench.proofs.FewGuesses.{pays-nothing, pays-on}
+use Rattle.card_bench.proofs.GuessesPaid.{ArePaid, paid-few}
 
 run_more : (old between new : BenchState) (turns : List Turn) (trace : List Item) (turn : Turn) (item : Item)
     → Runs old turns trace between → OneTurn between turn item new → Runs old (turns ++ turn ∷ []) (trace ++ item ∷ []) new
@@ -55,6 +58,7 @@ plays_none old = record {
   has_card = λ before. before;
   counts = record { cuts = omega (arith, none_dark); due = omega (arith, none_dark); undue = omega arith; faults = omega arith };
   well = λ good. good.well;
+  guesses = pays-nothing old old refl refl;
   runs = λ before good. none_run old;
 }
 
@@ -73,17 +77,20 @@ plays_more old between new turns trace turn item all more =
       counts = subst (λ (n : ℕ). CountsLosses n (bench_facts old) (bench_facts new)) (sym (darks_more trace item))
           (counts_more (darks trace) (dark_of item) (bench_facts old) (bench_facts between) (bench_facts new) all.counts more.counts);
       well = λ good. more.well (second good);
+      guesses = pays-on old between new all.guesses more.guesses;
       runs = λ before good. run_more old between new turns trace turn item (all.runs before (first good)) (more.one (all.has_card before) (second good));
     }
 
 -- a block in which power was lost, which is then turned off
 pub plays_cut : (old new : Powered) (got out : List ℕ) → IsCutAt old got new out → HasCard new.card.facts.words
     → IsBlockStage old (link_step old.link got).reaction (card_found new.card)
+    → ArePaid (card_found old.card) (card_found new.card) (comparisons old.card.facts) (comparisons new.card.facts)
     → PlaysBlock (on old) got Dark (off (record new.card.facts { dark = true }))
-plays_cut old new got out cut found stage = record {
+plays_cut old new got out cut found stage paid = record {
   has_card = λ before. found;
   counts = record { cuts = cut.power.cuts; due = cut.power.due; faults = omega (arith, cut.power.faults) };
   well = λ good. tt;
+  guesses = paid-few (on old) (off (record new.card.facts { dark = true })) paid;
   one = λ before good. record { power = tt; run = cut.run; stage = stage };
   heard = λ powered. tt;
 }

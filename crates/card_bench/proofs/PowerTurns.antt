@@ -4,6 +4,7 @@ use Rattle.std.proofs.Common.{arith, ap, inl, inr, subst, sym, ◌∙◌, true�
 use Rattle.nvm_board.specs.Facts.{Facts, GoesDark, IsWorn, IsWornOut, Steady}
 use Rattle.card_core.specs.declared.faults.StartFault.{StartFault}
 use Rattle.card_core.specs.declared.faults.StartFault.TheVariants.{PowerLost, Fault, BadJournal, Damaged}
+use Rattle.card_core.specs.Comparing.{comparisons}
 use Rattle.card_core.specs.Finding.{FindsAgain, HasCard, found}
 use Rattle.card_core.specs.Running.{Starts, StartStopsBy}
 use Rattle.card_core.specs.Standing.{IsCard, card_of}
@@ -12,8 +13,10 @@ use Rattle.card_bench.specs.declared.playing.Turn.TheVariants as turn
 use Rattle.card_bench.specs.declared.playing.Item.TheVariants as item
 use Rattle.card_bench.specs.BenchStates.{BenchState, off, on, bench_facts}
 use Rattle.card_bench.specs.CardBlocks.{Powered}
+use Rattle.card_bench.specs.Guessing.{GuessesFew}
 use Rattle.card_bench.specs.Plays.{Plays}
 use Rattle.card_bench.specs.Turns.{RestsOff}
+use Rattle.card_bench.proofs.FewGuesses.{pays-nothing}
 
 -- a card that is found again
 again-found : (old new : List ℕ) → FindsAgain old new → HasCard old → HasCard new
@@ -27,6 +30,9 @@ module _ (old : BenchState) (dark : Facts) (darkened : dark ≡ record (bench_fa
   same-words : dark.words ≡ (bench_facts old).words
   same-words = ap (λ (f : Facts). f.words) darkened
 
+  same-counts : comparisons dark ≡ comparisons (bench_facts old)
+  same-counts = ap comparisons darkened
+
   -- a count of the board stands at its end, so that the card stays mute
   pub stays_mute : (new : Facts) → IsWornOut dark → new ≡ dark → Plays old turn.On item.Mute (off new)
   stays_mute new worn same =
@@ -39,6 +45,7 @@ module _ (old : BenchState) (dark : Facts) (darkened : dark ≡ record (bench_fa
         has_card = λ before. subst HasCard (sym words) before;
         counts = record { cuts = omega (arith, cuts); due = inl (omega (arith, due)); faults = omega (arith, faults) };
         well = λ good. tt;
+        guesses = pays-nothing old (off new) (ap found words) (ap comparisons is);
         one = λ before good. (record { power = tt; card = ap found words }, subst IsWornOut (sym same) worn);
       }
 
@@ -56,6 +63,9 @@ module _ (old : BenchState) (dark : Facts) (darkened : dark ≡ record (bench_fa
     lit-faults : lit.faults ≡ (bench_facts old).faults
     lit-faults = ap (λ (f : Facts). f.faults) lights ∙ ap (λ (f : Facts). f.faults) darkened
 
+    lit-counts : comparisons lit ≡ comparisons (bench_facts old)
+    lit-counts = ap comparisons lights ∙ same-counts
+
     found-again : (new : List ℕ) → FindsAgain lit.words new → found new ≡ found (bench_facts old).words
     found-again new again = ap card_of again.words ∙ ap found lit-words
 
@@ -64,8 +74,8 @@ module _ (old : BenchState) (dark : Facts) (darkened : dark ≡ record (bench_fa
 
     -- the card starts
     pub starts : (p : Powered) → Starts lit p.card → p.link ≡ fresh → FindsAgain lit.words p.card.facts.words
-        → Plays old turn.On item.Atr (on p)
-    starts p started link again =
+        → comparisons p.card.facts ≡ comparisons lit → Plays old turn.On item.Atr (on p)
+    starts p started link again counts =
         let power = started.power in
         record {
           has_card = has-card-again p.card.facts.words again;
@@ -75,6 +85,7 @@ module _ (old : BenchState) (dark : Facts) (darkened : dark ≡ record (bench_fa
             faults = omega (arith, power.faults, lit-faults);
           };
           well = λ good. started.state;
+          guesses = pays-nothing old (on p) (found-again p.card.facts.words again) (counts ∙ lit-counts);
           one = λ before good. ((started.session, link), found-again p.card.facts.words again);
         }
 
@@ -82,7 +93,8 @@ module _ (old : BenchState) (dark : Facts) (darkened : dark ≡ record (bench_fa
     dark-lit is = true≢false (sym is ∙ ap (λ (f : Facts). f.dark) lights)
 
     -- the board, power off, after a start that stopped
-    module _ (stopped new : Facts) (again : FindsAgain lit.words stopped.words) (turned : new ≡ record stopped { dark = true }) where
+    module _ (stopped new : Facts) (again : FindsAgain lit.words stopped.words) (turned : new ≡ record stopped { dark = true })
+        (counts : comparisons stopped ≡ comparisons lit) where
       new-words : new.words ≡ stopped.words
       new-words = ap (λ (f : Facts). f.words) turned
 
@@ -91,6 +103,9 @@ module _ (old : BenchState) (dark : Facts) (darkened : dark ≡ record (bench_fa
 
       has-card : HasCard (bench_facts old).words → HasCard new.words
       has-card before = subst HasCard (sym new-words) (has-card-again stopped.words again before)
+
+      guesses : GuessesFew old (off new)
+      guesses = pays-nothing old (off new) rests.card (ap comparisons turned ∙ counts ∙ lit-counts)
 
       lost-so : GoesDark lit stopped → Plays old turn.On item.Dark (off new)
       lost-so lost =
@@ -108,6 +123,7 @@ module _ (old : BenchState) (dark : Facts) (darkened : dark ≡ record (bench_fa
               faults = omega (arith, lost.faults, faults, lit-faults);
             };
             well = λ good. tt;
+            guesses = guesses;
             one = λ before good. rests;
           }
 
@@ -133,6 +149,7 @@ module _ (old : BenchState) (dark : Facts) (darkened : dark ≡ record (bench_fa
               faults = omega (arith, more, faults, lit-faults);
             };
             well = λ good. tt;
+            guesses = guesses;
             one = λ before good. absurd (none before (omega (arith, good.faults, faults, lit-faults)));
           }
 

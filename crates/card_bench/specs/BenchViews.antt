@@ -1,7 +1,9 @@
 -- The value of a bench, from its field.
-use Rattle.std.specs.Prelude.{◌≢◌}
+use Rattle.std.specs.Prelude.{◌≡◌, ◌≢◌, length}
+use Rattle.nvm_board.specs.declared.board.TheConstants.{SECRETS}
 use Rattle.nvm_board.specs.Facts.{Facts}
 use Rattle.card_core.specs.declared.card_state.CardState.TheVariants.{Dark}
+use Rattle.card_core.specs.Comparing.{Comparisons, comparisons}
 use Rattle.card_bench.specs.declared.playing.Power.{Power}
 use Rattle.card_bench.specs.declared.playing.Power.TheVariants.{Off, On}
 use Rattle.card_bench.specs.BenchStates.{BenchState, off, on}
@@ -10,7 +12,12 @@ abbrev pub power_state : {B : Type 0} → (B → Facts) → Power B → BenchSta
 power_state facts (Off board) = off (facts board)
 power_state facts (On powered) = on powered
 
--- a card that lost power isn't kept
+-- each secret has its counts
+pub record CountsEach (counts : Comparisons) : Type 0 where
+  pub compares : length counts.compares ≡ SECRETS
+  pub matches : length counts.matches ≡ SECRETS
+
+-- a card that lost power isn't kept; of one that is, the board counts each secret
 abbrev pub IsKept : {B : Type 0} → Power B → Type 0
 IsKept (Off board) = Unit {0}
-IsKept (On powered) = powered.card.state ≢ Dark
+IsKept (On powered) = (powered.card.state ≢ Dark) × CountsEach (comparisons powered.card.facts)

@@ -8,6 +8,7 @@ use Rattle.card_bench.specs.declared.playing.Sent.TheVariants as sent
 use Rattle.card_bench.specs.declared.playing.Item.{Item}
 use Rattle.card_bench.specs.declared.playing.Item.TheVariants.{Atr, Quiet, Mute, Dark, Reply}
 use Rattle.card_bench.specs.BenchStates.{BenchState, bench_facts, BenchHasCard, IsOff, IsOn, IsWell}
+use Rattle.card_bench.specs.Guessing.{GuessesFew}
 use Rattle.card_bench.specs.Turns.{CountsLosses, OneTurn, Runs, Spends, TakesBlock, dark_of, darks}
 
 -- no fault came from here to there, nor since power came on
@@ -46,6 +47,7 @@ pub record Plays (old : BenchState) (turn : Turn) (item : Item) (new : BenchStat
   pub has_card : BenchHasCard old → BenchHasCard new
   pub counts : Spends (dark_of item) (bench_facts old) (bench_facts new)
   pub well : HasNoFault old new → IsWell new
+  pub guesses : GuessesFew old new
   pub one : BenchHasCard old → HasNoFault old new → OneTurn old turn item new
 
 -- A block is played.
@@ -53,6 +55,7 @@ pub record PlaysBlock (old : BenchState) (got : List ℕ) (item : Item) (new : B
   pub has_card : BenchHasCard old → BenchHasCard new
   pub counts : Spends (dark_of item) (bench_facts old) (bench_facts new)
   pub well : HasNoFault old new → IsWell new
+  pub guesses : GuessesFew old new
   pub one : BenchHasCard old → HasNoFault old new → TakesBlock old got item new
   pub heard : IsOn old → IsHeard item new
 
@@ -61,4 +64,5 @@ pub record PlaysAll (old : BenchState) (turns : List Turn) (trace : List Item) (
   pub has_card : BenchHasCard old → BenchHasCard new
   pub counts : CountsLosses (darks trace) (bench_facts old) (bench_facts new)
   pub well : HasNoFault old new → IsWell new
+  pub guesses : GuessesFew old new
   pub runs : BenchHasCard old → HasNoFault old new → Runs old turns trace new

@@ -1,7 +1,8 @@
 //! Laws of the definitions: each is a function whose contract is the law.
 
-ghost use Rattle.std.specs.Prelude.{◌≡◌, ◌+◌, ℕ, Bool, List, true, IsTrue, Ok, Err};
+ghost use Rattle.std.specs.Prelude.{◌≡◌, ◌≤◌, ◌+◌, ◌*◌, ℕ, Bool, List, true, IsTrue, Ok, Err};
 ghost use Rattle.hex.specs.Hex.{lower_digits, upper_digits};
+ghost use Rattle.pin_store.specs.declared.layout.TheConstants.{PINS};
 ghost use Rattle.t1_link.specs.Blocks.{Block as BlockValue, heard};
 ghost use Rattle.t1_link.specs.Garbled.{last_bit_turned};
 ghost use Rattle.t1_link.specs.declared.block.Fault.TheVariants.{WrongCheck};
@@ -9,7 +10,9 @@ ghost use Rattle.card_bench.specs.declared.exchange.TheConstants.{LINE_BLOCKS};
 ghost use Rattle.card_bench.specs.declared.line.Line.{Line};
 ghost use Rattle.card_bench.specs.declared.order.TheConstants.{BLOCK_LIMIT, COMMAND_LIMIT, LINE_LIMIT, NUMBER_DIGITS};
 ghost use Rattle.card_bench.specs.declared.reading.TheConstants.{SCRIPT_LIMIT};
+ghost use Rattle.card_bench.specs.BenchStates.{BenchState, BenchHasCard};
 ghost use Rattle.card_bench.specs.ExchangeWorlds.{ExchangeLaw};
+ghost use Rattle.card_bench.specs.Guessing.{GuessesFew, unblocking_guessed, value_guessed};
 ghost use Rattle.card_bench.specs.Lines.{arriving, line_after};
 ghost use Rattle.card_bench.specs.ScriptWorlds.{PowerOnLaw, LineLaw};
 ghost use Rattle.card_bench.specs.Spellings.{SpellingLaw};
@@ -72,6 +75,25 @@ pub fn exchange_is_a_run_of_the_world()
 pub fn script_goes_on_in_a_world()
     ensures begins { PowerOnLaw }
     ensures goes_on { LineLaw }
+{}
+
+/// What the guess law says in numbers, of a run that begins where a card is found: without a match, a PIN's value is
+/// compared at most 3 times in all, and its unblocking value at most 10 times, however long the run is and wherever it
+/// is cut; each match that gives the tries back allows 3 more, or 10.
+pub fn guesses_are_few()
+    ensures values { (old new : BenchState) (n k : ℕ) → GuessesFew old new → BenchHasCard old
+        → 1 ≤ n → n ≤ PINS → (value_guessed new n).renewals ≤ (value_guessed old n).renewals + k
+        → (value_guessed new n).compares ≤ (value_guessed old n).compares + 3 * (1 + k) }
+    ensures unblocking_values { (old new : BenchState) (n k : ℕ) → GuessesFew old new → BenchHasCard old
+        → 1 ≤ n → n ≤ PINS → (unblocking_guessed new n).renewals ≤ (unblocking_guessed old n).renewals + k
+        → (unblocking_guessed new n).compares ≤ (unblocking_guessed old n).compares + 10 * (1 + k) }
+{}
+
+/// The guess law of two runs, one after the other, is that of both together; and it holds of a run of no turn.
+pub fn guesses_add_up()
+    ensures none { (old : BenchState) → GuessesFew old old }
+    ensures on { (old between new : BenchState) → GuessesFew old between → GuessesFew between new
+        → GuessesFew old new }
 {}
 
 /// The numbers of the script's language and of the line, as a reader sees them.

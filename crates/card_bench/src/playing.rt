@@ -2,6 +2,7 @@
 ghost use Rattle.std.specs.Prelude.{◌≡◌, ◌≤◌, ◌↔◌, length, true, IsTrue};
 ghost use Rattle.card_bench.specs.BenchStates.{off, bench_facts, BenchHasCard, IsOn, IsWell, TellsFree};
 ghost use Rattle.card_bench.specs.BenchViews.{power_state, IsKept};
+ghost use Rattle.card_bench.specs.Guessing.{GuessesFew};
 ghost use Rattle.card_bench.specs.Performing.{IsArmed};
 ghost use Rattle.card_bench.specs.Plays.{Plays, PlaysBlock, HasNoFault, IsGood, IsHeard, powered_item, sent_item};
 ghost use Rattle.card_bench.specs.Turns.{CountsLosses, GoodBlock, GoodTurn, Runs, darks};
@@ -110,6 +111,11 @@ impl<B: Socket> Bench<B> {
 
         // The board counts as many cuts more as there are Dark in the trace, and so many of those due are gone at most.
         ensures counts { CountsLosses (darks trace.new) (bench_facts self.old) (bench_facts self.new) }
+
+        // The guess law, whatever is cut and whatever fails: comparisons of a PIN are at most its tries before, minus those
+        // after, plus 3 times the matches of its value and its unblocking value; comparisons of the unblocking value are
+        // at most its tries before, minus those after, plus 10 times its own matches.
+        ensures guesses { GuessesFew self.old self.new }
 
         // The headline: over a card, and with no fault of the device in the run, nor before it since power came on, the
         // trace is the tree machine's, from the card that was found to the one that is found.

@@ -13,3 +13,4 @@ pub mod PinLaws
 pub mod CompareLaws
 pub mod AnswerLaws
 pub mod FoundLaws
+pub mod ShownLaws

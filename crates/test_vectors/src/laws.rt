@@ -1,7 +1,7 @@
-//! The laws of each crate are there, for whoever cites them.
+//! Laws of the definitions can be called, as whoever cites them does.
 
 #[test]
-fn laws_are_there() {
+fn laws_can_be_called() {
     nvm_board::laws::torn_by_words();
     card_rules::laws::each_set_bit_has_a_condition();
     fcp_template::laws::reading_is_a_function();
@@ -18,13 +18,15 @@ fn laws_are_there() {
 
 /// The laws hold for the tree machine, and for machines of any type.
 #[test]
-fn laws_of_the_bench_are_there() {
+fn laws_of_the_bench_can_be_called() {
     card_bench::laws::world();
     card_bench::laws::world_of_any_machine::<u8>();
     card_bench::laws::faults_fall_due_in_turn();
     card_bench::laws::garbled_block_is_no_block();
     card_bench::laws::exchange_is_a_run_of_the_world();
     card_bench::laws::script_goes_on_in_a_world();
+    card_bench::laws::guesses_are_few();
+    card_bench::laws::guesses_add_up();
     card_bench::laws::spellings_are_read_back();
     card_bench::laws::limits();
 }

@@ -1,5 +1,5 @@
-//! Tests alone, of the crates up to the bench: each public call by vectors from outside, which stand in public standards or
-//! were worked out by hand, and what scripts print.
+//! Tests alone, of the crates up to the bench: public calls by vectors from outside, which stand in public standards or were
+//! worked out by hand, and what scripts print.
 #![tactic(auto)]
 
 #[cfg(test)]

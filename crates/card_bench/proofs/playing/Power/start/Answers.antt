@@ -1,9 +1,10 @@
-use Rattle.std.proofs.Common.{refl, subst, sym}
+use Rattle.std.proofs.Common.{refl, subst, sym, ◌∙◌}
+use Rattle.card_bench.proofs.FewGuesses.{writing-compares}
 use Rattle.card_bench.proofs.PowerTurns.{starts, stays_mute, ends_dark, ends_mute}
 use Rattle.card_bench.specs.declared.playing.PowerOn.{PowerOn}
 use Rattle.card_bench.specs.declared.playing.Turn.TheVariants.{On}
 use Rattle.card_bench.specs.BenchStates.{off}
-use Rattle.card_bench.specs.BenchViews.{power_state}
+use Rattle.card_bench.specs.BenchViews.{power_state, CountsEach}
 use Rattle.card_bench.specs.Plays.{Plays, powered_item}
 use Rattle.card_bench.proofs.playing.Power.start.Goals as goal
 use Rattle.card_bench.proofs.playing.Power.start.Goals.{in-PowerLost, in-Fault}
@@ -14,6 +15,16 @@ returns-in-Ok-start-clause-plays g c =
     let lit = g.B.Board.facts c.light.new.self in
     starts (power_state g.B.Board.facts c.args.self) dark c.into_dark_board-board.ensures lit c.in-Ok.ensures.lit
     c.in-Ok-start.powered c.in-Ok-start.ensures.started.0 c.in-Ok-start.ensures.started.1 c.in-Ok-start.ensures.found
+    (writing-compares _ lit c.in-Ok-start.powered.card.facts c.in-Ok-start.ensures.writes)
+
+pub returns-in-Ok-start-clause-kept : goal.returns-in-Ok-start-clause-kept
+returns-in-Ok-start-clause-kept g c =
+    let lit = g.B.Board.facts c.light.new.self in
+    let powered = c.in-Ok-start.powered in
+    let counts = writing-compares _ lit powered.card.facts c.in-Ok-start.ensures.writes in
+    let each = g.met.B.Board.counted c.light.new.self in
+    let works = c.in-Ok-start.ensures.started.0.state in
+    (λ dark. let apart = sym works ∙ dark in cc, subst CountsEach (sym counts) (record { compares = each.0; matches = each.1 }))
 
 pub returns-in_default-clause-plays : goal.returns-in_default-clause-plays
 returns-in_default-clause-plays g c =
@@ -29,13 +40,14 @@ returns-after-fault-clause-plays g c =
     let stopped = g.B.Board.facts c.in-Err.board in
     let new = g.B.Board.facts c.power_off.new.self in
     let lights = c.in-Ok.ensures.lit in
+    let counts = writing-compares _ lit stopped c.in-Err.ensures.writes_err in
     elim c.match-fault.branch [
       | in-PowerLost w ↦
           subst (λ (p : PowerOn). Plays old On (powered_item p) (off new)) (sym w.power_on-is)
           (ends_dark old dark c.into_dark_board-board.ensures lit lights stopped new c.in-Err.ensures.found_err c.power_off.ensures
-          c.in-Err.fault w.in-PowerLost.is c.in-Err.ensures.stopped)
+          counts c.in-Err.fault w.in-PowerLost.is c.in-Err.ensures.stopped)
       | in-Fault w ↦
           subst (λ (p : PowerOn). Plays old On (powered_item p) (off new)) (sym w.power_on-is)
           (ends_mute old dark c.into_dark_board-board.ensures lit lights stopped new c.in-Err.ensures.found_err c.power_off.ensures
-          c.in-Err.fault w.in-Fault.is c.in-Err.ensures.stopped)
+          counts c.in-Err.fault w.in-Fault.is c.in-Err.ensures.stopped)
     ]
