@@ -24,7 +24,7 @@ pub use deleting::delete;
 pub use entry::Entry;
 pub use layout::{CARD_TERMINATED, DEEPEST, ENTRIES, FIRST_ENTRY_PAGE, RECORDS_WORD, STATE_WORD};
 pub use life_cycles::{is_allowed, is_barred, next_life_cycle, set_life_cycle, terminate_card};
-pub use look_up::{Found, find_short, select};
+pub use look_up::{Reached, find_short, select};
 pub use naming::{find_name, find_parent, find_path, find_path_from_master};
 pub use reading::read_entry;
 pub use space::FreeSpace;

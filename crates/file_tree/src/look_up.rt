@@ -17,8 +17,8 @@ use crate::reading::read_entry;
 use card_rules::identifiers::MASTER_FILE;
 use undo_journal::{Board, Store, StoreErr};
 
-/// What a look-up finds: the number of the entry, or None where no file is what is looked for.
-pub type Found = Option<u8>;
+/// What a look-up reaches: the number of the entry, or None where no file is what is looked for.
+pub type Reached = Option<u8>;
 
 /// What a child of a dedicated file is known by.
 #[derive(Clone, Copy)]
@@ -47,7 +47,7 @@ fn is_child(entry: &Entry, df: u8, key: ChildKey) -> bool
 }
 
 /// The entry of the child of a dedicated file that is known by this, if it has one.
-fn first_child<B: Board>(store: &mut Store<B>, df: u8, key: ChildKey) -> Result<Found, StoreErr>
+fn first_child<B: Board>(store: &mut Store<B>, df: u8, key: ChildKey) -> Result<Reached, StoreErr>
     requires ready { IsReady store.old }
     ensures found { IfOk result (TellsChildBy (table (committed store.old)) df key) }
     ensures store { Reads store.old store.new (result_err result) }
@@ -69,7 +69,7 @@ pub(crate) fn find_child<B: Board>(
     store: &mut Store<B>,
     df: u8,
     identifier: u16,
-) -> Result<Found, StoreErr>
+) -> Result<Reached, StoreErr>
     requires ready { IsReady store.old }
     ensures found { IfOk result (TellsChild (table (committed store.old)) df identifier) }
     ensures store { Reads store.old store.new (result_err result) }
@@ -81,7 +81,7 @@ pub(crate) fn find_child<B: Board>(
 ///
 /// # Errors
 /// What the store answers: power was lost, or the device failed.
-pub fn find_short<B: Board>(store: &mut Store<B>, df: u8, short: u8) -> Result<Found, StoreErr>
+pub fn find_short<B: Board>(store: &mut Store<B>, df: u8, short: u8) -> Result<Reached, StoreErr>
     requires ready { IsReady store.old }
     requires tree { TreeStands (committed store.old) }
     requires df { IsUsed (table (committed store.old)) df }
@@ -96,7 +96,7 @@ pub fn find_short<B: Board>(store: &mut Store<B>, df: u8, short: u8) -> Result<F
 }
 
 /// A dedicated file beside this one with this identifier. The master file has none beside it.
-fn find_beside<B: Board>(store: &mut Store<B>, df: u8, identifier: u16) -> Result<Found, StoreErr>
+fn find_beside<B: Board>(store: &mut Store<B>, df: u8, identifier: u16) -> Result<Reached, StoreErr>
     requires ready { IsReady store.old }
     requires tree { TreeStands (committed store.old) }
     requires df { IsUsed (table (committed store.old)) df }
@@ -115,7 +115,7 @@ fn find_beside<B: Board>(store: &mut Store<B>, df: u8, identifier: u16) -> Resul
 }
 
 /// The first with this identifier of the parent of a dedicated file, itself and the master file, by their entries.
-fn named_above(df: u8, own: &Entry, above: &Entry, identifier: u16) -> Found
+fn named_above(df: u8, own: &Entry, above: &Entry, identifier: u16) -> Reached
     ensures { result ≡ (if not (df == 0) && (above.now.identifier == identifier) then Some own.now.parent else
         if own.now.identifier == identifier then Some df else
         if master_file == identifier then Some 0 else None) }
@@ -132,7 +132,7 @@ fn named_above(df: u8, own: &Entry, above: &Entry, identifier: u16) -> Found
 }
 
 /// The parent of a dedicated file, or itself, or the master file: the first that has this identifier.
-fn find_above<B: Board>(store: &mut Store<B>, df: u8, identifier: u16) -> Result<Found, StoreErr>
+fn find_above<B: Board>(store: &mut Store<B>, df: u8, identifier: u16) -> Result<Reached, StoreErr>
     requires ready { IsReady store.old }
     requires tree { TreeStands (committed store.old) }
     requires df { IsUsed (table (committed store.old)) df }
@@ -149,7 +149,7 @@ fn find_above<B: Board>(store: &mut Store<B>, df: u8, identifier: u16) -> Result
 ///
 /// # Errors
 /// What the store answers: power was lost, or the device failed.
-pub fn select<B: Board>(store: &mut Store<B>, df: u8, identifier: u16) -> Result<Found, StoreErr>
+pub fn select<B: Board>(store: &mut Store<B>, df: u8, identifier: u16) -> Result<Reached, StoreErr>
     requires ready { IsReady store.old }
     requires tree { TreeStands (committed store.old) }
     requires df { IsUsed (table (committed store.old)) df }

@@ -13,7 +13,7 @@ ghost use Rattle.file_tree.specs.Parts.{BearsName, TellsNamed};
 use crate::entry::Entry;
 use crate::kinds;
 use crate::layout::ENTRIES_END;
-use crate::look_up::{Found, find_child};
+use crate::look_up::{Reached, find_child};
 use crate::reading::{read_entry, read_table};
 use undo_journal::{Board, Store, StoreErr};
 
@@ -25,7 +25,7 @@ fn bears_name(entry: &Entry, name: &[u8]) -> bool
 }
 
 /// The entry of the dedicated file with this name, if there is one.
-pub(crate) fn entry_named(entries: &[Entry], name: &[u8]) -> Found
+pub(crate) fn entry_named(entries: &[Entry], name: &[u8]) -> Reached
     requires { length entries.now ≡ 64 }
     ensures { TellsNamed entries.now name.now result }
 {
@@ -41,7 +41,7 @@ pub(crate) fn entry_named(entries: &[Entry], name: &[u8]) -> Found
 ///
 /// # Errors
 /// What the store answers: power was lost, or the device failed.
-pub fn find_name<B: Board>(store: &mut Store<B>, name: &[u8]) -> Result<Found, StoreErr>
+pub fn find_name<B: Board>(store: &mut Store<B>, name: &[u8]) -> Result<Reached, StoreErr>
     requires ready { IsReady store.old }
     requires tree { TreeStands (committed store.old) }
     ensures found { IfOk result (λ found. (df : Path) → option_map (path_of (table (committed store.old))) found
@@ -57,7 +57,7 @@ pub fn find_name<B: Board>(store: &mut Store<B>, name: &[u8]) -> Result<Found, S
 ///
 /// # Errors
 /// What the store answers: power was lost, or the device failed.
-pub fn find_parent<B: Board>(store: &mut Store<B>, df: u8) -> Result<Found, StoreErr>
+pub fn find_parent<B: Board>(store: &mut Store<B>, df: u8) -> Result<Reached, StoreErr>
     requires ready { IsReady store.old }
     requires tree { TreeStands (committed store.old) }
     requires df { IsUsed (table (committed store.old)) df }
@@ -78,7 +78,7 @@ pub fn find_parent<B: Board>(store: &mut Store<B>, df: u8) -> Result<Found, Stor
 ///
 /// # Errors
 /// What the store answers: power was lost, or the device failed.
-pub fn find_path<B: Board>(store: &mut Store<B>, df: u8, path: &[u16]) -> Result<Found, StoreErr>
+pub fn find_path<B: Board>(store: &mut Store<B>, df: u8, path: &[u16]) -> Result<Reached, StoreErr>
     requires ready { IsReady store.old }
     requires tree { TreeStands (committed store.old) }
     requires df { IsUsed (table (committed store.old)) df }
@@ -104,7 +104,7 @@ pub fn find_path<B: Board>(store: &mut Store<B>, df: u8, path: &[u16]) -> Result
 pub fn find_path_from_master<B: Board>(
     store: &mut Store<B>,
     path: &[u16],
-) -> Result<Found, StoreErr>
+) -> Result<Reached, StoreErr>
     requires ready { IsReady store.old }
     requires tree { TreeStands (committed store.old) }
     ensures found { IfOk result (λ found. (df : Path) → option_map (path_of (table (committed store.old))) found
