@@ -61,7 +61,7 @@ module _ (c d : Card) (old new : Comparisons) (counts : CountsEach old) where
       }
 
 -- what a block compares, by the command that runs
-block-compares : (old new : Powered) (reaction : Reaction) → IsBlockStage old reaction (card_found new.card)
+pub block-compares : (old new : Powered) (reaction : Reaction) → IsBlockStage old reaction (card_found new.card)
     → BlockCompares old reaction new
     → ComparesOrStays (card_found old.card) (card_found new.card) (comparisons old.card.facts)
     (comparisons new.card.facts)

@@ -4,14 +4,14 @@ use Rattle.std.proofs.Common.{arith, inl, inr, subst, sym, ap, ◌∙◌, true�
 use Rattle.nvm_board.specs.declared.board.DeviceErr.{DeviceErr}
 use Rattle.nvm_board.specs.declared.board.DeviceErr.TheVariants.{PowerLost, Fault}
 use Rattle.nvm_board.specs.declared.board.TheConstants.{COUNT_END, PAGES}
-use Rattle.nvm_board.specs.Facts.{Answered, Facts, GoesDark, new_board}
+use Rattle.nvm_board.specs.Facts.{Answered, Facts, GoesDark, Steady, new_board}
 use Rattle.undo_journal.specs.Spending.{WritesAtMost}
 use Rattle.card_core.specs.Factory.{factory_card}
 use Rattle.card_core.specs.Finding.{Finds}
 use Rattle.card_bench.specs.BenchStates.{BenchState, off, bench_card, bench_facts, IsOff}
 use Rattle.card_bench.specs.Exchanges.{Desk}
 use Rattle.card_bench.specs.Plays.{IsGood}
-use Rattle.card_bench.specs.Prints.{IsFirstDesk}
+use Rattle.card_bench.specs.Prints.{IsFirstDesk, IsJustWritten}
 
 zero_at : (n k x : ℕ) → k < n → slice_index_or (replicate n 0) k x ≡ 0
 zero_at zero k x lt = absurd (omega arith)
@@ -51,14 +51,35 @@ format_succeeds old new PowerLost is none counts answered = elim (answered.lost 
       true≢false (sym dark.0 ∙ lit)
 ]
 
+-- a new board on which the factory's card was written
+pub just_written : (old new : Facts) → old ≡ new_board → Steady old new → WritesAtMost PAGES old new → IsJustWritten new
+just_written old new is steady spent =
+    let due : old.due ≡ 0 = ap (λ (f : Facts). f.due) is in
+    let cuts : old.cuts ≡ 0 = ap (λ (f : Facts). f.cuts) is in
+    let writes : old.writes ≡ 0 = ap (λ (f : Facts). f.writes) is in
+    let most = spent.writes in
+    record {
+      due = steady.due ∙ due;
+      cuts = steady.cuts ∙ cuts;
+      writes = omega (arith, most, writes);
+      compares = spent.compares ∙ ap (λ (f : Facts). f.compares) is;
+      matches = spent.matches ∙ ap (λ (f : Facts). f.matches) is;
+    }
+
 -- the desk with the factory's board
 pub first_desk : (d : Desk) (f : Facts) → d.bench ≡ off (record f { dark = true }) → d.reader ≡ None → d.line ≡ record { lose = None; garble = None }
-    → Finds f.words factory_card → f.due ≡ 0 → f.faults ≡ 0 → IsFirstDesk d
-first_desk d f bench reader line finds due faults = record {
+    → Finds f.words factory_card → IsJustWritten f → f.faults ≡ 0 → IsFirstDesk d
+first_desk d f bench reader line finds counts faults = record {
   power = subst IsOff (sym bench) tt;
   good = subst IsGood (sym bench) (record { has_card = finds.has_card; faults = faults; well = tt });
   card = subst (λ (b : BenchState). bench_card b ≡ factory_card) (sym bench) finds.card;
-  due = subst (λ (b : BenchState). (bench_facts b).due ≡ 0) (sym bench) due;
+  counts = subst (λ (b : BenchState). IsJustWritten (bench_facts b)) (sym bench) (record {
+    due = counts.due;
+    cuts = counts.cuts;
+    writes = counts.writes;
+    compares = counts.compares;
+    matches = counts.matches;
+  });
   reader = reader;
   line = line;
 }

@@ -22,6 +22,7 @@ pub mod SoundBlocks
 pub mod SoundWorlds
 pub mod Spelled
 pub mod TreeAnswers
+pub mod Wearing
 pub mod Written
 mod WorldLawful
 mod WorldPhases

@@ -6,20 +6,23 @@ use Rattle.card_bench.specs.declared.playing.Turn.{Turn}
 use Rattle.card_bench.specs.declared.playing.Item.{Item}
 use Rattle.t1_link.specs.CardTable.{link_step}
 use Rattle.card_core.specs.Comparing.{comparisons}
+use Rattle.card_core.specs.declared.machine.TheConstants.{COMMAND_WRITES}
 use Rattle.card_core.specs.Finding.{HasCard}
 use Rattle.card_core.specs.Running.{card_found}
-use Rattle.card_bench.specs.declared.playing.Item.TheVariants.{Dark}
+use Rattle.card_core.specs.laws.ShownLaws.{ComparesOrStays}
+use Rattle.card_bench.specs.declared.playing.Item.TheVariants.{Dark, Mute}
 use Rattle.card_bench.specs.BenchStates.{BenchState, off, on, bench_facts}
 use Rattle.card_bench.specs.CardBlocks.{Powered, IsCutAt, IsBlockStage}
 use Rattle.card_bench.specs.Plays.{HasNoFault, Plays, PlaysAll, PlaysBlock}
-use Rattle.card_bench.specs.Turns.{CountsLosses, OneTurn, Runs, Spends, dark_of, darks}
+use Rattle.card_bench.specs.Turns.{CountsLosses, GoodTurn, Runs, Spends, dark_of, darks}
 use Rattle.card_bench.proofs.FewGuesses.{pays-nothing, pays-on}
 use Rattle.card_bench.proofs.GuessesPaid.{ArePaid, paid-few}
+use Rattle.card_bench.proofs.Wearing.{wears-shown, wears-writing}
 
 run_more : (old between new : BenchState) (turns : List Turn) (trace : List Item) (turn : Turn) (item : Item)
-    → Runs old turns trace between → OneTurn between turn item new → Runs old (turns ++ turn ∷ []) (trace ++ item ∷ []) new
+    → Runs old turns trace between → GoodTurn between turn item new → Runs old (turns ++ turn ∷ []) (trace ++ item ∷ []) new
 unfolding Runs
-run_more old between new [] [] turn item run one = (new, subst (λ (b : BenchState). OneTurn b turn item new) run one, refl)
+run_more old between new [] [] turn item run one = (new, subst (λ (b : BenchState). GoodTurn b turn item new) run one, refl)
 run_more old between new [] (i ∷ trace) turn item run one = absurd run
 run_more old between new (t ∷ turns) [] turn item run one = absurd run
 run_more old between new (t ∷ turns) (i ∷ trace) turn item run one =
@@ -78,19 +81,42 @@ plays_more old between new turns trace turn item all more =
           (counts_more (darks trace) (dark_of item) (bench_facts old) (bench_facts between) (bench_facts new) all.counts more.counts);
       well = λ good. more.well (second good);
       guesses = pays-on old between new all.guesses more.guesses;
-      runs = λ before good. run_more old between new turns trace turn item (all.runs before (first good)) (more.one (all.has_card before) (second good));
+      runs = λ before good. run_more old between new turns trace turn item (all.runs before (first good)) (record {
+        one = more.one (all.has_card before) (second good);
+        counts = more.counts;
+        wears = more.wears (all.has_card before) (second good);
+      });
     }
 
 -- a block in which power was lost, which is then turned off
 pub plays_cut : (old new : Powered) (got out : List ℕ) → IsCutAt old got new out → HasCard new.card.facts.words
     → IsBlockStage old (link_step old.link got).reaction (card_found new.card)
     → ArePaid (card_found old.card) (card_found new.card) (comparisons old.card.facts) (comparisons new.card.facts)
-    → PlaysBlock (on old) got Dark (off (record new.card.facts { dark = true }))
-plays_cut old new got out cut found stage paid = record {
+    → ComparesOrStays (card_found old.card) (card_found new.card) (comparisons old.card.facts) (comparisons new.card.facts)
+    → new.card.facts.writes ≤ old.card.facts.writes + COMMAND_WRITES → PlaysBlock (on old) got Dark (off (record new.card.facts { dark = true }))
+plays_cut old new got out cut found stage paid shown writes = record {
   has_card = λ before. found;
   counts = record { cuts = cut.power.cuts; due = cut.power.due; faults = omega (arith, cut.power.faults) };
   well = λ good. tt;
   guesses = paid-few (on old) (off (record new.card.facts { dark = true })) paid;
   one = λ before good. record { power = tt; run = cut.run; stage = stage };
+  wears = λ good.
+      wears-shown COMMAND_WRITES (card_found old.card) (card_found new.card) old.card.facts
+      (record new.card.facts { dark = true }) shown good.faults writes;
   heard = λ powered. tt;
 }
+
+-- a block to a card without power
+pub hears_nothing : (old new : BenchState) (facts : Facts) (got : List ℕ) → old ≡ off facts → new ≡ old
+    → PlaysBlock old got Mute new
+hears_nothing old new facts got is same =
+    subst (λ (b : BenchState). PlaysBlock old got Mute b) (sym same)
+    (subst (λ (b : BenchState). PlaysBlock b got Mute b) (sym is) (record {
+      has_card = λ before. before;
+      counts = record { cuts = omega arith; due = inl (omega arith); faults = omega arith };
+      well = λ good. tt;
+      guesses = pays-nothing (off facts) (off facts) refl refl;
+      one = λ before good. record { power = tt; card = refl };
+      wears = λ good. wears-writing COMMAND_WRITES facts facts refl (omega arith) refl;
+      heard = λ powered. absurd powered;
+    }))

@@ -1,7 +1,9 @@
 -- A power-on, by how the start of the card ended.
-use Rattle.std.specs.Prelude.{◌≡◌, ◌≤◌, ◌⊎◌, ℕ, true, false, List}
-use Rattle.std.proofs.Common.{arith, ap, inl, inr, subst, sym, ◌∙◌, true≢false}
+use Rattle.std.specs.Prelude.{◌≡◌, ◌≤◌, ◌+◌, ◌⊎◌, ℕ, true, false, List}
+use Rattle.std.proofs.Common.{arith, ap, inl, inr, refl, subst, sym, ◌∙◌, true≢false}
 use Rattle.nvm_board.specs.Facts.{Facts, GoesDark, IsWorn, IsWornOut, Steady}
+use Rattle.undo_journal.specs.declared.layout.TheConstants.{PAIRS}
+use Rattle.undo_journal.specs.Spending.{WritesAtMost, start_writes}
 use Rattle.card_core.specs.declared.faults.StartFault.{StartFault}
 use Rattle.card_core.specs.declared.faults.StartFault.TheVariants.{PowerLost, Fault, BadJournal, Damaged}
 use Rattle.card_core.specs.Comparing.{comparisons}
@@ -15,8 +17,9 @@ use Rattle.card_bench.specs.BenchStates.{BenchState, off, on, bench_facts}
 use Rattle.card_bench.specs.CardBlocks.{Powered}
 use Rattle.card_bench.specs.Guessing.{GuessesFew}
 use Rattle.card_bench.specs.Plays.{Plays}
-use Rattle.card_bench.specs.Turns.{RestsOff}
-use Rattle.card_bench.proofs.FewGuesses.{pays-nothing}
+use Rattle.card_bench.specs.Turns.{RestsOff, Wears}
+use Rattle.card_bench.proofs.FewGuesses.{pays-nothing, writing-compares}
+use Rattle.card_bench.proofs.Wearing.{few-start, wears-writing}
 
 -- a card that is found again
 again-found : (old new : List ℕ) → FindsAgain old new → HasCard old → HasCard new
@@ -24,6 +27,18 @@ again-found old new again before = record {
   journal = again.journal.1 before.journal;
   words = subst IsCard (sym again.words) before.words;
 }
+
+-- power goes off
+pub turns_off : (old new : BenchState) → new ≡ off (record (bench_facts old) { dark = true }) → Plays old turn.Off item.Quiet new
+turns_off old new is = subst (λ (b : BenchState). Plays old turn.Off item.Quiet b) (sym is) (record {
+  has_card = λ before. before;
+  counts = record { cuts = omega arith; due = inl (omega arith); faults = omega arith };
+  well = λ good. tt;
+  guesses = pays-nothing old (off (record (bench_facts old) { dark = true })) refl refl;
+  one = λ before good. record { power = tt; card = refl };
+  wears = λ before good.
+      wears-writing 0 (bench_facts old) (record (bench_facts old) { dark = true }) refl (omega arith) refl;
+})
 
 -- the bench before, and its board with power off
 module _ (old : BenchState) (dark : Facts) (darkened : dark ≡ record (bench_facts old) { dark = true }) where
@@ -41,12 +56,15 @@ module _ (old : BenchState) (dark : Facts) (darkened : dark ≡ record (bench_fa
       let cuts : new.cuts ≡ (bench_facts old).cuts = ap (λ (f : Facts). f.cuts) is in
       let due : new.due ≡ (bench_facts old).due = ap (λ (f : Facts). f.due) is in
       let faults : new.faults ≡ (bench_facts old).faults = ap (λ (f : Facts). f.faults) is in
+      let writes : new.writes ≡ (bench_facts old).writes = ap (λ (f : Facts). f.writes) is in
       record {
         has_card = λ before. subst HasCard (sym words) before;
         counts = record { cuts = omega (arith, cuts); due = inl (omega (arith, due)); faults = omega (arith, faults) };
         well = λ good. tt;
         guesses = pays-nothing old (off new) (ap found words) (ap comparisons is);
         one = λ before good. (record { power = tt; card = ap found words }, subst IsWornOut (sym same) worn);
+        wears = λ before good.
+            wears-writing (PAIRS + 1) (bench_facts old) new faults (omega (arith, writes)) (ap comparisons is);
       }
 
   -- the board with power on
@@ -63,6 +81,9 @@ module _ (old : BenchState) (dark : Facts) (darkened : dark ≡ record (bench_fa
     lit-faults : lit.faults ≡ (bench_facts old).faults
     lit-faults = ap (λ (f : Facts). f.faults) lights ∙ ap (λ (f : Facts). f.faults) darkened
 
+    lit-writes : lit.writes ≡ (bench_facts old).writes
+    lit-writes = ap (λ (f : Facts). f.writes) lights ∙ ap (λ (f : Facts). f.writes) darkened
+
     lit-counts : comparisons lit ≡ comparisons (bench_facts old)
     lit-counts = ap comparisons lights ∙ same-counts
 
@@ -72,11 +93,21 @@ module _ (old : BenchState) (dark : Facts) (darkened : dark ≡ record (bench_fa
     has-card-again : (new : List ℕ) → FindsAgain lit.words new → HasCard (bench_facts old).words → HasCard new
     has-card-again new again before = again-found lit.words new again (subst HasCard (sym lit-words) before)
 
+    -- what a start takes of the board's counts
+    start-wears : (new : Facts) → WritesAtMost (start_writes lit) lit new → HasCard (bench_facts old).words
+        → new.faults ≡ (bench_facts old).faults → Wears (PAIRS + 1) (bench_facts old) new
+    start-wears new spent before faults =
+        let few : start_writes lit ≤ PAIRS + 1 = few-start lit (subst HasCard (sym lit-words) before) in
+        let most = spent.writes in
+        wears-writing (PAIRS + 1) (bench_facts old) new faults (omega (arith, few, most, lit-writes))
+        (writing-compares (start_writes lit) lit new spent ∙ lit-counts)
+
     -- the card starts
     pub starts : (p : Powered) → Starts lit p.card → p.link ≡ fresh → FindsAgain lit.words p.card.facts.words
-        → comparisons p.card.facts ≡ comparisons lit → Plays old turn.On item.Atr (on p)
-    starts p started link again counts =
+        → WritesAtMost (start_writes lit) lit p.card.facts → Plays old turn.On item.Atr (on p)
+    starts p started link again spent =
         let power = started.power in
+        let counts = writing-compares (start_writes lit) lit p.card.facts spent in
         record {
           has_card = has-card-again p.card.facts.words again;
           counts = record {
@@ -87,6 +118,7 @@ module _ (old : BenchState) (dark : Facts) (darkened : dark ≡ record (bench_fa
           well = λ good. started.state;
           guesses = pays-nothing old (on p) (found-again p.card.facts.words again) (counts ∙ lit-counts);
           one = λ before good. ((started.session, link), found-again p.card.facts.words again);
+          wears = λ before good. start-wears p.card.facts spent before good.faults;
         }
 
     dark-lit : lit.dark ≡ true → ⊥
@@ -94,7 +126,7 @@ module _ (old : BenchState) (dark : Facts) (darkened : dark ≡ record (bench_fa
 
     -- the board, power off, after a start that stopped
     module _ (stopped new : Facts) (again : FindsAgain lit.words stopped.words) (turned : new ≡ record stopped { dark = true })
-        (counts : comparisons stopped ≡ comparisons lit) where
+        (spent : WritesAtMost (start_writes lit) lit stopped) where
       new-words : new.words ≡ stopped.words
       new-words = ap (λ (f : Facts). f.words) turned
 
@@ -105,7 +137,16 @@ module _ (old : BenchState) (dark : Facts) (darkened : dark ≡ record (bench_fa
       has-card before = subst HasCard (sym new-words) (has-card-again stopped.words again before)
 
       guesses : GuessesFew old (off new)
-      guesses = pays-nothing old (off new) rests.card (ap comparisons turned ∙ counts ∙ lit-counts)
+      guesses =
+          pays-nothing old (off new) rests.card
+          (ap comparisons turned ∙ writing-compares (start_writes lit) lit stopped spent ∙ lit-counts)
+
+      spent-so : WritesAtMost (start_writes lit) lit new
+      spent-so = subst (λ (f : Facts). WritesAtMost (start_writes lit) lit f) (sym turned) (record {
+        writes = spent.writes;
+        compares = spent.compares;
+        matches = spent.matches;
+      })
 
       lost-so : GoesDark lit stopped → Plays old turn.On item.Dark (off new)
       lost-so lost =
@@ -125,6 +166,7 @@ module _ (old : BenchState) (dark : Facts) (darkened : dark ≡ record (bench_fa
             well = λ good. tt;
             guesses = guesses;
             one = λ before good. rests;
+            wears = λ before good. start-wears new spent-so before good.faults;
           }
 
       -- power was lost in the start
@@ -151,6 +193,7 @@ module _ (old : BenchState) (dark : Facts) (darkened : dark ≡ record (bench_fa
             well = λ good. tt;
             guesses = guesses;
             one = λ before good. absurd (none before (omega (arith, good.faults, faults, lit-faults)));
+            wears = λ before good. start-wears new spent-so before good.faults;
           }
 
       steady-so : Steady lit stopped → (HasCard lit.words → ⊥) → Plays old turn.On item.Mute (off new)

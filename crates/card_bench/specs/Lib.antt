@@ -2,6 +2,7 @@ pub mod CardBlocks
 pub mod BenchStates
 pub mod BenchViews
 pub mod Turns
+pub mod Lasting
 pub mod Guessing
 pub mod Plays
 pub mod Orders

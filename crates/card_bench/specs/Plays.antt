@@ -1,5 +1,6 @@
 -- What the bench promises of a turn, and of turns: the counts always; that it is the machine's where no fault came.
 use Rattle.std.specs.Prelude.{◌≡◌, ℕ, List}
+use Rattle.card_core.specs.declared.machine.TheConstants.{COMMAND_WRITES}
 use Rattle.card_bench.specs.declared.playing.Turn.{Turn}
 use Rattle.card_bench.specs.declared.playing.PowerOn.{PowerOn}
 use Rattle.card_bench.specs.declared.playing.PowerOn.TheVariants as power
@@ -9,7 +10,7 @@ use Rattle.card_bench.specs.declared.playing.Item.{Item}
 use Rattle.card_bench.specs.declared.playing.Item.TheVariants.{Atr, Quiet, Mute, Dark, Reply}
 use Rattle.card_bench.specs.BenchStates.{BenchState, bench_facts, BenchHasCard, IsOff, IsOn, IsWell}
 use Rattle.card_bench.specs.Guessing.{GuessesFew}
-use Rattle.card_bench.specs.Turns.{CountsLosses, OneTurn, Runs, Spends, TakesBlock, dark_of, darks}
+use Rattle.card_bench.specs.Turns.{CountsLosses, OneTurn, Runs, Spends, TakesBlock, Wears, dark_of, darks, turn_writes}
 
 -- no fault came from here to there, nor since power came on
 pub record HasNoFault (old new : BenchState) : Type 0 where
@@ -49,6 +50,7 @@ pub record Plays (old : BenchState) (turn : Turn) (item : Item) (new : BenchStat
   pub well : HasNoFault old new → IsWell new
   pub guesses : GuessesFew old new
   pub one : BenchHasCard old → HasNoFault old new → OneTurn old turn item new
+  pub wears : BenchHasCard old → HasNoFault old new → Wears (turn_writes turn) (bench_facts old) (bench_facts new)
 
 -- A block is played.
 pub record PlaysBlock (old : BenchState) (got : List ℕ) (item : Item) (new : BenchState) : Type 0 where
@@ -57,6 +59,7 @@ pub record PlaysBlock (old : BenchState) (got : List ℕ) (item : Item) (new : B
   pub well : HasNoFault old new → IsWell new
   pub guesses : GuessesFew old new
   pub one : BenchHasCard old → HasNoFault old new → TakesBlock old got item new
+  pub wears : HasNoFault old new → Wears COMMAND_WRITES (bench_facts old) (bench_facts new)
   pub heard : IsOn old → IsHeard item new
 
 -- Turns are played.

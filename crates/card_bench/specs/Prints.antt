@@ -1,6 +1,7 @@
 -- What a script prints, line by line.
-use Rattle.std.specs.Prelude.{◌≡◌, ℕ, List, [], ◌∷◌, ◌++◌, None, Some}
-use Rattle.std.specs.Str.Lines.{lines}
+use Rattle.std.specs.Prelude.{◌≡◌, ◌≤◌, ℕ, List, [], ◌∷◌, ◌++◌, None, Some, replicate}
+use Rattle.nvm_board.specs.declared.board.TheConstants.{PAGES, SECRETS}
+use Rattle.nvm_board.specs.Facts.{Facts}
 use Rattle.card_core.specs.Factory.{factory_card}
 use Rattle.card_bench.specs.declared.order.Order.{Order}
 use Rattle.card_bench.specs.BenchStates.{bench_card, bench_facts, IsOff}
@@ -17,12 +18,21 @@ PrintsLines old (line ∷ others) new out =
     (order : Order) × (between : Desk) × (prints : Print) × (rest : List ℕ)
     × (order_of line ≡ Some order) × Performs order old between prints × PrintsLines between others new rest × (out ≡ text_of prints ++ rest)
 
--- The desk at first: the factory's card, power off, no cut to come, and nothing pending on the line.
+-- The counts of a new board on which a card was written: at most one device write a page, and nothing else was counted, nor
+-- is a cut to come.
+pub record IsJustWritten (f : Facts) : Type 0 where
+  pub due : f.due ≡ 0
+  pub cuts : f.cuts ≡ 0
+  pub writes : f.writes ≤ PAGES
+  pub compares : f.compares ≡ replicate SECRETS 0
+  pub matches : f.matches ≡ replicate SECRETS 0
+
+-- The desk at first: the factory's card on a new board, power off, and nothing pending on the line.
 pub record IsFirstDesk (d : Desk) : Type 0 where
   pub power : IsOff d.bench
   pub good : IsGood d.bench
   pub card : bench_card d.bench ≡ factory_card
-  pub due : (bench_facts d.bench).due ≡ 0
+  pub counts : IsJustWritten (bench_facts d.bench)
   pub reader : d.reader ≡ None
   pub line : d.line ≡ record { lose = None; garble = None }
 
@@ -32,7 +42,3 @@ pub record LinesPrint (some : List (List ℕ)) (out : List ℕ) : Type 0 where
   pub last : Desk
   pub begins : IsFirstDesk first
   pub all : PrintsLines first some last out
-
--- what a script prints
-abbrev pub Prints : List ℕ → List ℕ → Type 0
-Prints script out = LinesPrint (lines script) out

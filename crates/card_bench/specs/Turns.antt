@@ -1,6 +1,8 @@
 -- What each turn at a bench does, and what comes of it; and turns, one after another.
 use Rattle.std.specs.Prelude.{◌≡◌, ◌⊎◌, ◌≤◌, ◌+◌, ℕ, List, [], ◌∷◌}
-use Rattle.nvm_board.specs.Facts.{Facts, IsWorn, IsWornOut}
+use Rattle.nvm_board.specs.Facts.{Facts, IsWorn, IsWornOut, RisesAt}
+use Rattle.undo_journal.specs.declared.layout.TheConstants.{PAIRS}
+use Rattle.card_core.specs.declared.machine.TheConstants.{COMMAND_WRITES}
 use Rattle.t1_link.specs.CardTable.{link_step}
 use Rattle.card_bench.specs.declared.playing.Turn.{Turn}
 use Rattle.card_bench.specs.declared.playing.Turn.TheVariants as turn
@@ -69,13 +71,6 @@ OneTurn old turn.On item new = TurnsOn old item new
 OneTurn old turn.Off item new = TurnsOff old item new
 OneTurn old (turn.Block got) item new = TakesBlock old got.now item new
 
--- Turns, one after another, with what comes of each.
-unfoldable pub Runs : BenchState → List Turn → List Item → BenchState → Type 0
-Runs old [] [] new = new ≡ old
-Runs old [] (item ∷ items) new = ⊥
-Runs old (turn ∷ turns) [] new = ⊥
-Runs old (turn ∷ turns) (item ∷ items) new = (between : BenchState) × OneTurn old turn item between × Runs between turns items new
-
 -- 1 where power was lost in a turn, else 0
 abbrev pub dark_of : Item → ℕ
 dark_of Atr = 0
@@ -104,12 +99,37 @@ pub record CountsLosses (lost : ℕ) (old new : Facts) : Type 0 where
   pub undue : new.due ≤ old.due
   pub faults : old.faults ≤ new.faults
 
--- A turn of a board that has no faults, with its counts.
+-- how many device writes a turn makes at most: a start one for each pair of the journal, and one for the gate
+abbrev pub turn_writes : Turn → ℕ
+turn_writes turn.On = PAIRS + 1
+turn_writes turn.Off = 0
+turn_writes (turn.Block got) = COMMAND_WRITES
+
+-- What a turn without a fault takes of the board's other counts: so many device writes at most, and at most the comparison of one
+-- secret, which may match.
+pub record Wears (most : ℕ) (old new : Facts) : Type 0 where
+  pub faults : new.faults ≡ old.faults
+  pub writes : new.writes ≤ old.writes + most
+  pub secret : ℕ
+  pub compares : RisesAt old.compares secret new.compares
+  pub matches : RisesAt old.matches secret new.matches
+
+-- A turn without a fault, with what it takes of the board's counts.
 pub record GoodTurn (old : BenchState) (turn : Turn) (item : Item) (new : BenchState) : Type 0 where
   pub one : OneTurn old turn item new
   pub counts : Spends (dark_of item) (bench_facts old) (bench_facts new)
+  pub wears : Wears (turn_writes turn) (bench_facts old) (bench_facts new)
 
--- A block to a board that has no faults, with its counts.
+-- A block without a fault, with what it takes of the board's counts.
 pub record GoodBlock (old : BenchState) (got : List ℕ) (item : Item) (new : BenchState) : Type 0 where
   pub one : TakesBlock old got item new
   pub counts : Spends (dark_of item) (bench_facts old) (bench_facts new)
+  pub wears : Wears COMMAND_WRITES (bench_facts old) (bench_facts new)
+
+-- Turns, one after another, with what comes of each.
+unfoldable pub Runs : BenchState → List Turn → List Item → BenchState → Type 0
+Runs old [] [] new = new ≡ old
+Runs old [] (item ∷ items) new = ⊥
+Runs old (turn ∷ turns) [] new = ⊥
+Runs old (turn ∷ turns) (item ∷ items) new =
+    (between : BenchState) × GoodTurn old turn item between × Runs between turns items new

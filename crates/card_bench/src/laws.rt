@@ -1,6 +1,6 @@
 //! Laws of the definitions: each is a function whose contract is the law.
 
-ghost use Rattle.std.specs.Prelude.{◌≡◌, ◌≤◌, ◌+◌, ◌*◌, ℕ, Bool, List, true, IsTrue, Ok, Err};
+ghost use Rattle.std.specs.Prelude.{◌≡◌, ◌≢◌, ◌≤◌, ◌+◌, ◌*◌, ℕ, Bool, List, length, true, IsTrue, Ok, Err};
 ghost use Rattle.hex.specs.Hex.{lower_digits, upper_digits};
 ghost use Rattle.pin_store.specs.declared.layout.TheConstants.{PINS};
 ghost use Rattle.t1_link.specs.Blocks.{Block as BlockValue, heard};
@@ -9,14 +9,22 @@ ghost use Rattle.t1_link.specs.declared.block.Fault.TheVariants.{WrongCheck};
 ghost use Rattle.card_bench.specs.declared.exchange.TheConstants.{LINE_BLOCKS};
 ghost use Rattle.card_bench.specs.declared.line.Line.{Line};
 ghost use Rattle.card_bench.specs.declared.order.TheConstants.{BLOCK_LIMIT, COMMAND_LIMIT, LINE_LIMIT, NUMBER_DIGITS};
+ghost use Rattle.card_bench.specs.declared.playing.Item.{Item};
+ghost use Rattle.card_bench.specs.declared.playing.Item.TheVariants.{Mute};
+ghost use Rattle.card_bench.specs.declared.playing.Turn.{Turn};
+ghost use Rattle.card_bench.specs.declared.playing.Turn.TheVariants.{On};
 ghost use Rattle.card_bench.specs.declared.reading.TheConstants.{SCRIPT_LIMIT};
-ghost use Rattle.card_bench.specs.BenchStates.{BenchState, BenchHasCard};
+ghost use Rattle.card_bench.specs.BenchStates.{BenchState, BenchHasCard, bench_facts};
+ghost use Rattle.card_bench.specs.Exchanges.{Desk};
 ghost use Rattle.card_bench.specs.ExchangeWorlds.{ExchangeLaw};
 ghost use Rattle.card_bench.specs.Guessing.{GuessesFew, unblocking_guessed, value_guessed};
+ghost use Rattle.card_bench.specs.Lasting.{HasLeft};
 ghost use Rattle.card_bench.specs.Lines.{arriving, line_after};
+ghost use Rattle.card_bench.specs.Prints.{IsFirstDesk, PrintsLines};
 ghost use Rattle.card_bench.specs.ScriptWorlds.{PowerOnLaw, LineLaw};
 ghost use Rattle.card_bench.specs.Spellings.{SpellingLaw};
 ghost use Rattle.card_bench.specs.TreeMachine.{tree_machine, IsProperState};
+ghost use Rattle.card_bench.specs.Turns.{GoodTurn, Runs, dark_of};
 ghost use Rattle.card_bench.specs.WorldLaw.{ResynchLaw, WorldLaw};
 ghost use Rattle.card_bench.specs.WorldRepairs.{RepairLaw};
 ghost use Rattle.card_bench.specs.Worlds.{Answers, Machine, are_bytes, may_arrive};
@@ -81,12 +89,12 @@ pub fn script_goes_on_in_a_world()
 /// compared at most 3 times in all, and its unblocking value at most 10 times, however long the run is and wherever it
 /// is cut; each match that gives the tries back allows 3 more, or 10.
 pub fn guesses_are_few()
-    ensures values { (old new : BenchState) (n k : ℕ) → GuessesFew old new → BenchHasCard old
-        → 1 ≤ n → n ≤ PINS → (value_guessed new n).renewals ≤ (value_guessed old n).renewals + k
-        → (value_guessed new n).compares ≤ (value_guessed old n).compares + 3 * (1 + k) }
-    ensures unblocking_values { (old new : BenchState) (n k : ℕ) → GuessesFew old new → BenchHasCard old
-        → 1 ≤ n → n ≤ PINS → (unblocking_guessed new n).renewals ≤ (unblocking_guessed old n).renewals + k
-        → (unblocking_guessed new n).compares ≤ (unblocking_guessed old n).compares + 10 * (1 + k) }
+    ensures values { (old new : BenchState) (n more : ℕ) → GuessesFew old new → BenchHasCard old
+        → 1 ≤ n → n ≤ PINS → (value_guessed new n).renewals ≤ (value_guessed old n).renewals + more
+        → (value_guessed new n).compares ≤ (value_guessed old n).compares + 3 * (1 + more) }
+    ensures unblocking_values { (old new : BenchState) (n more : ℕ) → GuessesFew old new → BenchHasCard old
+        → 1 ≤ n → n ≤ PINS → (unblocking_guessed new n).renewals ≤ (unblocking_guessed old n).renewals + more
+        → (unblocking_guessed new n).compares ≤ (unblocking_guessed old n).compares + 10 * (1 + more) }
 {}
 
 /// The guess law of two runs, one after the other, is that of both together; and it holds of a run of no turn.
@@ -94,6 +102,19 @@ pub fn guesses_add_up()
     ensures none { (old : BenchState) → GuessesFew old old }
     ensures on { (old between new : BenchState) → GuessesFew old between → GuessesFew between new
         → GuessesFew old new }
+{}
+
+/// A board's counts last. A turn takes at most 700 steps of each; where so many are left, no power-on is mute, and power
+/// is lost where a cut was due alone. In a script, whose board is new, so many are left behind every line.
+pub fn counts_last()
+    ensures starts { (old new : BenchState) (item : Item) → GoodTurn old On item new → HasLeft 700 (bench_facts old)
+        → item ≢ Mute }
+    ensures due { (old new : BenchState) (turn : Turn) (item : Item) → GoodTurn old turn item new
+        → HasLeft 700 (bench_facts old) → (bench_facts old).due ≡ (bench_facts new).due + dark_of item }
+    ensures turns { (n : ℕ) (old new : BenchState) (turns : List Turn) (trace : List Item) → Runs old turns trace new
+        → HasLeft (n + 700 * length turns) (bench_facts old) → HasLeft n (bench_facts new) }
+    ensures script { (first last : Desk) (some : List (List ℕ)) (out : List ℕ) → IsFirstDesk first
+        → PrintsLines first some last out → length some ≤ 16777217 → HasLeft 700 (bench_facts last.bench) }
 {}
 
 /// The numbers of the script's language and of the line, as a reader sees them.

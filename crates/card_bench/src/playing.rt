@@ -112,9 +112,9 @@ impl<B: Socket> Bench<B> {
         // The board counts as many cuts more as there are Dark in the trace, and so many of those due are gone at most.
         ensures counts { CountsLosses (darks trace.new) (bench_facts self.old) (bench_facts self.new) }
 
-        // The guess law, whatever is cut and whatever fails: comparisons of a PIN are at most its tries before, minus those
-        // after, plus 3 times the matches of its value and its unblocking value; comparisons of the unblocking value are
-        // at most its tries before, minus those after, plus 10 times its own matches.
+        // The guess law, whatever is cut and whatever fails: comparisons of a PIN are at most its tries before, minus
+        // those after, plus 3 times the matches of its value and its unblocking value; comparisons of the unblocking
+        // value are at most its tries before, minus those after, plus 10 times its own matches.
         ensures guesses { GuessesFew self.old self.new }
 
         // The headline: over a card, and with no fault of the device in the run, nor before it since power came on, the

@@ -5,7 +5,7 @@ ghost use Rattle.nvm_board.specs.Facts.{new_board};
 ghost use Rattle.card_core.specs.Factory.{factory_card};
 ghost use Rattle.card_core.specs.Finding.{Finds};
 ghost use Rattle.card_bench.specs.Endings.{IsRunToEnd, RunStopsBy};
-ghost use Rattle.card_bench.specs.Prints.{IsFirstDesk};
+ghost use Rattle.card_bench.specs.Prints.{IsFirstDesk, IsJustWritten};
 
 use crate::desk::Desk;
 use crate::fault::RunFault;
@@ -91,7 +91,7 @@ fn run_lines<R: BufRead, W: Write>(
 fn factory_board(board: CutBoard) -> CutBoard
     requires { cut_facts board ≡ new_board }
     ensures card { Finds (cut_facts result).words factory_card }
-    ensures due { (cut_facts result).due ≡ 0 }
+    ensures counts { IsJustWritten (cut_facts result) }
 {
     match format(board) {
         Ok(board) => board,

@@ -27,6 +27,7 @@ fn laws_of_the_bench_can_be_called() {
     card_bench::laws::script_goes_on_in_a_world();
     card_bench::laws::guesses_are_few();
     card_bench::laws::guesses_add_up();
+    card_bench::laws::counts_last();
     card_bench::laws::spellings_are_read_back();
     card_bench::laws::limits();
 }

@@ -1,9 +1,14 @@
-use Rattle.std.proofs.Common.{rules}
+use Rattle.std.proofs.Common.{rules, sym}
 use Rattle.t1_link.specs.CardTable.{link_step}
+use Rattle.card_core.specs.declared.machine.TheConstants.{COMMAND_WRITES}
+use Rattle.card_core.specs.Running.{card_found}
 use Rattle.card_bench.specs.BenchStates.{on}
-use Rattle.card_bench.proofs.BlockGuesses.{block-counts, block-pays}
+use Rattle.card_bench.specs.Plays.{HasNoFault}
+use Rattle.card_bench.specs.Turns.{Wears}
+use Rattle.card_bench.proofs.BlockGuesses.{block-compares, block-counts, block-pays}
 use Rattle.card_bench.proofs.GuessesPaid.{paid-few}
-use Rattle.card_bench.proofs.PlayedTurns.{plays_cut}
+use Rattle.card_bench.proofs.PlayedTurns.{hears_nothing, plays_cut}
+use Rattle.card_bench.proofs.Wearing.{wears-shown}
 use Rattle.card_bench.proofs.playing.Bench.send.Goals as goal
 
 pub returns-in-Err : goal.returns-in-Err
@@ -13,7 +18,9 @@ returns-in-Err g c =
     rw (← old, c.replace_with.ensures.0)
     (plays_cut c.in-On.powered c.block.new.self c.args.block.now _ (c.in-Err.ensures.lost kept.0) c.in-Err.ensures.has_card c.in-Err.ensures.stage
     (block-pays c.in-On.powered c.block.new.self (link_step c.in-On.powered.link c.args.block.now).reaction c.in-Err.ensures.stage
-    c.in-Err.ensures.compares kept.1 c.in-Err.ensures.has_card))
+    c.in-Err.ensures.compares kept.1 c.in-Err.ensures.has_card)
+    (block-compares c.in-On.powered c.block.new.self (link_step c.in-On.powered.link c.args.block.now).reaction
+    c.in-Err.ensures.stage c.in-Err.ensures.compares) c.in-Err.ensures.writes)
 
 pub returns-in-Ok : goal.returns-in-Ok
 returns-in-Ok g c =
@@ -23,7 +30,13 @@ returns-in-Ok g c =
     let guesses = paid-few (on c.in-On.powered) (on c.block.new.self)
     (block-pays c.in-On.powered c.block.new.self (link_step c.in-On.powered.link c.args.block.now).reaction
     c.in-Ok.ensures.stage c.in-Ok.ensures.compares kept.1 c.in-Ok.ensures.has_card) in
-    rw (← old) (search (rules, lit, guesses))
+    let wears : HasNoFault (on c.in-On.powered) (on c.block.new.self)
+        → Wears COMMAND_WRITES c.in-On.powered.card.facts c.block.new.self.card.facts =
+    λ good. wears-shown COMMAND_WRITES (card_found c.in-On.powered.card) (card_found c.block.new.self.card)
+    c.in-On.powered.card.facts c.block.new.self.card.facts
+    (block-compares c.in-On.powered c.block.new.self (link_step c.in-On.powered.link c.args.block.now).reaction
+    c.in-Ok.ensures.stage c.in-Ok.ensures.compares) good.faults c.in-Ok.ensures.writes in
+    rw (← old) (search (rules, lit, guesses, wears))
 
 pub invariant_of-self-in-Ok : goal.invariant_of-self-in-Ok
 invariant_of-self-in-Ok g c =
@@ -33,3 +46,7 @@ invariant_of-self-in-Ok g c =
       block-counts c.in-On.powered c.block.new.self (link_step c.in-On.powered.link c.args.block.now).reaction
           c.in-Ok.ensures.stage c.in-Ok.ensures.compares kept.1,
     )
+
+pub returns-in-Off : goal.returns-in-Off
+returns-in-Off g c =
+    hears_nothing _ _ (g.B.Board.facts c.in-Off.field-0) c.args.block.now (sym (rw c.in-Off.is at c.self.view_is)) c.self.view_is

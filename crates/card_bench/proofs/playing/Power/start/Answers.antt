@@ -15,7 +15,7 @@ returns-in-Ok-start-clause-plays g c =
     let lit = g.B.Board.facts c.light.new.self in
     starts (power_state g.B.Board.facts c.args.self) dark c.into_dark_board-board.ensures lit c.in-Ok.ensures.lit
     c.in-Ok-start.powered c.in-Ok-start.ensures.started.0 c.in-Ok-start.ensures.started.1 c.in-Ok-start.ensures.found
-    (writing-compares _ lit c.in-Ok-start.powered.card.facts c.in-Ok-start.ensures.writes)
+    c.in-Ok-start.ensures.writes
 
 pub returns-in-Ok-start-clause-kept : goal.returns-in-Ok-start-clause-kept
 returns-in-Ok-start-clause-kept g c =
@@ -40,14 +40,14 @@ returns-after-fault-clause-plays g c =
     let stopped = g.B.Board.facts c.in-Err.board in
     let new = g.B.Board.facts c.power_off.new.self in
     let lights = c.in-Ok.ensures.lit in
-    let counts = writing-compares _ lit stopped c.in-Err.ensures.writes_err in
+    let spent = c.in-Err.ensures.writes_err in
     elim c.match-fault.branch [
       | in-PowerLost w ↦
           subst (λ (p : PowerOn). Plays old On (powered_item p) (off new)) (sym w.power_on-is)
           (ends_dark old dark c.into_dark_board-board.ensures lit lights stopped new c.in-Err.ensures.found_err c.power_off.ensures
-          counts c.in-Err.fault w.in-PowerLost.is c.in-Err.ensures.stopped)
+          spent c.in-Err.fault w.in-PowerLost.is c.in-Err.ensures.stopped)
       | in-Fault w ↦
           subst (λ (p : PowerOn). Plays old On (powered_item p) (off new)) (sym w.power_on-is)
           (ends_mute old dark c.into_dark_board-board.ensures lit lights stopped new c.in-Err.ensures.found_err c.power_off.ensures
-          counts c.in-Err.fault w.in-Fault.is c.in-Err.ensures.stopped)
+          spent c.in-Err.fault w.in-Fault.is c.in-Err.ensures.stopped)
     ]

@@ -1,0 +1,306 @@
+-- What turns and lines take of a board's counts, and that no count comes to its end where enough is left before.
+use Rattle.std.specs.Prelude.{◌≡◌, ◌==◌, ◌≤◌, ◌<◌, ◌+◌, ◌*◌, ℕ, zero, suc, List, [], ◌∷◌, length, slice_index, replicate}
+use Rattle.std.specs.Prelude.{All, Option, None, Some, Result, Ok, Err}
+use Rattle.std.proofs.Common.{arith, ap, inl, inr, subst, sym}
+use Rattle.std.proofs.lemmas.List.Elements.{All-contains, All-replicate, All-set}
+use Rattle.nvm_board.specs.declared.board.Arm.{Arm}
+use Rattle.nvm_board.specs.declared.board.TheConstants.{COUNT_END, SECRETS}
+use Rattle.nvm_board.specs.Facts.{Facts, IsWornOut, RisesAt}
+use Rattle.undo_journal.specs.declared.layout.TheConstants.{PAIRS}
+use Rattle.undo_journal.specs.Spending.{start_writes}
+use Rattle.undo_journal.specs.Undo.{gate}
+use Rattle.t1_link.specs.ReaderTable.{Reader}
+use Rattle.card_core.specs.declared.machine.TheConstants.{COMMAND_WRITES}
+use Rattle.card_core.specs.Cards.{Card}
+use Rattle.card_core.specs.Comparing.{Comparisons, comparisons}
+use Rattle.card_core.specs.Finding.{HasCard}
+use Rattle.card_core.specs.laws.ProperLaws.{at-or, either-if}
+use Rattle.card_core.specs.laws.ShownLaws.{ComparesOrStays}
+use Rattle.card_bench.specs.declared.exchange.Ending.{Ending}
+use Rattle.card_bench.specs.declared.exchange.Ending.TheVariants.{Answered, SetBack, Lost, Dark}
+use Rattle.card_bench.specs.declared.exchange.TheConstants.{LINE_BLOCKS}
+use Rattle.card_bench.specs.declared.order.Order.{Order}
+use Rattle.card_bench.specs.declared.order.Order.TheVariants.{Nothing, On, Off, Free, Apdu, Block, Cut, Lose, Garble}
+use Rattle.card_bench.specs.declared.playing.Item.{Item}
+use Rattle.card_bench.specs.declared.playing.Item.TheVariants as item
+use Rattle.card_bench.specs.declared.playing.Turn.{Turn}
+use Rattle.card_bench.specs.declared.playing.Turn.TheVariants as turn
+use Rattle.card_bench.specs.declared.reading.TheConstants.{SCRIPT_LIMIT}
+use Rattle.card_bench.specs.BenchStates.{BenchState, off, on, bench_facts}
+use Rattle.card_bench.specs.Exchanges.{Arrives, CardTakes, Commands, Desk, Ends, Exchanges, GoesThrough, NextBlock}
+use Rattle.card_bench.specs.Exchanges.{toward_card, toward_reader}
+use Rattle.card_bench.specs.Lasting.{HasLeft}
+use Rattle.card_bench.specs.Performing.{Performs, PerformsCommand, with_facts}
+use Rattle.card_bench.specs.Printouts.{Print}
+use Rattle.card_bench.specs.Prints.{IsFirstDesk, PrintsLines}
+use Rattle.card_bench.specs.Turns.{GoodBlock, GoodTurn, Runs, Spends, Wears, dark_of, turn_writes}
+
+-- a start writes at most once for each pair of the journal, and once for the gate
+pub few-start : (f : Facts) → HasCard f.words → start_writes f ≤ PAIRS + 1
+few-start f there =
+    let few = there.journal.room in
+    either-if (λ (n : ℕ). n ≤ PAIRS + 1) (gate f.words == 0) 0 (gate f.words + 1) (omega arith) (omega (arith, few))
+
+-- where nothing is compared
+pub wears-writing : (n : ℕ) (old new : Facts) → new.faults ≡ old.faults → new.writes ≤ old.writes + n
+    → comparisons new ≡ comparisons old → Wears n old new
+wears-writing n old new faults writes same = record {
+  faults = faults;
+  writes = writes;
+  secret = 0;
+  compares = inl (ap (λ (c : Comparisons). c.compares) same);
+  matches = inl (ap (λ (c : Comparisons). c.matches) same);
+}
+
+-- where a command may have compared what it shows
+pub wears-shown : (n : ℕ) (c d : Card) (old new : Facts) → ComparesOrStays c d (comparisons old) (comparisons new)
+    → new.faults ≡ old.faults → new.writes ≤ old.writes + n → Wears n old new
+wears-shown n c d old new (inl stays) faults writes = wears-writing n old new faults writes stays.0
+wears-shown n c d old new (inr shown) faults writes = record {
+  faults = faults;
+  writes = writes;
+  secret = shown.0.secret;
+  compares = elim shown.2.costs.compares [ | inl same ↦ inl same | inr pays ↦ inr pays.compared ];
+  matches = shown.2.costs.matches;
+}
+
+-- what is far from the end is not nearer
+pub fewer : (most least : ℕ) (f : Facts) → least ≤ most → HasLeft most f → HasLeft least f
+fewer most least f less left = record {
+  faults = let far = left.faults in omega (arith, less, far);
+  cuts = let far = left.cuts in omega (arith, less, far);
+  writes = let far = left.writes in omega (arith, less, far);
+  compares = λ k d there. let far = left.compares k d there in omega (arith, less, far);
+  matches = λ k d there. let far = left.matches k d there in omega (arith, less, far);
+}
+
+-- no count stands at its end
+pub not-worn : (f : Facts) → HasLeft 0 f → IsWornOut f → ⊥
+not-worn f left (inl cuts) = let far = left.cuts in omega (arith, far, cuts)
+not-worn f left (inr (inl faults)) = let far = left.faults in omega (arith, far, faults)
+not-worn f left (inr (inr (inl writes))) = let far = left.writes in omega (arith, far, writes)
+not-worn f left (inr (inr (inr (inl compares)))) =
+    let far = All-contains (λ (c : ℕ). c + 0 < COUNT_END) f.compares COUNT_END left.compares compares in omega (arith, far)
+not-worn f left (inr (inr (inr (inr matches)))) =
+    let far = All-contains (λ (c : ℕ). c + 0 < COUNT_END) f.matches COUNT_END left.matches matches in omega (arith, far)
+
+-- counts of which one may have risen
+risen : (n : ℕ) (old new : List ℕ) (secret : ℕ) → n + COMMAND_WRITES < COUNT_END → RisesAt old secret new
+    → All (λ c. c + (n + COMMAND_WRITES) < COUNT_END) old → All (λ c. c + n < COUNT_END) new
+risen n old new secret small rises all =
+    let before : All (λ (c : ℕ). c + n < COUNT_END) old = λ k d there. let far = all k d there in omega (arith, far) in
+    elim rises [
+      | inl same ↦ subst (λ (l : List ℕ). All (λ c. c + n < COUNT_END) l) (sym same) before
+      | inr rise ↦
+          let far : slice_index old secret + (n + COMMAND_WRITES) < COUNT_END =
+          at-or (λ (c : ℕ). c + (n + COMMAND_WRITES) < COUNT_END) old secret 0 (omega (arith, small)) all in
+          subst (λ (l : List ℕ). All (λ c. c + n < COUNT_END) l) (sym rise)
+          (All-set (λ (c : ℕ). c + n < COUNT_END) old secret (slice_index old secret + 1) (omega (arith, far)) before)
+    ]
+
+-- a turn takes at most 700 steps of any count
+counts-last : (n writes lost : ℕ) (old new : Facts) → writes ≤ COMMAND_WRITES → lost ≤ 1 → Spends lost old new
+    → Wears writes old new → HasLeft (n + COMMAND_WRITES) old → HasLeft n new
+counts-last n writes lost old new few once spends wears left =
+    let far = left.writes in
+    let small : n + COMMAND_WRITES < COUNT_END = omega (arith, far) in
+    record {
+      faults = let same = wears.faults in let there = left.faults in omega (arith, same, there);
+      cuts = let more = spends.cuts in let there = left.cuts in omega (arith, more, once, there);
+      writes = let more = wears.writes in omega (arith, more, few, far);
+      compares = risen n old.compares new.compares wears.secret small wears.compares left.compares;
+      matches = risen n old.matches new.matches wears.secret small wears.matches left.matches;
+    }
+
+few-writes : (t : Turn) → turn_writes t ≤ COMMAND_WRITES
+few-writes turn.On = omega arith
+few-writes turn.Off = omega arith
+few-writes (turn.Block got) = omega arith
+
+one-dark : (i : Item) → dark_of i ≤ 1
+one-dark item.Atr = omega arith
+one-dark item.Quiet = omega arith
+one-dark item.Mute = omega arith
+one-dark item.Dark = omega arith
+one-dark (item.Reply block) = omega arith
+
+pub turn-lasts : (n : ℕ) (old new : BenchState) (t : Turn) (i : Item) → GoodTurn old t i new
+    → HasLeft (n + COMMAND_WRITES) (bench_facts old) → HasLeft n (bench_facts new)
+turn-lasts n old new t i good left =
+    counts-last n (turn_writes t) (dark_of i) (bench_facts old) (bench_facts new) (few-writes t) (one-dark i) good.counts
+    good.wears left
+
+block-lasts : (n : ℕ) (old new : BenchState) (got : List ℕ) (i : Item) → GoodBlock old got i new
+    → HasLeft (n + COMMAND_WRITES) (bench_facts old) → HasLeft n (bench_facts new)
+block-lasts n old new got i good left =
+    counts-last n COMMAND_WRITES (dark_of i) (bench_facts old) (bench_facts new) (omega arith) (one-dark i) good.counts
+    good.wears left
+
+-- the same bench
+stays-last : (n more : ℕ) (old new : BenchState) → new ≡ old → HasLeft (n + more) (bench_facts old)
+    → HasLeft n (bench_facts new)
+stays-last n more old new same left =
+    subst (λ (b : BenchState). HasLeft n (bench_facts b)) (sym same) (fewer (n + more) n (bench_facts old) (omega arith) left)
+
+-- a power-on isn't mute, and power is lost where a cut was due alone
+pub not-mute : (old new : BenchState) (i : Item) → GoodTurn old turn.On i new → HasLeft COMMAND_WRITES (bench_facts old)
+    → i ≡ item.Mute → ⊥
+not-mute old new i good left is =
+    let mute : GoodTurn old turn.On item.Mute new = subst (λ (i : Item). GoodTurn old turn.On i new) is good in
+    not-worn (bench_facts new) (turn-lasts 0 old new turn.On item.Mute mute left) mute.one.1
+
+pub due-spent : (old new : BenchState) (t : Turn) (i : Item) → GoodTurn old t i new → HasLeft COMMAND_WRITES (bench_facts old)
+    → (bench_facts old).due ≡ (bench_facts new).due + dark_of i
+due-spent old new t i good left = elim good.counts.due [
+  | inl spent ↦ spent
+  | inr worn ↦ absurd (not-worn (bench_facts new) (turn-lasts 0 old new t i good left) (inr worn.0))
+]
+
+pub runs-last : (n : ℕ) (old new : BenchState) (turns : List Turn) (trace : List Item) → Runs old turns trace new
+    → HasLeft (n + COMMAND_WRITES * length turns) (bench_facts old) → HasLeft n (bench_facts new)
+unfolding Runs
+runs-last n old new [] [] run left = stays-last n (COMMAND_WRITES * 0) old new run left
+runs-last n old new [] (i ∷ trace) run left = absurd run
+runs-last n old new (t ∷ turns) [] run left = absurd run
+runs-last n old new (t ∷ turns) (i ∷ trace) run left =
+    runs-last n run.0 new turns trace run.2
+    (turn-lasts (n + COMMAND_WRITES * length turns) old run.0 t i run.1
+    (fewer (n + COMMAND_WRITES * length (t ∷ turns)) (n + COMMAND_WRITES * length turns + COMMAND_WRITES) (bench_facts old)
+    (omega arith) left))
+
+-- a block that goes on the line
+takes-last : (n : ℕ) (old new : BenchState) (got : List ℕ) (follows : Result NextBlock Ending)
+    → CardTakes old got new follows → HasLeft (n + COMMAND_WRITES) (bench_facts old) → HasLeft n (bench_facts new)
+takes-last n old new got (Ok (toward_card bytes)) takes left = absurd takes
+takes-last n old new got (Ok (toward_reader bytes)) takes left = block-lasts n old new got (item.Reply bytes) takes left
+takes-last n old new got (Err (Answered answer)) takes left = absurd takes
+takes-last n old new got (Err SetBack) takes left = absurd takes
+takes-last n old new got (Err Lost) takes left = absurd takes
+takes-last n old new got (Err Dark) takes left = block-lasts n old new got item.Dark takes left
+
+arrives-last : (n : ℕ) (old new : Ends) (way : NextBlock) (came : Option (List ℕ)) (follows : Result NextBlock Ending)
+    → Arrives old way came new follows → HasLeft (n + COMMAND_WRITES) (bench_facts old.bench)
+    → HasLeft n (bench_facts new.bench)
+arrives-last n old new way None follows arrives left = stays-last n COMMAND_WRITES old.bench new.bench arrives.0 left
+arrives-last n old new (toward_card block) (Some got) follows arrives left =
+    takes-last n old.bench new.bench got follows arrives.1 left
+arrives-last n old new (toward_reader block) (Some got) follows arrives left =
+    stays-last n COMMAND_WRITES old.bench new.bench arrives.0 left
+
+exchange-lasts : (n blocks : ℕ) (old new : Ends) (way : NextBlock) (ending : Ending) → Exchanges blocks old way new ending
+    → HasLeft (n + COMMAND_WRITES * blocks) (bench_facts old.bench) → HasLeft n (bench_facts new.bench)
+unfolding Exchanges
+exchange-lasts n zero old new way ending run left =
+    stays-last n (COMMAND_WRITES * 0) old.bench new.bench (ap (λ (e : Ends). e.bench) run.0) left
+exchange-lasts n (suc blocks) old new way ending (inl passes) left =
+    arrives-last n old new way _ (Err ending) passes.arrives
+    (fewer (n + COMMAND_WRITES * suc blocks) (n + COMMAND_WRITES) (bench_facts old.bench) (omega arith) left)
+exchange-lasts n (suc blocks) old new way ending (inr more) left =
+    exchange-lasts n blocks more.0 new more.1 ending more.3
+    (arrives-last (n + COMMAND_WRITES * blocks) old more.0 way _ (Ok more.1) more.2.arrives
+    (fewer (n + COMMAND_WRITES * suc blocks) (n + COMMAND_WRITES * blocks + COMMAND_WRITES) (bench_facts old.bench)
+    (omega arith) left))
+
+-- a line of a script puts at most 1,000 blocks on the line
+abbrev LINE_STEPS : ℕ
+LINE_STEPS = COMMAND_WRITES * LINE_BLOCKS
+
+through-lasts : (n : ℕ) (old new : Ends) (first : Result NextBlock Ending) (ending : Ending)
+    → GoesThrough first old new ending → HasLeft (n + LINE_STEPS) (bench_facts old.bench) → HasLeft n (bench_facts new.bench)
+through-lasts n old new (Ok way) ending through left = exchange-lasts n LINE_BLOCKS old new way ending through left
+through-lasts n old new (Err ended) ending through left =
+    stays-last n LINE_STEPS old.bench new.bench (ap (λ (e : Ends). e.bench) through.0) left
+
+commands-last : (n : ℕ) (old new : Desk) (reader : Option Reader) (command : List ℕ) (prints : Print)
+    → Commands old reader command new prints → HasLeft (n + LINE_STEPS) (bench_facts old.bench)
+    → HasLeft n (bench_facts new.bench)
+commands-last n old new None command prints commands left =
+    stays-last n LINE_STEPS old.bench new.bench (ap (λ (d : Desk). d.bench) commands.0) left
+commands-last n old new (Some reader) command prints commands left =
+    through-lasts n _ (record { bench = new.bench; reader = commands.0; line = new.line }) _ commands.1 commands.2 left
+
+command-lasts : (n : ℕ) (b : BenchState) (old new : Desk) (command : List ℕ) (prints : Print)
+    → PerformsCommand b old command new prints → HasLeft (n + LINE_STEPS) (bench_facts old.bench)
+    → HasLeft n (bench_facts new.bench)
+command-lasts n (off facts) old new command prints performs left =
+    stays-last n LINE_STEPS old.bench new.bench (ap (λ (d : Desk). d.bench) performs.0) left
+command-lasts n (on powered) old new command prints performs left =
+    commands-last n old new old.reader command prints performs left
+
+-- a cut that is set to come
+armed-lasts : (n : ℕ) (b : BenchState) (due : ℕ) (pending : Option Arm) → HasLeft n (bench_facts b)
+    → HasLeft n (bench_facts (with_facts b (record (bench_facts b) { due = due; pending = pending })))
+armed-lasts n (off facts) due pending left = record {
+  faults = left.faults;
+  cuts = left.cuts;
+  writes = left.writes;
+  compares = left.compares;
+  matches = left.matches;
+}
+armed-lasts n (on powered) due pending left = record {
+  faults = left.faults;
+  cuts = left.cuts;
+  writes = left.writes;
+  compares = left.compares;
+  matches = left.matches;
+}
+
+-- with more left than a turn may take
+turn-left : (n : ℕ) (f : Facts) → HasLeft (n + LINE_STEPS) f → HasLeft (n + COMMAND_WRITES) f
+turn-left n f left = fewer (n + LINE_STEPS) (n + COMMAND_WRITES) f (omega arith) left
+
+line-lasts : (n : ℕ) (order : Order) (old new : Desk) (prints : Print) → Performs order old new prints
+    → HasLeft (n + LINE_STEPS) (bench_facts old.bench) → HasLeft n (bench_facts new.bench)
+line-lasts n Nothing old new prints performs left =
+    stays-last n LINE_STEPS old.bench new.bench (ap (λ (d : Desk). d.bench) performs.0) left
+line-lasts n On old new prints performs left =
+    turn-lasts n old.bench new.bench turn.On performs.came performs.turn (turn-left n (bench_facts old.bench) left)
+line-lasts n Off old new prints performs left =
+    turn-lasts n old.bench new.bench turn.Off item.Quiet performs.turn (turn-left n (bench_facts old.bench) left)
+line-lasts n Free old new prints performs left =
+    stays-last n LINE_STEPS old.bench new.bench (ap (λ (d : Desk). d.bench) performs.0) left
+line-lasts n (Apdu command) old new prints performs left =
+    command-lasts n old.bench old new command.items prints performs left
+line-lasts n (Block block) old new prints performs left =
+    block-lasts n old.bench new.bench block.items performs.came performs.turn (turn-left n (bench_facts old.bench) left)
+line-lasts n (Cut number mask) old new prints performs left =
+    let nearer = fewer (n + LINE_STEPS) n (bench_facts old.bench) (omega arith) left in
+    subst (λ (b : BenchState). HasLeft n (bench_facts b)) (sym performs.armed.same) (armed-lasts n old.bench _ _ nearer)
+line-lasts n (Lose number) old new prints performs left =
+    stays-last n LINE_STEPS old.bench new.bench (ap (λ (d : Desk). d.bench) performs.0) left
+line-lasts n (Garble number) old new prints performs left =
+    stays-last n LINE_STEPS old.bench new.bench (ap (λ (d : Desk). d.bench) performs.0) left
+
+lines-last : (n : ℕ) (first last : Desk) (some : List (List ℕ)) (out : List ℕ) → PrintsLines first some last out
+    → HasLeft (n + LINE_STEPS * length some) (bench_facts first.bench) → HasLeft n (bench_facts last.bench)
+unfolding PrintsLines
+lines-last n first last [] out prints left =
+    stays-last n (LINE_STEPS * 0) first.bench last.bench (ap (λ (d : Desk). d.bench) prints.0) left
+lines-last n first last (line ∷ others) out prints left =
+    lines-last n prints.1 last others prints.3 prints.6
+    (line-lasts (n + LINE_STEPS * length others) prints.0 first prints.1 prints.2 prints.5
+    (fewer (n + LINE_STEPS * length (line ∷ others)) (n + LINE_STEPS * length others + LINE_STEPS) (bench_facts first.bench)
+    (omega arith) left))
+
+-- counts that are all 0
+none-counted : (n : ℕ) (counts : List ℕ) → counts ≡ replicate SECRETS 0 → n < COUNT_END
+    → All (λ c. c + n < COUNT_END) counts
+none-counted n counts none few =
+    subst (λ (l : List ℕ). All (λ c. c + n < COUNT_END) l) (sym none)
+    (All-replicate (λ (c : ℕ). c + n < COUNT_END) SECRETS 0 (omega (arith, few)))
+
+pub script-lasts : (first last : Desk) (some : List (List ℕ)) (out : List ℕ) → IsFirstDesk first
+    → PrintsLines first some last out → length some ≤ SCRIPT_LIMIT + 1 → HasLeft COMMAND_WRITES (bench_facts last.bench)
+script-lasts first last some out begins prints short =
+    let counts = begins.counts in
+    let none = begins.good.faults in
+    let cuts = counts.cuts in
+    let writes = counts.writes in
+    let few : COMMAND_WRITES + LINE_STEPS * length some < COUNT_END = omega (arith, short) in
+    lines-last COMMAND_WRITES first last some out prints (record {
+      faults = omega (arith, none, short);
+      cuts = omega (arith, cuts, short);
+      writes = omega (arith, writes, short);
+      compares = none-counted (COMMAND_WRITES + LINE_STEPS * length some) _ counts.compares few;
+      matches = none-counted (COMMAND_WRITES + LINE_STEPS * length some) _ counts.matches few;
+    })

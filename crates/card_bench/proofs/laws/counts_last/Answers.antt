@@ -1,0 +1,14 @@
+use Rattle.card_bench.proofs.Wearing.{due-spent, not-mute, runs-last, script-lasts}
+use Rattle.card_bench.proofs.laws.counts_last.Goals as goal
+
+pub returns-clause-starts : goal.returns-clause-starts
+returns-clause-starts c = not-mute
+
+pub returns-clause-due : goal.returns-clause-due
+returns-clause-due c = due-spent
+
+pub returns-clause-turns : goal.returns-clause-turns
+returns-clause-turns c = runs-last
+
+pub returns-clause-script : goal.returns-clause-script
+returns-clause-script c = script-lasts
