@@ -60,7 +60,7 @@ wears-shown n c d old new (inr shown) faults writes = record {
   faults = faults;
   writes = writes;
   secret = shown.0.secret;
-  compares = elim shown.2.costs.compares [ | inl same ↦ inl same | inr pays ↦ inr pays.compared ];
+  compares = elim shown.2.costs.compares [ inl same ↦ inl same | inr pays ↦ inr pays.compared ];
   matches = shown.2.costs.matches;
 }
 

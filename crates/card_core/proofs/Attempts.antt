@@ -2,15 +2,16 @@
 -- the PIN; and what was shown wrong, or right.
 use Rattle.std.proofs.Common.{◌≡◌, ◌≢◌, ◌⊎◌, ◌<◌, ◌≤◌, ◌+◌, ◌-◌, ◌==◌, ℕ, Bool, true, false, List, [], ◌∷◌, length, Contains}
 use Rattle.std.proofs.Common.{slice_index, slice_set, Option, Some, None, Ok, Err, if◌then◌else◌, refl, sym, ◌∙◌, ap, subst, arith, inl, inr}
-use Rattle.std.proofs.Common.{⊎_elim}
+use Rattle.std.proofs.Common.{⊎_elim, ◌&&◌, true≢false}
 use Rattle.std.proofs.lemmas.Bool.{cases_eq, ne_eqb, eq-eqb}
 use Rattle.std.proofs.Math.ListN.{length-set}
 use Rattle.std.specs.Cmp.Lexicographic.{bytes_decides, pointwise}
-use Rattle.std.specs.Prelude.{nat_eq, IfOk, MatchOption, Result}
+use Rattle.std.specs.Prelude.{nat_eq, IfOk, IfSome, MatchOption, Result}
 use Rattle.std.specs.Result.{result_err, IsErrAnd}
 use Rattle.std.specs.FinSet.{FinSet}
 use Rattle.std.specs.Ordering.{nat_cmp}
 use Rattle.nvm_board.specs.declared.board.TheConstants.{WORDS}
+use Rattle.nvm_board.specs.Facts.{raised}
 use Rattle.card_rules.specs.declared.status.Sw.{Sw}
 use Rattle.card_rules.specs.declared.status.TheConstants.Sw.{DONE, METHOD_BLOCKED}
 use Rattle.card_rules.specs.Pins.{IsPinNumber, with_pin, without_pin}
@@ -30,6 +31,7 @@ use Rattle.pin_store.specs.laws.Tries.{charge_keeps_law, end_keeps_law, IsEnd}
 use Rattle.card_core.specs.declared.current.Current.{Current}
 use Rattle.card_core.specs.Cards.{Card}
 use Rattle.card_core.specs.Comparing.{attempt_of, comparisons, ComparesBy, ComparesShown, CostsATry}
+use Rattle.card_core.specs.Counting.{CountsAttempt, CountsServed, CountsShown}
 use Rattle.card_core.specs.Outcomes.{refused, refused_by}
 use Rattle.card_core.specs.Pins.{Attempt, attempt_commits, attempt_refusals, attempted, attempted_as, charged_card, is_right}
 use Rattle.card_core.specs.Pins.{changing, no_refusals, pin_of, resetting, settled_card, told_tries, tries_of, tries_told}
@@ -44,7 +46,7 @@ use Rattle.card_core.specs.Working.{card_in, end_of_attempt, outcome, session_in
 use Rattle.card_core.proofs.Comparisons.{costs-told}
 use Rattle.card_core.proofs.Guarding.{served-done, served-refused}
 use Rattle.card_core.proofs.PinCards.{pin-is, pin-set, pin-stands, pin-table}
-use Rattle.card_core.proofs.Serves.{declined, stopped, torn, written}
+use Rattle.card_core.proofs.Serves.{counts-none, declined, stopped, torn, written}
 use Rattle.card_core.proofs.Stopping.{err-is}
 use Rattle.card_core.proofs.Verified.{marked-with, marked-without}
 
@@ -56,6 +58,11 @@ pub record IsAttempt (request : Request) (a : Attempt) : Type 0 where
   pub shows : attempt_of request ≡ Some a
   pub number : IsPinNumber a.pin
   pub owned : owner a.secret ≡ a.pin - 1
+
+-- a right attempt that sets no new value
+unrenewed : (renews right : Bool) → right ≡ true → renews && right ≡ false → renews ≡ false
+unrenewed true right is other = absurd (true≢false (sym is ∙ other))
+unrenewed false right is other = refl
 
 -- whether what is shown is right
 right-is : (xs ys : List ℕ) → xs ≡ ys → pointwise nat_eq xs ys ≡ true
@@ -99,10 +106,15 @@ module _ (request : Request) (a : Attempt) (asks : IsAttempt request a) (old : M
   unrefused some = refusal-by false (ne_eqb (tries_of c a.pin a.secret) 0 (λ none.
       let left = tries-in in let z : ⊥ = omega (arith, left, none, some) in z))
 
+  -- where no try is left, there is nothing to count
+  counts-blocked : (new : Memory) → tries_left a.secret was ≡ 0 → CountsServed c s request old.facts new.facts
+  counts-blocked new none free = let never : Some METHOD_BLOCKED ≡ None = sym (refused-blocked none) ∙ free in cc
+
   -- no try is left
   pub exit-blocked : (new : Memory) → tries_left a.secret was ≡ 0 → OnlyReads old new → IsReady new
       → Serves request old x new x [] (Ok METHOD_BLOCKED)
-  exit-blocked new none reads ready = declined request old x new card METHOD_BLOCKED reads ready current
+  exit-blocked new none reads ready =
+      declined request old x new (counts-blocked new none) card METHOD_BLOCKED reads ready current
       (served-refused c s request METHOD_BLOCKED (refused-blocked none))
 
   -- a PIN that is set, by its number
@@ -322,11 +334,35 @@ module _ (request : Request) (a : Attempt) (asks : IsAttempt request a) (old : M
       step-end Matched set = step-matched set
       step-end (Wrong left) is = step-wrong left is
 
+      -- what was counted
+      module _ (charge : b.facts.writes ≡ old.facts.writes + 1)
+          (settled : a.renews ≡ false → b.facts.writes ≤ e.facts.writes) where
+        counts-by : (end : AttemptEnd) → EndsByOutcome a.secret a.shown (a.becomes (pin_in b a.secret)) b e end
+            → CountsAttempt a c old.facts e.facts
+        counts-by Matched set = record {
+          compared = set.match_counted.compared ∙ ap (λ (l : List ℕ). raised l a.secret) costs.compares;
+          charged = λ other.
+              let kept = settled (unrenewed a.renews (is_right c a) (right set.match_counted.right) other) in
+              omega (arith, charge, kept);
+        }
+        counts-by (Wrong left) is = record {
+          compared = is.compared ∙ ap (λ (l : List ℕ). raised l a.secret) costs.compares;
+          charged = λ _. let same = is.writes in omega (arith, charge, same);
+        }
+
+        counts-end : (end : AttemptEnd) → EndsByOutcome a.secret a.shown (a.becomes (pin_in b a.secret)) b e end
+            → CountsServed c s request old.facts e.facts
+        counts-end end done =
+            λ _. subst (λ (o : Option Attempt). CountsShown o c old.facts e.facts) (sym asks.shows)
+            (counts-by end done)
+
       -- the end was made
       pub exit-done : (end : AttemptEnd) → EndsByOutcome a.secret a.shown (a.becomes (pin_in b a.secret)) b e end → IsReady e
+          → b.facts.writes ≡ old.facts.writes + 1 → (a.renews ≡ false → b.facts.writes ≤ e.facts.writes)
           → Serves request old x e (y end) [] (Ok (end_of_attempt end))
-      exit-done end done ready =
-          written request old x e (y end) [] (end_of_attempt end) stage-end (exit-card e (ended-size e exit) pages law-end)
+      exit-done end done ready charge settled =
+          written request old x e (counts-end charge settled end done) (y end) [] (end_of_attempt end) stage-end
+          (exit-card e (ended-size e exit) pages law-end)
           reports ready (current-end end) (omega arith) writes compares-end (step-end end done)
 
 -- The exits as the calls tell them: of so many writes after the charge.
@@ -390,12 +426,17 @@ module _ (request : Request) (a : Attempt) (asks : IsAttempt request a) (n : ℕ
           (reports_then old b e reports-b reports) writes exit-told err failed)
 
       pub end-made : (end : AttemptEnd) → EndsByOutcome k a.shown (a.becomes (pin_in b k)) b e end → IsReady e
+          → IfSome taken (λ _. b.facts.writes ≡ old.facts.writes + 1)
+          → (a.renews ≡ false → b.facts.writes ≤ e.facts.writes)
           → (y : Current) → y ≡ tried_from x a.pin a.unverifies end → (status : Sw) → status ≡ end_of_attempt end
           → Serves request old x e y [] (Ok status)
-      end-made end ended is-ready y at status told =
+      end-made end ended is-ready counted settled y at status told =
+          let charge : b.facts.writes ≡ old.facts.writes + 1 =
+          subst (λ (o : Option ℕ). IfSome o (λ _. b.facts.writes ≡ old.facts.writes + 1)) is counted in
           let made = exit-done request a asks old x sized card current b got.1 card-b e n (ends _) costs spends-told pages
           (reports_then old b e reports-b reports) writes exit-told end
-          (subst (λ (k : ℕ). EndsByOutcome k a.shown (a.becomes (pin_in b k)) b e end) got.0 ended) is-ready in
+          (subst (λ (k : ℕ). EndsByOutcome k a.shown (a.becomes (pin_in b k)) b e end) got.0 ended) is-ready charge
+          settled in
           subst (λ (z : Current). Serves request old x e z [] (Ok status)) (sym at)
           (subst (λ (w : Sw). Serves request old x e (tried_from x a.pin a.unverifies end) [] (Ok w)) (sym told) made)
 
@@ -450,17 +491,30 @@ module _ (n : ℕ) (number : IsPinNumber n) where
 pub record IsQuestion (request : Request) (n secret : ℕ) : Type 0 where
   pub refuses : (c : Card) (s : Session) → refusals_of c s request ≡ no_refusals
   pub does : (c : Card) (s : Session) → effect c s request ≡ told_tries c s n secret
+  pub unshown : attempt_of request ≡ None
   pub number : IsPinNumber n
   pub owned : owner secret ≡ n - 1
 
 module _ (n : ℕ) (number : IsPinNumber n) where
   pub asks-value : IsQuestion (verify n None) n (value_of n)
   unfolding refusals_of effect
-  asks-value = record { refuses = λ c s. refl; does = λ c s. refl; number = number; owned = value-owned n number }
+  asks-value = record {
+    refuses = λ c s. refl;
+    does = λ c s. refl;
+    unshown = refl;
+    number = number;
+    owned = value-owned n number;
+  }
 
   pub asks-unblocking : IsQuestion (reset_retry_counter n None) n (unblocking_of n)
   unfolding refusals_of effect
-  asks-unblocking = record { refuses = λ c s. refl; does = λ c s. refl; number = number; owned = unblocking-owned n number }
+  asks-unblocking = record {
+    refuses = λ c s. refl;
+    does = λ c s. refl;
+    unshown = refl;
+    number = number;
+    owned = unblocking-owned n number;
+  }
 
 module _ (request : Request) (n secret : ℕ) (asks : IsQuestion request n secret) (old : Memory) (x : Current)
     (card : IsCard (committed old)) (current : IsCurrent (table_in old) x) (new : Memory) where
@@ -478,6 +532,8 @@ module _ (request : Request) (n secret : ℕ) (asks : IsQuestion request n secre
       → IfOk r (λ status. status ≡ tries_told (tries_left secret (pin_in old secret)))
       → Reads old new (result_err r) → Serves request old x new x [] r
   question-answered (Ok status) told reads =
-      declined request old x new card status reads.only reads.ready current (answer-is status told)
+      declined request old x new
+      (counts-none request (card_in old) (session_in old x) old.facts new.facts asks.unshown) card status reads.only
+      reads.ready current (answer-is status told)
   question-answered (Err e) told reads =
       stopped request old x new card x [] e reads.only reads.tells (omega arith)

@@ -1,5 +1,6 @@
 -- From what a call leaves of the request that was asked for to what it leaves of the bytes of a command.
-use Rattle.std.proofs.Common.{◌≡◌, ◌+◌, ◌≤◌, ◌==◌, ℕ, Bool, true, false, List, [], length, Some}
+use Rattle.std.proofs.Common.{◌≡◌, ◌+◌, ◌≤◌, ◌==◌, ℕ, Bool, true, false, true≢false, List, [], length}
+use Rattle.std.proofs.Common.{Option, Some, None}
 use Rattle.std.proofs.Common.{Result, Ok, Err, IfOk, OnOk, if◌then◌else◌, sym, ◌∙◌, ap, subst, arith, inl, inr, ⊎_elim, refl}
 use Rattle.std.specs.Result.{result_err}
 use Rattle.card_rules.specs.declared.status.Sw.{Sw}
@@ -7,8 +8,11 @@ use Rattle.card_rules.specs.declared.status.TheConstants.Sw.{CONDITIONS_NOT_SATI
 use Rattle.undo_journal.specs.declared.error.StoreErr.{StoreErr}
 use Rattle.undo_journal.specs.Calls.{OnlyReads}
 use Rattle.undo_journal.specs.laws.Calls.{reads_then}
+use Rattle.undo_journal.specs.laws.Exits.{on_then}
 use Rattle.undo_journal.specs.laws.Memory.{reports_then}
 use Rattle.undo_journal.specs.Memory.{Memory, committed, IsReady}
+use Rattle.undo_journal.specs.Spending.{KeepsBoard}
+use Rattle.nvm_board.specs.Facts.{Facts, raised}
 use Rattle.block_chain.specs.Words.{word}
 use Rattle.file_tree.specs.Table.{table}
 use Rattle.apdu_core.specs.Asked.{asked}
@@ -17,7 +21,9 @@ use Rattle.card_core.specs.declared.current.Current.{Current}
 use Rattle.block_chain.specs.declared.layout.TheConstants.{HEADER_PAGE}
 use Rattle.file_tree.specs.declared.layout.TheConstants.{STATE_WORD}
 use Rattle.card_core.specs.Cards.{Card}
-use Rattle.card_core.specs.Comparing.{comparisons, Comparisons, ComparesAsked, ComparesBy}
+use Rattle.card_core.specs.Comparing.{attempt_of, comparisons, Comparisons, ComparesAsked, ComparesBy}
+use Rattle.card_core.specs.Counting.{CountsAnswered, CountsServed, CountsShown}
+use Rattle.card_core.specs.Pins.{Attempt}
 use Rattle.card_core.specs.Outcomes.{refused}
 use Rattle.card_core.specs.Served.{CarriesOut, IsDoing, Serves}
 use Rattle.card_core.specs.Sessions.{Session}
@@ -32,6 +38,15 @@ use Rattle.card_core.proofs.Serves.{reads-compared, reads-nothing}
 pub in-use-is : (m : List ℕ) → (card_of m).in_use ≡ (word m HEADER_PAGE STATE_WORD == 0)
 unfolding card_of
 in-use-is m = refl
+
+-- what was counted after reads was counted with them
+counts-after : (shown : Option Attempt) (c : Card) (a b d : Facts) → KeepsBoard a b → CountsShown shown c b d
+    → CountsShown shown c a d
+counts-after None c a b d keeps counts = tt
+counts-after (Some attempt) c a b d keeps counts = record {
+  compared = counts.compared ∙ ap (λ (l : List ℕ). raised l attempt.secret) keeps.compares;
+  charged = λ other. let more = counts.charged other in omega (arith, more, keeps.writes);
+}
 
 -- Reads before a call that carries out a request change nothing of what it leaves.
 module _ (request : Request) (old mid new : Memory) (x y : Current) (text : List ℕ) (result : Result Sw StoreErr)
@@ -57,6 +72,10 @@ module _ (request : Request) (old mid new : Memory) (x y : Current) (text : List
             (reads-compared old mid reads)
             (subst (λ (l : List ℕ). ComparesBy request (card_of l) (comparisons mid.facts) (card_in new) (comparisons
             new.facts)) same serves.compares);
+        counted = subst (λ (l : List ℕ). OnOk result (CountsServed (card_of l) (session_of (table l) x) request
+            old.facts new.facts)) same
+            (on_then _ _ result (λ counts unrefused. counts-after (attempt_of request) (card_in mid) old.facts
+            mid.facts new.facts reads.board (counts unrefused)) serves.counted);
       }
 
 module _ (bytes : List ℕ) (old new : Memory) (x y : Current) (text : List ℕ) (result : Result Sw StoreErr) where
@@ -97,6 +116,8 @@ module _ (bytes : List ℕ) (old new : Memory) (x y : Current) (text : List ℕ)
         serves.writes;
     compares = subst (λ (wanted : Result Request Sw). ComparesAsked wanted c (comparisons old.facts) (card_in new)
         (comparisons new.facts)) (sym is) serves.compares;
+    counted = subst (λ (wanted : Result Request Sw). OnOk result (CountsAnswered wanted c s old.facts new.facts))
+        (sym is) (on_then _ _ result (λ counts _. counts) serves.counted);
   }
     where
       by_result : (r : Result Sw StoreErr)
@@ -116,8 +137,9 @@ module _ (bytes : List ℕ) (old new : Memory) (x y : Current) (text : List ℕ)
   looked : OnlyReads old new → IsCard (committed old)
       → IfOk result (λ status. carried_out c s bytes ≡ outcome (card_in new) (session_in new y) text status)
       → length text ≤ 256 → OnOk result (IsReady new) → OnOk result (IsCurrent (table_in new) y)
-      → new.failed ≡ result_err result → CarriesOut bytes old x new y text result
-  looked reads card is room ready current tells = record {
+      → new.failed ≡ result_err result → OnOk result (CountsAnswered (asked bytes) c s old.facts new.facts)
+      → CarriesOut bytes old x new y text result
+  looked reads card is room ready current tells counted = record {
     step = is;
     room = room;
     stage = stage_first c s bytes (card_in new) (ap card_of reads.keeps.committed_words);
@@ -129,6 +151,7 @@ module _ (bytes : List ℕ) (old new : Memory) (x y : Current) (text : List ℕ)
     tells = tells;
     writes = omega (arith, reads.board.writes);
     compares = asked-nothing (asked bytes) reads;
+    counted = counted;
   }
 
 module _ (bytes : List ℕ) (old new : Memory) (x : Current) (card : IsCard (committed old))
@@ -136,19 +159,21 @@ module _ (bytes : List ℕ) (old new : Memory) (x : Current) (card : IsCard (com
   -- a refusal after reads
   turned-down : (status : Sw) → carried_out (card_in old) (session_in old x) bytes
       ≡ refused (card_in old) (session_in old x) status → OnlyReads old new → IsReady new
+      → CountsAnswered (asked bytes) (card_in old) (session_in old x) old.facts new.facts
       → CarriesOut bytes old x new x [] (Ok status)
-  turned-down status is reads ready =
+  turned-down status is reads ready counted =
       let same = sym reads.keeps.committed_words in
       looked bytes old new x x [] (Ok status) reads card
       (is ∙ ap (λ (l : List ℕ). outcome (card_of l) (session_of (table l) x) [] status) same) (omega arith) ready
-      (subst (λ (l : List ℕ). IsCurrent (table l) x) same current) ready.usable.works
+      (subst (λ (l : List ℕ). IsCurrent (table l) x) same current) ready.usable.works counted
 
   -- the form of the command refuses it
   pub refused-by-form : (status : Sw) → asked bytes ≡ Err status → OnlyReads old new → IsReady new
       → CarriesOut bytes old x new x [] (Ok status)
   refused-by-form status is reads ready =
       turned-down status (ap (λ (wanted : Result Request Sw). outcome_of (card_in old) (session_in old x) wanted) is) reads
-      ready
+      ready (subst (λ (wanted : Result Request Sw). CountsAnswered wanted (card_in old) (session_in old x) old.facts
+      new.facts) (sym is) tt)
 
   -- the use of the card has ended
   pub use-ended : (request : Request) → asked bytes ≡ Ok request → (card_in old).in_use ≡ false → OnlyReads old new
@@ -157,8 +182,10 @@ module _ (bytes : List ℕ) (old new : Memory) (x : Current) (card : IsCard (com
       turned-down CONDITIONS_NOT_SATISFIED
       (ap (λ (wanted : Result Request Sw). outcome_of (card_in old) (session_in old x) wanted) is
       ∙ step-ended bytes old new x x [] (Ok CONDITIONS_NOT_SATISFIED) request ended) reads ready
+      (subst (λ (wanted : Result Request Sw). CountsAnswered wanted (card_in old) (session_in old x) old.facts
+      new.facts) (sym is) (λ in_use. absurd (true≢false (sym in_use ∙ ended))))
 
   -- the store failed in a read
   pub failed-reading : (y : Current) (e : StoreErr) → OnlyReads old new → new.failed ≡ Some e
       → CarriesOut bytes old x new y [] (Err e)
-  failed-reading y e reads failed = looked bytes old new x y [] (Err e) reads card tt (omega arith) tt tt failed
+  failed-reading y e reads failed = looked bytes old new x y [] (Err e) reads card tt (omega arith) tt tt failed tt

@@ -1,10 +1,11 @@
 -- What a command leaves of a card that works, by how it was carried out.
 use Rattle.std.proofs.Common.{◌≡◌, ◌⊎◌, true, true≢false, List, ℕ, [], Result, Ok, Err, IsOk, IsErr, IfOk, OnOk}
-use Rattle.std.proofs.Common.{OnErr, refl, sym, ◌∙◌, ap, inl, inr}
+use Rattle.std.proofs.Common.{OnErr, refl, sym, ◌∙◌, ap, subst, inl, inr}
 use Rattle.std.specs.Result.{IsErrOf}
 use Rattle.std.proofs.Common.{arith}
 use Rattle.apdu_core.specs.Asked.{asked}
 use Rattle.card_core.specs.Comparing.{comparisons, ComparesAsked}
+use Rattle.card_core.specs.Counting.{CountsAnswered}
 use Rattle.card_core.specs.Stages.{IsStage}
 use Rattle.card_core.specs.laws.CompareLaws.{asked-none}
 use Rattle.card_rules.specs.declared.status.Sw.{Sw}
@@ -80,6 +81,8 @@ module _ (old new : Memory) (x y : Current) (command text said : List ℕ) (read
         session = ap (λ (s : CardState). session_while s (table_in new) y) state ∙ sym (ap (λ (o : Outcome).
             o.session) step);
         answered = ends.done.2 ∙ sym (ap (λ (o : Outcome). answer_bytes o.response) step);
+        counted = subst (λ (s : Session). CountsAnswered (asked command) (card_in old) s old.facts new.facts)
+            (sym session) carries.counted;
       }
 
   fails-in : CarriesOut command old x new y text (Err Fault) → Ends (Err Fault) was now text said result

@@ -58,7 +58,8 @@ module _ (old mid made : Memory) (ready : IsReady old) (words : IsCard (committe
   creation-refused status tells idle ready_now =
       let is : creation_refusal (tree_of m) (path_of (table m) x.df) fcp ≡ Some status =
       subst (λ (l : List ℕ). creation_refusal (tree_of l) (path_of (table l) x.df) fcp ≡ Some status) same tells.0 in
-      declined request old x made words status (reads_then old mid made reads (idle status tells.0)) ready_now current
+      declined request old x made (λ _. tt) words status (reads_then old mid made reads (idle status tells.0))
+      ready_now current
       (refused-step m sized words x template fcp found.told found.unbarred found.permitted status is)
 
   -- one that stopped, before or after its commit
@@ -132,7 +133,7 @@ module _ (old mid made : Memory) (ready : IsReady old) (words : IsCard (committe
           let done = created-step m sized words x template fcp found.told found.unbarred found.permitted e blocks after
           created ∙ (λ i. outcome (card_of (sym still i)) (session_of (table (sym still i)) y) [] DONE) in
           subst (λ (entry : Entry). Serves request old x new (current_at x e entry) [] (Ok DONE)) (sym entry_is)
-          (written request old x new y [] DONE stage stands all.reports ready_now at_file (omega arith)
+          (written request old x new (λ _. tt) y [] DONE stage stands all.reports ready_now at_file (omega arith)
           (omega (arith, few, all.writes.writes)) (compared-none n old.facts new.facts all.writes) done)
 
       pub created-counts : (free : FreeSpace) → free ≡ space_in old

@@ -182,7 +182,8 @@ module _ (old mid new : Memory) (ready : IsReady old) (words : IsCard (committed
     card-is = ap card_of (end-is done) ∙ ended-card (committed old) size words
 
     pub end-made : IsReady new → Serves terminate_card_usage old x new x [] (Ok DONE)
-    end-made ready_now = written terminate_card_usage old x new x [] DONE (inr doing) stands all-reports ready_now
+    end-made ready_now = written terminate_card_usage old x new (λ _. tt) x [] DONE (inr doing) stands all-reports
+        ready_now
         (subst (λ (t : List Entry). IsCurrent t x) (sym table-is) current) (omega arith)
         (omega (arith, spends.writes, reads.board.writes)) compares
         (end-done (committed old) x current marks are true is refl

@@ -115,8 +115,8 @@ module _ (old mid new : Memory) (ready : IsReady old) (words : IsCard (committed
   -- a change that was made
   pub change-made : ChangesLife (committed mid) e changed.life after → IsReady new
       → Serves request old x new (current_at x e changed.entry) [] (Ok DONE)
-  change-made changes ready_now = written request old x new (current_at x e changed.entry) [] DONE stage stands all-reports
-      ready_now
+  change-made changes ready_now = written request old x new (λ _. tt) (current_at x e changed.entry) [] DONE stage
+      stands all-reports ready_now
       (changed-current m sized words x current change subject changed found after (changes-it changes)) (omega arith)
       (omega (arith, spends.writes, reads.board.writes)) compares
       (changed-step m sized words x current change subject changed found after (changes-it changes))

@@ -47,7 +47,7 @@ use Rattle.card_core.proofs.Guarding.{guarded-free, guarded-refused, served-done
 use Rattle.card_core.proofs.RecordBodies.{Agree}
 use Rattle.card_core.proofs.RecordChanges.{body-become, Records}
 use Rattle.card_core.proofs.Recording.{agree, chosen-is, current-is, has-is, path-is, pointer-is, session-is}
-use Rattle.card_core.proofs.Serves.{compared-none, torn, written}
+use Rattle.card_core.proofs.Serves.{compared-none, counts-none, torn, written}
 use Rattle.card_core.proofs.Stopping.{err-is}
 
 -- A command that isn't refused puts these records in place of those of its file.
@@ -134,7 +134,8 @@ module _ (old mid new : Memory) (ready : IsReady old) (words : IsCard (committed
       let these = change becomes in
       let card = sym (card-is becomes) in
       let session = session-is m sized words x target need e body puts.found pointer ∙ sym (these.session y) in
-      written request old x new y text DONE stage stands all.reports ready_now
+      written request old x new (counts-none request c s old.facts new.facts puts.unshown) y text DONE stage stands
+      all.reports ready_now
       (these.current y (current-is m sized words x target need e body puts.found current pointer)) room costs compares
       (served-done c s request puts.none ∙ effect_is ∙ (λ i. outcome (card i) (session i) text DONE))
 

@@ -25,6 +25,7 @@ use Rattle.card_core.specs.declared.current.Current.{Current as CurrentFiles}
 use Rattle.card_core.specs.declared.named.Need.{Need}
 use Rattle.card_core.specs.declared.record_body.RecordBody.{RecordBody}
 use Rattle.card_core.specs.Cards.{Card, Kind, Path}
+use Rattle.card_core.specs.Counting.{CountsServed}
 use Rattle.card_core.specs.Elementary.{file_refusals, target_kind, target_path}
 use Rattle.card_core.specs.Lengths.{asks_less, given, length_refusal, right_length}
 use Rattle.card_core.specs.Outcomes.{refused, refused_by, Refusal}
@@ -78,12 +79,13 @@ module _ (c : Card) (s : Session) (target : Target) (status : Sw) where
 
 -- a refusal after reads leaves an empty buffer empty
 pub declined-empty : (request : Request) (old : Memory) (x : CurrentFiles) (new : Memory) (text : List ℕ) → text ≡ []
-    → IsCard (committed old) → (status : Sw) → OnlyReads old new → IsReady new → IsCurrent (table_in old) x
+    → CountsServed (card_in old) (session_in old x) request old.facts new.facts → IsCard (committed old)
+    → (status : Sw) → OnlyReads old new → IsReady new → IsCurrent (table_in old) x
     → served (card_in old) (session_in old x) request ≡ refused (card_in old) (session_in old x) status
     → Serves request old x new x text (Ok status)
-declined-empty request old x new text empty card status reads ready current is =
+declined-empty request old x new text empty counted card status reads ready current is =
     subst (λ (l : List ℕ). Serves request old x new x l (Ok status)) (sym empty)
-    (declined request old x new card status reads ready current is)
+    (declined request old x new counted card status reads ready current is)
 
 module _ (m : List ℕ) (sized : length m ≡ WORDS) (words : IsCard m) (x : CurrentFiles) (target : Target) (need : Need)
     (e : ℕ) (body : RecordBody) (found : IsRecordFile m x target need e body) where

@@ -1,5 +1,6 @@
 -- What a call that carries out a request leaves, by the kinds of its exits.
-use Rattle.std.proofs.Common.{◌≡◌, ◌⊎◌, ◌+◌, ◌≤◌, ℕ, List, [], length, Some, Result, Ok, Err, OnOk, sym, ◌∙◌, ap, subst, arith, inl}
+use Rattle.std.proofs.Common.{◌≡◌, ◌⊎◌, ◌+◌, ◌≤◌, ℕ, List, [], length, Option, Some, None, Result, Ok, Err, OnOk}
+use Rattle.std.proofs.Common.{sym, ◌∙◌, ap, subst, arith, inl}
 use Rattle.std.specs.Result.{IsErrAnd}
 use Rattle.card_rules.specs.declared.status.Sw.{Sw}
 use Rattle.undo_journal.specs.declared.error.StoreErr.{StoreErr}
@@ -11,8 +12,12 @@ use Rattle.file_tree.specs.declared.space.FreeSpace.{FreeSpace}
 use Rattle.file_tree.specs.Table.{table}
 use Rattle.apdu_core.specs.Requests.{Request}
 use Rattle.card_core.specs.declared.current.Current.{Current}
-use Rattle.card_core.specs.Comparing.{comparisons, ComparesBy, ComparesNothing}
+use Rattle.card_core.specs.Comparing.{attempt_of, comparisons, ComparesBy, ComparesNothing}
+use Rattle.card_core.specs.Counting.{CountsServed, CountsShown}
+use Rattle.card_core.specs.Cards.{Card}
 use Rattle.card_core.specs.Outcomes.{refused}
+use Rattle.card_core.specs.Pins.{Attempt}
+use Rattle.card_core.specs.Sessions.{Session}
 use Rattle.card_core.specs.Served.{IsDoing, Serves}
 use Rattle.card_core.specs.Spending.{most_writes}
 use Rattle.card_core.specs.Standing.{IsCard, card_of}
@@ -33,6 +38,12 @@ pub reads-compared : (old new : Memory) → OnlyReads old new → ComparesNothin
 reads-compared old new reads =
     let compares = reads.board.compares in
     let matches = reads.board.matches in λ i. record { compares = compares i; matches = matches i }
+
+-- a request that shows no secret has nothing to count
+pub counts-none : (request : Request) (c : Card) (s : Session) (old new : Facts) → attempt_of request ≡ None
+    → CountsServed c s request old new
+counts-none request c s old new unshown =
+    λ _. subst (λ (shown : Option Attempt). CountsShown shown c old new) (sym unshown) tt
 
 module _ (request : Request) (old : Memory) (x : Current) (new : Memory) where
   -- after reads alone nothing was compared
@@ -56,6 +67,7 @@ module _ (request : Request) (old : Memory) (x : Current) (new : Memory) where
     tells = failed;
     writes = omega (arith, reads.board.writes);
     compares = reads-nothing reads;
+    counted = tt;
   }
 
   -- which is handed on
@@ -66,11 +78,12 @@ module _ (request : Request) (old : Memory) (x : Current) (new : Memory) where
       (stopped card y text e reads.only reads.tells room)
 
   -- an answer after reads, which leaves the card
-  pub answered : IsCard (committed old) → (y : Current) (text : List ℕ) (status : Sw) → OnlyReads old new → IsReady new
+  pub answered : CountsServed (card_in old) (session_in old x) request old.facts new.facts
+      → IsCard (committed old) → (y : Current) (text : List ℕ) (status : Sw) → OnlyReads old new → IsReady new
       → IsCurrent (table_in old) y → length text ≤ 256
       → served (card_in old) (session_in old x) request ≡ outcome (card_in old) (session_in old y) text status
       → Serves request old x new y text (Ok status)
-  answered card y text status reads ready current room is =
+  answered counted card y text status reads ready current room is =
       let same = sym reads.keeps.committed_words in
       record {
         step = is ∙ ap (λ (l : List ℕ). outcome (card_of l) (session_of (table l) y) text status) same;
@@ -83,14 +96,16 @@ module _ (request : Request) (old : Memory) (x : Current) (new : Memory) where
         tells = ready.usable.works;
         writes = omega (arith, reads.board.writes);
         compares = reads-nothing reads;
+        counted = counted;
       }
 
   -- a refusal after reads
-  pub declined : IsCard (committed old) → (status : Sw) → OnlyReads old new → IsReady new → IsCurrent (table_in old) x
+  pub declined : CountsServed (card_in old) (session_in old x) request old.facts new.facts
+      → IsCard (committed old) → (status : Sw) → OnlyReads old new → IsReady new → IsCurrent (table_in old) x
       → served (card_in old) (session_in old x) request ≡ refused (card_in old) (session_in old x) status
       → Serves request old x new x [] (Ok status)
-  declined card status reads ready current is =
-      answered card x [] status reads ready current (omega arith) is
+  declined counted card status reads ready current is =
+      answered counted card x [] status reads ready current (omega arith) is
 
   -- a write that stopped, before or after its commit
   pub torn : (y : Current) (text : List ℕ) (e : StoreErr)
@@ -110,17 +125,19 @@ module _ (request : Request) (old : Memory) (x : Current) (new : Memory) where
     tells = failed;
     writes = writes;
     compares = compares;
+    counted = tt;
   }
 
   -- a write that was made
-  pub written : (y : Current) (text : List ℕ) (status : Sw)
+  pub written : CountsServed (card_in old) (session_in old x) request old.facts new.facts
+      → (y : Current) (text : List ℕ) (status : Sw)
       → OnlyReads old new ⊎ IsDoing (card_in old) (session_in old x) request (card_in new) → IsCard (committed new)
       → Reports old new → IsReady new → IsCurrent (table_in new) y → length text ≤ 256
       → new.facts.writes ≤ old.facts.writes + most_writes request
       → ComparesBy request (card_in old) (comparisons old.facts) (card_in new) (comparisons new.facts)
       → served (card_in old) (session_in old x) request ≡ outcome (card_in new) (session_in new y) text status
       → Serves request old x new y text (Ok status)
-  written y text status stage card reports ready current room writes compares is = record {
+  written counted y text status stage card reports ready current room writes compares is = record {
     step = is;
     room = room;
     stage = stage;
@@ -131,6 +148,7 @@ module _ (request : Request) (old : Memory) (x : Current) (new : Memory) where
     tells = ready.usable.works;
     writes = writes;
     compares = compares;
+    counted = counted;
   }
 
 -- the count of what is free stays right where no space is taken or given back

@@ -264,7 +264,7 @@ module _ (old mid : Memory) (ready : IsReady old) (words : IsCard (committed old
     found-made becomes ready_now current =
         let y = named_from x target e in
         let files = sym (rewrites becomes).table in
-        written request old x new y [] DONE stage card-stands all-reports ready_now
+        written request old x new (λ _. tt) y [] DONE stage card-stands all-reports ready_now
         (subst (λ (t : List Entry). IsCurrent t y) files (named-current m x e found.file target current))
         (omega arith) costs compares
         (update-within (card_in old) (session_in old x) target offset path f found.place

@@ -19,6 +19,7 @@ pub mod Steps
 pub mod Stages
 pub mod Spending
 pub mod Comparing
+pub mod Counting
 pub mod Standing
 pub mod Factory
 pub mod Finding

@@ -7,7 +7,9 @@ use Rattle.card_core.specs.declared.card_state.CardState.{CardState}
 use Rattle.card_core.specs.declared.card_state.CardState.TheVariants.{Working, Failed, Dark}
 use Rattle.card_core.specs.declared.faults.StartFault.{StartFault}
 use Rattle.card_core.specs.declared.faults.StartFault.TheVariants.{PowerLost, Fault, BadJournal, Damaged}
+use Rattle.apdu_core.specs.Asked.{asked}
 use Rattle.card_core.specs.Cards.{Card}
+use Rattle.card_core.specs.Counting.{CountsAnswered}
 use Rattle.card_core.specs.Sessions.{Session, fresh_session}
 use Rattle.card_core.specs.Outcomes.{answer_bytes, only_status}
 use Rattle.card_core.specs.Steps.{carried_out}
@@ -29,13 +31,14 @@ abbrev pub memory_failure : List ℕ
 memory_failure = answer_bytes (only_status MEMORY_FAILURE)
 
 -- The command is one step of the tree machine: card, session and answer are the step's, and the board had neither cut nor
--- fault.
+-- fault. Where a secret was shown and not refused, its comparison was counted, behind a charge.
 pub record Steps (old : Running) (command : List ℕ) (new : Running) (answer : List ℕ) : Type 0 where
   pub power : Steady old.facts new.facts
   pub state : new.state ≡ Working
   pub card : card_found new ≡ (carried_out (card_found old) old.session command).card
   pub session : new.session ≡ (carried_out (card_found old) old.session command).session
   pub answered : answer ≡ answer_bytes (carried_out (card_found old) old.session command).response
+  pub counted : CountsAnswered (asked command) (card_found old) old.session old.facts new.facts
 
 -- the board had a fault, and the card fails
 pub record FailsIn (old new : Running) (answer : List ℕ) : Type 0 where

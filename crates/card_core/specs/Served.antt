@@ -11,6 +11,7 @@ use Rattle.apdu_core.specs.Requests.{Request}
 use Rattle.card_core.specs.declared.current.Current.{Current}
 use Rattle.card_core.specs.Cards.{Card}
 use Rattle.card_core.specs.Comparing.{comparisons, ComparesAsked, ComparesBy}
+use Rattle.card_core.specs.Counting.{CountsAnswered, CountsServed}
 use Rattle.card_core.specs.Outcomes.{refused_by}
 use Rattle.card_core.specs.Sessions.{Session}
 use Rattle.card_core.specs.Spending.{most_writes, writes_of}
@@ -41,6 +42,7 @@ pub record Serves (request : Request) (old : Memory) (x : Current) (new : Memory
   pub tells : new.failed ≡ result_err result
   pub writes : new.facts.writes ≤ old.facts.writes + most_writes request
   pub compares : ComparesBy request (card_in old) (comparisons old.facts) (card_in new) (comparisons new.facts)
+  pub counted : OnOk result (CountsServed (card_in old) (session_in old x) request old.facts new.facts)
 
 -- The same by the bytes of a command, of a card that may be in use or not.
 pub record CarriesOut (command : List ℕ) (old : Memory) (x : Current) (new : Memory) (y : Current) (text : List ℕ)
@@ -57,3 +59,4 @@ pub record CarriesOut (command : List ℕ) (old : Memory) (x : Current) (new : M
   pub tells : new.failed ≡ result_err result
   pub writes : new.facts.writes ≤ old.facts.writes + writes_of command
   pub compares : ComparesAsked (asked command) (card_in old) (comparisons old.facts) (card_in new) (comparisons new.facts)
+  pub counted : OnOk result (CountsAnswered (asked command) (card_in old) (session_in old x) old.facts new.facts)

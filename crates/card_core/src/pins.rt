@@ -1,6 +1,6 @@
 //! Commands on PINs: VERIFY, CHANGE REFERENCE DATA and RESET RETRY COUNTER (ISO/IEC 7816-4, 11.5 and 11.6). A try is taken away,
 //! lastingly, before anything is compared.
-ghost use Rattle.std.specs.Prelude.{◌≡◌, ◌⊎◌, ◌<◌, [], Some, option_map, IfOk, MatchOption};
+ghost use Rattle.std.specs.Prelude.{◌≡◌, ◌⊎◌, ◌<◌, ◌+◌, [], Some, option_map, IfOk, IfSome, MatchOption};
 ghost use Rattle.std.specs.Result.{result_err};
 ghost use Rattle.nvm_board.specs.declared.board.TheConstants.{SECRETS};
 ghost use Rattle.undo_journal.specs.Calls.{OnlyReads, Reads, Changes};
@@ -154,6 +154,7 @@ fn take_try<B: Board>(store: &mut Store<B>, secret: u8) -> Result<Option<Charged
     ensures kept { tries_left secret (pin_in store.old secret) ≡ 0 → OnlyReads store.old store.new }
     ensures pages { ArePinPages (committed store.new) }
     ensures store { Changes 1 store.old store.new (result_err result) }
+    ensures counted { IfOk result (λ taken. IfSome taken (λ _. store.new.facts.writes ≡ store.old.facts.writes + 1)) }
 {
     match charge(store, secret) {
         Ok(charged) => Ok(Some(charged)),

@@ -1,5 +1,5 @@
 //! The tries of a secret, and the charge that takes one away before anything is compared.
-ghost use Rattle.std.specs.Prelude.{◌≡◌, ◌⊎◌, ◌<◌, IfOk, IsErrOf};
+ghost use Rattle.std.specs.Prelude.{◌≡◌, ◌⊎◌, ◌+◌, ◌<◌, IfOk, IsErrOf, OnOk};
 ghost use Rattle.std.specs.Result.{result_err};
 ghost use Rattle.nvm_board.specs.declared.board.TheConstants.{SECRETS};
 ghost use Rattle.undo_journal.specs.Calls.{OnlyReads, Reads, Changes};
@@ -57,8 +57,8 @@ pub fn tries<B: Board>(store: &mut Store<B>, secret: u8) -> Result<u8, StoreErr>
     Ok(word as u8)
 }
 
-/// Takes a try of a secret away, lastingly, in one device write. Nothing is compared, at no exit: the counts of comparisons
-/// and of matches stay (`store`).
+/// Takes a try of a secret away, lastingly, in one device write (`counted`). Nothing is compared, at no exit: the counts
+/// of comparisons and of matches stay (`store`).
 ///
 /// # Errors
 /// `Blocked` exactly where no try is left (`blocked`, `done`): then nothing is written, at no exit (`kept`). Else what the
@@ -73,6 +73,7 @@ pub fn charge<B: Board>(store: &mut Store<B>, secret: u8) -> Result<Charged, Pin
     ensures kept { tries_left secret (pin_in store.old secret) ≡ 0 → OnlyReads store.old store.new }
     ensures pages { ArePinPages (committed store.new) }
     ensures store { Changes 1 store.old store.new (store_failure result) }
+    ensures counted { OnOk result (store.new.facts.writes ≡ store.old.facts.writes + 1) }
 {
     let left = tries(store, secret)?;
     if left == 0 {

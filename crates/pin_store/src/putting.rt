@@ -1,5 +1,5 @@
 //! PINs that are set after a match.
-ghost use Rattle.std.specs.Prelude.{◌≡◌, ◌⊎◌, ◌≤◌, OnOk};
+ghost use Rattle.std.specs.Prelude.{◌≡◌, ◌⊎◌, ◌+◌, ◌≤◌, OnOk};
 ghost use Rattle.std.specs.Result.{result_err};
 ghost use Rattle.undo_journal.specs.Calls.{Changes, SetsIn};
 ghost use Rattle.undo_journal.specs.Lent.{memory_of};
@@ -53,6 +53,7 @@ pub(crate) fn put_left<B: Board>(store: &mut Store<B>, secret: u8, left: u8) -> 
         (with_tries secret left (pin_in store.old secret)) (committed store.new)) }
     ensures pages { ArePinPages (committed store.new) }
     ensures store { Changes 1 store.old store.new (result_err result) }
+    ensures counted { OnOk result (store.new.facts.writes ≡ store.old.facts.writes + 1) }
 {
     store.put_alone(address_of(secret, tries_place(secret)), u32::from(left))
 }
@@ -67,6 +68,7 @@ pub(crate) fn put_tries<B: Board>(store: &mut Store<B>, secret: u8) -> Result<()
         (verified_pin (pin_in store.old secret)) (committed store.new)) }
     ensures pages { ArePinPages (committed store.new) }
     ensures store { Changes 1 store.old store.new (result_err result) }
+    ensures counted { OnOk result (store.new.facts.writes ≡ store.old.facts.writes + 1) }
 {
     store.put_alone(address_of(secret, 0), u32::from(TRIES))
 }

@@ -1,5 +1,5 @@
 //! The ends that follow a charge: each compares once, what was charged, and sets the PIN where it was right.
-ghost use Rattle.std.specs.Prelude.{◌≡◌, ◌⊎◌, ◌<◌, ◌≤◌, if◌then◌else◌, IfOk};
+ghost use Rattle.std.specs.Prelude.{◌≡◌, ◌⊎◌, ◌+◌, ◌<◌, ◌≤◌, if◌then◌else◌, IfOk};
 ghost use Rattle.std.specs.Result.{result_err};
 ghost use Rattle.undo_journal.specs.Calls.{Reads, Leaves};
 ghost use Rattle.undo_journal.specs.Memory.{committed, IsReady};
@@ -8,7 +8,7 @@ ghost use Rattle.pin_store.specs.declared.layout.TheConstants.{PINS};
 ghost use Rattle.pin_store.specs.Pins.{changed_pin, kept, reset_pin, verified_pin};
 ghost use Rattle.pin_store.specs.Renewals.{renewal_writes, renewed_pin};
 ghost use Rattle.pin_store.specs.Pages.{ArePinPages};
-ghost use Rattle.pin_store.specs.Trials.{pin_in, Compared, ComparesOnce, EndsByOutcome, SetsByMatch};
+ghost use Rattle.pin_store.specs.Trials.{pin_in, settle_writes, Compared, ComparesOnce, EndsByOutcome, SetsByMatch};
 
 use crate::charging::{Charged, tries};
 use crate::errors::Outcome;
@@ -36,6 +36,8 @@ pub fn settle<B: Board>(
     ensures pages { ArePinPages (committed store.new) }
     ensures store { Leaves store.old store.new (result_err result) }
     ensures spends { ComparesOnce 1 charged store.old.facts store.new.facts }
+    ensures counted { IfOk result (λ outcome. store.new.facts.writes
+        ≡ store.old.facts.writes + settle_writes outcome) }
 {
     let secret = charged.secret();
     let outcome = compare(store, charged, shown)?;
@@ -134,6 +136,7 @@ fn compare<B: Board>(
     ensures kept { committed store.new ≡ committed store.old }
     ensures store { Leaves store.old store.new (result_err result) }
     ensures spends { ComparesOnce 0 charged store.old.facts store.new.facts }
+    ensures writes { store.new.facts.writes ≡ store.old.facts.writes }
 {
     let Charged { secret } = charged;
     let left = tries(store, secret)?;

@@ -37,8 +37,8 @@ returns-in-Err g c =
     let refused = said_err _ _ c.in_ok-file.field-0 c.in-Err.refusal c.in-Err.is c.in_ok-file.ensures.found in
     subst (λ (l : List ℕ). Serves (read_binary c.args.target c.args.offset c.args.expected) old x c.find_file.new.store x l
     (Ok c.in-Err.refusal)) (sym c.requires.empty)
-    (declined (read_binary c.args.target c.args.offset c.args.expected) old x c.find_file.new.store c.requires.card
-    c.in-Err.refusal c.find_file.ensures.store.only c.in_ok-file.ensures.store.ready c.requires.current
+    (declined (read_binary c.args.target c.args.offset c.args.expected) old x c.find_file.new.store (λ _. tt)
+    c.requires.card c.in-Err.refusal c.find_file.ensures.store.only c.in_ok-file.ensures.store.ready c.requires.current
     (read-refused (card_in old) (session_in old x) c.args.target c.args.offset c.args.expected c.in-Err.refusal refused))
 
 pub read-requires : goal.read-requires
@@ -61,8 +61,8 @@ returns-in-Err-Refused g c =
     let refusal = c.in-Err-Refused.refusal in
     let past = refused-decides _ refusal c.in-Err-Refused.field-0-is _ c.in-Err-Refused.ensures.refusal in
     let kept = refused-says _ refusal c.in-Err-Refused.field-0-is _ c.in-Err-Refused.ensures.refused in
-    let told = (declined request old x mid c.requires.card refusal c.find_file.ensures.store.only c.in_ok-file.ensures.store.ready
-    c.requires.current
+    let told = (declined request old x mid (λ _. tt) c.requires.card refusal c.find_file.ensures.store.only
+    c.in_ok-file.ensures.store.ready c.requires.current
     (found-read-past (committed old) c.requires.ready.usable.committed_size c.requires.card x c.args.target
     c.in-Ok.file.number c.in-Ok.file.entry found c.body_of-body.result c.body_of-body.ensures (committed mid)
     c.find_file.ensures.store.only.keeps.committed_words c.args.offset c.args.expected refusal past)) in
@@ -101,7 +101,7 @@ returns g c =
     ∙ ap (λ (n : ℕ). take n (drop c.args.offset (transparent_bytes (committed mid) body))) c.most_of.ensures in
     let current = sym c.naming.ensures in
     let status = sym (c.read_status.ensures ∙ ap (λ (n : ℕ). end_status n c.args.expected) c.len.ensures.value) in
-    answered request old x new c.requires.card c.naming.result text c.read_status.result
+    answered request old x new (λ _. tt) c.requires.card c.naming.result text c.read_status.result
     (reads_then old mid new c.find_file.ensures.store.only c.read.ensures.store.only) c.in-Ok-read.ensures.store.ready
     (subst (λ (y : Current). IsCurrent (table_in old) y) current
     (named-current (committed old) x e found.file c.args.target c.requires.current))

@@ -32,8 +32,8 @@ returns-in-Err-clause-serves g c =
     let old = c.args.store.now in
     let x = c.args.current.now in
     let refused = said_err _ _ c.in_ok-file.field-0 c.in-Err.refusal c.in-Err.is c.in_ok-file.ensures.found in
-    declined (update_binary c.args.target c.args.offset c.args.bytes.now) old x c.find_file.new.store c.requires.card
-    c.in-Err.refusal c.find_file.ensures.store.only c.in_ok-file.ensures.store.ready c.requires.current
+    declined (update_binary c.args.target c.args.offset c.args.bytes.now) old x c.find_file.new.store (λ _. tt)
+    c.requires.card c.in-Err.refusal c.find_file.ensures.store.only c.in_ok-file.ensures.store.ready c.requires.current
     (update-refused (card_in old) (session_in old x) c.args.target c.args.offset c.args.bytes.now c.in-Err.refusal refused)
 
 pub update-requires-clause-body : goal.update-requires-clause-body
@@ -56,8 +56,8 @@ returns-in-Err-Refused-clause-serves g c =
     let refusal = c.in-Err-Refused.refusal in
     let past = refused-decides _ refusal c.in-Err-Refused.field-0-is _ c.in-Err-Refused.ensures.refusal in
     let kept = refused-says _ refusal c.in-Err-Refused.field-0-is _ c.in-Err-Refused.ensures.refused in
-    let told = (declined request old x mid c.requires.card refusal c.find_file.ensures.store.only c.in_ok-file.ensures.store.ready
-    c.requires.current
+    let told = (declined request old x mid (λ _. tt) c.requires.card refusal c.find_file.ensures.store.only
+    c.in_ok-file.ensures.store.ready c.requires.current
     (found-update-past old mid c.requires.ready c.requires.card x c.args.target e entry found c.body_of-body.result
     c.body_of-body.ensures c.args.offset c.args.bytes.now c.find_file.ensures.store.only refusal past)) in
     subst (λ (status : Sw). Serves request old x new x [] (Ok status)) (sym c.in-Err-Refused.refusal-is)

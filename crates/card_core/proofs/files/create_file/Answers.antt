@@ -26,7 +26,7 @@ returns-in-Err-clause-serves g c =
     let x = c.args.current.now in
     let template = c.args.template.now in
     let refused = said_err _ _ c.in_ok-fcp.field-0 c.in-Err.refusal c.in-Err.is c.in_ok-fcp.ensures.found in
-    declined (create_file template) old x c.find_new_file.new.store c.requires.card c.in-Err.refusal
+    declined (create_file template) old x c.find_new_file.new.store (λ _. tt) c.requires.card c.in-Err.refusal
     c.find_new_file.ensures.store.only c.in_ok-fcp.ensures.store.ready c.requires.current
     (create-refusal (card_in old) (session_in old x) template c.in-Err.refusal refused)
 

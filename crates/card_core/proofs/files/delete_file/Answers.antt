@@ -29,7 +29,7 @@ returns-in-Err-clause-serves g c =
     let old = c.args.store.now in
     let x = c.args.current.now in
     let refused = said_err _ _ c.in_ok-file.field-0 c.in-Err.refusal c.in-Err.is c.in_ok-file.ensures.found in
-    declined (delete_file c.args.subject) old x c.find_deletable.new.store c.requires.card c.in-Err.refusal
+    declined (delete_file c.args.subject) old x c.find_deletable.new.store (λ _. tt) c.requires.card c.in-Err.refusal
     c.find_deletable.ensures.store.only c.in_ok-file.ensures.store.ready c.requires.current
     (delete-refused (card_in old) (session_in old x) c.args.subject c.in-Err.refusal refused)
 
@@ -85,8 +85,8 @@ returns-clause-serves g c =
     c.in_ok-freed.ensures.done in
     subst (λ (y : Entry). Serves request old x new (record x { df = y.parent; ef = None; pointer = None }) [] (Ok DONE))
     (sym found.entry_is)
-    (written request old x new _ [] DONE (inr stage) card reports c.in_ok-freed.ensures.store.ready current (omega arith)
-    (omega (arith, spends, spent)) compares done)
+    (written request old x new (λ _. tt) _ [] DONE (inr stage) card reports c.in_ok-freed.ensures.store.ready current
+    (omega arith) (omega (arith, spends, spent)) compares done)
 
 pub returns-clause-space : goal.returns-clause-space
 returns-clause-space g c =

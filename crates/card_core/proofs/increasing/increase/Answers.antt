@@ -25,8 +25,9 @@ returns-in-Err-clause-serves g c =
     let x = c.args.current.now in
     let request = increase c.args.amount.now c.args.expected in
     let refused = said_err _ _ c.in_ok-file.field-0 c.in-Err.refusal c.in-Err.is c.in_ok-file.ensures.found in
-    declined-empty request old x c.find_increased.new.store c.args.answer.now.items c.requires.empty c.requires.card
-    c.in-Err.refusal c.find_increased.ensures.store.only c.in_ok-file.ensures.store.ready c.requires.current
+    declined-empty request old x c.find_increased.new.store c.args.answer.now.items c.requires.empty (λ _. tt)
+    c.requires.card c.in-Err.refusal c.find_increased.ensures.store.only c.in_ok-file.ensures.store.ready
+    c.requires.current
     (served-refused (card_in old) (session_in old x) request c.in-Err.refusal refused)
 
 pub returns-in-Err-clause-space : goal.returns-in-Err-clause-space

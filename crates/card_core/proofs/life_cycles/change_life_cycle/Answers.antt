@@ -17,7 +17,8 @@ returns-in-Err-clause-serves g c =
     let old = c.args.store.now in
     let x = c.args.current.now in
     let refused = said_err _ _ c.in_ok-changed.field-0 c.in-Err.refusal c.in-Err.is c.in_ok-changed.ensures.found in
-    declined (change_life_cycle c.args.change c.args.subject) old x c.find_change.new.store c.requires.card c.in-Err.refusal c.find_change.ensures.store.only
+    declined (change_life_cycle c.args.change c.args.subject) old x c.find_change.new.store (λ _. tt)
+    c.requires.card c.in-Err.refusal c.find_change.ensures.store.only
     c.in_ok-changed.ensures.store.ready c.requires.current
     (change-refused (card_in old) (session_in old x) c.args.change c.args.subject c.in-Err.refusal refused)
 

@@ -16,7 +16,8 @@ returns-then-not-branch g c =
     let old = c.args.store.now in
     let x = c.args.current.now in
     let denied : c.in_ok-is_allowed.field-0 ≡ false = c.if-not-branch.true in
-    declined terminate_card_usage old x c.is_allowed.new.store c.requires.card ACCESS_DENIED c.is_allowed.ensures.store.only
+    declined terminate_card_usage old x c.is_allowed.new.store (λ _. tt) c.requires.card ACCESS_DENIED
+    c.is_allowed.ensures.store.only
     c.in_ok-is_allowed.ensures.store.ready c.requires.current
     (end-refused (committed old) x c.requires.current _ refl c.in_ok-is_allowed.field-0
     c.in_ok-is_allowed.ensures.allowed denied)

@@ -22,7 +22,7 @@ returns-in-Err-clause-serves g c =
     let x = c.args.current.now in
     let request = append_record c.args.target c.args.bytes.now in
     let refused = said_err _ _ c.in_ok-file.field-0 c.in-Err.refusal c.in-Err.is c.in_ok-file.ensures.found in
-    declined request old x c.find_appended.new.store c.requires.card c.in-Err.refusal
+    declined request old x c.find_appended.new.store (λ _. tt) c.requires.card c.in-Err.refusal
     c.find_appended.ensures.store.only c.in_ok-file.ensures.store.ready c.requires.current
     (served-refused (card_in old) (session_in old x) request c.in-Err.refusal refused)
 

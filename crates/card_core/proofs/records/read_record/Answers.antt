@@ -26,7 +26,8 @@ returns-in-Err g c =
     let x = c.args.current.now in
     let refused = said_err _ _ c.in_ok-found.field-0 c.in-Err.refusal c.in-Err.is c.in_ok-found.ensures.found in
     declined-empty (read_record c.args.target c.args.choice c.args.expected) old x c.find_record.new.store
-    c.args.answer.now.items c.requires.empty c.requires.card c.in-Err.refusal c.find_record.ensures.store.only
+    c.args.answer.now.items c.requires.empty (λ _. tt) c.requires.card c.in-Err.refusal
+    c.find_record.ensures.store.only
     c.in_ok-found.ensures.store.ready c.requires.current
     (read-refused (card_in old) (session_in old x) c.args.target c.in-Err.refusal c.args.choice refused c.args.expected)
 
@@ -67,7 +68,7 @@ returns-then-is_other_length g c =
     ∙ sym c.is_other_length.ensures ∙ c.if-is_other_length.true in
     let status = ap right_length (sym text) ∙ sym c.right_length.ensures in
     declined-empty (read_record c.args.target c.args.choice c.args.expected) old x c.read.new.store
-    c.args.answer.now.items c.requires.empty c.requires.card c.right_length.result
+    c.args.answer.now.items c.requires.empty (λ _. tt) c.requires.card c.right_length.result
     (reads_then old c.find_record.new.store c.read.new.store c.find_record.ensures.store.only c.read.ensures.store.only)
     c.in_ok-read.ensures.store.ready c.requires.current
     (read-other (committed old) c.requires.ready.usable.committed_size c.requires.card x c.args.target _
@@ -110,7 +111,7 @@ returns g c =
     let current = current-is (committed old) sized c.requires.card x c.args.target _ e body found.file c.requires.current
     (pointer_after (pointer_from x c.args.target) c.args.choice (chosen_in body (pointer_from x c.args.target)
     c.args.choice)) in
-    answered (read_record c.args.target c.args.choice c.args.expected) old x c.read.new.store c.requires.card
+    answered (read_record c.args.target c.args.choice c.args.expected) old x c.read.new.store (λ _. tt) c.requires.card
     c.pointing.result c.give.new.answer.items DONE
     (reads_then old c.find_record.new.store c.read.new.store c.find_record.ensures.store.only c.read.ensures.store.only)
     c.in_ok-read.ensures.store.ready

@@ -24,7 +24,7 @@ returns-in-Err g c =
     let x = c.args.current.now in
     let refused = said_err _ _ c.in_ok-found.field-0 c.in-Err.refusal c.in-Err.is c.in_ok-found.ensures.found in
     declined-empty (search_record c.args.target c.args.first c.args.direction c.args.text.now c.args.expected) old x
-    c.find_record.new.store c.args.answer.now.items c.requires.empty c.requires.card c.in-Err.refusal
+    c.find_record.new.store c.args.answer.now.items c.requires.empty (λ _. tt) c.requires.card c.in-Err.refusal
     c.find_record.ensures.store.only c.in_ok-found.ensures.store.ready c.requires.current
     (search-refused (card_in old) (session_in old x) c.args.target c.in-Err.refusal c.args.first refused c.args.direction
     c.args.text.now c.args.expected)
@@ -68,7 +68,7 @@ returns-then-asks_less g c =
     ∙ c.if-asks_less.true in
     let status = ap right_length (sym numbers) ∙ sym c.right_length.ensures in
     declined-empty (search_record c.args.target c.args.first c.args.direction c.args.text.now c.args.expected) old x
-    c.search.new.store c.args.answer.now.items c.requires.empty c.requires.card c.right_length.result
+    c.search.new.store c.args.answer.now.items c.requires.empty (λ _. tt) c.requires.card c.right_length.result
     (reads_then old c.find_record.new.store c.search.new.store c.find_record.ensures.store.only c.search.ensures.store.only)
     c.in_ok-search.ensures.store.ready c.requires.current
     (search-less (committed old) c.requires.ready.usable.committed_size c.requires.card x c.args.target _
@@ -104,7 +104,7 @@ returns g c =
     let current = current-is (committed old) sized c.requires.card x c.args.target _ e body found.file c.requires.current
     (pointer_found (pointer_from x c.args.target) all) in
     answered (search_record c.args.target c.args.first c.args.direction c.args.text.now c.args.expected) old x
-    c.search.new.store c.requires.card c.pointing.result c.give.new.answer.items c.status_of.result
+    c.search.new.store (λ _. tt) c.requires.card c.pointing.result c.give.new.answer.items c.status_of.result
     (reads_then old c.find_record.new.store c.search.new.store c.find_record.ensures.store.only c.search.ensures.store.only)
     c.in_ok-search.ensures.store.ready
     (subst (λ (y : Current). IsCurrent (table_in old) y) (sym y_is) current)

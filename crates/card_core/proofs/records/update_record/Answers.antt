@@ -24,7 +24,7 @@ returns-in-Err-clause-serves g c =
     let x = c.args.current.now in
     let request = update_record c.args.target c.args.choice c.args.bytes.now in
     let refused = said_err _ _ c.in_ok-replaced.field-0 c.in-Err.refusal c.in-Err.is c.in_ok-replaced.ensures.found in
-    declined request old x c.find_replaced.new.store c.requires.card c.in-Err.refusal
+    declined request old x c.find_replaced.new.store (λ _. tt) c.requires.card c.in-Err.refusal
     c.find_replaced.ensures.store.only c.in_ok-replaced.ensures.store.ready c.requires.current
     (served-refused (card_in old) (session_in old x) request c.in-Err.refusal refused)
 

@@ -42,7 +42,8 @@ returns-in_default g c =
     let s = session_of t x in
     let request = select (selection_of c.args.selector) c.args.returned c.args.expected in
     subst (λ (l : List ℕ). Serves request old x c.find_selected.new.store x l (Ok FILE_NOT_FOUND)) (sym c.requires.empty)
-    (declined request old x c.find_selected.new.store c.requires.card FILE_NOT_FOUND c.find_selected.ensures.store.only
+    (declined request old x c.find_selected.new.store (λ _. tt) c.requires.card FILE_NOT_FOUND
+    c.find_selected.ensures.store.only
     c.in_ok-e.ensures.store.ready c.requires.current
     (select-missed (card_of m) s (selection_of c.args.selector) c.args.returned c.args.expected
     (c.in_ok-e.ensures.found ∙ ap (λ (o : Option ℕ). option_map (path_of t) o) c.in_default.is)))
@@ -96,7 +97,8 @@ returns-then-asks_less g c =
     let less = ap (asks_less expected) (sym told) ∙ sym c.asks_less.ensures ∙ c.if-asks_less.true in
     let status = ap right_length (sym told) ∙ sym c.right_length.ensures in
     subst (λ (l : List ℕ). Serves request old x c.read_entry.new.store x l (Ok c.right_length.result)) (sym c.requires.empty)
-    (declined request old x c.read_entry.new.store c.requires.card c.right_length.result reads c.in_ok-entry.ensures.store.ready
+    (declined request old x c.read_entry.new.store (λ _. tt) c.requires.card c.right_length.result reads
+    c.in_ok-entry.ensures.store.ready
     c.requires.current
     (select-entry-less m c.requires.card e used c.requires.ready.usable.committed_size x (selection_of c.args.selector)
     c.args.returned expected place less
@@ -125,7 +127,8 @@ returns g c =
     let current = sym at in
     let text = sym (c.give.ensures.given ∙ ap (given expected) told) in
     let status = sym (c.status_of.ensures ∙ ap (λ (y : Entry). selection_status (life_of y)) entry) in
-    answered request old x c.read_entry.new.store c.requires.card c.at.result c.give.new.answer.items c.status_of.result
+    answered request old x c.read_entry.new.store (λ _. tt) c.requires.card c.at.result c.give.new.answer.items
+    c.status_of.result
     reads c.in_ok-entry.ensures.store.ready
     (subst (λ (y : Current). IsCurrent t y) current (current-entry m c.requires.card e used x c.requires.current.marks))
     c.give.ensures.room

@@ -31,7 +31,7 @@ returns-in-Ok g c =
     (block-pays c.in-On.powered c.block.new.self (link_step c.in-On.powered.link c.args.block.now).reaction
     c.in-Ok.ensures.stage c.in-Ok.ensures.compares kept.1 c.in-Ok.ensures.has_card) in
     let wears : HasNoFault (on c.in-On.powered) (on c.block.new.self)
-        → Wears COMMAND_WRITES c.in-On.powered.card.facts c.block.new.self.card.facts =
+    → Wears COMMAND_WRITES c.in-On.powered.card.facts c.block.new.self.card.facts =
     λ good. wears-shown COMMAND_WRITES (card_found c.in-On.powered.card) (card_found c.block.new.self.card)
     c.in-On.powered.card.facts c.block.new.self.card.facts
     (block-compares c.in-On.powered c.block.new.self (link_step c.in-On.powered.link c.args.block.now).reaction
