@@ -4,7 +4,7 @@ use Rattle.std.proofs.Common.{ap, inl, inr, refl, subst, sym, ◌∙◌}
 use Rattle.t1_link.specs.CardTable.{Reaction, answers, reply_bytes, command_of, link_step, replies, runs}
 use Rattle.card_core.specs.Running.{FailsIn, IsCutIn, Steps, card_found, memory_failure}
 use Rattle.card_core.specs.Steps.{answer_bytes}
-use Rattle.card_bench.specs.CardBlocks.{FailsAt, IsCutAt, IsRun, Powered, Replies, answering, card_by, machine}
+use Rattle.card_bench.specs.CardBlocks.{BlockCounts, FailsAt, IsCutAt, IsRun, Powered, Replies, answering, card_by, machine}
 use Rattle.card_bench.specs.CardBlocks.{session_by}
 
 -- a fact of the reaction that runs a command, where that command waits
@@ -52,6 +52,7 @@ module _ (p new : Powered) (got bytes answer out : List ℕ) where
           (link_step p.link got).reaction bytes waits steps.session;
       link = linked (λ command. answer_bytes (machine p command).response) steps.answered;
       block = blocked (λ command. answer_bytes (machine p command).response) steps.answered;
+      counted = of-run (λ (r : Reaction). BlockCounts p r new) (link_step p.link got).reaction bytes waits steps.counted;
     }
 
     fails-at : FailsIn p.card new.card answer → FailsAt p got new out

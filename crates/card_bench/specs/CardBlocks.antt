@@ -4,6 +4,7 @@ use Rattle.nvm_board.specs.Facts.{Steady, GoesDark, Fails}
 use Rattle.t1_link.specs.CardTable.{Link, link_step, Taken, Reaction, replies, runs, answers, reply_bytes}
 use Rattle.apdu_core.specs.Asked.{asked}
 use Rattle.card_core.specs.Comparing.{comparisons, ComparesAsked, ComparesNothing}
+use Rattle.card_core.specs.Counting.{CountsAnswered}
 use Rattle.card_core.specs.declared.card_state.CardState.TheVariants.{Working, Failed, Dark}
 use Rattle.card_core.specs.Cards.{Card}
 use Rattle.card_core.specs.Sessions.{Session, fresh_session}
@@ -61,8 +62,14 @@ BlockCompares old (runs command) new =
     ComparesAsked (asked command) (card_found old.card) (comparisons old.card.facts) (card_found new.card)
     (comparisons new.card.facts)
 
+-- what a block that is answered counts: a guess in the command that it runs, and else nothing
+abbrev pub BlockCounts : Powered → Reaction → Powered → Type 0
+BlockCounts old (replies block) new = Unit {0}
+BlockCounts old (runs command) new =
+    CountsAnswered (asked command) (card_found old.card) old.card.session old.card.facts new.card.facts
+
 -- The reply is the link's, over one step of the tree machine where a command is to run: card, session and link go on as
--- these do, and the board had neither cut nor fault.
+-- these do, and the board had neither cut nor fault. A guess that is answered was counted.
 pub record Replies (old : Powered) (got : List ℕ) (new : Powered) (out : List ℕ) : Type 0 where
   pub power : Steady old.card.facts new.card.facts
   pub state : new.card.state ≡ Working
@@ -70,6 +77,7 @@ pub record Replies (old : Powered) (got : List ℕ) (new : Powered) (out : List 
   pub session : new.card.session ≡ session_by old.card.session (link_step old.link got).reaction (λ command. (machine old command).session)
   pub link : new.link ≡ (block_answered old.link got (λ command. answer_bytes (machine old command).response)).link
   pub block : out ≡ reply_bytes (block_answered old.link got (λ command. answer_bytes (machine old command).response)).reaction
+  pub counted : BlockCounts old (link_step old.link got).reaction new
 
 -- The reply of a card whose memory failed: each command is answered 6581.
 pub record RepliesFailure (old : Powered) (got : List ℕ) (new : Powered) (out : List ℕ) : Type 0 where

@@ -124,7 +124,7 @@ module _ (request : Request) (a : Attempt) (asks : IsAttempt request a) (old : M
       subst (λ (j : ℕ). SetsPin (committed m) j (now (pin_of (card_in m) a.pin)) (committed n)) asks.owned
       (subst (λ (p : Pin). SetsPin (committed m) (owner a.secret) (now p) (committed n)) (pin-in m) sets)
 
-  -- What the law of PINs tells of the card: at any exit.
+  -- What the PIN law tells of the card: at any exit.
   module _ (new : Memory) (size : length (committed new) ≡ length (committed old)) (pages : ArePinPages (committed new))
       (law : KeepsPinLaw a.secret a.shown old new) where
     sets-any : SetsPin (committed old) k (pin_at (committed new) k) (committed new)
