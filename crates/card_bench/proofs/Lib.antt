@@ -2,6 +2,7 @@ pub mod BlockGuesses
 pub mod BlockRuns
 pub mod BlocksOnLine
 pub mod CardStates
+pub mod DarkLines
 mod CommandsGiven
 pub mod ExchangeInWorld
 pub mod ExchangeRuns

@@ -144,6 +144,7 @@ module _ (old : BenchState) (dark : Facts) (darkened : dark ≡ record (bench_fa
       spent-so : WritesAtMost (start_writes lit) lit new
       spent-so = subst (λ (f : Facts). WritesAtMost (start_writes lit) lit f) (sym turned) (record {
         writes = spent.writes;
+        more = spent.more;
         compares = spent.compares;
         matches = spent.matches;
       })

@@ -149,12 +149,21 @@ not-mute old new i good left is =
     let mute : GoodTurn old turn.On item.Mute new = subst (λ (i : Item). GoodTurn old turn.On i new) is good in
     not-worn (bench_facts new) (turn-lasts 0 old new turn.On item.Mute mute left) mute.one.1
 
+due-so : (lost : ℕ) (old new : Facts) → Spends lost old new → HasLeft 0 new → old.due ≡ new.due + lost
+due-so lost old new spends left = elim spends.due [
+  | inl spent ↦ spent
+  | inr worn ↦ absurd (not-worn new left (inr worn.0))
+]
+
 pub due-spent : (old new : BenchState) (t : Turn) (i : Item) → GoodTurn old t i new → HasLeft COMMAND_WRITES (bench_facts old)
     → (bench_facts old).due ≡ (bench_facts new).due + dark_of i
-due-spent old new t i good left = elim good.counts.due [
-  | inl spent ↦ spent
-  | inr worn ↦ absurd (not-worn (bench_facts new) (turn-lasts 0 old new t i good left) (inr worn.0))
-]
+due-spent old new t i good left =
+    due-so (dark_of i) (bench_facts old) (bench_facts new) good.counts (turn-lasts 0 old new t i good left)
+
+pub block-due : (old new : BenchState) (got : List ℕ) (i : Item) → GoodBlock old got i new
+    → HasLeft COMMAND_WRITES (bench_facts old) → (bench_facts old).due ≡ (bench_facts new).due + dark_of i
+block-due old new got i good left =
+    due-so (dark_of i) (bench_facts old) (bench_facts new) good.counts (block-lasts 0 old new got i good left)
 
 pub runs-last : (n : ℕ) (old new : BenchState) (turns : List Turn) (trace : List Item) → Runs old turns trace new
     → HasLeft (n + COMMAND_WRITES * length turns) (bench_facts old) → HasLeft n (bench_facts new)
@@ -178,7 +187,7 @@ takes-last n old new got (Err SetBack) takes left = absurd takes
 takes-last n old new got (Err Lost) takes left = absurd takes
 takes-last n old new got (Err Dark) takes left = block-lasts n old new got item.Dark takes left
 
-arrives-last : (n : ℕ) (old new : Ends) (way : NextBlock) (came : Option (List ℕ)) (follows : Result NextBlock Ending)
+pub arrives-last : (n : ℕ) (old new : Ends) (way : NextBlock) (came : Option (List ℕ)) (follows : Result NextBlock Ending)
     → Arrives old way came new follows → HasLeft (n + COMMAND_WRITES) (bench_facts old.bench)
     → HasLeft n (bench_facts new.bench)
 arrives-last n old new way None follows arrives left = stays-last n COMMAND_WRITES old.bench new.bench arrives.0 left
@@ -202,7 +211,7 @@ exchange-lasts n (suc blocks) old new way ending (inr more) left =
     (omega arith) left))
 
 -- a line of a script puts at most 1,000 blocks on the line
-abbrev LINE_STEPS : ℕ
+abbrev pub LINE_STEPS : ℕ
 LINE_STEPS = COMMAND_WRITES * LINE_BLOCKS
 
 through-lasts : (n : ℕ) (old new : Ends) (first : Result NextBlock Ending) (ending : Ending)
@@ -290,17 +299,17 @@ none-counted n counts none few =
     (All-replicate (λ (c : ℕ). c + n < COUNT_END) SECRETS 0 (omega (arith, few)))
 
 pub script-lasts : (first last : Desk) (some : List (List ℕ)) (out : List ℕ) → IsFirstDesk first
-    → PrintsLines first some last out → length some ≤ SCRIPT_LIMIT + 1 → HasLeft COMMAND_WRITES (bench_facts last.bench)
+    → PrintsLines first some last out → length some ≤ SCRIPT_LIMIT + 1 → HasLeft LINE_STEPS (bench_facts last.bench)
 script-lasts first last some out begins prints short =
     let counts = begins.counts in
     let none = begins.good.faults in
     let cuts = counts.cuts in
     let writes = counts.writes in
-    let few : COMMAND_WRITES + LINE_STEPS * length some < COUNT_END = omega (arith, short) in
-    lines-last COMMAND_WRITES first last some out prints (record {
+    let few : LINE_STEPS + LINE_STEPS * length some < COUNT_END = omega (arith, short) in
+    lines-last LINE_STEPS first last some out prints (record {
       faults = omega (arith, none, short);
       cuts = omega (arith, cuts, short);
       writes = omega (arith, writes, short);
-      compares = none-counted (COMMAND_WRITES + LINE_STEPS * length some) _ counts.compares few;
-      matches = none-counted (COMMAND_WRITES + LINE_STEPS * length some) _ counts.matches few;
+      compares = none-counted (LINE_STEPS + LINE_STEPS * length some) _ counts.compares few;
+      matches = none-counted (LINE_STEPS + LINE_STEPS * length some) _ counts.matches few;
     })

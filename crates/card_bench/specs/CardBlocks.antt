@@ -62,7 +62,7 @@ BlockCompares old (runs command) new =
     ComparesAsked (asked command) (card_found old.card) (comparisons old.card.facts) (card_found new.card)
     (comparisons new.card.facts)
 
--- what a block that is answered counts: a guess in the command that it runs, and else nothing
+-- what a block that is answered counts: a guess in the command that it runs; of any other block nothing is said here
 abbrev pub BlockCounts : Powered → Reaction → Powered → Type 0
 BlockCounts old (replies block) new = Unit {0}
 BlockCounts old (runs command) new =

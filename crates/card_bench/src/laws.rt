@@ -9,6 +9,7 @@ ghost use Rattle.t1_link.specs.declared.block.Fault.TheVariants.{WrongCheck};
 ghost use Rattle.card_bench.specs.declared.exchange.TheConstants.{LINE_BLOCKS};
 ghost use Rattle.card_bench.specs.declared.line.Line.{Line};
 ghost use Rattle.card_bench.specs.declared.order.TheConstants.{BLOCK_LIMIT, COMMAND_LIMIT, LINE_LIMIT, NUMBER_DIGITS};
+ghost use Rattle.card_bench.specs.declared.order.Order.{Order};
 ghost use Rattle.card_bench.specs.declared.playing.Item.{Item};
 ghost use Rattle.card_bench.specs.declared.playing.Item.TheVariants.{Mute};
 ghost use Rattle.card_bench.specs.declared.playing.Turn.{Turn};
@@ -20,6 +21,8 @@ ghost use Rattle.card_bench.specs.ExchangeWorlds.{ExchangeLaw};
 ghost use Rattle.card_bench.specs.Guessing.{GuessesFew, unblocking_guessed, value_guessed};
 ghost use Rattle.card_bench.specs.Lasting.{HasLeft};
 ghost use Rattle.card_bench.specs.Lines.{arriving, line_after};
+ghost use Rattle.card_bench.specs.Performing.{Performs};
+ghost use Rattle.card_bench.specs.Printouts.{prints_dark};
 ghost use Rattle.card_bench.specs.Prints.{IsFirstDesk, PrintsLines};
 ghost use Rattle.card_bench.specs.ScriptWorlds.{PowerOnLaw, LineLaw};
 ghost use Rattle.card_bench.specs.Spellings.{SpellingLaw};
@@ -104,8 +107,9 @@ pub fn guesses_add_up()
         → GuessesFew old new }
 {}
 
-/// A board's counts last. A turn takes at most 700 steps of each; where so many are left, no power-on is mute, and power
-/// is lost where a cut was due alone. In a script, whose board is new, so many are left behind every line.
+/// A board's counts last. A turn takes at most 700 steps of each, a line of a script 700,000; where so many are left, no
+/// power-on is mute, and power is lost where a cut was due alone. In a script, whose board is new, so many are left behind
+/// every line.
 pub fn counts_last()
     ensures starts { (old new : BenchState) (item : Item) → GoodTurn old On item new → HasLeft 700 (bench_facts old)
         → item ≢ Mute }
@@ -114,7 +118,9 @@ pub fn counts_last()
     ensures turns { (n : ℕ) (old new : BenchState) (turns : List Turn) (trace : List Item) → Runs old turns trace new
         → HasLeft (n + 700 * length turns) (bench_facts old) → HasLeft n (bench_facts new) }
     ensures script { (first last : Desk) (some : List (List ℕ)) (out : List ℕ) → IsFirstDesk first
-        → PrintsLines first some last out → length some ≤ 16777217 → HasLeft 700 (bench_facts last.bench) }
+        → PrintsLines first some last out → length some ≤ 16777217 → HasLeft 700000 (bench_facts last.bench) }
+    ensures dark { (order : Order) (old new : Desk) → Performs order old new prints_dark
+        → HasLeft 700000 (bench_facts old.bench) → (bench_facts old.bench).due ≡ (bench_facts new.bench).due + 1 }
 {}
 
 /// The numbers of the script's language and of the line, as a reader sees them.

@@ -2,7 +2,7 @@
 -- the PIN; and what was shown wrong, or right.
 use Rattle.std.proofs.Common.{◌≡◌, ◌≢◌, ◌⊎◌, ◌<◌, ◌≤◌, ◌+◌, ◌-◌, ◌==◌, ℕ, Bool, true, false, List, [], ◌∷◌, length, Contains}
 use Rattle.std.proofs.Common.{slice_index, slice_set, Option, Some, None, Ok, Err, if◌then◌else◌, refl, sym, ◌∙◌, ap, subst, arith, inl, inr}
-use Rattle.std.proofs.Common.{⊎_elim, ◌&&◌, true≢false}
+use Rattle.std.proofs.Common.{⊎_elim}
 use Rattle.std.proofs.lemmas.Bool.{cases_eq, ne_eqb, eq-eqb}
 use Rattle.std.proofs.Math.ListN.{length-set}
 use Rattle.std.specs.Cmp.Lexicographic.{bytes_decides, pointwise}
@@ -58,11 +58,6 @@ pub record IsAttempt (request : Request) (a : Attempt) : Type 0 where
   pub shows : attempt_of request ≡ Some a
   pub number : IsPinNumber a.pin
   pub owned : owner a.secret ≡ a.pin - 1
-
--- a right attempt that sets no new value
-unrenewed : (renews right : Bool) → right ≡ true → renews && right ≡ false → renews ≡ false
-unrenewed true right is other = absurd (true≢false (sym is ∙ other))
-unrenewed false right is other = refl
 
 -- whether what is shown is right
 right-is : (xs ys : List ℕ) → xs ≡ ys → pointwise nat_eq xs ys ≡ true
@@ -335,33 +330,32 @@ module _ (request : Request) (a : Attempt) (asks : IsAttempt request a) (old : M
       step-end (Wrong left) is = step-wrong left is
 
       -- what was counted
-      module _ (charge : b.facts.writes ≡ old.facts.writes + 1)
-          (settled : a.renews ≡ false → b.facts.writes ≤ e.facts.writes) where
+      module _ (charge : b.facts.writes ≡ old.facts.writes + 1) where
+        charged : old.facts.writes < e.facts.writes
+        charged = let more = spends.more in omega (arith, charge, more)
+
         counts-by : (end : AttemptEnd) → EndsByOutcome a.secret a.shown (a.becomes (pin_in b a.secret)) b e end
-            → CountsAttempt a c old.facts e.facts
+            → CountsAttempt a old.facts e.facts
         counts-by Matched set = record {
           compared = set.match_counted.compared ∙ ap (λ (l : List ℕ). raised l a.secret) costs.compares;
-          charged = λ other.
-              let kept = settled (unrenewed a.renews (is_right c a) (right set.match_counted.right) other) in
-              omega (arith, charge, kept);
+          charged = charged;
         }
         counts-by (Wrong left) is = record {
           compared = is.compared ∙ ap (λ (l : List ℕ). raised l a.secret) costs.compares;
-          charged = λ _. let same = is.writes in omega (arith, charge, same);
+          charged = charged;
         }
 
         counts-end : (end : AttemptEnd) → EndsByOutcome a.secret a.shown (a.becomes (pin_in b a.secret)) b e end
             → CountsServed c s request old.facts e.facts
         counts-end end done =
-            λ _. subst (λ (o : Option Attempt). CountsShown o c old.facts e.facts) (sym asks.shows)
+            λ _. subst (λ (o : Option Attempt). CountsShown o old.facts e.facts) (sym asks.shows)
             (counts-by end done)
 
       -- the end was made
       pub exit-done : (end : AttemptEnd) → EndsByOutcome a.secret a.shown (a.becomes (pin_in b a.secret)) b e end → IsReady e
-          → b.facts.writes ≡ old.facts.writes + 1 → (a.renews ≡ false → b.facts.writes ≤ e.facts.writes)
-          → Serves request old x e (y end) [] (Ok (end_of_attempt end))
-      exit-done end done ready charge settled =
-          written request old x e (counts-end charge settled end done) (y end) [] (end_of_attempt end) stage-end
+          → b.facts.writes ≡ old.facts.writes + 1 → Serves request old x e (y end) [] (Ok (end_of_attempt end))
+      exit-done end done ready charge =
+          written request old x e (counts-end charge end done) (y end) [] (end_of_attempt end) stage-end
           (exit-card e (ended-size e exit) pages law-end)
           reports ready (current-end end) (omega arith) writes compares-end (step-end end done)
 
@@ -427,16 +421,14 @@ module _ (request : Request) (a : Attempt) (asks : IsAttempt request a) (n : ℕ
 
       pub end-made : (end : AttemptEnd) → EndsByOutcome k a.shown (a.becomes (pin_in b k)) b e end → IsReady e
           → IfSome taken (λ _. b.facts.writes ≡ old.facts.writes + 1)
-          → (a.renews ≡ false → b.facts.writes ≤ e.facts.writes)
           → (y : Current) → y ≡ tried_from x a.pin a.unverifies end → (status : Sw) → status ≡ end_of_attempt end
           → Serves request old x e y [] (Ok status)
-      end-made end ended is-ready counted settled y at status told =
+      end-made end ended is-ready counted y at status told =
           let charge : b.facts.writes ≡ old.facts.writes + 1 =
           subst (λ (o : Option ℕ). IfSome o (λ _. b.facts.writes ≡ old.facts.writes + 1)) is counted in
           let made = exit-done request a asks old x sized card current b got.1 card-b e n (ends _) costs spends-told pages
           (reports_then old b e reports-b reports) writes exit-told end
-          (subst (λ (k : ℕ). EndsByOutcome k a.shown (a.becomes (pin_in b k)) b e end) got.0 ended) is-ready charge
-          settled in
+          (subst (λ (k : ℕ). EndsByOutcome k a.shown (a.becomes (pin_in b k)) b e end) got.0 ended) is-ready charge in
           subst (λ (z : Current). Serves request old x e z [] (Ok status)) (sym at)
           (subst (λ (w : Sw). Serves request old x e (tried_from x a.pin a.unverifies end) [] (Ok w)) (sym told) made)
 

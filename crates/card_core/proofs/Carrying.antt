@@ -40,12 +40,11 @@ unfolding card_of
 in-use-is m = refl
 
 -- what was counted after reads was counted with them
-counts-after : (shown : Option Attempt) (c : Card) (a b d : Facts) → KeepsBoard a b → CountsShown shown c b d
-    → CountsShown shown c a d
-counts-after None c a b d keeps counts = tt
-counts-after (Some attempt) c a b d keeps counts = record {
+counts-after : (shown : Option Attempt) (a b d : Facts) → KeepsBoard a b → CountsShown shown b d → CountsShown shown a d
+counts-after None a b d keeps counts = tt
+counts-after (Some attempt) a b d keeps counts = record {
   compared = counts.compared ∙ ap (λ (l : List ℕ). raised l attempt.secret) keeps.compares;
-  charged = λ other. let more = counts.charged other in omega (arith, more, keeps.writes);
+  charged = let more = counts.charged in omega (arith, more, keeps.writes);
 }
 
 -- Reads before a call that carries out a request change nothing of what it leaves.
@@ -74,8 +73,8 @@ module _ (request : Request) (old mid new : Memory) (x y : Current) (text : List
             new.facts)) same serves.compares);
         counted = subst (λ (l : List ℕ). OnOk result (CountsServed (card_of l) (session_of (table l) x) request
             old.facts new.facts)) same
-            (on_then _ _ result (λ counts unrefused. counts-after (attempt_of request) (card_in mid) old.facts
-            mid.facts new.facts reads.board (counts unrefused)) serves.counted);
+            (on_then _ _ result (λ counts unrefused. counts-after (attempt_of request) old.facts mid.facts
+            new.facts reads.board (counts unrefused)) serves.counted);
       }
 
 module _ (bytes : List ℕ) (old new : Memory) (x y : Current) (text : List ℕ) (result : Result Sw StoreErr) where

@@ -148,6 +148,7 @@ board_kept a b c first rest = record {
 pub board_spends : (n : ℕ) (a b c : Facts) → WritesAtMost n a b → KeepsBoard b c → WritesAtMost n a c
 board_spends n a b c spent rest = record {
   writes = subst (λ (w : ℕ). w ≤ a.writes + n) (sym rest.writes) spent.writes;
+  more = subst (λ (w : ℕ). a.writes ≤ w) (sym rest.writes) spent.more;
   compares = rest.compares ∙ spent.compares;
   matches = rest.matches ∙ spent.matches;
 }

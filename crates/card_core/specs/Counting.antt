@@ -1,34 +1,29 @@
 -- A guess that is answered was counted, behind a charge (ISO/IEC 7816-4, clause 11, basic security handling).
-use Rattle.std.specs.Prelude.{◌≡◌, ◌<◌, ◌&&◌, Bool, true, false, Option, Some, None, Result, Ok, Err}
+use Rattle.std.specs.Prelude.{◌≡◌, ◌<◌, true, Option, Some, None, Result, Ok, Err}
 use Rattle.card_rules.specs.declared.status.Sw.{Sw}
 use Rattle.nvm_board.specs.Facts.{Facts, raised}
 use Rattle.apdu_core.specs.Requests.{Request}
 use Rattle.card_core.specs.Cards.{Card}
 use Rattle.card_core.specs.Comparing.{attempt_of}
 use Rattle.card_core.specs.Outcomes.{refused_by}
-use Rattle.card_core.specs.Pins.{is_right, Attempt}
+use Rattle.card_core.specs.Pins.{Attempt}
 use Rattle.card_core.specs.Sessions.{Session}
 use Rattle.card_core.specs.Steps.{refusals_of}
 
--- what is shown is right, and a new value is set for it, in a transaction
-abbrev pub is_renewed : Card → Attempt → Bool
-is_renewed c a = a.renews && is_right c a
-
--- An attempt that was answered was counted: its secret was compared once, and the charge was a device write. Where a new
--- value was set in a transaction the comparison alone is told: of a transaction's writes only an upper bound is known.
-pub record CountsAttempt (a : Attempt) (c : Card) (old new : Facts) : Type 0 where
+-- An attempt that was answered was counted: its secret was compared once, and a device write was made, the charge.
+pub record CountsAttempt (a : Attempt) (old new : Facts) : Type 0 where
   pub compared : new.compares ≡ raised old.compares a.secret
-  pub charged : is_renewed c a ≡ false → old.writes < new.writes
+  pub charged : old.writes < new.writes
 
 -- a request that shows no secret has nothing to count
-abbrev pub CountsShown : Option Attempt → Card → Facts → Facts → Type 0
-CountsShown None c old new = Unit {0}
-CountsShown (Some a) c old new = CountsAttempt a c old new
+abbrev pub CountsShown : Option Attempt → Facts → Facts → Type 0
+CountsShown None old new = Unit {0}
+CountsShown (Some a) old new = CountsAttempt a old new
 
 -- nor has one that is refused
 abbrev pub CountsServed : Card → Session → Request → Facts → Facts → Type 0
 CountsServed c s request old new =
-    refused_by (refusals_of c s request) ≡ None → CountsShown (attempt_of request) c old new
+    refused_by (refusals_of c s request) ≡ None → CountsShown (attempt_of request) old new
 
 -- nor has a command that its form refuses, or that a card refuses whose use has ended
 abbrev pub CountsAnswered : Result Request Sw → Card → Session → Facts → Facts → Type 0

@@ -29,14 +29,13 @@ value_of n = n - 1
 abbrev pub unblocking_of : ℕ → ℕ
 unblocking_of n = PINS + (n - 1)
 
--- A secret of a PIN is shown: which one, and what is shown of it; what the PIN becomes where that is right, and whether
--- a new value is set by that; and whether it is no longer verified where it is wrong.
+-- A secret of a PIN is shown: which one, and what is shown of it; what the PIN becomes where that is right; and whether it is no
+-- longer verified where it is wrong.
 pub record Attempt : Type 0 where
   pub pin : ℕ
   pub secret : ℕ
   pub shown : List ℕ
   pub becomes : Pin → Pin
-  pub renews : Bool
   pub unverifies : Bool
 
 abbrev pub verifying : ℕ → List ℕ → Attempt
@@ -45,7 +44,6 @@ verifying n shown = record {
   secret = value_of n;
   shown = shown;
   becomes = verified_pin;
-  renews = false;
   unverifies = true;
 }
 
@@ -55,7 +53,6 @@ changing n shown new = record {
   secret = value_of n;
   shown = shown;
   becomes = changed_pin new;
-  renews = true;
   unverifies = true;
 }
 
@@ -65,7 +62,6 @@ resetting n shown new = record {
   secret = unblocking_of n;
   shown = shown;
   becomes = reset_pin new;
-  renews = true;
   unverifies = false;
 }
 

@@ -87,6 +87,7 @@ fn write_factory<B: Board>(board: &mut B) -> Result<(), DeviceErr>
     ensures factory { OnOk result (IsFactory (B.facts board.new).words) }
     ensures power { Answered (B.facts board.old) (B.facts board.new) result }
     ensures writes { (B.facts board.new).writes ≤ (B.facts board.old).writes + PAGES }
+    ensures more { (B.facts board.old).writes ≤ (B.facts board.new).writes }
     ensures compares { (B.facts board.new).compares ≡ (B.facts board.old).compares }
     ensures matches { (B.facts board.new).matches ≡ (B.facts board.old).matches }
 {
@@ -101,6 +102,7 @@ fn write_pages<B: Board>(board: &mut B) -> Result<(), DeviceErr>
     ensures factory { OnOk result (IsFactory (B.facts board.new).words) }
     ensures power { Answered (B.facts board.old) (B.facts board.new) result }
     ensures writes { (B.facts board.new).writes + 1 ≤ (B.facts board.old).writes + PAGES }
+    ensures more { (B.facts board.old).writes ≤ (B.facts board.new).writes }
     ensures compares { (B.facts board.new).compares ≡ (B.facts board.old).compares }
     ensures matches { (B.facts board.new).matches ≡ (B.facts board.old).matches }
 {

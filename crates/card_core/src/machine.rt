@@ -124,7 +124,7 @@ impl<B: Board> Card<B> {
         // A command that changes nothing lasting leaves each word of the board, and each of its counts.
         ensures idle { ChangesNothing (card_found self.old) self.old.session command.now
             → KeepsBoard self.old.facts self.new.facts }
-        // A command that is answered is one step; a guess that it answers was counted, behind a charge.
+        // A command that is answered is one step, or 6581 after a fault; a guess in such a step was counted.
         ensures done { OnOk result (self.old.state ≡ CardState.Working
             → Steps self.old command.now self.new answer.new.items ⊎ FailsIn self.old self.new answer.new.items) }
         ensures lost { OnErr result (self.old.state ≡ CardState.Working → IsCutIn self.old self.new answer.new.items) }

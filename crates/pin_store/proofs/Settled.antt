@@ -67,6 +67,7 @@ charges_or_not secret left a b c reads told some either =
 pub compares_none : (secret : ℕ) (a b : Memory) → OnlyReads a b → ComparesOnce 0 secret a.facts b.facts
 compares_none secret a b reads = record {
   writes = omega (arith, reads.board.writes);
+  more = omega (arith, reads.board.writes);
   compares = inl reads.board.compares;
   matches = inl reads.board.matches;
 }
@@ -79,6 +80,7 @@ compares_after secret named a b c is reads writes compared matched =
     let family : ℕ → Type 0 = λ s. ComparesOnce 0 s a.facts c.facts in
     subst family is (record {
       writes = omega (arith, writes, reads.board.writes);
+      more = omega (arith, writes, reads.board.writes);
       compares = subst (λ (l : List ℕ). RisesAt l named c.facts.compares) reads.board.compares compared;
       matches = subst (λ (l : List ℕ). RisesAt l named c.facts.matches) reads.board.matches matched;
     })
@@ -135,6 +137,7 @@ pub compares_then : (n secret : ℕ) (a b c : Facts) → ComparesOnce 0 secret a
     → ComparesOnce n secret a c
 compares_then n secret a b c first rest = record {
   writes = omega (arith, first.writes, rest.writes);
+  more = omega (arith, first.more, rest.more);
   compares = ⊎_map (λ stay. rest.compares ∙ stay) (λ rise. rest.compares ∙ rise) first.compares;
   matches = ⊎_map (λ stay. rest.matches ∙ stay) (λ rise. rest.matches ∙ rise) first.matches;
 }
@@ -143,6 +146,7 @@ compares_then n secret a b c first rest = record {
 pub compares_more : (n secret : ℕ) (a b : Facts) → ComparesOnce 0 secret a b → ComparesOnce n secret a b
 compares_more n secret a b once = record {
   writes = omega (arith, once.writes);
+  more = once.more;
   compares = once.compares;
   matches = once.matches;
 }

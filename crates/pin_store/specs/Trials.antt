@@ -26,9 +26,10 @@ pub record Charges (secret : ℕ) (old new : Memory) : Type 0 where
   pub left : 0 < tries_left secret (pin_in old secret)
   pub charged : SetsPin (committed old) (owner secret) (charged_pin secret (pin_in old secret)) (committed new)
 
--- at most n device writes, and at most one comparison, of this secret
+-- at most n device writes, none taken back, and at most one comparison, of this secret
 pub record ComparesOnce (n secret : ℕ) (old new : Facts) : Type 0 where
   pub writes : new.writes ≤ old.writes + n
+  pub more : old.writes ≤ new.writes
   pub compares : RisesAt old.compares secret new.compares
   pub matches : RisesAt old.matches secret new.matches
 

@@ -65,9 +65,9 @@ pub write_costs : {T : Type 0} (old new : Facts) (result : Result T DeviceErr) �
     → OnErr result ((new.writes ≡ old.writes) ⊎ (new.writes ≡ old.writes + 1)) → new.compares ≡ old.compares
     → new.matches ≡ old.matches → WritesAtMost 1 old new
 write_costs old new (Ok x) ok err compares matches = record
-    { writes = omega (arith, ok); compares = compares; matches = matches }
+    { writes = omega (arith, ok); more = omega (arith, ok); compares = compares; matches = matches }
 write_costs old new (Err e) ok err compares matches = record
-    { writes = omega (arith, err); compares = compares; matches = matches }
+    { writes = omega (arith, err); more = omega (arith, err); compares = compares; matches = matches }
 
 -- what an error tells of a lit board
 pub fails_by : {T : Type 0} (e : DeviceErr) (old new : Facts) → old.dark ≡ false → Answered {T = T} old new (Err e)

@@ -3,9 +3,10 @@ use Rattle.std.specs.Prelude.{◌≡◌, ◌==◌, ◌+◌, ◌≤◌, ℕ, if�
 use Rattle.nvm_board.specs.Facts.{Facts}
 use Rattle.undo_journal.specs.Undo.{gate}
 
--- at most n device writes, and no comparison
+-- at most n device writes, none taken back, and no comparison
 pub record WritesAtMost (n : ℕ) (old new : Facts) : Type 0 where
   pub writes : new.writes ≤ old.writes + n
+  pub more : old.writes ≤ new.writes
   pub compares : new.compares ≡ old.compares
   pub matches : new.matches ≡ old.matches
 

@@ -11,6 +11,7 @@ use Rattle.undo_journal.specs.Calls.{OnlyReads, TxnReads, Sets}
 pub keeping_spends : (n : ℕ) (a b : Facts) → KeepsBoard a b → WritesAtMost n a b
 keeping_spends n a b kept = record {
   writes = omega (arith, kept.writes);
+  more = omega (arith, kept.writes);
   compares = kept.compares;
   matches =
       kept.matches;
@@ -24,6 +25,7 @@ reads_spend n a b reads = keeping_spends n a.facts b.facts reads.board
 pub within_more : (n k : ℕ) (f g : Facts) → n ≤ k → WritesAtMost n f g → WritesAtMost k f g
 within_more n k f g fits costs = record {
   writes = omega (arith, fits, costs.writes);
+  more = costs.more;
   compares = costs.compares;
   matches = costs.matches;
 }
@@ -32,6 +34,7 @@ within_more n k f g fits costs = record {
 pub writes_after : (n : ℕ) (a b : Memory) (f : Facts) → OnlyReads a b → WritesAtMost n b.facts f → WritesAtMost n a.facts f
 writes_after n a b f reads costs = record {
   writes = omega (arith, reads.board.writes, costs.writes);
+  more = omega (arith, reads.board.writes, costs.more);
   compares = costs.compares ∙ reads.board.compares;
   matches = costs.matches ∙ reads.board.matches;
 }
@@ -75,6 +78,7 @@ sets_then i k n a b c fits first rest = record {
   reports = reports_then _ _ _ first.reports rest.reports;
   writes = record {
     writes = omega (arith, fits, first.writes.writes, rest.writes.writes);
+    more = omega (arith, first.writes.more, rest.writes.more);
     compares = rest.writes.compares ∙ first.writes.compares;
     matches = rest.writes.matches ∙ first.writes.matches;
   };
@@ -89,6 +93,7 @@ reads_sets n a b reads = record {
   reports = reads.reads.reports;
   writes = record {
     writes = omega (arith, reads.reads.board.writes);
+    more = omega (arith, reads.reads.board.writes);
     compares = reads.reads.board.compares;
     matches = reads.reads.board.matches;
   };
@@ -103,6 +108,7 @@ sets_weaker i n a b fits sets = record {
   reports = sets.reports;
   writes = record {
     writes = omega (arith, fits, sets.writes.writes);
+    more = sets.writes.more;
     compares = sets.writes.compares;
     matches = sets.writes.matches;
   };

@@ -24,6 +24,7 @@ current_size m = length-current m ∙ sym (length-committed m)
 pub writes_then : (i n : ℕ) (a b c : Facts) → WritesAtMost i a b → WritesAtMost n b c → WritesAtMost (i + n) a c
 writes_then i n a b c first rest = record {
   writes = omega (arith, first.writes, rest.writes);
+  more = omega (arith, first.more, rest.more);
   compares = rest.compares ∙ first.compares;
   matches = rest.matches ∙ first.matches;
 }

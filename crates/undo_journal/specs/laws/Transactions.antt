@@ -26,4 +26,9 @@ stays a b t c x same last kept still =
 -- a board that stays costs nothing
 pub stays_spends : (f g : Facts) → g ≡ f → WritesAtMost 0 f g
 stays_spends f g same =
-    subst (λ (h : Facts). WritesAtMost 0 f h) (sym same) (record { writes = omega arith; compares = refl; matches = refl })
+    subst (λ (h : Facts). WritesAtMost 0 f h) (sym same) (record {
+      writes = omega arith;
+      more = omega arith;
+      compares = refl;
+      matches = refl;
+    })

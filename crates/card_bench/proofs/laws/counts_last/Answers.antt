@@ -1,3 +1,4 @@
+use Rattle.card_bench.proofs.DarkLines.{dark-spends}
 use Rattle.card_bench.proofs.Wearing.{due-spent, not-mute, runs-last, script-lasts}
 use Rattle.card_bench.proofs.laws.counts_last.Goals as goal
 
@@ -12,3 +13,6 @@ returns-clause-turns c = runs-last
 
 pub returns-clause-script : goal.returns-clause-script
 returns-clause-script c = script-lasts
+
+pub returns-clause-dark : goal.returns-clause-dark
+returns-clause-dark c = dark-spends

@@ -12,6 +12,10 @@ pub returns-in_err-write-clause-writes : goal.returns-in_err-write-clause-writes
 returns-in_err-write-clause-writes g c = ⊎_elim (λ e. omega (arith, e)) (λ e. omega (arith, e))
     c.in_err-write.ensures.counted_err
 
+pub returns-in_err-write-clause-more : goal.returns-in_err-write-clause-more
+returns-in_err-write-clause-more g c = ⊎_elim (λ e. omega (arith, e)) (λ e. omega (arith, e))
+    c.in_err-write.ensures.counted_err
+
 pub write_pages-requires-clause-lit : goal.write_pages-requires-clause-lit
 write_pages-requires-clause-lit g c = (c.in_ok-write.ensures.light.ok refl).lit
 

@@ -1,4 +1,4 @@
-use Rattle.std.proofs.Common.{◌<◌, ◌-◌, refl, true≢false, arith}
+use Rattle.std.proofs.Common.{◌<◌, ◌-◌, refl, arith}
 use Rattle.pin_store.specs.laws.Tries.{changed_ends}
 use Rattle.card_core.proofs.Attempts.{charge-blocked, charge-torn, end-made, end-torn, changes}
 use Rattle.card_core.proofs.pins.change_reference_data.Goals as goal
@@ -39,7 +39,7 @@ returns g c =
     c.take_try.ensures.store.reports (λ p. changed_ends (c.args.pin - 1) c.args.values.new.now p small) c.change.ensures.any_exit
     c.change.ensures.spends c.change.ensures.pages c.change.ensures.store.reports c.in_ok-outcome.outcome
     c.in_ok-outcome.ensures.done c.in_ok-outcome.ensures.store.ready c.in_ok-charged.ensures.counted
-    (λ never. absurd (true≢false never)) c.after_attempt.result c.after_attempt.ensures
+    c.after_attempt.result c.after_attempt.ensures
     c.status_of.result c.status_of.ensures
 
 pub take_try-requires-clause-secret : goal.take_try-requires-clause-secret

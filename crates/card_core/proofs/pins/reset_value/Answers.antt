@@ -1,4 +1,4 @@
-use Rattle.std.proofs.Common.{◌≤◌, ◌+◌, ◌-◌, refl, true≢false, arith}
+use Rattle.std.proofs.Common.{◌≤◌, ◌+◌, ◌-◌, refl, arith}
 use Rattle.pin_store.specs.laws.Tries.{reset_ends}
 use Rattle.card_core.proofs.Attempts.{charge-blocked, charge-torn, end-made, end-torn, resets}
 use Rattle.card_core.proofs.pins.reset_value.Goals as goal
@@ -35,7 +35,7 @@ returns g c =
     c.take_try.ensures.store.reports (λ p. reset_ends (8 + (c.args.pin - 1)) c.args.values.new.now p large) c.reset_counter.ensures.any_exit
     c.reset_counter.ensures.spends c.reset_counter.ensures.pages c.reset_counter.ensures.store.reports c.in_ok-outcome.outcome
     c.in_ok-outcome.ensures.done c.in_ok-outcome.ensures.store.ready c.in_ok-charged.ensures.counted
-    (λ never. absurd (true≢false never)) c.after_attempt.result c.after_attempt.ensures
+    c.after_attempt.result c.after_attempt.ensures
     c.status_of.result c.status_of.ensures
 
 pub take_try-requires-clause-secret : goal.take_try-requires-clause-secret

@@ -39,9 +39,7 @@ returns g c =
     c.take_try.ensures.store.reports (λ p. verified_ends (c.args.pin - 1) p small) c.settle.ensures.any_exit
     c.settle.ensures.spends c.settle.ensures.pages c.settle.ensures.store.reports c.in_ok-outcome.outcome
     c.in_ok-outcome.ensures.done c.in_ok-outcome.ensures.store.ready c.in_ok-charged.ensures.counted
-    (λ _. let after = c.in_ok-outcome.ensures.counted in omega (arith, after)) c.after_attempt.result
-    c.after_attempt.ensures
-    c.status_of.result c.status_of.ensures
+    c.after_attempt.result c.after_attempt.ensures c.status_of.result c.status_of.ensures
 
 pub take_try-requires-clause-secret : goal.take_try-requires-clause-secret
 take_try-requires-clause-secret g c = let last = c.requires.pin.last in omega (arith, last)

@@ -47,6 +47,7 @@ returns-clause-writes g c =
     let second = c.in_ok-earlier.ensures in
     record {
       writes = omega (arith, cost.writes, second.writes, first.writes);
+      more = omega (arith, cost.more, second.writes, first.writes);
       compares = cost.compares ∙ second.compares ∙ first.compares;
       matches = cost.matches ∙ second.matches ∙ first.matches;
     }

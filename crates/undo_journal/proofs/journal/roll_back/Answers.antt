@@ -21,6 +21,7 @@ loop-left-init g c =
       steady = record { was_lit = c.requires.lit; lit = c.requires.lit; faults = refl; cuts = refl; due = refl };
       so_far = sym (ap (λ (i : ℕ). put_back_from m i) (sym c.requires.counts) ∙ put_back-none m c.requires.sound);
       writes = omega arith;
+      more = omega arith;
       compares = refl;
       matches = refl;
     }
@@ -51,6 +52,7 @@ loop-left-preserved g c =
       so_far = turn-done m _ c.requires.sound c.loop-left.left kept.so_far (c.loop-left.left - 1) _ next lt
           c.in_ok-put_back.ensures.done;
       writes = omega (arith, cost.writes, kept.writes);
+      more = omega (arith, cost.more, kept.more);
       compares = cost.compares ∙ kept.compares;
       matches = cost.matches ∙ kept.matches;
     }

@@ -87,6 +87,7 @@ returns-in_err-write_pair-clause-writes g c =
     let pair = c.in_err-write_pair.ensures.writes in
     record {
       writes = omega (arith, pair.writes, read.writes);
+      more = omega (arith, pair.more, read.writes);
       compares = pair.compares ∙ read.compares;
       matches = pair.matches ∙ read.matches;
     }
@@ -98,6 +99,7 @@ returns-in_err-write_gate-clause-writes g c =
     let gate = c.in_err-write_gate.ensures.writes in
     record {
       writes = omega (arith, gate.writes, pair.writes, read.writes);
+      more = omega (arith, gate.more, pair.more, read.writes);
       compares = gate.compares ∙ pair.compares ∙ read.compares;
       matches = gate.matches ∙ pair.matches ∙ read.matches;
     }
@@ -110,6 +112,7 @@ returns-clause-writes g c =
     let word = c.write_word.ensures.writes in
     record {
       writes = omega (arith, word.writes, gate.writes, pair.writes, read.writes);
+      more = omega (arith, word.more, gate.more, pair.more, read.writes);
       compares = word.compares ∙ gate.compares ∙ pair.compares ∙ read.compares;
       matches = word.matches ∙ gate.matches ∙ pair.matches ∙ read.matches;
     }

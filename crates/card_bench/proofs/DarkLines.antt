@@ -1,0 +1,149 @@
+-- Where a line prints that power was lost, a cut was due, and is gone.
+use Rattle.std.specs.Prelude.{◌≡◌, ◌+◌, ◌*◌, ℕ, zero, suc, List, Option, None, Some, Result, Ok, Err, refl}
+use Rattle.std.proofs.Common.{arith, ap, inl, inr, subst, sym, ◌∙◌}
+use Rattle.t1_link.specs.ReaderFields.{next_of}
+use Rattle.t1_link.specs.ReaderTable.{Reader, reader_sends}
+use Rattle.t1_link.specs.declared.reader_end.Next.{Next}
+use Rattle.t1_link.specs.declared.reader_end.Next.TheVariants.{Send, Done, Unknown, Failed}
+use Rattle.card_core.specs.declared.machine.TheConstants.{COMMAND_WRITES}
+use Rattle.card_bench.specs.declared.exchange.Ending.{Ending}
+use Rattle.card_bench.specs.declared.exchange.Ending.TheVariants.{Answered, SetBack, Lost, Dark}
+use Rattle.card_bench.specs.declared.exchange.TheConstants.{LINE_BLOCKS}
+use Rattle.card_bench.specs.declared.order.Order.{Order}
+use Rattle.card_bench.specs.declared.order.Order.TheVariants.{Nothing, On, Off, Free, Apdu, Block, Cut, Lose, Garble}
+use Rattle.card_bench.specs.declared.playing.Item.{Item}
+use Rattle.card_bench.specs.declared.playing.Item.TheVariants as item
+use Rattle.card_bench.specs.declared.playing.Turn.TheVariants as turn
+use Rattle.card_bench.specs.BenchStates.{BenchState, off, on, bench_facts}
+use Rattle.card_bench.specs.Exchanges.{Arrives, CardTakes, Commands, Desk, Ends, Exchanges, GoesThrough, NextBlock}
+use Rattle.card_bench.specs.Exchanges.{ReaderTurns, following, printed_by, toward_card, toward_reader}
+use Rattle.card_bench.specs.Lasting.{HasLeft}
+use Rattle.card_bench.specs.Performing.{Performs, PerformsCommand, shown, free_shown}
+use Rattle.card_bench.specs.Printouts.{Print, prints_dark}
+use Rattle.card_bench.specs.Turns.{GoodBlock, dark_of}
+use Rattle.card_bench.proofs.Wearing.{LINE_STEPS, arrives-last, block-due, due-spent, fewer}
+
+-- 1 where power was lost, else 0
+abbrev lost_in : Result NextBlock Ending → ℕ
+lost_in (Ok next) = 0
+lost_in (Err (Answered answer)) = 0
+lost_in (Err SetBack) = 0
+lost_in (Err Lost) = 0
+lost_in (Err Dark) = 1
+
+-- what the reader's end says loses none
+none-lost : (next : Next) → lost_in (following next) ≡ 0
+none-lost (Send block) = refl
+none-lost (Done answer) = refl
+none-lost Unknown = refl
+none-lost (Failed failure) = refl
+
+-- so many cuts due are gone
+abbrev Spent : ℕ → BenchState → BenchState → Type 0
+Spent lost old new = (bench_facts old).due ≡ (bench_facts new).due + lost
+
+stays-due : (old new : BenchState) (lost : ℕ) → new ≡ old → lost ≡ 0 → Spent lost old new
+stays-due old new lost same none =
+    let due : (bench_facts new).due ≡ (bench_facts old).due = ap (λ (b : BenchState). (bench_facts b).due) same in
+    omega (arith, due, none)
+
+takes-due : (old new : BenchState) (got : List ℕ) (follows : Result NextBlock Ending) → CardTakes old got new follows
+    → HasLeft COMMAND_WRITES (bench_facts old) → Spent (lost_in follows) old new
+takes-due old new got (Ok (toward_card bytes)) takes left = absurd takes
+takes-due old new got (Ok (toward_reader bytes)) takes left = block-due old new got (item.Reply bytes) takes left
+takes-due old new got (Err (Answered answer)) takes left = absurd takes
+takes-due old new got (Err SetBack) takes left = absurd takes
+takes-due old new got (Err Lost) takes left = absurd takes
+takes-due old new got (Err Dark) takes left = block-due old new got item.Dark takes left
+
+arrives-due : (old new : Ends) (way : NextBlock) (came : Option (List ℕ)) (follows : Result NextBlock Ending)
+    → Arrives old way came new follows → HasLeft COMMAND_WRITES (bench_facts old.bench)
+    → Spent (lost_in follows) old.bench new.bench
+arrives-due old new way None follows arrives left =
+    stays-due old.bench new.bench (lost_in follows) arrives.0 (ap lost_in arrives.1.follows_so ∙ none-lost _)
+arrives-due old new (toward_card block) (Some got) follows arrives left =
+    takes-due old.bench new.bench got follows arrives.1 left
+arrives-due old new (toward_reader block) (Some got) follows arrives left =
+    stays-due old.bench new.bench (lost_in follows) arrives.0 (ap lost_in arrives.1.follows_so ∙ none-lost _)
+
+exchange-due : (blocks : ℕ) (old new : Ends) (way : NextBlock) (ending : Ending) → Exchanges blocks old way new ending
+    → HasLeft (COMMAND_WRITES * blocks) (bench_facts old.bench) → Spent (lost_in (Err ending)) old.bench new.bench
+unfolding Exchanges
+exchange-due zero old new way ending run left =
+    stays-due old.bench new.bench (lost_in (Err ending)) (ap (λ (e : Ends). e.bench) run.0)
+    (ap (λ (e : Ending). lost_in (Err e)) run.1)
+exchange-due (suc blocks) old new way ending (inl passes) left =
+    arrives-due old new way _ (Err ending) passes.arrives
+    (fewer (COMMAND_WRITES * suc blocks) COMMAND_WRITES (bench_facts old.bench) (omega arith) left)
+exchange-due (suc blocks) old new way ending (inr more) left =
+    let before = arrives-due old more.0 way _ (Ok more.1) more.2.arrives
+    (fewer (COMMAND_WRITES * suc blocks) COMMAND_WRITES (bench_facts old.bench) (omega arith) left) in
+    let behind = exchange-due blocks more.0 new more.1 ending more.3
+    (arrives-last (COMMAND_WRITES * blocks) old more.0 way _ (Ok more.1) more.2.arrives
+    (fewer (COMMAND_WRITES * suc blocks) (COMMAND_WRITES * blocks + COMMAND_WRITES) (bench_facts old.bench) (omega arith)
+    left)) in
+    omega (arith, before, behind)
+
+through-due : (old new : Ends) (first : Result NextBlock Ending) (ending : Ending) → lost_in first ≡ 0
+    → GoesThrough first old new ending → HasLeft LINE_STEPS (bench_facts old.bench)
+    → Spent (lost_in (Err ending)) old.bench new.bench
+through-due old new (Ok way) ending none through left = exchange-due LINE_BLOCKS old new way ending through left
+through-due old new (Err ended) ending none through left =
+    stays-due old.bench new.bench (lost_in (Err ending)) (ap (λ (e : Ends). e.bench) through.0)
+    (ap (λ (e : Ending). lost_in (Err e)) through.1 ∙ none)
+
+-- what an exchange prints that ended dark
+one-lost : (ending : Ending) → prints_dark ≡ printed_by ending → lost_in (Err ending) ≡ 1
+one-lost (Answered answer) printed = absurd cc
+one-lost SetBack printed = absurd cc
+one-lost Lost printed = absurd cc
+one-lost Dark printed = refl
+
+commands-due : (old new : Desk) (reader : Option Reader) (command : List ℕ) → Commands old reader command new prints_dark
+    → HasLeft LINE_STEPS (bench_facts old.bench) → Spent 1 old.bench new.bench
+commands-due old new None command commands left = absurd cc
+commands-due old new (Some reader) command commands left =
+    let turned = reader_sends reader command in
+    let spent = through-due (record { bench = old.bench; reader = turned.reader; line = old.line })
+    (record { bench = new.bench; reader = commands.0; line = new.line }) (following (next_of turned.outcome)) commands.1
+    (none-lost (next_of turned.outcome)) commands.2 left in
+    let lost = one-lost commands.1 commands.4 in
+    omega (arith, spent, lost)
+
+command-due : (b : BenchState) (old new : Desk) (command : List ℕ) → PerformsCommand b old command new prints_dark
+    → HasLeft LINE_STEPS (bench_facts old.bench) → Spent 1 old.bench new.bench
+command-due (off facts) old new command performs left = absurd cc
+command-due (on powered) old new command performs left = commands-due old new old.reader command performs left
+
+-- what a turn prints that ended dark
+one-dark : (came : Item) → prints_dark ≡ shown came → dark_of came ≡ 1
+one-dark item.Atr printed = absurd cc
+one-dark item.Quiet printed = absurd cc
+one-dark item.Mute printed = absurd cc
+one-dark item.Dark printed = refl
+one-dark (item.Reply block) printed = absurd cc
+
+free-lit : (b : BenchState) → prints_dark ≡ free_shown b → ⊥
+free-lit (off facts) printed = cc
+free-lit (on powered) printed = cc
+
+turn-left : (b : BenchState) → HasLeft LINE_STEPS (bench_facts b) → HasLeft COMMAND_WRITES (bench_facts b)
+turn-left b left = fewer LINE_STEPS COMMAND_WRITES (bench_facts b) (omega arith) left
+
+pub dark-spends : (order : Order) (old new : Desk) → Performs order old new prints_dark
+    → HasLeft LINE_STEPS (bench_facts old.bench) → (bench_facts old.bench).due ≡ (bench_facts new.bench).due + 1
+dark-spends Nothing old new performs left = absurd cc
+dark-spends On old new performs left =
+    let spent = due-spent old.bench new.bench turn.On performs.came performs.turn (turn-left old.bench left) in
+    let lost = one-dark performs.came performs.printed in
+    omega (arith, spent, lost)
+dark-spends Off old new performs left = let printed = performs.printed in absurd cc
+dark-spends Free old new performs left = absurd (free-lit old.bench performs.1)
+dark-spends (Apdu command) old new performs left = command-due old.bench old new command.items performs left
+dark-spends (Block block) old new performs left =
+    let spent = block-due old.bench new.bench block.items performs.came performs.turn (turn-left old.bench left) in
+    let lost = one-dark performs.came performs.printed in
+    omega (arith, spent, lost)
+dark-spends (Cut number mask) old new performs left = let printed = performs.printed in absurd cc
+dark-spends (Lose number) old new performs left = absurd cc
+dark-spends (Garble number) old new performs left = absurd cc
