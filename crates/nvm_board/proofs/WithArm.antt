@@ -1,18 +1,16 @@
 -- A board of which a cut may be set to come, over one of which none can.
-use Rattle.std.specs.Prelude.{ℕ, ◌≡◌, ◌+◌, Bool, true, false, if◌then◌else◌, is_some, List, Option, Some, None, Result, Ok, Err}
-use Rattle.std.specs.Prelude.{IsErrAnd}
+use Rattle.std.specs.Prelude.{ℕ, zero, suc, ◌≡◌, ◌⊎◌, ◌+◌, Bool, true, false, if◌then◌else◌, is_some, List, Option, Some, None}
+use Rattle.std.specs.Prelude.{option_map, IfSome, Result, Ok, Err, IsErrAnd}
 use Rattle.std.proofs.Common.{refl, sym, ◌∙◌, ap, inl, inr, subst, arith}
 use Rattle.std.proofs.Math.Logic.{⊎_map, ⊎_elim}
 use Rattle.nvm_board.specs.declared.board.Arm.{Arm}
 use Rattle.nvm_board.specs.declared.board.DeviceErr.{DeviceErr}
 use Rattle.nvm_board.specs.declared.board.DeviceErr.TheVariants.{PowerLost, Fault}
 use Rattle.nvm_board.specs.Facts.{Facts, Answered, IsLostRightly, IsWorn, Steady, GoesDark}
+use Rattle.nvm_board.specs.Aims.{Aim, aim, due_of, AimsOn}
 use Rattle.nvm_board.specs.Cut.{ArmAfter}
 use Rattle.nvm_board.specs.Torn.{IsTornBy}
-
--- how many cuts are to come while this arm is pending
-abbrev pub due_of : Option Arm → ℕ
-due_of a = if is_some a then 1 else 0
+use Rattle.nvm_board.specs.laws.Aims.{aims_lit}
 
 -- the facts of a board, with this arm in place of its own
 abbrev pub with_arm : Option Arm → Facts → Facts
@@ -148,4 +146,62 @@ spent at run a old new mask fires was_lit torn = record {
       let same : mask ≡ other = ap mask_of (sym fires ∙ some) in
       let family : ℕ → Type 0 = λ k. IsTornBy k old.words at run new.words in
       record { lost = refl; torn = subst family same torn; spent = refl };
+}
+
+-- where a cut falls that is set on a board which counted so many writes
+abbrev aimed : ℕ → Option Arm → Option Aim
+aimed writes a = option_map (λ x. record { write = writes + x.whole_writes + 1; mask = x.mask }) a
+
+aim-armed : (a : Option Arm) (f : Facts) → aim (with_arm a f) ≡ aimed f.writes a
+aim-armed None f = refl
+aim-armed (Some a) f = refl
+
+-- a call that leaves the arm, and makes no write, leaves where the cut falls
+pub aims_armed : (a : Option Arm) (old new : Facts) → new.writes ≡ old.writes → AimsOn old new
+    → AimsOn (with_arm a old) (with_arm a new)
+aims_armed a old new same aims = record {
+  off = λ off. ap (with_arm a) (aims.off off);
+  cut = inl (aim-armed a new ∙ ap (λ (n : ℕ). aimed n a) same ∙ sym (aim-armed a old));
+}
+
+-- a write that was carried out brings it nearer by one
+nearer-aimed : (a b : Option Arm) (n : ℕ) → (a ≡ None → b ≡ None)
+    → ((left mask : ℕ) → a ≡ Some (record { whole_writes = left + 1; mask = mask })
+    → b ≡ Some (record { whole_writes = left; mask = mask }))
+    → ((mask : ℕ) → ¬ (a ≡ fires_by mask)) → aimed (n + 1) b ≡ aimed n a
+nearer-aimed None b n none before never = ap (aimed (n + 1)) (none refl)
+nearer-aimed (Some a) b n none before never = from a.whole_writes refl
+  where
+    from : (left : ℕ) → a.whole_writes ≡ left → aimed (n + 1) b ≡ aimed n (Some a)
+    from zero is = absurd (never a.mask (ap (λ (k : ℕ). Some (record { whole_writes = k; mask = a.mask })) is))
+    from (suc left) is =
+        let arm : Option Arm = Some (record { whole_writes = left + 1; mask = a.mask }) in
+        let more : suc left ≡ left + 1 = omega arith in
+        let armed : Some a ≡ arm = ap (λ (k : ℕ). Some (record { whole_writes = k; mask = a.mask })) (is ∙ more) in
+        let sum : n + 1 + left + 1 ≡ n + a.whole_writes + 1 = omega (arith, is) in
+        ap (aimed (n + 1)) (before left a.mask armed) ∙ ap (λ (k : ℕ). Some (record { write = k; mask = a.mask })) sum
+
+pub aims_nearer : (a b : Option Arm) (old new : Facts) → old.dark ≡ false → new.writes ≡ old.writes + 1
+    → (a ≡ None → b ≡ None)
+    → ((left mask : ℕ) → a ≡ Some (record { whole_writes = left + 1; mask = mask })
+    → b ≡ Some (record { whole_writes = left; mask = mask }))
+    → ((mask : ℕ) → old.dark ≡ false → ¬ (a ≡ fires_by mask))
+    → AimsOn (with_arm a old) (with_arm b new)
+aims_nearer a b old new lit counted none before never =
+    aims_lit (with_arm a old) (with_arm b new) lit
+    (aim-armed b new ∙ ap (λ (n : ℕ). aimed n b) counted
+    ∙ nearer-aimed a b old.writes none before (λ mask. never mask lit) ∙ sym (aim-armed a old))
+
+-- a torn write spends it
+pub aims_torn : (a : Option Arm) (old new : Facts) (mask : ℕ) → a ≡ fires_by mask → old.dark ≡ false → new.dark ≡ true
+    → new.writes ≡ old.writes → AimsOn (with_arm a old) (with_arm None new)
+aims_torn a old new mask fires lit dark same = record {
+  off = λ off. absurd (let dark : old.dark ≡ true = off in cc);
+  cut = inr (record {
+    dark = dark;
+    none = refl;
+    there = subst (λ (o : Option Aim). IfSome o (λ x. (new.writes + 1 ≡ x.write) ⊎ (new.writes ≡ x.write)))
+        (sym (aim-armed a old ∙ ap (aimed old.writes) fires))
+        (inl (let there : new.writes + 1 ≡ old.writes + 0 + 1 = omega (arith, same) in there));
+  });
 }

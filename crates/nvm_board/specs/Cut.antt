@@ -1,17 +1,18 @@
 -- What contracts know of a board that loses power at a write of one's choice.
-use Rattle.std.specs.Prelude.{◌≡◌, ◌+◌, ℕ, if◌then◌else◌, is_some, List, Option, Some, None, Result, IsOk, IsErr}
+use Rattle.std.specs.Prelude.{◌≡◌, ◌+◌, ℕ, List, Option, Some, None, Result, IsOk, IsErr}
 use Rattle.std.specs.Prelude.{IsErrOf, true, false}
 use Rattle.nvm_board.specs.declared.board.Arm.{Arm}
 use Rattle.nvm_board.specs.declared.board.DeviceErr.{DeviceErr}
 use Rattle.nvm_board.specs.declared.board.DeviceErr.TheVariants.{PowerLost}
 use Rattle.nvm_board.specs.declared.cut_board.CutBoard.{CutBoard}
 use Rattle.nvm_board.specs.Facts.{Facts, IsWorn}
+use Rattle.nvm_board.specs.Aims.{due_of}
 use Rattle.nvm_board.specs.Ram.{ram_facts}
 use Rattle.nvm_board.specs.Torn.{IsTornBy}
 
 -- a cut is to come while an arm is pending
 abbrev pub cut_facts : CutBoard → Facts
-cut_facts b = record (ram_facts b.ram) { due = if is_some b.arm then 1 else 0; pending = b.arm }
+cut_facts b = record (ram_facts b.ram) { due = due_of b.arm; pending = b.arm }
 
 -- A write that no cut falls into. It leaves this arm pending; or power is lost in it for a count at its end, and the arm
 -- stays.

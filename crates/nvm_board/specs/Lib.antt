@@ -1,4 +1,5 @@
 pub mod Facts
+pub mod Aims
 pub mod Torn
 pub mod Ram
 pub mod Cut

@@ -121,7 +121,12 @@ impl RamBoard {
 }
 
 impl Board for RamBoard {
+    ghost use Rattle.std.specs.Prelude.{◌≡◌, ◌+◌, ◌<◌, ◌≤◌, length, OnOk, OnErr};
+    ghost use Rattle.nvm_board.specs.declared.board.TheConstants.{PAGES, PAGE_WORDS};
+    ghost use Rattle.nvm_board.specs.Aims.{AimsOn};
+    ghost use Rattle.nvm_board.specs.Facts.{Answered, IsLostRightly, address};
     ghost use Rattle.nvm_board.specs.Ram.{ram_facts};
+    ghost use Rattle.nvm_board.specs.Torn.{Torn, written};
     ghost use Rattle.nvm_board.specs.laws.Counts.{ram_counts_fit};
 
     ghost facts = { ram_facts };
@@ -135,7 +140,23 @@ impl Board for RamBoard {
     }
 
     #[tactic(auto, unfolding(crate::specs::Facts::IsLostRightly))]
-    fn write(&mut self, page: u16, first: u8, words: &[u32]) -> Result<(), DeviceErr> {
+    fn write(&mut self, page: u16, first: u8, words: &[u32]) -> Result<(), DeviceErr>
+        requires page { page < PAGES }
+        requires some { 0 < length words.now }
+        requires run { first + length words.now ≤ PAGE_WORDS }
+        ensures done { OnOk result ((ram_facts self.new).words ≡ written (ram_facts self.old).words (address page first)
+            words.now) }
+        ensures torn { Torn (ram_facts self.old).words (address page first) words.now (ram_facts self.new).words }
+        ensures light { Answered (ram_facts self.old) (ram_facts self.new) result }
+        ensures worn { IsLostRightly (ram_facts self.old) (ram_facts self.new) result }
+        ensures cut { AimsOn (ram_facts self.old) (ram_facts self.new) }
+        ensures counted { OnOk result ((ram_facts self.new).writes ≡ (ram_facts self.old).writes + 1) }
+
+        // A write that fails isn't counted.
+        ensures counted_err { OnErr result ((ram_facts self.new).writes ≡ (ram_facts self.old).writes) }
+        ensures compares { (ram_facts self.new).compares ≡ (ram_facts self.old).compares }
+        ensures matches { (ram_facts self.new).matches ≡ (ram_facts self.old).matches }
+    {
         if self.dark {
             return Err(DeviceErr::PowerLost);
         }
@@ -192,6 +213,8 @@ impl Faultless for RamBoard {
     ghost use Rattle.std.specs.Prelude.{refl};
 
     ghost faultless = { λ b. refl };
+
+    ghost cut_due = { λ b. refl };
 }
 
 /// A word's place among all words.

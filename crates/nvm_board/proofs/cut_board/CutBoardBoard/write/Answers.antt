@@ -4,7 +4,7 @@ use Rattle.nvm_board.specs.Facts.{Facts, address, Answered, IsLostRightly}
 use Rattle.nvm_board.specs.laws.Torn.{Torn-IsTornBy}
 use Rattle.nvm_board.specs.Ram.{ram_facts}
 use Rattle.nvm_board.proofs.WithArm.{with_arm, answered_armed, lost_armed, error_armed, spared_err, answered_spared}
-use Rattle.nvm_board.proofs.WithArm.{spared_ok, answered_torn, spent}
+use Rattle.nvm_board.proofs.WithArm.{spared_ok, answered_torn, spent, aims_armed, aims_nearer}
 use Rattle.nvm_board.proofs.cut_board.CutBoardBoard.write.Goals as goal
 
 pub returns-in-Some-clause-torn : goal.returns-in-Some-clause-torn
@@ -63,3 +63,14 @@ returns-clause-arm c =
     spared_ok _ _ c.args.self.now.arm c.nearer-self.result (ram_facts c.args.self.now.ram) (ram_facts c.write.new.self)
     _ (c.in_ok-write.ensures.light.ok refl).was_lit c.nearer-self.ensures.none c.nearer-self.ensures.before
     (λ mask lit. c.firing.ensures.spared c.in_default.is (c.is_dark.ensures ∙ lit) mask)
+
+pub returns-in_err-write-clause-cut : goal.returns-in_err-write-clause-cut
+returns-in_err-write-clause-cut c =
+    aims_armed c.args.self.now.arm (ram_facts c.args.self.now.ram) (ram_facts c.write.new.self)
+    c.in_err-write.ensures.counted_err c.in_err-write.ensures.cut
+
+pub returns-clause-cut : goal.returns-clause-cut
+returns-clause-cut c =
+    aims_nearer c.args.self.now.arm c.nearer-self.result (ram_facts c.args.self.now.ram) (ram_facts c.write.new.self)
+    (c.in_ok-write.ensures.light.ok refl).was_lit c.in_ok-write.ensures.counted c.nearer-self.ensures.none
+    c.nearer-self.ensures.before (λ mask lit. c.firing.ensures.spared c.in_default.is (c.is_dark.ensures ∙ lit) mask)
