@@ -1,6 +1,7 @@
 //! Cyclic bodies: records of one length, the newest first (ETSI TS 102 221, 8.2.2.3).
 ghost use Rattle.std.specs.Prelude.{◌≡◌, ◌≤◌, ◌<◌, ◌⊎◌, ◌↔◌, ◌+◌, [], min, length, None, Some, IsTrue, OnOk};
 ghost use Rattle.std.specs.Result.{result_err};
+ghost use Rattle.undo_journal.specs.Commits.{CommitsByGate};
 ghost use Rattle.undo_journal.specs.Memory.{committed, IsReady};
 ghost use Rattle.block_chain.specs.Changes.{AppendsSome};
 ghost use Rattle.undo_journal.specs.Calls.{OnlyReads, Reads, Changes};
@@ -91,6 +92,7 @@ impl Cyclic {
             store.old) self)) bytes.now (cyclic_records (committed store.old) self)) (committed store.new)) }
         ensures refusal { Decides (missing_record (cyclic_records (committed store.old) self) 1) (result_err result) }
         ensures refused { IfRefused (result_err result) (store.new ≡ store.old) }
+        ensures by_gate { CommitsByGate store.old store.new }
         ensures store { Changes RECORD_WRITES store.old store.new (failure (result_err result)) }
     {
         if !self.has_record(1) {
@@ -114,6 +116,7 @@ impl Cyclic {
         ensures done { OnOk result (CyclicBecomes (committed store.old) self (front self.capacity bytes.now
             (cyclic_records (committed store.old) self)) (committed store.new)) }
         ensures refusal { Decides None (result_err result) }
+        ensures by_gate { CommitsByGate store.old store.new }
         ensures store { Changes RECORD_WRITES store.old store.new (failure (result_err result)) }
     {
         from_store(put_front(self, store, bytes, self.appended()))
@@ -187,6 +190,7 @@ impl Cyclic {
         ensures refused { (status : Sw) → unraised self.record_length (cyclic_records (committed store.old) self)
             sent.now
             ≡ Some status → OnlyReads store.old store.new }
+        ensures by_gate { CommitsByGate store.old store.new }
         ensures store { Changes RECORD_WRITES store.old store.new (failure (result_err result)) }
     {
         self.sum(store, sent, bytes)?;

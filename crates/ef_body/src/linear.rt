@@ -2,6 +2,7 @@
 ghost use Rattle.std.specs.Prelude.{◌≡◌, ◌≤◌, ◌<◌, ◌+◌, ◌-◌, ◌*◌, ◌⊎◌, ◌↔◌, ◌++◌, ◌∷◌, [], length, slice_set, IsTrue};
 ghost use Rattle.std.specs.Prelude.{OnOk};
 ghost use Rattle.std.specs.Result.{result_err};
+ghost use Rattle.undo_journal.specs.Commits.{CommitsByGate};
 ghost use Rattle.undo_journal.specs.Memory.{committed, IsReady};
 ghost use Rattle.block_chain.specs.Changes.{AppendsSome};
 ghost use Rattle.undo_journal.specs.Calls.{Reads, Changes};
@@ -108,6 +109,7 @@ impl Linear {
         ensures refusal { Decides (missing_record (linear_records (committed store.old) self) number) (result_err
             result) }
         ensures refused { IfRefused (result_err result) (store.new ≡ store.old) }
+        ensures by_gate { CommitsByGate store.old store.new }
         ensures store { Changes UPDATE_WRITES store.old store.new (failure (result_err result)) }
     {
         if !self.has_record(number) {
@@ -134,6 +136,7 @@ impl Linear {
         ensures refusal { Decides (full self.capacity (linear_records (committed store.old) self)) (result_err
             result) }
         ensures refused { IfRefused (result_err result) (store.new ≡ store.old) }
+        ensures by_gate { CommitsByGate store.old store.new }
         ensures store { Changes RECORD_WRITES store.old store.new (failure (result_err result)) }
     {
         if self.is_full() {

@@ -1,6 +1,7 @@
 //! Transparent bodies: bytes (ISO/IEC 7816-4, 7.3.2 and 11.3).
 ghost use Rattle.std.specs.Prelude.{◌≡◌, ◌≤◌, ◌<◌, ◌+◌, ◌*◌, ◌⊎◌, ◌↔◌, [], min, length, take, drop, IsTrue, OnOk};
 ghost use Rattle.std.specs.Result.{result_err};
+ghost use Rattle.undo_journal.specs.Commits.{CommitsByGate};
 ghost use Rattle.undo_journal.specs.Memory.{committed, IsReady};
 ghost use Rattle.undo_journal.specs.Calls.{Reads, Changes};
 ghost use Rattle.block_chain.specs.Changes.{overwrite, touched_words, AppendsSome};
@@ -97,6 +98,7 @@ impl Transparent {
             (result_err
             result) }
         ensures refused { IfRefused (result_err result) (store.new ≡ store.old) }
+        ensures by_gate { CommitsByGate store.old store.new }
         ensures store { Changes (3 * touched_words offset (length bytes.now) + 1) store.old store.new (failure
             (result_err result)) }
     {

@@ -1,6 +1,7 @@
 //! The words of bodies that are written, each time in one transaction.
 ghost use Rattle.std.specs.Prelude.{◌≡◌, ◌⊎◌, ◌≤◌, ◌<◌, ◌+◌, ◌*◌, ◌-◌, ◌%◌, length, OnOk};
 ghost use Rattle.std.specs.Result.{result_err};
+ghost use Rattle.undo_journal.specs.Commits.{CommitsByGate};
 ghost use Rattle.undo_journal.specs.Memory.{committed, current, room, IsOpen, IsReady};
 ghost use Rattle.undo_journal.specs.Calls.{Changes, SetsIn};
 ghost use Rattle.undo_journal.specs.Lent.{memory_of};
@@ -40,6 +41,7 @@ pub(crate) fn put_bytes<B: Board>(
         store.new) }
     ensures done { OnOk result (Overwrites (committed store.old) (blocks_of_chain (committed store.old) chain) offset
         bytes.now (committed store.new)) }
+    ensures by_gate { CommitsByGate store.old store.new }
     ensures store { Changes (3 * touched_words offset (length bytes.now) + 1) store.old store.new (result_err result) }
 {
     let mut txn = store.begin();
@@ -69,6 +71,7 @@ pub(crate) fn put_record<B: Board>(
         ⊎ PutsRecord (committed store.old) chain offset bytes.now told_at told (committed store.new) }
     ensures done { OnOk result (PutsRecord (committed store.old) chain offset bytes.now told_at told (committed
         store.new)) }
+    ensures by_gate { CommitsByGate store.old store.new }
     ensures store { Changes RECORD_WRITES store.old store.new (result_err result) }
 {
     let mut txn = store.begin();
@@ -123,6 +126,7 @@ pub(crate) fn put_front<B: Board>(
         (committed store.new) }
     ensures done { OnOk result (CyclicBecomes (committed store.old) body (front records bytes.now (cyclic_records
         (committed store.old) body)) (committed store.new)) }
+    ensures by_gate { CommitsByGate store.old store.new }
     ensures store { Changes RECORD_WRITES store.old store.new (result_err result) }
 {
     let start = slot_before(body.start, body.capacity);

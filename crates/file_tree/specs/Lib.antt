@@ -8,6 +8,7 @@ pub mod Entries
 pub mod Table
 pub mod Trees
 pub mod Changes
+pub mod Adding
 pub mod NewFiles
 pub mod Creations
 pub mod Parts

@@ -9,6 +9,7 @@ ghost use Rattle.card_rules.specs.declared.status.Sw.{Sw};
 ghost use Rattle.fcp_template.specs.declared.fcp.ShortIdentifier.TheVariants.{Absent};
 ghost use Rattle.fcp_template.specs.Ranges.{IsCreatable};
 ghost use Rattle.block_chain.specs.Chains.{HasFree, free_chain};
+ghost use Rattle.file_tree.specs.Adding.{AddsByGate};
 ghost use Rattle.file_tree.specs.declared.layout.TheConstants.{CREATE_WRITES, MOST_FILE_BLOCKS};
 ghost use Rattle.file_tree.specs.Table.{table, entry_in, path_of, IsUsed};
 ghost use Rattle.file_tree.specs.Trees.{tree_of, TreeStands};
@@ -201,6 +202,7 @@ fn write_file<B: Board>(
     requires few { blocks ≤ MOST_FILE_BLOCKS }
     ensures any_exit { FillsOrAdds (committed store.old) e entry blocks (committed store.new) }
     ensures done { OnOk result (FillsAndAdds (committed store.old) e entry blocks (committed store.new)) }
+    ensures by_gate { AddsByGate store.old store.new }
     ensures store { Changes CREATE_WRITES store.old store.new (result_err result) }
 {
     fill(store, blocks, BLANK)?;
@@ -240,6 +242,7 @@ pub fn create<B: Board>(store: &mut Store<B>, df: u8, fcp: &Fcp<'_>) -> Result<C
     requires fcp { IsCreatable fcp.now }
     ensures any_exit { SameTree (committed store.old) (committed store.new)
         ⊎ CreatesNew (committed store.old) df fcp.now (committed store.new) }
+    ensures by_gate { AddsByGate store.old store.new }
     ensures store { Changes CREATE_WRITES store.old store.new (result_err result) }
     ensures idle { (status : Sw)
         → creation_refusal (tree_of (committed store.old)) (path_of (table (committed store.old)) df) fcp.now ≡ Some status

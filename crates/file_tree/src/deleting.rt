@@ -3,6 +3,7 @@
 ghost use Rattle.std.specs.Prelude.{◌≡◌, ◌⊎◌, ◌<◌, ◌≤◌, ◌+◌, length, IfOk, OnOk};
 ghost use Rattle.std.specs.List.{sum_by};
 ghost use Rattle.std.specs.Result.{result_err};
+ghost use Rattle.undo_journal.specs.Commits.{CommitsByGate};
 ghost use Rattle.undo_journal.specs.Memory.{committed, current, room, IsOpen, IsReady};
 ghost use Rattle.undo_journal.specs.Lent.{memory_of};
 ghost use Rattle.undo_journal.specs.Calls.{Reads, Changes, SetsIn};
@@ -133,6 +134,7 @@ fn remove<B: Board>(store: &mut Store<B>, part: &[Entry], chains: &[Chain]) -> R
     ensures any_exit { (committed store.new ≡ committed store.old)
         ⊎ Removes (committed store.old) part.now chains.now (committed store.new) }
     ensures done { OnOk result (Removes (committed store.old) part.now chains.now (committed store.new)) }
+    ensures by_gate { CommitsByGate store.old store.new }
     ensures store { Changes DELETE_WRITES store.old store.new (result_err result) }
 {
     let mut txn = store.begin();
@@ -189,6 +191,7 @@ pub fn delete<B: Board>(store: &mut Store<B>, e: u8) -> Result<FreeSpace, StoreE
     ensures done { OnOk result (Deletes (committed store.old) e (committed store.new)) }
     ensures space { IfOk result (λ freed.
         free_space (tree_of (committed store.new)) ≡ with_freed (free_space (tree_of (committed store.old))) freed) }
+    ensures by_gate { CommitsByGate store.old store.new }
     ensures store { Changes DELETE_WRITES store.old store.new (result_err result) }
 {
     let removal = removal_of(store, e)?;

@@ -3,6 +3,7 @@
 ghost use Rattle.std.specs.Prelude.{◌≡◌, ◌⊎◌, slice_set, IfOk, OnOk};
 ghost use Rattle.std.specs.Result.{result_err};
 ghost use Rattle.undo_journal.specs.Undo.{IsDataAddress};
+ghost use Rattle.undo_journal.specs.Commits.{CommitsByGate};
 ghost use Rattle.undo_journal.specs.Memory.{committed, IsReady};
 ghost use Rattle.undo_journal.specs.Calls.{OnlyReads, Reads, Changes};
 ghost use Rattle.file_tree.specs.States.{bars, is_allowed, is_barred, life_at, next_life, with_card_terminated, ChangesLife};
@@ -117,6 +118,7 @@ fn write_word<B: Board>(store: &mut Store<B>, at: u16, word: u32) -> Result<(), 
     ensures any_exit { (committed store.new ≡ committed store.old)
         ⊎ (committed store.new ≡ slice_set (committed store.old) at word) }
     ensures done { OnOk result (committed store.new ≡ slice_set (committed store.old) at word) }
+    ensures by_gate { CommitsByGate store.old store.new }
     ensures store { Changes 4 store.old store.new (result_err result) }
 {
     let mut txn = store.begin();
@@ -146,6 +148,7 @@ pub fn set_life_cycle<B: Board>(
     ensures done { OnOk result (ChangesLife (committed store.old) e state (committed store.new)) }
     ensures stays { life_at (tree_of (committed store.old)) (path_of (table (committed store.old)) e) ≡ state
         → OnlyReads store.old store.new }
+    ensures by_gate { CommitsByGate store.old store.new }
     ensures store { Changes 4 store.old store.new (result_err result) }
 {
     let entry = read_entry(store, e)?;
@@ -191,6 +194,7 @@ pub fn terminate_card<B: Board>(store: &mut Store<B>) -> Result<(), StoreErr>
     ensures any_exit { (committed store.new ≡ committed store.old)
         ⊎ (committed store.new ≡ with_card_terminated (committed store.old)) }
     ensures done { OnOk result (committed store.new ≡ with_card_terminated (committed store.old)) }
+    ensures by_gate { CommitsByGate store.old store.new }
     ensures store { Changes 4 store.old store.new (result_err result) }
 {
     write_word(

@@ -1,5 +1,6 @@
 -- What a charge and the ends that follow it leave of a store, and the law that binds them: a comparison costs a lasting try.
 use Rattle.std.specs.Prelude.{◌≡◌, ◌⊎◌, ◌<◌, ◌≤◌, ◌+◌, ℕ, List, slice_index, Option, Some, None, Result, Ok, Err}
+use Rattle.nvm_board.specs.Aims.{AimsOn}
 use Rattle.nvm_board.specs.Facts.{Facts, RisesAt, raised}
 use Rattle.undo_journal.specs.declared.error.StoreErr.{StoreErr}
 use Rattle.undo_journal.specs.Memory.{Memory, committed}
@@ -26,10 +27,11 @@ pub record Charges (secret : ℕ) (old new : Memory) : Type 0 where
   pub left : 0 < tries_left secret (pin_in old secret)
   pub charged : SetsPin (committed old) (owner secret) (charged_pin secret (pin_in old secret)) (committed new)
 
--- at most n device writes, none taken back, and at most one comparison, of this secret
+-- at most n device writes, none taken back, which bring a cut that is set nearer, and at most one comparison, of this secret
 pub record ComparesOnce (n secret : ℕ) (old new : Facts) : Type 0 where
   pub writes : new.writes ≤ old.writes + n
   pub more : old.writes ≤ new.writes
+  pub cut : AimsOn old new
   pub compares : RisesAt old.compares secret new.compares
   pub matches : RisesAt old.matches secret new.matches
 

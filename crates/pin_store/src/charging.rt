@@ -3,6 +3,7 @@ ghost use Rattle.std.specs.Prelude.{◌≡◌, ◌⊎◌, ◌+◌, ◌<◌, IfOk
 ghost use Rattle.std.specs.Result.{result_err};
 ghost use Rattle.nvm_board.specs.declared.board.TheConstants.{SECRETS};
 ghost use Rattle.undo_journal.specs.Calls.{OnlyReads, Reads, Changes};
+ghost use Rattle.undo_journal.specs.Commits.{StaysShut};
 ghost use Rattle.undo_journal.specs.Memory.{committed, IsReady};
 ghost use Rattle.pin_store.specs.declared.errors.PinErr.TheVariants.{Blocked};
 ghost use Rattle.pin_store.specs.Pins.{tries_left};
@@ -72,6 +73,7 @@ pub fn charge<B: Board>(store: &mut Store<B>, secret: u8) -> Result<Charged, Pin
     ensures blocked { IsErrOf result Blocked → (tries_left secret (pin_in store.old secret) ≡ 0) × IsReady store.new }
     ensures kept { tries_left secret (pin_in store.old secret) ≡ 0 → OnlyReads store.old store.new }
     ensures pages { ArePinPages (committed store.new) }
+    ensures shut { StaysShut store.old store.new }
     ensures store { Changes 1 store.old store.new (store_failure result) }
     ensures counted { OnOk result (store.new.facts.writes ≡ store.old.facts.writes + 1) }
 {

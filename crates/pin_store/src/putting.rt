@@ -2,6 +2,7 @@
 ghost use Rattle.std.specs.Prelude.{◌≡◌, ◌⊎◌, ◌+◌, ◌≤◌, OnOk};
 ghost use Rattle.std.specs.Result.{result_err};
 ghost use Rattle.undo_journal.specs.Calls.{Changes, SetsIn};
+ghost use Rattle.undo_journal.specs.Commits.{CommitsByGate, StaysShut};
 ghost use Rattle.undo_journal.specs.Lent.{memory_of};
 ghost use Rattle.undo_journal.specs.Memory.{committed, current, room, IsOpen, IsReady};
 ghost use Rattle.pin_store.specs.Pins.{changed_pin, owner, reset_pin, tries_left, verified_pin, with_tries};
@@ -52,6 +53,7 @@ pub(crate) fn put_left<B: Board>(store: &mut Store<B>, secret: u8, left: u8) -> 
     ensures done { OnOk result (SetsPin (committed store.old) (owner secret)
         (with_tries secret left (pin_in store.old secret)) (committed store.new)) }
     ensures pages { ArePinPages (committed store.new) }
+    ensures shut { StaysShut store.old store.new }
     ensures store { Changes 1 store.old store.new (result_err result) }
     ensures counted { OnOk result (store.new.facts.writes ≡ store.old.facts.writes + 1) }
 {
@@ -67,6 +69,7 @@ pub(crate) fn put_tries<B: Board>(store: &mut Store<B>, secret: u8) -> Result<()
     ensures done { OnOk result (SetsPin (committed store.old) (owner secret)
         (verified_pin (pin_in store.old secret)) (committed store.new)) }
     ensures pages { ArePinPages (committed store.new) }
+    ensures shut { StaysShut store.old store.new }
     ensures store { Changes 1 store.old store.new (result_err result) }
     ensures counted { OnOk result (store.new.facts.writes ≡ store.old.facts.writes + 1) }
 {
@@ -101,6 +104,7 @@ pub(crate) fn put_renewed<B: Board>(
         (renewed_pin secret new.now (pin_in store.old secret)) (committed store.new) }
     ensures done { OnOk result (SetsPin (committed store.old) (owner secret)
         (renewed_pin secret new.now (pin_in store.old secret)) (committed store.new)) }
+    ensures by_gate { CommitsByGate store.old store.new }
     ensures store { Changes (renewal_writes secret) store.old store.new (result_err result) }
 {
     let mut txn = store.begin();

@@ -2,6 +2,7 @@
 ghost use Rattle.std.specs.Prelude.{◌≡◌, ◌⊎◌, ◌+◌, ◌<◌, ◌≤◌, if◌then◌else◌, IfOk};
 ghost use Rattle.std.specs.Result.{result_err};
 ghost use Rattle.undo_journal.specs.Calls.{Reads, Leaves};
+ghost use Rattle.undo_journal.specs.Commits.{CommitsByGate, StaysShut};
 ghost use Rattle.undo_journal.specs.Memory.{committed, IsReady};
 ghost use Rattle.nvm_board.specs.declared.board.TheConstants.{SECRETS};
 ghost use Rattle.pin_store.specs.declared.layout.TheConstants.{PINS};
@@ -35,6 +36,7 @@ pub fn settle<B: Board>(
         (verified_pin (pin_in store.old charged)) store.old store.new) }
     ensures pages { ArePinPages (committed store.new) }
     ensures store { Leaves store.old store.new (result_err result) }
+    ensures shut { StaysShut store.old store.new }
     ensures spends { ComparesOnce 1 charged store.old.facts store.new.facts }
     ensures counted { IfOk result (λ outcome. store.new.facts.writes
         ≡ store.old.facts.writes + settle_writes outcome) }
@@ -65,6 +67,7 @@ pub fn change<B: Board>(
         ⊎ SetsByMatch charged shown.now (changed_pin new.now (pin_in store.old charged)) store.old store.new }
     ensures done { IfOk result (EndsByOutcome charged shown.now
         (changed_pin new.now (pin_in store.old charged)) store.old store.new) }
+    ensures by_gate { CommitsByGate store.old store.new }
     ensures pages { ArePinPages (committed store.new) }
     ensures store { Leaves store.old store.new (result_err result) }
     ensures spends { ComparesOnce 10 charged store.old.facts store.new.facts }
@@ -91,6 +94,7 @@ pub fn reset_counter<B: Board>(
         ⊎ SetsByMatch charged shown.now (reset_pin new.now (pin_in store.old charged)) store.old store.new }
     ensures done { IfOk result (EndsByOutcome charged shown.now
         (reset_pin new.now (pin_in store.old charged)) store.old store.new) }
+    ensures by_gate { CommitsByGate store.old store.new }
     ensures pages { ArePinPages (committed store.new) }
     ensures store { Leaves store.old store.new (result_err result) }
     ensures spends { ComparesOnce 13 charged store.old.facts store.new.facts }
@@ -112,6 +116,7 @@ fn renew<B: Board>(
         ⊎ SetsByMatch charged shown.now (renewed_pin charged new.now (pin_in store.old charged)) store.old store.new }
     ensures done { IfOk result (EndsByOutcome charged shown.now
         (renewed_pin charged new.now (pin_in store.old charged)) store.old store.new) }
+    ensures by_gate { CommitsByGate store.old store.new }
     ensures pages { ArePinPages (committed store.new) }
     ensures store { Leaves store.old store.new (result_err result) }
     ensures spends { ComparesOnce (renewal_writes charged) charged store.old.facts store.new.facts }
@@ -135,6 +140,7 @@ fn compare<B: Board>(
     ensures done { IfOk result (Compared charged shown.now store.old store.new) }
     ensures kept { committed store.new ≡ committed store.old }
     ensures store { Leaves store.old store.new (result_err result) }
+    ensures shut { StaysShut store.old store.new }
     ensures spends { ComparesOnce 0 charged store.old.facts store.new.facts }
     ensures writes { store.new.facts.writes ≡ store.old.facts.writes }
 {

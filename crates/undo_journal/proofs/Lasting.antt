@@ -1,8 +1,10 @@
 -- Writes that last: with no pair that counts, and of the gate itself.
 use Rattle.std.specs.Prelude.{None}
 use Rattle.std.proofs.Common.{◌≡◌, ◌⊎◌, ◌<◌, ◌≤◌, ◌+◌, ℕ, suc, List, [], ◌∷◌, length, slice_set, refl, sym, ◌∙◌, ap}
-use Rattle.std.proofs.Common.{subst, inl, inr, arith}
+use Rattle.std.proofs.Common.{slice_index, subst, inl, inr, arith, get_or-set_same, get_or-set_other}
 use Rattle.std.proofs.Math.ListN.{length-set}
+use Rattle.std.proofs.lemmas.Bool.Decides.{eqb_tells}
+use Rattle.std.proofs.lemmas.Grind.{same_number_lists}
 use Rattle.std.proofs.Math.Logic.{⊎_elim, ⊎_map}
 use Rattle.nvm_board.specs.Torn.{Torn, written, IsMixture}
 use Rattle.nvm_board.specs.laws.Torn.{Torn-all, IsMixture-Torn}
@@ -12,6 +14,18 @@ use Rattle.undo_journal.specs.laws.Undo.{data_words-set, sound_shut}
 use Rattle.undo_journal.specs.Memory.{Memory, committed, current, IsIdle, IsTrueToBoard}
 use Rattle.undo_journal.proofs.Standing.{board-place, board-run}
 use Rattle.undo_journal.proofs.Saving.{committed-shut, gate-set, gate-shut, current-gate}
+
+-- a word that is set, and set back
+pub set-back : (m : List ℕ) (a w : ℕ) → a < length m → slice_set (slice_set m a w) a (slice_index m a) ≡ m
+set-back m a w within =
+    same_number_lists _ _ (length-set (slice_set m a w) a (slice_index m a) ∙ length-set m a w) (λ k lt.
+    let inside : a < length (slice_set m a w) = omega (arith, length-set m a w, within) in
+    elim (eqb_tells k a) [
+      | inl same ↦
+          let at : ℕ → Type 0 = λ j. slice_index (slice_set (slice_set m a w) a (slice_index m a)) j ≡ slice_index m j in
+          subst at (sym same.1) (get_or-set_same (slice_set m a w) a (slice_index m a) 0 inside)
+      | inr other ↦ get_or-set_other (slice_set m a w) a k (slice_index m a) 0 other.1 ∙ get_or-set_other m a k w 0 other.1
+    ])
 
 -- the gate set to 0: what was current is committed
 pub gate-commits : (m n : List ℕ) → GATE < length m → n ≡ slice_set m GATE 0 → data_words (undo n) ≡ data_words m

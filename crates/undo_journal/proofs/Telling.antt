@@ -4,6 +4,7 @@ use Rattle.std.proofs.Common.{◌≡◌, ◌⊎◌, ◌+◌, ℕ, true, false, r
 use Rattle.std.proofs.Math.Logic.{⊎_elim, ⊎_map}
 use Rattle.nvm_board.specs.declared.board.DeviceErr.{DeviceErr}
 use Rattle.nvm_board.specs.declared.board.DeviceErr.TheVariants as device
+use Rattle.nvm_board.specs.Aims.{AimsOn}
 use Rattle.nvm_board.specs.Facts.{Facts, Answered, Steady, GoesDark}
 use Rattle.undo_journal.specs.declared.error.StoreErr.TheVariants.{PowerLost}
 use Rattle.undo_journal.specs.declared.error.OpenFault.{OpenFault}
@@ -61,13 +62,13 @@ answered_after a b c result first told = record {
 }
 
 -- what a write costs
-pub write_costs : {T : Type 0} (old new : Facts) (result : Result T DeviceErr) → OnOk result (new.writes ≡ old.writes + 1)
+pub write_costs : {T : Type 0} (old new : Facts) (result : Result T DeviceErr) → AimsOn old new → OnOk result (new.writes ≡ old.writes + 1)
     → OnErr result ((new.writes ≡ old.writes) ⊎ (new.writes ≡ old.writes + 1)) → new.compares ≡ old.compares
     → new.matches ≡ old.matches → WritesAtMost 1 old new
-write_costs old new (Ok x) ok err compares matches = record
-    { writes = omega (arith, ok); more = omega (arith, ok); compares = compares; matches = matches }
-write_costs old new (Err e) ok err compares matches = record
-    { writes = omega (arith, err); more = omega (arith, err); compares = compares; matches = matches }
+write_costs old new (Ok x) cut ok err compares matches = record
+    { writes = omega (arith, ok); more = omega (arith, ok); cut = cut; compares = compares; matches = matches }
+write_costs old new (Err e) cut ok err compares matches = record
+    { writes = omega (arith, err); more = omega (arith, err); cut = cut; compares = compares; matches = matches }
 
 -- what an error tells of a lit board
 pub fails_by : {T : Type 0} (e : DeviceErr) (old new : Facts) → old.dark ≡ false → Answered {T = T} old new (Err e)

@@ -3,6 +3,7 @@ pub use Rattle.nvm_board.specs.Torn
 pub mod Undo
 pub mod Spending
 pub mod Memory
+pub mod Commits
 pub mod Lent
 pub mod Calls
 pub mod laws

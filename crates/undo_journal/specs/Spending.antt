@@ -1,17 +1,25 @@
 -- What calls on a board may cost.
 use Rattle.std.specs.Prelude.{◌≡◌, ◌==◌, ◌+◌, ◌≤◌, ℕ, if◌then◌else◌}
+use Rattle.nvm_board.specs.Aims.{AimsOn}
 use Rattle.nvm_board.specs.Facts.{Facts}
 use Rattle.undo_journal.specs.Undo.{gate}
 
--- at most n device writes, none taken back, and no comparison
+-- at most n device writes, none taken back, which bring a cut that is set nearer; and no comparison
 pub record WritesAtMost (n : ℕ) (old new : Facts) : Type 0 where
   pub writes : new.writes ≤ old.writes + n
   pub more : old.writes ≤ new.writes
+  pub cut : AimsOn old new
   pub compares : new.compares ≡ old.compares
   pub matches : new.matches ≡ old.matches
 
--- no word of a board and no count changed, but for cuts and faults
+-- Device writes are counted on, and bring a cut that is set nearer.
+pub record Advances (old new : Facts) : Type 0 where
+  pub more : old.writes ≤ new.writes
+  pub cut : AimsOn old new
+
+-- no word of a board and no count changed, but for cuts and faults; a cut that is set comes no nearer
 pub record KeepsBoard (old new : Facts) : Type 0 where
+  pub cut : AimsOn old new
   pub words : new.words ≡ old.words
   pub writes : new.writes ≡ old.writes
   pub compares : new.compares ≡ old.compares

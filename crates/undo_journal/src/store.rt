@@ -4,12 +4,14 @@ ghost use Rattle.std.specs.Prelude.{OnOk, OnErr, IsErrOf, Some, true, slice_inde
 ghost use Rattle.std.specs.Option.{option_or};
 ghost use Rattle.std.specs.Result.{result_err};
 ghost use Rattle.nvm_board.specs.declared.board.TheConstants.{PAGE_WORDS, SECRETS};
+ghost use Rattle.nvm_board.specs.Aims.{AimsOn, due_of};
 ghost use Rattle.nvm_board.specs.Facts.{Steady, RisesAt, address, raised};
 ghost use Rattle.nvm_board.specs.Torn.{Torn, written};
 ghost use Rattle.undo_journal.specs.declared.layout.TheConstants.{PAIRS};
 ghost use Rattle.undo_journal.specs.declared.error.StoreErr.TheVariants.{PowerLost};
-ghost use Rattle.undo_journal.specs.Undo.{gate, undo, data_words, IsDataAddress, IsDataRun, IsSound};
+ghost use Rattle.undo_journal.specs.Undo.{undo, data_words, IsDataAddress, IsDataRun, IsSound};
 ghost use Rattle.undo_journal.specs.Spending.{KeepsShut, WritesAtMost, rollback_writes, start_writes};
+ghost use Rattle.undo_journal.specs.Commits.{StaysShut, TurnsGate};
 ghost use Rattle.undo_journal.specs.Memory.{committed, current, room, store_result_of, IsOpen, IsIdle};
 ghost use Rattle.undo_journal.specs.Memory.{IsReady, KeepsWords, OpensNot, Reports};
 
@@ -121,6 +123,7 @@ impl<B: Board> Store<B> {
         ensures any_exit { (committed self.new ≡ committed self.old)
             ⊎ (committed self.new ≡ slice_set (committed self.old) at word) }
         ensures done { OnOk result (committed self.new ≡ slice_set (committed self.old) at word) }
+        ensures shut { StaysShut self.old self.new }
         ensures store { Changes 1 self.old self.new (result_err result) }
         ensures dark { IsErrOf result PowerLost → self.new.facts.dark ≡ true }
         ensures counted { OnOk result (self.new.facts.writes ≡ self.old.facts.writes + 1) }
@@ -158,12 +161,14 @@ impl<B: Board> Store<B> {
         requires { secret < SECRETS }
         ensures equal { IfOk result (λ e. IsTrue e ↔ (kept.now ≡ shown.now)) }
         ensures keeps { KeepsWords self.old self.new }
+        ensures words { self.new.facts.words ≡ self.old.facts.words }
         ensures usable { OnOk result (IsOpen self.new) }
         ensures ready { OnOk result (IsIdle self.old → IsReady self.new) }
         ensures reports { Reports self.old self.new }
         ensures tells { self.new.failed ≡ result_err result }
         ensures dark { IsErrOf result PowerLost → self.new.facts.dark ≡ true }
         ensures writes { self.new.facts.writes ≡ self.old.facts.writes }
+        ensures cut { AimsOn self.old.facts self.new.facts }
 
         // The comparison and the match are counted, and nothing else.
         ensures compared { OnOk result (self.new.facts.compares ≡ raised self.old.facts.compares secret) }
@@ -229,10 +234,10 @@ impl<B: Board> Store<B> {
         noted(&mut self.failed, answer)
     }
 
-    /// Makes the current words the committed ones: the gate turns to 0.
+    /// Makes the current words the committed ones: the gate turns to 0, and that word alone decides.
     pub(crate) fn commit(&mut self) -> Result<(), StoreErr>
         ensures any_exit { (committed self.new ≡ committed self.old)
-            ⊎ ((committed self.new ≡ current self.old) × (gate self.new.facts.words ≡ 0)) }
+            ⊎ ((committed self.new ≡ current self.old) × TurnsGate (committed self.old) self.new) }
         ensures done { OnOk result (committed self.new ≡ current self.old) }
         ensures store { Changes 1 self.old self.new (result_err result) }
         ensures dark { IsErrOf result PowerLost → self.new.facts.dark ≡ true }
@@ -281,9 +286,10 @@ impl<B: Armed> Store<B> {
 }
 
 impl<B: Faultless> Store<B> {
-    /// Tells that the board counts no fault.
+    /// Tells that the board counts no fault, and that a cut is due where one is set.
     pub fn has_no_fault(&self)
-        ensures { self.now.facts.faults ≡ 0 }
+        ensures faults { self.now.facts.faults ≡ 0 }
+        ensures due { self.now.facts.due ≡ due_of self.now.facts.pending }
     {
         has_no_fault(&self.board);
     }

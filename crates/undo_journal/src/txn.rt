@@ -4,7 +4,8 @@ ghost use Rattle.std.specs.Prelude.{slice_set};
 ghost use Rattle.std.specs.Result.{result_err};
 ghost use Rattle.nvm_board.specs.Torn.{written};
 ghost use Rattle.undo_journal.specs.declared.error.StoreErr.TheVariants.{PowerLost};
-ghost use Rattle.undo_journal.specs.Undo.{gate, IsDataAddress, IsDataRun};
+ghost use Rattle.undo_journal.specs.Commits.{TurnsGate};
+ghost use Rattle.undo_journal.specs.Undo.{IsDataAddress, IsDataRun};
 ghost use Rattle.undo_journal.specs.Spending.{rollback_writes};
 ghost use Rattle.undo_journal.specs.Memory.{committed, current, room};
 
@@ -75,13 +76,15 @@ impl<B: Board> Txn<'_, B> {
         Ok(())
     }
 
-    /// Makes the current words lasting, in one device write: the gate turns to 0.
+    /// Makes the current words lasting, in one device write: the gate turns to 0. While that word is old the words before
+    /// stand, with it new these.
     ///
     /// # Errors
     /// The store's failure: power was lost, or the device failed, in this call or in an earlier one.
     pub fn commit(self) -> Result<(), StoreErr>
         ensures any_exit { (committed self.exit.0.now ≡ committed (memory_of self.entry))
-            ⊎ ((committed self.exit.0.now ≡ current (memory_of self.entry)) × (gate self.exit.0.now.facts.words ≡ 0)) }
+            ⊎ ((committed self.exit.0.now ≡ current (memory_of self.entry))
+            × TurnsGate (committed (memory_of self.entry)) self.exit.0.now) }
         ensures done { OnOk result (committed self.exit.0.now ≡ current (memory_of self.entry)) }
         ensures store { Changes 1 (memory_of self.entry) self.exit.0.now (result_err result) }
         ensures dark { IsErrOf result PowerLost → self.exit.0.now.facts.dark ≡ true }

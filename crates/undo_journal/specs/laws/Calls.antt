@@ -1,10 +1,11 @@
 -- Laws of calls in a row: reads, and the sets of a transaction.
 use Rattle.std.proofs.Common.{◌+◌, ◌≤◌, ℕ, refl, ◌∙◌, arith}
 use Rattle.nvm_board.specs.Facts.{Facts}
+use Rattle.nvm_board.specs.laws.Aims.{aims_same, aims_then}
 use Rattle.undo_journal.specs.declared.txn.Txn.{Txn}
 use Rattle.undo_journal.specs.Memory.{Memory}
 use Rattle.undo_journal.specs.laws.Memory.{reports_same, reports_then}
-use Rattle.undo_journal.specs.Spending.{KeepsBoard, WritesAtMost}
+use Rattle.undo_journal.specs.Spending.{Advances, KeepsBoard, WritesAtMost}
 use Rattle.undo_journal.specs.Calls.{OnlyReads, TxnReads, Sets}
 
 -- a board that is kept costs nothing
@@ -12,9 +13,51 @@ pub keeping_spends : (n : ℕ) (a b : Facts) → KeepsBoard a b → WritesAtMost
 keeping_spends n a b kept = record {
   writes = omega (arith, kept.writes);
   more = omega (arith, kept.writes);
+  cut = kept.cut;
   compares = kept.compares;
-  matches =
-      kept.matches;
+  matches = kept.matches;
+}
+
+-- a board that is kept, and kept on
+pub boards_then : (a b c : Facts) → KeepsBoard a b → KeepsBoard b c → KeepsBoard a c
+boards_then a b c first rest = record {
+  cut = aims_then a b c first.cut rest.cut;
+  words = rest.words ∙ first.words;
+  writes = rest.writes ∙ first.writes;
+  compares = rest.compares ∙ first.compares;
+  matches = rest.matches ∙ first.matches;
+}
+
+-- what is spent after a board was kept, and before it is
+pub spends_after : (n : ℕ) (a b c : Facts) → KeepsBoard a b → WritesAtMost n b c → WritesAtMost n a c
+spends_after n a b c kept costs = record {
+  writes = omega (arith, kept.writes, costs.writes);
+  more = omega (arith, kept.writes, costs.more);
+  cut = aims_then a b c kept.cut costs.cut;
+  compares = costs.compares ∙ kept.compares;
+  matches = costs.matches ∙ kept.matches;
+}
+
+pub spends_before : (n : ℕ) (a b c : Facts) → WritesAtMost n a b → KeepsBoard b c → WritesAtMost n a c
+spends_before n a b c costs kept = record {
+  writes = omega (arith, kept.writes, costs.writes);
+  more = omega (arith, kept.writes, costs.more);
+  cut = aims_then a b c costs.cut kept.cut;
+  compares = kept.compares ∙ costs.compares;
+  matches = kept.matches ∙ costs.matches;
+}
+
+-- what was written is counted on
+pub advances_by : (n : ℕ) (a b : Facts) → WritesAtMost n a b → Advances a b
+advances_by n a b costs = record { more = costs.more; cut = costs.cut }
+
+pub advances_kept : (a b : Facts) → KeepsBoard a b → Advances a b
+advances_kept a b kept = record { more = omega (arith, kept.writes); cut = kept.cut }
+
+pub advances_then : (a b c : Facts) → Advances a b → Advances b c → Advances a c
+advances_then a b c first rest = record {
+  more = omega (arith, first.more, rest.more);
+  cut = aims_then a b c first.cut rest.cut;
 }
 
 -- reads cost nothing
@@ -26,23 +69,19 @@ pub within_more : (n k : ℕ) (f g : Facts) → n ≤ k → WritesAtMost n f g �
 within_more n k f g fits costs = record {
   writes = omega (arith, fits, costs.writes);
   more = costs.more;
+  cut = costs.cut;
   compares = costs.compares;
   matches = costs.matches;
 }
 
 -- reads before cost nothing
 pub writes_after : (n : ℕ) (a b : Memory) (f : Facts) → OnlyReads a b → WritesAtMost n b.facts f → WritesAtMost n a.facts f
-writes_after n a b f reads costs = record {
-  writes = omega (arith, reads.board.writes, costs.writes);
-  more = omega (arith, reads.board.writes, costs.more);
-  compares = costs.compares ∙ reads.board.compares;
-  matches = costs.matches ∙ reads.board.matches;
-}
+writes_after n a b f reads costs = spends_after n a.facts b.facts f reads.board costs
 
 -- no read at all
 pub reads_same : (m : Memory) → OnlyReads m m
 reads_same m = record {
-  board = record { words = refl; writes = refl; compares = refl; matches = refl };
+  board = record { cut = aims_same m.facts; words = refl; writes = refl; compares = refl; matches = refl };
   keeps = record { committed_words = refl; current_words = refl; used = refl };
   reports = reports_same m;
 }
@@ -50,12 +89,7 @@ reads_same m = record {
 -- reads in a row
 pub reads_then : (a b c : Memory) → OnlyReads a b → OnlyReads b c → OnlyReads a c
 reads_then a b c first rest = record {
-  board = record {
-    words = rest.board.words ∙ first.board.words;
-    writes = rest.board.writes ∙ first.board.writes;
-    compares = rest.board.compares ∙ first.board.compares;
-    matches = rest.board.matches ∙ first.board.matches;
-  };
+  board = boards_then a.facts b.facts c.facts first.board rest.board;
   keeps = record {
     committed_words = rest.keeps.committed_words ∙ first.keeps.committed_words;
     current_words = rest.keeps.current_words ∙ first.keeps.current_words;
@@ -79,6 +113,7 @@ sets_then i k n a b c fits first rest = record {
   writes = record {
     writes = omega (arith, fits, first.writes.writes, rest.writes.writes);
     more = omega (arith, first.writes.more, rest.writes.more);
+    cut = aims_then _ _ _ first.writes.cut rest.writes.cut;
     compares = rest.writes.compares ∙ first.writes.compares;
     matches = rest.writes.matches ∙ first.writes.matches;
   };
@@ -91,12 +126,7 @@ reads_sets n a b reads = record {
   kept = reads.reads.keeps.committed_words;
   room = omega (arith, reads.reads.keeps.used);
   reports = reads.reads.reports;
-  writes = record {
-    writes = omega (arith, reads.reads.board.writes);
-    more = omega (arith, reads.reads.board.writes);
-    compares = reads.reads.board.compares;
-    matches = reads.reads.board.matches;
-  };
+  writes = keeping_spends _ _ _ reads.reads.board;
 }
 
 -- fewer sets are at most as many
@@ -109,6 +139,7 @@ sets_weaker i n a b fits sets = record {
   writes = record {
     writes = omega (arith, fits, sets.writes.writes);
     more = sets.writes.more;
+    cut = sets.writes.cut;
     compares = sets.writes.compares;
     matches = sets.writes.matches;
   };

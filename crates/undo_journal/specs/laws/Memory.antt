@@ -3,6 +3,7 @@ use Rattle.std.specs.Prelude.{Option, Some, None}
 use Rattle.std.proofs.Common.{◌≡◌, ◌+◌, ℕ, length, refl, sym, ◌∙◌, ap, subst, arith}
 use Rattle.std.proofs.Math.Logic.{⊎_map}
 use Rattle.nvm_board.specs.Facts.{Facts}
+use Rattle.nvm_board.specs.laws.Aims.{aims_then}
 use Rattle.undo_journal.specs.declared.error.StoreErr.{StoreErr}
 use Rattle.undo_journal.specs.declared.error.StoreErr.TheVariants.{PowerLost, Fault}
 use Rattle.undo_journal.specs.Undo.{undo}
@@ -25,6 +26,7 @@ pub writes_then : (i n : ℕ) (a b c : Facts) → WritesAtMost i a b → WritesA
 writes_then i n a b c first rest = record {
   writes = omega (arith, first.writes, rest.writes);
   more = omega (arith, first.more, rest.more);
+  cut = aims_then a b c first.cut rest.cut;
   compares = rest.compares ∙ first.compares;
   matches = rest.matches ∙ first.matches;
 }

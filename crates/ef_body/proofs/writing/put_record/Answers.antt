@@ -5,7 +5,7 @@ use Rattle.std.proofs.lemmas.Result.{on_ok_weaker}
 use Rattle.undo_journal.specs.Lent.{memory_of}
 use Rattle.undo_journal.specs.Memory.{Memory, committed, current, IsOpen}
 use Rattle.undo_journal.specs.laws.Exits.{on_error}
-use Rattle.undo_journal.specs.laws.Transactions.{begun, commits, stays}
+use Rattle.undo_journal.specs.laws.Transactions.{begun, by_gate, commits, not_committed, stays}
 use Rattle.undo_journal.specs.laws.Told.{spent, spent_failed}
 use Rattle.block_chain.specs.declared.layout.TheConstants.{BLOCK_BYTES}
 use Rattle.block_chain.specs.Chains.{chain_of, IsChain}
@@ -87,3 +87,15 @@ pub set_record-requires-clause-room : goal.set_record-requires-clause-room
 set_record-requires-clause-room g c =
     let most = touched_few c.args.offset (length c.args.bytes.now) c.requires.few in
     omega (arith, most, c.begin-txn.ensures.room)
+
+pub returns-in-Ok-clause-by_gate : goal.returns-in-Ok-clause-by_gate
+returns-in-Ok-clause-by_gate g c =
+    let sets = c.set_record.ensures.store.sets in
+    let last = c.store-1.given.1 (sym (sets.same_store ∙ c.begin-txn.ensures.same_store)) in
+    by_gate _ _ _ (memory_of c.set_record.new.txn) _ _ c.begin-txn.ensures.same last sets.kept c.commit.ensures.any_exit
+
+pub returns-in-Err-clause-by_gate : goal.returns-in-Err-clause-by_gate
+returns-in-Err-clause-by_gate g c =
+    let sets = c.set_record.ensures.store.sets in
+    let last = c.store-in-Err-1.given.1 (sym (sets.same_store ∙ c.begin-txn.ensures.same_store)) in
+    not_committed _ _ (memory_of c.set_record.new.txn) _ _ c.begin-txn.ensures.same last sets.kept c.abandon.ensures.kept

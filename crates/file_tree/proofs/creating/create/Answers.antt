@@ -5,7 +5,8 @@ use Rattle.std.proofs.Common.{◌≡◌, ℕ, List, length, take, Option, None, 
 use Rattle.std.proofs.Common.{⊎_elim, true≢false, refl}
 use Rattle.file_tree.specs.Changes.{SameTree}
 use Rattle.nvm_board.specs.declared.board.TheConstants.{WORDS}
-use Rattle.undo_journal.specs.Memory.{committed}
+use Rattle.undo_journal.specs.Memory.{Memory, committed}
+use Rattle.file_tree.specs.Adding.{AddsByGate}
 use Rattle.fcp_template.specs.declared.fcp.Fcp.{Fcp}
 use Rattle.fcp_template.specs.Ranges.{IsCreatable}
 use Rattle.fcp_template.specs.Views.{size_of_kind}
@@ -264,3 +265,42 @@ returns-in-Refused-clause-idle g c = λ status is. c.find_place.ensures.store.on
 
 pub returns-in_err-short-clause-idle : goal.returns-in_err-short-clause-idle
 returns-in_err-short-clause-idle g c = λ status is. reads_then _ _ _ c.find_place.ensures.store.only c.short_of.ensures.store.only
+
+-- where only reads were made nothing is added
+not_added : (old new : Memory) → TreeStands (committed old) → committed new ≡ committed old → AddsByGate old new
+not_added old new stands same = record {
+  filled = committed new;
+  tree = same_tree (committed old) (committed new) stands same;
+  gate = inl refl;
+}
+
+-- reads before a file is added
+added_after : (old mid new : Memory) → committed mid ≡ committed old → AddsByGate mid new → AddsByGate old new
+added_after old mid new same adds = record {
+  filled = adds.filled;
+  tree = subst (λ (l : List ℕ). SameTree l adds.filled) same adds.tree;
+  gate = adds.gate;
+}
+
+pub returns-in_err-entry-clause-by_gate : goal.returns-in_err-entry-clause-by_gate
+returns-in_err-entry-clause-by_gate g c =
+    not_added c.args.store.now _ c.requires.tree c.find_place.ensures.store.only.keeps.committed_words
+
+pub returns-in-Refused-clause-by_gate : goal.returns-in-Refused-clause-by_gate
+returns-in-Refused-clause-by_gate g c =
+    not_added c.args.store.now _ c.requires.tree c.find_place.ensures.store.only.keeps.committed_words
+
+pub returns-in_err-short-clause-by_gate : goal.returns-in_err-short-clause-by_gate
+returns-in_err-short-clause-by_gate g c =
+    not_added c.args.store.now _ c.requires.tree
+    (c.short_of.ensures.store.only.keeps.committed_words ∙ c.find_place.ensures.store.only.keeps.committed_words)
+
+pub returns-in_err-write_file-clause-by_gate : goal.returns-in_err-write_file-clause-by_gate
+returns-in_err-write_file-clause-by_gate g c =
+    added_after c.args.store.now c.short_of.new.store c.write_file.new.store
+    (c.short_of.ensures.store.only.keeps.committed_words ∙ c.find_place.ensures.store.only.keeps.committed_words) c.write_file.ensures.by_gate
+
+pub returns-clause-by_gate : goal.returns-clause-by_gate
+returns-clause-by_gate g c =
+    added_after c.args.store.now c.short_of.new.store c.write_file.new.store
+    (c.short_of.ensures.store.only.keeps.committed_words ∙ c.find_place.ensures.store.only.keeps.committed_words) c.write_file.ensures.by_gate

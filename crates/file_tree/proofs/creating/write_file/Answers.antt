@@ -1,4 +1,4 @@
-use Rattle.std.proofs.Common.{rules, ◌≡◌, ◌*◌, ℕ, List, length, take, replicate, sym, ◌∙◌, ap, subst, inl, inr, ⊎_elim}
+use Rattle.std.proofs.Common.{rules, ◌≡◌, ◌*◌, ℕ, List, length, take, replicate, sym, ◌∙◌, ap, subst, inl, inr, refl, ⊎_elim}
 use Rattle.std.proofs.Common.{lit<, arith}
 use Rattle.undo_journal.specs.Lent.{memory_of}
 use Rattle.undo_journal.specs.Memory.{committed, current, IsReady}
@@ -13,7 +13,7 @@ use Rattle.file_tree.specs.Table.{table, extents}
 use Rattle.file_tree.specs.CreationParts.{AddsFile, FillsAndAdds}
 use Rattle.file_tree.specs.laws.Rewriting.{filled}
 use Rattle.undo_journal.specs.laws.Exits.{on_then, on_error}
-use Rattle.undo_journal.specs.laws.Transactions.{stays}
+use Rattle.undo_journal.specs.laws.Transactions.{by_gate, not_committed, stays}
 use Rattle.file_tree.proofs.Transactions.{lasts, stays_or_lasts}
 use Rattle.undo_journal.specs.laws.Told.{changes_within, changes_handed, changes_on, spent, spent_failed}
 use Rattle.file_tree.proofs.creating.write_file.Goals as goal
@@ -116,3 +116,39 @@ pub returns-in_err-fill-clause-store : goal.returns-in_err-fill-clause-store
 returns-in_err-fill-clause-store g c =
     changes_handed _ _ _ _ _ c.from_residual.ensures.1
     (changes_within _ CREATE_WRITES _ _ _ (omega (arith, c.requires.few)) c.in_err-fill.ensures.store)
+
+pub returns-in_err-fill-clause-by_gate : goal.returns-in_err-fill-clause-by_gate
+returns-in_err-fill-clause-by_gate g c =
+    let m = committed c.args.store.now in
+    let sized = c.requires.ready.usable.committed_size in
+    record {
+      filled = committed c.fill.new.store;
+      tree = filled m (committed c.fill.new.store) _ sized c.requires.tree c.fill.ensures.any_exit;
+      gate = inl refl;
+    }
+
+pub returns-in-Ok-clause-by_gate : goal.returns-in-Ok-clause-by_gate
+returns-in-Ok-clause-by_gate g c =
+    let m = committed c.args.store.now in
+    let sized = c.requires.ready.usable.committed_size in
+    let sets = c.add_file.ensures.store.sets in
+    let last = c.store-1.given.1 (sym (sets.same_store ∙ c.begin-txn.ensures.same_store)) in
+    record {
+      filled = committed c.fill.new.store;
+      tree = filled m (committed c.fill.new.store) _ sized c.requires.tree c.fill.ensures.any_exit;
+      gate = by_gate _ c.fill.new.store _ (memory_of c.add_file.new.txn) _ _ c.begin-txn.ensures.same last sets.kept
+          c.commit.ensures.any_exit;
+    }
+
+pub returns-in-Err-clause-by_gate : goal.returns-in-Err-clause-by_gate
+returns-in-Err-clause-by_gate g c =
+    let m = committed c.args.store.now in
+    let sized = c.requires.ready.usable.committed_size in
+    let sets = c.add_file.ensures.store.sets in
+    let last = c.store-in-Err-1.given.1 (sym (sets.same_store ∙ c.begin-txn.ensures.same_store)) in
+    record {
+      filled = committed c.fill.new.store;
+      tree = filled m (committed c.fill.new.store) _ sized c.requires.tree c.fill.ensures.any_exit;
+      gate = not_committed c.fill.new.store _ (memory_of c.add_file.new.txn) _ _ c.begin-txn.ensures.same last sets.kept
+          c.abandon.ensures.kept;
+    }

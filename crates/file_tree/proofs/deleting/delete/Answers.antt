@@ -1,3 +1,4 @@
+use Rattle.undo_journal.specs.laws.Transactions.{by_gate_after}
 use Rattle.undo_journal.specs.laws.Exits.{none_ok}
 use Rattle.std.proofs.Common.{◌≡◌, List, length, ◌∙◌, ap, inl, inr, ⊎_elim}
 use Rattle.undo_journal.specs.Memory.{committed}
@@ -101,3 +102,16 @@ returns-in_err-remove-clause-store g c =
 pub returns-clause-store : goal.returns-clause-store
 returns-clause-store g c =
     changes_after _ _ _ _ _ c.removal_of.ensures.store.only c.in_ok-remove.ensures.store
+
+pub returns-in_err-removal-clause-by_gate : goal.returns-in_err-removal-clause-by_gate
+returns-in_err-removal-clause-by_gate g c = inl c.removal_of.ensures.store.only.keeps.committed_words
+
+pub returns-in_err-remove-clause-by_gate : goal.returns-in_err-remove-clause-by_gate
+returns-in_err-remove-clause-by_gate g c =
+    by_gate_after c.args.store.now c.removal_of.new.store c.remove.new.store
+    c.removal_of.ensures.store.only.keeps.committed_words c.remove.ensures.by_gate
+
+pub returns-clause-by_gate : goal.returns-clause-by_gate
+returns-clause-by_gate g c =
+    by_gate_after c.args.store.now c.removal_of.new.store c.remove.new.store
+    c.removal_of.ensures.store.only.keeps.committed_words c.remove.ensures.by_gate

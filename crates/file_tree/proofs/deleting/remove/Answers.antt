@@ -2,7 +2,7 @@ use Rattle.std.proofs.Common.{◌+◌, ◌*◌, length, sym, ◌∙◌, inl, ari
 use Rattle.undo_journal.specs.Lent.{memory_of}
 use Rattle.file_tree.specs.declared.layout.TheConstants.{DELETE_WRITES}
 use Rattle.undo_journal.specs.laws.Exits.{on_then, on_error}
-use Rattle.undo_journal.specs.laws.Transactions.{stays}
+use Rattle.undo_journal.specs.laws.Transactions.{by_gate, not_committed, stays}
 use Rattle.file_tree.proofs.Transactions.{lasts, stays_or_lasts}
 use Rattle.undo_journal.specs.laws.Told.{spent, spent_failed}
 use Rattle.file_tree.specs.DeletionParts.{Removes}
@@ -48,3 +48,15 @@ pub returns-in-Err-clause-done : goal.returns-in-Err-clause-done
 returns-in-Err-clause-done g c =
     on_error _ c.abandon.result c.in-Err.field-0 (sym c.abandon.ensures.store.tells ∙
     (c.abandon.ensures.store.reports.stuck c.in-Err.field-0 c.in-Err.ensures.store.tells).0)
+
+pub returns-in-Ok-clause-by_gate : goal.returns-in-Ok-clause-by_gate
+returns-in-Ok-clause-by_gate g c =
+    let sets = c.take_away.ensures.store.sets in
+    let last = c.store-1.given.1 (sym (sets.same_store ∙ c.begin-txn.ensures.same_store)) in
+    by_gate _ _ _ (memory_of c.take_away.new.txn) _ _ c.begin-txn.ensures.same last sets.kept c.commit.ensures.any_exit
+
+pub returns-in-Err-clause-by_gate : goal.returns-in-Err-clause-by_gate
+returns-in-Err-clause-by_gate g c =
+    let sets = c.take_away.ensures.store.sets in
+    let last = c.store-in-Err-1.given.1 (sym (sets.same_store ∙ c.begin-txn.ensures.same_store)) in
+    not_committed _ _ (memory_of c.take_away.new.txn) _ _ c.begin-txn.ensures.same last sets.kept c.abandon.ensures.kept

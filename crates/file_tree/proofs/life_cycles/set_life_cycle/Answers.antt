@@ -15,6 +15,7 @@ use Rattle.file_tree.specs.Trees.{tree_of, TreeStands}
 use Rattle.file_tree.specs.Parts.{TellsLife}
 use Rattle.file_tree.specs.laws.Nodes.{used_small}
 use Rattle.file_tree.specs.laws.Living.{life_written, life_changed, life_stays, byte_of_state}
+use Rattle.undo_journal.specs.laws.Transactions.{by_gate_after}
 use Rattle.undo_journal.specs.laws.Told.{changes_after, reads_change, changes_handed}
 use Rattle.file_tree.proofs.life_cycles.set_life_cycle.Goals as goal
 
@@ -126,3 +127,14 @@ write_word-requires-clause-ready g c = c.in_ok-entry.ensures.store.ready
 pub returns-clause-store : goal.returns-clause-store
 returns-clause-store g c =
     changes_after _ _ _ _ _ c.read_entry.ensures.store.only c.write_word.ensures.store
+
+pub returns-in_err-entry-clause-by_gate : goal.returns-in_err-entry-clause-by_gate
+returns-in_err-entry-clause-by_gate g c = inl c.read_entry.ensures.store.only.keeps.committed_words
+
+pub returns-then-entry-life-clause-by_gate : goal.returns-then-entry-life-clause-by_gate
+returns-then-entry-life-clause-by_gate g c = inl c.read_entry.ensures.store.only.keeps.committed_words
+
+pub returns-clause-by_gate : goal.returns-clause-by_gate
+returns-clause-by_gate g c =
+    by_gate_after c.args.store.now c.read_entry.new.store c.write_word.new.store
+    c.read_entry.ensures.store.only.keeps.committed_words c.write_word.ensures.by_gate

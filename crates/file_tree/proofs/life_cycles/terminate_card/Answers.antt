@@ -11,3 +11,6 @@ returns-clause-any_exit g c = c.write_word.ensures.any_exit
 
 pub returns-clause-done : goal.returns-clause-done
 returns-clause-done g c = c.write_word.ensures.done
+
+pub returns-clause-by_gate : goal.returns-clause-by_gate
+returns-clause-by_gate g c = c.write_word.ensures.by_gate

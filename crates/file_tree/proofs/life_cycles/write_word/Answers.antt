@@ -1,7 +1,7 @@
 use Rattle.std.proofs.Common.{◌≡◌, slice_set, sym, ◌∙◌, inl, lit<}
 use Rattle.undo_journal.specs.Lent.{memory_of}
 use Rattle.undo_journal.specs.laws.Exits.{on_then, on_error}
-use Rattle.undo_journal.specs.laws.Transactions.{stays}
+use Rattle.undo_journal.specs.laws.Transactions.{by_gate, not_committed, stays}
 use Rattle.file_tree.proofs.Transactions.{lasts, stays_or_lasts}
 use Rattle.undo_journal.specs.laws.Told.{spent, spent_failed}
 use Rattle.file_tree.proofs.life_cycles.write_word.Goals as goal
@@ -43,3 +43,15 @@ pub returns-in-Err-clause-done : goal.returns-in-Err-clause-done
 returns-in-Err-clause-done g c =
     on_error _ c.abandon.result c.in-Err.field-0 (sym c.abandon.ensures.store.tells ∙
     (c.abandon.ensures.store.reports.stuck c.in-Err.field-0 c.in-Err.ensures.store.tells).0)
+
+pub returns-in-Ok-clause-by_gate : goal.returns-in-Ok-clause-by_gate
+returns-in-Ok-clause-by_gate g c =
+    let sets = c.set.ensures.store.sets in
+    let last = c.store-1.given.1 (sym (sets.same_store ∙ c.begin-txn.ensures.same_store)) in
+    by_gate _ _ _ (memory_of c.set.new.self) _ _ c.begin-txn.ensures.same last sets.kept c.commit.ensures.any_exit
+
+pub returns-in-Err-clause-by_gate : goal.returns-in-Err-clause-by_gate
+returns-in-Err-clause-by_gate g c =
+    let sets = c.set.ensures.store.sets in
+    let last = c.store-in-Err-1.given.1 (sym (sets.same_store ∙ c.begin-txn.ensures.same_store)) in
+    not_committed _ _ (memory_of c.set.new.self) _ _ c.begin-txn.ensures.same last sets.kept c.abandon.ensures.kept

@@ -4,7 +4,7 @@ use Rattle.undo_journal.specs.Lent.{memory_of}
 use Rattle.undo_journal.specs.Memory.{Memory, committed, IsOpen}
 use Rattle.pin_store.specs.Pins.{owner}
 use Rattle.pin_store.specs.Renewals.{renewal_sets, renewal_writes, renewed_pin}
-use Rattle.undo_journal.specs.laws.Transactions.{commits, stays}
+use Rattle.undo_journal.specs.laws.Transactions.{by_gate, commits, not_committed, stays}
 use Rattle.pin_store.specs.Pages.{pin_at, SetsPin}
 use Rattle.undo_journal.specs.laws.Exits.{on_then, on_error}
 use Rattle.undo_journal.specs.laws.Told.{spent, spent_failed}
@@ -63,3 +63,15 @@ set_renewed-requires-clause-ready g c =
 
 pub set_renewed-requires-clause-room : goal.set_renewed-requires-clause-room
 set_renewed-requires-clause-room g c = omega (arith, c.begin-txn.ensures.room)
+
+pub returns-in-Ok-clause-by_gate : goal.returns-in-Ok-clause-by_gate
+returns-in-Ok-clause-by_gate g c =
+    let sets = c.set_renewed.ensures.store.sets in
+    let last = c.store-1.given.1 (sym (sets.same_store ∙ c.begin-txn.ensures.same_store)) in
+    by_gate _ _ _ (memory_of c.set_renewed.new.txn) _ _ c.begin-txn.ensures.same last sets.kept c.commit.ensures.any_exit
+
+pub returns-in-Err-clause-by_gate : goal.returns-in-Err-clause-by_gate
+returns-in-Err-clause-by_gate g c =
+    let sets = c.set_renewed.ensures.store.sets in
+    let last = c.store-in-Err-1.given.1 (sym (sets.same_store ∙ c.begin-txn.ensures.same_store)) in
+    not_committed _ _ (memory_of c.set_renewed.new.txn) _ _ c.begin-txn.ensures.same last sets.kept c.abandon.ensures.kept

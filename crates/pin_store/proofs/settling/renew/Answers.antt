@@ -4,6 +4,7 @@ use Rattle.pin_store.specs.Trials.{pin_in}
 use Rattle.pin_store.specs.laws.AllPins.{renewed_pages}
 use Rattle.pin_store.proofs.Settled.{pages_stay, compares_more, compares_renewal, match_told, matched_sets}
 use Rattle.pin_store.proofs.Settled.{matched_sets_or_not, end_told}
+use Rattle.undo_journal.specs.laws.Transactions.{by_gate_after}
 use Rattle.undo_journal.specs.laws.Told.{leaves_on, leaves_handed, changes_leave}
 use Rattle.pin_store.proofs.settling.renew.Goals as goal
 
@@ -81,3 +82,7 @@ returns-in_default-clause-pages g c = pages_stay _ _ c.compare.ensures.kept c.re
 
 pub returns-in_default-clause-spends : goal.returns-in_default-clause-spends
 returns-in_default-clause-spends g c = compares_more (renewal_writes c.args.charged) _ _ _ c.compare.ensures.spends
+
+pub returns-in_err-put_renewed-clause-by_gate : goal.returns-in_err-put_renewed-clause-by_gate
+returns-in_err-put_renewed-clause-by_gate g c =
+    by_gate_after c.args.store.now c.compare.new.store c.put_renewed.new.store c.compare.ensures.kept c.put_renewed.ensures.by_gate

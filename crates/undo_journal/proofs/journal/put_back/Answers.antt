@@ -3,6 +3,7 @@ use Rattle.std.proofs.Math.Logic.{⊎_map}
 use Rattle.std.proofs.lemmas.Result.{on_ok_weaker}
 use Rattle.undo_journal.specs.declared.layout.TheConstants.{JOURNAL}
 use Rattle.undo_journal.specs.Undo.{pair_at}
+use Rattle.nvm_board.specs.laws.Aims.{aims_then}
 use Rattle.undo_journal.proofs.Telling.{answered_err, answered_after, steady_then}
 use Rattle.undo_journal.proofs.journal.put_back.Goals as goal
 
@@ -48,6 +49,19 @@ returns-clause-writes g c =
     record {
       writes = omega (arith, cost.writes, second.writes, first.writes);
       more = omega (arith, cost.more, second.writes, first.writes);
+      cut = aims_then _ _ _ (aims_then _ _ _ first.cut second.cut) cost.cut;
       compares = cost.compares ∙ second.compares ∙ first.compares;
       matches = cost.matches ∙ second.matches ∙ first.matches;
+    }
+
+pub returns-in_err-earlier-clause-writes : goal.returns-in_err-earlier-clause-writes
+returns-in_err-earlier-clause-writes g c =
+    let first = c.in_ok-at.ensures in
+    let second = c.in_err-earlier.ensures in
+    record {
+      writes = omega (arith, second.writes, first.writes);
+      more = omega (arith, second.writes, first.writes);
+      cut = aims_then _ _ _ first.cut second.cut;
+      compares = second.compares ∙ first.compares;
+      matches = second.matches ∙ first.matches;
     }

@@ -1,4 +1,5 @@
 use Rattle.std.proofs.Common.{◌≡◌, ◌-◌, ◌<◌, suc, true, arith, sym, ap, ◌∙◌, refl, length, ℕ}
+use Rattle.nvm_board.specs.laws.Aims.{aims_same, aims_then}
 use Rattle.undo_journal.specs.declared.layout.TheConstants.{GATE}
 use Rattle.undo_journal.specs.Undo.{gate}
 use Rattle.undo_journal.specs.laws.Undo.{undo_shut}
@@ -22,6 +23,7 @@ loop-left-init g c =
       so_far = sym (ap (λ (i : ℕ). put_back_from m i) (sym c.requires.counts) ∙ put_back-none m c.requires.sound);
       writes = omega arith;
       more = omega arith;
+      cut = aims_same _;
       compares = refl;
       matches = refl;
     }
@@ -53,6 +55,7 @@ loop-left-preserved g c =
           c.in_ok-put_back.ensures.done;
       writes = omega (arith, cost.writes, kept.writes);
       more = omega (arith, cost.more, kept.more);
+      cut = aims_then _ _ _ kept.cut cost.cut;
       compares = cost.compares ∙ kept.compares;
       matches = cost.matches ∙ kept.matches;
     }

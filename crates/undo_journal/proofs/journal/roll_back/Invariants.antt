@@ -1,4 +1,5 @@
 use Rattle.std.proofs.Common.{◌≡◌, ◌+◌, ◌≤◌}
+use Rattle.nvm_board.specs.Aims.{AimsOn}
 use Rattle.nvm_board.specs.Facts.{Steady}
 use Rattle.undo_journal.proofs.Restore.{put_back_from}
 use Rattle.undo_journal.proofs.journal.roll_back.Given as goal
@@ -10,6 +11,7 @@ invariant-loop-left g l = let first = g.B.Board.facts l.initial.board in let now
   so_far : now.words ≡ put_back_from first.words l.left;
   writes : now.writes + l.left ≤ first.writes + l.count;
   more : first.writes ≤ now.writes;
+  cut : AimsOn first now;
   compares : now.compares ≡ first.compares;
   matches : now.matches ≡ first.matches;
 }

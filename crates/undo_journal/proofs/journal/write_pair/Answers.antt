@@ -25,7 +25,7 @@ returns-clause-torn g c =
 
 pub returns-clause-writes : goal.returns-clause-writes
 returns-clause-writes g c =
-    let done = c.write.ensures in write_costs _ _ _ done.counted done.counted_err done.compares done.matches
+    let done = c.write.ensures in write_costs _ _ _ done.cut done.counted done.counted_err done.compares done.matches
 
 pub returns-clause-light : goal.returns-clause-light
 returns-clause-light g c = c.write.ensures.light

@@ -1,10 +1,10 @@
-use Rattle.std.proofs.Common.{◌<◌, List, ℕ, length, refl, ap, ◌∙◌, arith}
+use Rattle.std.proofs.Common.{◌<◌, List, ℕ, length, slice_set, refl, ap, ◌∙◌, arith}
 use Rattle.std.proofs.Math.Logic.{⊎_map}
 use Rattle.undo_journal.specs.declared.layout.TheConstants.{GATE}
 use Rattle.undo_journal.specs.Undo.{gate, undo, data_words}
 use Rattle.undo_journal.specs.Memory.{Memory, committed, current}
 use Rattle.undo_journal.proofs.Saving.{gate-shut}
-use Rattle.undo_journal.proofs.Lasting.{gate-commits, commit-sound}
+use Rattle.undo_journal.proofs.Lasting.{gate-commits, commit-sound, set-back}
 use Rattle.std.proofs.lemmas.Result.{on_ok_weaker}
 use Rattle.undo_journal.proofs.Noted.{on_ok, on_dark, stuck, noted-true, noted-changes}
 use Rattle.undo_journal.proofs.store.Store.commit.Goals as goal
@@ -31,7 +31,15 @@ returns-clause-any_exit g c =
     let within : GATE < length words = omega (arith, g.met.B.Board.sized c.self.inside.board) in
     ⊎_map
     (λ old. ap (λ (l : List ℕ). data_words (undo l)) old ∙ ap committed c.self.view_is)
-    (λ new. (gate-commits words _ within new ∙ ap current c.self.view_is, ap gate new ∙ gate-shut words within))
+    (λ new. (
+      gate-commits words _ within new ∙ ap current c.self.view_is,
+      record {
+        shut = ap gate new ∙ gate-shut words within;
+        pairs = gate words;
+        former = ap (λ (l : List ℕ). data_words (undo (slice_set l GATE (gate words)))) new
+            ∙ ap (λ (l : List ℕ). data_words (undo l)) (set-back words GATE 0 within) ∙ ap committed c.self.view_is;
+      },
+    ))
     c.write_gate-answer.ensures.torn
 
 pub returns-clause-done : goal.returns-clause-done

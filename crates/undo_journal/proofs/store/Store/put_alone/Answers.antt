@@ -1,7 +1,8 @@
 use Rattle.std.proofs.Common.{◌+◌, refl, sym, ap, ◌∙◌, arith}
-use Rattle.undo_journal.specs.Undo.{IsDataAddress}
+use Rattle.undo_journal.specs.Undo.{gate, IsDataAddress}
 use Rattle.undo_journal.specs.Memory.{Memory}
 use Rattle.undo_journal.proofs.Lasting.{unused-within, place-within, one-gate, one-sound, one-torn, one-written}
+use Rattle.std.proofs.Math.Logic.{⊎_elim}
 use Rattle.std.proofs.lemmas.Result.{on_ok_weaker}
 use Rattle.undo_journal.proofs.Noted.{on_ok, on_dark, stuck, noted-true, noted-changes}
 use Rattle.undo_journal.proofs.store.Store.put_alone.Goals as goal
@@ -59,3 +60,11 @@ pub returns-clause-counted : goal.returns-clause-counted
 returns-clause-counted g c =
     on_ok _ _ c.noted.ensures.answer _ _
     (λ counted. counted ∙ ap (λ (m : Memory). m.facts.writes + 1) c.self.view_is) c.write_word-answer.ensures.counted
+
+pub returns-clause-shut : goal.returns-clause-shut
+returns-clause-shut g c = λ shut.
+    let works = c.in_ok-check.ensures.ready.works in
+    let within = ap (λ (m : Memory). gate m.facts.words) c.self.view_is ∙ shut in
+    ⊎_elim (λ old. ap gate old ∙ within)
+    (λ new. one-gate _ _ c.self.view_is c.self.invariant works c.requires.idle c.args.at c.args.word c.requires.place _ new)
+    c.write_word-answer.ensures.torn

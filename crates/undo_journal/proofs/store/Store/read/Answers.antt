@@ -52,7 +52,14 @@ returns-clause-reads g c =
     let kept = c.read-answer.ensures in
     noted-reads _ _ _ c.self.view_is c.self.invariant c.in_ok-check.ensures.ready.works _ _ c.noted.ensures.answer
     c.noted.ensures.failed kept.light
-    (record { words = kept.words; writes = kept.writes; compares = kept.compares; matches = kept.matches }) refl
+    (record {
+      cut = kept.cut;
+      words = kept.words;
+      writes = kept.writes;
+      compares = kept.compares;
+      matches = kept.matches;
+    })
+    refl
 
 pub returns-clause-tells : goal.returns-clause-tells
 returns-clause-tells g c =

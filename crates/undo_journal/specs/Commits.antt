@@ -1,0 +1,19 @@
+-- Which word commits a transaction: the gate, turned to 0.
+use Rattle.std.specs.Prelude.{◌≡◌, ◌⊎◌, ℕ, List, slice_set}
+use Rattle.undo_journal.specs.declared.layout.TheConstants.{GATE}
+use Rattle.undo_journal.specs.Memory.{Memory, committed}
+use Rattle.undo_journal.specs.Undo.{gate, undo, data_words}
+
+-- The gate was turned to 0, and that word alone made the change: were it still so many pairs, the words before would stand.
+pub record TurnsGate (before : List ℕ) (new : Memory) : Type 0 where
+  pub shut : gate new.facts.words ≡ 0
+  pub pairs : ℕ
+  pub former : data_words (undo (slice_set new.facts.words GATE pairs)) ≡ before
+
+-- What at most one transaction leaves: the words that were committed before; or others, and then by its gate alone.
+abbrev pub CommitsByGate : Memory → Memory → Type 0
+CommitsByGate old new = (committed new ≡ committed old) ⊎ TurnsGate (committed old) new
+
+-- where no pair counts none does afterwards
+abbrev pub StaysShut : Memory → Memory → Type 0
+StaysShut old new = gate old.facts.words ≡ 0 → gate new.facts.words ≡ 0
