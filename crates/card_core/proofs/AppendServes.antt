@@ -9,6 +9,7 @@ use Rattle.card_rules.specs.declared.status.Sw.{Sw}
 use Rattle.card_rules.specs.declared.status.TheConstants.Sw.{DONE}
 use Rattle.undo_journal.specs.declared.error.StoreErr.{StoreErr}
 use Rattle.undo_journal.specs.Calls.{Changes, OnlyReads}
+use Rattle.undo_journal.specs.Commits.{CommitsByGate}
 use Rattle.undo_journal.specs.Memory.{Memory, committed, IsReady}
 use Rattle.apdu_core.specs.Requests.{append_record}
 use Rattle.apdu_core.specs.declared.binary.Target.{Target}
@@ -72,11 +73,11 @@ module _ (old mid new : Memory) (ready : IsReady old) (words : IsCard (committed
     put-are = λ i. appended_in (same i) body bytes
 
     module _ (any_exit : (committed new ≡ committed mid) ⊎ BodyBecomes (committed mid) body put (committed new))
-        (told : Option StoreErr) (changes : Changes RECORD_WRITES mid new told) where
+        (by_gate : CommitsByGate mid new) (told : Option StoreErr) (changes : Changes RECORD_WRITES mid new told) where
       pub appended-torn : (r : Result Sw StoreErr) (error : StoreErr) → IsErrAnd r (λ f. f ≡ error) → told ≡ Some error
           → Serves (append_record target bytes) old x new x [] r
       appended-torn =
-          records-torn old mid new ready words x current target need e body _ records puts reads put put-are any_exit told
+          records-torn old mid new ready words x current target need e body _ records puts reads put put-are any_exit by_gate told
           changes [] (omega arith)
 
       pub appended-done : BodyBecomes (committed mid) body put (committed new) → IsReady new → (number : ℕ)
@@ -85,11 +86,11 @@ module _ (old mid new : Memory) (ready : IsReady old) (words : IsCard (committed
       appended-done becomes ready_now number number_is =
           subst (λ (k : ℕ). Serves (append_record target bytes) old x new (pointing_from x target e (Some k)) [] (Ok
           DONE)) (sym number_is)
-          (records-made old mid new ready words x current target need e body _ records puts reads put put-are any_exit told
+          (records-made old mid new ready words x current target need e body _ records puts reads put put-are any_exit by_gate told
           changes becomes ready_now (Some (number_added_in body)) [] (omega arith)
           (append-effect m sized words x target _ e body found.file bytes found.file.named.unrefused))
 
       pub appended-space : BodyBecomes (committed mid) body put (committed new) → space_in new ≡ space_in old
       appended-space =
-          records-space old mid new ready words x current target need e body _ records puts reads put put-are any_exit told
+          records-space old mid new ready words x current target need e body _ records puts reads put put-are any_exit by_gate told
           changes

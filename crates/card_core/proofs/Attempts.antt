@@ -1,6 +1,6 @@
 -- An attempt, by the kinds of its exits: a charge that stopped; no try that is left; a comparison that stopped, or what became of
 -- the PIN; and what was shown wrong, or right.
-use Rattle.std.proofs.Common.{◌≡◌, ◌≢◌, ◌⊎◌, ◌<◌, ◌≤◌, ◌+◌, ◌-◌, ◌==◌, ℕ, Bool, true, false, List, [], ◌∷◌, length, Contains}
+use Rattle.std.proofs.Common.{◌≡◌, ◌≢◌, ◌⊎◌, ◌<◌, ◌≤◌, ◌+◌, ◌-◌, ◌==◌, ◌&&◌, not, ℕ, Bool, true, false, List, [], ◌∷◌, length, Contains}
 use Rattle.std.proofs.Common.{slice_index, slice_set, Option, Some, None, Ok, Err, if◌then◌else◌, refl, sym, ◌∙◌, ap, subst, arith, inl, inr}
 use Rattle.std.proofs.Common.{⊎_elim}
 use Rattle.std.proofs.lemmas.Bool.{cases_eq, ne_eqb, eq-eqb}
@@ -17,6 +17,9 @@ use Rattle.card_rules.specs.declared.status.TheConstants.Sw.{DONE, METHOD_BLOCKE
 use Rattle.card_rules.specs.Pins.{IsPinNumber, with_pin, without_pin}
 use Rattle.undo_journal.specs.declared.error.StoreErr.{StoreErr}
 use Rattle.undo_journal.specs.Calls.{OnlyReads, Reads}
+use Rattle.undo_journal.specs.Commits.{CommitsByGate, StaysShut}
+use Rattle.undo_journal.specs.Undo.{gate}
+use Rattle.undo_journal.specs.laws.Calls.{advances_by, advances_then}
 use Rattle.undo_journal.specs.Memory.{Memory, committed, IsReady, Reports}
 use Rattle.undo_journal.specs.Spending.{WritesAtMost}
 use Rattle.undo_journal.specs.laws.Memory.{reports_then}
@@ -35,11 +38,12 @@ use Rattle.card_core.specs.Counting.{CountsAttempt, CountsServed, CountsShown}
 use Rattle.card_core.specs.Outcomes.{refused, refused_by}
 use Rattle.card_core.specs.Pins.{Attempt, attempt_commits, attempt_refusals, attempted, attempted_as, charged_card, is_right}
 use Rattle.card_core.specs.Pins.{changing, no_refusals, pin_of, resetting, settled_card, told_tries, tries_of, tries_told}
-use Rattle.card_core.specs.Pins.{unblocking_of, unverified, value_of, verifying, with_pin_of}
+use Rattle.card_core.specs.Words.{StandsByWord, StandsServed, commits_alone, commits_gated}
+use Rattle.card_core.specs.Pins.{tries_commits, value_commits, unblocking_of, unverified, value_of, verifying, with_pin_of}
 use Rattle.card_core.specs.Served.{IsDoing, Serves}
 use Rattle.card_core.specs.Sessions.{Session, marked}
 use Rattle.card_core.specs.Spending.{most_writes}
-use Rattle.card_core.specs.Stages.{commits}
+use Rattle.card_core.specs.Stages.{commits, commits_unless}
 use Rattle.card_core.specs.Standing.{card_of, IsCard}
 use Rattle.card_core.specs.Steps.{effect, refusals_of, served}
 use Rattle.card_core.specs.Working.{card_in, end_of_attempt, outcome, session_in, session_of, table_in, tried_from, IsCurrent}
@@ -48,7 +52,13 @@ use Rattle.card_core.proofs.Guarding.{served-done, served-refused}
 use Rattle.card_core.proofs.PinCards.{pin-is, pin-set, pin-stands, pin-table}
 use Rattle.card_core.proofs.Serves.{counts-none, declined, stopped, torn, written}
 use Rattle.card_core.proofs.Stopping.{err-is}
+use Rattle.card_core.proofs.Words.{Went, stands-alone, stands-gated, went-reads}
 use Rattle.card_core.proofs.Verified.{marked-with, marked-without}
+
+-- what the end of an attempt leaves of the gate: where a new value is set it alone commits, else it stays shut
+abbrev pub EndsByWord : Bool → Memory → Memory → Type 0
+EndsByWord true b e = CommitsByGate b e
+EndsByWord false b e = StaysShut b e
 
 -- a request that shows a secret of a PIN, and what comes of it
 pub record IsAttempt (request : Request) (a : Attempt) : Type 0 where
@@ -191,17 +201,45 @@ module _ (request : Request) (a : Attempt) (asks : IsAttempt request a) (old : M
     λ i. record { compares = reads.board.compares i; matches = reads.board.matches i },
   )
 
+  -- which card stands by the word, where the attempt isn't refused
+  stood : (m : List ℕ) → 0 < tries_left a.secret was → StandsByWord c (tries_commits c a) (value_commits c a) m
+      → StandsServed c s request m
+  stood m some stands =
+      subst (λ (verdict : Option Sw). StandsByWord c (commits_unless verdict (commits_alone c (attempt_of request)))
+      (commits_unless verdict (commits_gated c (attempt_of request) (commits c s request))) m) (sym (unrefused some))
+      (subst (λ (o : Option Attempt). StandsByWord c (commits_alone c o) (commits_gated c o (commits c s request)) m)
+      (sym asks.shows) stands)
+
+  -- after the charge, or before it
+  went-charge : (b : Memory) → (committed b ≡ committed old) ⊎ Charges a.secret old b
+      → (tries_left a.secret was ≡ 0 → OnlyReads old b) → WritesAtMost 1 old.facts b.facts → StaysShut old b
+      → Went request old x b
+  went-charge b exit kept spends stays =
+      ⊎_elim (λ none. went-reads request old x b (kept none))
+      (λ other.
+      let some : 0 < tries_left a.secret was = omega (arith, other) in (
+        advances_by 1 old.facts b.facts spends,
+        λ shut. stood b.facts.words some (stands-alone c (tries_commits c a) (value_commits c a) b.facts.words (stays shut)
+            (among-tries exit)),
+      ))
+      (cases_eq (tries_left a.secret was) 0)
+    where
+      among-tries : (committed b ≡ committed old) ⊎ Charges a.secret old b → Contains (c ∷ tries_commits c a) (card_in b)
+      among-tries (inl same) = (0, omega arith, sym (ap card_of same))
+      among-tries (inr charges) = (1, omega arith, sym (charged-card b charges))
+
   -- the charge stopped
   pub exit-charge : (b : Memory) (e : StoreErr) → (committed b ≡ committed old) ⊎ Charges a.secret old b
       → (tries_left a.secret was ≡ 0 → OnlyReads old b) → ArePinPages (committed b) → Reports old b → b.failed ≡ Some e
-      → WritesAtMost 1 old.facts b.facts → b.facts.writes ≤ old.facts.writes + most_writes request
+      → WritesAtMost 1 old.facts b.facts → StaysShut old b → b.facts.writes ≤ old.facts.writes + most_writes request
       → Serves request old x b x [] (Err e)
-  exit-charge b e exit kept pages reports failed spends writes =
+  exit-charge b e exit kept pages reports failed spends stays writes =
       let law = charge_keeps_law a.secret a.shown old b exit spends in
       let size = charged-size b exit in
       torn request old x b x [] e
       (idle b kept (λ some. doing (card_in b) some (charged-stage b exit)))
       (exit-card b size pages law) reports failed (omega arith) writes
+      (went-charge b exit kept spends stays)
       (exit-compares b size pages law (λ none. reads-told b (kept none)))
 
   -- after the charge
@@ -251,8 +289,8 @@ module _ (request : Request) (a : Attempt) (asks : IsAttempt request a) (old : M
     -- an end, whatever it was
     module _ (e : Memory) (n : ℕ) (ends : IsEnd a.secret (pin_in b a.secret) (a.becomes (pin_in b a.secret)))
         (costs : WritesAtMost 1 old.facts b.facts) (spends : ComparesOnce n a.secret b.facts e.facts)
-        (pages : ArePinPages (committed e)) (reports : Reports old e)
-        (writes : e.facts.writes ≤ old.facts.writes + most_writes request)
+        (pages : ArePinPages (committed e)) (reports : Reports old e) (stays : StaysShut old b)
+        (word : EndsByWord a.renews b e) (writes : e.facts.writes ≤ old.facts.writes + most_writes request)
         (exit : (committed e ≡ committed b) ⊎ SetsByMatch a.secret a.shown (a.becomes (pin_in b a.secret)) b e) where
       law-end : KeepsPinLaw a.secret a.shown old e
       law-end = end_keeps_law n a.secret a.shown _ old b e ends charges costs exit spends
@@ -260,13 +298,33 @@ module _ (request : Request) (a : Attempt) (asks : IsAttempt request a) (old : M
       stage-end : OnlyReads old e ⊎ IsDoing c s request (card_in e)
       stage-end = inr (doing (card_in e) charges.left (ended-stage e exit))
 
+      -- which card stands by the word
+      stand : (renews right : Bool) → EndsByWord renews b e → gate old.facts.words ≡ 0
+          → Contains (c ∷ charged_card c a ∷ (if right then settled_card c a ∷ [] else [])) (card_in e)
+          → StandsByWord c (charged_card c a ∷ (if right && not renews then settled_card c a ∷ [] else []))
+          (if right && renews then settled_card c a ∷ [] else []) e.facts.words
+      stand false true shuts shut card = stands-alone c _ _ e.facts.words (shuts (stays shut)) card
+      stand false false shuts shut card = stands-alone c _ _ e.facts.words (shuts (stays shut)) card
+      stand true true exits shut card =
+          stands-gated c (charged_card c a ∷ []) (settled_card c a ∷ []) (committed b) e (charged-card b charges) exits card
+      stand true false exits shut card =
+          stands-gated c (charged_card c a ∷ []) [] (committed b) e (charged-card b charges) exits card
+
+      went-end : Went request old x e
+      went-end = (
+        advances_then old.facts b.facts e.facts (advances_by 1 old.facts b.facts costs)
+            (record { more = spends.more; cut = spends.cut }),
+        λ shut. stood e.facts.words charges.left
+            (stand a.renews (is_right c a) word shut (ended-stage e exit)),
+      )
+
       compares-end : ComparesBy request c (comparisons old.facts) (card_in e) (comparisons e.facts)
       compares-end = exit-compares e (ended-size e exit) pages law-end never
 
       -- the end stopped
       pub exit-end : (err : StoreErr) → e.failed ≡ Some err → Serves request old x e x [] (Err err)
       exit-end err failed = torn request old x e x [] err stage-end (exit-card e (ended-size e exit) pages law-end) reports
-          failed (omega arith) writes compares-end
+          failed (omega arith) writes went-end compares-end
 
       abbrev y : AttemptEnd → Current
       y end = tried_from x a.pin a.unverifies end
@@ -357,7 +415,7 @@ module _ (request : Request) (a : Attempt) (asks : IsAttempt request a) (old : M
       exit-done end done ready charge =
           written request old x e (counts-end charge end done) (y end) [] (end_of_attempt end) stage-end
           (exit-card e (ended-size e exit) pages law-end)
-          reports ready (current-end end) (omega arith) writes compares-end (step-end end done)
+          reports ready (current-end end) (omega arith) writes went-end compares-end (step-end end done)
 
 -- The exits as the calls tell them: of so many writes after the charge.
 module _ (request : Request) (a : Attempt) (asks : IsAttempt request a) (n : ℕ) (most : most_writes request ≡ 1 + n)
@@ -370,12 +428,12 @@ module _ (request : Request) (a : Attempt) (asks : IsAttempt request a) (n : ℕ
     pub charge-torn : (b : Memory) (r : Result Sw StoreErr) (err : StoreErr) → IsErrAnd r (λ f. f ≡ err)
         → (committed b ≡ committed old) ⊎ Charges a.secret old b
         → (tries_left a.secret (pin_in old a.secret) ≡ 0 → OnlyReads old b) → ArePinPages (committed b) → Reports old b
-        → b.failed ≡ Some err → WritesAtMost 1 old.facts b.facts → Serves request old x b x [] r
-    charge-torn b r err is exit kept pages reports failed spends =
+        → b.failed ≡ Some err → WritesAtMost 1 old.facts b.facts → StaysShut old b → Serves request old x b x [] r
+    charge-torn b r err is exit kept pages reports failed spends stays =
         let once = spends.writes in
         let writes : b.facts.writes ≤ old.facts.writes + most_writes request = omega (arith, once, most) in
         subst (λ (result : Result Sw StoreErr). Serves request old x b x [] result) (sym (err-is r err is))
-        (exit-charge request a asks old x sized card current b err exit kept pages reports failed spends writes)
+        (exit-charge request a asks old x sized card current b err exit kept pages reports failed spends stays writes)
 
     -- no try was left
     pub charge-blocked : (b : Memory) (taken : Option ℕ) → taken ≡ None
@@ -393,7 +451,8 @@ module _ (request : Request) (a : Attempt) (asks : IsAttempt request a) (n : ℕ
         (pages-b : ArePinPages (committed b)) (costs : WritesAtMost 1 old.facts b.facts) (reports-b : Reports old b)
         (ends : (p : Pin) → IsEnd a.secret p (a.becomes p))
         (exit : (committed e ≡ committed b) ⊎ SetsByMatch k a.shown (a.becomes (pin_in b k)) b e)
-        (spends : ComparesOnce n k b.facts e.facts) (pages : ArePinPages (committed e)) (reports : Reports b e) where
+        (spends : ComparesOnce n k b.facts e.facts) (pages : ArePinPages (committed e)) (reports : Reports b e)
+        (stays : StaysShut old b) (word : EndsByWord a.renews b e) where
       got : (k ≡ a.secret) × Charges a.secret old b
       got = subst (λ (o : Option ℕ). MatchOption o (tries_left a.secret (pin_in old a.secret) ≡ 0)
           (λ k. (k ≡ a.secret) × Charges a.secret old b)) is done
@@ -417,7 +476,7 @@ module _ (request : Request) (a : Attempt) (asks : IsAttempt request a) (n : ℕ
       end-torn r err error failed =
           subst (λ (result : Result Sw StoreErr). Serves request old x e x [] result) (sym (err-is r err error))
           (exit-end request a asks old x sized card current b got.1 card-b e n (ends _) costs spends-told pages
-          (reports_then old b e reports-b reports) writes exit-told err failed)
+          (reports_then old b e reports-b reports) stays word writes exit-told err failed)
 
       pub end-made : (end : AttemptEnd) → EndsByOutcome k a.shown (a.becomes (pin_in b k)) b e end → IsReady e
           → IfSome taken (λ _. b.facts.writes ≡ old.facts.writes + 1)
@@ -427,7 +486,7 @@ module _ (request : Request) (a : Attempt) (asks : IsAttempt request a) (n : ℕ
           let charge : b.facts.writes ≡ old.facts.writes + 1 =
           subst (λ (o : Option ℕ). IfSome o (λ _. b.facts.writes ≡ old.facts.writes + 1)) is counted in
           let made = exit-done request a asks old x sized card current b got.1 card-b e n (ends _) costs spends-told pages
-          (reports_then old b e reports-b reports) writes exit-told end
+          (reports_then old b e reports-b reports) stays word writes exit-told end
           (subst (λ (k : ℕ). EndsByOutcome k a.shown (a.becomes (pin_in b k)) b e end) got.0 ended) is-ready charge in
           subst (λ (z : Current). Serves request old x e z [] (Ok status)) (sym at)
           (subst (λ (w : Sw). Serves request old x e (tried_from x a.pin a.unverifies end) [] (Ok w)) (sym told) made)

@@ -7,7 +7,8 @@ use Rattle.card_rules.specs.declared.status.Sw.{Sw}
 use Rattle.card_rules.specs.declared.status.TheConstants.Sw.{CONDITIONS_NOT_SATISFIED}
 use Rattle.undo_journal.specs.declared.error.StoreErr.{StoreErr}
 use Rattle.undo_journal.specs.Calls.{OnlyReads}
-use Rattle.undo_journal.specs.laws.Calls.{reads_then}
+use Rattle.undo_journal.specs.Undo.{gate}
+use Rattle.undo_journal.specs.laws.Calls.{advances_kept, advances_then, reads_then}
 use Rattle.undo_journal.specs.laws.Exits.{on_then}
 use Rattle.undo_journal.specs.laws.Memory.{reports_then}
 use Rattle.undo_journal.specs.Memory.{Memory, committed, IsReady}
@@ -30,9 +31,11 @@ use Rattle.card_core.specs.Sessions.{Session}
 use Rattle.card_core.specs.Spending.{writes_asked}
 use Rattle.card_core.specs.Standing.{IsCard, card_of}
 use Rattle.card_core.specs.Steps.{carried_out, outcome_of, served, step}
+use Rattle.card_core.specs.Words.{StandsAsked, StandsByWord, StandsServed, alone_served, gated_served}
 use Rattle.card_core.specs.Working.{card_in, outcome, session_in, session_of, table_in, IsCurrent}
 use Rattle.card_core.specs.laws.StageLaws.{doing_lasts, stage_doing, stage_first}
 use Rattle.card_core.proofs.Serves.{reads-compared, reads-nothing}
+use Rattle.card_core.proofs.Words.{stands-first}
 
 -- whether a card is in use, by its header
 pub in-use-is : (m : List ℕ) → (card_of m).in_use ≡ (word m HEADER_PAGE STATE_WORD == 0)
@@ -67,6 +70,10 @@ module _ (request : Request) (old mid new : Memory) (x y : Current) (text : List
         reports = reports_then old mid new reads.reports serves.reports;
         tells = serves.tells;
         writes = omega (arith, reads.board.writes, serves.writes);
+        advances = advances_then old.facts mid.facts new.facts (advances_kept old.facts mid.facts reads.board)
+            serves.advances;
+        stands = λ shut. subst (λ (l : List ℕ). StandsServed (card_of l) (session_of (table l) x) request new.facts.words)
+            same (serves.stands (ap gate reads.board.words ∙ shut));
         compares = subst (λ (k : Comparisons). ComparesBy request (card_in old) k (card_in new) (comparisons new.facts))
             (reads-compared old mid reads)
             (subst (λ (l : List ℕ). ComparesBy request (card_of l) (comparisons mid.facts) (card_in new) (comparisons
@@ -113,6 +120,10 @@ module _ (bytes : List ℕ) (old new : Memory) (x y : Current) (text : List ℕ)
     tells = serves.tells;
     writes = subst (λ (wanted : Result Request Sw). new.facts.writes ≤ old.facts.writes + writes_asked wanted) (sym is)
         serves.writes;
+    advances = serves.advances;
+    stands = λ shut. subst (λ (wanted : Result Request Sw). StandsAsked c s wanted new.facts.words) (sym is)
+        (subst (λ (b : Bool). StandsByWord c (if b then alone_served c s request else [])
+        (if b then gated_served c s request else []) new.facts.words) (sym in_use) (serves.stands shut));
     compares = subst (λ (wanted : Result Request Sw). ComparesAsked wanted c (comparisons old.facts) (card_in new)
         (comparisons new.facts)) (sym is) serves.compares;
     counted = subst (λ (wanted : Result Request Sw). OnOk result (CountsAnswered wanted c s old.facts new.facts))
@@ -125,6 +136,12 @@ module _ (bytes : List ℕ) (old new : Memory) (x y : Current) (text : List ℕ)
       by_result (Ok status) done =
           ap (λ (wanted : Result Request Sw). outcome_of c s wanted) is ∙ step-in-use request in_use ∙ done
       by_result (Err e) done = tt
+
+  -- after reads alone, whatever was asked for, the card before the command stands
+  asked-first : (wanted : Result Request Sw) → gate new.facts.words ≡ 0 → card_in new ≡ c
+      → StandsAsked c s wanted new.facts.words
+  asked-first (Ok request) shut same = stands-first c _ _ new.facts.words shut same
+  asked-first (Err status) shut same = stands-first c [] [] new.facts.words shut same
 
   -- after reads alone, whatever was asked for, nothing was compared
   asked-nothing : (wanted : Result Request Sw) → OnlyReads old new
@@ -149,6 +166,9 @@ module _ (bytes : List ℕ) (old new : Memory) (x y : Current) (text : List ℕ)
     reports = reads.reports;
     tells = tells;
     writes = omega (arith, reads.board.writes);
+    advances = advances_kept old.facts new.facts reads.board;
+    stands = λ shut. asked-first (asked bytes) (ap gate reads.board.words ∙ shut)
+        (ap card_of reads.keeps.committed_words);
     compares = asked-nothing (asked bytes) reads;
     counted = counted;
   }

@@ -8,6 +8,9 @@ use Rattle.card_rules.specs.declared.status.TheConstants.Sw.{DONE}
 use Rattle.fcp_template.specs.declared.fcp.Fcp.{Fcp}
 use Rattle.undo_journal.specs.declared.error.StoreErr.{StoreErr}
 use Rattle.undo_journal.specs.Calls.{Changes, OnlyReads, Reads}
+use Rattle.undo_journal.specs.Spending.{Advances}
+use Rattle.undo_journal.specs.laws.Calls.{advances_by, advances_kept, advances_then}
+use Rattle.file_tree.specs.Adding.{AddsByGate}
 use Rattle.undo_journal.specs.Memory.{Memory, committed, IsReady}
 use Rattle.undo_journal.specs.laws.Calls.{reads_then}
 use Rattle.undo_journal.specs.laws.Told.{changes_after, reads_after}
@@ -28,10 +31,12 @@ use Rattle.card_core.specs.Served.{IsDoing, Serves}
 use Rattle.card_core.specs.Spending.{creation_writes}
 use Rattle.card_core.specs.Standing.{card_of, IsCard}
 use Rattle.card_core.specs.Working.{card_in, current_at, outcome, session_in, session_of, space_in, table_in, IsCurrent}
-use Rattle.card_core.proofs.Creations.{any-creating, any-stage, any-stands, created-current, created-is-card, created-space}
+use Rattle.card_core.proofs.Creations.{any-creating, any-stage, any-stands, created-current, created-is-card, created-space, filled-card}
 use Rattle.card_core.proofs.Creations.{created-step, refused-step, taken-blocks, taken-entries}
 use Rattle.card_core.proofs.Serves.{compared-none, declined, torn, written}
 use Rattle.card_core.proofs.Stopping.{err-is}
+use Rattle.card_core.specs.Words.{StandsServed}
+use Rattle.card_core.proofs.Words.{Went, went-gated}
 
 module _ (old mid made : Memory) (ready : IsReady old) (words : IsCard (committed old)) (x : Current)
     (current : IsCurrent (table_in old) x) (template : List ℕ) (fcp : Fcp)
@@ -62,13 +67,21 @@ module _ (old mid made : Memory) (ready : IsReady old) (words : IsCard (committe
       ready_now current
       (refused-step m sized words x template fcp found.told found.unbarred found.permitted status is)
 
+  -- which card stands by the word: the blocks that are filled before leave the tree
+  went-adding : AddsByGate mid made → OnlyReads old made ⊎ IsDoing (card_in old) (session_in old x) request (card_in made)
+      → Advances old.facts made.facts → Went request old x made
+  went-adding adds stage advances =
+      let tree = subst (λ (l : List ℕ). SameTree l adds.filled) same adds.tree in
+      went-gated request old x made refl stage adds.filled (filled-card m sized words x template fcp found.told found.unbarred
+      found.permitted adds.filled tree) adds.gate advances
+
   -- one that stopped, before or after its commit
   pub creation-torn : (r : Result Sw StoreErr) (e : StoreErr) → IsErrAnd r (λ f. f ≡ e)
       → SameTree (committed mid) after ⊎ CreatesNew (committed mid) x.df fcp after
       → ((refusal : Sw) → creation_refusal (tree_of (committed mid)) (path_of (table_in mid) x.df) fcp ≡ Some refusal
-      → OnlyReads mid made) → (n : ℕ) → Changes n mid made (Some e) → n ≤ creation_writes
+      → OnlyReads mid made) → AddsByGate mid made → (n : ℕ) → Changes n mid made (Some e) → n ≤ creation_writes
       → Serves request old x made x [] r
-  creation-torn r e is any_exit idle n changes few =
+  creation-torn r e is any_exit idle adds n changes few =
       let exit = subst (λ (l : List ℕ). SameTree l after ⊎ CreatesNew l x.df fcp after) same any_exit in
       let all = changes_after n old mid made (Some e) reads changes in
       let idle_here = subst (λ (l : List ℕ). (status : Sw)
@@ -79,7 +92,9 @@ module _ (old mid made : Memory) (ready : IsReady old) (words : IsCard (committe
       subst (λ (s : Result Sw StoreErr). Serves request old x made x [] s) (sym (err-is r e is))
       (torn request old x made x [] e stage
       (any-stands m sized words x template fcp found.told found.unbarred found.permitted after exit) all.reports all.tells
-      (omega arith) (omega (arith, few, all.writes.writes)) (compared-none n old.facts made.facts all.writes))
+      (omega arith) (omega (arith, few, all.writes.writes))
+      (went-adding adds stage (advances_by n old.facts made.facts all.writes))
+      (compared-none n old.facts made.facts all.writes))
 
   -- one that was made
   module _ (e blocks : ℕ) (creation : Creation) (tells : TellsCreation (committed mid) x.df fcp creation after)
@@ -100,18 +115,29 @@ module _ (old mid made : Memory) (ready : IsReady old) (words : IsCard (committe
         taken-entries m m after free (record { blocks = blocks; entries = 1 }) counted refl created.space
 
     -- and then the new entry was read
-    module _ (new : Memory) (told : Option StoreErr) (n : ℕ) (changes : Changes n mid made None) (few : n ≤ creation_writes)
-        (more : Reads made new told) where
+    module _ (new : Memory) (told : Option StoreErr) (adds : AddsByGate mid made) (n : ℕ) (changes : Changes n mid made None)
+        (few : n ≤ creation_writes) (more : Reads made new told) where
       still : committed new ≡ after
       still = more.only.keeps.committed_words
 
       all : Changes n old new told
       all = reads_after n old made new told (changes_after n old mid made None reads changes) more
 
+      made-it : IsDoing (card_in old) (session_in old x) request (card_in made)
+      made-it = any-creating m sized words x template fcp found.told found.unbarred found.permitted created.none after
+          (inr created.creates)
+
       stage : OnlyReads old new ⊎ IsDoing (card_in old) (session_in old x) request (card_in new)
-      stage = inr (subst (λ (l : List ℕ). IsDoing (card_in old) (session_in old x) request (card_of l)) (sym still)
-          (any-creating m sized words x template fcp found.told found.unbarred found.permitted created.none after
-          (inr created.creates)))
+      stage = inr (subst (λ (l : List ℕ). IsDoing (card_in old) (session_in old x) request (card_of l)) (sym still) made-it)
+
+      went : Went request old x new
+      went =
+          let spends = (changes_after n old mid made None reads changes).writes in
+          let there = went-adding adds (inr made-it) (advances_by n old.facts made.facts spends) in (
+            advances_then old.facts made.facts new.facts there.0 (advances_kept made.facts new.facts more.only.board),
+            λ shut. subst (λ (l : List ℕ). StandsServed (card_in old) (session_in old x) request l)
+                (sym more.only.board.words) (there.1 shut),
+          )
 
       stands : IsCard (committed new)
       stands = subst IsCard (sym still) (created-is-card m sized words x template fcp found.told found.unbarred
@@ -122,7 +148,7 @@ module _ (old mid made : Memory) (ready : IsReady old) (words : IsCard (committe
       created-torn r error handed stopped =
           subst (λ (s : Result Sw StoreErr). Serves request old x new x [] s) (sym (err-is r error handed))
           (torn request old x new x [] error stage stands all.reports (all.tells ∙ stopped) (omega arith)
-          (omega (arith, few, all.writes.writes)) (compared-none n old.facts new.facts all.writes))
+          (omega (arith, few, all.writes.writes)) went (compared-none n old.facts new.facts all.writes))
 
       pub created-done : IsReady new → (entry : Entry) → entry ≡ entry_in (table after) e
           → Serves request old x new (current_at x e entry) [] (Ok DONE)
@@ -134,7 +160,7 @@ module _ (old mid made : Memory) (ready : IsReady old) (words : IsCard (committe
           created ∙ (λ i. outcome (card_of (sym still i)) (session_of (table (sym still i)) y) [] DONE) in
           subst (λ (entry : Entry). Serves request old x new (current_at x e entry) [] (Ok DONE)) (sym entry_is)
           (written request old x new (λ _. tt) y [] DONE stage stands all.reports ready_now at_file (omega arith)
-          (omega (arith, few, all.writes.writes)) (compared-none n old.facts new.facts all.writes) done)
+          (omega (arith, few, all.writes.writes)) went (compared-none n old.facts new.facts all.writes) done)
 
       pub created-counts : (free : FreeSpace) → free ≡ space_in old
           → record { blocks = free.blocks - blocks; entries = free.entries - 1 } ≡ space_in new

@@ -126,7 +126,7 @@ module _ (m : List ℕ) (sized : length m ≡ WORDS) (words : IsCard m) (x : Cur
     filled-stands : IsCard after
     filled-stands = files-stand m after sized same.rest words same.stands
 
-    filled-card : card_of after ≡ c
+    pub filled-card : card_of after ≡ c
     filled-card =
         files-after m after sized same.rest
         ∙ ap (λ (tree : Tree). record c { tree = tree }) (same.tree ∙ sym (card-tree m))

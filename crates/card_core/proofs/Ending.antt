@@ -11,6 +11,7 @@ use Rattle.card_rules.specs.declared.status.TheConstants.Sw.{ACCESS_DENIED, DONE
 use Rattle.undo_journal.specs.declared.error.StoreErr.{StoreErr}
 use Rattle.undo_journal.specs.Calls.{OnlyReads}
 use Rattle.undo_journal.specs.laws.Memory.{reports_then}
+use Rattle.undo_journal.specs.Commits.{CommitsByGate}
 use Rattle.undo_journal.specs.Memory.{Memory, committed, IsReady, Reports}
 use Rattle.undo_journal.specs.Spending.{WritesAtMost}
 use Rattle.block_chain.specs.declared.layout.TheConstants.{FREE_HEAD_WORD}
@@ -44,6 +45,7 @@ use Rattle.card_core.proofs.Entries.{card-tree, master-path}
 use Rattle.card_core.proofs.Guarding.{served-done, served-refused}
 use Rattle.card_core.proofs.Serves.{compared-none, reads-compared, torn, written}
 use Rattle.card_core.proofs.Verified.{marks-are}
+use Rattle.card_core.proofs.Words.{Went, went-after}
 
 module _ (m : List ℕ) (sized : length m ≡ WORDS) (words : IsCard m) where
   abbrev ended : List ℕ
@@ -136,7 +138,7 @@ module _ (old mid new : Memory) (ready : IsReady old) (words : IsCard (committed
     (current : IsCurrent (table_in old) x) (marks : List Bool) (are : marks ≡ verified_in x)
     (is : true ≡ is_allowed (tree_of (committed old)) (path_of (table_in old) 0) Terminate marks) (reads : OnlyReads old mid)
     (any_exit : (committed new ≡ committed mid) ⊎ (committed new ≡ with_card_terminated (committed mid)))
-    (reports : Reports mid new) (spends : WritesAtMost 4 mid.facts new.facts) where
+    (by_gate : CommitsByGate mid new) (reports : Reports mid new) (spends : WritesAtMost 4 mid.facts new.facts) where
   abbrev at_end : List ℕ
   at_end = with_card_terminated (committed old)
 
@@ -160,6 +162,9 @@ module _ (old mid new : Memory) (ready : IsReady old) (words : IsCard (committed
       inr (ap card_of (end-is done) ∙ ended-card (committed old) size words))
       any_exit)
 
+  went : Went terminate_card_usage old x new
+  went = went-after terminate_card_usage old x new 4 mid refl (inr doing) reads spends by_gate
+
   compares : ComparesNothing (comparisons old.facts) (comparisons new.facts)
   compares = compared-none 4 mid.facts new.facts spends ∙ reads-compared old mid reads
 
@@ -170,7 +175,7 @@ module _ (old mid new : Memory) (ready : IsReady old) (words : IsCard (committed
   pub end-torn : (result : Result Sw StoreErr) → IsErr result → new.failed ≡ result_err result
       → Serves terminate_card_usage old x new x [] result
   end-torn (Err error) stopped failed = torn terminate_card_usage old x new x [] error (inr doing) stands all-reports failed
-      (omega arith) (omega (arith, spends.writes, reads.board.writes)) compares
+      (omega arith) (omega (arith, spends.writes, reads.board.writes)) went compares
   end-torn (Ok status) stopped failed = absurd (true≢false (sym stopped))
 
   -- it was made
@@ -185,6 +190,6 @@ module _ (old mid new : Memory) (ready : IsReady old) (words : IsCard (committed
     end-made ready_now = written terminate_card_usage old x new (λ _. tt) x [] DONE (inr doing) stands all-reports
         ready_now
         (subst (λ (t : List Entry). IsCurrent t x) (sym table-is) current) (omega arith)
-        (omega (arith, spends.writes, reads.board.writes)) compares
+        (omega (arith, spends.writes, reads.board.writes)) went compares
         (end-done (committed old) x current marks are true is refl
         ∙ (λ i. outcome (sym card-is i) (session_of (sym table-is i) x) [] DONE))

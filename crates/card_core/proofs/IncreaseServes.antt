@@ -8,6 +8,7 @@ use Rattle.card_rules.specs.declared.status.Sw.{Sw}
 use Rattle.card_rules.specs.declared.status.TheConstants.Sw.{DONE}
 use Rattle.undo_journal.specs.declared.error.StoreErr.{StoreErr}
 use Rattle.undo_journal.specs.Calls.{Changes, OnlyReads}
+use Rattle.undo_journal.specs.Commits.{CommitsByGate}
 use Rattle.undo_journal.specs.Memory.{Memory, committed, IsReady}
 use Rattle.apdu_core.specs.Requests.{increase}
 use Rattle.apdu_core.specs.declared.binary.Target.TheVariants as target
@@ -86,13 +87,13 @@ module _ (old mid new : Memory) (ready : IsReady old) (words : IsCard (committed
     put-are = ap records_in same
 
     module _ (any_exit : (committed new ≡ committed mid) ⊎ Increases (committed mid) body sent (committed new))
-        (told : Option StoreErr) (changes : Changes RECORD_WRITES mid new told) where
+        (by_gate : CommitsByGate mid new) (told : Option StoreErr) (changes : Changes RECORD_WRITES mid new told) where
       pub increased-torn : (text : List ℕ) → text ≡ [] → (r : Result Sw StoreErr) (error : StoreErr)
           → IsErrAnd r (λ f. f ≡ error) → told ≡ Some error → Serves (increase sent expected) old x new x text r
       increased-torn text empty =
           let none_yet : length text ≡ 0 = ap (λ (l : List ℕ). length l) empty in
           records-torn old mid new ready words x current target.Current need e (bodies.Cyclic body) _ (records_in m) puts
-          reads (records_in (committed mid)) put-are any_exit told changes text (omega (arith, none_yet))
+          reads (records_in (committed mid)) put-are any_exit by_gate told changes text (omega (arith, none_yet))
 
       pub increased-done : Increases (committed mid) body sent (committed new) → IsReady new → (text : List ℕ)
           → text ≡ given expected answer → length text ≤ 256
@@ -103,9 +104,9 @@ module _ (old mid new : Memory) (ready : IsReady old) (words : IsCard (committed
           target.Current) (records_in m)) (pointing (session_in old x) target.Current (target_path (card_in old)
           (session_in old x) target.Current) (Some 1)) t DONE) (sym (text_is ∙ ap (given expected) found.answer_is)) in
           records-made old mid new ready words x current target.Current need e (bodies.Cyclic body) _ (records_in m) puts
-          reads (records_in (committed mid)) put-are any_exit told changes becomes ready_now (Some 1) text room effect_is
+          reads (records_in (committed mid)) put-are any_exit by_gate told changes becomes ready_now (Some 1) text room effect_is
 
       pub increased-space : Increases (committed mid) body sent (committed new) → space_in new ≡ space_in old
       increased-space =
           records-space old mid new ready words x current target.Current need e (bodies.Cyclic body) _ (records_in m) puts
-          reads (records_in (committed mid)) put-are any_exit told changes
+          reads (records_in (committed mid)) put-are any_exit by_gate told changes

@@ -22,6 +22,7 @@ pub mod Comparisons
 pub mod PinCards
 pub mod NamedEntries
 pub mod Doing
+pub mod Words
 pub mod Serves
 pub mod Attempts
 pub mod Carrying

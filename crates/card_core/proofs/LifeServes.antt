@@ -1,5 +1,5 @@
 -- What a call that changes a life cycle leaves, where nothing refuses it: first it only reads, and then it writes, or not.
-use Rattle.std.proofs.Common.{◌≡◌, ◌⊎◌, ℕ, List, [], length, Some, Result, Ok, Err, sym, ◌∙◌, ap, subst, arith, inl, inr, ⊎_elim, true≢false}
+use Rattle.std.proofs.Common.{refl, ◌≡◌, ◌⊎◌, ℕ, List, [], length, Some, Result, Ok, Err, sym, ◌∙◌, ap, subst, arith, inl, inr, ⊎_elim, true≢false}
 use Rattle.std.proofs.lemmas.Bool.{cases_eq}
 use Rattle.std.specs.Result.{result_err, IsErr}
 use Rattle.nvm_board.specs.declared.board.TheConstants.{WORDS}
@@ -10,6 +10,7 @@ use Rattle.undo_journal.specs.declared.error.StoreErr.{StoreErr}
 use Rattle.undo_journal.specs.Calls.{OnlyReads}
 use Rattle.undo_journal.specs.laws.Calls.{reads_then}
 use Rattle.undo_journal.specs.laws.Memory.{reports_then}
+use Rattle.undo_journal.specs.Commits.{CommitsByGate}
 use Rattle.undo_journal.specs.Memory.{Memory, committed, IsReady, Reports}
 use Rattle.undo_journal.specs.Spending.{WritesAtMost}
 use Rattle.apdu_core.specs.declared.files.Subject.{Subject}
@@ -33,6 +34,7 @@ use Rattle.card_core.specs.Working.{card_in, current_at, session_in, space_in, t
 use Rattle.card_core.proofs.Guarding.{served-refused}
 use Rattle.card_core.proofs.Living.{card-is, changed-current, changed-space, changed-stands, changed-step, doing, same-state}
 use Rattle.card_core.proofs.Serves.{compared-none, reads-compared, torn, written}
+use Rattle.card_core.proofs.Words.{Went, went-after}
 
 -- a change that is refused
 pub change-refused : (c : Card) (s : Session) (change : LifeCycleChange) (subject : Subject) (status : Sw)
@@ -45,6 +47,7 @@ module _ (old mid new : Memory) (ready : IsReady old) (words : IsCard (committed
     (current : IsCurrent (table_in old) x) (change : LifeCycleChange) (subject : Subject) (changed : Changed)
     (found : IsChanged (committed old) x change subject changed) (reads : OnlyReads old mid)
     (any_exit : (committed new ≡ committed mid) ⊎ ChangesLife (committed mid) changed.number changed.life (committed new))
+    (by_gate : CommitsByGate mid new)
     (stays : life_at (tree_of (committed mid)) (path_of (table_in mid) changed.number) ≡ changed.life → OnlyReads mid new)
     (reports : Reports mid new) (spends : WritesAtMost 4 mid.facts new.facts) where
   abbrev m : List ℕ
@@ -99,6 +102,9 @@ module _ (old mid new : Memory) (ready : IsReady old) (words : IsCard (committed
       (λ differs. inr (is-doing (λ is. differs (ap life_cycle_byte is))))
       (cases_eq (life_cycle_byte changed.life) (life_cycle_byte there))
 
+  went : Went request old x new
+  went = went-after request old x new 4 mid refl stage reads spends by_gate
+
   compares : ComparesNothing (comparisons old.facts) (comparisons new.facts)
   compares = compared-none 4 mid.facts new.facts spends ∙ reads-compared old mid reads
 
@@ -109,7 +115,7 @@ module _ (old mid new : Memory) (ready : IsReady old) (words : IsCard (committed
   pub change-torn : (result : Result Sw StoreErr) → IsErr result → new.failed ≡ result_err result
       → Serves request old x new x [] result
   change-torn (Err error) stopped failed = torn request old x new x [] error stage stands all-reports failed (omega arith)
-      (omega (arith, spends.writes, reads.board.writes)) compares
+      (omega (arith, spends.writes, reads.board.writes)) went compares
   change-torn (Ok status) stopped failed = absurd (true≢false (sym stopped))
 
   -- a change that was made
@@ -118,7 +124,7 @@ module _ (old mid new : Memory) (ready : IsReady old) (words : IsCard (committed
   change-made changes ready_now = written request old x new (λ _. tt) (current_at x e changed.entry) [] DONE stage
       stands all-reports ready_now
       (changed-current m sized words x current change subject changed found after (changes-it changes)) (omega arith)
-      (omega (arith, spends.writes, reads.board.writes)) compares
+      (omega (arith, spends.writes, reads.board.writes)) went compares
       (changed-step m sized words x current change subject changed found after (changes-it changes))
 
   pub change-space : ChangesLife (committed mid) e changed.life after → space_in new ≡ space_in old

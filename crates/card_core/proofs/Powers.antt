@@ -135,24 +135,6 @@ pub found-again : (first : List ℕ) (opened last : Memory) → committed last �
 found-again first opened last kept undone sound still =
     record { words = kept ∙ undone; journal = (λ there. sound, λ there. still) }
 
--- no word and no count changed, and then reads
-pub board_kept : (a b c : Facts) → KeepsBoard a b → KeepsBoard b c → KeepsBoard a c
-board_kept a b c first rest = record {
-  words = rest.words ∙ first.words;
-  writes = rest.writes ∙ first.writes;
-  compares = rest.compares ∙ first.compares;
-  matches = rest.matches ∙ first.matches;
-}
-
--- so many writes at most, and then reads
-pub board_spends : (n : ℕ) (a b c : Facts) → WritesAtMost n a b → KeepsBoard b c → WritesAtMost n a c
-board_spends n a b c spent rest = record {
-  writes = subst (λ (w : ℕ). w ≤ a.writes + n) (sym rest.writes) spent.writes;
-  more = subst (λ (w : ℕ). a.writes ≤ w) (sym rest.writes) spent.more;
-  compares = rest.compares ∙ spent.compares;
-  matches = rest.matches ∙ spent.matches;
-}
-
 -- the card of a start is found, its store is ready, and its free space is what was told
 pub starts-kept : (opened last : Memory) (free : FreeSpace) (found : Result (Option FreeSpace) StoreErr)
     → found ≡ Ok (Some free) → IsSound opened.facts.words → IfOk found (TellsCard (committed opened))

@@ -10,6 +10,7 @@ use Rattle.card_rules.specs.declared.status.Sw.{Sw}
 use Rattle.card_rules.specs.declared.status.TheConstants.Sw.{DONE, NO_ROOM, RECORD_NOT_FOUND, WRONG_LENGTH}
 use Rattle.undo_journal.specs.declared.error.StoreErr.{StoreErr}
 use Rattle.undo_journal.specs.Calls.{Changes, OnlyReads}
+use Rattle.undo_journal.specs.Commits.{CommitsByGate}
 use Rattle.undo_journal.specs.Memory.{Memory, committed, IsReady}
 use Rattle.undo_journal.specs.laws.Told.{changes_after}
 use Rattle.apdu_core.specs.Requests.{Request, append_record, update_record}
@@ -49,6 +50,7 @@ use Rattle.card_core.proofs.RecordChanges.{body-become, Records}
 use Rattle.card_core.proofs.Recording.{agree, chosen-is, current-is, has-is, path-is, pointer-is, session-is}
 use Rattle.card_core.proofs.Serves.{compared-none, counts-none, torn, written}
 use Rattle.card_core.proofs.Stopping.{err-is}
+use Rattle.card_core.proofs.Words.{Went, went-after}
 
 -- A command that isn't refused puts these records in place of those of its file.
 pub record PutsRecords (old : Memory) (x : Current) (target : Target) (need : Need) (e : ℕ) (body : RecordBody)
@@ -67,7 +69,7 @@ module _ (old mid new : Memory) (ready : IsReady old) (words : IsCard (committed
     (request : Request) (records : List (List ℕ)) (puts : PutsRecords old x target need e body request records)
     (reads : OnlyReads old mid) (put : List (List ℕ)) (put_are : put ≡ records)
     (any_exit : (committed new ≡ committed mid) ⊎ BodyBecomes (committed mid) body put (committed new))
-    (told : Option StoreErr) (changes : Changes RECORD_WRITES mid new told) where
+    (by_gate : CommitsByGate mid new) (told : Option StoreErr) (changes : Changes RECORD_WRITES mid new told) where
   abbrev m : List ℕ
   m = committed old
 
@@ -109,6 +111,9 @@ module _ (old mid new : Memory) (ready : IsReady old) (words : IsCard (committed
       (⊎_elim (λ (kept : after ≡ committed mid). inl (ap card_of (kept ∙ same)))
       (λ (becomes : BodyBecomes (committed mid) body put after). inr (card-is becomes)) any_exit))
 
+  went : Went request old x new
+  went = went-after request old x new RECORD_WRITES mid puts.unshown stage reads changes.writes by_gate
+
   compares : ComparesBy request c (comparisons old.facts) (card_in new) (comparisons new.facts)
   compares = subst (λ (shown : Option Attempt). ComparesShown shown c (comparisons old.facts) (card_in new) (comparisons
       new.facts)) (sym puts.unshown) (compared-none RECORD_WRITES old.facts new.facts all.writes)
@@ -121,7 +126,7 @@ module _ (old mid new : Memory) (ready : IsReady old) (words : IsCard (committed
       → IsErrAnd r (λ f. f ≡ error) → told ≡ Some error → Serves request old x new x text r
   records-torn text room r error handed stopped =
       subst (λ (answer : Result Sw StoreErr). Serves request old x new x text answer) (sym (err-is r error handed))
-      (torn request old x new x text error stage stands all.reports (all.tells ∙ stopped) room costs compares)
+      (torn request old x new x text error stage stands all.reports (all.tells ∙ stopped) room costs went compares)
 
   -- a write that was made
   pub records-made : BodyBecomes (committed mid) body put after → IsReady new → (pointer : Option ℕ) (text : List ℕ)
@@ -136,7 +141,7 @@ module _ (old mid new : Memory) (ready : IsReady old) (words : IsCard (committed
       let session = session-is m sized words x target need e body puts.found pointer ∙ sym (these.session y) in
       written request old x new (counts-none request c s old.facts new.facts puts.unshown) y text DONE stage stands
       all.reports ready_now
-      (these.current y (current-is m sized words x target need e body puts.found current pointer)) room costs compares
+      (these.current y (current-is m sized words x target need e body puts.found current pointer)) room costs went compares
       (served-done c s request puts.none ∙ effect_is ∙ (λ i. outcome (card i) (session i) text DONE))
 
   pub records-space : BodyBecomes (committed mid) body put after → space_in new ≡ space_in old

@@ -25,6 +25,7 @@ use Rattle.card_core.specs.Steps.{served}
 use Rattle.card_core.specs.laws.CompareLaws.{compares-none}
 use Rattle.card_core.specs.Working.{card_in, outcome, session_in, session_of, table_in, IsCurrent}
 use Rattle.card_core.proofs.Stopping.{err-is}
+use Rattle.card_core.proofs.Words.{Went, went-reads}
 
 -- at most so many writes and no comparison
 pub compared-none : (n : ℕ) (old new : Facts) → WritesAtMost n old new
@@ -66,6 +67,8 @@ module _ (request : Request) (old : Memory) (x : Current) (new : Memory) where
     reports = reads.reports;
     tells = failed;
     writes = omega (arith, reads.board.writes);
+    advances = (went-reads request old x new reads).0;
+    stands = (went-reads request old x new reads).1;
     compares = reads-nothing reads;
     counted = tt;
   }
@@ -95,6 +98,8 @@ module _ (request : Request) (old : Memory) (x : Current) (new : Memory) where
         reports = reads.reports;
         tells = ready.usable.works;
         writes = omega (arith, reads.board.writes);
+        advances = (went-reads request old x new reads).0;
+        stands = (went-reads request old x new reads).1;
         compares = reads-nothing reads;
         counted = counted;
       }
@@ -111,10 +116,10 @@ module _ (request : Request) (old : Memory) (x : Current) (new : Memory) where
   pub torn : (y : Current) (text : List ℕ) (e : StoreErr)
       → OnlyReads old new ⊎ IsDoing (card_in old) (session_in old x) request (card_in new) → IsCard (committed new)
       → Reports old new → new.failed ≡ Some e → length text ≤ 256
-      → new.facts.writes ≤ old.facts.writes + most_writes request
+      → new.facts.writes ≤ old.facts.writes + most_writes request → Went request old x new
       → ComparesBy request (card_in old) (comparisons old.facts) (card_in new) (comparisons new.facts)
       → Serves request old x new y text (Err e)
-  torn y text e stage card reports failed room writes compares = record {
+  torn y text e stage card reports failed room writes went compares = record {
     step = tt;
     room = room;
     stage = stage;
@@ -124,6 +129,8 @@ module _ (request : Request) (old : Memory) (x : Current) (new : Memory) where
     reports = reports;
     tells = failed;
     writes = writes;
+    advances = went.0;
+    stands = went.1;
     compares = compares;
     counted = tt;
   }
@@ -133,11 +140,11 @@ module _ (request : Request) (old : Memory) (x : Current) (new : Memory) where
       → (y : Current) (text : List ℕ) (status : Sw)
       → OnlyReads old new ⊎ IsDoing (card_in old) (session_in old x) request (card_in new) → IsCard (committed new)
       → Reports old new → IsReady new → IsCurrent (table_in new) y → length text ≤ 256
-      → new.facts.writes ≤ old.facts.writes + most_writes request
+      → new.facts.writes ≤ old.facts.writes + most_writes request → Went request old x new
       → ComparesBy request (card_in old) (comparisons old.facts) (card_in new) (comparisons new.facts)
       → served (card_in old) (session_in old x) request ≡ outcome (card_in new) (session_in new y) text status
       → Serves request old x new y text (Ok status)
-  written counted y text status stage card reports ready current room writes compares is = record {
+  written counted y text status stage card reports ready current room writes went compares is = record {
     step = is;
     room = room;
     stage = stage;
@@ -147,6 +154,8 @@ module _ (request : Request) (old : Memory) (x : Current) (new : Memory) where
     reports = reports;
     tells = ready.usable.works;
     writes = writes;
+    advances = went.0;
+    stands = went.1;
     compares = compares;
     counted = counted;
   }

@@ -9,6 +9,7 @@ use Rattle.card_rules.specs.declared.access_mode.AccessBit.{AccessBit}
 use Rattle.card_rules.specs.declared.access_mode.AccessBit.TheVariants.{Read, Update}
 use Rattle.undo_journal.specs.declared.error.StoreErr.{StoreErr}
 use Rattle.undo_journal.specs.Calls.{OnlyReads}
+use Rattle.undo_journal.specs.Commits.{CommitsByGate}
 use Rattle.undo_journal.specs.Memory.{Memory, committed, IsReady, Reports}
 use Rattle.undo_journal.specs.Spending.{WritesAtMost}
 use Rattle.undo_journal.specs.laws.Memory.{reports_then}
@@ -57,6 +58,7 @@ use Rattle.card_core.proofs.Contents.{transparent-is, content-is, chain-is, fits
 use Rattle.card_core.proofs.Entries.{card-tree, there}
 use Rattle.card_core.proofs.Keeping.{files-stand, files-after}
 use Rattle.card_core.proofs.Serves.{compared-none, reads-compared, torn, written}
+use Rattle.card_core.proofs.Words.{Went, went-after}
 
 -- the current files after a command on contents that named the file of an entry
 pub named-current : (m : List ℕ) (x : CurrentFiles) (e : ℕ) → IsElementary (table m) x.df e → (target : Target)
@@ -204,7 +206,7 @@ module _ (old mid : Memory) (ready : IsReady old) (words : IsCard (committed old
   module _ (none : overlong held_now offset bytes ≡ None) (new : Memory)
       (any_exit : (committed new ≡ committed mid)
       ⊎ TransparentBecomes (committed mid) body (overwrite held_now offset bytes) (committed new))
-      (reports : Reports mid new) (spends : WritesAtMost (most_writes request) mid.facts new.facts) where
+      (by_gate : CommitsByGate mid new) (reports : Reports mid new) (spends : WritesAtMost (most_writes request) mid.facts new.facts) where
     abbrev after : List ℕ
     after = committed new
 
@@ -250,13 +252,16 @@ module _ (old mid : Memory) (ready : IsReady old) (words : IsCard (committed old
     costs : new.facts.writes ≤ old.facts.writes + most_writes request
     costs = let spent = spends.writes in let kept = reads.board.writes in omega (arith, spent, kept)
 
+    went : Went request old x new
+    went = went-after request old x new (most_writes request) mid refl stage reads spends by_gate
+
     compares : ComparesBy request (card_in old) (comparisons old.facts) (card_in new) (comparisons new.facts)
     compares = compared-none (most_writes request) mid.facts new.facts spends ∙ reads-compared old mid reads
 
     -- an update that stopped, before or after its commit
     pub found-torn : (error : StoreErr) → new.failed ≡ Some error → Serves request old x new x [] (Err error)
     found-torn error failed =
-        torn request old x new x [] error stage card-stands all-reports failed (omega arith) costs compares
+        torn request old x new x [] error stage card-stands all-reports failed (omega arith) costs went compares
 
     -- an update that was made
     pub found-made : Becomes → IsReady new → IsCurrent (table_in old) x
@@ -266,7 +271,7 @@ module _ (old mid : Memory) (ready : IsReady old) (words : IsCard (committed old
         let files = sym (rewrites becomes).table in
         written request old x new (λ _. tt) y [] DONE stage card-stands all-reports ready_now
         (subst (λ (t : List Entry). IsCurrent t y) files (named-current m x e found.file target current))
-        (omega arith) costs compares
+        (omega arith) costs went compares
         (update-within (card_in old) (session_in old x) target offset path f found.place
         (there m words e found.file.child.used) bytes found.unrefused (decides ∙ none)
         ∙ (λ i. record {

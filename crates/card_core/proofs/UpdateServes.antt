@@ -9,6 +9,7 @@ use Rattle.card_rules.specs.declared.status.Sw.{Sw}
 use Rattle.card_rules.specs.declared.status.TheConstants.Sw.{DONE}
 use Rattle.undo_journal.specs.declared.error.StoreErr.{StoreErr}
 use Rattle.undo_journal.specs.Calls.{Changes, OnlyReads}
+use Rattle.undo_journal.specs.Commits.{CommitsByGate}
 use Rattle.undo_journal.specs.Memory.{Memory, committed, IsReady}
 use Rattle.apdu_core.specs.Requests.{update_record}
 use Rattle.apdu_core.specs.declared.binary.Target.{Target}
@@ -89,11 +90,11 @@ module _ (old mid new : Memory) (ready : IsReady old) (words : IsCard (committed
     put-are = λ i. replaced_in (same i) body (found.number_is i) bytes
 
     module _ (any_exit : (committed new ≡ committed mid) ⊎ BodyBecomes (committed mid) body put (committed new))
-        (told : Option StoreErr) (changes : Changes RECORD_WRITES mid new told) where
+        (by_gate : CommitsByGate mid new) (told : Option StoreErr) (changes : Changes RECORD_WRITES mid new told) where
       pub replaced-torn : (r : Result Sw StoreErr) (error : StoreErr) → IsErrAnd r (λ f. f ≡ error) → told ≡ Some error
           → Serves (update_record target choice bytes) old x new x [] r
       replaced-torn =
-          records-torn old mid new ready words x current target need e body _ records puts reads put put-are any_exit told
+          records-torn old mid new ready words x current target need e body _ records puts reads put put-are any_exit by_gate told
           changes [] (omega arith)
 
       pub replaced-done : BodyBecomes (committed mid) body put (committed new) → IsReady new → (pointer : Option ℕ)
@@ -105,11 +106,11 @@ module _ (old mid new : Memory) (ready : IsReady old) (words : IsCard (committed
           target) choice (found.number_is i)) in
           subst (λ (p : Option ℕ). Serves (update_record target choice bytes) old x new (pointing_from x target e p) []
           (Ok DONE)) (sym is)
-          (records-made old mid new ready words x current target need e body _ records puts reads put put-are any_exit told
+          (records-made old mid new ready words x current target need e body _ records puts reads put put-are any_exit by_gate told
           changes becomes ready_now after [] (omega arith)
           (update-effect m sized words x target _ e body found.file bytes choice free))
 
       pub replaced-space : BodyBecomes (committed mid) body put (committed new) → space_in new ≡ space_in old
       replaced-space =
-          records-space old mid new ready words x current target need e body _ records puts reads put put-are any_exit told
+          records-space old mid new ready words x current target need e body _ records puts reads put put-are any_exit by_gate told
           changes

@@ -23,6 +23,7 @@ pub mod Counting
 pub mod Standing
 pub mod Factory
 pub mod Finding
+pub mod Words
 pub mod Running
 pub mod StartFaults
 pub mod Proper

@@ -1,5 +1,5 @@
 -- Commands on PINs: VERIFY, CHANGE REFERENCE DATA and RESET RETRY COUNTER (ISO/IEC 7816-4, 11.5 and 11.6).
-use Rattle.std.specs.Prelude.{ℕ, ◌+◌, ◌-◌, ◌==◌, nat_eq, Bool, true, false, if◌then◌else◌, List, [], ◌∷◌, slice_index_or}
+use Rattle.std.specs.Prelude.{ℕ, ◌+◌, ◌-◌, ◌==◌, ◌&&◌, not, nat_eq, Bool, true, false, if◌then◌else◌, List, [], ◌∷◌, slice_index_or}
 use Rattle.std.specs.Prelude.{slice_set, Option, Some, None}
 use Rattle.std.specs.FinSet.{insert, remove}
 use Rattle.std.specs.Cmp.Lexicographic.{pointwise}
@@ -29,13 +29,14 @@ value_of n = n - 1
 abbrev pub unblocking_of : ℕ → ℕ
 unblocking_of n = PINS + (n - 1)
 
--- A secret of a PIN is shown: which one, and what is shown of it; what the PIN becomes where that is right; and whether it is no
--- longer verified where it is wrong.
+-- A secret of a PIN is shown: which one, and what is shown of it; what the PIN becomes where that is right, and whether a new
+-- value is set with it; and whether it is no longer verified where it is wrong.
 pub record Attempt : Type 0 where
   pub pin : ℕ
   pub secret : ℕ
   pub shown : List ℕ
   pub becomes : Pin → Pin
+  pub renews : Bool
   pub unverifies : Bool
 
 abbrev pub verifying : ℕ → List ℕ → Attempt
@@ -44,6 +45,7 @@ verifying n shown = record {
   secret = value_of n;
   shown = shown;
   becomes = verified_pin;
+  renews = false;
   unverifies = true;
 }
 
@@ -53,6 +55,7 @@ changing n shown new = record {
   secret = value_of n;
   shown = shown;
   becomes = changed_pin new;
+  renews = true;
   unverifies = true;
 }
 
@@ -62,6 +65,7 @@ resetting n shown new = record {
   secret = unblocking_of n;
   shown = shown;
   becomes = reset_pin new;
+  renews = true;
   unverifies = false;
 }
 
@@ -142,3 +146,11 @@ attempt_commits c a = charged_card c a ∷ (if is_right c a then settled_card c 
 abbrev pub pin_commits : Card → Option Attempt → List Card
 pin_commits c None = []
 pin_commits c (Some a) = attempt_commits c a
+
+-- those that the word of the tries commits: the charge, and where no new value is set what a right value renews
+abbrev pub tries_commits : Card → Attempt → List Card
+tries_commits c a = charged_card c a ∷ (if is_right c a && not a.renews then settled_card c a ∷ [] else [])
+
+-- and those that a transaction commits: a new value, with the tries
+abbrev pub value_commits : Card → Attempt → List Card
+value_commits c a = if is_right c a && a.renews then settled_card c a ∷ [] else []

@@ -5,6 +5,8 @@ use Rattle.std.specs.Result.{result_err}
 use Rattle.card_rules.specs.declared.status.Sw.{Sw}
 use Rattle.undo_journal.specs.declared.error.StoreErr.{StoreErr}
 use Rattle.undo_journal.specs.Calls.{OnlyReads}
+use Rattle.undo_journal.specs.Spending.{Advances}
+use Rattle.undo_journal.specs.Undo.{gate}
 use Rattle.undo_journal.specs.Memory.{Memory, committed, IsReady, Reports}
 use Rattle.apdu_core.specs.Asked.{asked}
 use Rattle.apdu_core.specs.Requests.{Request}
@@ -18,6 +20,7 @@ use Rattle.card_core.specs.Spending.{most_writes, writes_of}
 use Rattle.card_core.specs.Stages.{commits, ChangesNothing, IsStage}
 use Rattle.card_core.specs.Standing.{IsCard}
 use Rattle.card_core.specs.Steps.{carried_out, refusals_of, served}
+use Rattle.card_core.specs.Words.{StandsAsked, StandsServed}
 use Rattle.card_core.specs.Working.{card_in, outcome, session_in, table_in, IsCurrent}
 
 -- A request that isn't refused and changes something lasting, at whatever exit: the card is the one before it, or the one after
@@ -41,6 +44,8 @@ pub record Serves (request : Request) (old : Memory) (x : Current) (new : Memory
   pub reports : Reports old new
   pub tells : new.failed ≡ result_err result
   pub writes : new.facts.writes ≤ old.facts.writes + most_writes request
+  pub advances : Advances old.facts new.facts
+  pub stands : gate old.facts.words ≡ 0 → StandsServed (card_in old) (session_in old x) request new.facts.words
   pub compares : ComparesBy request (card_in old) (comparisons old.facts) (card_in new) (comparisons new.facts)
   pub counted : OnOk result (CountsServed (card_in old) (session_in old x) request old.facts new.facts)
 
@@ -58,5 +63,8 @@ pub record CarriesOut (command : List ℕ) (old : Memory) (x : Current) (new : M
   pub reports : Reports old new
   pub tells : new.failed ≡ result_err result
   pub writes : new.facts.writes ≤ old.facts.writes + writes_of command
+  pub advances : Advances old.facts new.facts
+  pub stands : gate old.facts.words ≡ 0
+      → StandsAsked (card_in old) (session_in old x) (asked command) new.facts.words
   pub compares : ComparesAsked (asked command) (card_in old) (comparisons old.facts) (card_in new) (comparisons new.facts)
   pub counted : OnOk result (CountsAnswered (asked command) (card_in old) (session_in old x) old.facts new.facts)

@@ -1,5 +1,6 @@
 //! The factory's memory, and its writing.
 ghost use Rattle.std.specs.Prelude.{◌≡◌, ◌+◌, ◌<◌, ◌≤◌, false, Err, OnOk, IfOk, IfErr};
+ghost use Rattle.nvm_board.specs.Aims.{AimsOn};
 ghost use Rattle.nvm_board.specs.Facts.{Answered, Steady};
 ghost use Rattle.nvm_board.specs.declared.board.TheConstants.{PAGES};
 ghost use Rattle.block_chain.specs.declared.layout.TheConstants.{HEADER_PAGE};
@@ -88,6 +89,7 @@ fn write_factory<B: Board>(board: &mut B) -> Result<(), DeviceErr>
     ensures power { Answered (B.facts board.old) (B.facts board.new) result }
     ensures writes { (B.facts board.new).writes ≤ (B.facts board.old).writes + PAGES }
     ensures more { (B.facts board.old).writes ≤ (B.facts board.new).writes }
+    ensures cut { AimsOn (B.facts board.old) (B.facts board.new) }
     ensures compares { (B.facts board.new).compares ≡ (B.facts board.old).compares }
     ensures matches { (B.facts board.new).matches ≡ (B.facts board.old).matches }
 {
@@ -103,6 +105,7 @@ fn write_pages<B: Board>(board: &mut B) -> Result<(), DeviceErr>
     ensures power { Answered (B.facts board.old) (B.facts board.new) result }
     ensures writes { (B.facts board.new).writes + 1 ≤ (B.facts board.old).writes + PAGES }
     ensures more { (B.facts board.old).writes ≤ (B.facts board.new).writes }
+    ensures cut { AimsOn (B.facts board.old) (B.facts board.new) }
     ensures compares { (B.facts board.new).compares ≡ (B.facts board.old).compares }
     ensures matches { (B.facts board.new).matches ≡ (B.facts board.old).matches }
 {

@@ -1,6 +1,7 @@
 //! INCREASE (ETSI TS 102 221, 11.1.8).
 ghost use Rattle.std.specs.Prelude.{◌≡◌, ◌≤◌, ◌+◌, ◌++◌, ◌||◌, ◌⊎◌, nat_lt, [], length, None, Some, IfOk, OnOk, MatchResult};
 ghost use Rattle.std.specs.Result.{result_err};
+ghost use Rattle.undo_journal.specs.Commits.{CommitsByGate};
 ghost use Rattle.undo_journal.specs.Calls.{Reads, Changes};
 ghost use Rattle.undo_journal.specs.Memory.{committed, IsReady};
 ghost use Rattle.apdu_core.specs.Requests.{increase as increasing};
@@ -139,6 +140,7 @@ fn put_sum<B: Board>(body: Cyclic, store: &mut Store<B>, amount: &[u8]) -> Resul
     requires free { unraised body.record_length (cyclic_records (committed store.old) body) amount.now ≡ None }
     ensures any_exit { (committed store.new ≡ committed store.old)
         ⊎ Increases (committed store.old) body amount.now (committed store.new) }
+    ensures by_gate { CommitsByGate store.old store.new }
     ensures done { OnOk result (Increases (committed store.old) body amount.now (committed store.new)) }
     ensures store { Changes RECORD_WRITES store.old store.new (result_err result) }
 {

@@ -1,10 +1,11 @@
 //! A started card and its commands.
 ghost use Rattle.std.specs.Prelude.{◌≡◌, ◌⊎◌, ◌≤◌, ◌+◌, ◌-◌, Some, true, false, [], length, IsOk, IsErr, OnOk, OnErr, IfOk};
 ghost use Rattle.std.specs.Prelude.{IfErr, IsErrOf, Ok, Err, MatchOption, MatchResult};
+ghost use Rattle.nvm_board.specs.Aims.{due_of};
 ghost use Rattle.undo_journal.specs.declared.error.StoreErr.TheVariants as StoreErr;
 ghost use Rattle.card_core.specs.declared.faults.StartFault.TheVariants as StartFault;
 ghost use Rattle.card_core.specs.StartFaults.{fault_of_store};
-ghost use Rattle.undo_journal.specs.Spending.{WritesAtMost, KeepsBoard, KeepsShut, start_writes};
+ghost use Rattle.undo_journal.specs.Spending.{Advances, WritesAtMost, KeepsBoard, KeepsShut, start_writes};
 ghost use Rattle.file_tree.specs.Spaces.{free_space};
 ghost use Rattle.apdu_core.specs.Asked.{asked};
 ghost use Rattle.card_core.specs.Comparing.{comparisons, ComparesAsked};
@@ -12,6 +13,7 @@ ghost use Rattle.card_core.specs.Finding.{HasCard, FindsAgain};
 ghost use Rattle.card_core.specs.Running.{Starts, StartStopsBy, Steps, FailsIn, IsCutIn, card_found, memory_failure};
 ghost use Rattle.card_core.specs.Spending.{writes_of};
 ghost use Rattle.card_core.specs.Stages.{IsStage, ChangesNothing};
+ghost use Rattle.card_core.specs.Words.{StandsAsked};
 ghost use Rattle.card_core.specs.Outcomes.{answer_bytes};
 
 use crate::card_state::CardState;
@@ -133,7 +135,13 @@ impl<B: Board> Card<B> {
         ensures dark { self.old.state ≡ CardState.Dark → IsErr result × (self.new ≡ self.old) × (answer.new.items
             ≡ []) }
         ensures unlit { OnErr result (self.new.facts.dark ≡ true) }
+        // While the gate is not 0 the card before the transaction is found; with it 0 that word decides, and for a charge and
+        // for what VERIFY renews the word of the tries.
+        ensures stands { self.old.state ≡ CardState.Working
+            → StandsAsked (card_found self.old) self.old.session (asked command.now) self.new.facts.words }
         ensures writes { self.new.facts.writes ≤ self.old.facts.writes + COMMAND_WRITES }
+        // No write is taken back, and a cut that is set falls into the write that it was set for.
+        ensures advances { Advances self.old.facts self.new.facts }
         // What the bytes ask for bounds the device writes: reads and refusals by form make none.
         ensures counted { self.new.facts.writes ≤ self.old.facts.writes + writes_of command.now }
         // A comparison costs a lasting try, and no command but those on PINs that carry data makes one.
@@ -174,9 +182,10 @@ impl<B: Board> Card<B> {
 }
 
 impl<B: Faultless> Card<B> {
-    /// Tells that the board counts no fault.
+    /// Tells that the board counts no fault, and that a cut is due where one is set.
     pub fn has_no_fault(&self)
-        ensures { self.now.facts.faults ≡ 0 }
+        ensures faults { self.now.facts.faults ≡ 0 }
+        ensures due { self.now.facts.due ≡ due_of self.now.facts.pending }
     {
         self.store.has_no_fault();
     }

@@ -3,6 +3,7 @@
 ghost use Rattle.std.specs.Prelude.{◌≡◌, ◌⊎◌, ◌<◌, ◌+◌, [], Some, option_map, IfOk, IfSome, MatchOption};
 ghost use Rattle.std.specs.Result.{result_err};
 ghost use Rattle.nvm_board.specs.declared.board.TheConstants.{SECRETS};
+ghost use Rattle.undo_journal.specs.Commits.{StaysShut};
 ghost use Rattle.undo_journal.specs.Calls.{OnlyReads, Reads, Changes};
 ghost use Rattle.undo_journal.specs.Memory.{committed, IsReady};
 ghost use Rattle.card_rules.specs.Pins.{IsPinNumber};
@@ -153,6 +154,7 @@ fn take_try<B: Board>(store: &mut Store<B>, secret: u8) -> Result<Option<Charged
         (λ charged. (charged ≡ secret) × Charges secret store.old store.new)) }
     ensures kept { tries_left secret (pin_in store.old secret) ≡ 0 → OnlyReads store.old store.new }
     ensures pages { ArePinPages (committed store.new) }
+    ensures shut { StaysShut store.old store.new }
     ensures store { Changes 1 store.old store.new (result_err result) }
     ensures counted { IfOk result (λ taken. IfSome taken (λ _. store.new.facts.writes ≡ store.old.facts.writes + 1)) }
 {

@@ -1,6 +1,7 @@
 //! The body of an elementary file of records, as the entry of the file tells of it.
 ghost use Rattle.std.specs.Prelude.{◌≡◌, ◌≤◌, ◌⊎◌, ◌==◌, if◌then◌else◌, IsTrue, true, false, length, None, Some, OnOk};
 ghost use Rattle.std.specs.Result.{result_err};
+ghost use Rattle.undo_journal.specs.Commits.{CommitsByGate};
 ghost use Rattle.undo_journal.specs.Calls.{Reads, Changes};
 ghost use Rattle.undo_journal.specs.Memory.{committed, IsReady};
 ghost use Rattle.ef_body.specs.declared.layout.TheConstants.{RECORD_WRITES};
@@ -237,6 +238,7 @@ impl RecordBody {
         ensures any_exit { (committed store.new ≡ committed store.old)
             ⊎ BodyBecomes (committed store.old) self (replaced_in (committed store.old) self number bytes.now)
             (committed store.new) }
+        ensures by_gate { CommitsByGate store.old store.new }
         ensures done { OnOk result (BodyBecomes (committed store.old) self (replaced_in (committed store.old) self
             number bytes.now) (committed store.new)) }
         ensures store { Changes RECORD_WRITES store.old store.new (result_err result) }
@@ -257,6 +259,7 @@ impl RecordBody {
         ensures any_exit { (committed store.new ≡ committed store.old)
             ⊎ BodyBecomes (committed store.old) self (appended_in (committed store.old) self bytes.now) (committed
             store.new) }
+        ensures by_gate { CommitsByGate store.old store.new }
         ensures done { OnOk result (BodyBecomes (committed store.old) self (appended_in (committed store.old) self
             bytes.now) (committed store.new)) }
         ensures store { Changes RECORD_WRITES store.old store.new (result_err result) }

@@ -76,7 +76,7 @@ returns-in-Err-Store-clause-serves g c =
     let none = failed-decides _ _ c.in-Err-Store.field-0-is _ c.in-Err-Store.ensures.refusal in
     subst (λ (e : StoreErr). Serves request old x new x [] (Err e)) (sym c.in-Err-Store.e-is)
     (found-torn old mid c.requires.ready c.requires.card x c.args.target e entry found c.body_of-body.result
-    c.body_of-body.ensures c.args.offset c.args.bytes.now c.find_file.ensures.store.only none new c.update.ensures.any_exit
+    c.body_of-body.ensures c.args.offset c.args.bytes.now c.find_file.ensures.store.only none new c.update.ensures.any_exit c.update.ensures.by_gate
     c.update.ensures.store.reports c.update.ensures.store.writes c.in-Err-Store.e
     (c.in-Err-Store.ensures.store.tells ∙ ap (λ (b : BodyErr). failure (Some b)) c.in-Err-Store.field-0-is))
 
@@ -93,7 +93,7 @@ returns-clause-serves g c =
     subst (λ (y : Current). Serves request old x new y [] (Ok DONE)) (sym c.naming.ensures)
     (found-made old mid c.requires.ready c.requires.card x c.args.target e entry found c.body_of-body.result
     c.body_of-body.ensures c.args.offset c.args.bytes.now c.find_file.ensures.store.only c.in-Ok-update.ensures.refusal new
-    c.update.ensures.any_exit c.update.ensures.store.reports c.update.ensures.store.writes c.in-Ok-update.ensures.done
+    c.update.ensures.any_exit c.update.ensures.by_gate c.update.ensures.store.reports c.update.ensures.store.writes c.in-Ok-update.ensures.done
     c.in-Ok-update.ensures.store.ready c.requires.current)
 
 pub returns-clause-space : goal.returns-clause-space
@@ -107,4 +107,4 @@ returns-clause-space g c =
     let found = said_ok _ _ c.in_ok-file.field-0 c.in-Ok.file c.in-Ok.is c.in_ok-file.ensures.found in
     found-space old mid c.requires.ready c.requires.card x c.args.target e entry found c.body_of-body.result
     c.body_of-body.ensures c.args.offset c.args.bytes.now c.find_file.ensures.store.only c.in-Ok-update.ensures.refusal new
-    c.update.ensures.any_exit c.update.ensures.store.reports c.update.ensures.store.writes c.in-Ok-update.ensures.done
+    c.update.ensures.any_exit c.update.ensures.by_gate c.update.ensures.store.reports c.update.ensures.store.writes c.in-Ok-update.ensures.done

@@ -1,4 +1,5 @@
 use Rattle.std.proofs.Common.{◌≡◌, ◌<◌, ◌+◌, ℕ}
+use Rattle.nvm_board.specs.Aims.{AimsOn}
 use Rattle.nvm_board.specs.Facts.{Steady}
 use Rattle.card_core.specs.Factory.{factory_page}
 use Rattle.block_chain.specs.Words.{page_words}
@@ -9,6 +10,7 @@ invariant-loop-page g l =
     let first = g.B.Board.facts l.initial.board in
     let now = g.B.Board.facts l.board in record {
       steady : Steady first now;
+      cut : AimsOn first now;
       writes : now.writes + 1 ≡ first.writes + l.page;
       compares : now.compares ≡ first.compares;
       matches : now.matches ≡ first.matches;

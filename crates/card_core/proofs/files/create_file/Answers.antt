@@ -35,7 +35,7 @@ returns-in_err-entry-clause-serves g c =
     let found = said_ok _ _ c.in_ok-fcp.field-0 c.in-Ok.fcp c.in-Ok.is c.in_ok-fcp.ensures.found in
     creation-torn _ c.find_new_file.new.store c.create.new.store c.requires.ready c.requires.card c.args.current.now
     c.requires.current c.args.template.now c.in-Ok.fcp found c.find_new_file.ensures.store.only _ _
-    c.from_residual-in_err-entry.ensures.1 c.create.ensures.any_exit c.create.ensures.idle _ c.in_err-entry.ensures.store
+    c.from_residual-in_err-entry.ensures.1 c.create.ensures.any_exit c.create.ensures.idle c.create.ensures.by_gate _ c.in_err-entry.ensures.store
     (omega arith)
 
 pub returns-in-Refused-clause-serves : goal.returns-in-Refused-clause-serves
@@ -61,7 +61,8 @@ returns-in_err-entry-2-clause-serves g c =
     let found = said_ok _ _ c.in_ok-fcp.field-0 c.in-Ok.fcp c.in-Ok.is c.in_ok-fcp.ensures.found in
     created-torn _ c.find_new_file.new.store c.create.new.store c.requires.ready c.requires.card c.args.current.now
     c.requires.current c.args.template.now c.in-Ok.fcp found c.find_new_file.ensures.store.only c.in-Created.entry
-    c.in-Created.blocks c.in_ok-entry.field-0 c.in_ok-entry.ensures.done c.in-Created.is c.read_entry.new.store _ _
+    c.in-Created.blocks c.in_ok-entry.field-0 c.in_ok-entry.ensures.done c.in-Created.is c.read_entry.new.store _
+    c.create.ensures.by_gate _
     c.in_ok-entry.ensures.store (omega arith) c.in_err-entry-2.ensures.store _ _ c.from_residual-in_err-entry-2.ensures.1 refl
 
 pub overflow_sub-free : goal.overflow_sub-free
@@ -88,7 +89,7 @@ returns-clause-serves g c =
     subst (λ (y : Current). Serves (create_file c.args.template.now) old x new y [] (Ok DONE)) (sym c.at.ensures)
     (created-done old c.find_new_file.new.store c.create.new.store c.requires.ready c.requires.card x
     c.requires.current c.args.template.now c.in-Ok.fcp found c.find_new_file.ensures.store.only c.in-Created.entry
-    c.in-Created.blocks c.in_ok-entry.field-0 c.in_ok-entry.ensures.done c.in-Created.is new _ _
+    c.in-Created.blocks c.in_ok-entry.field-0 c.in_ok-entry.ensures.done c.in-Created.is new _ c.create.ensures.by_gate _
     c.in_ok-entry.ensures.store (omega arith) c.in_ok-entry-2.ensures.store c.in_ok-entry-2.ensures.store.ready c.in_ok-entry-2.entry
     c.in_ok-entry-2.ensures.entry)
 
@@ -97,5 +98,6 @@ returns-clause-space g c =
     let found = said_ok _ _ c.in_ok-fcp.field-0 c.in-Ok.fcp c.in-Ok.is c.in_ok-fcp.ensures.found in
     created-counts _ c.find_new_file.new.store c.create.new.store c.requires.ready c.requires.card c.args.current.now
     c.requires.current c.args.template.now c.in-Ok.fcp found c.find_new_file.ensures.store.only c.in-Created.entry
-    c.in-Created.blocks c.in_ok-entry.field-0 c.in_ok-entry.ensures.done c.in-Created.is c.read_entry.new.store _ _
+    c.in-Created.blocks c.in_ok-entry.field-0 c.in_ok-entry.ensures.done c.in-Created.is c.read_entry.new.store _
+    c.create.ensures.by_gate _
     c.in_ok-entry.ensures.store (omega arith) c.in_ok-entry-2.ensures.store c.args.free.now c.requires.space

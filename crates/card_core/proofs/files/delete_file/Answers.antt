@@ -1,4 +1,4 @@
-use Rattle.std.proofs.Common.{[], Result, Ok, None, sym, ◌∙◌, subst, arith, inr}
+use Rattle.std.proofs.Common.{[], Result, Ok, None, refl, sym, ◌∙◌, subst, arith, inr}
 use Rattle.undo_journal.specs.declared.error.StoreErr.{StoreErr}
 use Rattle.undo_journal.specs.Memory.{committed}
 use Rattle.undo_journal.specs.laws.Memory.{reports_then}
@@ -13,6 +13,7 @@ use Rattle.card_core.proofs.Deletions.{any-deleting, any-stands, deleted-space, 
 use Rattle.card_core.proofs.FileSteps.{delete-refused}
 use Rattle.card_core.proofs.Serves.{compared-none, declined, reads-compared, stopped, torn, written}
 use Rattle.card_core.proofs.Stopping.{err-is}
+use Rattle.card_core.proofs.Words.{went-after}
 use Rattle.card_core.proofs.files.delete_file.Goals as goal
 
 pub returns-in_err-file-clause-serves : goal.returns-in_err-file-clause-serves
@@ -52,11 +53,13 @@ returns-in_err-freed-clause-serves g c =
     let reports = reports_then old mid new reads.reports c.delete.ensures.store.reports in
     let spends = c.delete.ensures.store.writes.writes in
     let spent = reads.board.writes in
+    let went = went-after request old x new _ mid refl (inr stage) reads c.delete.ensures.store.writes
+    c.delete.ensures.by_gate in
     let compares = compared-none _ mid.facts new.facts c.delete.ensures.store.writes ∙ reads-compared old mid reads in
     subst (λ (r : Result Sw StoreErr). Serves request old x new x [] r)
     (sym (err-is _ _ c.from_residual-in_err-freed.ensures.1))
     (torn request old x new x [] c.in_err-freed.field-0.0 (inr stage) card reports c.in_err-freed.ensures.store.tells
-    (omega arith) (omega (arith, spends, spent)) compares)
+    (omega arith) (omega (arith, spends, spent)) went compares)
 
 pub returns-clause-serves : goal.returns-clause-serves
 returns-clause-serves g c =
@@ -77,6 +80,8 @@ returns-clause-serves g c =
     let reports = reports_then old mid new reads.reports c.delete.ensures.store.reports in
     let spends = c.delete.ensures.store.writes.writes in
     let spent = reads.board.writes in
+    let went = went-after request old x new _ mid refl (inr stage) reads c.delete.ensures.store.writes
+    c.delete.ensures.by_gate in
     let compares = compared-none _ mid.facts new.facts c.delete.ensures.store.writes ∙ reads-compared old mid reads in
     let done = done-step m sized c.requires.card x c.args.subject c.in-Ok.file.number found.below found.used
     found.place (committed mid) (committed new) same found.unrefused c.in_ok-freed.ensures.done in
@@ -86,7 +91,7 @@ returns-clause-serves g c =
     subst (λ (y : Entry). Serves request old x new (record x { df = y.parent; ef = None; pointer = None }) [] (Ok DONE))
     (sym found.entry_is)
     (written request old x new (λ _. tt) _ [] DONE (inr stage) card reports c.in_ok-freed.ensures.store.ready current
-    (omega arith) (omega (arith, spends, spent)) compares done)
+    (omega arith) (omega (arith, spends, spent)) went compares done)
 
 pub returns-clause-space : goal.returns-clause-space
 returns-clause-space g c =

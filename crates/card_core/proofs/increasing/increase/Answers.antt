@@ -57,7 +57,7 @@ returns-in_err-put_sum-clause-serves g c =
     let found = said_ok _ _ c.in_ok-file.field-0 c.in-Ok.file c.in-Ok.is c.in_ok-file.ensures.found in
     increased-torn c.args.store.now c.find_increased.new.store c.put_sum.new.store c.requires.ready c.requires.card
     c.args.current.now c.requires.current c.find_increased.ensures.store.only _ _ _ _ _ found
-    c.put_sum.ensures.any_exit _ c.in_err-put_sum.ensures.store c.args.answer.now.items c.requires.empty _ _
+    c.put_sum.ensures.any_exit c.put_sum.ensures.by_gate _ c.in_err-put_sum.ensures.store c.args.answer.now.items c.requires.empty _ _
     c.from_residual-in_err-put_sum.ensures.1 refl
 
 pub returns-clause-serves : goal.returns-clause-serves
@@ -69,7 +69,7 @@ returns-clause-serves g c =
     c.give.new.answer.items (Ok DONE)) (sym c.pointing.ensures)
     (increased-done old c.find_increased.new.store c.put_sum.new.store c.requires.ready c.requires.card x
     c.requires.current c.find_increased.ensures.store.only _ _ c.in-Ok.file.number c.in-Ok.file.body _ found
-    c.put_sum.ensures.any_exit _ c.in_ok-put_sum.ensures.store c.in_ok-put_sum.ensures.done
+    c.put_sum.ensures.any_exit c.put_sum.ensures.by_gate _ c.in_ok-put_sum.ensures.store c.in_ok-put_sum.ensures.done
     c.in_ok-put_sum.ensures.store.ready c.give.new.answer.items c.give.ensures.given c.give.ensures.room)
 
 pub returns-clause-space : goal.returns-clause-space
@@ -77,4 +77,4 @@ returns-clause-space g c =
     let found = said_ok _ _ c.in_ok-file.field-0 c.in-Ok.file c.in-Ok.is c.in_ok-file.ensures.found in
     increased-space c.args.store.now c.find_increased.new.store c.put_sum.new.store c.requires.ready c.requires.card
     c.args.current.now c.requires.current c.find_increased.ensures.store.only _ _ _ _ _ found
-    c.put_sum.ensures.any_exit _ c.in_ok-put_sum.ensures.store c.in_ok-put_sum.ensures.done
+    c.put_sum.ensures.any_exit c.put_sum.ensures.by_gate _ c.in_ok-put_sum.ensures.store c.in_ok-put_sum.ensures.done

@@ -31,7 +31,7 @@ returns-in_err-set_life_cycle-clause-serves g c =
     let found = said_ok _ _ c.in_ok-changed.field-0 c.in-Ok.changed c.in-Ok.is c.in_ok-changed.ensures.found in
     let tells : new.failed ≡ result_err c.from_residual-in_err-set_life_cycle.result = search rules in
     change-torn old mid new c.requires.ready c.requires.card x c.requires.current c.args.change c.args.subject
-    c.in-Ok.changed found c.find_change.ensures.store.only c.set_life_cycle.ensures.any_exit c.set_life_cycle.ensures.stays
+    c.in-Ok.changed found c.find_change.ensures.store.only c.set_life_cycle.ensures.any_exit c.set_life_cycle.ensures.by_gate c.set_life_cycle.ensures.stays
     c.set_life_cycle.ensures.store.reports c.set_life_cycle.ensures.store.writes
     c.from_residual-in_err-set_life_cycle.result c.from_residual-in_err-set_life_cycle.ensures.0 tells
 
@@ -45,7 +45,7 @@ returns-clause-serves g c =
     subst (λ (y : Current). Serves (change_life_cycle c.args.change c.args.subject) old x new y [] (Ok DONE))
     (sym c.at.ensures)
     (change-made old mid new c.requires.ready c.requires.card x c.requires.current c.args.change c.args.subject
-    c.in-Ok.changed found c.find_change.ensures.store.only c.set_life_cycle.ensures.any_exit c.set_life_cycle.ensures.stays
+    c.in-Ok.changed found c.find_change.ensures.store.only c.set_life_cycle.ensures.any_exit c.set_life_cycle.ensures.by_gate c.set_life_cycle.ensures.stays
     c.set_life_cycle.ensures.store.reports c.set_life_cycle.ensures.store.writes c.in_ok-set_life_cycle.ensures.done
     c.in_ok-set_life_cycle.ensures.store.ready)
 
@@ -57,7 +57,7 @@ returns-clause-space g c =
     let new = c.set_life_cycle.new.store in
     let found = said_ok _ _ c.in_ok-changed.field-0 c.in-Ok.changed c.in-Ok.is c.in_ok-changed.ensures.found in
     change-space old mid new c.requires.ready c.requires.card x c.requires.current c.args.change c.args.subject
-    c.in-Ok.changed found c.find_change.ensures.store.only c.set_life_cycle.ensures.any_exit c.set_life_cycle.ensures.stays
+    c.in-Ok.changed found c.find_change.ensures.store.only c.set_life_cycle.ensures.any_exit c.set_life_cycle.ensures.by_gate c.set_life_cycle.ensures.stays
     c.set_life_cycle.ensures.store.reports c.set_life_cycle.ensures.store.writes c.in_ok-set_life_cycle.ensures.done
 
 pub returns-in-Err-clause-space : goal.returns-in-Err-clause-space

@@ -32,7 +32,7 @@ returns-in_err-terminate_card g c =
     (err-is _ _ c.from_residual-in_err-terminate_card.ensures.1)) in
     end-torn old mid new c.requires.ready c.requires.card c.args.current.now c.requires.current _
     refl (sym granted ∙ c.in_ok-is_allowed.ensures.allowed) c.is_allowed.ensures.store.only
-    c.terminate_card.ensures.any_exit c.terminate_card.ensures.store.reports c.terminate_card.ensures.store.writes
+    c.terminate_card.ensures.any_exit c.terminate_card.ensures.by_gate c.terminate_card.ensures.store.reports c.terminate_card.ensures.store.writes
     c.from_residual-in_err-terminate_card.result c.from_residual-in_err-terminate_card.ensures.0 tells
 
 pub returns : goal.returns
@@ -43,7 +43,7 @@ returns g c =
     let granted : c.in_ok-is_allowed.field-0 ≡ true = c.if-not-branch.false in
     end-made old mid new c.requires.ready c.requires.card c.args.current.now c.requires.current _
     refl (sym granted ∙ c.in_ok-is_allowed.ensures.allowed) c.is_allowed.ensures.store.only
-    c.terminate_card.ensures.any_exit c.terminate_card.ensures.store.reports c.terminate_card.ensures.store.writes
+    c.terminate_card.ensures.any_exit c.terminate_card.ensures.by_gate c.terminate_card.ensures.store.reports c.terminate_card.ensures.store.writes
     c.in_ok-terminate_card.ensures.done c.in_ok-terminate_card.ensures.store.ready
 
 pub returns-in_err-is_allowed : goal.returns-in_err-is_allowed

@@ -9,6 +9,7 @@ returns-in_err-charged g c =
     c.requires.ready c.requires.card c.requires.current c.take_try.new.store c.from_residual.result
     c.in_err-charged.field-0.0 c.from_residual.ensures.1 c.take_try.ensures.any_exit c.take_try.ensures.kept
     c.take_try.ensures.pages c.take_try.ensures.store.reports c.in_err-charged.ensures.store.tells c.take_try.ensures.store.writes
+    c.take_try.ensures.shut
 
 pub returns-in-None : goal.returns-in-None
 returns-in-None g c =
@@ -23,7 +24,8 @@ returns-in_err-outcome g c =
     c.requires.ready c.requires.card c.requires.current c.take_try.new.store c.reset_counter.new.store c.in_ok-charged.field-0
     c.in-Some.charged c.in-Some.is c.in_ok-charged.ensures.done c.take_try.ensures.pages c.take_try.ensures.store.writes
     c.take_try.ensures.store.reports (λ p. reset_ends (8 + (c.args.pin - 1)) c.args.values.new.now p large) c.reset_counter.ensures.any_exit
-    c.reset_counter.ensures.spends c.reset_counter.ensures.pages c.reset_counter.ensures.store.reports c.from_residual-in_err-outcome.result
+    c.reset_counter.ensures.spends c.reset_counter.ensures.pages c.reset_counter.ensures.store.reports c.take_try.ensures.shut
+    c.reset_counter.ensures.by_gate c.from_residual-in_err-outcome.result
     c.in_err-outcome.field-0.0 c.from_residual-in_err-outcome.ensures.1 c.in_err-outcome.ensures.store.tells
 
 pub returns : goal.returns
@@ -33,7 +35,8 @@ returns g c =
     c.requires.ready c.requires.card c.requires.current c.take_try.new.store c.reset_counter.new.store c.in_ok-charged.field-0
     c.in-Some.charged c.in-Some.is c.in_ok-charged.ensures.done c.take_try.ensures.pages c.take_try.ensures.store.writes
     c.take_try.ensures.store.reports (λ p. reset_ends (8 + (c.args.pin - 1)) c.args.values.new.now p large) c.reset_counter.ensures.any_exit
-    c.reset_counter.ensures.spends c.reset_counter.ensures.pages c.reset_counter.ensures.store.reports c.in_ok-outcome.outcome
+    c.reset_counter.ensures.spends c.reset_counter.ensures.pages c.reset_counter.ensures.store.reports c.take_try.ensures.shut
+    c.reset_counter.ensures.by_gate c.in_ok-outcome.outcome
     c.in_ok-outcome.ensures.done c.in_ok-outcome.ensures.store.ready c.in_ok-charged.ensures.counted
     c.after_attempt.result c.after_attempt.ensures
     c.status_of.result c.status_of.ensures

@@ -9,6 +9,7 @@ returns-in_err-charged g c =
     c.requires.ready c.requires.card c.requires.current c.take_try.new.store c.from_residual.result
     c.in_err-charged.field-0.0 c.from_residual.ensures.1 c.take_try.ensures.any_exit c.take_try.ensures.kept
     c.take_try.ensures.pages c.take_try.ensures.store.reports c.in_err-charged.ensures.store.tells c.take_try.ensures.store.writes
+    c.take_try.ensures.shut
 
 pub returns-in-None : goal.returns-in-None
 returns-in-None g c =
@@ -25,7 +26,8 @@ returns-in_err-outcome g c =
     c.requires.ready c.requires.card c.requires.current c.take_try.new.store c.settle.new.store c.in_ok-charged.field-0
     c.in-Some.charged c.in-Some.is c.in_ok-charged.ensures.done c.take_try.ensures.pages c.take_try.ensures.store.writes
     c.take_try.ensures.store.reports (λ p. verified_ends (c.args.pin - 1) p small) c.settle.ensures.any_exit
-    c.settle.ensures.spends c.settle.ensures.pages c.settle.ensures.store.reports c.from_residual-in_err-outcome.result
+    c.settle.ensures.spends c.settle.ensures.pages c.settle.ensures.store.reports c.take_try.ensures.shut
+    c.settle.ensures.shut c.from_residual-in_err-outcome.result
     c.in_err-outcome.field-0.0 c.from_residual-in_err-outcome.ensures.1 c.in_err-outcome.ensures.store.tells
 
 pub returns : goal.returns
@@ -37,7 +39,8 @@ returns g c =
     c.requires.ready c.requires.card c.requires.current c.take_try.new.store c.settle.new.store c.in_ok-charged.field-0
     c.in-Some.charged c.in-Some.is c.in_ok-charged.ensures.done c.take_try.ensures.pages c.take_try.ensures.store.writes
     c.take_try.ensures.store.reports (λ p. verified_ends (c.args.pin - 1) p small) c.settle.ensures.any_exit
-    c.settle.ensures.spends c.settle.ensures.pages c.settle.ensures.store.reports c.in_ok-outcome.outcome
+    c.settle.ensures.spends c.settle.ensures.pages c.settle.ensures.store.reports c.take_try.ensures.shut
+    c.settle.ensures.shut c.in_ok-outcome.outcome
     c.in_ok-outcome.ensures.done c.in_ok-outcome.ensures.store.ready c.in_ok-charged.ensures.counted
     c.after_attempt.result c.after_attempt.ensures c.status_of.result c.status_of.ensures
 

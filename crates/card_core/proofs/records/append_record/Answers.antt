@@ -48,7 +48,7 @@ pub returns-in_err-append-clause-serves : goal.returns-in_err-append-clause-serv
 returns-in_err-append-clause-serves g c =
     let found = said_ok _ _ c.in_ok-file.field-0 c.in-Ok.file c.in-Ok.is c.in_ok-file.ensures.found in
     appended-torn c.args.store.now c.find_appended.new.store c.append.new.store c.requires.ready c.requires.card
-    c.args.current.now c.requires.current c.find_appended.ensures.store.only _ _ _ _ found c.append.ensures.any_exit _
+    c.args.current.now c.requires.current c.find_appended.ensures.store.only _ _ _ _ found c.append.ensures.any_exit c.append.ensures.by_gate _
     c.in_err-append.ensures.store _ _ c.from_residual-in_err-append.ensures.1 refl
 
 pub added-number-requires : goal.added-number-requires
@@ -67,12 +67,12 @@ returns-clause-serves g c =
     (Ok DONE)) (sym c.pointing.ensures)
     (appended-done old c.find_appended.new.store c.append.new.store c.requires.ready c.requires.card x
     c.requires.current c.find_appended.ensures.store.only c.args.target c.args.bytes.now file.number file.body found
-    c.append.ensures.any_exit _ c.in_ok-append.ensures.store c.in_ok-append.ensures.done
+    c.append.ensures.any_exit c.append.ensures.by_gate _ c.in_ok-append.ensures.store c.in_ok-append.ensures.done
     c.in_ok-append.ensures.store.ready c.added-number.result c.added-number.ensures)
 
 pub returns-clause-space : goal.returns-clause-space
 returns-clause-space g c =
     let found = said_ok _ _ c.in_ok-file.field-0 c.in-Ok.file c.in-Ok.is c.in_ok-file.ensures.found in
     appended-space c.args.store.now c.find_appended.new.store c.append.new.store c.requires.ready c.requires.card
-    c.args.current.now c.requires.current c.find_appended.ensures.store.only _ _ _ _ found c.append.ensures.any_exit _
+    c.args.current.now c.requires.current c.find_appended.ensures.store.only _ _ _ _ found c.append.ensures.any_exit c.append.ensures.by_gate _
     c.in_ok-append.ensures.store c.in_ok-append.ensures.done

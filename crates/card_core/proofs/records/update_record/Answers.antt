@@ -53,7 +53,7 @@ returns-in_err-update-clause-serves g c =
     let found = said_ok _ _ c.in_ok-replaced.field-0 c.in-Ok.replaced c.in-Ok.is c.in_ok-replaced.ensures.found in
     replaced-torn c.args.store.now c.find_replaced.new.store c.update.new.store c.requires.ready c.requires.card
     c.args.current.now c.requires.current c.find_replaced.ensures.store.only _ _ _ _ _ _ found
-    c.update.ensures.any_exit _ c.in_err-update.ensures.store _ _ c.from_residual-in_err-update.ensures.1 refl
+    c.update.ensures.any_exit c.update.ensures.by_gate _ c.in_err-update.ensures.store _ _ c.from_residual-in_err-update.ensures.1 refl
 
 pub pointer_replaced-after-requires : goal.pointer_replaced-after-requires
 pointer_replaced-after-requires g c =
@@ -73,7 +73,7 @@ returns-clause-serves g c =
     (Ok DONE)) (sym c.pointing.ensures)
     (replaced-done old c.find_replaced.new.store c.update.new.store c.requires.ready c.requires.card x
     c.requires.current c.find_replaced.ensures.store.only c.args.target choice c.args.bytes.now file.number file.body
-    number found c.update.ensures.any_exit _ c.in_ok-update.ensures.store c.in_ok-update.ensures.done
+    number found c.update.ensures.any_exit c.update.ensures.by_gate _ c.in_ok-update.ensures.store c.in_ok-update.ensures.done
     c.in_ok-update.ensures.store.ready c.pointer_replaced-after.result (c.pointer_replaced-after.ensures
     ∙ ap (λ (p : Option ℕ). if wraps_in file.body then Some 1 else pointer_after p choice number)
     c.pointer_at-pointer.ensures))
@@ -83,4 +83,4 @@ returns-clause-space g c =
     let found = said_ok _ _ c.in_ok-replaced.field-0 c.in-Ok.replaced c.in-Ok.is c.in_ok-replaced.ensures.found in
     replaced-space c.args.store.now c.find_replaced.new.store c.update.new.store c.requires.ready c.requires.card
     c.args.current.now c.requires.current c.find_replaced.ensures.store.only _ _ _ _ _ _ found
-    c.update.ensures.any_exit _ c.in_ok-update.ensures.store c.in_ok-update.ensures.done
+    c.update.ensures.any_exit c.update.ensures.by_gate _ c.in_ok-update.ensures.store c.in_ok-update.ensures.done

@@ -1,5 +1,6 @@
 use Rattle.std.proofs.Common.{refl, ◌≡◌, ◌⊎◌, ◌+◌, ◌≤◌, OnOk, OnErr, sym, ◌∙◌, ap, subst, arith}
-use Rattle.undo_journal.specs.Spending.{KeepsBoard}
+use Rattle.nvm_board.specs.laws.Aims.{aims_same}
+use Rattle.undo_journal.specs.Spending.{Advances, KeepsBoard}
 use Rattle.apdu_core.specs.Asked.{asked}
 use Rattle.card_core.specs.declared.card_state.CardState.{CardState}
 use Rattle.card_core.specs.declared.card_state.CardState.TheVariants.{Working, Failed, Dark}
@@ -10,6 +11,7 @@ use Rattle.card_core.specs.Running.{card_found, FailsIn, IsCutIn, Running, Steps
 use Rattle.card_core.specs.Sessions.{Session}
 use Rattle.card_core.specs.Spending.{writes_of}
 use Rattle.card_core.specs.Stages.{ChangesNothing, IsStage}
+use Rattle.card_core.specs.Words.{StandsAsked}
 use Rattle.card_core.specs.Working.{card_in, session_while, table_in}
 use Rattle.card_core.specs.laws.SpendLaws.{few_writes}
 use Rattle.card_core.proofs.Commanding.{after, still-compares, still-stage, ended-done, ended-kept, ended-lost, ended-unlit, Ends}
@@ -141,7 +143,7 @@ pub returns-in-Failed-clause-stage : goal.returns-in-Failed-clause-stage
 returns-in-Failed-clause-stage g c = still-stage c.args.self.now c.args.command.now
 
 pub returns-in-Failed-clause-idle : goal.returns-in-Failed-clause-idle
-returns-in-Failed-clause-idle g c = λ nothing. record { words = refl; writes = refl; compares = refl; matches = refl }
+returns-in-Failed-clause-idle g c = λ nothing. record { cut = aims_same _; words = refl; writes = refl; compares = refl; matches = refl }
 
 pub returns-in-Failed-clause-writes : goal.returns-in-Failed-clause-writes
 returns-in-Failed-clause-writes g c = omega arith
@@ -160,7 +162,7 @@ pub returns-in-Dark-clause-stage : goal.returns-in-Dark-clause-stage
 returns-in-Dark-clause-stage g c = still-stage c.args.self.now c.args.command.now
 
 pub returns-in-Dark-clause-idle : goal.returns-in-Dark-clause-idle
-returns-in-Dark-clause-idle g c = λ nothing. record { words = refl; writes = refl; compares = refl; matches = refl }
+returns-in-Dark-clause-idle g c = λ nothing. record { cut = aims_same _; words = refl; writes = refl; compares = refl; matches = refl }
 
 pub returns-in-Dark-clause-writes : goal.returns-in-Dark-clause-writes
 returns-in-Dark-clause-writes g c = omega arith
@@ -170,3 +172,32 @@ returns-in-Dark-clause-counted g c = omega arith
 
 pub returns-in-Dark-clause-compares : goal.returns-in-Dark-clause-compares
 returns-in-Dark-clause-compares g c = still-compares c.args.self.now c.args.command.now
+
+pub returns-clause-stands : goal.returns-clause-stands
+returns-clause-stands g c = λ works.
+    let new = c.carry_out-carried.new.store.facts.words in
+    let inside = c.self.inside in
+    let session = sym (ap (λ (state : CardState). session_while state (table_in inside.store) inside.current)
+    c.in-Working.is) in
+    subst (λ (r : Running). StandsAsked (card_found r) r.session (asked c.args.command.now) new) c.self.view_is
+    (subst (λ (s : Session). StandsAsked (card_in inside.store) s (asked c.args.command.now) new) session
+    (c.carry_out-carried.ensures.carries.stands (c.self.invariant.1 c.in-Working.is).ready.shut))
+
+pub returns-clause-advances : goal.returns-clause-advances
+returns-clause-advances g c =
+    subst (λ (r : Running). Advances r.facts c.carry_out-carried.new.store.facts) c.self.view_is
+    c.carry_out-carried.ensures.carries.advances
+
+pub returns-in-Failed-clause-advances : goal.returns-in-Failed-clause-advances
+returns-in-Failed-clause-advances g c = record { more = omega arith; cut = aims_same _ }
+
+pub returns-in-Dark-clause-advances : goal.returns-in-Dark-clause-advances
+returns-in-Dark-clause-advances g c = record { more = omega arith; cut = aims_same _ }
+
+pub returns-in-Failed-clause-stands : goal.returns-in-Failed-clause-stands
+returns-in-Failed-clause-stands g c = λ works.
+    let never : Working ≡ Failed = sym works ∙ (ap (λ (r : Running). r.state) (sym c.self.view_is) ∙ c.in-Failed.is) in cc
+
+pub returns-in-Dark-clause-stands : goal.returns-in-Dark-clause-stands
+returns-in-Dark-clause-stands g c = λ works.
+    let never : Working ≡ Dark = sym works ∙ (ap (λ (r : Running). r.state) (sym c.self.view_is) ∙ c.in-Dark.is) in cc

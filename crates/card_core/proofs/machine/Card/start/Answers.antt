@@ -14,7 +14,8 @@ use Rattle.card_core.specs.Working.{IsKept, session_of, table_in, TellsCard}
 use Rattle.card_core.proofs.Entries.{master-path}
 use Rattle.nvm_board.specs.Facts.{Facts}
 use Rattle.card_core.specs.Running.{StartStopsBy}
-use Rattle.card_core.proofs.Powers.{board_kept, board_spends, found-again, found-there, starts-kept, stops-found, stops-opening}
+use Rattle.undo_journal.specs.laws.Calls.{boards_then, spends_before}
+use Rattle.card_core.proofs.Powers.{found-again, found-there, starts-kept, stops-found, stops-opening}
 use Rattle.card_core.proofs.machine.Card.start.Goals as goal
 
 pub returns-in-Err-space_of-clause-stopped : goal.returns-in-Err-space_of-clause-stopped
@@ -72,11 +73,11 @@ returns-in-Ok-space_of-clause-found g c =
 
 pub returns-in-Ok-space_of-clause-shut : goal.returns-in-Ok-space_of-clause-shut
 returns-in-Ok-space_of-clause-shut g c =
-    λ shut. board_kept _ _ _ (c.in-Ok.ensures.shut shut) c.find_card.ensures.store.only.board
+    λ shut. boards_then _ _ _ (c.in-Ok.ensures.shut shut) c.find_card.ensures.store.only.board
 
 pub returns-in-Ok-space_of-clause-writes : goal.returns-in-Ok-space_of-clause-writes
 returns-in-Ok-space_of-clause-writes g c =
-    board_spends _ _ _ _ c.in-Ok.ensures.writes c.find_card.ensures.store.only.board
+    spends_before _ _ _ _ c.in-Ok.ensures.writes c.find_card.ensures.store.only.board
 
 pub returns-in-Err-space_of-clause-found_err : goal.returns-in-Err-space_of-clause-found_err
 returns-in-Err-space_of-clause-found_err g c =
@@ -88,13 +89,13 @@ returns-in-Err-space_of-clause-found_err g c =
 pub returns-in-Err-space_of-clause-shut_err : goal.returns-in-Err-space_of-clause-shut_err
 returns-in-Err-space_of-clause-shut_err g c =
     λ shut. subst (λ (now : Facts). KeepsBoard (g.B.Board.facts c.args.board) now) (sym c.into_board.ensures)
-    (board_kept _ _ _ (c.in-Ok.ensures.shut shut) c.find_card.ensures.store.only.board)
+    (boards_then _ _ _ (c.in-Ok.ensures.shut shut) c.find_card.ensures.store.only.board)
 
 pub returns-in-Err-space_of-clause-writes_err : goal.returns-in-Err-space_of-clause-writes_err
 returns-in-Err-space_of-clause-writes_err g c =
     let first = g.B.Board.facts c.args.board in
     subst (λ (now : Facts). WritesAtMost (start_writes first) first now) (sym c.into_board.ensures)
-    (board_spends _ _ _ _ c.in-Ok.ensures.writes c.find_card.ensures.store.only.board)
+    (spends_before _ _ _ _ c.in-Ok.ensures.writes c.find_card.ensures.store.only.board)
 
 pub returns-in-Err-clause-stopped : goal.returns-in-Err-clause-stopped
 returns-in-Err-clause-stopped g c = stops-opening _ _ _ _ c.from.ensures c.in-Err.ensures.not_opened
