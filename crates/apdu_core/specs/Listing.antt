@@ -1,5 +1,5 @@
 -- What a row of the table of commands allows, as lists of numbers.
-use Rattle.std.specs.Prelude.{ℕ, Bool, List, filter}
+use Rattle.std.specs.Prelude.{ℕ, ◌%◌, Bool, List, filter}
 use Rattle.std.specs.List.{range_with_len}
 use Rattle.apdu_core.specs.Rows.{Row}
 
@@ -11,17 +11,13 @@ header row = (row.class, row.instruction)
 abbrev pub bytes_with : (ℕ → Bool) → List ℕ
 bytes_with test = filter test (range_with_len 0 256)
 
--- the modes, of the eight that three bits can name, that pass a test
-abbrev pub modes_with : (ℕ → Bool) → List ℕ
-modes_with test = filter test (range_with_len 0 8)
+-- the mode that P2 of a command on records names, by its lower three bits
+abbrev pub mode : ℕ → ℕ
+mode p2 = p2 % 8
 
 -- each P1 that is allowed beside a P2
 abbrev pub first_parameters : Row → ℕ → List ℕ
 first_parameters row p2 = bytes_with (λ p1. row.parameters p1 p2)
-
--- each P2 that is allowed beside a P1
-abbrev pub second_parameters : Row → ℕ → List ℕ
-second_parameters row p1 = bytes_with (row.parameters p1)
 
 -- how many bytes may be sent under P1 and P2, with Le or without, of 0 to 256
 abbrev pub lengths_allowed : Row → ℕ → ℕ → Bool → List ℕ

@@ -1,5 +1,5 @@
 //! Laws of the definitions, as contracts of functions that do nothing.
-ghost use Rattle.std.specs.Prelude.{◌≡◌, ◌+◌, ◌*◌, ◌++◌, ◌∷◌, ◌&&◌, [], ℕ, List, Bool, true, false, Ok, Some, None, map};
+ghost use Rattle.std.specs.Prelude.{◌≡◌, ◌+◌, ◌*◌, ◌++◌, ◌∷◌, ◌==◌, ◌&&◌, ◌||◌, [], ℕ, List, Bool, true, false, Ok, Some, None, map};
 ghost use Rattle.std.specs.Prelude.{MatchResult, IfOk};
 ghost use Rattle.apdu_core.specs.declared.binary.Target.TheVariants.{Current as current_file, Short as short_file};
 ghost use Rattle.apdu_core.specs.declared.files.Subject.TheVariants.{Identifier as by_identifier};
@@ -17,7 +17,7 @@ ghost use Rattle.apdu_core.specs.RecordRows.{increase_row, is_record_file, is_ch
 ghost use Rattle.apdu_core.specs.LifeCycleRows.{life_cycle_row, terminate_card_usage_row};
 ghost use Rattle.apdu_core.specs.PinRows.{verify_row, change_reference_data_row, reset_retry_counter_row, is_pin};
 ghost use Rattle.apdu_core.specs.SelectRows.{select_row, is_way, is_returned};
-ghost use Rattle.apdu_core.specs.Listing.{header, bytes_with, modes_with, first_parameters, second_parameters, lengths_allowed};
+ghost use Rattle.apdu_core.specs.Listing.{header, bytes_with, mode, first_parameters, lengths_allowed};
 ghost use Rattle.std.specs.List.{range_with_len};
 ghost use Rattle.apdu_core.specs.OfBytes.{AreBytes, IsOfBytes, IsStatusWord};
 ghost use Rattle.apdu_core.specs.Requests.{select, read_binary, update_binary, create_file, delete_file};
@@ -78,27 +78,26 @@ pub fn binary_numbers()
 /// The numbers of CREATE FILE and DELETE FILE (ISO/IEC 7816-9): P1 and P2 are 00 and Le doesn't stand; the one sends 1 to
 /// 255 bytes, the other none or 2.
 pub fn file_numbers()
-    ensures create { (first_parameters create_file_row 0x00 ≡ 0x00 ∷ [])
-        × (second_parameters create_file_row 0x00 ≡ 0x00 ∷ [])
-        × (lengths_allowed create_file_row 0x00 0x00 true ≡ [])
-        × (lengths_allowed create_file_row 0x00 0x00 false ≡ range_with_len 1 255) }
-    ensures delete { (first_parameters delete_file_row 0x00 ≡ 0x00 ∷ [])
-        × (second_parameters delete_file_row 0x00 ≡ 0x00 ∷ [])
-        × (lengths_allowed delete_file_row 0x00 0x00 true ≡ [])
-        × (lengths_allowed delete_file_row 0x00 0x00 false ≡ 0 ∷ 2 ∷ []) }
+    ensures parameters { (p1 p2 : ℕ) → (create_file_row.parameters p1 p2 ≡ ((p1 == 0x00) && (p2 == 0x00)))
+        × (delete_file_row.parameters p1 p2 ≡ ((p1 == 0x00) && (p2 == 0x00))) }
+    ensures create { (p1 p2 : ℕ) → (lengths_allowed create_file_row p1 p2 true ≡ [])
+        × (lengths_allowed create_file_row p1 p2 false ≡ range_with_len 1 255) }
+    ensures delete { (p1 p2 : ℕ) → (lengths_allowed delete_file_row p1 p2 true ≡ [])
+        × (lengths_allowed delete_file_row p1 p2 false ≡ 0 ∷ 2 ∷ []) }
 {}
 
-/// P1 and P2 of the commands on records (ISO/IEC 7816-4, 11.4): each P2 that names a file, and the modes of READ RECORD and
-/// UPDATE RECORD under P1 00 and under another P1, and of SEARCH RECORD; APPEND RECORD has P1 00 and mode 0.
+/// P1 and P2 of the commands on records (ISO/IEC 7816-4, 11.4): each P2 that names a file; the modes of READ RECORD and
+/// UPDATE RECORD, 4 under any P1, and 2 and 3 under P1 00; those of SEARCH RECORD, 4 and 5; APPEND RECORD has P1 00 and
+/// mode 0.
 pub fn record_parameters()
     ensures files { bytes_with is_record_file ≡ range_with_len 0x00 0xF8 }
-    ensures modes { (modes_with (is_choice 0x00) ≡ 2 ∷ 3 ∷ 4 ∷ []) × (modes_with (is_choice 0x01) ≡ 4 ∷ [])
-        × (modes_with is_direction ≡ 4 ∷ 5 ∷ []) }
+    ensures modes { (p1 p2 : ℕ) → (is_choice p1 p2 ≡ (mode p2 == 4 || ((p1 == 0x00) && (mode p2 == 2 || mode p2 == 3))))
+        × (is_direction p2 ≡ (mode p2 == 4 || mode p2 == 5)) }
     ensures chosen { (p1 p2 : ℕ) → (read_record_row.parameters p1 p2 ≡ (is_record_file p2 && is_choice p1 p2))
         × (update_record_row.parameters p1 p2 ≡ (is_record_file p2 && is_choice p1 p2)) }
     ensures searched { (p1 p2 : ℕ) → search_record_row.parameters p1 p2 ≡ (is_record_file p2 && is_direction p2) }
-    ensures appended { (first_parameters append_record_row 0x08 ≡ 0x00 ∷ [])
-        × (second_parameters append_record_row 0x00 ≡ map (λ short. 8 * short) (range_with_len 0 31)) }
+    ensures appended { (p1 p2 : ℕ)
+        → append_record_row.parameters p1 p2 ≡ (is_record_file p2 && ((p1 == 0x00) && (mode p2 == 0))) }
 {}
 
 /// How much the commands on records send: READ RECORD nothing, with Le; UPDATE RECORD and APPEND RECORD 1 to 255 bytes, with
@@ -111,21 +110,20 @@ pub fn record_lengths()
     ensures append { (p1 p2 : ℕ) → (lengths_allowed append_record_row p1 p2 true ≡ [])
         × (lengths_allowed append_record_row p1 p2 false ≡ range_with_len 1 255) }
     ensures search { (p1 p2 : ℕ) (le : Bool) → lengths_allowed search_record_row p1 p2 le ≡ range_with_len 1 255 }
-    ensures increase { (first_parameters increase_row 0x00 ≡ 0x00 ∷ []) × (second_parameters increase_row 0x00 ≡ 0x00 ∷ [])
-        × ((le : Bool) → lengths_allowed increase_row 0x00 0x00 le ≡ range_with_len 1 255) }
+    ensures increase { (p1 p2 : ℕ) → (increase_row.parameters p1 p2 ≡ ((p1 == 0x00) && (p2 == 0x00)))
+        × ((le : Bool) → lengths_allowed increase_row p1 p2 le ≡ range_with_len 1 255) }
 {}
 
 /// The numbers of the commands on life cycles (ISO/IEC 7816-9): P1 and P2 are 00 and Le doesn't stand; DEACTIVATE FILE,
 /// ACTIVATE FILE, TERMINATE DF and TERMINATE EF send no byte or 2, TERMINATE CARD USAGE none.
 pub fn life_cycle_numbers()
-    ensures parameters { (change : LifeCycleChange) → (first_parameters (life_cycle_row change) 0x00 ≡ 0x00 ∷ [])
-        × (second_parameters (life_cycle_row change) 0x00 ≡ 0x00 ∷ []) }
-    ensures lengths { (change : LifeCycleChange) → (lengths_allowed (life_cycle_row change) 0x00 0x00 true ≡ [])
-        × (lengths_allowed (life_cycle_row change) 0x00 0x00 false ≡ 0 ∷ 2 ∷ []) }
-    ensures card { (first_parameters terminate_card_usage_row 0x00 ≡ 0x00 ∷ [])
-        × (second_parameters terminate_card_usage_row 0x00 ≡ 0x00 ∷ [])
-        × (lengths_allowed terminate_card_usage_row 0x00 0x00 true ≡ [])
-        × (lengths_allowed terminate_card_usage_row 0x00 0x00 false ≡ 0 ∷ []) }
+    ensures parameters { (change : LifeCycleChange) (p1 p2 : ℕ)
+        → (life_cycle_row change).parameters p1 p2 ≡ ((p1 == 0x00) && (p2 == 0x00)) }
+    ensures lengths { (change : LifeCycleChange) (p1 p2 : ℕ) → (lengths_allowed (life_cycle_row change) p1 p2 true ≡ [])
+        × (lengths_allowed (life_cycle_row change) p1 p2 false ≡ 0 ∷ 2 ∷ []) }
+    ensures card { (p1 p2 : ℕ) → (terminate_card_usage_row.parameters p1 p2 ≡ ((p1 == 0x00) && (p2 == 0x00)))
+        × (lengths_allowed terminate_card_usage_row p1 p2 true ≡ [])
+        × (lengths_allowed terminate_card_usage_row p1 p2 false ≡ 0 ∷ []) }
 {}
 
 /// The numbers of the commands on PINs (ISO/IEC 7816-4, 11.5): P1 is 00, P2 is a PIN, 1 to 8, and Le doesn't stand; VERIFY
@@ -134,7 +132,8 @@ pub fn pin_numbers()
     ensures parameters { (p1 p2 : ℕ) → (verify_row.parameters p1 p2 ≡ is_pin p1 p2)
         × (change_reference_data_row.parameters p1 p2 ≡ is_pin p1 p2)
         × (reset_retry_counter_row.parameters p1 p2 ≡ is_pin p1 p2) }
-    ensures pins { (bytes_with (is_pin 0x00) ≡ range_with_len 1 8) × (bytes_with (λ p1. is_pin p1 0x08) ≡ 0x00 ∷ []) }
+    ensures pins { (bytes_with (is_pin 0x00) ≡ range_with_len 1 8)
+        × ((p1 p2 : ℕ) → is_pin p1 p2 ≡ ((p1 == 0x00) && is_pin 0x00 p2)) }
     ensures lengths { (p1 p2 : ℕ) → (lengths_allowed verify_row p1 p2 false ≡ 0 ∷ 8 ∷ [])
         × (lengths_allowed change_reference_data_row p1 p2 false ≡ 16 ∷ [])
         × (lengths_allowed reset_retry_counter_row p1 p2 false ≡ 0 ∷ 16 ∷ []) }
