@@ -37,3 +37,14 @@ pub record ArmAfter {T : Type 0} (at : ℕ) (run : List ℕ) (old new : Facts) (
       → IsSpared (Some (record { whole_writes = left; mask = mask })) old new result
   pub fires : (mask : ℕ) → old.dark ≡ false → old.pending ≡ Some (record { whole_writes = 0; mask = mask })
       → IsCut mask at run old new result
+
+-- how many words the last torn write had; 0 before any
+abbrev pub last_torn : CutBoard → ℕ
+last_torn b = b.torn_words
+
+-- what a write of so many words does to that: it is the torn one, or nothing changes
+pub record TornAfter (size : ℕ) (old : Facts) (had has : ℕ) : Type 0 where
+  pub fires : (mask : ℕ) → old.dark ≡ false → old.pending ≡ Some (record { whole_writes = 0; mask = mask }) → has ≡ size
+  pub dark : old.dark ≡ true → has ≡ had
+  pub unarmed : old.pending ≡ None → has ≡ had
+  pub before : (left mask : ℕ) → old.pending ≡ Some (record { whole_writes = left + 1; mask = mask }) → has ≡ had

@@ -1,5 +1,6 @@
 //! A board in working memory that loses power at a write of one's choice.
-ghost use Rattle.std.specs.Prelude.{◌≡◌, IfOk};
+ghost use Rattle.std.specs.Prelude.{◌≡◌, ◌≤◌, IfOk};
+ghost use Rattle.nvm_board.specs.declared.board.TheConstants.{PAGE_WORDS};
 ghost use Rattle.nvm_board.specs.Facts.{new_board};
 
 use crate::arming::{firing, nearer};
@@ -13,22 +14,58 @@ use std::alloc::{AllocError, Global};
 pub struct CutBoard {
     ram: RamBoard,
     arm: Option<Arm>,
+    /// How many words the last torn write had; 0 before any.
+    torn_words: u8,
+    ghost torn_fit: { torn_words ≤ PAGE_WORDS },
 }
 
 impl CutBoard {
-    ghost use Rattle.nvm_board.specs.Cut.{cut_facts};
+    ghost use Rattle.std.specs.Prelude.{is_some};
+    ghost use Rattle.nvm_board.specs.Cut.{cut_facts, last_torn};
 
     /// A lit board whose words and counts are 0, with no cut to come.
     ///
     /// # Errors
     /// There is too little memory for the words.
     pub fn new(alloc: Global) -> Result<CutBoard, AllocError>
-        ensures { IfOk result (λ b. cut_facts b ≡ new_board) }
+        ensures facts { IfOk result (λ b. cut_facts b ≡ new_board) }
+        ensures torn { IfOk result (λ b. last_torn b ≡ 0) }
     {
         Ok(CutBoard {
             ram: RamBoard::new(alloc)?,
             arm: None,
+            torn_words: 0,
         })
+    }
+
+    /// Another board with the same words, light and counts, and the same cut to come.
+    ///
+    /// # Errors
+    /// There is too little memory for the words.
+    pub fn copy(&self, alloc: Global) -> Result<CutBoard, AllocError>
+        ensures facts { IfOk result (λ b. cut_facts b ≡ cut_facts self.now) }
+        ensures torn { IfOk result (λ b. last_torn b ≡ last_torn self.now) }
+    {
+        Ok(CutBoard {
+            ram: self.ram.copy(alloc)?,
+            arm: self.arm,
+            torn_words: self.torn_words,
+        })
+    }
+
+    /// Whether a cut is to come.
+    pub fn pending(&self) -> bool
+        ensures { result ≡ is_some (cut_facts self.now).pending }
+    {
+        self.arm.is_some()
+    }
+
+    /// How many words the last torn write had; 0 before any.
+    pub fn torn_words(&self) -> u8
+        ensures last { result ≡ last_torn self.now }
+        ensures fits { result ≤ PAGE_WORDS }
+    {
+        self.torn_words
     }
 }
 
@@ -39,7 +76,7 @@ impl Board for CutBoard {
     ghost use Rattle.nvm_board.specs.Facts.{Answered, IsLostRightly, RisesAt, address, raised};
     ghost use Rattle.nvm_board.specs.Aims.{AimsOn};
     ghost use Rattle.nvm_board.specs.Torn.{Torn, written};
-    ghost use Rattle.nvm_board.specs.Cut.{cut_facts, ArmAfter};
+    ghost use Rattle.nvm_board.specs.Cut.{cut_facts, last_torn, ArmAfter, TornAfter};
     ghost use Rattle.nvm_board.specs.laws.Counts.{cut_counts_fit};
 
     ghost facts = { cut_facts };
@@ -79,9 +116,11 @@ impl Board for CutBoard {
         ensures compares { (cut_facts self.new).compares ≡ (cut_facts self.old).compares }
         ensures matches { (cut_facts self.new).matches ≡ (cut_facts self.old).matches }
         ensures arm { ArmAfter (address page first) words.now (cut_facts self.old) (cut_facts self.new) result }
+        ensures torn_words { TornAfter (length words.now) (cut_facts self.old) (last_torn self.old) (last_torn self.new) }
     {
         if let Some(mask) = firing(self.arm, self.ram.is_dark()) {
             self.arm = None;
+            self.torn_words = words.len() as u8;
             self.ram.tear(page, first, words, mask);
             return Err(DeviceErr::PowerLost);
         }

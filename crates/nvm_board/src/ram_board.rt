@@ -52,6 +52,25 @@ impl RamBoard {
         })
     }
 
+    /// Another board with the same words, light and counts.
+    ///
+    /// # Errors
+    /// There is too little memory for the words.
+    pub(crate) fn copy(&self, alloc: Global) -> Result<RamBoard, AllocError>
+        ensures { IfOk result (λ b. ram_facts b ≡ ram_facts self.now) }
+    {
+        let mut words = Vec::new(alloc);
+        words.extend_from_slice(&self.words)?;
+        Ok(RamBoard {
+            words,
+            dark: self.dark,
+            cuts: self.cuts,
+            writes: self.writes,
+            compares: self.compares,
+            matches: self.matches,
+        })
+    }
+
     /// Whether power is off.
     pub(crate) fn is_dark(&self) -> bool
         ensures { result ≡ (ram_facts self.now).dark }
@@ -71,7 +90,7 @@ impl RamBoard {
     }
 
     /// Loses power in a call.
-    fn go_dark(&mut self)
+    pub(crate) fn go_dark(&mut self)
         requires { self.old.dark ≡ false }
         ensures { ram_facts self.new ≡ record (ram_facts self.old) { dark = true; cuts = self.old.cuts + 1 } }
     {
@@ -105,6 +124,17 @@ impl RamBoard {
         }
     }
 
+    /// Writes those words of the run whose bit of the mask is set.
+    pub(crate) fn put_torn(&mut self, page: u16, first: u8, words: &[u32], mask: u16)
+        requires page { page < PAGES }
+        requires run { first + length words.now ≤ PAGE_WORDS }
+        ensures torn { IsTornBy mask (ram_facts self.old).words (address page first) words.now
+            (ram_facts self.new).words }
+        ensures same { ram_facts self.new ≡ record (ram_facts self.old) { words = (ram_facts self.new).words } }
+    {
+        put_masked(&mut self.words, place(page, first), words, mask);
+    }
+
     /// Tears a write by the mask, and loses power in it.
     pub(crate) fn tear(&mut self, page: u16, first: u8, words: &[u32], mask: u16)
         requires lit { self.old.dark ≡ false }
@@ -115,7 +145,7 @@ impl RamBoard {
         ensures same { ram_facts self.new ≡ record (ram_facts self.old)
             { words = (ram_facts self.new).words; dark = true; cuts = self.old.cuts + 1 } }
     {
-        put_masked(&mut self.words, place(page, first), words, mask);
+        self.put_torn(page, first, words, mask);
         self.go_dark();
     }
 }

@@ -3,5 +3,5 @@ use Rattle.std.proofs.Common.{ap}
 use Rattle.nvm_board.proofs.WithArm.{with_arm}
 use Rattle.nvm_board.proofs.cut_board.CutBoard.new.Goals as goal
 
-pub returns : goal.returns
-returns c = ap (with_arm None) c.in_ok-new.ensures
+pub returns-clause-facts : goal.returns-clause-facts
+returns-clause-facts c = ap (with_arm None) c.in_ok-new.ensures
