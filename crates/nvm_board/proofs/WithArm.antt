@@ -54,7 +54,7 @@ error_armed P (Ok x) e is told = absurd is
 error_armed P (Err f) e is told = subst (λ (x : DeviceErr). P (Err x)) (sym is) told
 
 -- why a board without cuts and faults loses power that was on
-worn_by : {T : Type 0} (e : DeviceErr) (old new : Facts) → old.due ≡ 0 → new.faults ≡ 0 → old.dark ≡ false
+pub worn_by : {T : Type 0} (e : DeviceErr) (old new : Facts) → old.due ≡ 0 → new.faults ≡ 0 → old.dark ≡ false
     → Answered {T = T} old new (Err e) → IsLostRightly {T = T} old new (Err e) → IsWorn old
 unfolding IsLostRightly
 worn_by PowerLost old new none fine lit told rightly =

@@ -3,4 +3,5 @@ pub mod Aims
 pub mod Torn
 pub mod Ram
 pub mod Cut
+pub mod Faulty
 pub mod laws

@@ -35,10 +35,10 @@ pub enum DeviceErr {
 #[derive(Clone, Copy, Debug, PartialEq, Eq)]
 pub struct WornOut;
 
-/// A cut, or a fault, that is to come at a write.
+/// A cut, or a fault, that is to come at a write, or at a call of a board that counts its calls.
 #[derive(Clone, Copy, Debug, PartialEq, Eq)]
 pub struct Arm {
-    /// The writes that are still carried out before the torn one.
+    /// The writes, or calls, that are still carried out before the torn one.
     pub whole_writes: u32,
     /// Which words of the torn write are new: bit i tells of the ith.
     pub mask: u16,

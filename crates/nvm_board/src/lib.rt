@@ -5,6 +5,7 @@
 mod arming;
 mod board;
 mod cut_board;
+mod fault_board;
 pub mod laws;
 mod ram_board;
 mod runs;
@@ -14,4 +15,5 @@ pub use board::{
     WornOut, has_no_fault,
 };
 pub use cut_board::CutBoard;
+pub use fault_board::{Counted, FaultBoard};
 pub use ram_board::RamBoard;

@@ -2,9 +2,11 @@
 use Rattle.std.proofs.Common.{arith}
 use Rattle.nvm_board.specs.declared.ram_board.RamBoard.{RamBoard}
 use Rattle.nvm_board.specs.declared.cut_board.CutBoard.{CutBoard}
+use Rattle.nvm_board.specs.declared.fault_board.FaultBoard.{FaultBoard}
 use Rattle.nvm_board.specs.Facts.{CountsFit}
 use Rattle.nvm_board.specs.Ram.{ram_facts}
 use Rattle.nvm_board.specs.Cut.{cut_facts}
+use Rattle.nvm_board.specs.Faulty.{fault_facts}
 
 -- no count of a board in working memory is past its end
 pub ram_counts_fit : (b : RamBoard) → CountsFit (ram_facts b)
@@ -20,6 +22,16 @@ ram_counts_fit b = record {
 pub cut_counts_fit : (b : CutBoard) → CountsFit (cut_facts b)
 cut_counts_fit b = record {
   faults = omega arith;
+  cuts = b.ram.cuts_fit;
+  writes = b.ram.writes_fit;
+  compares = b.ram.compares_fit;
+  matches = b.ram.matches_fit;
+}
+
+-- nor of one that can fail
+pub fault_counts_fit : (b : FaultBoard) → CountsFit (fault_facts b)
+fault_counts_fit b = record {
+  faults = b.faults_fit;
   cuts = b.ram.cuts_fit;
   writes = b.ram.writes_fit;
   compares = b.ram.compares_fit;

@@ -1,0 +1,72 @@
+-- What contracts know of a board that fails at a call of one's choice.
+use Rattle.std.specs.Prelude.{◌≡◌, ◌+◌, ◌<◌, ℕ, List, Option, Some, None, Result, IsOk, IsErr, IsErrAnd, IsErrOf, true, false}
+use Rattle.nvm_board.specs.declared.board.TheConstants.{COUNT_END}
+use Rattle.nvm_board.specs.declared.board.Arm.{Arm}
+use Rattle.nvm_board.specs.declared.board.DeviceErr.{DeviceErr}
+use Rattle.nvm_board.specs.declared.board.DeviceErr.TheVariants.{PowerLost, Fault}
+use Rattle.nvm_board.specs.declared.fault_board.Counted.{Counted}
+use Rattle.nvm_board.specs.declared.fault_board.Counted.TheVariants.{Calls, Writes}
+use Rattle.nvm_board.specs.declared.fault_board.FaultBoard.{FaultBoard}
+use Rattle.nvm_board.specs.Facts.{Facts, IsWorn}
+use Rattle.nvm_board.specs.Ram.{ram_facts}
+use Rattle.nvm_board.specs.Torn.{IsTornBy}
+
+-- no cut is to come; what is pending is a fault
+abbrev pub fault_facts : FaultBoard → Facts
+fault_facts b = record (ram_facts b.ram) { pending = b.arm; faults = b.faults }
+
+-- what is counted until the fault comes, and what an arm counts that is set by `Armed::arm`
+pub record Counting : Type 0 where
+  pub counted : Counted
+  pub armed_by : Counted
+
+abbrev pub counting : FaultBoard → Counting
+counting b = record { counted = b.counted; armed_by = b.armed_by }
+
+-- A call that no fault falls into. It leaves this arm pending; or power is lost in it for a count at its end, and the
+-- arm stays.
+pub record IsPassed {T : Type 0} (next : Option Arm) (old new : Facts) (result : Result T DeviceErr) : Type 0 where
+  pub done : IsOk result → new.pending ≡ next
+  pub lost : IsErr result → IsErrOf result PowerLost
+  pub worn : IsErr result → IsWorn old
+  pub stays : IsErr result → new.pending ≡ old.pending
+
+-- The call that the fault falls into, and what it answers: the fault is counted; power is lost where no further one can
+-- be. No fault is to come any more, and nothing else changes but words.
+pub record IsFaulty (old new : Facts) (answer : DeviceErr) : Type 0 where
+  pub fault : old.faults < COUNT_END
+      → (answer ≡ Fault) × (new ≡ record old { words = new.words; pending = None; faults = old.faults + 1 })
+  pub worn : old.faults ≡ COUNT_END
+      → (answer ≡ PowerLost) × (new ≡ record old { words = new.words; pending = None; dark = true; cuts = old.cuts + 1 })
+
+-- What a call does to a fault that is to come and counts the call: on a dark board nothing; on a lit one it brings the
+-- fault nearer by one call, until none is left before it.
+pub record IsCounted {T : Type 0} (old new : Facts) (result : Result T DeviceErr) : Type 0 where
+  pub dark : old.dark ≡ true → new.pending ≡ old.pending
+  pub unarmed : old.dark ≡ false → old.pending ≡ None → IsPassed None old new result
+  pub before : (left mask : ℕ) → old.dark ≡ false → old.pending ≡ Some (record { whole_writes = left + 1; mask = mask })
+      → IsPassed (Some (record { whole_writes = left; mask = mask })) old new result
+  pub fires : (mask : ℕ) → old.dark ≡ false → old.pending ≡ Some (record { whole_writes = 0; mask = mask })
+      → IsErrAnd result (λ answer. IsFaulty old new answer)
+
+-- a call that isn't counted: no fault falls into it, and what is to come stays
+pub record IsUncounted {T : Type 0} (old new : Facts) (result : Result T DeviceErr) : Type 0 where
+  pub lost : IsErr result → IsErrOf result PowerLost
+  pub stays : new.pending ≡ old.pending
+
+-- what a read or a comparison does to the fault that is to come
+abbrev pub AfterCall : {T : Type 0} → Counted → Facts → Facts → Result T DeviceErr → Type 0
+AfterCall Calls old new result = IsCounted old new result
+AfterCall Writes old new result = IsUncounted old new result
+
+-- what a write that fails leaves of its run: the old words, or those that the mask says
+abbrev pub LeavesRun : Counted → ℕ → ℕ → List ℕ → List ℕ → List ℕ → Type 0
+LeavesRun Calls mask at run old new = new ≡ old
+LeavesRun Writes mask at run old new = IsTornBy mask old at run new
+
+-- what a write of this run does to the fault that is to come
+pub record AfterWrite {T : Type 0} (counted : Counted) (at : ℕ) (run : List ℕ) (old new : Facts)
+    (result : Result T DeviceErr) : Type 0 where
+  pub pending : IsCounted old new result
+  pub words : (mask : ℕ) → old.dark ≡ false → old.pending ≡ Some (record { whole_writes = 0; mask = mask })
+      → LeavesRun counted mask at run old.words new.words

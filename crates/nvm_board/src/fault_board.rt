@@ -1,0 +1,338 @@
+//! A board in working memory that fails once, at a call or at a write of one's choice.
+ghost use Rattle.std.specs.Prelude.{◌≡◌, ◌<◌, ◌≤◌, false, IfOk};
+ghost use Rattle.nvm_board.specs.declared.board.TheConstants.{COUNT_END};
+ghost use Rattle.nvm_board.specs.Facts.{new_board};
+
+use crate::arming::{firing, nearer};
+use crate::board::{Arm, Armed, Board, COUNT_END, DeviceErr, Socket, WornOut};
+use crate::ram_board::RamBoard;
+use std::alloc::{AllocError, Global};
+
+/// What a fault that is to come counts, until it comes.
+#[derive(Clone, Copy, Debug, PartialEq, Eq)]
+pub enum Counted {
+    /// Each read, write and comparison.
+    Calls,
+    /// Each write.
+    Writes,
+}
+
+/// A board in working memory of which one call can be set to fail, and which works on afterwards. What is set stays
+/// over power-ons until the fault comes.
+#[derive(Drop)]
+pub struct FaultBoard {
+    ram: RamBoard,
+    arm: Option<Arm>,
+    /// What the arm counts.
+    counted: Counted,
+    /// What an arm counts that is set by `Armed::arm`.
+    armed_by: Counted,
+    faults: u64,
+    ghost faults_fit: { faults ≤ COUNT_END },
+}
+
+impl FaultBoard {
+    ghost use Rattle.std.specs.Prelude.{◌-◌, ◌+◌, ℕ, length, Some, None, is_some};
+    ghost use Rattle.nvm_board.specs.declared.board.TheConstants.{PAGES, PAGE_WORDS};
+    ghost use Rattle.nvm_board.specs.declared.fault_board.Counted.TheVariants.{Calls, Writes};
+    ghost use Rattle.nvm_board.specs.Facts.{address};
+    ghost use Rattle.nvm_board.specs.Faulty.{fault_facts, counting, IsFaulty, LeavesRun};
+
+    /// A lit board whose words and counts are 0, with no fault to come. `Armed::arm` sets one at a call, whatever
+    /// the mask.
+    ///
+    /// # Errors
+    /// There is too little memory for the words.
+    pub fn on_calls(alloc: Global) -> Result<FaultBoard, AllocError>
+        ensures facts { IfOk result (λ b. fault_facts b ≡ new_board) }
+        ensures counts { IfOk result (λ b. counting b ≡ record { counted = Calls; armed_by = Calls }) }
+    {
+        Ok(FaultBoard {
+            ram: RamBoard::new(alloc)?,
+            arm: None,
+            counted: Counted::Calls,
+            armed_by: Counted::Calls,
+            faults: 0,
+        })
+    }
+
+    /// The same, but that `Armed::arm` sets a fault at a write, which is torn by the mask.
+    ///
+    /// # Errors
+    /// There is too little memory for the words.
+    pub fn on_writes(alloc: Global) -> Result<FaultBoard, AllocError>
+        ensures facts { IfOk result (λ b. fault_facts b ≡ new_board) }
+        ensures counts { IfOk result (λ b. counting b ≡ record { counted = Writes; armed_by = Writes }) }
+    {
+        Ok(FaultBoard {
+            ram: RamBoard::new(alloc)?,
+            arm: None,
+            counted: Counted::Writes,
+            armed_by: Counted::Writes,
+            faults: 0,
+        })
+    }
+
+    /// Another board with the same words, light and counts, and the same fault to come.
+    ///
+    /// # Errors
+    /// There is too little memory for the words.
+    pub fn copy(&self, alloc: Global) -> Result<FaultBoard, AllocError>
+        ensures facts { IfOk result (λ b. fault_facts b ≡ fault_facts self.now) }
+        ensures counts { IfOk result (λ b. counting b ≡ counting self.now) }
+    {
+        Ok(FaultBoard {
+            ram: self.ram.copy(alloc)?,
+            arm: self.arm,
+            counted: self.counted,
+            armed_by: self.armed_by,
+            faults: self.faults,
+        })
+    }
+
+    /// Whether a fault is to come.
+    pub fn pending(&self) -> bool
+        ensures { result ≡ is_some (fault_facts self.now).pending }
+    {
+        self.arm.is_some()
+    }
+
+    /// The kth read, write or comparison from now on, counted from 1, will answer Fault, and change no word. It takes
+    /// the place of what was set before.
+    pub fn arm_call(&mut self, k: u32)
+        requires { 1 ≤ k }
+        ensures facts { fault_facts self.new ≡ record (fault_facts self.old)
+            { pending = Some record { whole_writes = k - 1; mask = 0 } } }
+        ensures counts { counting self.new ≡ record (counting self.old) { counted = Calls } }
+    {
+        self.set(Counted::Calls, k, 0);
+    }
+
+    /// The kth write from now on, counted from 1, will be torn by the mask, and answer Fault. It takes the place of
+    /// what was set before.
+    pub fn arm_write(&mut self, k: u32, mask: u16)
+        requires { 1 ≤ k }
+        ensures facts { fault_facts self.new ≡ record (fault_facts self.old)
+            { pending = Some record { whole_writes = k - 1; mask = mask } } }
+        ensures counts { counting self.new ≡ record (counting self.old) { counted = Writes } }
+    {
+        self.set(Counted::Writes, k, mask);
+    }
+
+    /// Sets what is to come.
+    fn set(&mut self, counted: Counted, k: u32, mask: u16)
+        requires { 1 ≤ k }
+        ensures facts { fault_facts self.new ≡ record (fault_facts self.old)
+            { pending = Some record { whole_writes = k - 1; mask = mask } } }
+        ensures counts { counting self.new ≡ record (counting self.old) { counted = counted } }
+    {
+        self.arm = Some(Arm {
+            whole_writes: k - 1,
+            mask,
+        });
+        self.counted = counted;
+    }
+
+    /// The arm that a read or a comparison brings nearer.
+    fn call_arm(&self) -> Option<Arm>
+        ensures calls { self.now.counted ≡ Calls → result ≡ self.now.arm }
+        ensures writes { self.now.counted ≡ Writes → result ≡ None }
+    {
+        match self.counted {
+            Counted::Calls => self.arm,
+            Counted::Writes => None,
+        }
+    }
+
+    /// A read or a comparison was carried out.
+    fn pass_call(&mut self)
+        ensures none { self.old.arm ≡ None → self.new.arm ≡ None }
+        ensures before { (left mask : ℕ) → self.old.counted ≡ Calls
+            → self.old.arm ≡ Some record { whole_writes = left + 1; mask = mask }
+            → self.new.arm ≡ Some record { whole_writes = left; mask = mask } }
+        ensures writes { self.old.counted ≡ Writes → self.new.arm ≡ self.old.arm }
+        ensures same { fault_facts self.new ≡ record (fault_facts self.old) { pending = self.new.arm } }
+        ensures counts { counting self.new ≡ counting self.old }
+    {
+        if self.counted == Counted::Calls {
+            self.arm = nearer(self.arm);
+        }
+    }
+
+    /// Leaves the run of a write that fails: old, or torn by the mask.
+    fn leave(&mut self, page: u16, first: u8, words: &[u32], mask: u16)
+        requires page { page < PAGES }
+        requires run { first + length words.now ≤ PAGE_WORDS }
+        ensures left { LeavesRun self.old.counted mask (address page first) words.now (fault_facts self.old).words
+            (fault_facts self.new).words }
+        ensures same { fault_facts self.new ≡ record (fault_facts self.old) { words = (fault_facts self.new).words } }
+        ensures counts { counting self.new ≡ counting self.old }
+    {
+        match self.counted {
+            Counted::Calls => {}
+            Counted::Writes => self.ram.put_torn(page, first, words, mask),
+        }
+    }
+
+    /// Fails in a call: the fault is counted, or power is lost where no further one can be.
+    fn fail(&mut self) -> DeviceErr
+        requires { (fault_facts self.old).dark ≡ false }
+        ensures failed { IsFaulty (fault_facts self.old) (fault_facts self.new) result }
+        ensures words { (fault_facts self.new).words ≡ (fault_facts self.old).words }
+        ensures counts { counting self.new ≡ counting self.old }
+    {
+        self.arm = None;
+        if self.faults == COUNT_END {
+            self.ram.go_dark();
+            return DeviceErr::PowerLost;
+        }
+        self.faults += 1;
+        DeviceErr::Fault
+    }
+}
+
+impl Board for FaultBoard {
+    ghost use Rattle.std.specs.Prelude.{◌⊎◌, ◌+◌, ◌↔◌, if◌then◌else◌, length, IsTrue, IsErrOf, OnOk, OnErr, Err};
+    ghost use Rattle.std.specs.Prelude.{slice_index};
+    ghost use Rattle.nvm_board.specs.declared.board.TheConstants.{PAGES, PAGE_WORDS, WORDS, SECRETS};
+    ghost use Rattle.nvm_board.specs.declared.board.DeviceErr.TheVariants.{Fault};
+    ghost use Rattle.nvm_board.specs.Aims.{AimsOn};
+    ghost use Rattle.nvm_board.specs.Facts.{Answered, IsLostRightly, RisesAt, address, raised};
+    ghost use Rattle.nvm_board.specs.Torn.{Torn, written};
+    ghost use Rattle.nvm_board.specs.Faulty.{fault_facts, counting, AfterCall, AfterWrite};
+    ghost use Rattle.nvm_board.specs.laws.Counts.{fault_counts_fit};
+
+    ghost facts = { fault_facts };
+
+    #[tactic(auto, unfolding(crate::specs::Facts::IsLostRightly))]
+    fn read(&mut self, at: u16) -> Result<u32, DeviceErr>
+        requires { at < WORDS }
+        ensures word { IfOk result (λ w. w ≡ slice_index (fault_facts self.old).words at) }
+        ensures light { Answered (fault_facts self.old) (fault_facts self.new) result }
+        ensures worn { IsLostRightly (fault_facts self.old) (fault_facts self.new) result }
+        ensures cut { AimsOn (fault_facts self.old) (fault_facts self.new) }
+        ensures words { (fault_facts self.new).words ≡ (fault_facts self.old).words }
+        ensures writes { (fault_facts self.new).writes ≡ (fault_facts self.old).writes }
+        ensures compares { (fault_facts self.new).compares ≡ (fault_facts self.old).compares }
+        ensures matches { (fault_facts self.new).matches ≡ (fault_facts self.old).matches }
+        ensures fault { AfterCall (counting self.old).counted (fault_facts self.old) (fault_facts self.new) result }
+        ensures counts { counting self.new ≡ counting self.old }
+    {
+        if let Some(_) = firing(self.call_arm(), self.ram.is_dark()) {
+            return Err(self.fail());
+        }
+        let word = self.ram.read(at)?;
+        self.pass_call();
+        Ok(word)
+    }
+
+    #[tactic(auto, unfolding(crate::specs::Facts::IsLostRightly))]
+    fn write(&mut self, page: u16, first: u8, words: &[u32]) -> Result<(), DeviceErr>
+        requires page { page < PAGES }
+        requires some { 0 < length words.now }
+        requires run { first + length words.now ≤ PAGE_WORDS }
+        ensures done { OnOk result ((fault_facts self.new).words
+            ≡ written (fault_facts self.old).words (address page first) words.now) }
+        ensures torn { Torn (fault_facts self.old).words (address page first) words.now (fault_facts self.new).words }
+        ensures light { Answered (fault_facts self.old) (fault_facts self.new) result }
+        ensures worn { IsLostRightly (fault_facts self.old) (fault_facts self.new) result }
+        ensures cut { AimsOn (fault_facts self.old) (fault_facts self.new) }
+        ensures counted { OnOk result ((fault_facts self.new).writes ≡ (fault_facts self.old).writes + 1) }
+        ensures counted_err { OnErr result (((fault_facts self.new).writes ≡ (fault_facts self.old).writes)
+            ⊎ ((fault_facts self.new).writes ≡ (fault_facts self.old).writes + 1)) }
+        ensures compares { (fault_facts self.new).compares ≡ (fault_facts self.old).compares }
+        ensures matches { (fault_facts self.new).matches ≡ (fault_facts self.old).matches }
+        ensures fault { AfterWrite (counting self.old).counted (address page first) words.now (fault_facts self.old)
+            (fault_facts self.new) result }
+        ensures counts { counting self.new ≡ counting self.old }
+    {
+        if let Some(mask) = firing(self.arm, self.ram.is_dark()) {
+            self.leave(page, first, words, mask);
+            return Err(self.fail());
+        }
+        self.ram.write(page, first, words)?;
+        self.arm = nearer(self.arm);
+        Ok(())
+    }
+
+    #[tactic(auto, unfolding(crate::specs::Facts::IsLostRightly))]
+    fn compare(&mut self, secret: u8, kept: &[u8; 8], shown: &[u8; 8]) -> Result<bool, DeviceErr>
+        requires { secret < SECRETS }
+        ensures equal { IfOk result (λ e. IsTrue e ↔ (kept.now ≡ shown.now)) }
+        ensures light { Answered (fault_facts self.old) (fault_facts self.new) result }
+        ensures worn { IsLostRightly (fault_facts self.old) (fault_facts self.new) result }
+        ensures cut { AimsOn (fault_facts self.old) (fault_facts self.new) }
+        ensures words { (fault_facts self.new).words ≡ (fault_facts self.old).words }
+        ensures writes { (fault_facts self.new).writes ≡ (fault_facts self.old).writes }
+        ensures compared { OnOk result ((fault_facts self.new).compares
+            ≡ raised (fault_facts self.old).compares secret) }
+        ensures compared_err { OnErr result
+            (RisesAt (fault_facts self.old).compares secret (fault_facts self.new).compares) }
+        ensures matched { IfOk result (λ e. (fault_facts self.new).matches
+            ≡ (if e then raised (fault_facts self.old).matches secret else (fault_facts self.old).matches)) }
+        ensures matched_err { OnErr result
+            (RisesAt (fault_facts self.old).matches secret (fault_facts self.new).matches) }
+        ensures fault { AfterCall (counting self.old).counted (fault_facts self.old) (fault_facts self.new) result }
+        ensures counts { counting self.new ≡ counting self.old }
+    {
+        if let Some(_) = firing(self.call_arm(), self.ram.is_dark()) {
+            // Nothing is compared, so that nothing is counted.
+            return Err(self.fail());
+        }
+        let equal = self.ram.compare(secret, kept, shown)?;
+        self.pass_call();
+        Ok(equal)
+    }
+
+    ghost sized = { λ b. b.ram.sized };
+
+    ghost words_fit = { λ b. b.ram.words_fit };
+
+    ghost counted = { λ b. (b.ram.compares_counted, b.ram.matches_counted) };
+
+    ghost counts_fit = { fault_counts_fit };
+
+    ghost may_go = { λ b. b.ram.may_go };
+}
+
+impl Socket for FaultBoard {
+    ghost use Rattle.std.specs.Prelude.{◌≡◌, ◌↔◌, true, false, IsErr, OnOk, OnErr};
+    ghost use Rattle.nvm_board.specs.Facts.{IsWornOut};
+    ghost use Rattle.nvm_board.specs.Faulty.{fault_facts, counting};
+
+    fn light(&mut self) -> Result<(), WornOut>
+        ensures worn { IsErr result ↔ IsWornOut (fault_facts self.old) }
+        ensures lit { OnOk result (fault_facts self.new ≡ record (fault_facts self.old) { dark = false }) }
+        ensures same { OnErr result (fault_facts self.new ≡ fault_facts self.old) }
+        ensures counts { counting self.new ≡ counting self.old }
+    {
+        if self.faults == COUNT_END {
+            return Err(WornOut);
+        }
+        self.ram.light()
+    }
+
+    fn power_off(&mut self)
+        ensures facts { fault_facts self.new ≡ record (fault_facts self.old) { dark = true } }
+        ensures counts { counting self.new ≡ counting self.old }
+    {
+        self.ram.power_off();
+    }
+}
+
+impl Armed for FaultBoard {
+    ghost use Rattle.std.specs.Prelude.{◌≡◌, ◌-◌, ◌≤◌, Some};
+    ghost use Rattle.nvm_board.specs.Faulty.{fault_facts, counting};
+
+    fn arm(&mut self, k: u32, mask: u16)
+        requires { 1 ≤ k }
+        ensures due { (fault_facts self.new).due ≡ 0 }
+        ensures same { fault_facts self.new ≡ record (fault_facts self.old) {
+          due = (fault_facts self.new).due;
+          pending = Some record { whole_writes = k - 1; mask = mask };
+        } }
+        ensures counts { counting self.new ≡ record (counting self.old) { counted = (counting self.old).armed_by } }
+    {
+        self.set(self.armed_by, k, mask);
+    }
+}
