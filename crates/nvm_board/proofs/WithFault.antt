@@ -1,5 +1,5 @@
 -- A board of which a fault may be set to come, over one that has none.
-use Rattle.std.specs.Prelude.{ℕ, ◌≡◌, ◌+◌, ◌≤◌, false, List, Option, Some, None, Err, length}
+use Rattle.std.specs.Prelude.{ℕ, ◌≡◌, ◌+◌, ◌≤◌, false, List, Option, Some, None, Result, Err, IsErrAnd, length}
 use Rattle.std.proofs.Common.{refl, sym, ap, subst, inr, arith}
 use Rattle.std.proofs.Math.Logic.{⊎_elim, ⊎_map}
 use Rattle.nvm_board.specs.declared.board.Arm.{Arm}
@@ -11,7 +11,7 @@ use Rattle.nvm_board.specs.Facts.{Facts, Answered, GoesDark, IsLostRightly, IsWo
 use Rattle.nvm_board.specs.Faulty.{IsCounted, IsPassed, LeavesRun}
 use Rattle.nvm_board.specs.Torn.{Torn}
 use Rattle.nvm_board.specs.laws.Torn.{Torn-none, Torn-IsTornBy}
-use Rattle.nvm_board.proofs.WithArm.{fires_by, worn_by}
+use Rattle.nvm_board.proofs.WithArm.{error_armed, fires_by, worn_by}
 
 -- a count that ends without the faults
 worn_with : (a : Option Arm) (n : ℕ) (f : Facts) → f.faults ≡ 0 → IsWorn f
@@ -23,7 +23,7 @@ abbrev pub with_fault : Option Arm → ℕ → Facts → Facts
 with_fault a n f = record f { pending = a; faults = n }
 
 -- what an answer tells stays, where no fault comes
-pub tells_err : {T : Type 0} (a : Option Arm) (n : ℕ) (old new : Facts) (e : DeviceErr) → old.faults ≡ 0 → new.faults ≡ 0
+tells_err : {T : Type 0} (a : Option Arm) (n : ℕ) (old new : Facts) (e : DeviceErr) → old.faults ≡ 0 → new.faults ≡ 0
     → Answered {T = T} old new (Err e) → Answered {T = T} (with_fault a n old) (with_fault a n new) (Err e)
 tells_err a n old new PowerLost before after told = record {
   ok = λ h. absurd cc;
@@ -41,6 +41,14 @@ tells_err a n old new PowerLost before after told = record {
 }
 tells_err a n old new Fault before after told =
     let fault = told.fault refl in absurd (omega (arith, fault.faults, before, after))
+
+-- so it does where the error is handed on
+pub tells_handed_on : {T : Type 0} (a : Option Arm) (n : ℕ) (old new : Facts) (result : Result T DeviceErr)
+    (e : DeviceErr) → IsErrAnd result (λ f. f ≡ e) → Answered {T = T} old new (Err e) → old.faults ≡ 0 → new.faults ≡ 0
+    → Answered (with_fault a n old) (with_fault a n new) result
+tells_handed_on a n old new result e handed told before after =
+    error_armed (λ r. Answered (with_fault a n old) (with_fault a n new) r) result e handed
+    (tells_err a n old new e before after told)
 
 -- power is lost in a call that failed, but not by a fault
 passed_err : {T : Type 0} (a next : Option Arm) (n : ℕ) (old new : Facts) (e : DeviceErr) → old.due ≡ 0

@@ -1,10 +1,10 @@
 use Rattle.std.proofs.Common.{◌+◌, ◌≤◌, refl, sym, ◌∙◌, subst, length, List, ℕ, arith}
-use Rattle.nvm_board.specs.Facts.{address, Answered}
+use Rattle.nvm_board.specs.Facts.{address}
 use Rattle.nvm_board.specs.Faulty.{AfterWrite}
 use Rattle.nvm_board.specs.Ram.{ram_facts}
 use Rattle.nvm_board.specs.Torn.{Torn}
 use Rattle.nvm_board.proofs.WithArm.{error_armed}
-use Rattle.nvm_board.proofs.WithFault.{with_fault, tells_err, counted_err, left_torn}
+use Rattle.nvm_board.proofs.WithFault.{with_fault, tells_handed_on, counted_err, left_torn}
 use Rattle.nvm_board.proofs.fault_board.FaultBoardBoard.write.Goals as goal
 
 pub returns-in-Some-clause-torn : goal.returns-in-Some-clause-torn
@@ -17,12 +17,8 @@ returns-in-Some-clause-torn c =
 
 pub returns-in_err-write-clause-light : goal.returns-in_err-write-clause-light
 returns-in_err-write-clause-light c =
-    let old = ram_facts c.args.self.now.ram in
-    let new = ram_facts c.write.new.self in
-    let a = c.args.self.now.arm in
-    let n = c.args.self.now.faults in
-    error_armed (λ r. Answered (with_fault a n old) (with_fault a n new) r) _ _ c.from_residual.ensures.1
-    (tells_err a n old new _ refl refl c.in_err-write.ensures.light)
+    let old = c.args.self.now in
+    tells_handed_on old.arm old.faults _ _ _ _ c.from_residual.ensures.1 c.in_err-write.ensures.light refl refl
 
 pub returns-in_err-write-clause-fault : goal.returns-in_err-write-clause-fault
 returns-in_err-write-clause-fault c =
