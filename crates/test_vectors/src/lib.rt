@@ -11,11 +11,15 @@ mod commands;
 #[cfg(test)]
 mod cuts;
 #[cfg(test)]
+mod faults;
+#[cfg(test)]
 mod journal;
 #[cfg(test)]
 mod laws;
 #[cfg(test)]
 mod link;
+#[cfg(test)]
+mod memories;
 #[cfg(test)]
 mod pins;
 #[cfg(test)]
