@@ -23,6 +23,7 @@ use Rattle.card_bench.specs.Endings.{HasBegun, HasWritten, IsRunToEnd, IsRunToLi
 use Rattle.card_bench.specs.Exchanges.{Desk}
 use Rattle.card_bench.specs.Orders.{order_of}
 use Rattle.card_bench.specs.Performing.{Performs}
+use Rattle.card_bench.specs.Plays.{IsGood}
 use Rattle.card_bench.specs.Printouts.{Print, text_of}
 use Rattle.card_bench.specs.Prints.{IsFirstDesk, LinesPrint, PrintsLines}
 use Rattle.card_bench.specs.Scripts.{AreOrders, CountsTaken, FailsAtLine, IsInLine, IsTooLong, TakesLine, TakesTooMuch}
@@ -155,28 +156,30 @@ at_end_of (Some xs) (Some ys) shown end kept none = kept ∙ end none
 
 -- one more line is carried out
 prints_more : (old between new : Desk) (some : List (List ℕ)) (out line : List ℕ) (order : Order) (prints : Print)
-    → PrintsLines old some between out → order_of line ≡ Some order → Performs order between new prints
+    → PrintsLines old some between out → order_of line ≡ Some order → Performs order between new prints → IsGood new.bench
     → PrintsLines old (some ++ line ∷ []) new (out ++ text_of prints)
 unfolding PrintsLines
-prints_more old between new [] out line order prints all is one = (
+prints_more old between new [] out line order prints all is one well = (
   order,
   new,
   prints,
   [],
   is,
   subst (λ (d : Desk). Performs order d new prints) all.0 one,
+  well,
   (refl, refl),
   ap (λ (l : List ℕ). l ++ text_of prints) all.1 ∙ sym (append-nil (text_of prints)),
 )
-prints_more old between new (l ∷ some) out line order prints all is one = (
+prints_more old between new (l ∷ some) out line order prints all is one well = (
   all.0,
   all.1,
   all.2,
   all.3 ++ text_of prints,
   all.4,
   all.5,
-  prints_more all.1 between new some all.3 line order prints all.6 is one,
-  ap (λ (l : List ℕ). l ++ text_of prints) all.7 ∙ append_assoc (text_of all.2) all.3 (text_of prints),
+  all.6,
+  prints_more all.1 between new some all.3 line order prints all.7 is one well,
+  ap (λ (l : List ℕ). l ++ text_of prints) all.8 ∙ append_assoc (text_of all.2) all.3 (text_of prints),
 )
 
 -- no line yet
@@ -250,8 +253,8 @@ module _ (script rest rest' line : List ℕ) (n taken taken' : ℕ) (desk : Desk
         omega (arith, a, b, s, counted)
 
     next : (desk' : Desk) (order : Order) (prints : Print) → length rest + taken ≡ length rest' + taken' → order_of line ≡ Some order
-        → Performs order desk desk' prints → Runs script rest' (n + 1) taken' desk' (out ++ text_of prints)
-    next desk' order prints counted good performs = record {
+        → Performs order desk desk' prints → IsGood desk'.bench → Runs script rest' (n + 1) taken' desk' (out ++ text_of prints)
+    next desk' order prints counted good performs well = record {
       front = run.front ++ (bytes ++ 10 ∷ []);
       done = run.done ++ line ∷ [];
       split = split_on;
@@ -261,7 +264,7 @@ module _ (script rest rest' line : List ℕ) (n taken taken' : ℕ) (desk : Desk
       size = size_on counted;
       first = run.first;
       begins = run.begins;
-      prints = prints_more run.first desk desk' run.done out line order prints run.prints good performs;
+      prints = prints_more run.first desk desk' run.done out line order prints run.prints good performs well;
     }
 
     fed_rest : lines script ≡ (run.done ++ line ∷ []) ++ lines rest'
@@ -326,23 +329,23 @@ module _ (script rest rest' line : List ℕ) (n taken taken' : ℕ) (desk : Desk
 -- a line that ends with a line feed
 pub goes_on : (script old new : Option (List ℕ)) (n taken taken' : ℕ) (line : List ℕ) (desk desk' : Desk) (held before holds : Option (List ℕ))
     (order : Order) (prints : Print) → HasRun script old n taken desk held before → TakesLine old new line LineFeed
-    → CountsTaken old new taken taken' → order_of line ≡ Some order → Performs order desk desk' prints → Appends before holds (text_of prints)
-    → HasRun script new (n + 1) taken' desk' held holds
-goes_on None old new n taken taken' line desk desk' held before holds order prints run takes counted good performs wrote = tt
-goes_on (Some script) None new n taken taken' line desk desk' held before holds order prints run takes counted good performs wrote = absurd run
-goes_on (Some script) (Some rest) None n taken taken' line desk desk' held before holds order prints run takes counted good performs wrote = absurd counted
-goes_on (Some script) (Some rest) (Some rest') n taken taken' line desk desk' held before holds order prints run takes counted good performs wrote = (
+    → CountsTaken old new taken taken' → order_of line ≡ Some order → Performs order desk desk' prints → IsGood desk'.bench
+    → Appends before holds (text_of prints) → HasRun script new (n + 1) taken' desk' held holds
+goes_on None old new n taken taken' line desk desk' held before holds order prints run takes counted good performs well wrote = tt
+goes_on (Some script) None new n taken taken' line desk desk' held before holds order prints run takes counted good performs well wrote = absurd run
+goes_on (Some script) (Some rest) None n taken taken' line desk desk' held before holds order prints run takes counted good performs well wrote = absurd counted
+goes_on (Some script) (Some rest) (Some rest') n taken taken' line desk desk' held before holds order prints run takes counted good performs well wrote = (
   run.0 ++ text_of prints,
-  next script rest rest' line n taken taken' desk run.0 run.1 takes.0 takes.1 takes.2 takes.3 desk' order prints counted good performs,
+  next script rest rest' line n taken taken' desk run.0 run.1 takes.0 takes.1 takes.2 takes.3 desk' order prints counted good performs well,
   Appends-trans held before holds run.0 (text_of prints) run.2 wrote,
 )
 
 -- the last line: what it prints is written
 whole : (script rest rest' line : List ℕ) (n taken taken' : ℕ) (desk desk' : Desk) (out : List ℕ) (run : Runs script rest n taken desk out)
     (held before holds : Option (List ℕ)) (order : Order) (prints : Print) → rest ≡ line ++ rest' → rest' ≡ [] → IsInLine line
-    → Appends held before out → order_of line ≡ Some order → Performs order desk desk' prints → Appends before holds (text_of prints)
-    → AreOrders (lines script) × HasWritten held (lines script) holds
-whole script rest rest' [] n taken taken' desk desk' out run held before holds order prints is none inside held_out good performs wrote =
+    → Appends held before out → order_of line ≡ Some order → Performs order desk desk' prints → IsGood desk'.bench
+    → Appends before holds (text_of prints) → AreOrders (lines script) × HasWritten held (lines script) holds
+whole script rest rest' [] n taken taken' desk desk' out run held before holds order prints is none inside held_out good performs well wrote =
     let all : lines script ≡ run.done = last_lines script rest rest' [] n taken taken' desk out run is none inside ∙ append-nil run.done in (
       subst AreOrders (sym all) run.orders,
       (
@@ -352,7 +355,7 @@ whole script rest rest' [] n taken taken' desk desk' out run held before holds o
             (Appends-trans held before holds out (text_of prints) held_out wrote),
       ),
     )
-whole script rest rest' (b ∷ l) n taken taken' desk desk' out run held before holds order prints is none inside held_out good performs wrote =
+whole script rest rest' (b ∷ l) n taken taken' desk desk' out run held before holds order prints is none inside held_out good performs well wrote =
     let all : lines script ≡ run.done ++ (b ∷ l) ∷ [] =
     last_lines script rest rest' (b ∷ l) n taken taken' desk out run is none inside
     ∙ ap (λ (e : Bool). run.done ++ cond e [] ((b ∷ l) ∷ [])) (some_bytes b l) in (
@@ -363,7 +366,7 @@ whole script rest rest' (b ∷ l) n taken taken' desk desk' out run held before 
           first = run.first;
           last = desk';
           begins = run.begins;
-          all = prints_more run.first desk desk' run.done out (b ∷ l) order prints run.prints good performs;
+          all = prints_more run.first desk desk' run.done out (b ∷ l) order prints run.prints good performs well;
         }),
         Appends-trans held before holds out (text_of prints) held_out wrote,
       ),
@@ -372,14 +375,14 @@ whole script rest rest' (b ∷ l) n taken taken' desk desk' out run held before 
 pub is_done : (script old new : Option (List ℕ)) (n taken taken' : ℕ) (line : List ℕ) (desk desk' : Desk) (held before holds : Option (List ℕ))
     (order : Order) (prints : Print) → HasRun script old n taken desk held before → TakesLine old new line EndOfScript
     → CountsTaken old new taken taken' → taken' ≤ SCRIPT_LIMIT → order_of line ≡ Some order → Performs order desk desk' prints
-    → Appends before holds (text_of prints) → IfSome script (λ bytes. IsRunToEnd bytes held holds)
-is_done None old new n taken taken' line desk desk' held before holds order prints run takes counted within good performs wrote = tt
-is_done (Some script) None new n taken taken' line desk desk' held before holds order prints run takes counted within good performs wrote = absurd run
-is_done (Some script) (Some rest) None n taken taken' line desk desk' held before holds order prints run takes counted within good performs wrote =
+    → IsGood desk'.bench → Appends before holds (text_of prints) → IfSome script (λ bytes. IsRunToEnd bytes held holds)
+is_done None old new n taken taken' line desk desk' held before holds order prints run takes counted within good performs well wrote = tt
+is_done (Some script) None new n taken taken' line desk desk' held before holds order prints run takes counted within good performs well wrote = absurd run
+is_done (Some script) (Some rest) None n taken taken' line desk desk' held before holds order prints run takes counted within good performs well wrote =
     absurd counted
-is_done (Some script) (Some rest) (Some rest') n taken taken' line desk desk' held before holds order prints run takes counted within good performs wrote =
+is_done (Some script) (Some rest) (Some rest') n taken taken' line desk desk' held before holds order prints run takes counted within good performs well wrote =
     let all = whole script rest rest' line n taken taken' desk desk' run.0 run.1 held before holds
-    order prints takes.0 takes.1 takes.2 run.2 good performs wrote in
+    order prints takes.0 takes.1 takes.2 run.2 good performs well wrote in
     record {
       good = record { orders = all.0; size = last_size script rest rest' line n taken taken' desk run.0 run.1 takes.0 takes.1 takes.2 counted within };
       written = all.1;
@@ -459,17 +462,17 @@ begun held before holds out text size held_out began =
 -- the writer fails
 pub is_unwritten : (script old new : Option (List ℕ)) (n taken taken' : ℕ) (line : List ℕ) (end : LineEnd) (desk desk' : Desk)
     (held before holds : Option (List ℕ)) (order : Order) (prints : Print) → HasRun script old n taken desk held before → TakesLine old new line end
-    → CountsTaken old new taken taken' → order_of line ≡ Some order → Performs order desk desk' prints
+    → CountsTaken old new taken taken' → order_of line ≡ Some order → Performs order desk desk' prints → IsGood desk'.bench
     → (size : ℕ) × Appends before holds (take size (text_of prints))
     → IfSome script (λ bytes. SomeFirstLines bytes (λ first. HasBegun held first holds))
 unfolding next
-is_unwritten None old new n taken taken' line end desk desk' held before holds order prints run takes counted good performs began = tt
-is_unwritten (Some script) None new n taken taken' line end desk desk' held before holds order prints run takes counted good performs began = absurd run
-is_unwritten (Some script) (Some rest) None n taken taken' line end desk desk' held before holds order prints run takes counted good performs began =
+is_unwritten None old new n taken taken' line end desk desk' held before holds order prints run takes counted good performs well began = tt
+is_unwritten (Some script) None new n taken taken' line end desk desk' held before holds order prints run takes counted good performs well began = absurd run
+is_unwritten (Some script) (Some rest) None n taken taken' line end desk desk' held before holds order prints run takes counted good performs well began =
     absurd counted
 is_unwritten (Some script) (Some rest) (Some rest')
-    n taken taken' line LineFeed desk desk' held before holds order prints run takes counted good performs began =
-    let more = next script rest rest' line n taken taken' desk run.0 run.1 takes.0 takes.1 takes.2 takes.3 desk' order prints counted good performs in (
+    n taken taken' line LineFeed desk desk' held before holds order prints run takes counted good performs well began =
+    let more = next script rest rest' line n taken taken' desk run.0 run.1 takes.0 takes.1 takes.2 takes.3 desk' order prints counted good performs well in (
       run.1.done ++ line ∷ [],
       lines rest',
       fed_rest script rest rest' line n taken taken' desk run.0 run.1 takes.0 takes.1 takes.2 takes.3,
@@ -481,7 +484,7 @@ is_unwritten (Some script) (Some rest) (Some rest')
       ),
     )
 is_unwritten (Some script) (Some rest) (Some rest')
-    n taken taken' [] EndOfScript desk desk' held before holds order prints run takes counted good performs began =
+    n taken taken' [] EndOfScript desk desk' held before holds order prints run takes counted good performs well began =
     let silence : text_of prints ≡ [] = silent order prints desk desk' good performs in
     let nothing : Appends before holds [] = subst (Appends before holds) (ap (take began.0) silence ∙ take-none began.0) began.1 in
     let all : lines script ≡ run.1.done = last_lines script rest rest' [] n taken taken' desk run.0 run.1 takes.0 takes.1 takes.2 ∙ append-nil run.1.done in (
@@ -496,7 +499,7 @@ is_unwritten (Some script) (Some rest) (Some rest')
       ),
     )
 is_unwritten (Some script) (Some rest) (Some rest')
-    n taken taken' (b ∷ l) EndOfScript desk desk' held before holds order prints run takes counted good performs began =
+    n taken taken' (b ∷ l) EndOfScript desk desk' held before holds order prints run takes counted good performs well began =
     let all : lines script ≡ run.1.done ++ (b ∷ l) ∷ [] =
     last_lines script rest rest' (b ∷ l) n taken taken' desk run.0 run.1 takes.0 takes.1 takes.2
     ∙ ap (λ (e : Bool). run.1.done ++ cond e [] ((b ∷ l) ∷ [])) (some_bytes b l) in (
@@ -510,7 +513,7 @@ is_unwritten (Some script) (Some rest) (Some rest')
           first = run.1.first;
           last = desk';
           begins = run.1.begins;
-          all = prints_more run.1.first desk desk' run.1.done run.0 (b ∷ l) order prints run.1.prints good performs;
+          all = prints_more run.1.first desk desk' run.1.done run.0 (b ∷ l) order prints run.1.prints good performs well;
         },
         begun held before holds run.0 (text_of prints) began.0 run.2 began.1,
       ),

@@ -286,7 +286,7 @@ unfolding PrintsLines
 lines-last n first last [] out prints left =
     stays-last n (LINE_STEPS * 0) first.bench last.bench (ap (λ (d : Desk). d.bench) prints.0) left
 lines-last n first last (line ∷ others) out prints left =
-    lines-last n prints.1 last others prints.3 prints.6
+    lines-last n prints.1 last others prints.3 prints.7
     (line-lasts (n + LINE_STEPS * length others) prints.0 first prints.1 prints.2 prints.5
     (fewer (n + LINE_STEPS * length (line ∷ others)) (n + LINE_STEPS * length others + LINE_STEPS) (bench_facts first.bench)
     (omega arith) left))

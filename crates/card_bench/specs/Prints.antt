@@ -11,12 +11,14 @@ use Rattle.card_bench.specs.Performing.{Performs}
 use Rattle.card_bench.specs.Plays.{IsGood}
 use Rattle.card_bench.specs.Printouts.{Print, text_of}
 
--- Lines, one after another: what each asks for is carried out, and its text follows the text of those before it.
+-- Lines, one after another: what each asks for is carried out, and its text follows the text of those before it. Behind each
+-- of them a card is found in the bench's memory, which never had a fault.
 unfoldable pub PrintsLines : Desk → List (List ℕ) → Desk → List ℕ → Type 0
 PrintsLines old [] new out = (new ≡ old) × (out ≡ [])
 PrintsLines old (line ∷ others) new out =
     (order : Order) × (between : Desk) × (prints : Print) × (rest : List ℕ)
-    × (order_of line ≡ Some order) × Performs order old between prints × PrintsLines between others new rest × (out ≡ text_of prints ++ rest)
+    × (order_of line ≡ Some order) × Performs order old between prints × IsGood between.bench
+    × PrintsLines between others new rest × (out ≡ text_of prints ++ rest)
 
 -- The counts of a new board on which a card was written: at most one device write a page, and nothing else was counted, nor
 -- is a cut to come.

@@ -1,6 +1,6 @@
 //! Laws of the definitions: each is a function whose contract is the law.
 
-ghost use Rattle.std.specs.Prelude.{◌≡◌, ◌≢◌, ◌≤◌, ◌+◌, ◌*◌, ℕ, Bool, List, length, true, IsTrue, Ok, Err};
+ghost use Rattle.std.specs.Prelude.{◌≡◌, ◌≢◌, ◌≤◌, ◌+◌, ◌*◌, ℕ, Bool, List, length, true, IsTrue, Ok, Err, Some};
 ghost use Rattle.hex.specs.Hex.{lower_digits, upper_digits};
 ghost use Rattle.pin_store.specs.declared.layout.TheConstants.{PINS};
 ghost use Rattle.t1_link.specs.Blocks.{Block as BlockValue, heard};
@@ -21,11 +21,12 @@ ghost use Rattle.card_bench.specs.ExchangeWorlds.{ExchangeLaw};
 ghost use Rattle.card_bench.specs.Guessing.{GuessesFew, unblocking_guessed, value_guessed};
 ghost use Rattle.card_bench.specs.Lasting.{HasLeft};
 ghost use Rattle.card_bench.specs.Lines.{arriving, line_after};
+ghost use Rattle.card_bench.specs.Orders.{IsSized, order_of};
 ghost use Rattle.card_bench.specs.Performing.{Performs};
 ghost use Rattle.card_bench.specs.Printouts.{prints_dark};
 ghost use Rattle.card_bench.specs.Prints.{IsFirstDesk, PrintsLines};
 ghost use Rattle.card_bench.specs.ScriptWorlds.{PowerOnLaw, LineLaw};
-ghost use Rattle.card_bench.specs.Spellings.{SpellingLaw};
+ghost use Rattle.card_bench.specs.Spellings.{IsOfBytes, SpellingLaw};
 ghost use Rattle.card_bench.specs.TreeMachine.{tree_machine, IsProperState};
 ghost use Rattle.card_bench.specs.Turns.{GoodTurn, Runs, dark_of};
 ghost use Rattle.card_bench.specs.WorldLaw.{ResynchLaw, WorldLaw};
@@ -128,6 +129,12 @@ pub fn limits()
     ensures script { (SCRIPT_LIMIT ≡ 16777216) × (LINE_LIMIT ≡ 1024) }
     ensures orders { (COMMAND_LIMIT ≡ 261) × (BLOCK_LIMIT ≡ 300) × (NUMBER_DIGITS ≡ 6) }
     ensures blocks { LINE_BLOCKS ≡ 1000 }
+{}
+
+/// What a line asks for keeps the limits of lines, and its bytes are bytes: so the law of scripts in one world
+/// (`script_goes_on_in_a_world`) holds of every line that is carried out.
+pub fn orders_are_in_range()
+    ensures { (line : List ℕ) (order : Order) → order_of line ≡ Some order → IsSized order × IsOfBytes order }
 {}
 
 /// The line that spells an order, with hexadecimal digits of either case, asks for that order.

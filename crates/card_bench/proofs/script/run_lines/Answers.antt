@@ -5,7 +5,7 @@ use Rattle.card_bench.specs.Orders.{order_of}
 use Rattle.card_bench.specs.Printouts.{print_of, text_of}
 use Rattle.card_bench.specs.Scripts.{TakesLine}
 use Rattle.card_bench.proofs.ScriptLines.{begins_run, goes_on, is_done, is_bad, is_too_long, is_unread, is_unwritten, HasRun}
-use Rattle.card_bench.proofs.SizedOrders.{order_of-sized}
+use Rattle.card_bench.proofs.SizedOrders.{order_of-in_range}
 use Rattle.card_bench.proofs.script.run_lines.Goals as goal
 
 pub returns-in-Err-TooLong-clause-stopped : goal.returns-in-Err-TooLong-clause-stopped
@@ -46,12 +46,12 @@ returns-in_default-print-clause-stopped g c =
     subst (λ (l : List ℕ). (size : ℕ) × Appends before after (take size (text_of (print_of printed l))))
     c.bytes.ensures.bytes c.in_default-print.ensures.began in
     is_unwritten _ _ _ _ _ _ _ c.in-Ok.end _ _ _ _ _ _ _ c.loop-number.invariant.so_far c.in-Ok.ensures.line
-    c.in-Ok.ensures.counted good c.perform-printed.ensures.performs began
+    c.in-Ok.ensures.counted good c.perform-printed.ensures.performs c.perform-printed.ensures.good began
 
 pub perform-printed-requires-clause-sized : goal.perform-printed-requires-clause-sized
 perform-printed-requires-clause-sized g c =
     let good : order_of c.read_line.new.line.items ≡ Some c.in-Some.order = ap order_of (sym c.deref.ensures.0) ∙ sym c.in-Some.ensures in
-    order_of-sized _ _ good
+    (order_of-in_range _ _ good).0
 
 pub returns-in-EndOfScript-clause-done : goal.returns-in-EndOfScript-clause-done
 returns-in-EndOfScript-clause-done g c =
@@ -66,7 +66,7 @@ returns-in-EndOfScript-clause-done g c =
     subst (λ (l : List ℕ). Appends before after (text_of (print_of printed l))) c.bytes.ensures.bytes c.in-Ok-print.ensures.wrote in
     is_done _ old new _ _ _ _ _ _ _ _ _ _ _ c.loop-number.invariant.so_far
     (subst (TakesLine old new c.read_line.new.line.items) c.in-EndOfScript.is c.in-Ok.ensures.line)
-    c.in-Ok.ensures.counted c.read_line.ensures.taken good c.perform-printed.ensures.performs wrote
+    c.in-Ok.ensures.counted c.read_line.ensures.taken good c.perform-printed.ensures.performs c.perform-printed.ensures.good wrote
 
 pub loop-number-init : goal.loop-number-init
 loop-number-init g c =
@@ -94,5 +94,5 @@ loop-number-preserved g c =
           (record { bench = desk.bench; reader = desk.reader; line = desk.line }) held after) number
           (goes_on first old new _ _ _ _ _ _ _ _ _ _ _ c.loop-number.invariant.so_far
           (subst (TakesLine old new c.read_line.new.line.items) c.in-LineFeed.is c.in-Ok.ensures.line)
-          c.in-Ok.ensures.counted good c.perform-printed.ensures.performs wrote);
+          c.in-Ok.ensures.counted good c.perform-printed.ensures.performs c.perform-printed.ensures.good wrote);
     }
