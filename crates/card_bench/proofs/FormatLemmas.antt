@@ -70,7 +70,7 @@ just_written old new is steady spent =
 pub first_desk : (d : Desk) (f : Facts) → d.bench ≡ off (record f { dark = true }) → d.reader ≡ None → d.line ≡ record { lose = None; garble = None }
     → Finds f.words factory_card → IsJustWritten f → f.faults ≡ 0 → IsFirstDesk d
 first_desk d f bench reader line finds counts faults = record {
-  power = subst IsOff (sym bench) tt;
+  power = subst IsOff (sym bench) refl;
   good = subst IsGood (sym bench) (record { has_card = finds.has_card; faults = faults; well = tt });
   card = subst (λ (b : BenchState). bench_card b ≡ factory_card) (sym bench) finds.card;
   counts = subst (λ (b : BenchState). IsJustWritten (bench_facts b)) (sym bench) (record {

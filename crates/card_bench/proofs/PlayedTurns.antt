@@ -99,11 +99,11 @@ plays_cut old new got out cut found stage paid shown writes = record {
   counts = record { cuts = cut.power.cuts; due = cut.power.due; faults = omega (arith, cut.power.faults) };
   well = λ good. tt;
   guesses = paid-few (on old) (off (record new.card.facts { dark = true })) paid;
-  one = λ before good. record { power = tt; run = cut.run; stage = stage };
+  one = λ before good. record { power = refl; run = cut.run; stage = stage };
   wears = λ good.
       wears-shown COMMAND_WRITES (card_found old.card) (card_found new.card) old.card.facts
       (record new.card.facts { dark = true }) shown good.faults writes;
-  heard = λ powered. tt;
+  heard = λ powered. refl;
 }
 
 -- a block to a card without power
@@ -116,7 +116,7 @@ hears_nothing old new facts got is same =
       counts = record { cuts = omega arith; due = inl (omega arith); faults = omega arith };
       well = λ good. tt;
       guesses = pays-nothing (off facts) (off facts) refl refl;
-      one = λ before good. record { power = tt; card = refl };
+      one = λ before good. refl;
       wears = λ good. wears-writing COMMAND_WRITES facts facts refl (omega arith) refl;
       heard = λ powered. absurd powered;
     }))

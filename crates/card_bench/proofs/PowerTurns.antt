@@ -6,7 +6,7 @@ use Rattle.undo_journal.specs.declared.layout.TheConstants.{PAIRS}
 use Rattle.undo_journal.specs.Spending.{WritesAtMost, start_writes}
 use Rattle.card_core.specs.declared.faults.StartFault.{StartFault}
 use Rattle.card_core.specs.declared.faults.StartFault.TheVariants.{PowerLost, Fault, BadJournal, Damaged}
-use Rattle.card_core.specs.Comparing.{comparisons}
+use Rattle.card_core.specs.Comparing.{Comparisons, comparisons}
 use Rattle.card_core.specs.Finding.{FindsAgain, HasCard, found}
 use Rattle.card_core.specs.Running.{Starts, StartStopsBy}
 use Rattle.card_core.specs.Standing.{IsCard, card_of}
@@ -17,7 +17,7 @@ use Rattle.card_bench.specs.BenchStates.{BenchState, off, on, bench_facts}
 use Rattle.card_bench.specs.CardBlocks.{Powered}
 use Rattle.card_bench.specs.Guessing.{GuessesFew}
 use Rattle.card_bench.specs.Plays.{Plays}
-use Rattle.card_bench.specs.Turns.{RestsOff, Wears}
+use Rattle.card_bench.specs.Turns.{LeavesCard, Wears}
 use Rattle.card_bench.proofs.FewGuesses.{pays-nothing, writing-compares}
 use Rattle.card_bench.proofs.Wearing.{few-start, wears-writing}
 
@@ -35,7 +35,7 @@ turns_off old new is = subst (λ (b : BenchState). Plays old turn.Off item.Quiet
   counts = record { cuts = omega arith; due = inl (omega arith); faults = omega arith };
   well = λ good. tt;
   guesses = pays-nothing old (off (record (bench_facts old) { dark = true })) refl refl;
-  one = λ before good. record { power = tt; card = refl };
+  one = λ before good. refl;
   wears = λ before good.
       wears-writing 0 (bench_facts old) (record (bench_facts old) { dark = true }) refl (omega arith) refl;
 })
@@ -62,7 +62,7 @@ module _ (old : BenchState) (dark : Facts) (darkened : dark ≡ record (bench_fa
         counts = record { cuts = omega (arith, cuts); due = inl (omega (arith, due)); faults = omega (arith, faults) };
         well = λ good. tt;
         guesses = pays-nothing old (off new) (ap found words) (ap comparisons is);
-        one = λ before good. (record { power = tt; card = ap found words }, subst IsWornOut (sym same) worn);
+        one = λ before good. (ap (λ (f : Facts). off f) is, subst IsWornOut (sym same) worn);
         wears = λ before good.
             wears-writing (PAIRS + 1) (bench_facts old) new faults (omega (arith, writes)) (ap comparisons is);
       }
@@ -102,6 +102,15 @@ module _ (old : BenchState) (dark : Facts) (darkened : dark ≡ record (bench_fa
         wears-writing (PAIRS + 1) (bench_facts old) new faults (omega (arith, few, most, lit-writes))
         (writing-compares (start_writes lit) lit new spent ∙ lit-counts)
 
+    -- what a start leaves
+    leaves : (new : BenchState) → FindsAgain lit.words (bench_facts new).words
+        → comparisons (bench_facts new) ≡ comparisons (bench_facts old) → LeavesCard old new
+    leaves new again same = record {
+      card = found-again (bench_facts new).words again;
+      compares = ap (λ (c : Comparisons). c.compares) same;
+      matches = ap (λ (c : Comparisons). c.matches) same;
+    }
+
     -- the card starts
     pub starts : (p : Powered) → Starts lit p.card → p.link ≡ fresh → FindsAgain lit.words p.card.facts.words
         → WritesAtMost (start_writes lit) lit p.card.facts → Plays old turn.On item.Atr (on p)
@@ -117,7 +126,7 @@ module _ (old : BenchState) (dark : Facts) (darkened : dark ≡ record (bench_fa
           };
           well = λ good. started.state;
           guesses = pays-nothing old (on p) (found-again p.card.facts.words again) (counts ∙ lit-counts);
-          one = λ before good. ((started.session, link), found-again p.card.facts.words again);
+          one = λ before good. ((started.session, link, started.state, power.lit), leaves (on p) again (counts ∙ lit-counts));
           wears = λ before good. start-wears p.card.facts spent before good.faults;
         }
 
@@ -130,16 +139,20 @@ module _ (old : BenchState) (dark : Facts) (darkened : dark ≡ record (bench_fa
       new-words : new.words ≡ stopped.words
       new-words = ap (λ (f : Facts). f.words) turned
 
-      rests : RestsOff old (off new)
-      rests = record { power = tt; card = ap found new-words ∙ found-again stopped.words again }
+      unlit : new.dark ≡ true
+      unlit = ap (λ (f : Facts). f.dark) turned
+
+      same-comparisons : comparisons new ≡ comparisons (bench_facts old)
+      same-comparisons = ap comparisons turned ∙ writing-compares (start_writes lit) lit stopped spent ∙ lit-counts
+
+      rests : LeavesCard old (off new)
+      rests = leaves (off new) (subst (FindsAgain lit.words) (sym new-words) again) same-comparisons
 
       has-card : HasCard (bench_facts old).words → HasCard new.words
       has-card before = subst HasCard (sym new-words) (has-card-again stopped.words again before)
 
       guesses : GuessesFew old (off new)
-      guesses =
-          pays-nothing old (off new) rests.card
-          (ap comparisons turned ∙ writing-compares (start_writes lit) lit stopped spent ∙ lit-counts)
+      guesses = pays-nothing old (off new) rests.card same-comparisons
 
       spent-so : WritesAtMost (start_writes lit) lit new
       spent-so = subst (λ (f : Facts). WritesAtMost (start_writes lit) lit f) (sym turned) (record {
@@ -166,7 +179,7 @@ module _ (old : BenchState) (dark : Facts) (darkened : dark ≡ record (bench_fa
             };
             well = λ good. tt;
             guesses = guesses;
-            one = λ before good. rests;
+            one = λ before good. (unlit, rests);
             wears = λ before good. start-wears new spent-so before good.faults;
           }
 

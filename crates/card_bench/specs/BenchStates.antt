@@ -1,5 +1,5 @@
 -- A bench: a board with power off, or a card with its end of the link.
-use Rattle.std.specs.Prelude.{◌≡◌, Option, None, Some, IsSome}
+use Rattle.std.specs.Prelude.{◌≡◌, true, false, Option, None, Some, IsSome}
 use Rattle.nvm_board.specs.Facts.{Facts}
 use Rattle.card_core.specs.declared.card_state.CardState.TheVariants.{Working}
 use Rattle.card_core.specs.Cards.{Card}
@@ -28,20 +28,26 @@ BenchHasCard b = HasCard (bench_facts b).words
 abbrev pub bench_card : BenchState → Card
 bench_card b = found (bench_facts b).words
 
--- power is off
+-- power is off, and the board is dark
 abbrev pub IsOff : BenchState → Type 0
-IsOff (off facts) = Unit {0}
+IsOff (off facts) = facts.dark ≡ true
 IsOff (on powered) = ⊥
+
+-- the bench with power off, and nothing else of its board changed
+abbrev pub switched_off : BenchState → BenchState
+switched_off b = off (record (bench_facts b) { dark = true })
 
 -- power is on
 abbrev pub IsOn : BenchState → Type 0
 IsOn (off facts) = ⊥
 IsOn (on powered) = Unit {0}
 
--- power is on, with a fresh session and a fresh link
+-- power is on, with a fresh session and a fresh link; the card works, and its board is lit
 abbrev pub IsFresh : BenchState → Type 0
 IsFresh (off facts) = ⊥
-IsFresh (on powered) = (powered.card.session ≡ fresh_session) × (powered.link ≡ fresh)
+IsFresh (on powered) =
+    (powered.card.session ≡ fresh_session) × (powered.link ≡ fresh)
+    × (powered.card.state ≡ Working) × (powered.card.facts.dark ≡ false)
 
 -- no fault since power came on
 abbrev pub IsWell : BenchState → Type 0

@@ -1,5 +1,5 @@
 -- The value of a bench, from its field.
-use Rattle.std.specs.Prelude.{◌≡◌, ◌≢◌, length}
+use Rattle.std.specs.Prelude.{◌≡◌, ◌≢◌, length, true}
 use Rattle.nvm_board.specs.declared.board.TheConstants.{SECRETS}
 use Rattle.nvm_board.specs.Facts.{Facts}
 use Rattle.card_core.specs.declared.card_state.CardState.TheVariants.{Dark}
@@ -17,7 +17,7 @@ pub record CountsEach (counts : Comparisons) : Type 0 where
   pub compares : length counts.compares ≡ SECRETS
   pub matches : length counts.matches ≡ SECRETS
 
--- a card that lost power isn't kept; of one that is, the board counts each secret
-abbrev pub IsKept : {B : Type 0} → Power B → Type 0
-IsKept (Off board) = Unit {0}
-IsKept (On powered) = (powered.card.state ≢ Dark) × CountsEach (comparisons powered.card.facts)
+-- a board with power off is dark; a card that lost power isn't kept, and of one that is, the board counts each secret
+abbrev pub IsKept : {B : Type 0} → (B → Facts) → Power B → Type 0
+IsKept facts (Off board) = (facts board).dark ≡ true
+IsKept facts (On powered) = (powered.card.state ≢ Dark) × CountsEach (comparisons powered.card.facts)

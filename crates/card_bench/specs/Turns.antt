@@ -8,36 +8,37 @@ use Rattle.card_bench.specs.declared.playing.Turn.{Turn}
 use Rattle.card_bench.specs.declared.playing.Turn.TheVariants as turn
 use Rattle.card_bench.specs.declared.playing.Item.{Item}
 use Rattle.card_bench.specs.declared.playing.Item.TheVariants.{Atr, Quiet, Mute, Dark, Reply}
-use Rattle.card_bench.specs.BenchStates.{BenchState, off, on, bench_card, bench_facts, IsFresh, IsOff}
+use Rattle.card_bench.specs.BenchStates.{BenchState, off, on, bench_card, bench_facts, IsFresh, IsOff, switched_off}
 use Rattle.card_bench.specs.CardBlocks.{Powered, Replies, IsRun, IsBlockStage}
 
--- power is off, and the card that is found is what it was
-pub record RestsOff (old new : BenchState) : Type 0 where
-  pub power : IsOff new
+-- What a start leaves, cut or not: the card that is found is what it was, and no secret was compared.
+pub record LeavesCard (old new : BenchState) : Type 0 where
   pub card : bench_card new ≡ bench_card old
+  pub compares : (bench_facts new).compares ≡ (bench_facts old).compares
+  pub matches : (bench_facts new).matches ≡ (bench_facts old).matches
 
 -- Power on: the card starts, in a fresh session, with a fresh link; or power is lost; or, where a count of the board stands
--- at its end, the card stays mute.
+-- at its end, the card stays mute, and nothing is done but that power went off.
 abbrev pub TurnsOn : BenchState → Item → BenchState → Type 0
-TurnsOn old Atr new = IsFresh new × (bench_card new ≡ bench_card old)
+TurnsOn old Atr new = IsFresh new × LeavesCard old new
 TurnsOn old Quiet new = ⊥
-TurnsOn old Mute new = RestsOff old new × IsWornOut (bench_facts new)
-TurnsOn old Dark new = RestsOff old new
+TurnsOn old Mute new = (new ≡ switched_off old) × IsWornOut (bench_facts new)
+TurnsOn old Dark new = IsOff new × LeavesCard old new
 TurnsOn old (Reply block) new = ⊥
 
--- Power off: nothing is said.
+-- Power off: nothing is said, and nothing else is done.
 abbrev pub TurnsOff : BenchState → Item → BenchState → Type 0
 TurnsOff old Atr new = ⊥
-TurnsOff old Quiet new = RestsOff old new
+TurnsOff old Quiet new = new ≡ switched_off old
 TurnsOff old Mute new = ⊥
 TurnsOff old Dark new = ⊥
 TurnsOff old (Reply block) new = ⊥
 
--- A block with power off: the card doesn't answer.
+-- A block with power off: the card doesn't answer, and nothing changes.
 abbrev pub HearsNothing : BenchState → Item → BenchState → Type 0
 HearsNothing old Atr new = ⊥
 HearsNothing old Quiet new = ⊥
-HearsNothing old Mute new = RestsOff old new
+HearsNothing old Mute new = new ≡ old
 HearsNothing old Dark new = ⊥
 HearsNothing old (Reply block) new = ⊥
 

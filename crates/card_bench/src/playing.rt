@@ -88,7 +88,7 @@ impl<B: Socket> Model for Bench<B> {
 
     ghost view = { λ b. power_state B.facts b.power };
 
-    ghost invariant = { λ b. IsKept b.power };
+    ghost invariant = { λ b. IsKept B.facts b.power };
 }
 
 impl<B: Socket> Bench<B> {
@@ -275,7 +275,7 @@ impl<B: Socket> Power<B> {
     /// Power off.
     fn darken(self, _: ()) -> (Power<B>, ())
         ensures off { power_state B.facts result.0 ≡ off (record (bench_facts (power_state B.facts self)) { dark = true }) }
-        ensures kept { IsKept result.0 }
+        ensures kept { IsKept B.facts result.0 }
     {
         (Power::Off(self.into_dark_board()), ())
     }
@@ -283,7 +283,7 @@ impl<B: Socket> Power<B> {
     /// Power off if it is on, and then a start.
     fn start(self, _: ()) -> (Power<B>, PowerOn)
         ensures plays { Plays (power_state B.facts self) Turn.On (powered_item result.1) (power_state B.facts result.0) }
-        ensures kept { IsKept result.0 }
+        ensures kept { IsKept B.facts result.0 }
     {
         let mut board = self.into_dark_board();
         let Ok(()) = board.light() else {

@@ -1,4 +1,5 @@
-use Rattle.std.proofs.Common.{refl, subst, sym, ◌∙◌}
+use Rattle.std.proofs.Common.{ap, refl, subst, sym, ◌∙◌}
+use Rattle.nvm_board.specs.Facts.{Facts}
 use Rattle.card_bench.proofs.FewGuesses.{writing-compares}
 use Rattle.card_bench.proofs.PowerTurns.{starts, stays_mute, ends_dark, ends_mute}
 use Rattle.card_bench.specs.declared.playing.PowerOn.{PowerOn}
@@ -31,6 +32,12 @@ returns-in_default-clause-plays g c =
     let dark = g.B.Board.facts c.into_dark_board-board.result in
     stays_mute (power_state g.B.Board.facts c.args.self) dark c.into_dark_board-board.ensures (g.B.Board.facts c.light.new.self)
     (c.in_default.ensures.worn.0 refl) c.in_default.ensures.same
+
+pub returns-in_default-clause-kept : goal.returns-in_default-clause-kept
+returns-in_default-clause-kept g c = ap (λ (f : Facts). f.dark) (c.in_default.ensures.same ∙ c.into_dark_board-board.ensures)
+
+pub returns-after-fault-clause-kept : goal.returns-after-fault-clause-kept
+returns-after-fault-clause-kept g c = ap (λ (f : Facts). f.dark) c.power_off.ensures
 
 pub returns-after-fault-clause-plays : goal.returns-after-fault-clause-plays
 returns-after-fault-clause-plays g c =
