@@ -28,7 +28,7 @@ ghost use Rattle.card_bench.specs.Prints.{IsFirstDesk, PrintsLines};
 ghost use Rattle.card_bench.specs.ScriptWorlds.{PowerOnLaw, LineLaw};
 ghost use Rattle.card_bench.specs.Spellings.{IsOfBytes, SpellingLaw};
 ghost use Rattle.card_bench.specs.TreeMachine.{tree_machine, IsProperState};
-ghost use Rattle.card_bench.specs.Turns.{GoodTurn, Runs, dark_of};
+ghost use Rattle.card_bench.specs.Turns.{GoodBlock, GoodTurn, Runs, dark_of};
 ghost use Rattle.card_bench.specs.WorldLaw.{ResynchLaw, WorldLaw};
 ghost use Rattle.card_bench.specs.WorldRepairs.{RepairLaw};
 ghost use Rattle.card_bench.specs.Worlds.{Answers, Machine, are_bytes, may_arrive};
@@ -109,12 +109,14 @@ pub fn guesses_add_up()
 {}
 
 /// A board's counts last. A turn takes at most 700 steps of each, a line of a script 700,000; where so many are left, no
-/// power-on is mute, and power is lost where a cut was due alone. In a script, whose board is new, so many are left behind
-/// every line.
+/// power-on is mute, and power is lost, in a turn or in a block, where a cut was due alone. In a script, whose board is
+/// new, so many are left behind every line.
 pub fn counts_last()
     ensures starts { (old new : BenchState) (item : Item) → GoodTurn old On item new → HasLeft 700 (bench_facts old)
         → item ≢ Mute }
     ensures due { (old new : BenchState) (turn : Turn) (item : Item) → GoodTurn old turn item new
+        → HasLeft 700 (bench_facts old) → (bench_facts old).due ≡ (bench_facts new).due + dark_of item }
+    ensures block { (old new : BenchState) (got : List ℕ) (item : Item) → GoodBlock old got item new
         → HasLeft 700 (bench_facts old) → (bench_facts old).due ≡ (bench_facts new).due + dark_of item }
     ensures turns { (n : ℕ) (old new : BenchState) (turns : List Turn) (trace : List Item) → Runs old turns trace new
         → HasLeft (n + 700 * length turns) (bench_facts old) → HasLeft n (bench_facts new) }

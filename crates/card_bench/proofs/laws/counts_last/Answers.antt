@@ -1,5 +1,5 @@
 use Rattle.card_bench.proofs.DarkLines.{dark-spends}
-use Rattle.card_bench.proofs.Wearing.{due-spent, not-mute, runs-last, script-lasts}
+use Rattle.card_bench.proofs.Wearing.{block-due, due-spent, not-mute, runs-last, script-lasts}
 use Rattle.card_bench.proofs.laws.counts_last.Goals as goal
 
 pub returns-clause-starts : goal.returns-clause-starts
@@ -7,6 +7,9 @@ returns-clause-starts c = not-mute
 
 pub returns-clause-due : goal.returns-clause-due
 returns-clause-due c = due-spent
+
+pub returns-clause-block : goal.returns-clause-block
+returns-clause-block c = block-due
 
 pub returns-clause-turns : goal.returns-clause-turns
 returns-clause-turns c = runs-last
