@@ -1,11 +1,14 @@
 -- Where a line prints that power was lost, a cut was due, and is gone.
-use Rattle.std.specs.Prelude.{◌≡◌, ◌+◌, ◌*◌, ℕ, zero, suc, List, Option, None, Some, Result, Ok, Err, refl}
+use Rattle.std.specs.Prelude.{◌≡◌, ◌≤◌, ◌+◌, ◌*◌, ℕ, zero, suc, List, Option, None, Some, Result, Ok, Err, refl}
 use Rattle.std.proofs.Common.{arith, ap, inl, inr, subst, sym, ◌∙◌}
 use Rattle.t1_link.specs.ReaderFields.{next_of}
 use Rattle.t1_link.specs.ReaderTable.{Reader, reader_sends}
 use Rattle.t1_link.specs.declared.reader_end.Next.{Next}
 use Rattle.t1_link.specs.declared.reader_end.Next.TheVariants.{Send, Done, Unknown, Failed}
 use Rattle.card_core.specs.declared.machine.TheConstants.{COMMAND_WRITES}
+use Rattle.nvm_board.specs.declared.board.Arm.{Arm}
+use Rattle.nvm_board.specs.Aims.{due_of}
+use Rattle.card_bench.specs.Plays.{IsGood}
 use Rattle.card_bench.specs.declared.exchange.Ending.{Ending}
 use Rattle.card_bench.specs.declared.exchange.Ending.TheVariants.{Answered, SetBack, Lost, Dark}
 use Rattle.card_bench.specs.declared.exchange.TheConstants.{LINE_BLOCKS}
@@ -147,3 +150,21 @@ dark-spends (Block block) old new performs left =
 dark-spends (Cut number mask) old new performs left = let printed = performs.printed in absurd cc
 dark-spends (Lose number) old new performs left = absurd cc
 dark-spends (Garble number) old new performs left = absurd cc
+
+-- an arm of which no cut is due is none
+none-set : (arm : Option Arm) → due_of arm ≡ 0 → arm ≡ None
+none-set None none = refl
+none-set (Some arm) none = absurd (omega (arith, none))
+
+most-due : (arm : Option Arm) → due_of arm ≤ 1
+most-due None = omega arith
+most-due (Some arm) = omega arith
+
+pub dark-unsets : (order : Order) (old new : Desk) → Performs order old new prints_dark → IsGood old.bench → IsGood new.bench
+    → HasLeft LINE_STEPS (bench_facts old.bench) → (bench_facts new.bench).pending ≡ None
+dark-unsets order old new performs was good left =
+    let spent = dark-spends order old new performs left in
+    let most = most-due (bench_facts old.bench).pending in
+    let before = was.due in
+    let after = good.due in
+    none-set (bench_facts new.bench).pending (omega (arith, spent, most, before, after))

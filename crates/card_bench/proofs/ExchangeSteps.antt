@@ -11,13 +11,15 @@ use Rattle.t1_link.specs.ReaderFields.{next_of}
 use Rattle.t1_link.specs.ReaderTable.{Outcome, Reader, Turned, fails, gives, reader_step, reader_times_out, sends, unknown}
 use Rattle.card_core.specs.Cards.{Card}
 use Rattle.card_core.specs.Running.{card_found}
+use Rattle.apdu_core.specs.Asked.{asked}
 use Rattle.card_core.specs.Stages.{IsStage}
+use Rattle.card_core.specs.Words.{StandsAsked}
 use Rattle.card_core.specs.Steps.{answer_bytes}
 use Rattle.card_bench.specs.declared.exchange.Ending.{Ending}
 use Rattle.card_bench.specs.declared.exchange.Ending.TheVariants.{Answered, SetBack, Lost, Dark}
 use Rattle.card_bench.specs.declared.line.Line.{Line}
-use Rattle.card_bench.specs.BenchStates.{BenchState, off, on, bench_card}
-use Rattle.card_bench.specs.CardBlocks.{IsBlockStage, IsRun, Powered, Replies, answering, card_by, machine, session_by}
+use Rattle.card_bench.specs.BenchStates.{BenchState, off, on, bench_card, bench_facts}
+use Rattle.card_bench.specs.CardBlocks.{BlockStands, IsBlockStage, IsRun, Powered, Replies, answering, card_by, machine, session_by}
 use Rattle.card_bench.specs.Exchanges.{Arrives, CardTakes, Ends, Passes, NextBlock, bytes_under_way, following}
 use Rattle.card_bench.specs.Exchanges.{ReaderTurns}
 use Rattle.card_bench.specs.Exchanges as ways
@@ -214,10 +216,11 @@ replied p after old reader w got bytes s same rep =
     (card-replies p after w reader (link_step p.link got).link (link_step p.link got).reaction bytes s.card_is same rep.card rep.session rep.link rep.block)
 
 -- power was lost while the card's end had a command run
-cut-so : (p : Powered) (r : Reaction) (card : Card) → IsRun r → IsBlockStage p r card
+cut-so : (p : Powered) (r : Reaction) (card : Card) (m : List ℕ) → IsRun r → IsBlockStage p r card → BlockStands p r m
     → (command : List ℕ) × (r ≡ runs command) × IsStage (card_found p.card) p.card.session command card
-cut-so p (replies b) card run stage = absurd run
-cut-so p (runs command) card run stage = (command, refl, stage)
+    × StandsAsked (card_found p.card) p.card.session (asked command) m
+cut-so p (replies b) card m run stage word = absurd run
+cut-so p (runs command) card m run stage word = (command, refl, stage, word)
 
 -- the command that a card's end runs on these bytes is the one that was given
 abbrev pub IsKnown : World Served → Option (List ℕ) → Type 0
@@ -236,7 +239,8 @@ card-leads w (on p) after old reader line got (Err (Answered answer)) known s sa
 card-leads w (on p) after old reader line got (Err SetBack) known s same t = absurd t
 card-leads w (on p) after old reader line got (Err Lost) known s same t = absurd t
 card-leads w (on p) after old reader line got (Err Dark) known s same t =
-    let cut = cut-so p (link_step p.link got).reaction (bench_card after) t.one.run t.one.stage in
+    let cut = cut-so p (link_step p.link got).reaction (bench_card after) (bench_facts after).words t.one.run
+    t.one.stage t.one.word in
     let ran : (link_step w.card got).reaction ≡ runs cut.0 = ap (λ (l : Link). (link_step l got).reaction) (sym s.link_is) ∙ cut.1 in
     let given : cut.0 ≡ newest w.sent = known cut.0 ran in
     record {
@@ -246,6 +250,10 @@ card-leads w (on p) after old reader line got (Err Dark) known s same t =
       runs_it = ran ∙ ap (λ (command : List ℕ). runs command) given;
       stage = subst (λ (command : List ℕ). IsStage w.machine.card w.machine.session command (bench_card after)) given
           (subst (λ (m : Served). IsStage m.card m.session cut.0 (bench_card after)) s.card_is cut.2);
+      word = subst (λ (command : List ℕ). StandsAsked w.machine.card w.machine.session (asked command)
+          (bench_facts after).words) given
+          (subst (λ (m : Served). StandsAsked m.card m.session (asked cut.0) (bench_facts after).words) s.card_is
+          cut.3);
     }
 
 arrived : (w : World Served) (old new : Ends) (way : NextBlock) (o : Option (List ℕ)) (follows : Result NextBlock Ending)

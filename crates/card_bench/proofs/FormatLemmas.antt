@@ -4,6 +4,7 @@ use Rattle.std.proofs.Common.{arith, inl, inr, subst, sym, ap, ◌∙◌, true�
 use Rattle.nvm_board.specs.declared.board.DeviceErr.{DeviceErr}
 use Rattle.nvm_board.specs.declared.board.DeviceErr.TheVariants.{PowerLost, Fault}
 use Rattle.nvm_board.specs.declared.board.TheConstants.{COUNT_END, PAGES}
+use Rattle.nvm_board.specs.Aims.{due_of}
 use Rattle.nvm_board.specs.Facts.{Answered, Facts, GoesDark, Steady, new_board}
 use Rattle.undo_journal.specs.Spending.{WritesAtMost}
 use Rattle.card_core.specs.Factory.{factory_card}
@@ -68,10 +69,10 @@ just_written old new is steady spent =
 
 -- the desk with the factory's board
 pub first_desk : (d : Desk) (f : Facts) → d.bench ≡ off (record f { dark = true }) → d.reader ≡ None → d.line ≡ record { lose = None; garble = None }
-    → Finds f.words factory_card → IsJustWritten f → f.faults ≡ 0 → IsFirstDesk d
-first_desk d f bench reader line finds counts faults = record {
+    → Finds f.words factory_card → IsJustWritten f → f.faults ≡ 0 → f.due ≡ due_of f.pending → IsFirstDesk d
+first_desk d f bench reader line finds counts faults due = record {
   power = subst IsOff (sym bench) refl;
-  good = subst IsGood (sym bench) (record { has_card = finds.has_card; faults = faults; well = tt });
+  good = subst IsGood (sym bench) (record { has_card = finds.has_card; faults = faults; due = due; well = tt });
   card = subst (λ (b : BenchState). bench_card b ≡ factory_card) (sym bench) finds.card;
   counts = subst (λ (b : BenchState). IsJustWritten (bench_facts b)) (sym bench) (record {
     due = counts.due;

@@ -5,6 +5,8 @@ use Rattle.nvm_board.specs.Facts.{Facts}
 use Rattle.card_bench.specs.declared.playing.Turn.{Turn}
 use Rattle.card_bench.specs.declared.playing.Item.{Item}
 use Rattle.t1_link.specs.CardTable.{link_step}
+use Rattle.undo_journal.specs.Spending.{Advances}
+use Rattle.card_core.specs.declared.card_state.CardState.TheVariants.{Working}
 use Rattle.card_core.specs.Comparing.{comparisons}
 use Rattle.card_core.specs.declared.machine.TheConstants.{COMMAND_WRITES}
 use Rattle.card_core.specs.Finding.{HasCard}
@@ -12,12 +14,12 @@ use Rattle.card_core.specs.Running.{card_found}
 use Rattle.card_core.specs.laws.ShownLaws.{ComparesOrStays}
 use Rattle.card_bench.specs.declared.playing.Item.TheVariants.{Dark, Mute}
 use Rattle.card_bench.specs.BenchStates.{BenchState, off, on, bench_facts}
-use Rattle.card_bench.specs.CardBlocks.{Powered, IsCutAt, IsBlockStage}
+use Rattle.card_bench.specs.CardBlocks.{Powered, BlockStands, IsCutAt, IsBlockStage}
 use Rattle.card_bench.specs.Plays.{HasNoFault, Plays, PlaysAll, PlaysBlock}
 use Rattle.card_bench.specs.Turns.{CountsLosses, GoodTurn, Runs, Spends, dark_of, darks}
 use Rattle.card_bench.proofs.FewGuesses.{pays-nothing, pays-on}
 use Rattle.card_bench.proofs.GuessesPaid.{ArePaid, paid-few}
-use Rattle.card_bench.proofs.Wearing.{wears-shown, wears-writing}
+use Rattle.card_bench.proofs.Wearing.{aims-off, wears-shown, wears-writing}
 
 run_more : (old between new : BenchState) (turns : List Turn) (trace : List Item) (turn : Turn) (item : Item)
     → Runs old turns trace between → GoodTurn between turn item new → Runs old (turns ++ turn ∷ []) (trace ++ item ∷ []) new
@@ -93,16 +95,19 @@ pub plays_cut : (old new : Powered) (got out : List ℕ) → IsCutAt old got new
     → IsBlockStage old (link_step old.link got).reaction (card_found new.card)
     → ArePaid (card_found old.card) (card_found new.card) (comparisons old.card.facts) (comparisons new.card.facts)
     → ComparesOrStays (card_found old.card) (card_found new.card) (comparisons old.card.facts) (comparisons new.card.facts)
-    → new.card.facts.writes ≤ old.card.facts.writes + COMMAND_WRITES → PlaysBlock (on old) got Dark (off (record new.card.facts { dark = true }))
-plays_cut old new got out cut found stage paid shown writes = record {
+    → new.card.facts.writes ≤ old.card.facts.writes + COMMAND_WRITES → Advances old.card.facts new.card.facts
+    → (old.card.state ≡ Working → BlockStands old (link_step old.link got).reaction new.card.facts.words)
+    → PlaysBlock (on old) got Dark (off (record new.card.facts { dark = true }))
+plays_cut old new got out cut found stage paid shown writes advances stands = record {
   has_card = λ before. found;
   counts = record { cuts = cut.power.cuts; due = cut.power.due; faults = omega (arith, cut.power.faults) };
   well = λ good. tt;
   guesses = paid-few (on old) (off (record new.card.facts { dark = true })) paid;
-  one = λ before good. record { power = refl; run = cut.run; stage = stage };
+  one = λ before good. record { power = refl; run = cut.run; stage = stage; word = stands good.well };
   wears = λ good.
       wears-shown COMMAND_WRITES (card_found old.card) (card_found new.card) old.card.facts
-      (record new.card.facts { dark = true }) shown good.faults writes;
+      (record new.card.facts { dark = true }) shown good.faults writes advances.more
+      (aims-off old.card.facts new.card.facts advances.cut.cut);
   heard = λ powered. refl;
 }
 
@@ -117,6 +122,6 @@ hears_nothing old new facts got is same =
       well = λ good. tt;
       guesses = pays-nothing (off facts) (off facts) refl refl;
       one = λ before good. refl;
-      wears = λ good. wears-writing COMMAND_WRITES facts facts refl (omega arith) refl;
+      wears = λ good. wears-writing COMMAND_WRITES facts facts refl (omega arith) (omega arith) (inl refl) refl;
       heard = λ powered. absurd powered;
     }))

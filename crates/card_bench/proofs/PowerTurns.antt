@@ -1,6 +1,7 @@
 -- A power-on, by how the start of the card ended.
-use Rattle.std.specs.Prelude.{◌≡◌, ◌≤◌, ◌+◌, ◌⊎◌, ℕ, true, false, List}
+use Rattle.std.specs.Prelude.{◌≡◌, ◌≤◌, ◌+◌, ◌⊎◌, ℕ, true, false, List, Option, IfSome}
 use Rattle.std.proofs.Common.{arith, ap, inl, inr, refl, subst, sym, ◌∙◌, true≢false}
+use Rattle.nvm_board.specs.Aims.{Aim, aim, KeepsAim}
 use Rattle.nvm_board.specs.Facts.{Facts, GoesDark, IsWorn, IsWornOut, Steady}
 use Rattle.undo_journal.specs.declared.layout.TheConstants.{PAIRS}
 use Rattle.undo_journal.specs.Spending.{WritesAtMost, start_writes}
@@ -19,7 +20,7 @@ use Rattle.card_bench.specs.Guessing.{GuessesFew}
 use Rattle.card_bench.specs.Plays.{Plays}
 use Rattle.card_bench.specs.Turns.{LeavesCard, Wears}
 use Rattle.card_bench.proofs.FewGuesses.{pays-nothing, writing-compares}
-use Rattle.card_bench.proofs.Wearing.{few-start, wears-writing}
+use Rattle.card_bench.proofs.Wearing.{aims-off, few-start, wears-writing}
 
 -- a card that is found again
 again-found : (old new : List ℕ) → FindsAgain old new → HasCard old → HasCard new
@@ -37,7 +38,7 @@ turns_off old new is = subst (λ (b : BenchState). Plays old turn.Off item.Quiet
   guesses = pays-nothing old (off (record (bench_facts old) { dark = true })) refl refl;
   one = λ before good. refl;
   wears = λ before good.
-      wears-writing 0 (bench_facts old) (record (bench_facts old) { dark = true }) refl (omega arith) refl;
+      wears-writing 0 (bench_facts old) (record (bench_facts old) { dark = true }) refl (omega arith) (omega arith) (inl refl) refl;
 })
 
 -- the bench before, and its board with power off
@@ -64,7 +65,8 @@ module _ (old : BenchState) (dark : Facts) (darkened : dark ≡ record (bench_fa
         guesses = pays-nothing old (off new) (ap found words) (ap comparisons is);
         one = λ before good. (ap (λ (f : Facts). off f) is, subst IsWornOut (sym same) worn);
         wears = λ before good.
-            wears-writing (PAIRS + 1) (bench_facts old) new faults (omega (arith, writes)) (ap comparisons is);
+            wears-writing (PAIRS + 1) (bench_facts old) new faults (omega (arith, writes)) (omega (arith, writes))
+            (inl (ap aim is)) (ap comparisons is);
       }
 
   -- the board with power on
@@ -93,6 +95,16 @@ module _ (old : BenchState) (dark : Facts) (darkened : dark ≡ record (bench_fa
     has-card-again : (new : List ℕ) → FindsAgain lit.words new → HasCard (bench_facts old).words → HasCard new
     has-card-again new again before = again-found lit.words new again (subst HasCard (sym lit-words) before)
 
+    -- a cut that is set is the same with power on
+    lit-aims : (new : Facts) → KeepsAim lit new → KeepsAim (bench_facts old) new
+    lit-aims new (inl same) = inl (same ∙ ap aim lights ∙ ap aim darkened)
+    lit-aims new (inr fell) = inr (record {
+      dark = fell.dark;
+      none = fell.none;
+      there = subst (λ (o : Option Aim). IfSome o (λ a. (new.writes + 1 ≡ a.write) ⊎ (new.writes ≡ a.write)))
+          (ap aim lights ∙ ap aim darkened) fell.there;
+    })
+
     -- what a start takes of the board's counts
     start-wears : (new : Facts) → WritesAtMost (start_writes lit) lit new → HasCard (bench_facts old).words
         → new.faults ≡ (bench_facts old).faults → Wears (PAIRS + 1) (bench_facts old) new
@@ -100,6 +112,7 @@ module _ (old : BenchState) (dark : Facts) (darkened : dark ≡ record (bench_fa
         let few : start_writes lit ≤ PAIRS + 1 = few-start lit (subst HasCard (sym lit-words) before) in
         let most = spent.writes in
         wears-writing (PAIRS + 1) (bench_facts old) new faults (omega (arith, few, most, lit-writes))
+        (let more = spent.more in omega (arith, more, lit-writes)) (lit-aims new spent.cut.cut)
         (writing-compares (start_writes lit) lit new spent ∙ lit-counts)
 
     -- what a start leaves
@@ -158,6 +171,7 @@ module _ (old : BenchState) (dark : Facts) (darkened : dark ≡ record (bench_fa
       spent-so = subst (λ (f : Facts). WritesAtMost (start_writes lit) lit f) (sym turned) (record {
         writes = spent.writes;
         more = spent.more;
+        cut = record { off = λ is. absurd (dark-lit is); cut = aims-off lit stopped spent.cut.cut };
         compares = spent.compares;
         matches = spent.matches;
       })

@@ -1,10 +1,11 @@
 -- What turns and lines take of a board's counts, and that no count comes to its end where enough is left before.
 use Rattle.std.specs.Prelude.{◌≡◌, ◌==◌, ◌≤◌, ◌<◌, ◌+◌, ◌*◌, ℕ, zero, suc, List, [], ◌∷◌, length, slice_index, replicate}
 use Rattle.std.specs.Prelude.{All, Option, None, Some, Result, Ok, Err}
-use Rattle.std.proofs.Common.{arith, ap, inl, inr, subst, sym}
+use Rattle.std.proofs.Common.{arith, ap, inl, inr, refl, subst, sym, true}
 use Rattle.std.proofs.lemmas.List.Elements.{All-contains, All-replicate, All-set}
 use Rattle.nvm_board.specs.declared.board.Arm.{Arm}
 use Rattle.nvm_board.specs.declared.board.TheConstants.{COUNT_END, SECRETS}
+use Rattle.nvm_board.specs.Aims.{KeepsAim}
 use Rattle.nvm_board.specs.Facts.{Facts, IsWornOut, RisesAt}
 use Rattle.undo_journal.specs.declared.layout.TheConstants.{PAIRS}
 use Rattle.undo_journal.specs.Spending.{start_writes}
@@ -41,12 +42,19 @@ few-start f there =
     let few = there.journal.room in
     either-if (λ (n : ℕ). n ≤ PAIRS + 1) (gate f.words == 0) 0 (gate f.words + 1) (omega arith) (omega (arith, few))
 
+-- a cut that is set, once power is off
+pub aims-off : (old new : Facts) → KeepsAim old new → KeepsAim old (record new { dark = true })
+aims-off old new (inl same) = inl same
+aims-off old new (inr fell) = inr (record { dark = refl; none = fell.none; there = fell.there })
+
 -- where nothing is compared
 pub wears-writing : (n : ℕ) (old new : Facts) → new.faults ≡ old.faults → new.writes ≤ old.writes + n
-    → comparisons new ≡ comparisons old → Wears n old new
-wears-writing n old new faults writes same = record {
+    → old.writes ≤ new.writes → KeepsAim old new → comparisons new ≡ comparisons old → Wears n old new
+wears-writing n old new faults writes more cut same = record {
   faults = faults;
   writes = writes;
+  more = more;
+  cut = cut;
   secret = 0;
   compares = inl (ap (λ (c : Comparisons). c.compares) same);
   matches = inl (ap (λ (c : Comparisons). c.matches) same);
@@ -54,11 +62,14 @@ wears-writing n old new faults writes same = record {
 
 -- where a command may have compared what it shows
 pub wears-shown : (n : ℕ) (c d : Card) (old new : Facts) → ComparesOrStays c d (comparisons old) (comparisons new)
-    → new.faults ≡ old.faults → new.writes ≤ old.writes + n → Wears n old new
-wears-shown n c d old new (inl stays) faults writes = wears-writing n old new faults writes stays.0
-wears-shown n c d old new (inr shown) faults writes = record {
+    → new.faults ≡ old.faults → new.writes ≤ old.writes + n → old.writes ≤ new.writes → KeepsAim old new
+    → Wears n old new
+wears-shown n c d old new (inl stays) faults writes more cut = wears-writing n old new faults writes more cut stays.0
+wears-shown n c d old new (inr shown) faults writes more cut = record {
   faults = faults;
   writes = writes;
+  more = more;
+  cut = cut;
   secret = shown.0.secret;
   compares = elim shown.2.costs.compares [ inl same ↦ inl same | inr pays ↦ inr pays.compared ];
   matches = shown.2.costs.matches;

@@ -9,6 +9,7 @@ use Rattle.card_core.specs.declared.card_state.CardState.TheVariants.{Working, F
 use Rattle.card_core.specs.Cards.{Card}
 use Rattle.card_core.specs.Sessions.{Session, fresh_session}
 use Rattle.card_core.specs.Stages.{ChangesNothing, IsStage}
+use Rattle.card_core.specs.Words.{StandsAsked}
 use Rattle.card_core.specs.Steps.{Outcome, answer_bytes, carried_out}
 use Rattle.card_core.specs.Running.{Running, card_found, memory_failure}
 
@@ -49,6 +50,11 @@ card_by card (runs command) card_to = card_to command
 abbrev pub IsBlockStage : Powered → Reaction → Card → Type 0
 IsBlockStage old (replies block) card = card ≡ card_found old.card
 IsBlockStage old (runs command) card = IsStage (card_found old.card) old.card.session command card
+
+-- which card is found after the command that a reaction runs, by the word that was written; where none runs nothing is written
+abbrev pub BlockStands : Powered → Reaction → List ℕ → Type 0
+BlockStands old (replies block) m = Unit {0}
+BlockStands old (runs command) m = StandsAsked (card_found old.card) old.card.session (asked command) m
 
 -- a reaction runs no command, or one that changes nothing lasting
 abbrev pub BlockChangesNothing : Powered → Reaction → Type 0

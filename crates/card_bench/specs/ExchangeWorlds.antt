@@ -7,12 +7,14 @@ use Rattle.t1_link.specs.CardTable.{link_step, runs}
 use Rattle.t1_link.specs.Garbled.{last_bit_turned}
 use Rattle.t1_link.specs.ReaderTable.{Reader}
 use Rattle.card_core.specs.Running.{card_found}
+use Rattle.apdu_core.specs.Asked.{asked}
 use Rattle.card_core.specs.Stages.{IsStage}
+use Rattle.card_core.specs.Words.{StandsAsked}
 use Rattle.card_bench.specs.declared.exchange.Ending.{Ending}
 use Rattle.card_bench.specs.declared.exchange.Ending.TheVariants.{Answered, SetBack, Lost, Dark}
 use Rattle.card_bench.specs.declared.exchange.TheConstants.{LINE_BLOCKS}
 use Rattle.card_bench.specs.declared.line.Line.{Line}
-use Rattle.card_bench.specs.BenchStates.{BenchState, off, on, bench_card, IsOff}
+use Rattle.card_bench.specs.BenchStates.{BenchState, off, on, bench_card, bench_facts, IsOff}
 use Rattle.card_bench.specs.CardBlocks.{Powered}
 use Rattle.card_bench.specs.Exchanges.{Ends, Exchanged}
 use Rattle.card_bench.specs.Lines.{is_due, line_after}
@@ -76,13 +78,14 @@ pub record IsUnreported (earlier : List Report) (w : World Served) : Type 0 wher
   pub line : is_under_way w.line ≡ true
 
 -- The block under way came to the card's end, the command was to run there, and power was lost: the card that is found is one
--- of its stages.
+-- of its stages; which one, the word tells that was written.
 pub record ExchangeIsCut (command : List ℕ) (came : Arrival) (w : World Served) (new : BenchState) : Type 0 where
   pub power : IsOff new
   pub got : List ℕ
   pub came_there : came ≡ at_card got
   pub runs_it : (link_step w.card got).reaction ≡ runs command
   pub stage : IsStage w.machine.card w.machine.session command (bench_card new)
+  pub word : StandsAsked w.machine.card w.machine.session (asked command) (bench_facts new).words
 
 -- what comes of the block that goes on the line after so many
 abbrev pub arrival_after : Course → ℕ → Arrival

@@ -1,5 +1,6 @@
 -- What the bench promises of a turn, and of turns: the counts always; that it is the machine's where no fault came.
 use Rattle.std.specs.Prelude.{◌≡◌, ℕ, List}
+use Rattle.nvm_board.specs.Aims.{due_of}
 use Rattle.card_core.specs.declared.machine.TheConstants.{COMMAND_WRITES}
 use Rattle.card_bench.specs.declared.playing.Turn.{Turn}
 use Rattle.card_bench.specs.declared.playing.PowerOn.{PowerOn}
@@ -17,10 +18,11 @@ pub record HasNoFault (old new : BenchState) : Type 0 where
   pub faults : (bench_facts new).faults ≡ (bench_facts old).faults
   pub well : IsWell old
 
--- A bench whose card is found, and never had a fault.
+-- A bench whose card is found, and never had a fault; a cut is due where one is set.
 pub record IsGood (b : BenchState) : Type 0 where
   pub has_card : BenchHasCard b
   pub faults : (bench_facts b).faults ≡ 0
+  pub due : (bench_facts b).due ≡ due_of (bench_facts b).pending
   pub well : IsWell b
 
 -- what comes of a power-on

@@ -1,5 +1,6 @@
 -- What each turn at a bench does, and what comes of it; and turns, one after another.
 use Rattle.std.specs.Prelude.{◌≡◌, ◌⊎◌, ◌≤◌, ◌+◌, ℕ, List, [], ◌∷◌}
+use Rattle.nvm_board.specs.Aims.{KeepsAim}
 use Rattle.nvm_board.specs.Facts.{Facts, IsWorn, IsWornOut, RisesAt}
 use Rattle.undo_journal.specs.declared.layout.TheConstants.{PAIRS}
 use Rattle.card_core.specs.declared.machine.TheConstants.{COMMAND_WRITES}
@@ -9,7 +10,7 @@ use Rattle.card_bench.specs.declared.playing.Turn.TheVariants as turn
 use Rattle.card_bench.specs.declared.playing.Item.{Item}
 use Rattle.card_bench.specs.declared.playing.Item.TheVariants.{Atr, Quiet, Mute, Dark, Reply}
 use Rattle.card_bench.specs.BenchStates.{BenchState, off, on, bench_card, bench_facts, IsFresh, IsOff, switched_off}
-use Rattle.card_bench.specs.CardBlocks.{Powered, Replies, IsRun, IsBlockStage}
+use Rattle.card_bench.specs.CardBlocks.{Powered, Replies, IsRun, BlockStands, IsBlockStage}
 
 -- What a start leaves, cut or not: the card that is found is what it was, and no secret was compared.
 pub record LeavesCard (old new : BenchState) : Type 0 where
@@ -47,11 +48,12 @@ abbrev pub GoesOnWith : Powered → List ℕ → BenchState → List ℕ → Typ
 GoesOnWith old got (off facts) out = ⊥
 GoesOnWith old got (on new) out = Replies old got new out
 
--- Power was lost while a command ran: the card that is found is one of its stages.
+-- Power was lost while a command ran: the card that is found is one of its stages; which one, the word tells that was written.
 pub record IsCutOff (old : Powered) (got : List ℕ) (new : BenchState) : Type 0 where
   pub power : IsOff new
   pub run : IsRun (link_step old.link got).reaction
   pub stage : IsBlockStage old (link_step old.link got).reaction (bench_card new)
+  pub word : BlockStands old (link_step old.link got).reaction (bench_facts new).words
 
 -- A block with power on: the card replies, or power is lost.
 abbrev pub Hears : Powered → List ℕ → Item → BenchState → Type 0
@@ -106,11 +108,13 @@ turn_writes turn.On = PAIRS + 1
 turn_writes turn.Off = 0
 turn_writes (turn.Block got) = COMMAND_WRITES
 
--- What a turn without a fault takes of the board's other counts: so many device writes at most, and at most the comparison of one
--- secret, which may match.
+-- What a turn without a fault takes of the board's other counts: so many device writes at most, none taken back, and at most the
+-- comparison of one secret, which may match. A cut that is set falls into the write that it was set for.
 pub record Wears (most : ℕ) (old new : Facts) : Type 0 where
   pub faults : new.faults ≡ old.faults
   pub writes : new.writes ≤ old.writes + most
+  pub more : old.writes ≤ new.writes
+  pub cut : KeepsAim old new
   pub secret : ℕ
   pub compares : RisesAt old.compares secret new.compares
   pub matches : RisesAt old.matches secret new.matches

@@ -101,7 +101,7 @@ impl<B: Armed + Faultless> Desk<B> {
             Order::Apdu(command) => self.command(command),
             Order::Block(block) => self.perform_block(block),
             Order::Cut { number, mask } => {
-                self.bench.arm(*number, *mask);
+                self.bench.good_arm(*number, *mask);
                 PrintKind::Nothing
             }
             Order::Lose(number) => {

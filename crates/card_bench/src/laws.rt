@@ -1,6 +1,6 @@
 //! Laws of the definitions: each is a function whose contract is the law.
 
-ghost use Rattle.std.specs.Prelude.{◌≡◌, ◌≢◌, ◌≤◌, ◌+◌, ◌*◌, ℕ, Bool, List, length, true, IsTrue, Ok, Err, Some};
+ghost use Rattle.std.specs.Prelude.{◌≡◌, ◌≢◌, ◌≤◌, ◌+◌, ◌*◌, ℕ, Bool, List, length, true, IsTrue, Ok, Err, None, Some};
 ghost use Rattle.hex.specs.Hex.{lower_digits, upper_digits};
 ghost use Rattle.pin_store.specs.declared.layout.TheConstants.{PINS};
 ghost use Rattle.t1_link.specs.Blocks.{Block as BlockValue, heard};
@@ -23,6 +23,7 @@ ghost use Rattle.card_bench.specs.Lasting.{HasLeft};
 ghost use Rattle.card_bench.specs.Lines.{arriving, line_after};
 ghost use Rattle.card_bench.specs.Orders.{IsSized, order_of};
 ghost use Rattle.card_bench.specs.Performing.{Performs};
+ghost use Rattle.card_bench.specs.Plays.{IsGood};
 ghost use Rattle.card_bench.specs.Printouts.{prints_dark};
 ghost use Rattle.card_bench.specs.Prints.{IsFirstDesk, PrintsLines};
 ghost use Rattle.card_bench.specs.ScriptWorlds.{PowerOnLaw, LineLaw};
@@ -109,8 +110,8 @@ pub fn guesses_add_up()
 {}
 
 /// A board's counts last. A turn takes at most 700 steps of each, a line of a script 700,000; where so many are left, no
-/// power-on is mute, and power is lost, in a turn or in a block, where a cut was due alone. In a script, whose board is
-/// new, so many are left behind every line.
+/// power-on is mute, and power is lost, in a turn or in a block, where a cut was due alone; behind a line that prints
+/// dark no cut is set any more. In a script, whose board is new, so many are left behind every line.
 pub fn counts_last()
     ensures starts { (old new : BenchState) (item : Item) → GoodTurn old On item new → HasLeft 700 (bench_facts old)
         → item ≢ Mute }
@@ -122,6 +123,8 @@ pub fn counts_last()
         → HasLeft (n + 700 * length turns) (bench_facts old) → HasLeft n (bench_facts new) }
     ensures script { (first last : Desk) (some : List (List ℕ)) (out : List ℕ) → IsFirstDesk first
         → PrintsLines first some last out → length some ≤ 16777217 → HasLeft 700000 (bench_facts last.bench) }
+    ensures cut { (order : Order) (old new : Desk) → Performs order old new prints_dark → IsGood old.bench → IsGood new.bench
+        → HasLeft 700000 (bench_facts old.bench) → (bench_facts new.bench).pending ≡ None }
     ensures dark { (order : Order) (old new : Desk) → Performs order old new prints_dark
         → HasLeft 700000 (bench_facts old.bench) → (bench_facts old.bench).due ≡ (bench_facts new.bench).due + 1 }
 {}

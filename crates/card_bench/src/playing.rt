@@ -1,5 +1,6 @@
 //! A bench that plays turns: power on, power off, and blocks straight to the card's end of the link.
 ghost use Rattle.std.specs.Prelude.{◌≡◌, ◌≤◌, ◌↔◌, length, true, IsTrue};
+ghost use Rattle.nvm_board.specs.Aims.{due_of};
 ghost use Rattle.card_bench.specs.BenchStates.{off, bench_facts, BenchHasCard, IsOn, IsWell, TellsFree};
 ghost use Rattle.card_bench.specs.BenchViews.{power_state, IsKept};
 ghost use Rattle.card_bench.specs.Guessing.{GuessesFew};
@@ -214,6 +215,19 @@ impl<B: Armed> Bench<B> {
     }
 }
 
+impl<B: Armed + Faultless> Bench<B> {
+    /// Sets a cut to come at a later write, on a board without faults.
+    pub(crate) fn good_arm(&mut self, k: u32, mask: u16)
+        requires good { IsGood self.old }
+        requires later { 1 ≤ k }
+        ensures good { IsGood self.new }
+        ensures armed { IsArmed k mask self.old self.new }
+    {
+        self.arm(k, mask);
+        self.has_no_fault();
+    }
+}
+
 impl<B: Socket + Faultless> Bench<B> {
     /// Power off if it is on, and then a start, on a board without faults.
     pub(crate) fn good_on(&mut self) -> PowerOn
@@ -248,9 +262,10 @@ impl<B: Socket + Faultless> Bench<B> {
         sent
     }
 
-    /// Tells that the board counts no fault.
+    /// Tells that the board counts no fault, and that a cut is due where one is set.
     fn has_no_fault(&self)
-        ensures { (bench_facts self.now).faults ≡ 0 }
+        ensures faults { (bench_facts self.now).faults ≡ 0 }
+        ensures due { (bench_facts self.now).due ≡ due_of (bench_facts self.now).pending }
     {
         match &self.power {
             Power::Off(board) => has_no_fault(board),

@@ -1,13 +1,14 @@
 //! A card behind its end of the link.
 ghost use Rattle.std.specs.Prelude.{◌≡◌, ◌≢◌, ◌⊎◌, ◌+◌, ◌-◌, ◌≤◌, Some, true, [], IsOk, IsErr, OnOk, OnErr, IfOk, IfErr};
-ghost use Rattle.undo_journal.specs.Spending.{KeepsBoard, KeepsShut, WritesAtMost, start_writes};
+ghost use Rattle.nvm_board.specs.Aims.{due_of};
+ghost use Rattle.undo_journal.specs.Spending.{Advances, KeepsBoard, KeepsShut, WritesAtMost, start_writes};
 ghost use Rattle.card_core.specs.declared.machine.TheConstants.{COMMAND_WRITES};
 ghost use Rattle.card_core.specs.Finding.{HasCard, FindsAgain};
 ghost use Rattle.card_core.specs.Running.{Starts, StartStopsBy, card_found};
 ghost use Rattle.file_tree.specs.Spaces.{free_space};
 ghost use Rattle.t1_link.specs.CardTable.{link_step, fresh};
 ghost use Rattle.card_bench.specs.CardBlocks.{Replies, RepliesFailure, FailsAt, IsCutAt, IsBlockStage, IsRun, BlockChangesNothing};
-ghost use Rattle.card_bench.specs.CardBlocks.{BlockCompares};
+ghost use Rattle.card_bench.specs.CardBlocks.{BlockCompares, BlockStands};
 
 use card_core::{Answer, Card, CardState, FreeSpace, PowerLost, StartFault};
 use nvm_board::{Armed, Board, Faultless};
@@ -79,6 +80,8 @@ impl<B: Board> Powered<B> {
         // what it was where none ran.
         ensures has_card { HasCard self.new.card.facts.words }
         ensures stage { IsBlockStage self.old (link_step self.old.link got.now).reaction (card_found self.new.card) }
+        ensures stands { self.old.card.state ≡ CardState.Working
+            → BlockStands self.old (link_step self.old.link got.now).reaction self.new.card.facts.words }
         ensures replies { OnOk result (self.old.card.state ≡ CardState.Working
             → Replies self.old got.now self.new out.new ⊎ FailsAt self.old got.now self.new out.new) }
         ensures lost { OnErr result (self.old.card.state ≢ CardState.Dark → IsCutAt self.old got.now self.new out.new) }
@@ -91,6 +94,8 @@ impl<B: Board> Powered<B> {
         ensures unrun { IsRun (link_step self.old.link got.now).reaction ⊎ (self.new.card ≡ self.old.card) }
         ensures idle { BlockChangesNothing self.old (link_step self.old.link got.now).reaction → KeepsBoard self.old.card.facts self.new.card.facts }
         ensures writes { self.new.card.facts.writes ≤ self.old.card.facts.writes + COMMAND_WRITES }
+        // No write is taken back, and a cut that is set falls into the write that it was set for.
+        ensures advances { Advances self.old.card.facts self.new.card.facts }
         // A comparison costs a lasting try, and none is made but by a command on PINs that carries data.
         ensures compares { BlockCompares self.old (link_step self.old.link got.now).reaction self.new }
     {
@@ -147,9 +152,10 @@ impl<B: Armed> Powered<B> {
 }
 
 impl<B: Faultless> Powered<B> {
-    /// Tells that the board counts no fault.
+    /// Tells that the board counts no fault, and that a cut is due where one is set.
     pub(crate) fn has_no_fault(&self)
-        ensures { self.now.card.facts.faults ≡ 0 }
+        ensures faults { self.now.card.facts.faults ≡ 0 }
+        ensures due { self.now.card.facts.due ≡ due_of self.now.card.facts.pending }
     {
         self.card.has_no_fault();
     }

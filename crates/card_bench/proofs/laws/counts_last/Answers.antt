@@ -1,4 +1,4 @@
-use Rattle.card_bench.proofs.DarkLines.{dark-spends}
+use Rattle.card_bench.proofs.DarkLines.{dark-spends, dark-unsets}
 use Rattle.card_bench.proofs.Wearing.{block-due, due-spent, not-mute, runs-last, script-lasts}
 use Rattle.card_bench.proofs.laws.counts_last.Goals as goal
 
@@ -19,3 +19,6 @@ returns-clause-script c = script-lasts
 
 pub returns-clause-dark : goal.returns-clause-dark
 returns-clause-dark c = dark-spends
+
+pub returns-clause-cut : goal.returns-clause-cut
+returns-clause-cut c = dark-unsets

@@ -20,6 +20,6 @@ pub returns-in-Cut-clause-performs : goal.returns-in-Cut-clause-performs
 returns-in-Cut-clause-performs g c =
     let now = c.args.self.now in
     let old : Desk = record { bench = now.bench; reader = now.reader; line = now.line } in
-    let new : Desk = record { bench = c.arm.new.self; reader = now.reader; line = now.line } in
+    let new : Desk = record { bench = c.good_arm.new.self; reader = now.reader; line = now.line } in
     subst (λ (o : Order). Performs o old new prints_nothing) (sym c.in-Cut.is)
-    (record { armed = c.arm.ensures; reader = refl; line = refl; printed = refl })
+    (record { armed = c.good_arm.ensures.armed; reader = refl; line = refl; printed = refl })

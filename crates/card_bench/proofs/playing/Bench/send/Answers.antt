@@ -20,7 +20,8 @@ returns-in-Err g c =
     (block-pays c.in-On.powered c.block.new.self (link_step c.in-On.powered.link c.args.block.now).reaction c.in-Err.ensures.stage
     c.in-Err.ensures.compares kept.1 c.in-Err.ensures.has_card)
     (block-compares c.in-On.powered c.block.new.self (link_step c.in-On.powered.link c.args.block.now).reaction
-    c.in-Err.ensures.stage c.in-Err.ensures.compares) c.in-Err.ensures.writes)
+    c.in-Err.ensures.stage c.in-Err.ensures.compares) c.in-Err.ensures.writes
+    c.in-Err.ensures.advances c.in-Err.ensures.stands)
 
 pub returns-in-Ok : goal.returns-in-Ok
 returns-in-Ok g c =
@@ -35,7 +36,8 @@ returns-in-Ok g c =
     λ good. wears-shown COMMAND_WRITES (card_found c.in-On.powered.card) (card_found c.block.new.self.card)
     c.in-On.powered.card.facts c.block.new.self.card.facts
     (block-compares c.in-On.powered c.block.new.self (link_step c.in-On.powered.link c.args.block.now).reaction
-    c.in-Ok.ensures.stage c.in-Ok.ensures.compares) good.faults c.in-Ok.ensures.writes in
+    c.in-Ok.ensures.stage c.in-Ok.ensures.compares) good.faults c.in-Ok.ensures.writes
+    c.in-Ok.ensures.advances.more c.in-Ok.ensures.advances.cut.cut in
     rw (← old) (search (rules, lit, guesses, wears))
 
 pub invariant_of-self-in-Ok : goal.invariant_of-self-in-Ok

@@ -7,7 +7,7 @@ use Rattle.t1_link.specs.CardTable.{answers, reply_bytes, command_of, link_step,
 use Rattle.card_core.specs.Comparing.{comparisons, ComparesAsked}
 use Rattle.card_core.specs.Running.{card_found}
 use Rattle.card_core.specs.laws.CompareLaws.{asked-none}
-use Rattle.card_bench.specs.CardBlocks.{BlockChangesNothing, BlockCompares, FailsAt, IsBlockStage, IsCutAt, Powered, Replies}
+use Rattle.card_bench.specs.CardBlocks.{BlockChangesNothing, BlockCompares, BlockStands, FailsAt, IsBlockStage, IsCutAt, Powered, Replies}
 use Rattle.card_bench.proofs.BlockRuns.{cut-at, of-run, run-replies}
 use Rattle.card_bench.proofs.CardStates.{on_err, works_if_cut}
 use Rattle.card_bench.proofs.powered.Powered.block.Goals as goal
@@ -123,3 +123,23 @@ returns-in-Reply-clause-unlit g c = tt
 
 pub returns-in-Reply-clause-failed : goal.returns-in-Reply-clause-failed
 returns-in-Reply-clause-failed g c = search rules
+
+pub returns-in_ok-command-in-Run-clause-stands : goal.returns-in_ok-command-in-Run-clause-stands
+returns-in_ok-command-in-Run-clause-stands g c =
+    let old : Powered = record { card = c.self.inside.card; link = c.self.inside.link.link } in
+    let waits = ap (λ (e : CardLink). e.waiting) (sym c.take.ensures.state) ∙ c.command.ensures in
+    let words = c.command-in-Run.new.self.facts.words in
+    subst (λ (p : Powered). p.card.state ≡ Working → BlockStands p (link_step p.link c.args.got.now).reaction words)
+    c.self.view_is
+    (λ works. of-run (λ (r : Reaction). BlockStands old r words) (link_step old.link c.args.got.now).reaction
+    c.command.result.now waits (c.command-in-Run.ensures.stands works))
+
+pub returns-in_err-command-in-Run-clause-stands : goal.returns-in_err-command-in-Run-clause-stands
+returns-in_err-command-in-Run-clause-stands g c =
+    let old : Powered = record { card = c.self.inside.card; link = c.self.inside.link.link } in
+    let waits = ap (λ (e : CardLink). e.waiting) (sym c.take.ensures.state) ∙ c.command.ensures in
+    let words = c.command-in-Run.new.self.facts.words in
+    subst (λ (p : Powered). p.card.state ≡ Working → BlockStands p (link_step p.link c.args.got.now).reaction words)
+    c.self.view_is
+    (λ works. of-run (λ (r : Reaction). BlockStands old r words) (link_step old.link c.args.got.now).reaction
+    c.command.result.now waits (c.command-in-Run.ensures.stands works))
