@@ -1,32 +1,35 @@
 -- The lines of a script, as they are read one by one.
-use Rattle.std.proofs.Common.{◌≡◌, ◌<◌, ◌≤◌, ◌+◌, ◌-◌, ◌==◌, ◌&&◌, IfSome, ℕ, zero, suc, Bool, true, false, true≢false, cond}
-use Rattle.std.proofs.Common.{nat_lt, List, [], ◌∷◌, ◌++◌, length, take}
+use Rattle.std.proofs.Common.{◌≡◌, ◌⊎◌, ◌<◌, ◌≤◌, ◌+◌, ◌-◌, ◌==◌, ◌&&◌, IfSome, ℕ, zero, suc, Bool, true, false, true≢false, cond}
+use Rattle.std.proofs.Common.{codes, nat_lt, List, [], ◌∷◌, ◌++◌, length, take}
 use Rattle.std.proofs.Common.{Option, Some, None, OnSome, is_some, slice_index, refl, sym, ◌∙◌, ap, ap₂, subst, inl, inr, arith}
 use Rattle.std.proofs.Common.{append_assoc, append-nil, length-append, length-take}
 use Rattle.std.proofs.Common.{if◌then◌else◌}
 use Rattle.std.proofs.KnownBytes.{Appends-nil, Appends-trans}
-use Rattle.std.proofs.Math.Seq.{take-append-add, take-length}
 use Rattle.std.specs.Io.KnownBytes.{Appends, Consumes, IsAtEnd, Keeps}
 use Rattle.std.specs.List.{slice_split, onto_first}
+use Rattle.std.specs.Fmt.{decimal}
 use Rattle.std.specs.Str.Lines.{lines, lines_of_parts, strip_carriage_return}
 use Rattle.std.proofs.lemmas.List.Splits.{slice_split_none, slice_split_at, slice_split-cons_no}
 use Rattle.std.proofs.lemmas.List.Elements.{All-head, All-tail}
 use Rattle.std.proofs.lemmas.List.Folds.{list_all-append}
 use Rattle.std.proofs.lemmas.Bool.{lt-ltb, ne_eqb}
+use Rattle.hex.specs.Hex.{encode_upper}
 use Rattle.card_bench.specs.declared.order.TheConstants.{LINE_LIMIT}
 use Rattle.card_bench.specs.declared.order.Order.{Order}
 use Rattle.card_bench.specs.declared.order.Order.TheVariants.{Nothing}
 use Rattle.card_bench.specs.declared.reading.TheConstants.{SCRIPT_LIMIT}
 use Rattle.card_bench.specs.declared.reading.LineEnd.{LineEnd}
 use Rattle.card_bench.specs.declared.reading.LineEnd.TheVariants.{LineFeed, EndOfScript}
-use Rattle.card_bench.specs.Endings.{HasBegun, HasWritten, IsRunToEnd, IsRunToLine, SomeFirstLines}
+use Rattle.card_bench.specs.Endings.{HasWritten, IsReadInto, IsRunInto, IsRunToEnd, IsRunToLine}
 use Rattle.card_bench.specs.Exchanges.{Desk}
 use Rattle.card_bench.specs.Orders.{order_of}
 use Rattle.card_bench.specs.Performing.{Performs}
 use Rattle.card_bench.specs.Plays.{IsGood}
-use Rattle.card_bench.specs.Printouts.{Print, text_of}
+use Rattle.card_bench.specs.Printouts.{Print, print_of, text_of}
+use Rattle.card_bench.specs.declared.desk.PrintKind.{PrintKind}
+use Rattle.card_bench.specs.declared.desk.PrintKind.TheVariants as kind
 use Rattle.card_bench.specs.Prints.{IsFirstDesk, LinesPrint, PrintsLines}
-use Rattle.card_bench.specs.Scripts.{AreOrders, CountsTaken, FailsAtLine, IsInLine, IsTooLong, TakesLine, TakesTooMuch}
+use Rattle.card_bench.specs.Scripts.{AreOrders, CountsTaken, FailsAtLine, IsInLine, IsTooLong, TakesInto, TakesLine, TakesTooMuch, WhereKnown}
 
 -- whether a byte is a line feed
 abbrev ends : ℕ → Bool
@@ -126,11 +129,6 @@ silent order prints desk desk' good performs =
     let does : Performs Nothing desk desk' prints = subst (λ (o : Order). Performs o desk desk' prints) nothing performs in
     ap text_of does.1
 
--- no bytes of none
-take-none : (size : ℕ) → take {A = ℕ} size [] ≡ []
-take-none zero = refl
-take-none (suc size) = refl
-
 some_bytes : (b : ℕ) (l : List ℕ) → (length (b ∷ l) == 0) ≡ false
 some_bytes b l = ne_eqb (length (b ∷ l)) 0 (λ none. let z : ⊥ = omega arith in z)
 
@@ -192,6 +190,7 @@ pub record Runs (script rest : List ℕ) (n taken : ℕ) (desk : Desk) (out : Li
   pub front : List ℕ
   pub done : List (List ℕ)
   pub split : script ≡ front ++ rest
+  pub ended : (front ≡ []) ⊎ ((some : List ℕ) × (front ≡ some ++ 10 ∷ []))
   pub goes : (more : List ℕ) → lines (front ++ more) ≡ done ++ lines more
   pub number : length done ≡ n
   pub orders : AreOrders done
@@ -215,6 +214,7 @@ begins_run (Some script) desk held first = (
     front = [];
     done = [];
     split = refl;
+    ended = inl refl;
     goes = λ more. refl;
     number = refl;
     orders = refl;
@@ -258,6 +258,7 @@ module _ (script rest rest' line : List ℕ) (n taken taken' : ℕ) (desk : Desk
       front = run.front ++ (bytes ++ 10 ∷ []);
       done = run.done ++ line ∷ [];
       split = split_on;
+      ended = inr (run.front ++ bytes, sym (append_assoc run.front bytes (10 ∷ [])));
       goes = fed;
       number = let sum = length-append run.done (line ∷ []) in let is_n = run.number in omega (arith, sum, is_n);
       orders = orders-more run.done line run.orders (ap is_some good);
@@ -445,76 +446,133 @@ is_too_long (Some script) (Some rest) (Some rest') n taken taken' desk held hold
         let some : (length takes.0 == 0) ≡ false = ne_eqb (length takes.0) 0 (λ none. let z : ⊥ = omega (arith, whole, long, none) in z) in
         lines-last takes.0 takes.2 ∙ ap (λ (b : Bool). cond b [] (takes.0 ∷ [])) some
 
--- the reader fails
-pub is_unread : (script old : Option (List ℕ)) (n taken : ℕ) (desk : Desk) (held holds : Option (List ℕ)) → HasRun script old n taken desk held holds
-    → IfSome script (λ bytes. SomeFirstLines bytes (λ first. HasWritten held first holds))
-is_unread None old n taken desk held holds run = tt
-is_unread (Some script) None n taken desk held holds run = absurd run
-is_unread (Some script) (Some rest) n taken desk held holds run =
-    (run.1.done, lines rest, ap lines run.1.split ∙ run.1.goes rest, (run.0, printed script rest n taken desk run.0 run.1, run.2))
+-- the bytes of the lines so far
+front_lines : (script rest : List ℕ) (n taken : ℕ) (desk : Desk) (out : List ℕ) (run : Runs script rest n taken desk out)
+    → lines run.front ≡ run.done
+front_lines script rest n taken desk out run = ap lines (sym (append-nil run.front)) ∙ run.goes [] ∙ append-nil run.done
 
--- the first bytes of what is printed
-begun : (held before holds : Option (List ℕ)) (out text : List ℕ) (size : ℕ) → Appends held before out → Appends before holds (take size text)
-    → Appends held holds (take (length out + size) (out ++ text))
-begun held before holds out text size held_out began =
-    subst (Appends held holds) (sym (take-append-add out text size)) (Appends-trans held before holds out (take size text) held_out began)
+-- what is left of a line is left of a script
+pub left-on : (first now new : Option (List ℕ)) (bytes : List ℕ) → Consumes first now bytes
+    → WhereKnown now new (λ script left. left ≡ [] → ⊥) → WhereKnown first new (λ script left. left ≡ [] → ⊥)
+left-on None now new bytes taken left = tt
+left-on (Some script) None new bytes taken left = absurd taken
+left-on (Some script) (Some rest) None bytes taken left = absurd left
+left-on (Some script) (Some rest) (Some rest') bytes taken left = left
+
+-- no more is read
+pub is_unread : (script old new : Option (List ℕ)) (n taken taken' : ℕ) (desk : Desk) (held holds : Option (List ℕ))
+    → HasRun script old n taken desk held holds → TakesInto old new taken taken' → taken' ≤ SCRIPT_LIMIT
+    → WhereKnown script new (λ bytes left. IsReadInto bytes left held holds)
+is_unread None old new n taken taken' desk held holds run takes most = tt
+is_unread (Some script) None new n taken taken' desk held holds run takes most = absurd run
+is_unread (Some script) (Some rest) None n taken taken' desk held holds run takes most = absurd takes.1
+is_unread (Some script) (Some rest) (Some rest') n taken taken' desk held holds run takes most = record {
+  front = run.1.front;
+  begun = takes.0;
+  parts = run.1.split ∙ ap (λ (l : List ℕ). run.1.front ++ l) takes.1 ∙ sym (append_assoc run.1.front takes.0 rest');
+  ended = run.1.ended;
+  inside = takes.2;
+  short = takes.3;
+  within =
+      let sum = length-append run.1.front takes.0 in
+      let size = run.1.size in
+      let parts : length rest ≡ length takes.0 + length rest' = ap length takes.1 ∙ length-append takes.0 rest' in
+      let counted = takes.4 in
+      omega (arith, sum, size, parts, counted, most);
+  written = (
+    run.0,
+    subst (λ (ls : List (List ℕ)). LinesPrint ls run.0) (sym (front_lines script rest n taken desk run.0 run.1))
+        (printed script rest n taken desk run.0 run.1),
+    run.2,
+  );
+}
+
+-- what is told of a card is some text
+some_text : (text : List ℕ) → text ++ 10 ∷ [] ≡ [] → ⊥
+some_text [] none = absurd cc
+some_text (b ∷ text) none = absurd cc
+
+pub speaks : (printed : PrintKind) (bytes : List ℕ) → (printed ≡ kind.Nothing → ⊥) → text_of (print_of printed bytes) ≡ [] → ⊥
+speaks kind.Nothing bytes other none = other refl
+speaks kind.Atr bytes other none = some_text (codes "atr 3B808131FE458B") none
+speaks kind.Mute bytes other none = some_text (codes "mute") none
+speaks kind.Dark bytes other none = some_text (codes "dark") none
+speaks kind.Lost bytes other none = some_text (codes "lost") none
+speaks kind.Bytes bytes other none = some_text (codes "< " ++ encode_upper bytes) none
+speaks (kind.Free free) bytes other none = some_text (codes "free " ++ decimal free.blocks ++ 32 ∷ decimal free.entries) none
+
+-- one line
+prints_one : (old new : Desk) (line : List ℕ) (order : Order) (prints : Print) → order_of line ≡ Some order
+    → Performs order old new prints → IsGood new.bench → PrintsLines old (line ∷ []) new (text_of prints)
+unfolding PrintsLines
+prints_one old new line order prints is one well =
+    (order, new, prints, [], is, one, well, (refl, refl), sym (append-nil (text_of prints)))
 
 -- the writer fails
 pub is_unwritten : (script old new : Option (List ℕ)) (n taken taken' : ℕ) (line : List ℕ) (end : LineEnd) (desk desk' : Desk)
     (held before holds : Option (List ℕ)) (order : Order) (prints : Print) → HasRun script old n taken desk held before → TakesLine old new line end
-    → CountsTaken old new taken taken' → order_of line ≡ Some order → Performs order desk desk' prints → IsGood desk'.bench
-    → (size : ℕ) × Appends before holds (take size (text_of prints))
-    → IfSome script (λ bytes. SomeFirstLines bytes (λ first. HasBegun held first holds))
-unfolding next
-is_unwritten None old new n taken taken' line end desk desk' held before holds order prints run takes counted good performs well began = tt
-is_unwritten (Some script) None new n taken taken' line end desk desk' held before holds order prints run takes counted good performs well began = absurd run
-is_unwritten (Some script) (Some rest) None n taken taken' line end desk desk' held before holds order prints run takes counted good performs well began =
+    → CountsTaken old new taken taken' → taken' ≤ SCRIPT_LIMIT → order_of line ≡ Some order → Performs order desk desk' prints
+    → IsGood desk'.bench → (text_of prints ≡ [] → ⊥) → (size : ℕ) × Appends before holds (take size (text_of prints))
+    → WhereKnown script new (λ bytes left. IsRunInto bytes left held holds)
+is_unwritten None old new n taken taken' line end desk desk' held before holds order prints run takes counted most good performs well loud began = tt
+is_unwritten (Some script) None new n taken taken' line end desk desk' held before holds order prints run takes counted most good performs well loud began =
+    absurd run
+is_unwritten (Some script) (Some rest) None n taken taken' line end desk desk' held before holds order prints run takes counted most good performs well loud began =
     absurd counted
 is_unwritten (Some script) (Some rest) (Some rest')
-    n taken taken' line LineFeed desk desk' held before holds order prints run takes counted good performs well began =
-    let more = next script rest rest' line n taken taken' desk run.0 run.1 takes.0 takes.1 takes.2 takes.3 desk' order prints counted good performs well in (
-      run.1.done ++ line ∷ [],
-      lines rest',
-      fed_rest script rest rest' line n taken taken' desk run.0 run.1 takes.0 takes.1 takes.2 takes.3,
-      (
-        run.0 ++ text_of prints,
-        length run.0 + began.0,
-        printed script rest' (n + 1) taken' desk' (run.0 ++ text_of prints) more,
-        begun held before holds run.0 (text_of prints) began.0 run.2 began.1,
-      ),
-    )
+    n taken taken' line LineFeed desk desk' held before holds order prints run takes counted most good performs well loud began =
+    let front : List ℕ = run.1.front ++ (takes.0 ++ 10 ∷ []) in
+    let goes = fed script rest rest' line n taken taken' desk run.0 run.1 takes.0 takes.1 takes.2 takes.3 in record {
+      front = front;
+      parts = split_on script rest rest' line n taken taken' desk run.0 run.1 takes.0 takes.1 takes.2 takes.3;
+      ended = inl (run.1.front ++ takes.0, sym (append_assoc run.1.front takes.0 (10 ∷ [])));
+      within =
+          let s = size_on script rest rest' line n taken taken' desk run.0 run.1 takes.0 takes.1 takes.2 takes.3 counted in
+          omega (arith, s, most);
+      before = run.1.done;
+      line = line;
+      all = ap lines (sym (append-nil front)) ∙ goes [] ∙ append-nil (run.1.done ++ line ∷ []);
+      first = run.1.first;
+      between = desk;
+      last = desk';
+      out = run.0;
+      text = text_of prints;
+      begins = run.1.begins;
+      prior = run.1.prints;
+      one = prints_one desk desk' line order prints good performs well;
+      speaks = loud;
+      size = began.0;
+      begun = Appends-trans held before holds run.0 (take began.0 (text_of prints)) run.2 began.1;
+    }
 is_unwritten (Some script) (Some rest) (Some rest')
-    n taken taken' [] EndOfScript desk desk' held before holds order prints run takes counted good performs well began =
-    let silence : text_of prints ≡ [] = silent order prints desk desk' good performs in
-    let nothing : Appends before holds [] = subst (Appends before holds) (ap (take began.0) silence ∙ take-none began.0) began.1 in
-    let all : lines script ≡ run.1.done = last_lines script rest rest' [] n taken taken' desk run.0 run.1 takes.0 takes.1 takes.2 ∙ append-nil run.1.done in (
-      run.1.done,
-      [],
-      all ∙ sym (append-nil run.1.done),
-      (
-        run.0,
-        length run.0,
-        printed script rest n taken desk run.0 run.1,
-        subst (Appends held holds) (append-nil run.0 ∙ sym (take-length run.0)) (Appends-trans held before holds run.0 [] run.2 nothing),
-      ),
-    )
+    n taken taken' [] EndOfScript desk desk' held before holds order prints run takes counted most good performs well loud began =
+    absurd (loud (silent order prints desk desk' good performs))
 is_unwritten (Some script) (Some rest) (Some rest')
-    n taken taken' (b ∷ l) EndOfScript desk desk' held before holds order prints run takes counted good performs well began =
-    let all : lines script ≡ run.1.done ++ (b ∷ l) ∷ [] =
-    last_lines script rest rest' (b ∷ l) n taken taken' desk run.0 run.1 takes.0 takes.1 takes.2
-    ∙ ap (λ (e : Bool). run.1.done ++ cond e [] ((b ∷ l) ∷ [])) (some_bytes b l) in (
-      run.1.done ++ (b ∷ l) ∷ [],
-      [],
-      all ∙ sym (append-nil (run.1.done ++ (b ∷ l) ∷ [])),
-      (
-        run.0 ++ text_of prints,
-        length run.0 + began.0,
-        record {
-          first = run.1.first;
-          last = desk';
-          begins = run.1.begins;
-          all = prints_more run.1.first desk desk' run.1.done run.0 (b ∷ l) order prints run.1.prints good performs well;
-        },
-        begun held before holds run.0 (text_of prints) began.0 run.2 began.1,
-      ),
-    )
+    n taken taken' (b ∷ l) EndOfScript desk desk' held before holds order prints run takes counted most good performs well loud began =
+    record {
+      front = run.1.front ++ b ∷ l;
+      parts =
+          run.1.split ∙ ap (λ (bytes : List ℕ). run.1.front ++ bytes) takes.0 ∙ sym (append_assoc run.1.front (b ∷ l) rest');
+      ended = inr takes.1;
+      within =
+          let sum = length-append run.1.front (b ∷ l) in
+          let size = run.1.size in
+          let parts : length rest ≡ length (b ∷ l) + length rest' = ap length takes.0 ∙ length-append (b ∷ l) rest' in
+          omega (arith, sum, size, parts, counted, most);
+      before = run.1.done;
+      line = b ∷ l;
+      all =
+          run.1.goes (b ∷ l) ∙ ap (λ (ls : List (List ℕ)). run.1.done ++ ls) (lines-last (b ∷ l) takes.2)
+          ∙ ap (λ (e : Bool). run.1.done ++ cond e [] ((b ∷ l) ∷ [])) (some_bytes b l);
+      first = run.1.first;
+      between = desk;
+      last = desk';
+      out = run.0;
+      text = text_of prints;
+      begins = run.1.begins;
+      prior = run.1.prints;
+      one = prints_one desk desk' (b ∷ l) order prints good performs well;
+      speaks = loud;
+      size = began.0;
+      begun = Appends-trans held before holds run.0 (take began.0 (text_of prints)) run.2 began.1;
+    }

@@ -1,23 +1,17 @@
 -- How a script's run ends, and what is written by then.
-use Rattle.std.specs.Prelude.{◌≡◌, ℕ, List, ◌++◌, take, Option, IfSome}
+use Rattle.std.specs.Prelude.{◌≡◌, ◌≢◌, ◌⊎◌, ◌≤◌, ℕ, List, [], ◌∷◌, ◌++◌, length, take, Option, IfSome}
 use Rattle.std.specs.Io.KnownBytes.{Appends}
 use Rattle.std.specs.Str.Lines.{lines}
 use Rattle.card_bench.specs.declared.fault.RunFault.{RunFault}
 use Rattle.card_bench.specs.declared.fault.RunFault.TheVariants.{BadLine, Read, Write, Memory}
-use Rattle.card_bench.specs.Prints.{LinesPrint}
-use Rattle.card_bench.specs.Scripts.{FailsAtLine, IsScript}
+use Rattle.card_bench.specs.declared.reading.TheConstants.{SCRIPT_LIMIT}
+use Rattle.card_bench.specs.Exchanges.{Desk}
+use Rattle.card_bench.specs.Prints.{IsFirstDesk, LinesPrint, PrintsLines}
+use Rattle.card_bench.specs.Scripts.{EndsLine, FailsAtLine, IsInLine, IsScript, IsTooLong, WhereKnown}
 
 -- A writer holds what these lines print, behind what it held.
 abbrev pub HasWritten : Option (List ℕ) → List (List ℕ) → Option (List ℕ) → Type 0
 HasWritten old some new = (out : List ℕ) × LinesPrint some out × Appends old new out
-
--- A writer holds the first bytes of what these lines print, behind what it held.
-abbrev pub HasBegun : Option (List ℕ) → List (List ℕ) → Option (List ℕ) → Type 0
-HasBegun old some new = (out : List ℕ) × (size : ℕ) × LinesPrint some out × Appends old new (take size out)
-
--- Some first lines of a script, of which this holds.
-abbrev pub SomeFirstLines : List ℕ → (List (List ℕ) → Type 0) → Type 0
-SomeFirstLines script holds = (first rest : List (List ℕ)) × (lines script ≡ first ++ rest) × holds first
 
 -- a script that was run to its end
 pub record IsRunToEnd (script : List ℕ) (old new : Option (List ℕ)) : Type 0 where
@@ -29,10 +23,44 @@ pub record IsRunToLine (number : ℕ) (script : List ℕ) (old new : Option (Lis
   pub fails : FailsAtLine script number
   pub written : HasWritten old fails.before new
 
+-- A script of which no more is read, by the fault of the reader or since it goes on past its size: within a line of which
+-- neither the end nor too many bytes were taken. The lines before it, each with its line feed, were carried out.
+pub record IsReadInto (script left : List ℕ) (old new : Option (List ℕ)) : Type 0 where
+  pub front : List ℕ
+  pub begun : List ℕ
+  pub parts : script ≡ (front ++ begun) ++ left
+  pub ended : (front ≡ []) ⊎ ((some : List ℕ) × (front ≡ some ++ 10 ∷ []))
+  pub inside : IsInLine begun
+  pub short : IsTooLong begun → ⊥
+  pub within : length (front ++ begun) ≤ SCRIPT_LIMIT
+  pub written : HasWritten old (lines front) new
+
+-- A script that was run to a line whose text the writer didn't take, or not all of it. That line prints something, and is the
+-- last that was read; what the lines before it print is written whole.
+pub record IsRunInto (script left : List ℕ) (old new : Option (List ℕ)) : Type 0 where
+  pub front : List ℕ
+  pub parts : script ≡ front ++ left
+  pub ended : EndsLine front left
+  pub within : length front ≤ SCRIPT_LIMIT
+  pub before : List (List ℕ)
+  pub line : List ℕ
+  pub all : lines front ≡ before ++ line ∷ []
+  pub first : Desk
+  pub between : Desk
+  pub last : Desk
+  pub out : List ℕ
+  pub text : List ℕ
+  pub begins : IsFirstDesk first
+  pub prior : PrintsLines first before between out
+  pub one : PrintsLines between (line ∷ []) last text
+  pub speaks : text ≢ []
+  pub size : ℕ
+  pub begun : Appends old new (out ++ take size text)
+
 -- Where the script's bytes are known: a bad line is the first one, and the lines before it were carried out. A reader that
--- fails does so after some first lines, and a writer in the text of some first lines.
-abbrev pub RunStopsBy : RunFault → Option (List ℕ) → Option (List ℕ) → Option (List ℕ) → Type 0
-RunStopsBy (BadLine number) script old new = IfSome script (λ bytes. IsRunToLine number bytes old new)
-RunStopsBy Read script old new = IfSome script (λ bytes. SomeFirstLines bytes (λ first. HasWritten old first new))
-RunStopsBy Write script old new = IfSome script (λ bytes. SomeFirstLines bytes (λ first. HasBegun old first new))
-RunStopsBy Memory script old new = Unit {0}
+-- fails does so within a line, and a writer in the text of a line.
+abbrev pub RunStopsBy : RunFault → Option (List ℕ) → Option (List ℕ) → Option (List ℕ) → Option (List ℕ) → Type 0
+RunStopsBy (BadLine number) script left old new = IfSome script (λ bytes. IsRunToLine number bytes old new)
+RunStopsBy Read script left old new = WhereKnown script left (λ bytes rest. IsReadInto bytes rest old new)
+RunStopsBy Write script left old new = WhereKnown script left (λ bytes rest. IsRunInto bytes rest old new)
+RunStopsBy Memory script left old new = Unit {0}

@@ -50,6 +50,12 @@ pub record FailsAtLine (script : List ℕ) (n : ℕ) : Type 0 where
   pub shows : ShowsBad seen rest before
   pub within : length seen ≤ SCRIPT_LIMIT
 
+-- Of a script and what is left of it, where its bytes are known.
+abbrev pub WhereKnown : Option (List ℕ) → Option (List ℕ) → (List ℕ → List ℕ → Type 0) → Type 0
+WhereKnown None left holds = Unit {0}
+WhereKnown (Some script) None holds = ⊥
+WhereKnown (Some script) (Some left) holds = holds script left
+
 -- bytes with no line feed among them
 abbrev pub IsInLine : List ℕ → Type 0
 IsInLine bytes = All (λ b. (b == 10) ≡ false) bytes
@@ -69,6 +75,11 @@ CountsTaken (Some xs) (Some ys) before after = length xs + before ≡ length ys 
 abbrev pub TakesTooMuch : Option (List ℕ) → Option (List ℕ) → ℕ → ℕ → Type 0
 TakesTooMuch old new before after =
     (bytes : List ℕ) × Consumes old new bytes × IsInLine bytes × IsTooLong bytes × CountsTaken old new before after
+
+-- bytes of a line were taken and counted, with no line feed among them, and not too many
+abbrev pub TakesInto : Option (List ℕ) → Option (List ℕ) → ℕ → ℕ → Type 0
+TakesInto old new before after =
+    (bytes : List ℕ) × Consumes old new bytes × IsInLine bytes × (IsTooLong bytes → ⊥) × CountsTaken old new before after
 
 -- how many bytes a part of a line has
 abbrev pub size_of : Part → ℕ

@@ -1,5 +1,5 @@
 //! What a line prints.
-ghost use Rattle.std.specs.Prelude.{◌≡◌, ◌≤◌, ℕ, length, take, IfErr, OnErr, OnOk};
+ghost use Rattle.std.specs.Prelude.{◌≡◌, ◌≢◌, ◌≤◌, ℕ, length, take, IfErr, OnErr, OnOk};
 ghost use Rattle.std.specs.Io.KnownBytes.{Appends};
 ghost use Rattle.card_bench.specs.Printouts.{print_of, prints_bytes, prints_free, text_of};
 
@@ -41,6 +41,8 @@ pub(crate) fn print<W: Write>(
     ensures began { OnErr result ((size : ℕ)
         × Appends (W.contents writer.old) (W.contents writer.new) (take size (text_of (print_of printed bytes.now)))) }
     ensures fault { IfErr result (λ fault. fault ≡ RunFault.Write) }
+    // Where there is nothing to write, the writer isn't asked.
+    ensures speaks { OnErr result (printed ≢ PrintKind.Nothing) }
 {
     match printed {
         PrintKind::Nothing => Ok(()),

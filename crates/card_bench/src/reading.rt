@@ -1,8 +1,9 @@
 //! The lines of a script, read from the reader's own buffer.
-ghost use Rattle.std.specs.Prelude.{◌≡◌, ◌⊎◌, ◌↔◌, ◌+◌, ◌<◌, ◌≤◌};
-ghost use Rattle.std.specs.Prelude.{length, slice_index, take, IsTrue, IfOk, IfErr, OnOk, Err};
+ghost use Rattle.std.specs.Prelude.{◌≡◌, ◌≢◌, ◌⊎◌, ◌↔◌, ◌+◌, ◌<◌, ◌≤◌};
+ghost use Rattle.std.specs.Prelude.{length, slice_index, take, [], IsTrue, IfOk, IfErr, OnErr, OnOk, Err};
+ghost use Rattle.std.specs.Io.KnownBytes.{Keeps};
 ghost use Rattle.std.specs.Str.Lines.{strip_carriage_return};
-ghost use Rattle.card_bench.specs.Scripts.{CountsTaken, IsInLine, IsTooLong, TakesLine, TakesPart, TakesTooMuch, size_of};
+ghost use Rattle.card_bench.specs.Scripts.{CountsTaken, IsInLine, IsTooLong, TakesInto, TakesLine, TakesPart, TakesTooMuch, WhereKnown, size_of};
 ghost use Rattle.card_bench.specs.declared.order.TheConstants.{LINE_LIMIT};
 ghost use Rattle.card_bench.specs.declared.reading.TheConstants.{SCRIPT_LIMIT};
 
@@ -31,8 +32,10 @@ pub(crate) enum LineEnd {
 /// Why a line was not read.
 #[derive(Clone, Copy)]
 pub(crate) enum LineFault {
-    /// The reader failed, or the script is too long.
+    /// The reader failed.
     Read,
+    /// The script goes on past its most bytes.
+    TooMuch,
     /// The line is too long, whether or not its end has come.
     TooLong,
 }
@@ -58,7 +61,11 @@ fn read_part<R: BufRead>(
     requires { length line.old.items + most ≤ LINE_ROOM }
     ensures part { IfOk result (TakesPart (R.remaining reader.old) (R.remaining reader.new) line.old.items line.new.items) }
     ensures size { IfOk result (λ part. size_of part ≤ most) }
-    ensures failed { IfErr result (λ e. e ≡ LineFault.Read) }
+    // It fails with the reader, or where it may take nothing of what there is; and nothing is taken then.
+    ensures failed { IfErr result (λ e. e ≢ LineFault.TooLong) }
+    ensures past { result ≡ Err LineFault.TooMuch → (most ≡ 0)
+        × WhereKnown (R.remaining reader.old) (R.remaining reader.new) (λ script left. left ≢ []) }
+    ensures kept { OnErr result (Keeps (R.remaining reader.old) (R.remaining reader.new)) }
 {
     let available = match reader.fill_buf() {
         Ok(available) => available,
@@ -68,7 +75,7 @@ fn read_part<R: BufRead>(
         return Ok(Part::End);
     }
     if most == 0 {
-        return Err(LineFault::Read);
+        return Err(LineFault::TooMuch);
     }
     let seen = &available[..available.len().min(most)];
     let size = size_in_line(seen);
@@ -105,6 +112,11 @@ pub(crate) fn read_line<R: BufRead>(
     requires { taken.old ≤ SCRIPT_LIMIT }
     ensures line { IfOk result (TakesLine (R.remaining reader.old) (R.remaining reader.new) line.new.items) }
     ensures too_long { result ≡ Err LineFault.TooLong → TakesTooMuch (R.remaining reader.old) (R.remaining reader.new) taken.old taken.new }
+    ensures stopped { IfErr result (λ e. e ≢ LineFault.TooLong
+        → TakesInto (R.remaining reader.old) (R.remaining reader.new) taken.old taken.new) }
+    ensures past { result ≡ Err LineFault.TooMuch → (taken.new ≡ SCRIPT_LIMIT)
+        × WhereKnown (R.remaining reader.old) (R.remaining reader.new) (λ script left. left ≢ []) }
+    ensures fed { IfOk result (λ end. end ≡ LineEnd.LineFeed → taken.old < taken.new) }
     ensures counted { OnOk result (CountsTaken (R.remaining reader.old) (R.remaining reader.new) taken.old taken.new) }
     ensures taken { taken.new ≤ SCRIPT_LIMIT }
 {
@@ -120,7 +132,7 @@ pub(crate) fn read_line<R: BufRead>(
                 drop_carriage_return(line);
                 return Ok(LineEnd::LineFeed);
             }
-            Err(_) => return Err(LineFault::Read),
+            Err(fault) => return Err(fault),
         }
         if is_too_long(line) {
             return Err(LineFault::TooLong);

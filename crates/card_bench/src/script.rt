@@ -34,9 +34,10 @@ pub fn run<R: BufRead, W: Write>(
     ensures done { OnOk result (IfSome (R.remaining reader.old)
         (λ script. IsRunToEnd script (W.contents writer.old) (W.contents writer.new))) }
 
-    // A bad line is the first one, and the writer holds what the lines before it print.
+    // A bad line is the first one, and the writer holds what the lines before it print. Read comes within a line of which
+    // neither the end nor too many bytes were taken, and Write in the text of the last line that was read.
     ensures stopped { IfErr result (λ fault.
-        RunStopsBy fault (R.remaining reader.old) (W.contents writer.old) (W.contents writer.new)) }
+        RunStopsBy fault (R.remaining reader.old) (R.remaining reader.new) (W.contents writer.old) (W.contents writer.new)) }
 
     // With too little memory nothing was read or written.
     ensures unread { result ≡ Err RunFault.Memory → R.remaining reader.new ≡ R.remaining reader.old }
@@ -59,7 +60,7 @@ fn run_lines<R: BufRead, W: Write>(
     ensures done { OnOk result (IfSome (R.remaining reader.old)
         (λ script. IsRunToEnd script (W.contents writer.old) (W.contents writer.new))) }
     ensures stopped { IfErr result (λ fault.
-        RunStopsBy fault (R.remaining reader.old) (W.contents writer.old) (W.contents writer.new)) }
+        RunStopsBy fault (R.remaining reader.old) (R.remaining reader.new) (W.contents writer.old) (W.contents writer.new)) }
     ensures memory { result ≢ Err RunFault.Memory }
 {
     let mut line = LineBytes::new();
@@ -70,6 +71,7 @@ fn run_lines<R: BufRead, W: Write>(
         let end = match read_line(reader, &mut taken, &mut line) {
             Ok(end) => end,
             Err(LineFault::Read) => return Err(RunFault::Read),
+            Err(LineFault::TooMuch) => return Err(RunFault::Read),
             Err(LineFault::TooLong) => return Err(RunFault::BadLine(number)),
         };
         let Some(order) = Order::parse(&line) else {
@@ -84,7 +86,7 @@ fn run_lines<R: BufRead, W: Write>(
             LineEnd::EndOfScript => return Ok(()),
         }
     }
-    Err(RunFault::Read)
+    unreachable!()
 }
 
 /// A new board with the factory's card. Nothing can be cut on it yet, so that it takes all that is written.

@@ -1,6 +1,6 @@
 use Rattle.std.proofs.Common.{◌≡◌, ◌≤◌, ◌+◌, length}
 use Rattle.std.specs.Io.KnownBytes.{Consumes}
-use Rattle.card_bench.specs.Scripts.{IsInLine}
+use Rattle.card_bench.specs.Scripts.{IsInLine, IsTooLong}
 use Rattle.card_bench.specs.declared.order.TheConstants.{LINE_LIMIT}
 use Rattle.card_bench.specs.declared.reading.TheConstants.{SCRIPT_LIMIT}
 use Rattle.card_bench.proofs.reading.read_line.Given as goal
@@ -12,5 +12,6 @@ invariant-loop g l = record {
   room : length l.line.items ≤ LINE_LIMIT + 1;
   in_line : IsInLine l.line.items;
   so_far : Consumes (g.R.Read.remaining l.initial.reader) (g.R.Read.remaining l.reader) l.line.items;
+  fits : IsTooLong l.line.items → ⊥;
   counted : l.taken ≡ l.initial.taken + length l.line.items;
 }

@@ -1,7 +1,10 @@
-use Rattle.std.proofs.Common.{◌≡◌, ◌≤◌, ◌++◌, [], OnOk, length, take, length-take-le, arith, refl, subst, rules}
+use Rattle.std.proofs.Common.{◌≡◌, ◌≤◌, ◌++◌, List, ℕ, Option, Some, None, [], IfSome, OnOk, length, take, length-take, length-take-le, arith, ap, refl, subst, sym, ◌∙◌, rules}
+use Rattle.std.specs.Io.{StartsWith}
 use Rattle.std.specs.Io.BufRead.{FillKeeps}
+use Rattle.std.specs.Io.KnownBytes.{Keeps}
 use Rattle.std.proofs.KnownBytes.{Consumes-nil, Consumes-kept}
 use Rattle.card_bench.proofs.PartsTaken.{taken-of, taken-fed}
+use Rattle.card_bench.specs.Scripts.{WhereKnown}
 use Rattle.card_bench.proofs.ScriptLines.{at_end_of}
 use Rattle.card_bench.proofs.reading.read_part.Goals as goal
 
@@ -11,6 +14,23 @@ returns-then-is_empty-clause-part g c =
     let filled = subst (FillKeeps _ (g.R.Read.remaining rested) (g.R.BufRead.consumable_len rested)) c.in-Ok.is c.fill_buf.follows.holds-at-none in
     let none : length c.in-Ok.available.now ≡ 0 = search rules in
     (Consumes-kept _ _ _ [] (Consumes-nil _) filled.0, at_end_of _ _ c.in-Ok.available.now c.in-Ok.ensures.end filled.0 none, refl)
+
+-- what is shown is there
+left-of : (old rested : Option (List ℕ)) (shown : List ℕ) → IfSome old (λ xs. StartsWith xs shown) → Keeps old rested
+    → (length shown ≡ 0 → ⊥) → WhereKnown old rested (λ script left. left ≡ [] → ⊥)
+left-of None rested shown front kept some = tt
+left-of (Some xs) None shown front kept some = absurd kept
+left-of (Some xs) (Some ys) shown front kept some = λ none.
+    let size = length-take (length shown) xs in
+    let all : length (take (length shown) xs) ≡ length shown = ap length front in
+    let empty : length xs ≡ 0 = ap length (sym kept ∙ none) in
+    some (omega (arith, size, all, empty))
+
+pub returns-then-most-eq0-clause-past : goal.returns-then-most-eq0-clause-past
+returns-then-most-eq0-clause-past g c = λ e.
+    let rested = c.fill_buf.follows.lender-at-none in
+    let filled = subst (FillKeeps _ (g.R.Read.remaining rested) (g.R.BufRead.consumable_len rested)) c.in-Ok.is c.fill_buf.follows.holds-at-none in
+    (search (rules, arith), left-of _ _ c.in-Ok.available.now c.in-Ok.ensures.front filled.0 (search (rules, arith)))
 
 pub returns-then-is_fed-clause-part : goal.returns-then-is_fed-clause-part
 returns-then-is_fed-clause-part g c =

@@ -1,10 +1,11 @@
 use Rattle.std.proofs.Common.{◌≡◌, ◌+◌, ◌-◌, ℕ, List, Some, None, IfSome, Err, take, subst, sym, ◌∙◌, ap, arith}
 use Rattle.std.specs.Io.KnownBytes.{Appends}
+use Rattle.card_bench.specs.declared.reading.LineFault.TheVariants.{Read, TooLong, TooMuch}
 use Rattle.card_bench.specs.Endings.{IsRunToLine}
 use Rattle.card_bench.specs.Orders.{order_of}
 use Rattle.card_bench.specs.Printouts.{print_of, text_of}
 use Rattle.card_bench.specs.Scripts.{TakesLine}
-use Rattle.card_bench.proofs.ScriptLines.{begins_run, goes_on, is_done, is_bad, is_too_long, is_unread, is_unwritten, HasRun}
+use Rattle.card_bench.proofs.ScriptLines.{begins_run, goes_on, is_done, is_bad, is_too_long, is_unread, is_unwritten, speaks, HasRun}
 use Rattle.card_bench.proofs.SizedOrders.{order_of-in_range}
 use Rattle.card_bench.proofs.script.run_lines.Goals as goal
 
@@ -18,11 +19,28 @@ returns-in-Err-TooLong-clause-stopped g c =
     (is_too_long script _ _ (c.loop-number.number - 1) _ _ _ held holds
     c.loop-number.invariant.so_far (c.in-Err-TooLong.ensures.too_long (ap Err c.in-Err-TooLong.field-0-is)) c.read_line.ensures.taken)
 
-pub returns-in-Err-Read-clause-stopped : goal.returns-in-Err-Read-clause-stopped
-returns-in-Err-Read-clause-stopped g c = is_unread _ _ _ _ _ _ _ c.loop-number.invariant.so_far
+-- a fault in a line is not one of the line
+read-apart : Read ≡ TooLong → ⊥
+read-apart e = cc
 
-pub returns-clause-stopped : goal.returns-clause-stopped
-returns-clause-stopped g c = is_unread _ _ _ _ _ _ _ c.loop-number.invariant.so_far
+much-apart : TooMuch ≡ TooLong → ⊥
+much-apart e = cc
+
+pub returns-in-Err-Read-clause-stopped : goal.returns-in-Err-Read-clause-stopped
+returns-in-Err-Read-clause-stopped g c =
+    is_unread _ _ _ _ _ _ _ _ _ c.loop-number.invariant.so_far
+    (c.in-Err-Read.ensures.stopped (λ e. read-apart (sym c.in-Err-Read.field-0-is ∙ e))) c.read_line.ensures.taken
+
+pub returns-in-Err-TooMuch-clause-stopped : goal.returns-in-Err-TooMuch-clause-stopped
+returns-in-Err-TooMuch-clause-stopped g c =
+    is_unread _ _ _ _ _ _ _ _ _ c.loop-number.invariant.so_far
+    (c.in-Err-TooMuch.ensures.stopped (λ e. much-apart (sym c.in-Err-TooMuch.field-0-is ∙ e))) c.read_line.ensures.taken
+
+pub unreachable-unreachable : goal.unreachable-unreachable
+unreachable-unreachable g c =
+    let turns = c.loop-number.invariant.turns in
+    let taken = c.loop-number.invariant.taken in
+    omega (arith, turns, taken, c.loop-number-test.false)
 
 pub returns-in_default-clause-stopped : goal.returns-in_default-clause-stopped
 returns-in_default-clause-stopped g c =
@@ -45,8 +63,10 @@ returns-in_default-print-clause-stopped g c =
     let began : (size : ℕ) × Appends before after (take size (text_of (print_of printed bytes))) =
     subst (λ (l : List ℕ). (size : ℕ) × Appends before after (take size (text_of (print_of printed l))))
     c.bytes.ensures.bytes c.in_default-print.ensures.began in
+    let loud = c.in_default-print.ensures.speaks in
     is_unwritten _ _ _ _ _ _ _ c.in-Ok.end _ _ _ _ _ _ _ c.loop-number.invariant.so_far c.in-Ok.ensures.line
-    c.in-Ok.ensures.counted good c.perform-printed.ensures.performs c.perform-printed.ensures.good began
+    c.in-Ok.ensures.counted c.read_line.ensures.taken good c.perform-printed.ensures.performs c.perform-printed.ensures.good
+    (speaks printed bytes loud) began
 
 pub perform-printed-requires-clause-sized : goal.perform-printed-requires-clause-sized
 perform-printed-requires-clause-sized g c =
@@ -70,7 +90,7 @@ returns-in-EndOfScript-clause-done g c =
 
 pub loop-number-init : goal.loop-number-init
 loop-number-init g c =
-    record { taken = omega arith; good = c.requires.good; so_far = begins_run _ _ _ c.requires }
+    record { taken = omega arith; turns = omega arith; good = c.requires.good; so_far = begins_run _ _ _ c.requires }
 
 pub loop-number-preserved : goal.loop-number-preserved
 loop-number-preserved g c =
@@ -89,6 +109,7 @@ loop-number-preserved g c =
     let desk = c.perform-printed.new.self in
     record {
       taken = c.read_line.ensures.taken;
+      turns = let fed = c.in-Ok.ensures.fed c.in-LineFeed.is in let turns = c.loop-number.invariant.turns in omega (arith, fed, turns);
       good = c.perform-printed.ensures.good;
       so_far = subst (λ (n : ℕ). HasRun first new n c.read_line.new.taken
           (record { bench = desk.bench; reader = desk.reader; line = desk.line }) held after) number

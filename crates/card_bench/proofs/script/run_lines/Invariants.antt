@@ -1,4 +1,4 @@
-use Rattle.std.proofs.Common.{◌≤◌, ◌-◌}
+use Rattle.std.proofs.Common.{◌≤◌, ◌+◌, ◌-◌}
 use Rattle.card_bench.specs.Plays.{IsGood}
 use Rattle.card_bench.specs.declared.reading.TheConstants.{SCRIPT_LIMIT}
 use Rattle.card_bench.proofs.ScriptLines.{HasRun}
@@ -7,6 +7,7 @@ use Rattle.card_bench.proofs.script.run_lines.Given as goal
 abbrev pub invariant-loop-number : goal.invariant-loop-number
 invariant-loop-number g l = record {
   taken : l.taken ≤ SCRIPT_LIMIT;
+  turns : l.number ≤ l.taken + 1;
   good : IsGood l.desk.bench;
   so_far : HasRun (g.R.Read.remaining l.initial.reader) (g.R.Read.remaining l.reader) (l.number - 1) l.taken
       (record { bench = l.desk.bench; reader = l.desk.reader; line = l.desk.line })
