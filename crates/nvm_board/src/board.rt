@@ -128,7 +128,8 @@ pub trait Socket: Board {
         ensures { Self.facts self.new ≡ record (Self.facts self.old) { dark = true } };
 }
 
-/// A board on which a cut, or a fault, can be set to come at a later write.
+/// A board on which a cut, or a fault, can be set to come at a later write. On a board that fails at its
+/// calls it is a fault at call `k`, which leaves words as they are, whatever the mask.
 pub trait Armed: Socket {
     /// Write `k` from now on, counted from 1, will be torn: bit i of the mask tells whether the ith written
     /// word is new, from bit 0. It takes the place of what was set before.
