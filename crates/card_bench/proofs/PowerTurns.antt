@@ -139,7 +139,8 @@ module _ (old : BenchState) (dark : Facts) (darkened : dark ≡ record (bench_fa
           };
           well = λ good. started.state;
           guesses = pays-nothing old (on p) (found-again p.card.facts.words again) (counts ∙ lit-counts);
-          one = λ before good. ((started.session, link, started.state, power.lit), leaves (on p) again (counts ∙ lit-counts));
+          one = λ before good.
+              ((started.session, link, started.state, power.lit), leaves (on p) again (counts ∙ lit-counts));
           wears = λ before good. start-wears p.card.facts spent before good.faults;
         }
 

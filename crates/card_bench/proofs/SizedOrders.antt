@@ -44,7 +44,8 @@ spelled-bytes digits bytes is k d lt =
 
 -- bytes within a limit
 bytes : (make : ArrayVec ℕ → Order) (digits : List ℕ) (limit : ℕ)
-    → ((given : ArrayVec ℕ) → 1 ≤ length given.items → length given.items ≤ limit → AreBytes given.items → InRange (make given))
+    → ((given : ArrayVec ℕ) → 1 ≤ length given.items → length given.items ≤ limit → AreBytes given.items
+    → InRange (make given))
     → Sized (option_map make (bytes_in digits limit))
 bytes make digits limit sized = cases (decode_of digits) refl
   where
@@ -126,4 +127,5 @@ order_of-in_range line =
         let digits = length words - 5 in
         let mask = drop (digits + 1) words in
         either _ _ None
-        (cut _ _ (numbered (take digits words)) (masked (decode_of mask) (λ bytes is. (decode_of-ok mask bytes is).3))) none
+        (cut _ _ (numbered (take digits words))
+        (masked (decode_of mask) (λ bytes is. (decode_of-ok mask bytes is).3))) none

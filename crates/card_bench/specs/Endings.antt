@@ -23,8 +23,8 @@ pub record IsRunToLine (number : ℕ) (script : List ℕ) (old new : Option (Lis
   pub fails : FailsAtLine script number
   pub written : HasWritten old fails.before new
 
--- A script of which no more is read, by the fault of the reader or since it goes on past its size: within a line of which
--- neither the end nor too many bytes were taken. The lines before it, each with its line feed, were carried out.
+-- A script of which no more is read, by the fault of the reader or since it goes on past its size: within a line, of
+-- which neither the end nor too many bytes were taken. The lines before it, each with its line feed, were carried out.
 pub record IsReadInto (script left : List ℕ) (old new : Option (List ℕ)) : Type 0 where
   pub front : List ℕ
   pub begun : List ℕ
@@ -35,8 +35,8 @@ pub record IsReadInto (script left : List ℕ) (old new : Option (List ℕ)) : T
   pub within : length (front ++ begun) ≤ SCRIPT_LIMIT
   pub written : HasWritten old (lines front) new
 
--- A script that was run to a line whose text the writer didn't take, or not all of it. That line prints something, and is the
--- last that was read; what the lines before it print is written whole.
+-- A script that was run to a line whose text the writer didn't take, or not all of it. That line prints something, and is
+-- the last that was read; what the lines before it print is written whole.
 pub record IsRunInto (script left : List ℕ) (old new : Option (List ℕ)) : Type 0 where
   pub front : List ℕ
   pub parts : script ≡ front ++ left

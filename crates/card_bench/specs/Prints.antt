@@ -11,8 +11,8 @@ use Rattle.card_bench.specs.Performing.{Performs}
 use Rattle.card_bench.specs.Plays.{IsGood}
 use Rattle.card_bench.specs.Printouts.{Print, text_of}
 
--- Lines, one after another: what each asks for is carried out, and its text follows the text of those before it. Behind each
--- of them a card is found in the bench's memory, which never had a fault.
+-- Lines, one after another: what each asks for is carried out, and its text follows the text of those before it. Behind
+-- each of them a card is found in the bench's memory, which never had a fault.
 unfoldable pub PrintsLines : Desk → List (List ℕ) → Desk → List ℕ → Type 0
 PrintsLines old [] new out = (new ≡ old) × (out ≡ [])
 PrintsLines old (line ∷ others) new out =

@@ -79,7 +79,8 @@ TakesTooMuch old new before after =
 -- bytes of a line were taken and counted, with no line feed among them, and not too many
 abbrev pub TakesInto : Option (List ℕ) → Option (List ℕ) → ℕ → ℕ → Type 0
 TakesInto old new before after =
-    (bytes : List ℕ) × Consumes old new bytes × IsInLine bytes × (IsTooLong bytes → ⊥) × CountsTaken old new before after
+    (bytes : List ℕ) × Consumes old new bytes × IsInLine bytes × (IsTooLong bytes → ⊥)
+    × CountsTaken old new before after
 
 -- how many bytes a part of a line has
 abbrev pub size_of : Part → ℕ

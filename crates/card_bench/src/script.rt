@@ -34,10 +34,11 @@ pub fn run<R: BufRead, W: Write>(
     ensures done { OnOk result (IfSome (R.remaining reader.old)
         (λ script. IsRunToEnd script (W.contents writer.old) (W.contents writer.new))) }
 
-    // A bad line is the first one, and the writer holds what the lines before it print. Read comes within a line of which
-    // neither the end nor too many bytes were taken, and Write in the text of the last line that was read.
+    // A bad line is the first one, and the writer holds what the lines before it print. Read comes within a line, of
+    // which neither the end nor too many bytes were taken, and Write in the text of the last line that was read.
     ensures stopped { IfErr result (λ fault.
-        RunStopsBy fault (R.remaining reader.old) (R.remaining reader.new) (W.contents writer.old) (W.contents writer.new)) }
+        RunStopsBy fault (R.remaining reader.old) (R.remaining reader.new)
+        (W.contents writer.old) (W.contents writer.new)) }
 
     // With too little memory nothing was read or written.
     ensures unread { result ≡ Err RunFault.Memory → R.remaining reader.new ≡ R.remaining reader.old }
@@ -60,7 +61,8 @@ fn run_lines<R: BufRead, W: Write>(
     ensures done { OnOk result (IfSome (R.remaining reader.old)
         (λ script. IsRunToEnd script (W.contents writer.old) (W.contents writer.new))) }
     ensures stopped { IfErr result (λ fault.
-        RunStopsBy fault (R.remaining reader.old) (R.remaining reader.new) (W.contents writer.old) (W.contents writer.new)) }
+        RunStopsBy fault (R.remaining reader.old) (R.remaining reader.new)
+        (W.contents writer.old) (W.contents writer.new)) }
     ensures memory { result ≢ Err RunFault.Memory }
 {
     let mut line = LineBytes::new();

@@ -30,7 +30,8 @@ returns-in-Err-clause-stopped g c = λ other.
     let first = g.R.Read.remaining c.args.reader.now in
     let now = g.R.Read.remaining c.read_part.new.reader in
     let taken : Consumes first now line = Consumes-kept _ _ _ line c.loop.invariant.so_far c.in-Err.ensures.kept in
-    (line, taken, c.loop.invariant.in_line, c.loop.invariant.fits, counts_of first now line c.args.taken.now c.loop.taken taken c.loop.invariant.counted)
+    let counted = counts_of first now line c.args.taken.now c.loop.taken taken c.loop.invariant.counted in
+    (line, taken, c.loop.invariant.in_line, c.loop.invariant.fits, counted)
 
 pub returns-in-Err-clause-past : goal.returns-in-Err-clause-past
 returns-in-Err-clause-past g c = λ e.

@@ -1,4 +1,5 @@
-use Rattle.std.proofs.Common.{◌≡◌, ◌≤◌, ◌++◌, List, ℕ, Option, Some, None, [], IfSome, OnOk, length, take, length-take, length-take-le, arith, ap, refl, subst, sym, ◌∙◌, rules}
+use Rattle.std.proofs.Common.{◌≡◌, ◌≤◌, ◌++◌, List, ℕ, Option, Some, None, [], IfSome, OnOk, length, take}
+use Rattle.std.proofs.Common.{length-take, length-take-le, arith, ap, refl, subst, sym, ◌∙◌, rules}
 use Rattle.std.specs.Io.{StartsWith}
 use Rattle.std.specs.Io.BufRead.{FillKeeps}
 use Rattle.std.specs.Io.KnownBytes.{Keeps}

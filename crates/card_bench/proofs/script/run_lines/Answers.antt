@@ -109,7 +109,10 @@ loop-number-preserved g c =
     let desk = c.perform-printed.new.self in
     record {
       taken = c.read_line.ensures.taken;
-      turns = let fed = c.in-Ok.ensures.fed c.in-LineFeed.is in let turns = c.loop-number.invariant.turns in omega (arith, fed, turns);
+      turns =
+          let fed = c.in-Ok.ensures.fed c.in-LineFeed.is in
+          let turns = c.loop-number.invariant.turns in
+          omega (arith, fed, turns);
       good = c.perform-printed.ensures.good;
       so_far = subst (λ (n : ℕ). HasRun first new n c.read_line.new.taken
           (record { bench = desk.bench; reader = desk.reader; line = desk.line }) held after) number
