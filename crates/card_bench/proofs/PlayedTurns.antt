@@ -55,13 +55,20 @@ counts_more a b old between new all more =
       due = omega (arith, all.due, due.0);
       undue = omega (arith, all.undue, due.1);
       faults = omega (arith, all.faults, more.faults);
+      more = omega (arith, all.more, more.more);
     }
 
 -- no turn
 pub plays_none : (old : BenchState) → PlaysAll old [] [] old
 plays_none old = record {
   has_card = λ before. before;
-  counts = record { cuts = omega (arith, none_dark); due = omega (arith, none_dark); undue = omega arith; faults = omega arith };
+  counts = record {
+    cuts = omega (arith, none_dark);
+    due = omega (arith, none_dark);
+    undue = omega arith;
+    faults = omega arith;
+    more = omega arith;
+  };
   well = λ good. good.well;
   guesses = pays-nothing old old refl refl;
   runs = λ before good. none_run old;
@@ -100,14 +107,19 @@ pub plays_cut : (old new : Powered) (got out : List ℕ) → IsCutAt old got new
     → PlaysBlock (on old) got Dark (off (record new.card.facts { dark = true }))
 plays_cut old new got out cut found stage paid shown writes advances stands = record {
   has_card = λ before. found;
-  counts = record { cuts = cut.power.cuts; due = cut.power.due; faults = omega (arith, cut.power.faults) };
+  counts = record {
+    cuts = cut.power.cuts;
+    due = cut.power.due;
+    faults = omega (arith, cut.power.faults);
+    more = advances.more;
+    cut = aims-off old.card.facts new.card.facts advances.cut.cut;
+  };
   well = λ good. tt;
   guesses = paid-few (on old) (off (record new.card.facts { dark = true })) paid;
   one = λ before good. record { power = refl; run = cut.run; stage = stage; word = stands good.well };
   wears = λ good.
       wears-shown COMMAND_WRITES (card_found old.card) (card_found new.card) old.card.facts
-      (record new.card.facts { dark = true }) shown good.faults writes advances.more
-      (aims-off old.card.facts new.card.facts advances.cut.cut);
+      (record new.card.facts { dark = true }) shown good.faults writes;
   heard = λ powered. refl;
 }
 
@@ -118,10 +130,16 @@ hears_nothing old new facts got is same =
     subst (λ (b : BenchState). PlaysBlock old got Mute b) (sym same)
     (subst (λ (b : BenchState). PlaysBlock b got Mute b) (sym is) (record {
       has_card = λ before. before;
-      counts = record { cuts = omega arith; due = inl (omega arith); faults = omega arith };
+      counts = record {
+        cuts = omega arith;
+        due = inl (omega arith);
+        faults = omega arith;
+        more = omega arith;
+        cut = inl refl;
+      };
       well = λ good. tt;
       guesses = pays-nothing (off facts) (off facts) refl refl;
       one = λ before good. refl;
-      wears = λ good. wears-writing COMMAND_WRITES facts facts refl (omega arith) (omega arith) (inl refl) refl;
+      wears = λ good. wears-writing COMMAND_WRITES facts facts refl (omega arith) refl;
       heard = λ powered. absurd powered;
     }))

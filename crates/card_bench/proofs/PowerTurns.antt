@@ -33,12 +33,18 @@ again-found old new again before = record {
 pub turns_off : (old new : BenchState) → new ≡ off (record (bench_facts old) { dark = true }) → Plays old turn.Off item.Quiet new
 turns_off old new is = subst (λ (b : BenchState). Plays old turn.Off item.Quiet b) (sym is) (record {
   has_card = λ before. before;
-  counts = record { cuts = omega arith; due = inl (omega arith); faults = omega arith };
+  counts = record {
+    cuts = omega arith;
+    due = inl (omega arith);
+    faults = omega arith;
+    more = omega arith;
+    cut = inl refl;
+  };
   well = λ good. tt;
   guesses = pays-nothing old (off (record (bench_facts old) { dark = true })) refl refl;
   one = λ before good. refl;
   wears = λ before good.
-      wears-writing 0 (bench_facts old) (record (bench_facts old) { dark = true }) refl (omega arith) (omega arith) (inl refl) refl;
+      wears-writing 0 (bench_facts old) (record (bench_facts old) { dark = true }) refl (omega arith) refl;
 })
 
 -- the bench before, and its board with power off
@@ -60,13 +66,18 @@ module _ (old : BenchState) (dark : Facts) (darkened : dark ≡ record (bench_fa
       let writes : new.writes ≡ (bench_facts old).writes = ap (λ (f : Facts). f.writes) is in
       record {
         has_card = λ before. subst HasCard (sym words) before;
-        counts = record { cuts = omega (arith, cuts); due = inl (omega (arith, due)); faults = omega (arith, faults) };
+        counts = record {
+          cuts = omega (arith, cuts);
+          due = inl (omega (arith, due));
+          faults = omega (arith, faults);
+          more = omega (arith, writes);
+          cut = inl (ap aim is);
+        };
         well = λ good. tt;
         guesses = pays-nothing old (off new) (ap found words) (ap comparisons is);
         one = λ before good. (ap (λ (f : Facts). off f) is, subst IsWornOut (sym same) worn);
         wears = λ before good.
-            wears-writing (PAIRS + 1) (bench_facts old) new faults (omega (arith, writes)) (omega (arith, writes))
-            (inl (ap aim is)) (ap comparisons is);
+            wears-writing (PAIRS + 1) (bench_facts old) new faults (omega (arith, writes)) (ap comparisons is);
       }
 
   -- the board with power on
@@ -112,7 +123,6 @@ module _ (old : BenchState) (dark : Facts) (darkened : dark ≡ record (bench_fa
         let few : start_writes lit ≤ PAIRS + 1 = few-start lit (subst HasCard (sym lit-words) before) in
         let most = spent.writes in
         wears-writing (PAIRS + 1) (bench_facts old) new faults (omega (arith, few, most, lit-writes))
-        (let more = spent.more in omega (arith, more, lit-writes)) (lit-aims new spent.cut.cut)
         (writing-compares (start_writes lit) lit new spent ∙ lit-counts)
 
     -- what a start leaves
@@ -136,6 +146,8 @@ module _ (old : BenchState) (dark : Facts) (darkened : dark ≡ record (bench_fa
             cuts = omega (arith, power.cuts, lit-cuts);
             due = inl (omega (arith, power.due, lit-due));
             faults = omega (arith, power.faults, lit-faults);
+            more = let more = spent.more in omega (arith, more, lit-writes);
+            cut = lit-aims p.card.facts spent.cut.cut;
           };
           well = λ good. started.state;
           guesses = pays-nothing old (on p) (found-again p.card.facts.words again) (counts ∙ lit-counts);
@@ -191,6 +203,8 @@ module _ (old : BenchState) (dark : Facts) (darkened : dark ≡ record (bench_fa
                 | inr worn ↦ inr (subst IsWorn (sym turned) worn.0, omega (arith, worn.1, due, lit-due))
               ];
               faults = omega (arith, lost.faults, faults, lit-faults);
+              more = let more = spent-so.more in omega (arith, more, lit-writes);
+              cut = lit-aims new spent-so.cut.cut;
             };
             well = λ good. tt;
             guesses = guesses;
@@ -218,6 +232,8 @@ module _ (old : BenchState) (dark : Facts) (darkened : dark ≡ record (bench_fa
               cuts = omega (arith, same_cuts, cuts, lit-cuts);
               due = inl (omega (arith, same_due, due, lit-due));
               faults = omega (arith, more, faults, lit-faults);
+              more = let written = spent-so.more in omega (arith, written, lit-writes);
+              cut = lit-aims new spent-so.cut.cut;
             };
             well = λ good. tt;
             guesses = guesses;

@@ -49,12 +49,10 @@ aims-off old new (inr fell) = inr (record { dark = refl; none = fell.none; there
 
 -- where nothing is compared
 pub wears-writing : (n : ℕ) (old new : Facts) → new.faults ≡ old.faults → new.writes ≤ old.writes + n
-    → old.writes ≤ new.writes → KeepsAim old new → comparisons new ≡ comparisons old → Wears n old new
-wears-writing n old new faults writes more cut same = record {
+    → comparisons new ≡ comparisons old → Wears n old new
+wears-writing n old new faults writes same = record {
   faults = faults;
   writes = writes;
-  more = more;
-  cut = cut;
   secret = 0;
   compares = inl (ap (λ (c : Comparisons). c.compares) same);
   matches = inl (ap (λ (c : Comparisons). c.matches) same);
@@ -62,14 +60,11 @@ wears-writing n old new faults writes more cut same = record {
 
 -- where a command may have compared what it shows
 pub wears-shown : (n : ℕ) (c d : Card) (old new : Facts) → ComparesOrStays c d (comparisons old) (comparisons new)
-    → new.faults ≡ old.faults → new.writes ≤ old.writes + n → old.writes ≤ new.writes → KeepsAim old new
-    → Wears n old new
-wears-shown n c d old new (inl stays) faults writes more cut = wears-writing n old new faults writes more cut stays.0
-wears-shown n c d old new (inr shown) faults writes more cut = record {
+    → new.faults ≡ old.faults → new.writes ≤ old.writes + n → Wears n old new
+wears-shown n c d old new (inl stays) faults writes = wears-writing n old new faults writes stays.0
+wears-shown n c d old new (inr shown) faults writes = record {
   faults = faults;
   writes = writes;
-  more = more;
-  cut = cut;
   secret = shown.0.secret;
   compares = elim shown.2.costs.compares [ inl same ↦ inl same | inr pays ↦ inr pays.compared ];
   matches = shown.2.costs.matches;

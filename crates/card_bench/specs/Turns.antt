@@ -88,11 +88,14 @@ darks [] = 0
 darks (item ∷ items) = dark_of item + darks items
 
 -- What a turn leaves of the board's counts, in which power was lost once (1) or not (0). Each loss is counted, and takes one
--- of the cuts that were due; or a count of the board stands at its end. No fault is forgotten.
+-- of the cuts that were due; or a count of the board stands at its end. No fault is forgotten, no write is taken back, and a cut
+-- that is set falls into the write that it was set for.
 pub record Spends (lost : ℕ) (old new : Facts) : Type 0 where
   pub cuts : new.cuts ≡ old.cuts + lost
   pub due : (old.due ≡ new.due + lost) ⊎ (IsWorn new × (new.due ≡ old.due))
   pub faults : old.faults ≤ new.faults
+  pub more : old.writes ≤ new.writes
+  pub cut : KeepsAim old new
 
 -- What turns leave of them, in which power was lost so often: so many cuts more were counted, and no cut became due, nor are
 -- more gone than power was lost.
@@ -101,6 +104,7 @@ pub record CountsLosses (lost : ℕ) (old new : Facts) : Type 0 where
   pub due : old.due ≤ new.due + lost
   pub undue : new.due ≤ old.due
   pub faults : old.faults ≤ new.faults
+  pub more : old.writes ≤ new.writes
 
 -- how many device writes a turn makes at most: a start one for each pair of the journal, and one for the gate
 abbrev pub turn_writes : Turn → ℕ
@@ -108,13 +112,11 @@ turn_writes turn.On = PAIRS + 1
 turn_writes turn.Off = 0
 turn_writes (turn.Block got) = COMMAND_WRITES
 
--- What a turn without a fault takes of the board's other counts: so many device writes at most, none taken back, and at most the
--- comparison of one secret, which may match. A cut that is set falls into the write that it was set for.
+-- What a turn without a fault takes of the board's other counts: so many device writes at most, and at most the comparison of one
+-- secret, which may match.
 pub record Wears (most : ℕ) (old new : Facts) : Type 0 where
   pub faults : new.faults ≡ old.faults
   pub writes : new.writes ≤ old.writes + most
-  pub more : old.writes ≤ new.writes
-  pub cut : KeepsAim old new
   pub secret : ℕ
   pub compares : RisesAt old.compares secret new.compares
   pub matches : RisesAt old.matches secret new.matches

@@ -110,7 +110,7 @@ pub fn guesses_add_up()
 {}
 
 /// A board's counts last. A turn takes at most 700 steps of each, a line of a script 700,000; where so many are left, no
-/// power-on is mute, and power is lost, in a turn or in a block, where a cut was due alone; behind a line that prints
+/// power-on is mute, and power is lost, in a turn or in a block, only where a cut was due; behind a line that prints
 /// dark no cut is set any more. In a script, whose board is new, so many are left behind every line.
 pub fn counts_last()
     ensures starts { (old new : BenchState) (item : Item) → GoodTurn old On item new → HasLeft 700 (bench_facts old)

@@ -306,9 +306,11 @@ module _ (request : Request) (a : Attempt) (asks : IsAttempt request a) (old : M
       stand false true shuts shut card = stands-alone c _ _ e.facts.words (shuts (stays shut)) card
       stand false false shuts shut card = stands-alone c _ _ e.facts.words (shuts (stays shut)) card
       stand true true exits shut card =
-          stands-gated c (charged_card c a ∷ []) (settled_card c a ∷ []) (committed b) e (charged-card b charges) exits card
+          stands-gated c (charged_card c a ∷ []) (settled_card c a ∷ []) (committed b) e card-b (charged-card b charges) exits
+          card
       stand true false exits shut card =
-          stands-gated c (charged_card c a ∷ []) [] (committed b) e (charged-card b charges) exits card
+          stands-gated c (charged_card c a ∷ []) [] (committed b) e card-b (charged-card b charges) exits
+          card
 
       went-end : Went request old x e
       went-end = (

@@ -31,7 +31,7 @@ use Rattle.card_core.specs.Served.{IsDoing, Serves}
 use Rattle.card_core.specs.Spending.{creation_writes}
 use Rattle.card_core.specs.Standing.{card_of, IsCard}
 use Rattle.card_core.specs.Working.{card_in, current_at, outcome, session_in, session_of, space_in, table_in, IsCurrent}
-use Rattle.card_core.proofs.Creations.{any-creating, any-stage, any-stands, created-current, created-is-card, created-space, filled-card}
+use Rattle.card_core.proofs.Creations.{any-creating, any-stage, any-stands, created-current, created-is-card, created-space, filled-card, filled-stands}
 use Rattle.card_core.proofs.Creations.{created-step, refused-step, taken-blocks, taken-entries}
 use Rattle.card_core.proofs.Serves.{compared-none, declined, torn, written}
 use Rattle.card_core.proofs.Stopping.{err-is}
@@ -72,7 +72,8 @@ module _ (old mid made : Memory) (ready : IsReady old) (words : IsCard (committe
       → Advances old.facts made.facts → Went request old x made
   went-adding adds stage advances =
       let tree = subst (λ (l : List ℕ). SameTree l adds.filled) same adds.tree in
-      went-gated request old x made refl stage adds.filled (filled-card m sized words x template fcp found.told found.unbarred
+      went-gated request old x made refl stage adds.filled (filled-stands m sized words x template fcp found.told
+      found.unbarred found.permitted adds.filled tree) (filled-card m sized words x template fcp found.told found.unbarred
       found.permitted adds.filled tree) adds.gate advances
 
   -- one that stopped, before or after its commit

@@ -123,7 +123,7 @@ module _ (m : List ℕ) (sized : length m ≡ WORDS) (words : IsCard m) (x : Cur
 
   -- blocks that were filled, and no file
   module _ (after : List ℕ) (same : SameTree m after) where
-    filled-stands : IsCard after
+    pub filled-stands : IsCard after
     filled-stands = files-stand m after sized same.rest words same.stands
 
     pub filled-card : card_of after ≡ c

@@ -163,7 +163,7 @@ module _ (old mid new : Memory) (ready : IsReady old) (words : IsCard (committed
       any_exit)
 
   went : Went terminate_card_usage old x new
-  went = went-after terminate_card_usage old x new 4 mid refl (inr doing) reads spends by_gate
+  went = went-after terminate_card_usage old x new 4 mid words refl (inr doing) reads spends by_gate
 
   compares : ComparesNothing (comparisons old.facts) (comparisons new.facts)
   compares = compared-none 4 mid.facts new.facts spends ∙ reads-compared old mid reads

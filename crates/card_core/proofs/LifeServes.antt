@@ -103,7 +103,7 @@ module _ (old mid new : Memory) (ready : IsReady old) (words : IsCard (committed
       (cases_eq (life_cycle_byte changed.life) (life_cycle_byte there))
 
   went : Went request old x new
-  went = went-after request old x new 4 mid refl stage reads spends by_gate
+  went = went-after request old x new 4 mid words refl stage reads spends by_gate
 
   compares : ComparesNothing (comparisons old.facts) (comparisons new.facts)
   compares = compared-none 4 mid.facts new.facts spends ∙ reads-compared old mid reads

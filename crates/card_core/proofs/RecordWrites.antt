@@ -112,7 +112,7 @@ module _ (old mid new : Memory) (ready : IsReady old) (words : IsCard (committed
       (λ (becomes : BodyBecomes (committed mid) body put after). inr (card-is becomes)) any_exit))
 
   went : Went request old x new
-  went = went-after request old x new RECORD_WRITES mid puts.unshown stage reads changes.writes by_gate
+  went = went-after request old x new RECORD_WRITES mid words puts.unshown stage reads changes.writes by_gate
 
   compares : ComparesBy request c (comparisons old.facts) (card_in new) (comparisons new.facts)
   compares = subst (λ (shown : Option Attempt). ComparesShown shown c (comparisons old.facts) (card_in new) (comparisons

@@ -253,7 +253,7 @@ module _ (old mid : Memory) (ready : IsReady old) (words : IsCard (committed old
     costs = let spent = spends.writes in let kept = reads.board.writes in omega (arith, spent, kept)
 
     went : Went request old x new
-    went = went-after request old x new (most_writes request) mid refl stage reads spends by_gate
+    went = went-after request old x new (most_writes request) mid words refl stage reads spends by_gate
 
     compares : ComparesBy request (card_in old) (comparisons old.facts) (card_in new) (comparisons new.facts)
     compares = compared-none (most_writes request) mid.facts new.facts spends ∙ reads-compared old mid reads

@@ -17,7 +17,7 @@ use Rattle.card_core.specs.Pins.{Attempt}
 use Rattle.card_core.specs.Served.{IsDoing}
 use Rattle.card_core.specs.Sessions.{Session}
 use Rattle.card_core.specs.Stages.{commits, commits_unless}
-use Rattle.card_core.specs.Standing.{card_of}
+use Rattle.card_core.specs.Standing.{card_of, IsCard}
 use Rattle.card_core.specs.Steps.{refusals_of}
 use Rattle.card_core.specs.Words.{StandsByWord, StandsServed, commits_alone, commits_gated, last_of}
 use Rattle.card_core.specs.Working.{card_in, session_in}
@@ -47,19 +47,26 @@ pub stands-first : (c : Card) (alone gated : List Card) (m : List ℕ) → gate 
 stands-first c alone gated m shut same = stands-alone c alone gated m shut (0, omega arith, sym same)
 
 -- what the gate alone may have committed, over the words `before`
-pub stands-gated : (c : Card) (alone gated : List Card) (before : List ℕ) (new : Memory) → card_of before ≡ last_of c alone
-    → (committed new ≡ before) ⊎ TurnsGate before new → Contains (c ∷ (alone ++ gated)) (card_in new)
+pub stands-gated : (c : Card) (alone gated : List Card) (before : List ℕ) (new : Memory) → IsCard before
+    → card_of before ≡ last_of c alone → (committed new ≡ before) ⊎ TurnsGate before new → Contains (c ∷ (alone ++ gated)) (card_in new)
     → StandsByWord c alone gated new.facts.words
-stands-gated c alone gated before new is (inl same) card =
+stands-gated c alone gated before new stood is (inl same) card =
     let last : card_in new ≡ last_of c alone = ap card_of same ∙ is in
     record {
       undone = λ _. last;
       shut = λ _. inl (subst (λ (d : Card). Contains (c ∷ alone) d) (sym last) (last-in c alone));
     }
-stands-gated c alone gated before new is (inr turned) card = record {
+stands-gated c alone gated before new stood is (inr turned) card = record {
   undone = λ some. absurd (omega (arith, some, turned.shut));
   shut = λ _. ⊎_elim (λ first. inl first)
-      (λ rest. inr (record { card = rest; pairs = turned.pairs; former = ap card_of turned.former ∙ is }))
+      (λ rest. inr (record {
+        card = rest;
+        pairs = turned.pairs;
+        former = record {
+          has_card = record { journal = turned.sound; words = subst IsCard (sym turned.former) stood };
+          card = ap card_of turned.former ∙ is;
+        };
+      }))
       (among c alone gated (card_in new) card);
 }
 
@@ -93,19 +100,19 @@ module _ (request : Request) (old : Memory) (x : Current) (new : Memory) where
   unshown (Some a) (Some status) none is stands = absurd cc
 
   -- it committed by the gate, if at all
-  pub went-gated : attempt_of request ≡ None → OnlyReads old new ⊎ IsDoing c s request (card_in new) → (before : List ℕ)
+  pub went-gated : attempt_of request ≡ None → OnlyReads old new ⊎ IsDoing c s request (card_in new) → (before : List ℕ) → IsCard before
       → card_of before ≡ c → (committed new ≡ before) ⊎ TurnsGate before new → Advances old.facts new.facts → Went
-  went-gated none (inl reads) before is exit advances = went-reads reads
-  went-gated none (inr doing) before is exit advances = (
+  went-gated none (inl reads) before stood is exit advances = went-reads reads
+  went-gated none (inr doing) before stood is exit advances = (
     advances,
     λ shut. unshown (attempt_of request) (refused_by (refusals_of c s request)) doing.unrefused none
-        (stands-gated c [] (commits c s request) before new is exit doing.card),
+        (stands-gated c [] (commits c s request) before new stood is exit doing.card),
   )
 
   -- after reads
-  pub went-after : (n : ℕ) (mid : Memory) → attempt_of request ≡ None
+  pub went-after : (n : ℕ) (mid : Memory) → IsCard (committed old) → attempt_of request ≡ None
       → OnlyReads old new ⊎ IsDoing c s request (card_in new) → OnlyReads old mid → WritesAtMost n mid.facts new.facts
       → CommitsByGate mid new → Went
-  went-after n mid none stage reads spends exit =
-      went-gated none stage (committed mid) (ap card_of reads.keeps.committed_words) exit
+  went-after n mid card none stage reads spends exit =
+      went-gated none stage (committed mid) (subst IsCard (sym reads.keeps.committed_words) card) (ap card_of reads.keeps.committed_words) exit
       (advances_by n old.facts new.facts (spends_after n old.facts mid.facts new.facts reads.board spends))

@@ -7,7 +7,7 @@ use Rattle.undo_journal.specs.Undo.{gate}
 use Rattle.apdu_core.specs.Requests.{Request}
 use Rattle.card_core.specs.Cards.{Card}
 use Rattle.card_core.specs.Comparing.{attempt_of}
-use Rattle.card_core.specs.Finding.{found}
+use Rattle.card_core.specs.Finding.{Finds, found}
 use Rattle.card_core.specs.Outcomes.{refused_by}
 use Rattle.card_core.specs.Pins.{Attempt, tries_commits, value_commits}
 use Rattle.card_core.specs.Sessions.{Session}
@@ -19,14 +19,16 @@ abbrev pub last_of : Card → List Card → Card
 last_of c [] = c
 last_of c (d ∷ cards) = last_of d cards
 
--- The gate committed the card that is found: were it still so many pairs, the card before would be found.
+-- The gate committed the card that is found, and no other word was needed: were it still so many pairs, the card before would
+-- be found.
 pub record IsGated (before : Card) (gated : List Card) (m : List ℕ) : Type 0 where
   pub card : Contains gated (found m)
   pub pairs : ℕ
-  pub former : found (slice_set m GATE pairs) ≡ before
+  pub former : Finds (slice_set m GATE pairs) before
 
 -- Which card is found, of a command that passes `alone` by words of their own, one after another, and then `gated` by the gate.
--- While the gate is not 0, the last one before its transaction. With it 0, one of those, or the one that it committed.
+-- While the gate is not 0, which it is in a transaction alone, the last one before it. With it 0, one of those, or the one that
+-- the gate committed.
 pub record StandsByWord (c : Card) (alone gated : List Card) (m : List ℕ) : Type 0 where
   pub undone : 0 < gate m → found m ≡ last_of c alone
   pub shut : gate m ≡ 0 → Contains (c ∷ alone) (found m) ⊎ IsGated (last_of c alone) gated m

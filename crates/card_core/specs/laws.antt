@@ -14,3 +14,4 @@ pub mod CompareLaws
 pub mod AnswerLaws
 pub mod FoundLaws
 pub mod ShownLaws
+pub mod WordLaws

@@ -1,5 +1,5 @@
 //! Laws of the definitions, as contracts of functions that do nothing.
-ghost use Rattle.std.specs.Prelude.{◌≡◌, ◌≤◌, ◌+◌, ◌/◌, ℕ, List, length};
+ghost use Rattle.std.specs.Prelude.{◌≡◌, ◌≤◌, ◌+◌, ◌/◌, ◌++◌, ℕ, List, length};
 ghost use Rattle.block_chain.specs.Changes.{touched_words};
 ghost use Rattle.card_core.specs.declared.machine.TheConstants.{COMMAND_WRITES};
 ghost use Rattle.card_core.specs.Spending.{writes_of};
@@ -15,7 +15,10 @@ ghost use Rattle.card_core.specs.Outcomes.{answer_bytes};
 ghost use Rattle.card_core.specs.Standing.{StandsFor};
 ghost use Rattle.card_core.specs.Proper.{IsAnswer, IsProper};
 ghost use Rattle.card_core.specs.Sessions.{Session};
+ghost use Rattle.apdu_core.specs.Requests.{Request};
+ghost use Rattle.card_core.specs.Stages.{commits_served};
 ghost use Rattle.card_core.specs.Steps.{carried_out};
+ghost use Rattle.card_core.specs.Words.{alone_served, gated_served};
 
 /// One card at most is found in a memory, whatever its journal holds: what is found is a function of the words.
 pub fn one_card()
@@ -50,6 +53,13 @@ pub fn commands_write_little()
     ensures most { (command : List ℕ) → writes_of command ≤ COMMAND_WRITES }
     ensures number { COMMAND_WRITES ≡ 700 }
     ensures words { (offset n : ℕ) → touched_words offset n ≤ (n + 3) / 4 + 1 }
+{}
+
+/// The commits of a request are those that words of their own make, one after another, and then those of which the gate is the
+/// word.
+pub fn commits_by_their_words()
+    ensures { (c : Card) (s : Session) (request : Request)
+        → alone_served c s request ++ gated_served c s request ≡ commits_served c s request }
 {}
 
 /// The numbers of the header and of the PINs, as a reader sees them: the mark "TSC1" and the state in words 0 and 2 of page 0,

@@ -135,8 +135,8 @@ impl Cyclic {
     /// spells, with the sent number added, in as many bytes as a record has. Nothing is written.
     ///
     /// # Errors
-    /// 6A83 where there is no record, 9850 where the sum doesn't fit a record. What the store answers. In each case
-    /// the buffer may hold anything.
+    /// 6A83 where there is no record, 9850 where the sum doesn't fit a record: then the buffer is empty. What the store
+    /// answers: then it holds a first part of record 1.
     pub fn sum<B: Board, const N: usize>(
         self,
         store: &mut Store<B>,
@@ -149,6 +149,10 @@ impl Cyclic {
         requires room { self.record_length ≤ N }
         ensures bytes { OnOk result (bytes.new.items ≡ spelled self.record_length (raised_number (cyclic_records
             (committed store.old) self) sent.now)) }
+        ensures emptied { IfRefused (result_err result) (bytes.new.items ≡ []) }
+        ensures buffer { AppendsSome [] (record_of (cyclic_records (committed store.old) self) 1) bytes.new.items
+            ⊎ (bytes.new.items ≡ spelled self.record_length (raised_number (cyclic_records (committed store.old) self)
+            sent.now)) }
         ensures refusal { DecidesUnlessFailed (unraised self.record_length (cyclic_records (committed store.old) self) sent.now)
             (result_err result) }
         ensures store { Reads store.old store.new (failure (result_err result)) }
@@ -159,6 +163,7 @@ impl Cyclic {
         }
         read_record(self, store, 1, bytes)?;
         if add(bytes, sent) {
+            bytes.clear();
             return Err(BodyErr::Refused(Sw::MAXIMUM_REACHED));
         }
         Ok(())
@@ -168,8 +173,8 @@ impl Cyclic {
     /// oldest one; the new record is put into the buffer (INCREASE, ETSI TS 102 221, 11.1.8).
     ///
     /// # Errors
-    /// 6A83 where there is no record, 9850 where the sum doesn't fit a record. What the store answers: then the
-    /// records are as before, or with the new one. In each case the buffer may hold anything.
+    /// 6A83 where there is no record, 9850 where the sum doesn't fit a record: then the buffer is empty. What the store
+    /// answers: then the records are as before, or with the new one, and the buffer holds it, or a first part of record 1.
     pub fn increase<B: Board, const N: usize>(
         self,
         store: &mut Store<B>,
@@ -185,6 +190,10 @@ impl Cyclic {
         ensures any_exit { (committed store.new ≡ committed store.old)
             ⊎ Increases (committed store.old) self sent.now (committed store.new) }
         ensures done { OnOk result (Increases (committed store.old) self sent.now (committed store.new)) }
+        ensures emptied { IfRefused (result_err result) (bytes.new.items ≡ []) }
+        ensures buffer { AppendsSome [] (record_of (cyclic_records (committed store.old) self) 1) bytes.new.items
+            ⊎ (bytes.new.items ≡ spelled self.record_length (raised_number (cyclic_records (committed store.old) self)
+            sent.now)) }
         ensures refusal { DecidesUnlessFailed (unraised self.record_length (cyclic_records (committed store.old) self) sent.now)
             (result_err result) }
         ensures refused { (status : Sw) → unraised self.record_length (cyclic_records (committed store.old) self)

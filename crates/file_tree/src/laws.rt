@@ -1,10 +1,11 @@
 //! Laws of the tree that a memory stands for.
 
-ghost use Rattle.std.specs.Prelude.{◌≡◌, ◌&&◌, ℕ, List, ◌∷◌, ◌++◌, length, Some, None, false, IsTrue};
+ghost use Rattle.std.specs.Prelude.{◌≡◌, ◌&&◌, ℕ, List, ◌∷◌, ◌++◌, length, take, Some, None, false, IsTrue};
 ghost use Rattle.std.specs.FinMap.{get};
 ghost use Rattle.nvm_board.specs.declared.board.TheConstants.{WORDS};
 ghost use Rattle.card_rules.specs.declared.identifiers.TheConstants.{MASTER_FILE};
 ghost use Rattle.block_chain.specs.Chains.{free_chain};
+ghost use Rattle.block_chain.specs.Changes.{OnlyContent};
 ghost use Rattle.file_tree.specs.declared.layout.TheConstants.{FIRST_ENTRY_PAGE, ENTRIES, DEEPEST, MOST_FILE_BLOCKS, CREATE_WRITES, DELETE_WRITES};
 ghost use Rattle.file_tree.specs.declared.layout.TheConstants.{STATE_WORD, CARD_TERMINATED};
 ghost use Rattle.file_tree.specs.Cards.{Path, IsTree, master_file, exists, file_at, is_dedicated};
@@ -12,7 +13,7 @@ ghost use Rattle.file_tree.specs.Reaching.{IsReserved};
 ghost use Rattle.file_tree.specs.Spaces.{free_space};
 ghost use Rattle.file_tree.specs.Table.{free_entries, table, path_of, IsUsed};
 ghost use Rattle.file_tree.specs.Trees.{file_in, tree_of, TreeStands};
-ghost use Rattle.file_tree.specs.Changes.{KeepsTree};
+ghost use Rattle.file_tree.specs.Changes.{KeepsTree, SameTree};
 
 /// Entry 0 is on page 1, there are 64 entries, no file is more than seven steps below the master file, and this has the
 /// identifier 3F00. The largest file has 547 blocks; a creation makes at most 587 device writes, a deletion 388.
@@ -78,4 +79,10 @@ pub fn paths_lead_through_dedicated_files()
 pub fn no_path_has_a_reserved_identifier()
     ensures { (m : List ℕ) (path left : Path) (id : ℕ) → TreeStands m → IsReserved id
         → exists (tree_of m) (path ++ id ∷ left) ≡ false }
+{}
+
+/// Whatever the contents of the first free blocks become, by `block_chain::fill` cut at any word, each file stands as it was.
+pub fn filled_blocks_leave_the_tree()
+    ensures { (m after : List ℕ) (n : ℕ) → length m ≡ WORDS → TreeStands m
+        → OnlyContent m (take n (free_chain m)) after → SameTree m after }
 {}

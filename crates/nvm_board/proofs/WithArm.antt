@@ -7,10 +7,9 @@ use Rattle.nvm_board.specs.declared.board.Arm.{Arm}
 use Rattle.nvm_board.specs.declared.board.DeviceErr.{DeviceErr}
 use Rattle.nvm_board.specs.declared.board.DeviceErr.TheVariants.{PowerLost, Fault}
 use Rattle.nvm_board.specs.Facts.{Facts, Answered, IsLostRightly, IsWorn, Steady, GoesDark}
-use Rattle.nvm_board.specs.Aims.{Aim, aim, due_of, AimsOn}
+use Rattle.nvm_board.specs.Aims.{Aim, aim, due_of, AimsAtWrite}
 use Rattle.nvm_board.specs.Cut.{ArmAfter}
 use Rattle.nvm_board.specs.Torn.{IsTornBy}
-use Rattle.nvm_board.specs.laws.Aims.{aims_lit}
 
 -- the facts of a board, with this arm in place of its own
 abbrev pub with_arm : Option Arm → Facts → Facts
@@ -157,8 +156,8 @@ aim-armed None f = refl
 aim-armed (Some a) f = refl
 
 -- a call that leaves the arm, and makes no write, leaves where the cut falls
-pub aims_armed : (a : Option Arm) (old new : Facts) → new.writes ≡ old.writes → AimsOn old new
-    → AimsOn (with_arm a old) (with_arm a new)
+pub aims_armed : (a : Option Arm) (old new : Facts) → new.writes ≡ old.writes → AimsAtWrite old new
+    → AimsAtWrite (with_arm a old) (with_arm a new)
 aims_armed a old new same aims = record {
   off = λ off. ap (with_arm a) (aims.off off);
   cut = inl (aim-armed a new ∙ ap (λ (n : ℕ). aimed n a) same ∙ sym (aim-armed a old));
@@ -186,22 +185,24 @@ pub aims_nearer : (a b : Option Arm) (old new : Facts) → old.dark ≡ false �
     → ((left mask : ℕ) → a ≡ Some (record { whole_writes = left + 1; mask = mask })
     → b ≡ Some (record { whole_writes = left; mask = mask }))
     → ((mask : ℕ) → old.dark ≡ false → ¬ (a ≡ fires_by mask))
-    → AimsOn (with_arm a old) (with_arm b new)
+    → AimsAtWrite (with_arm a old) (with_arm b new)
 aims_nearer a b old new lit counted none before never =
-    aims_lit (with_arm a old) (with_arm b new) lit
-    (aim-armed b new ∙ ap (λ (n : ℕ). aimed n b) counted
-    ∙ nearer-aimed a b old.writes none before (λ mask. never mask lit) ∙ sym (aim-armed a old))
+    record {
+      off = λ off. absurd (let dark : old.dark ≡ true = off in cc);
+      cut = inl (aim-armed b new ∙ ap (λ (n : ℕ). aimed n b) counted
+          ∙ nearer-aimed a b old.writes none before (λ mask. never mask lit) ∙ sym (aim-armed a old));
+    }
 
 -- a torn write spends it
 pub aims_torn : (a : Option Arm) (old new : Facts) (mask : ℕ) → a ≡ fires_by mask → old.dark ≡ false → new.dark ≡ true
-    → new.writes ≡ old.writes → AimsOn (with_arm a old) (with_arm None new)
-aims_torn a old new mask fires lit dark same = record {
+    → AimsAtWrite (with_arm a old) (with_arm None new)
+aims_torn a old new mask fires lit dark = record {
   off = λ off. absurd (let dark : old.dark ≡ true = off in cc);
   cut = inr (record {
     dark = dark;
     none = refl;
-    there = subst (λ (o : Option Aim). IfSome o (λ x. (new.writes + 1 ≡ x.write) ⊎ (new.writes ≡ x.write)))
-        (sym (aim-armed a old ∙ ap (aimed old.writes) fires))
-        (inl (let there : new.writes + 1 ≡ old.writes + 0 + 1 = omega (arith, same) in there));
+    cut = record { write = old.writes + 0 + 1; mask = mask };
+    was = aim-armed a old ∙ ap (aimed old.writes) fires;
+    next = omega arith;
   });
 }

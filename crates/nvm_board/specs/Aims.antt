@@ -1,9 +1,10 @@
 -- Where the cut that is set on a board falls.
-use Rattle.std.specs.Prelude.{◌≡◌, ◌⊎◌, ◌+◌, ◌==◌, ℕ, true, if◌then◌else◌, Option, None, option_map, is_some, IfSome}
+use Rattle.std.specs.Prelude.{◌≡◌, ◌⊎◌, ◌+◌, ◌==◌, ℕ, true, if◌then◌else◌, Option, None, Some, option_map, is_some, IfSome}
 use Rattle.nvm_board.specs.declared.board.Arm.{Arm}
 use Rattle.nvm_board.specs.Facts.{Facts}
 
--- the write that a cut falls into, counted from 1 at the board's first, and which words of its run are new
+-- The write that a cut falls into, counted from 1 at the board's first, and the mask that was set with it. That the run is torn
+-- by it a board says that can be armed.
 pub record Aim : Type 0 where
   pub write : ℕ
   pub mask : ℕ
@@ -26,6 +27,24 @@ pub record HasFallen (old new : Facts) : Type 0 where
 -- a cut that is set falls into the same write as before, or it fell
 abbrev pub KeepsAim : Facts → Facts → Type 0
 KeepsAim old new = (aim new ≡ aim old) ⊎ HasFallen old new
+
+-- What a read or a comparison does to it: nothing. A dark board stays as it is.
+pub record AimStays (old new : Facts) : Type 0 where
+  pub off : old.dark ≡ true → new ≡ old
+  pub aim : aim new ≡ aim old
+
+-- the cut falls into the very next write
+pub record FallsNext (old new : Facts) : Type 0 where
+  pub dark : new.dark ≡ true
+  pub none : aim new ≡ None
+  pub cut : Aim
+  pub was : aim old ≡ Some cut
+  pub next : old.writes + 1 ≡ cut.write
+
+-- What a write does to it: it brings it nearer by one, or it is the one that the cut falls into.
+pub record AimsAtWrite (old new : Facts) : Type 0 where
+  pub off : old.dark ≡ true → new ≡ old
+  pub cut : (aim new ≡ aim old) ⊎ FallsNext old new
 
 -- What calls on a board do to a cut that is set: nothing but that their writes bring it nearer, until it falls. A dark board
 -- stays as it is.

@@ -4,7 +4,7 @@ ghost use Rattle.std.specs.Prelude.{IsTrue, IsErr, IfOk, OnOk, OnErr, slice_inde
 ghost use Rattle.nvm_board.specs.declared.board.TheConstants.{PAGES, PAGE_WORDS, WORDS, SECRETS, COUNT_END};
 ghost use Rattle.nvm_board.specs.Facts.{Facts, AreWords, CountsFit, Answered, IsLostRightly, RisesAt, IsWornOut};
 ghost use Rattle.nvm_board.specs.Facts.{address, raised};
-ghost use Rattle.nvm_board.specs.Aims.{AimsOn, due_of};
+ghost use Rattle.nvm_board.specs.Aims.{AimStays, AimsAtWrite, due_of};
 ghost use Rattle.nvm_board.specs.Torn.{Torn, written};
 
 /// Pages of a board.
@@ -56,7 +56,7 @@ pub trait Board {
         ensures word { IfOk result (λ w. w ≡ slice_index (facts self.old).words at) }
         ensures light { Answered (facts self.old) (facts self.new) result }
         ensures worn { IsLostRightly (facts self.old) (facts self.new) result }
-        ensures cut { AimsOn (facts self.old) (facts self.new) }
+        ensures cut { AimStays (facts self.old) (facts self.new) }
         ensures words { (facts self.new).words ≡ (facts self.old).words }
         ensures writes { (facts self.new).writes ≡ (facts self.old).writes }
         ensures compares { (facts self.new).compares ≡ (facts self.old).compares }
@@ -73,7 +73,7 @@ pub trait Board {
         ensures torn { Torn (facts self.old).words (address page first) words.now (facts self.new).words }
         ensures light { Answered (facts self.old) (facts self.new) result }
         ensures worn { IsLostRightly (facts self.old) (facts self.new) result }
-        ensures cut { AimsOn (facts self.old) (facts self.new) }
+        ensures cut { AimsAtWrite (facts self.old) (facts self.new) }
 
         // Nothing else raises the writes.
         ensures counted { OnOk result ((facts self.new).writes ≡ (facts self.old).writes + 1) }
@@ -88,7 +88,7 @@ pub trait Board {
         ensures equal { IfOk result (λ e. IsTrue e ↔ (kept.now ≡ shown.now)) }
         ensures light { Answered (facts self.old) (facts self.new) result }
         ensures worn { IsLostRightly (facts self.old) (facts self.new) result }
-        ensures cut { AimsOn (facts self.old) (facts self.new) }
+        ensures cut { AimStays (facts self.old) (facts self.new) }
         ensures words { (facts self.new).words ≡ (facts self.old).words }
         ensures writes { (facts self.new).writes ≡ (facts self.old).writes }
 
@@ -142,7 +142,7 @@ pub trait Armed: Socket {
         } };
 }
 
-/// A board that has no faults, so that what is set to come on it is a cut.
+/// A board that has no faults, and loses power by the cut alone that is set on it, or where a count stands at its end.
 pub trait Faultless: Board {
     /// No fault is counted.
     ghost faultless: { (board : Self) → (Self.facts board).faults ≡ 0 };

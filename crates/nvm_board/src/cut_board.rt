@@ -74,7 +74,7 @@ impl Board for CutBoard {
     ghost use Rattle.std.specs.Prelude.{slice_index};
     ghost use Rattle.nvm_board.specs.declared.board.TheConstants.{PAGES, PAGE_WORDS, WORDS, SECRETS};
     ghost use Rattle.nvm_board.specs.Facts.{Answered, IsLostRightly, RisesAt, address, raised};
-    ghost use Rattle.nvm_board.specs.Aims.{AimsOn};
+    ghost use Rattle.nvm_board.specs.Aims.{AimStays, AimsAtWrite};
     ghost use Rattle.nvm_board.specs.Torn.{Torn, written};
     ghost use Rattle.nvm_board.specs.Cut.{cut_facts, last_torn, ArmAfter, TornAfter};
     ghost use Rattle.nvm_board.specs.laws.Counts.{cut_counts_fit};
@@ -87,7 +87,7 @@ impl Board for CutBoard {
         ensures word { IfOk result (λ w. w ≡ slice_index (cut_facts self.old).words at) }
         ensures light { Answered (cut_facts self.old) (cut_facts self.new) result }
         ensures worn { IsLostRightly (cut_facts self.old) (cut_facts self.new) result }
-        ensures cut { AimsOn (cut_facts self.old) (cut_facts self.new) }
+        ensures cut { AimStays (cut_facts self.old) (cut_facts self.new) }
         ensures words { (cut_facts self.new).words ≡ (cut_facts self.old).words }
         ensures writes { (cut_facts self.new).writes ≡ (cut_facts self.old).writes }
         ensures compares { (cut_facts self.new).compares ≡ (cut_facts self.old).compares }
@@ -109,7 +109,7 @@ impl Board for CutBoard {
         ensures torn { Torn (cut_facts self.old).words (address page first) words.now (cut_facts self.new).words }
         ensures light { Answered (cut_facts self.old) (cut_facts self.new) result }
         ensures worn { IsLostRightly (cut_facts self.old) (cut_facts self.new) result }
-        ensures cut { AimsOn (cut_facts self.old) (cut_facts self.new) }
+        ensures cut { AimsAtWrite (cut_facts self.old) (cut_facts self.new) }
         ensures counted { OnOk result ((cut_facts self.new).writes ≡ (cut_facts self.old).writes + 1) }
         ensures counted_err { OnErr result (((cut_facts self.new).writes ≡ (cut_facts self.old).writes)
             ⊎ ((cut_facts self.new).writes ≡ (cut_facts self.old).writes + 1)) }
@@ -135,7 +135,7 @@ impl Board for CutBoard {
         ensures equal { IfOk result (λ e. IsTrue e ↔ (kept.now ≡ shown.now)) }
         ensures light { Answered (cut_facts self.old) (cut_facts self.new) result }
         ensures worn { IsLostRightly (cut_facts self.old) (cut_facts self.new) result }
-        ensures cut { AimsOn (cut_facts self.old) (cut_facts self.new) }
+        ensures cut { AimStays (cut_facts self.old) (cut_facts self.new) }
         ensures words { (cut_facts self.new).words ≡ (cut_facts self.old).words }
         ensures writes { (cut_facts self.new).writes ≡ (cut_facts self.old).writes }
         ensures compared { OnOk result ((cut_facts self.new).compares ≡ raised (cut_facts self.old).compares secret) }

@@ -196,7 +196,7 @@ impl Board for FaultBoard {
     ghost use Rattle.std.specs.Prelude.{slice_index};
     ghost use Rattle.nvm_board.specs.declared.board.TheConstants.{PAGES, PAGE_WORDS, WORDS, SECRETS};
     ghost use Rattle.nvm_board.specs.declared.board.DeviceErr.TheVariants.{Fault};
-    ghost use Rattle.nvm_board.specs.Aims.{AimsOn};
+    ghost use Rattle.nvm_board.specs.Aims.{AimStays, AimsAtWrite};
     ghost use Rattle.nvm_board.specs.Facts.{Answered, IsLostRightly, RisesAt, address, raised};
     ghost use Rattle.nvm_board.specs.Torn.{Torn, written};
     ghost use Rattle.nvm_board.specs.Faulty.{fault_facts, counting, AfterCall, AfterWrite};
@@ -210,7 +210,7 @@ impl Board for FaultBoard {
         ensures word { IfOk result (λ w. w ≡ slice_index (fault_facts self.old).words at) }
         ensures light { Answered (fault_facts self.old) (fault_facts self.new) result }
         ensures worn { IsLostRightly (fault_facts self.old) (fault_facts self.new) result }
-        ensures cut { AimsOn (fault_facts self.old) (fault_facts self.new) }
+        ensures cut { AimStays (fault_facts self.old) (fault_facts self.new) }
         ensures words { (fault_facts self.new).words ≡ (fault_facts self.old).words }
         ensures writes { (fault_facts self.new).writes ≡ (fault_facts self.old).writes }
         ensures compares { (fault_facts self.new).compares ≡ (fault_facts self.old).compares }
@@ -236,7 +236,7 @@ impl Board for FaultBoard {
         ensures torn { Torn (fault_facts self.old).words (address page first) words.now (fault_facts self.new).words }
         ensures light { Answered (fault_facts self.old) (fault_facts self.new) result }
         ensures worn { IsLostRightly (fault_facts self.old) (fault_facts self.new) result }
-        ensures cut { AimsOn (fault_facts self.old) (fault_facts self.new) }
+        ensures cut { AimsAtWrite (fault_facts self.old) (fault_facts self.new) }
         ensures counted { OnOk result ((fault_facts self.new).writes ≡ (fault_facts self.old).writes + 1) }
         ensures counted_err { OnErr result (((fault_facts self.new).writes ≡ (fault_facts self.old).writes)
             ⊎ ((fault_facts self.new).writes ≡ (fault_facts self.old).writes + 1)) }
@@ -261,7 +261,7 @@ impl Board for FaultBoard {
         ensures equal { IfOk result (λ e. IsTrue e ↔ (kept.now ≡ shown.now)) }
         ensures light { Answered (fault_facts self.old) (fault_facts self.new) result }
         ensures worn { IsLostRightly (fault_facts self.old) (fault_facts self.new) result }
-        ensures cut { AimsOn (fault_facts self.old) (fault_facts self.new) }
+        ensures cut { AimStays (fault_facts self.old) (fault_facts self.new) }
         ensures words { (fault_facts self.new).words ≡ (fault_facts self.old).words }
         ensures writes { (fault_facts self.new).writes ≡ (fault_facts self.old).writes }
         ensures compared { OnOk result ((fault_facts self.new).compares

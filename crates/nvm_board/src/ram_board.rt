@@ -153,7 +153,7 @@ impl RamBoard {
 impl Board for RamBoard {
     ghost use Rattle.std.specs.Prelude.{◌≡◌, ◌+◌, ◌<◌, ◌≤◌, length, OnOk, OnErr};
     ghost use Rattle.nvm_board.specs.declared.board.TheConstants.{PAGES, PAGE_WORDS};
-    ghost use Rattle.nvm_board.specs.Aims.{AimsOn};
+    ghost use Rattle.nvm_board.specs.Aims.{AimsAtWrite};
     ghost use Rattle.nvm_board.specs.Facts.{Answered, IsLostRightly, address};
     ghost use Rattle.nvm_board.specs.Ram.{ram_facts};
     ghost use Rattle.nvm_board.specs.Torn.{Torn, written};
@@ -179,7 +179,7 @@ impl Board for RamBoard {
         ensures torn { Torn (ram_facts self.old).words (address page first) words.now (ram_facts self.new).words }
         ensures light { Answered (ram_facts self.old) (ram_facts self.new) result }
         ensures worn { IsLostRightly (ram_facts self.old) (ram_facts self.new) result }
-        ensures cut { AimsOn (ram_facts self.old) (ram_facts self.new) }
+        ensures cut { AimsAtWrite (ram_facts self.old) (ram_facts self.new) }
         ensures counted { OnOk result ((ram_facts self.new).writes ≡ (ram_facts self.old).writes + 1) }
 
         // A write that fails isn't counted.

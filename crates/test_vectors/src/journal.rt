@@ -206,3 +206,62 @@ fn answers_the_same_error_until_it_is_opened_again(rt: HostRuntime) -> Result<()
     assert!(rt; found_again(board)? == BEFORE);
     Ok(())
 }
+
+/// The three words of a board as they stand, whatever its journal holds.
+fn standing(board: &mut CutBoard) -> Result<[u32; 3], Fail> {
+    board.light()?;
+    Ok([board.read(5)?, board.read(2048)?, board.read(2049)?])
+}
+
+// The words where the change is cut at device write 1, 2 and so on, of which the word stays old. Each set makes three: its
+// pair, the gate, the word; and the sets come in their order, also of a word that is set twice.
+const SET: &[[u32; 3]] = &[
+    [50, 60, 61],
+    [50, 60, 61],
+    [50, 60, 61],
+    [1, 60, 61],
+    [1, 60, 61],
+    [1, 60, 61],
+    [3, 60, 61],
+    [3, 60, 61],
+    [3, 60, 61],
+    [3, 2, 61],
+    [3, 2, 61],
+    [3, 2, 61],
+    [3, 2, 4],
+];
+
+#[test]
+fn sets_come_in_their_order(rt: HostRuntime) -> Result<(), Fail> {
+    for (i, want) in SET.iter().enumerate() {
+        let write = i as u32 + 1;
+        let mut board = changed(rt.alloc(), End::Commits, Cut { write, mask: 0 })?;
+        assert!(rt; standing(&mut board)? == *want, "at {write}");
+    }
+    Ok(())
+}
+
+// The words where the opening after a commit whose gate stayed old is cut at device write 1, 2 and so on: the earlier words come
+// back from the last pair to the first, and so the first of a word that was set twice at last. The fifth write is the gate.
+const ROLLED_BACK: &[[u32; 3]] = &[
+    [3, 2, 4],
+    [3, 2, 61],
+    [3, 60, 61],
+    [1, 60, 61],
+    [50, 60, 61],
+];
+
+#[test]
+fn pairs_come_back_from_the_last(rt: HostRuntime) -> Result<(), Fail> {
+    for (i, want) in ROLLED_BACK.iter().enumerate() {
+        let mut board = changed(rt.alloc(), End::Commits, Cut { write: 13, mask: 0 })?;
+        board.light()?;
+        board.arm(i as u32 + 1, 0);
+        let mut board = match Store::open(board) {
+            Ok(store) => store.into_board(),
+            Err((board, _)) => board,
+        };
+        assert!(rt; standing(&mut board)? == *want, "at {}", i + 1);
+    }
+    Ok(())
+}

@@ -15,8 +15,6 @@ mod faults;
 #[cfg(test)]
 mod journal;
 #[cfg(test)]
-mod laws;
-#[cfg(test)]
 mod link;
 #[cfg(test)]
 mod memories;

@@ -1,11 +1,12 @@
 -- What an answer tells of a board and of a store, at the exits of their calls.
 use Rattle.std.specs.Prelude.{Result, Ok, Err, OnOk, OnErr, IsErrAnd}
-use Rattle.std.proofs.Common.{◌≡◌, ◌⊎◌, ◌+◌, ℕ, true, false, refl, sym, ◌∙◌, ap, subst, inl, arith}
+use Rattle.std.proofs.Common.{◌≡◌, ◌⊎◌, ◌+◌, ℕ, true, false, refl, sym, ◌∙◌, ap, subst, inl, inr, arith}
 use Rattle.std.proofs.Math.Logic.{⊎_elim, ⊎_map}
 use Rattle.nvm_board.specs.declared.board.DeviceErr.{DeviceErr}
 use Rattle.nvm_board.specs.declared.board.DeviceErr.TheVariants as device
-use Rattle.nvm_board.specs.Aims.{AimsOn}
+use Rattle.nvm_board.specs.Aims.{AimsAtWrite}
 use Rattle.nvm_board.specs.Facts.{Facts, Answered, Steady, GoesDark}
+use Rattle.nvm_board.specs.laws.Aims.{aims_written}
 use Rattle.undo_journal.specs.declared.error.StoreErr.TheVariants.{PowerLost}
 use Rattle.undo_journal.specs.declared.error.OpenFault.{OpenFault}
 use Rattle.undo_journal.specs.Memory.{Memory, Reports, FailsBy, OpensNot}
@@ -62,13 +63,13 @@ answered_after a b c result first told = record {
 }
 
 -- what a write costs
-pub write_costs : {T : Type 0} (old new : Facts) (result : Result T DeviceErr) → AimsOn old new → OnOk result (new.writes ≡ old.writes + 1)
+pub write_costs : {T : Type 0} (old new : Facts) (result : Result T DeviceErr) → AimsAtWrite old new → OnOk result (new.writes ≡ old.writes + 1)
     → OnErr result ((new.writes ≡ old.writes) ⊎ (new.writes ≡ old.writes + 1)) → new.compares ≡ old.compares
     → new.matches ≡ old.matches → WritesAtMost 1 old new
 write_costs old new (Ok x) cut ok err compares matches = record
-    { writes = omega (arith, ok); more = omega (arith, ok); cut = cut; compares = compares; matches = matches }
+    { writes = omega (arith, ok); more = omega (arith, ok); cut = aims_written old new (inr ok) cut; compares = compares; matches = matches }
 write_costs old new (Err e) cut ok err compares matches = record
-    { writes = omega (arith, err); more = omega (arith, err); cut = cut; compares = compares; matches = matches }
+    { writes = omega (arith, err); more = omega (arith, err); cut = aims_written old new err cut; compares = compares; matches = matches }
 
 -- what an error tells of a lit board
 pub fails_by : {T : Type 0} (e : DeviceErr) (old new : Facts) → old.dark ≡ false → Answered {T = T} old new (Err e)

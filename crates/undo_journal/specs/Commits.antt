@@ -2,12 +2,14 @@
 use Rattle.std.specs.Prelude.{◌≡◌, ◌⊎◌, ℕ, List, slice_set}
 use Rattle.undo_journal.specs.declared.layout.TheConstants.{GATE}
 use Rattle.undo_journal.specs.Memory.{Memory, committed}
-use Rattle.undo_journal.specs.Undo.{gate, undo, data_words}
+use Rattle.undo_journal.specs.Undo.{gate, undo, data_words, IsSound}
 
--- The gate was turned to 0, and that word alone made the change: were it still so many pairs, the words before would stand.
+-- The gate was turned to 0, and no other word is needed for the change: were it still so many pairs, undo would be defined, and
+-- the words before would stand.
 pub record TurnsGate (before : List ℕ) (new : Memory) : Type 0 where
   pub shut : gate new.facts.words ≡ 0
   pub pairs : ℕ
+  pub sound : IsSound (slice_set new.facts.words GATE pairs)
   pub former : data_words (undo (slice_set new.facts.words GATE pairs)) ≡ before
 
 -- What at most one transaction leaves: the words that were committed before; or others, and then by its gate alone.

@@ -1,6 +1,6 @@
 -- What calls on a board may cost.
 use Rattle.std.specs.Prelude.{◌≡◌, ◌==◌, ◌+◌, ◌≤◌, ℕ, if◌then◌else◌}
-use Rattle.nvm_board.specs.Aims.{AimsOn}
+use Rattle.nvm_board.specs.Aims.{AimStays, AimsOn}
 use Rattle.nvm_board.specs.Facts.{Facts}
 use Rattle.undo_journal.specs.Undo.{gate}
 
@@ -19,7 +19,7 @@ pub record Advances (old new : Facts) : Type 0 where
 
 -- no word of a board and no count changed, but for cuts and faults; a cut that is set comes no nearer
 pub record KeepsBoard (old new : Facts) : Type 0 where
-  pub cut : AimsOn old new
+  pub cut : AimStays old new
   pub words : new.words ≡ old.words
   pub writes : new.writes ≡ old.writes
   pub compares : new.compares ≡ old.compares

@@ -4,7 +4,7 @@ ghost use Rattle.std.specs.Prelude.{OnOk, OnErr, IsErrOf, Some, true, slice_inde
 ghost use Rattle.std.specs.Option.{option_or};
 ghost use Rattle.std.specs.Result.{result_err};
 ghost use Rattle.nvm_board.specs.declared.board.TheConstants.{PAGE_WORDS, SECRETS};
-ghost use Rattle.nvm_board.specs.Aims.{AimsOn, due_of};
+ghost use Rattle.nvm_board.specs.Aims.{AimStays, due_of};
 ghost use Rattle.nvm_board.specs.Facts.{Steady, RisesAt, address, raised};
 ghost use Rattle.nvm_board.specs.Torn.{Torn, written};
 ghost use Rattle.undo_journal.specs.declared.layout.TheConstants.{PAIRS};
@@ -145,6 +145,7 @@ impl<B: Board> Store<B> {
         requires place { IsDataRun (current self.old) (address page first) (length words.now) }
         ensures any_exit { Torn (committed self.old) (address page first) words.now (committed self.new) }
         ensures done { OnOk result (committed self.new ≡ written (committed self.old) (address page first) words.now) }
+        ensures shut { StaysShut self.old self.new }
         ensures store { Changes 1 self.old self.new (result_err result) }
         ensures dark { IsErrOf result PowerLost → self.new.facts.dark ≡ true }
     {
@@ -168,7 +169,7 @@ impl<B: Board> Store<B> {
         ensures tells { self.new.failed ≡ result_err result }
         ensures dark { IsErrOf result PowerLost → self.new.facts.dark ≡ true }
         ensures writes { self.new.facts.writes ≡ self.old.facts.writes }
-        ensures cut { AimsOn self.old.facts self.new.facts }
+        ensures cut { AimStays self.old.facts self.new.facts }
 
         // The comparison and the match are counted, and nothing else.
         ensures compared { OnOk result (self.new.facts.compares ≡ raised self.old.facts.compares secret) }

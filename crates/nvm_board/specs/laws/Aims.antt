@@ -1,16 +1,44 @@
 -- Laws of a cut that is set, over calls in a row.
-use Rattle.std.proofs.Common.{◌≡◌, ◌⊎◌, ◌+◌, ℕ, true, false, refl, sym, ◌∙◌, ap, subst, inl, inr}
+use Rattle.std.proofs.Common.{◌≡◌, ◌⊎◌, ◌+◌, ℕ, true, false, refl, sym, ◌∙◌, ap, subst, inl, inr, arith}
+use Rattle.std.proofs.Math.Logic.{⊎_map}
 use Rattle.std.specs.Prelude.{Option, None, Some, IfSome}
 use Rattle.nvm_board.specs.Facts.{Facts}
-use Rattle.nvm_board.specs.Aims.{Aim, aim, AimsOn, HasFallen, KeepsAim}
+use Rattle.nvm_board.specs.Aims.{Aim, aim, AimStays, AimsAtWrite, AimsOn, FallsNext, HasFallen}
 
 -- no call at all
 pub aims_same : (f : Facts) → AimsOn f f
 aims_same f = record { off = λ off. refl; cut = inl refl }
 
--- a lit board, whose cut falls into the same write
-pub aims_lit : (old new : Facts) → old.dark ≡ false → aim new ≡ aim old → AimsOn old new
-aims_lit old new lit same = record { off = λ off. absurd (let dark : old.dark ≡ true = off in cc); cut = inl same }
+-- reads in a row
+pub aims_stay : (a b c : Facts) → AimStays a b → AimStays b c → AimStays a c
+aims_stay a b c first rest = record {
+  off = λ off.
+      let same = first.off off in
+      rest.off (ap (λ (f : Facts). f.dark) same ∙ off) ∙ same;
+  aim = rest.aim ∙ first.aim;
+}
+
+-- no read at all
+pub aim_same : (f : Facts) → AimStays f f
+aim_same f = record { off = λ off. refl; aim = refl }
+
+-- reads among calls
+pub aims_kept : (old new : Facts) → AimStays old new → AimsOn old new
+aims_kept old new stays = record { off = stays.off; cut = inl stays.aim }
+
+-- a write among calls: at an error it was counted, or not
+pub aims_written : (old new : Facts) → (new.writes ≡ old.writes) ⊎ (new.writes ≡ old.writes + 1) → AimsAtWrite old new
+    → AimsOn old new
+aims_written old new counted aims = record {
+  off = aims.off;
+  cut = ⊎_map (λ same. same) (λ falls. record {
+    dark = falls.dark;
+    none = falls.none;
+    there = subst (λ (o : Option Aim). IfSome o (λ a. (new.writes + 1 ≡ a.write) ⊎ (new.writes ≡ a.write))) (sym falls.was)
+        (let next = falls.next in ⊎_map (λ (same : new.writes ≡ old.writes). omega (arith, same, next))
+        (λ (more : new.writes ≡ old.writes + 1). omega (arith, more, next)) counted);
+  }) aims.cut;
+}
 
 -- a cut that fell, where none was set between
 fallen_after : (a b c : Facts) → aim b ≡ aim a → HasFallen b c → HasFallen a c

@@ -1,7 +1,7 @@
 -- Laws of calls in a row: reads, and the sets of a transaction.
 use Rattle.std.proofs.Common.{◌+◌, ◌≤◌, ℕ, refl, ◌∙◌, arith}
 use Rattle.nvm_board.specs.Facts.{Facts}
-use Rattle.nvm_board.specs.laws.Aims.{aims_same, aims_then}
+use Rattle.nvm_board.specs.laws.Aims.{aim_same, aims_kept, aims_stay, aims_then}
 use Rattle.undo_journal.specs.declared.txn.Txn.{Txn}
 use Rattle.undo_journal.specs.Memory.{Memory}
 use Rattle.undo_journal.specs.laws.Memory.{reports_same, reports_then}
@@ -13,7 +13,7 @@ pub keeping_spends : (n : ℕ) (a b : Facts) → KeepsBoard a b → WritesAtMost
 keeping_spends n a b kept = record {
   writes = omega (arith, kept.writes);
   more = omega (arith, kept.writes);
-  cut = kept.cut;
+  cut = aims_kept a b kept.cut;
   compares = kept.compares;
   matches = kept.matches;
 }
@@ -21,7 +21,7 @@ keeping_spends n a b kept = record {
 -- a board that is kept, and kept on
 pub boards_then : (a b c : Facts) → KeepsBoard a b → KeepsBoard b c → KeepsBoard a c
 boards_then a b c first rest = record {
-  cut = aims_then a b c first.cut rest.cut;
+  cut = aims_stay a b c first.cut rest.cut;
   words = rest.words ∙ first.words;
   writes = rest.writes ∙ first.writes;
   compares = rest.compares ∙ first.compares;
@@ -33,7 +33,7 @@ pub spends_after : (n : ℕ) (a b c : Facts) → KeepsBoard a b → WritesAtMost
 spends_after n a b c kept costs = record {
   writes = omega (arith, kept.writes, costs.writes);
   more = omega (arith, kept.writes, costs.more);
-  cut = aims_then a b c kept.cut costs.cut;
+  cut = aims_then a b c (aims_kept a b kept.cut) costs.cut;
   compares = costs.compares ∙ kept.compares;
   matches = costs.matches ∙ kept.matches;
 }
@@ -42,7 +42,7 @@ pub spends_before : (n : ℕ) (a b c : Facts) → WritesAtMost n a b → KeepsBo
 spends_before n a b c costs kept = record {
   writes = omega (arith, kept.writes, costs.writes);
   more = omega (arith, kept.writes, costs.more);
-  cut = aims_then a b c costs.cut kept.cut;
+  cut = aims_then a b c costs.cut (aims_kept b c kept.cut);
   compares = kept.compares ∙ costs.compares;
   matches = kept.matches ∙ costs.matches;
 }
@@ -52,7 +52,7 @@ pub advances_by : (n : ℕ) (a b : Facts) → WritesAtMost n a b → Advances a 
 advances_by n a b costs = record { more = costs.more; cut = costs.cut }
 
 pub advances_kept : (a b : Facts) → KeepsBoard a b → Advances a b
-advances_kept a b kept = record { more = omega (arith, kept.writes); cut = kept.cut }
+advances_kept a b kept = record { more = omega (arith, kept.writes); cut = aims_kept a b kept.cut }
 
 pub advances_then : (a b c : Facts) → Advances a b → Advances b c → Advances a c
 advances_then a b c first rest = record {
@@ -81,7 +81,7 @@ writes_after n a b f reads costs = spends_after n a.facts b.facts f reads.board 
 -- no read at all
 pub reads_same : (m : Memory) → OnlyReads m m
 reads_same m = record {
-  board = record { cut = aims_same m.facts; words = refl; writes = refl; compares = refl; matches = refl };
+  board = record { cut = aim_same m.facts; words = refl; writes = refl; compares = refl; matches = refl };
   keeps = record { committed_words = refl; current_words = refl; used = refl };
   reports = reports_same m;
 }

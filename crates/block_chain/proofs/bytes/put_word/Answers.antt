@@ -59,5 +59,5 @@ returns-in_err-word-clause-store g c =
     sets_in_handed _ _ _ _ _ c.from_residual.ensures.1 (record {
       ready = tt;
       tells = c.in_err-word.ensures.store.tells;
-      sets = search rules;
+      sets = reads_sets _ _ _ c.read.ensures.store.only;
     })

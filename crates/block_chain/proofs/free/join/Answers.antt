@@ -86,7 +86,7 @@ returns-in_err-page-clause-store g c =
     sets_in_handed _ _ _ _ _ c.from_residual.ensures.1 (record {
       ready = tt;
       tells = c.in_err-page.ensures.store.tells;
-      sets = search rules;
+      sets = reads_sets _ _ _ c.head.ensures.store.only;
     })
 
 pub returns-in_err-set-clause-page : goal.returns-in_err-set-clause-page

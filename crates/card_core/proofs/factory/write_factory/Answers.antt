@@ -1,6 +1,6 @@
-use Rattle.std.proofs.Common.{◌≤◌, length, refl, ap, ◌∙◌, ⊎_elim, arith}
+use Rattle.std.proofs.Common.{◌≤◌, length, refl, ap, ◌∙◌, inr, ⊎_elim, arith}
 use Rattle.nvm_board.specs.Facts.{address}
-use Rattle.nvm_board.specs.laws.Aims.{aims_then}
+use Rattle.nvm_board.specs.laws.Aims.{aims_then, aims_written}
 use Rattle.block_chain.specs.declared.layout.TheConstants.{HEADER_PAGE}
 use Rattle.card_core.specs.Factory.{factory_header}
 use Rattle.block_chain.specs.Words.{page_words}
@@ -59,7 +59,9 @@ pub returns-in_err-write-clause-power : goal.returns-in_err-write-clause-power
 returns-in_err-write-clause-power g c = answered_handed _ _ _ _ c.from_residual.ensures.1 c.in_err-write.ensures.light
 
 pub returns-in_err-write-clause-cut : goal.returns-in_err-write-clause-cut
-returns-in_err-write-clause-cut g c = c.in_err-write.ensures.cut
+returns-in_err-write-clause-cut g c =
+    aims_written _ _ c.in_err-write.ensures.counted_err c.in_err-write.ensures.cut
 
 pub returns-clause-cut : goal.returns-clause-cut
-returns-clause-cut g c = aims_then _ _ _ c.in_ok-write.ensures.cut c.write_pages.ensures.cut
+returns-clause-cut g c =
+    aims_then _ _ _ (aims_written _ _ (inr c.in_ok-write.ensures.counted) c.in_ok-write.ensures.cut) c.write_pages.ensures.cut

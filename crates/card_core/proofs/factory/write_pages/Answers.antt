@@ -1,6 +1,6 @@
-use Rattle.std.proofs.Common.{◌≡◌, ◌≢◌, ◌≤◌, ℕ, List, length, refl, rules, ap, ◌∙◌, arith, below_more}
+use Rattle.std.proofs.Common.{◌≡◌, ◌≢◌, ◌≤◌, ℕ, List, length, refl, rules, ap, ◌∙◌, arith, below_more, inr}
 use Rattle.nvm_board.specs.Facts.{address}
-use Rattle.nvm_board.specs.laws.Aims.{aims_then}
+use Rattle.nvm_board.specs.laws.Aims.{aims_then, aims_written}
 use Rattle.block_chain.specs.Words.{page_words}
 use Rattle.card_core.proofs.FactoryPages.{page_words-written, page_words-written_other}
 use Rattle.card_core.proofs.Powers.{answered_after, steady_then}
@@ -21,7 +21,8 @@ loop-page-preserved g c =
     let fits : length c.factory_page.result ≤ 16 = omega arith in
     record {
       steady = steady_then _ _ _ c.loop-page.invariant.steady (c.in_ok-write.ensures.light.ok refl);
-      cut = aims_then _ _ _ c.loop-page.invariant.cut c.in_ok-write.ensures.cut;
+      cut = aims_then _ _ _ c.loop-page.invariant.cut
+          (aims_written _ _ (inr c.in_ok-write.ensures.counted) c.in_ok-write.ensures.cut);
       writes = omega (arith, c.in_ok-write.ensures.counted);
       compares = c.in_ok-write.ensures.compares ∙ c.loop-page.invariant.compares;
       matches = c.in_ok-write.ensures.matches ∙ c.loop-page.invariant.matches;
@@ -36,7 +37,8 @@ loop-page-preserved g c =
     }
 
 pub returns-in_err-write-clause-cut : goal.returns-in_err-write-clause-cut
-returns-in_err-write-clause-cut g c = aims_then _ _ _ c.loop-page.invariant.cut c.in_err-write.ensures.cut
+returns-in_err-write-clause-cut g c = aims_then _ _ _ c.loop-page.invariant.cut
+    (aims_written _ _ c.in_err-write.ensures.counted_err c.in_err-write.ensures.cut)
 
 pub returns-clause-cut : goal.returns-clause-cut
 returns-clause-cut g c = c.loop-page.invariant.cut

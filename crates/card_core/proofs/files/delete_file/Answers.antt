@@ -53,7 +53,7 @@ returns-in_err-freed-clause-serves g c =
     let reports = reports_then old mid new reads.reports c.delete.ensures.store.reports in
     let spends = c.delete.ensures.store.writes.writes in
     let spent = reads.board.writes in
-    let went = went-after request old x new _ mid refl (inr stage) reads c.delete.ensures.store.writes
+    let went = went-after request old x new _ mid c.requires.card refl (inr stage) reads c.delete.ensures.store.writes
     c.delete.ensures.by_gate in
     let compares = compared-none _ mid.facts new.facts c.delete.ensures.store.writes ∙ reads-compared old mid reads in
     subst (λ (r : Result Sw StoreErr). Serves request old x new x [] r)
@@ -80,7 +80,7 @@ returns-clause-serves g c =
     let reports = reports_then old mid new reads.reports c.delete.ensures.store.reports in
     let spends = c.delete.ensures.store.writes.writes in
     let spent = reads.board.writes in
-    let went = went-after request old x new _ mid refl (inr stage) reads c.delete.ensures.store.writes
+    let went = went-after request old x new _ mid c.requires.card refl (inr stage) reads c.delete.ensures.store.writes
     c.delete.ensures.by_gate in
     let compares = compared-none _ mid.facts new.facts c.delete.ensures.store.writes ∙ reads-compared old mid reads in
     let done = done-step m sized c.requires.card x c.args.subject c.in-Ok.file.number found.below found.used

@@ -3,7 +3,7 @@ use Rattle.std.proofs.Math.Logic.{⊎_map}
 use Rattle.std.proofs.lemmas.Result.{on_ok_weaker}
 use Rattle.undo_journal.specs.declared.layout.TheConstants.{JOURNAL}
 use Rattle.undo_journal.specs.Undo.{pair_at}
-use Rattle.nvm_board.specs.laws.Aims.{aims_then}
+use Rattle.nvm_board.specs.laws.Aims.{aims_kept, aims_stay, aims_then}
 use Rattle.undo_journal.proofs.Telling.{answered_err, answered_after, steady_then}
 use Rattle.undo_journal.proofs.journal.put_back.Goals as goal
 
@@ -49,7 +49,7 @@ returns-clause-writes g c =
     record {
       writes = omega (arith, cost.writes, second.writes, first.writes);
       more = omega (arith, cost.more, second.writes, first.writes);
-      cut = aims_then _ _ _ (aims_then _ _ _ first.cut second.cut) cost.cut;
+      cut = aims_then _ _ _ (aims_kept _ _ (aims_stay _ _ _ first.cut second.cut)) cost.cut;
       compares = cost.compares ∙ second.compares ∙ first.compares;
       matches = cost.matches ∙ second.matches ∙ first.matches;
     }
@@ -61,7 +61,7 @@ returns-in_err-earlier-clause-writes g c =
     record {
       writes = omega (arith, second.writes, first.writes);
       more = omega (arith, second.writes, first.writes);
-      cut = aims_then _ _ _ first.cut second.cut;
+      cut = aims_kept _ _ (aims_stay _ _ _ first.cut second.cut);
       compares = second.compares ∙ first.compares;
       matches = second.matches ∙ first.matches;
     }

@@ -1,5 +1,5 @@
 use Rattle.std.proofs.Common.{refl, sym, ◌∙◌, arith}
-use Rattle.nvm_board.specs.laws.Aims.{aims_then}
+use Rattle.nvm_board.specs.laws.Aims.{aims_kept, aims_then}
 use Rattle.undo_journal.proofs.Saving.{pair-torn, pair-sound, gate-torn, gate-sound, word-torn, word-current}
 use Rattle.undo_journal.proofs.Saving.{word-sound}
 use Rattle.undo_journal.proofs.Telling.{answered_err, answered_after, steady_then}
@@ -89,7 +89,7 @@ returns-in_err-write_pair-clause-writes g c =
     record {
       writes = omega (arith, pair.writes, read.writes);
       more = omega (arith, pair.more, read.writes);
-      cut = aims_then _ _ _ read.cut pair.cut;
+      cut = aims_then _ _ _ (aims_kept _ _ read.cut) pair.cut;
       compares = pair.compares ∙ read.compares;
       matches = pair.matches ∙ read.matches;
     }
@@ -102,7 +102,7 @@ returns-in_err-write_gate-clause-writes g c =
     record {
       writes = omega (arith, gate.writes, pair.writes, read.writes);
       more = omega (arith, gate.more, pair.more, read.writes);
-      cut = aims_then _ _ _ (aims_then _ _ _ read.cut pair.cut) gate.cut;
+      cut = aims_then _ _ _ (aims_then _ _ _ (aims_kept _ _ read.cut) pair.cut) gate.cut;
       compares = gate.compares ∙ pair.compares ∙ read.compares;
       matches = gate.matches ∙ pair.matches ∙ read.matches;
     }
@@ -116,7 +116,7 @@ returns-clause-writes g c =
     record {
       writes = omega (arith, word.writes, gate.writes, pair.writes, read.writes);
       more = omega (arith, word.more, gate.more, pair.more, read.writes);
-      cut = aims_then _ _ _ (aims_then _ _ _ (aims_then _ _ _ read.cut pair.cut) gate.cut) word.cut;
+      cut = aims_then _ _ _ (aims_then _ _ _ (aims_then _ _ _ (aims_kept _ _ read.cut) pair.cut) gate.cut) word.cut;
       compares = word.compares ∙ gate.compares ∙ pair.compares ∙ read.compares;
       matches = word.matches ∙ gate.matches ∙ pair.matches ∙ read.matches;
     }

@@ -36,9 +36,10 @@ returns-in-Ok g c =
     λ good. wears-shown COMMAND_WRITES (card_found c.in-On.powered.card) (card_found c.block.new.self.card)
     c.in-On.powered.card.facts c.block.new.self.card.facts
     (block-compares c.in-On.powered c.block.new.self (link_step c.in-On.powered.link c.args.block.now).reaction
-    c.in-Ok.ensures.stage c.in-Ok.ensures.compares) good.faults c.in-Ok.ensures.writes
-    c.in-Ok.ensures.advances.more c.in-Ok.ensures.advances.cut.cut in
-    rw (← old) (search (rules, lit, guesses, wears))
+    c.in-Ok.ensures.stage c.in-Ok.ensures.compares) good.faults c.in-Ok.ensures.writes in
+    let more = c.in-Ok.ensures.advances.more in
+    let cut = c.in-Ok.ensures.advances.cut.cut in
+    rw (← old) (search (rules, lit, guesses, wears, more, cut))
 
 pub invariant_of-self-in-Ok : goal.invariant_of-self-in-Ok
 invariant_of-self-in-Ok g c =

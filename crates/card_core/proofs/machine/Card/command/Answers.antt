@@ -1,5 +1,5 @@
 use Rattle.std.proofs.Common.{refl, ◌≡◌, ◌⊎◌, ◌+◌, ◌≤◌, OnOk, OnErr, sym, ◌∙◌, ap, subst, arith}
-use Rattle.nvm_board.specs.laws.Aims.{aims_same}
+use Rattle.nvm_board.specs.laws.Aims.{aim_same, aims_same}
 use Rattle.undo_journal.specs.Spending.{Advances, KeepsBoard}
 use Rattle.apdu_core.specs.Asked.{asked}
 use Rattle.card_core.specs.declared.card_state.CardState.{CardState}
@@ -143,7 +143,7 @@ pub returns-in-Failed-clause-stage : goal.returns-in-Failed-clause-stage
 returns-in-Failed-clause-stage g c = still-stage c.args.self.now c.args.command.now
 
 pub returns-in-Failed-clause-idle : goal.returns-in-Failed-clause-idle
-returns-in-Failed-clause-idle g c = λ nothing. record { cut = aims_same _; words = refl; writes = refl; compares = refl; matches = refl }
+returns-in-Failed-clause-idle g c = λ nothing. record { cut = aim_same _; words = refl; writes = refl; compares = refl; matches = refl }
 
 pub returns-in-Failed-clause-writes : goal.returns-in-Failed-clause-writes
 returns-in-Failed-clause-writes g c = omega arith
@@ -162,7 +162,7 @@ pub returns-in-Dark-clause-stage : goal.returns-in-Dark-clause-stage
 returns-in-Dark-clause-stage g c = still-stage c.args.self.now c.args.command.now
 
 pub returns-in-Dark-clause-idle : goal.returns-in-Dark-clause-idle
-returns-in-Dark-clause-idle g c = λ nothing. record { cut = aims_same _; words = refl; writes = refl; compares = refl; matches = refl }
+returns-in-Dark-clause-idle g c = λ nothing. record { cut = aim_same _; words = refl; writes = refl; compares = refl; matches = refl }
 
 pub returns-in-Dark-clause-writes : goal.returns-in-Dark-clause-writes
 returns-in-Dark-clause-writes g c = omega arith

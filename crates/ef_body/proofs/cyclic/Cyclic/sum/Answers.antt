@@ -1,4 +1,4 @@
-use Rattle.std.proofs.Common.{rules, List, ℕ, arith, ap, length, ◌∙◌}
+use Rattle.std.proofs.Common.{rules, List, ℕ, arith, ap, length, inl, inr, ◌∙◌}
 use Rattle.undo_journal.specs.Memory.{committed}
 use Rattle.ef_body.specs.Bodies.{cyclic_records}
 use Rattle.ef_body.proofs.Becoming.{length-cyclic, length-record}
@@ -72,3 +72,9 @@ read_record-requires g c =
 
 pub returns-then-not-has_record-clause-store : goal.returns-then-not-has_record-clause-store
 returns-then-not-has_record-clause-store g c = reads_none _ c.requires.ready
+
+pub returns-then-add-clause-buffer : goal.returns-then-add-clause-buffer
+returns-then-add-clause-buffer g c = inl (record { some = 0; is = c.clear-then-add.ensures })
+
+pub returns-clause-buffer : goal.returns-clause-buffer
+returns-clause-buffer g c = inr (returns-clause-bytes g c)

@@ -1,7 +1,7 @@
-use Rattle.std.proofs.Common.{◌<◌, List, ℕ, length, slice_set, refl, ap, ◌∙◌, arith}
+use Rattle.std.proofs.Common.{◌<◌, List, ℕ, length, slice_set, refl, sym, ap, subst, ◌∙◌, arith}
 use Rattle.std.proofs.Math.Logic.{⊎_map}
 use Rattle.undo_journal.specs.declared.layout.TheConstants.{GATE}
-use Rattle.undo_journal.specs.Undo.{gate, undo, data_words}
+use Rattle.undo_journal.specs.Undo.{gate, undo, data_words, IsSound}
 use Rattle.undo_journal.specs.Memory.{Memory, committed, current}
 use Rattle.undo_journal.proofs.Saving.{gate-shut}
 use Rattle.undo_journal.proofs.Lasting.{gate-commits, commit-sound, set-back}
@@ -28,6 +28,8 @@ invariant_of-self-2 g c =
 pub returns-clause-any_exit : goal.returns-clause-any_exit
 returns-clause-any_exit g c =
     let words = (g.B.Board.facts c.self.inside.board).words in
+    let works = c.in_ok-checked.ensures.ready.works in
+    let held = c.self.invariant.works (ap (λ (m : Memory). m.failed) c.self.view_is ∙ works) in
     let within : GATE < length words = omega (arith, g.met.B.Board.sized c.self.inside.board) in
     ⊎_map
     (λ old. ap (λ (l : List ℕ). data_words (undo l)) old ∙ ap committed c.self.view_is)
@@ -36,6 +38,8 @@ returns-clause-any_exit g c =
       record {
         shut = ap gate new ∙ gate-shut words within;
         pairs = gate words;
+        sound = subst IsSound (sym (ap (λ (l : List ℕ). slice_set l GATE (gate words)) new ∙ set-back words GATE 0 within))
+            held.sound;
         former = ap (λ (l : List ℕ). data_words (undo (slice_set l GATE (gate words)))) new
             ∙ ap (λ (l : List ℕ). data_words (undo l)) (set-back words GATE 0 within) ∙ ap committed c.self.view_is;
       },

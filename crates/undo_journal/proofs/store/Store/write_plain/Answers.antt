@@ -61,3 +61,8 @@ returns-clause-store g c =
 
 pub returns-clause-dark : goal.returns-clause-dark
 returns-clause-dark g c = on_dark _ _ c.noted.ensures.answer _ _ c.write-answer.ensures.light
+
+pub returns-clause-shut : goal.returns-clause-shut
+returns-clause-shut g c = λ shut.
+    run-gate _ _ c.self.view_is c.self.invariant c.in_ok-check.ensures.ready.works c.requires.idle
+    (address c.args.page c.args.first) c.args.words.now c.requires.place _ c.write-answer.ensures.torn
