@@ -12,6 +12,8 @@ MOST_KEPT = LONGEST_LINE + 2
 MOST_BYTES = {"apdu": 261, "block": 300}
 ORDERS = ("on", "off", "free", "apdu", "block", "cut", "lose", "garble")
 ORDERS_THAT_PRINT = ("on", "free", "apdu", "block")
+# how comments begin in other languages
+OTHER_COMMENTS = ("//", "/*", "--", ";", "%", "!", "'")
 DIGITS = re.compile(r"[0-9A-Fa-f]*")
 
 
@@ -83,6 +85,8 @@ def of_words(text):
     if order not in ORDERS:
         if order.lower() in ORDERS:
             return f"upper case: the order is {order.lower()}"
+        if order.startswith(OTHER_COMMENTS):
+            return "a comment begins with #"
         if len(text) >= 4 and DIGITS.fullmatch("".join(text.split(" "))):
             return "no order stands before the digits: is apdu meant?"
         near = difflib.get_close_matches(order, ORDERS, 1, 0.75)
@@ -113,14 +117,14 @@ def fault(line, number, has_line_feed):
     if not has_line_feed and line.endswith(b"\r") and len(line) <= LONGEST_LINE + 1:
         if not line.startswith(b"#") or len(line) > LONGEST_LINE:
             return "it ends with a carriage return and no line feed: only before a line feed is it dropped"
+    if said := of_the_file(line, number):
+        return said
     line = line[:-1] if has_line_feed and line.endswith(b"\r") else line
     if len(line) > LONGEST_LINE:
         many = len(line) if len(line) < MOST_KEPT or has_line_feed else f"more than {LONGEST_LINE}"
         return f"it has {many} bytes: a line has at most {LONGEST_LINE}"
     if not line or line.startswith(b"#"):
         return None
-    if said := of_the_file(line, number):
-        return said
     if b"\t" in line:
         return "it has a tab: words are parted by one space"
     if b"\r" in line:
