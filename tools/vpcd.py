@@ -1,0 +1,75 @@
+"""Plays vpcd, the driver of a virtual reader, towards tools/pcsc: a loopback socket that the bridge connects to.
+
+As vpcd does, it sends a message's length and its bytes apart, and leaves the system's way to put small packets together as it is."""
+import socket
+import subprocess
+import sys
+from pathlib import Path
+
+BRIDGE = Path(__file__).resolve().parent / "pcsc"
+POWER_OFF, POWER_ON, RESET, ANSWER_TO_RESET = b"\0", b"\1", b"\2", b"\4"
+# seconds after which what doesn't come is missed
+PATIENCE = 20
+
+
+def start(*words, **more):
+    """A bridge with these words on its command line, and its standard error to be read."""
+    return subprocess.Popen([sys.executable, BRIDGE, *map(str, words)], stderr=subprocess.PIPE, text=True, **more)
+
+
+class Reader:
+    """A reader of one slot."""
+
+    def __init__(self):
+        self.listener = socket.create_server(("127.0.0.1", 0))
+        self.listener.settimeout(PATIENCE)
+        self.port = self.listener.getsockname()[1]
+        self.card = None
+
+    def wait(self):
+        """Waits until a card is put in."""
+        self.card, _ = self.listener.accept()
+        self.card.settimeout(PATIENCE)
+
+    def send(self, message):
+        """Sends a message."""
+        self.card.sendall(len(message).to_bytes(2, "big"))
+        if message:
+            self.card.sendall(message)
+
+    def receive(self):
+        """The next message; None where the card is gone."""
+        head = self.exactly(2)
+        return None if head is None else self.exactly(int.from_bytes(head, "big"))
+
+    def exactly(self, count):
+        """So many bytes, or None where the connection has ended."""
+        data = b""
+        while len(data) < count:
+            try:
+                part = self.card.recv(count - len(data))
+            except ConnectionError:
+                part = b""
+            if not part:
+                return None
+            data += part
+        return data
+
+    def ask(self, message):
+        """Sends a message and gives its answer as digits; "gone" where the card is."""
+        try:
+            self.send(message)
+        except ConnectionError:
+            return "gone"
+        answer = self.receive()
+        return "gone" if answer is None else answer.hex().upper()
+
+    def command(self, digits):
+        """The answer to a command."""
+        return self.ask(bytes.fromhex(digits))
+
+    def close(self):
+        """Ends the reader: a card is no longer served."""
+        if self.card:
+            self.card.close()
+        self.listener.close()
