@@ -1,7 +1,7 @@
 """A few words for what a script's line asks of the card and what it prints, by the table in words/card.table.
 
-They help a person to read a log; what the card does is in docs/CARD.md. Which file is current is followed by the answers alone, as
-a reader of the log would."""
+They help a person to read a log; what the card does is in docs/CARD.md. Which file is current is followed by the
+answers alone, as a reader of the log would."""
 from pathlib import Path
 
 TABLE = Path(__file__).resolve().parent / "words" / "card.table"
@@ -140,7 +140,8 @@ class Log:
             return [count(len(it.data), "byte")]
         if it.key == "00A2":
             way = "backward" if it.p2 & 7 == 5 else "forward"
-            return [f"{way} from {f'record {it.p1}' if it.p1 else 'the current record'}", f"text {it.data.hex().upper()}"]
+            begin = f"record {it.p1}" if it.p1 else "the current record"
+            return [f"{way} from {begin}", f"text {it.data.hex().upper()}"]
         if it.key == "8032":
             return [f"by {it.data.hex().upper()}"]
         if it.key == "00E0":

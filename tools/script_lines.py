@@ -1,8 +1,8 @@
 """The lines of a script: which are of the language, and what is wrong with the others.
 
-docs/SCRIPT.md says the rules, and the program alone decides what is run. What stands here tells people why a line was refused
-(tools/bad-line), skips such lines before the program meets them (tools/good-lines), and knows what a line is about
-(tools/explain). tools/test-bench compares it with the program."""
+docs/SCRIPT.md says the rules, and the program alone decides what is run. What stands here tells people why a line was
+refused (tools/bad-line), skips such lines before the program meets them (tools/good-lines), and knows what a line is
+about (tools/explain). tools/test-bench compares it with the program."""
 import difflib
 import re
 
@@ -112,8 +112,8 @@ def of_the_file(line, number):
 
 
 def fault(line, number, has_line_feed):
-    """Why the line, without its line feed, is none of the language; None where it is one. Of a line of more than MOST_KEPT bytes
-    the first ones are enough."""
+    """Why the line, without its line feed, is none of the language; None where it is one. Of a line of more than
+    MOST_KEPT bytes the first ones are enough."""
     if not has_line_feed and line.endswith(b"\r") and len(line) <= LONGEST_LINE + 1:
         if not line.startswith(b"#") or len(line) > LONGEST_LINE:
             return "it ends with a carriage return and no line feed: only before a line feed is it dropped"
@@ -139,8 +139,8 @@ def fault(line, number, has_line_feed):
 
 
 def lines_of(stream):
-    """The lines of a script as they come: their number, at most MOST_KEPT of their bytes, and whether a line feed ended them. A
-    longer line is given at once, and the rest of it is passed over."""
+    """The lines of a script as they come: their number, at most MOST_KEPT of their bytes, and whether a line feed
+    ended them. A longer line is given at once, and the rest of it is passed over."""
     number = 0
     while line := stream.readline(MOST_KEPT):
         number += 1

@@ -1,6 +1,7 @@
 """Plays vpcd, the driver of a virtual reader, towards tools/pcsc: a loopback socket that the bridge connects to.
 
-As vpcd does, it sends a message's length and its bytes apart, and leaves the system's way to put small packets together as it is."""
+As vpcd does, it sends a message's length and its bytes apart, and leaves the system's way to put small packets
+together as it is."""
 import socket
 import subprocess
 import sys
