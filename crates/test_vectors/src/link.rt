@@ -1,8 +1,8 @@
-//! The reader's end of the block protocol T=1 (ISO/IEC 7816-3, third edition, clause 11), and blocks of many bytes to both
-//! ends. What the card's end answers stands in rows.
+//! The reader's end of the block protocol T=1 (ISO/IEC 7816-3, third edition, clause 11). What the card's end answers stands
+//! in rows, and what both say to every kind of block in `blocks`.
 
 use std::process::Abort;
-use t1_link::{Action, BlockBytes, CardEnd, Failure, Next, ReaderEnd};
+use t1_link::{Failure, Next, ReaderEnd};
 
 // What the reader's end is told.
 #[derive(Clone, Copy)]
@@ -220,47 +220,4 @@ fn longest_command_goes_in_a_chain(rt: HostRuntime) {
         &mut reader,
         (Event::Got, b"\x00\x90\x00\x90", Says::Block, rest),
     );
-}
-
-/// Whether both ends take a block, whatever its bytes.
-fn is_taken(block: &[u8]) -> bool {
-    let mut out = BlockBytes::new();
-    let mut card = CardEnd::new();
-    let is_right = match card.take(block, &mut out) {
-        Action::Reply => 4 <= out.as_slice().len(),
-        Action::Run => card.waiting(),
-    };
-    let mut reader = ReaderEnd::new();
-    let _ = reader.send(&[0x00, 0xA4, 0x00, 0x0C]);
-    if !reader.busy() {
-        return false;
-    }
-    let next = reader.got(block);
-    is_right && reader.busy() == matches!(next, Next::Send(_))
-}
-
-/// Whether both ends take this block, and the same with its right last byte.
-fn is_taken_spoiled(block: &mut [u8], spoils: u8) -> bool {
-    let is_right = is_taken(block);
-    if let Some(last) = block.last_mut() {
-        *last ^= spoils;
-    }
-    is_right && is_taken(block)
-}
-
-const LENGTHS: &[usize] = &[0, 1, 2, 3, 4, 5, 6, 35, 36, 37, 257, 258, 259, 300];
-
-#[test]
-fn blocks_of_many_lengths_are_taken(rt: HostRuntime) {
-    for &length in LENGTHS {
-        let right = u8::try_from(length.saturating_sub(4)).unwrap_or(0xFF);
-        for control in 0..=255 {
-            for len in [0x00, 0x01, 0xFE, 0xFF, right] {
-                let mut bytes = [0x00; 300];
-                bytes[1] = control;
-                bytes[2] = len;
-                assert!(rt; is_taken_spoiled(&mut bytes[..length], control ^ len));
-            }
-        }
-    }
 }

@@ -1,0 +1,647 @@
+//! Blocks of every length and kind to both ends of the block protocol T=1 (ISO/IEC 7816-3, third edition, clause 11). What
+//! an end answers is told by the table of its reactions, which stands here once more, as plain code.
+
+use std::process::Abort;
+use t1_link::{Action, AnswerBytes, BlockBytes, CardEnd, Failure, Next, ReaderEnd};
+
+/// What bytes are as a block. Of several faults the first counts.
+#[derive(Clone, Copy)]
+enum Heard {
+    WrongLength,
+    WrongCheck,
+    /// Another node address, a control byte of no kind, or a length or value that its kind doesn't have.
+    Unknown,
+    Information { number: u8, more: bool },
+    ReceiveReady { number: u8 },
+    ResynchRequest,
+    ResynchResponse,
+    IfsRequest { size: u8 },
+    IfsResponse,
+}
+
+/// The exclusive-or of all bytes.
+fn exclusive_or(bytes: &[u8]) -> u8 {
+    let mut check = 0;
+    for byte in bytes {
+        check ^= *byte;
+    }
+    check
+}
+
+/// What these bytes are.
+fn block_heard(block: &[u8]) -> Heard {
+    let [node, control, size, rest @ ..] = block else {
+        return Heard::WrongLength;
+    };
+    if *size == 0xFF || rest.len() != usize::from(*size) + 1 {
+        Heard::WrongLength
+    } else if exclusive_or(block) != 0 {
+        Heard::WrongCheck
+    } else if *node != 0x00 {
+        Heard::Unknown
+    } else {
+        kind_of(*control, *size, rest)
+    }
+}
+
+/// The kind of a block with this control byte and this many bytes, which the rest begins with.
+fn kind_of(control: u8, size: u8, rest: &[u8]) -> Heard {
+    match (control, size, rest) {
+        (0x00 | 0x20 | 0x40 | 0x60, _, _) => Heard::Information {
+            number: (control & 0x40) / 0x40,
+            more: control & 0x20 != 0,
+        },
+        (0x80 | 0x81 | 0x82, 0, _) => Heard::ReceiveReady { number: 0 },
+        (0x90 | 0x91 | 0x92, 0, _) => Heard::ReceiveReady { number: 1 },
+        (0xC0, 0, _) => Heard::ResynchRequest,
+        (0xE0, 0, _) => Heard::ResynchResponse,
+        (0xC1, 1, [size @ 0x01..=0xFE, ..]) => Heard::IfsRequest { size: *size },
+        (0xE1, 1, [0x01..=0xFE, ..]) => Heard::IfsResponse,
+        _ => Heard::Unknown,
+    }
+}
+
+/// An I-block that an end sent.
+#[derive(Clone, Copy)]
+struct Sent {
+    number: u8,
+    more: bool,
+    field: &'static [u8],
+}
+
+/// A block that an end is to send: its control byte, and the bytes that it carries.
+#[derive(Clone, Copy)]
+struct Wanted {
+    control: u8,
+    field: &'static [u8],
+}
+
+impl Sent {
+    /// The block, once more.
+    fn block(self) -> Wanted {
+        Wanted {
+            control: if self.number == 0 { 0x00 } else { 0x40 }
+                | if self.more { 0x20 } else { 0x00 },
+            field: self.field,
+        }
+    }
+}
+
+/// The numbers of I-blocks are 0 and 1 in turn.
+fn other(number: u8) -> u8 {
+    if number == 0 { 1 } else { 0 }
+}
+
+// What R-blocks tell of the block that they answer: no error, a wrong exclusive-or, any other error.
+const NO_ERROR: u8 = 0;
+
+const REDUNDANCY: u8 = 1;
+
+const OTHER_ERROR: u8 = 2;
+
+/// An R-block that expects this number.
+fn receive_ready(number: u8, error: u8) -> Wanted {
+    Wanted {
+        control: if number == 0 { 0x80 } else { 0x90 } | error,
+        field: &[],
+    }
+}
+
+const ANSWER: &[u8] = &[0x3C; 70];
+
+/// The state of the card's end.
+#[derive(Clone, Copy)]
+struct CardTable {
+    /// The number of the next I-block that it sends, and of the one that it expects.
+    next: u8,
+    expected: u8,
+    /// The size of information field that the reader takes.
+    size: u8,
+    last: Option<Sent>,
+    /// What of the answer isn't sent.
+    rest: &'static [u8],
+    /// How many bytes of a command came.
+    kept: usize,
+}
+
+/// What the card's end does with a block.
+#[derive(Clone, Copy)]
+enum CardDoes {
+    Sends(Wanted),
+    TellsSize(u8),
+    Runs,
+}
+
+const CARD_FRESH: CardTable = CardTable {
+    next: 0,
+    expected: 0,
+    size: 32,
+    last: None,
+    rest: &[],
+    kept: 0,
+};
+
+impl CardTable {
+    /// A block comes, with so many bytes.
+    fn takes(&mut self, heard: Heard, field: usize) -> CardDoes {
+        match heard {
+            Heard::WrongLength | Heard::Unknown => self.asks(OTHER_ERROR),
+            Heard::ResynchResponse | Heard::IfsResponse => self.asks(OTHER_ERROR),
+            Heard::WrongCheck => self.asks(REDUNDANCY),
+            Heard::ResynchRequest => {
+                *self = CARD_FRESH;
+                CardDoes::Sends(Wanted {
+                    control: 0xE0,
+                    field: &[],
+                })
+            }
+            Heard::IfsRequest { size } => {
+                self.size = size;
+                CardDoes::TellsSize(size)
+            }
+            Heard::ReceiveReady { number } => self.takes_receive_ready(number),
+            Heard::Information { number, more } => self.takes_information(number, more, field),
+        }
+    }
+
+    /// An R-block with the number that is expected.
+    fn asks(&self, error: u8) -> CardDoes {
+        CardDoes::Sends(receive_ready(self.expected, error))
+    }
+
+    /// An R-block: the last I-block is sent again, or the next one, or nothing is left to send.
+    fn takes_receive_ready(&mut self, number: u8) -> CardDoes {
+        match self.last {
+            Some(last) if last.number == number => CardDoes::Sends(last.block()),
+            Some(last) if last.more => CardDoes::Sends(self.sends_next()),
+            _ => self.asks(NO_ERROR),
+        }
+    }
+
+    /// An I-block: a part of a command, or its end, unless an answer is on its way or the number is another.
+    fn takes_information(&mut self, number: u8, more: bool, field: usize) -> CardDoes {
+        if self.last.is_some_and(|last| last.more) || number != self.expected {
+            return self.asks(OTHER_ERROR);
+        }
+        self.kept = self.kept.saturating_add(field);
+        self.expected = other(self.expected);
+        if more {
+            self.asks(NO_ERROR)
+        } else {
+            CardDoes::Runs
+        }
+    }
+
+    /// The command was run: the first I-block of its answer.
+    fn answers(&mut self) -> Wanted {
+        self.kept = 0;
+        self.rest = ANSWER;
+        self.sends_next()
+    }
+
+    /// The next I-block of the answer, of as many bytes as the reader takes.
+    fn sends_next(&mut self) -> Wanted {
+        let (field, rest) = self
+            .rest
+            .split_at(self.rest.len().min(usize::from(self.size)));
+        let sent = Sent {
+            number: self.next,
+            more: !rest.is_empty(),
+            field,
+        };
+        self.rest = rest;
+        self.next = other(self.next);
+        self.last = Some(sent);
+        sent.block()
+    }
+}
+
+/// Whether bytes are this block.
+fn is_block(bytes: &[u8], wanted: Wanted) -> bool {
+    match bytes {
+        [0x00, control, size, rest @ ..] => {
+            *control == wanted.control
+                && usize::from(*size) == wanted.field.len()
+                && rest.len() == wanted.field.len() + 1
+                && rest.starts_with(wanted.field)
+                && exclusive_or(bytes) == 0
+        }
+        _ => false,
+    }
+}
+
+/// A card's end, and its state by the table.
+#[derive(Drop)]
+struct Card {
+    end: CardEnd,
+    table: CardTable,
+    out: BlockBytes,
+}
+
+impl Card {
+    /// The end after power-on.
+    fn new() -> Card {
+        Card {
+            end: CardEnd::new(),
+            table: CARD_FRESH,
+            out: BlockBytes::new(),
+        }
+    }
+
+    /// Whether a block is answered as the table says.
+    fn is_right(&mut self, block: &[u8]) -> bool {
+        if self.end.waiting() {
+            return false;
+        }
+        let field = field_of(block);
+        let wanted = self.table.takes(block_heard(block), field.len());
+        let action = self.end.take(block, &mut self.out);
+        match (action, wanted) {
+            (Action::Reply, CardDoes::Sends(wanted)) => is_block(self.out.as_slice(), wanted),
+            (Action::Reply, CardDoes::TellsSize(size)) => {
+                self.out.as_slice() == [0x00, 0xE1, 0x01, size, 0xE0 ^ size].as_slice()
+            }
+            (Action::Run, CardDoes::Runs) => self.is_run(field) && self.is_answered(),
+            _ => false,
+        }
+    }
+
+    /// Whether a command is to be run that ends with these bytes, of which 262 are kept.
+    fn is_run(&self, field: &[u8]) -> bool {
+        self.end.waiting()
+            && self.end.command().len() == self.table.kept.min(262)
+            && (self.table.kept > 262 || self.end.command().ends_with(field))
+    }
+
+    /// Whether the first block of the answer is right.
+    fn is_answered(&mut self) -> bool {
+        let mut answer = AnswerBytes::new();
+        if !self.end.waiting() || answer.try_extend_from_slice(ANSWER).is_err() {
+            return false;
+        }
+        self.end.answer(&answer, &mut self.out);
+        is_block(self.out.as_slice(), self.table.answers())
+    }
+}
+
+const COMMAND: &[u8] = &[0x5A; 261];
+
+/// The state of the reader's end that has a command in hand.
+#[derive(Clone, Copy)]
+struct ReaderTable {
+    /// The number of the next I-block that it sends, and of the one that it expects.
+    next: u8,
+    expected: u8,
+    tries: u8,
+    /// How often RESYNCH was requested.
+    requests: u8,
+    last: Sent,
+    /// What of the command isn't sent.
+    rest: &'static [u8],
+    /// How many bytes of the answer came.
+    came: usize,
+}
+
+/// What the reader's end says to a block.
+#[derive(Clone, Copy)]
+enum ReaderSays {
+    Sends(Wanted),
+    /// The command was answered, with so many bytes.
+    Done(usize),
+    Unknown,
+    Failed(Failure),
+}
+
+impl ReaderTable {
+    /// After power-on and this command.
+    fn new(command: &'static [u8]) -> ReaderTable {
+        let mut table = ReaderTable {
+            next: 0,
+            expected: 0,
+            tries: 0,
+            requests: 0,
+            last: Sent {
+                number: 0,
+                more: false,
+                field: &[],
+            },
+            rest: command,
+            came: 0,
+        };
+        table.sends_next();
+        table
+    }
+
+    /// The next I-block of the command, of 254 bytes.
+    fn sends_next(&mut self) -> ReaderSays {
+        let (field, rest) = self.rest.split_at(self.rest.len().min(254));
+        self.last = Sent {
+            number: self.next,
+            more: !rest.is_empty(),
+            field,
+        };
+        self.rest = rest;
+        self.next = other(self.next);
+        self.tries = 0;
+        ReaderSays::Sends(self.last.block())
+    }
+
+    /// A block comes, with so many bytes.
+    fn gets(&mut self, heard: Heard, field: usize) -> ReaderSays {
+        if self.requests > 0 {
+            return self.gets_after_request(heard);
+        }
+        match heard {
+            Heard::WrongCheck => self.asks(REDUNDANCY),
+            Heard::ReceiveReady { number } => self.gets_receive_ready(number),
+            Heard::Information { number, more } => self.gets_information(number, more, field),
+            _ => self.asks(OTHER_ERROR),
+        }
+    }
+
+    /// What comes after a request for RESYNCH: it is answered, or requested again, three times in all.
+    fn gets_after_request(&mut self, heard: Heard) -> ReaderSays {
+        match heard {
+            Heard::ResynchResponse => ReaderSays::Unknown,
+            _ if self.requests >= 3 => ReaderSays::Failed(Failure::LinkLost),
+            _ => self.requests_resynch(),
+        }
+    }
+
+    /// A request for RESYNCH.
+    fn requests_resynch(&mut self) -> ReaderSays {
+        self.requests = self.requests.saturating_add(1);
+        ReaderSays::Sends(Wanted {
+            control: 0xC0,
+            field: &[],
+        })
+    }
+
+    /// A block is sent as a try, of which there are three.
+    fn tries(&mut self, wanted: Wanted) -> ReaderSays {
+        if self.tries >= 3 {
+            return self.requests_resynch();
+        }
+        self.tries += 1;
+        ReaderSays::Sends(wanted)
+    }
+
+    /// An R-block with the number that is expected, as a try.
+    fn asks(&mut self, error: u8) -> ReaderSays {
+        self.tries(receive_ready(self.expected, error))
+    }
+
+    /// An R-block: the last I-block is sent again, or the next one, or the answer is asked for.
+    fn gets_receive_ready(&mut self, number: u8) -> ReaderSays {
+        if number == self.last.number {
+            self.tries(self.last.block())
+        } else if self.last.more {
+            self.sends_next()
+        } else {
+            self.asks(OTHER_ERROR)
+        }
+    }
+
+    /// An I-block: a part of the answer, or its end, unless the command isn't sent whole or the number is another.
+    fn gets_information(&mut self, number: u8, more: bool, field: usize) -> ReaderSays {
+        if self.last.more || number != self.expected {
+            return self.asks(OTHER_ERROR);
+        }
+        self.came = self.came.saturating_add(field);
+        self.expected = other(self.expected);
+        if self.came > 258 || !more && self.came < 2 {
+            return ReaderSays::Failed(Failure::BadAnswer);
+        }
+        if !more {
+            return ReaderSays::Done(self.came);
+        }
+        self.tries = 0;
+        ReaderSays::Sends(receive_ready(self.expected, NO_ERROR))
+    }
+}
+
+/// The bytes that a block carries, where it is one.
+fn field_of(block: &[u8]) -> &[u8] {
+    block.get(3..block.len().saturating_sub(1)).unwrap_or(&[])
+}
+
+/// A reader's end, and its state by the table.
+#[derive(Drop)]
+struct Reader {
+    end: ReaderEnd,
+    table: ReaderTable,
+}
+
+impl Reader {
+    /// The end after power-on and this command, of 1 to 261 bytes.
+    fn new(command: &'static [u8]) -> Option<Reader> {
+        if command.is_empty() || command.len() > 261 {
+            return None;
+        }
+        let mut end = ReaderEnd::new();
+        let _ = end.send(command);
+        Some(Reader {
+            end,
+            table: ReaderTable::new(command),
+        })
+    }
+
+    /// Whether a block has the end say what the table says.
+    fn is_right(&mut self, block: &[u8]) -> bool {
+        if !self.end.busy() {
+            return false;
+        }
+        let field = field_of(block);
+        let wanted = self.table.gets(block_heard(block), field.len());
+        match (self.end.got(block), wanted) {
+            (Next::Send(block), ReaderSays::Sends(wanted)) => is_block(block.as_slice(), wanted),
+            (Next::Done(answer), ReaderSays::Done(size)) => {
+                answer.len() == size && answer.ends_with(field)
+            }
+            (Next::Unknown, ReaderSays::Unknown) => true,
+            (Next::Failed(Failure::LinkLost), ReaderSays::Failed(Failure::LinkLost)) => true,
+            (Next::Failed(Failure::BadAnswer), ReaderSays::Failed(Failure::BadAnswer)) => true,
+            _ => false,
+        }
+    }
+}
+
+// READ BINARY of a byte of 2FE2 in an I-block, and R-blocks that expect number 0 and 1.
+const READ: &[u8] = b"\x00\x00\x05\x00\xB0\x82\x00\x01\x36";
+
+const READ_AGAIN: &[u8] = b"\x00\x40\x05\x00\xB0\x82\x00\x01\x76";
+
+const READY_0: &[u8] = b"\x00\x80\x00\x80";
+
+const READY_1: &[u8] = b"\x00\x90\x00\x90";
+
+// The reader takes 254 bytes.
+const LARGEST_SIZE: &[u8] = b"\x00\xC1\x01\xFE\x3E";
+
+/// An I-block of 254 bytes, with number 0, that more blocks follow.
+fn longest_begin() -> [u8; 258] {
+    let mut block = [0x5A; 258];
+    block[0] = 0x00;
+    block[1] = 0x20;
+    block[2] = 0xFE;
+    block[257] = 0x20 ^ 0xFE;
+    block
+}
+
+/// The card's end after power-on and these blocks, if it took each as the table says.
+fn card_after(before: &[&[u8]]) -> Option<Card> {
+    let mut card = Card::new();
+    for block in before {
+        if !card.is_right(block) {
+            return None;
+        }
+    }
+    Some(card)
+}
+
+/// The reader's end after power-on, this command and these blocks, if it took each as the table says.
+fn reader_after(command: &'static [u8], before: &[&[u8]]) -> Option<Reader> {
+    let mut reader = Reader::new(command)?;
+    for block in before {
+        if !reader.is_right(block) {
+            return None;
+        }
+    }
+    Some(reader)
+}
+
+/// Whether both ends take a block as their tables say, after power-on and a short command.
+fn is_right_at_first(block: &[u8]) -> bool {
+    Card::new().is_right(block)
+        && Reader::new(&COMMAND[..5]).is_some_and(|mut reader| reader.is_right(block))
+}
+
+/// Whether the card's end does after other blocks, and then takes R-blocks so, which show its state.
+fn is_right_card(before: &[&[u8]], block: &[u8]) -> bool {
+    card_after(before).is_some_and(|mut card| {
+        card.is_right(block) && card.is_right(READY_0) && card.is_right(READY_1)
+    })
+}
+
+/// Whether the reader's end does, unless it has no command in hand any more.
+fn is_right_reader(command: &'static [u8], before: &[&[u8]], block: &[u8]) -> bool {
+    reader_after(command, before).is_some_and(|mut reader| {
+        reader.is_right(block)
+            && (!reader.end.busy() || reader.is_right(READY_0))
+            && (!reader.end.busy() || reader.is_right(READY_1))
+    })
+}
+
+/// Whether the card's end takes a block as its table says in each of these states.
+fn is_right_to_card(block: &[u8]) -> bool {
+    let begin = longest_begin();
+    let states: [&[&[u8]]; 6] = [
+        &[],
+        // The first of three blocks of an answer was sent; all were; another was sent in one block.
+        &[READ],
+        &[READ, READY_1, READY_0],
+        &[LARGEST_SIZE, READ],
+        // A command was begun. Two were answered.
+        &[&begin],
+        &[LARGEST_SIZE, READ, READ_AGAIN],
+    ];
+    states.iter().all(|before| is_right_card(before, block))
+}
+
+/// Whether the reader's end does.
+fn is_right_to_reader(block: &[u8]) -> bool {
+    let begin = longest_begin();
+    let states: [(&'static [u8], &[&[u8]]); 8] = [
+        (&COMMAND[..5], &[]),
+        // The first block of a long command was sent, and the second.
+        (COMMAND, &[]),
+        (COMMAND, &[READY_1]),
+        // An answer was begun.
+        (&COMMAND[..5], &[&begin]),
+        (COMMAND, &[READY_1, &begin]),
+        // Three tries were needed, and one and three requests for RESYNCH.
+        (&COMMAND[..5], &[&[], &[], &[]]),
+        (&COMMAND[..5], &[&[], &[], &[], &[]]),
+        (&COMMAND[..5], &[&[], &[], &[], &[], &[], &[]]),
+    ];
+    states.iter().all(|(command, before)| is_right_reader(command, before, block))
+}
+
+/// Which ends take a block, and in which of their states.
+#[derive(Clone, Copy)]
+enum Taken {
+    ByBothAtFirst,
+    ByCard,
+    ByReader,
+}
+
+impl Taken {
+    /// Whether they take it as their tables say.
+    fn is_right(self, block: &[u8]) -> bool {
+        match self {
+            Taken::ByBothAtFirst => is_right_at_first(block),
+            Taken::ByCard => is_right_to_card(block),
+            Taken::ByReader => is_right_to_reader(block),
+        }
+    }
+}
+
+/// A block, and the same with another check byte, is taken rightly.
+fn check_block<R: Abort>(rt: &R, block: &mut [u8], taken: Taken) {
+    let check = exclusive_or(block);
+    for spoils in [check, 0x01] {
+        if let Some(last) = block.last_mut() {
+            *last ^= spoils;
+        }
+        assert!(rt; taken.is_right(block), "when {block:?} comes");
+    }
+}
+
+/// A block with this control byte and this length byte.
+fn bytes_of(control: u8, size: u8) -> [u8; 300] {
+    let mut bytes = [0x5A; 300];
+    bytes[0] = 0x00;
+    bytes[1] = control;
+    bytes[2] = size;
+    bytes
+}
+
+/// Blocks of so many bytes, with each control byte and with these length bytes.
+fn check_length<R: Abort>(rt: &R, length: usize, sizes: &[u8], taken: Taken) {
+    for control in 0x00..=0xFF {
+        for &size in sizes {
+            let mut bytes = bytes_of(control, size);
+            check_block(rt, &mut bytes[..length.min(300)], taken);
+        }
+    }
+}
+
+/// Each control byte, with lengths that are right and wrong.
+#[test]
+fn blocks_of_all_lengths_are_taken(rt: HostRuntime) {
+    for length in 0..=300 {
+        check_length(&rt, length, &[0x00, 0x01, 0xFE, 0xFF], Taken::ByBothAtFirst);
+    }
+}
+
+// Blocks that carry no byte, one, two and the most, and their length bytes.
+const LENGTHS: &[(usize, u8)] = &[(4, 0x00), (5, 0x01), (6, 0x02), (258, 0xFE)];
+
+#[test]
+fn blocks_are_taken_in_each_state(rt: HostRuntime) {
+    for &(length, size) in LENGTHS {
+        check_length(&rt, length, &[size], Taken::ByCard);
+        check_length(&rt, length, &[size], Taken::ByReader);
+    }
+}
+
+/// The size that an S-block tells is 01 to FE.
+#[test]
+fn sizes_of_all_values_are_taken(rt: HostRuntime) {
+    for size in 0x00..=0xFF {
+        for control in [0xC1, 0xE1] {
+            let block = [0x00, control, 0x01, size, 0x01 ^ control ^ size];
+            assert!(rt; is_right_at_first(&block), "when {block:?} comes");
+        }
+    }
+}
