@@ -1,5 +1,5 @@
-//! Blocks of every length and kind to both ends of the block protocol T=1 (ISO/IEC 7816-3, third edition, clause 11). What
-//! an end answers is told by the table of its reactions, which stands here once more, as plain code.
+//! Blocks of every length and kind to both ends of the block protocol T=1 (ISO/IEC 7816-3, third edition, clause 11).
+//! What an end answers is told by the table of its reactions, which stands here once more, as plain code.
 
 use std::process::Abort;
 use t1_link::{Action, AnswerBytes, BlockBytes, CardEnd, Failure, Next, ReaderEnd};

@@ -13,7 +13,7 @@ use std::test::Fail;
 type Exchange = (&'static str, &'static str);
 
 /// A block that carries these bytes.
-fn framed(alloc: Global, control: u8, digits: &str) -> Result<Vec<u8>, Fail> {
+pub fn framed(alloc: Global, control: u8, digits: &str) -> Result<Vec<u8>, Fail> {
     let bytes = hex::decode(alloc, digits)?;
     let mut block = Vec::from_array(alloc, [0x00, control])?;
     block.push(u8::try_from(bytes.len())?)?;
@@ -27,7 +27,7 @@ fn framed(alloc: Global, control: u8, digits: &str) -> Result<Vec<u8>, Fail> {
 }
 
 /// Whether the card's end sent this block.
-fn is_reply(trace: &[Item; 1], wanted: &[u8]) -> bool {
+pub fn is_reply(trace: &[Item; 1], wanted: &[u8]) -> bool {
     match trace {
         [Item::Reply(block)] => block.as_slice() == wanted,
         _ => false,

@@ -9,6 +9,8 @@ mod boards;
 #[cfg(test)]
 mod cards;
 #[cfg(test)]
+mod chains;
+#[cfg(test)]
 mod commands;
 #[cfg(test)]
 mod cuts;

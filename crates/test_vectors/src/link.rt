@@ -1,5 +1,5 @@
-//! The reader's end of the block protocol T=1 (ISO/IEC 7816-3, third edition, clause 11). What the card's end answers stands
-//! in rows, and what both say to every kind of block in `blocks`.
+//! The reader's end of the block protocol T=1 (ISO/IEC 7816-3, third edition, clause 11). What the card's end answers
+//! stands in rows, and what both say to every kind of block in `blocks`.
 
 use std::process::Abort;
 use t1_link::{Failure, Next, ReaderEnd};
