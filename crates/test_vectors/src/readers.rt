@@ -1,6 +1,7 @@
-//! Lines of scripts at the limit of their length, readers that never end or fail, and writers that take little or fail.
+//! Lines of scripts at the limit of their length, readers that never end or fail once, and writers that take little or
+//! fail once.
 
-use crate::scripts::{ends_so, status_of};
+use crate::scripts::{ends_so, outcome_of, status_of};
 use card_bench::run;
 use std::alloc::Global;
 use std::io::{self, BufRead, Error, ErrorKind, Read, Write};
@@ -100,6 +101,105 @@ fn failing_reader(rt: HostRuntime) {
     assert!(rt; is_bad && fails_so(rt.alloc(), begun, "atr 3B808131FE458B\n", 3));
 }
 
+// A script, and what each of its lines prints.
+const LINES: &[(&str, &str)] = &[
+    ("on\n", "atr 3B808131FE458B\n"),
+    ("# Select the master file.\n", ""),
+    ("apdu 00A4000C023F00\r\n", "< 9000\n"),
+    ("free\n", "free 895 62\n"),
+    ("off", ""),
+];
+
+/// The script, and what it prints where so many bytes of it are read: what its whole lines do.
+fn script_and_text(alloc: Global, read: usize) -> Result<(String, String), Fail> {
+    let mut script = String::new(alloc);
+    let mut text = String::new(alloc);
+    for &(line, printed) in LINES {
+        script.push_str(line)?;
+        if line.ends_with('\n') && script.len() <= read {
+            text.push_str(printed)?;
+        }
+    }
+    Ok((script, text))
+}
+
+/// A script that is given in pieces. One read of it fails, and what follows would not.
+#[derive(Drop)]
+struct Broken<'a> {
+    rest: &'a [u8],
+    piece: usize,
+    given: usize,
+    reads: usize,
+    fails_at: usize,
+}
+
+/// Only its buffer is looked at.
+impl Read for Broken<'_> {
+    fn read(&mut self, _: &mut [u8]) -> io::Result<usize> {
+        Err(Error::from(ErrorKind::Unsupported))
+    }
+}
+
+impl BufRead for Broken<'_> {
+    fn fill_buf(&mut self) -> io::Result<&[u8]> {
+        self.reads = self.reads.saturating_add(1);
+        if self.reads == self.fails_at {
+            return Err(Error::from(ErrorKind::Interrupted));
+        }
+        Ok(self.rest.get(..self.piece).unwrap_or(self.rest))
+    }
+
+    fn consume(&mut self, amount: usize) {
+        self.given = self.given.saturating_add(amount);
+        self.rest = self.rest.get(amount..).unwrap_or(&[]);
+    }
+}
+
+/// The status of a run of which a read fails, if what is printed is what the lines before it print, and nothing is read
+/// after it.
+fn broken_at(alloc: Global, piece: usize, fails_at: usize) -> Result<Option<u8>, Fail> {
+    let (script, _) = script_and_text(alloc, 0)?;
+    let mut reader = Broken {
+        rest: script.as_bytes(),
+        piece,
+        given: 0,
+        reads: 0,
+        fails_at,
+    };
+    let (printed, status) = outcome_of(alloc, &mut reader);
+    let (_, text) = script_and_text(alloc, reader.given)?;
+    let is_right = printed.as_slice() == text.as_bytes() && reader.reads <= fails_at;
+    Ok(if is_right { Some(status) } else { None })
+}
+
+/// The read at which a run isn't stopped any more, of those that each fail in turn; it then is at the end of the script.
+fn reads_of(alloc: Global, piece: usize) -> Result<Option<usize>, Fail> {
+    for fails_at in 1..=200 {
+        match broken_at(alloc, piece, fails_at)? {
+            Some(0) => return Ok(Some(fails_at)),
+            Some(3) => {}
+            _ => return Ok(None),
+        }
+    }
+    Ok(None)
+}
+
+/// A run ends with the first read that fails, whichever it is, also one that another read might mend.
+#[test]
+fn each_read_fails_in_turn(rt: HostRuntime) -> Result<(), Fail> {
+    let (script, _) = script_and_text(rt.alloc(), 0)?;
+    // A read gives a byte each, and one more the end.
+    assert!(rt; reads_of(rt.alloc(), 1)? == Some(script.len() + 2));
+    for piece in 2..=30 {
+        let reads = reads_of(rt.alloc(), piece)?;
+        assert!(rt;
+            reads.is_some_and(|reads| reads > LINES.len()),
+            "by {piece}"
+        );
+    }
+    Ok(())
+}
+
 // After how many bytes the tail comes, and the status of the run.
 const ENDLESS: &[(usize, u8)] = &[(usize::MAX, 3), (16_776_000, 2)];
 
@@ -130,65 +230,129 @@ fn endless_scripts(rt: HostRuntime) {
     }
 }
 
-/// A writer that takes one byte at a time, and fails or takes nothing after some; or fails where it is to flush.
+/// What a writer fails to do.
+#[derive(Clone, Copy)]
+enum Failing {
+    Nothing,
+    /// It takes nothing.
+    Takes,
+    Writes,
+    Flushes,
+}
+
+/// A writer that takes some bytes at a time, and at one of its calls takes nothing or fails. What follows would not.
 #[derive(Drop)]
 struct Narrow {
     printed: Vec<u8>,
-    room: usize,
-    fails: bool,
-    flushes: bool,
+    /// How many bytes were there when it was flushed last.
+    flushed: usize,
+    piece: usize,
+    writes: usize,
+    flushes: usize,
+    failing: Failing,
+    fails_at: usize,
 }
 
 impl Write for Narrow {
     fn write(&mut self, buf: &[u8]) -> io::Result<usize> {
-        let Some(byte) = buf.first() else {
-            return Ok(0);
-        };
-        if self.room == 0 {
-            return if self.fails {
-                Err(Error::from(ErrorKind::Other))
-            } else {
-                Ok(0)
-            };
+        self.writes = self.writes.saturating_add(1);
+        match self.failing {
+            Failing::Takes if self.writes == self.fails_at => return Ok(0),
+            Failing::Writes if self.writes == self.fails_at => {
+                return Err(Error::from(ErrorKind::Interrupted));
+            }
+            _ => {}
         }
-        self.room -= 1;
-        self.printed.push(*byte)?;
-        Ok(1)
+        let taken = buf.get(..self.piece).unwrap_or(buf);
+        self.printed.extend_from_slice(taken)?;
+        Ok(taken.len())
     }
 
     fn flush(&mut self) -> io::Result<()> {
-        if self.flushes {
-            Ok(())
-        } else {
-            Err(Error::from(ErrorKind::Other))
+        self.flushes = self.flushes.saturating_add(1);
+        match self.failing {
+            Failing::Flushes if self.flushes == self.fails_at => {
+                Err(Error::from(ErrorKind::Interrupted))
+            }
+            _ => {
+                self.flushed = self.printed.len();
+                Ok(())
+            }
         }
     }
 }
 
-// A writer's room, whether it fails past it, whether it flushes; the status of the run, and how many bytes are written.
-const WRITERS: &[(usize, bool, bool, u8, usize)] = &[
-    (100, true, true, 0, 26),
-    (21, true, true, 4, 21),
-    (21, false, true, 4, 21),
-    (0, true, true, 4, 0),
-    (100, true, false, 4, 19),
-];
+/// A writer to which the script was run, and the status of the run.
+fn written_to(
+    alloc: Global,
+    piece: usize,
+    (failing, fails_at): (Failing, usize),
+) -> Result<(Narrow, u8), Fail> {
+    let (script, _) = script_and_text(alloc, 0)?;
+    let mut writer = Narrow {
+        printed: Vec::new(alloc),
+        flushed: 0,
+        piece,
+        writes: 0,
+        flushes: 0,
+        failing,
+        fails_at,
+    };
+    let status = status_of(run(alloc, &mut script.as_bytes(), &mut writer));
+    Ok((writer, status))
+}
 
-/// A writer that takes one byte at a time gets the same text; one that takes nothing more ends the run, and so does one that
-/// fails to flush a line.
+/// A writer that takes a few bytes at a time gets the same text, and all of it is flushed.
 #[test]
-fn narrow_writers(rt: HostRuntime) {
-    let text = "atr 3B808131FE458B\n< 9000\n".as_bytes();
-    for &(room, fails, flushes, wanted, size) in WRITERS {
-        let mut reader = "on\napdu 00A4000C023F00\n".as_bytes();
-        let mut writer = Narrow {
-            printed: Vec::new(rt.alloc()),
-            room,
-            fails,
-            flushes,
-        };
-        let status = status_of(run(rt.alloc(), &mut reader, &mut writer));
-        let came = &writer.printed;
-        assert!(rt; status == wanted && came.len() == size && text.starts_with(came));
+fn narrow_writers(rt: HostRuntime) -> Result<(), Fail> {
+    let (_, text) = script_and_text(rt.alloc(), usize::MAX)?;
+    for piece in [1, 2, 7, 100] {
+        let (writer, status) = written_to(rt.alloc(), piece, (Failing::Nothing, 0))?;
+        assert!(rt;
+            status == 0 && writer.printed.as_slice() == text.as_bytes(),
+            "by {piece}"
+        );
+        assert!(rt; writer.flushed == text.len(), "by {piece}");
     }
+    Ok(())
+}
+
+/// A run ends with the first write that fails or takes nothing, whichever it is: the bytes before it stand, and no more
+/// come.
+#[test]
+fn each_write_fails_in_turn(rt: HostRuntime) -> Result<(), Fail> {
+    let (_, text) = script_and_text(rt.alloc(), usize::MAX)?;
+    for failing in [Failing::Takes, Failing::Writes] {
+        for fails_at in 1..=text.len() {
+            let (writer, status) = written_to(rt.alloc(), 1, (failing, fails_at))?;
+            let begun = text.as_bytes().get(..fails_at.saturating_sub(1));
+            assert!(rt;
+                status == 4 && Some(writer.printed.as_slice()) == begun,
+                "at {fails_at}"
+            );
+            assert!(rt; writer.writes == fails_at, "at {fails_at}");
+        }
+        let (_, status) = written_to(rt.alloc(), 1, (failing, text.len() + 1))?;
+        assert!(rt; status == 0);
+    }
+    Ok(())
+}
+
+// How many bytes are there when each line that prints something is flushed.
+const FLUSHED: &[usize] = &[19, 26, 38];
+
+/// And with the first line that isn't flushed, which stands.
+#[test]
+fn each_flush_fails_in_turn(rt: HostRuntime) -> Result<(), Fail> {
+    for (i, size) in FLUSHED.iter().enumerate() {
+        let (writer, status) = written_to(rt.alloc(), 100, (Failing::Flushes, i + 1))?;
+        assert!(rt; status == 4 && writer.printed.len() == *size, "at {size}");
+        assert!(rt;
+            writer.writes == i + 1 && writer.flushes == i + 1,
+            "at {size}"
+        );
+    }
+    let (_, status) = written_to(rt.alloc(), 100, (Failing::Flushes, FLUSHED.len() + 1))?;
+    assert!(rt; status == 0);
+    Ok(())
 }
