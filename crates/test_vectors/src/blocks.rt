@@ -475,18 +475,47 @@ const READY_0: &[u8] = b"\x00\x80\x00\x80";
 
 const READY_1: &[u8] = b"\x00\x90\x00\x90";
 
+// Too few bytes for a block.
+const NO_BLOCK: &[u8] = b"";
+
 // The reader takes 254 bytes.
 const LARGEST_SIZE: &[u8] = b"\x00\xC1\x01\xFE\x3E";
 
-/// An I-block of 254 bytes, with number 0, that more blocks follow.
-fn longest_begin() -> [u8; 258] {
-    let mut block = [0x5A; 258];
-    block[0] = 0x00;
-    block[1] = 0x20;
-    block[2] = 0xFE;
-    block[257] = 0x20 ^ 0xFE;
-    block
-}
+// An I-block of 254 bytes, with number 0, that more blocks follow.
+const LONGEST_BEGIN: &[u8] = b"\x00\x20\xFE\
+    ZZZZZZZZZZZZZZZZZZZZZZZZZZZZZZZZZZZZZZZZZZZZZZZZZZZZZZZZZZZZZZZZZZZZZZZZZZZZZZZZZZZZZZ\
+    ZZZZZZZZZZZZZZZZZZZZZZZZZZZZZZZZZZZZZZZZZZZZZZZZZZZZZZZZZZZZZZZZZZZZZZZZZZZZZZZZZZZZZZ\
+    ZZZZZZZZZZZZZZZZZZZZZZZZZZZZZZZZZZZZZZZZZZZZZZZZZZZZZZZZZZZZZZZZZZZZZZZZZZZZZZZZZZ\xDE";
+
+// Blocks that come after power-on, in each of the states of the card's end.
+const CARD_STATES: &[&[&[u8]]] = &[
+    &[],
+    // The first of three blocks of an answer was sent; all were; another was sent in one block.
+    &[READ],
+    &[READ, READY_1, READY_0],
+    &[LARGEST_SIZE, READ],
+    // A command was begun. Two were answered.
+    &[LONGEST_BEGIN],
+    &[LARGEST_SIZE, READ, READ_AGAIN],
+];
+
+// How many bytes a command has, and blocks that come after it, in each of the states of the reader's end.
+const READER_STATES: &[(usize, &[&[u8]])] = &[
+    (5, &[]),
+    // The first block of a long command was sent, and the second.
+    (261, &[]),
+    (261, &[READY_1]),
+    // An answer was begun.
+    (5, &[LONGEST_BEGIN]),
+    (261, &[READY_1, LONGEST_BEGIN]),
+    // Three tries were needed, and one and three requests for RESYNCH.
+    (5, &[NO_BLOCK, NO_BLOCK, NO_BLOCK]),
+    (5, &[NO_BLOCK, NO_BLOCK, NO_BLOCK, NO_BLOCK]),
+    (
+        5,
+        &[NO_BLOCK, NO_BLOCK, NO_BLOCK, NO_BLOCK, NO_BLOCK, NO_BLOCK],
+    ),
+];
 
 /// The card's end after power-on and these blocks, if it took each as the table says.
 fn card_after(before: &[&[u8]]) -> Option<Card> {
@@ -499,9 +528,9 @@ fn card_after(before: &[&[u8]]) -> Option<Card> {
     Some(card)
 }
 
-/// The reader's end after power-on, this command and these blocks, if it took each as the table says.
-fn reader_after(command: &'static [u8], before: &[&[u8]]) -> Option<Reader> {
-    let mut reader = Reader::new(command)?;
+/// The reader's end after power-on, a command of this size and these blocks, if it took each as the table says.
+fn reader_after(size: usize, before: &[&[u8]]) -> Option<Reader> {
+    let mut reader = Reader::new(COMMAND.get(..size)?)?;
     for block in before {
         if !reader.is_right(block) {
             return None;
@@ -513,7 +542,7 @@ fn reader_after(command: &'static [u8], before: &[&[u8]]) -> Option<Reader> {
 /// Whether both ends take a block as their tables say, after power-on and a short command.
 fn is_right_at_first(block: &[u8]) -> bool {
     Card::new().is_right(block)
-        && Reader::new(&COMMAND[..5]).is_some_and(|mut reader| reader.is_right(block))
+        && reader_after(5, &[]).is_some_and(|mut reader| reader.is_right(block))
 }
 
 /// Whether the card's end does after other blocks, and then takes R-blocks so, which show its state.
@@ -524,47 +553,26 @@ fn is_right_card(before: &[&[u8]], block: &[u8]) -> bool {
 }
 
 /// Whether the reader's end does, unless it has no command in hand any more.
-fn is_right_reader(command: &'static [u8], before: &[&[u8]], block: &[u8]) -> bool {
-    reader_after(command, before).is_some_and(|mut reader| {
+fn is_right_reader(size: usize, before: &[&[u8]], block: &[u8]) -> bool {
+    reader_after(size, before).is_some_and(|mut reader| {
         reader.is_right(block)
             && (!reader.end.busy() || reader.is_right(READY_0))
             && (!reader.end.busy() || reader.is_right(READY_1))
     })
 }
 
-/// Whether the card's end takes a block as its table says in each of these states.
+/// Whether the card's end takes a block as its table says in each state.
 fn is_right_to_card(block: &[u8]) -> bool {
-    let begin = longest_begin();
-    let states: [&[&[u8]]; 6] = [
-        &[],
-        // The first of three blocks of an answer was sent; all were; another was sent in one block.
-        &[READ],
-        &[READ, READY_1, READY_0],
-        &[LARGEST_SIZE, READ],
-        // A command was begun. Two were answered.
-        &[&begin],
-        &[LARGEST_SIZE, READ, READ_AGAIN],
-    ];
-    states.iter().all(|before| is_right_card(before, block))
+    CARD_STATES
+        .iter()
+        .all(|before| is_right_card(before, block))
 }
 
 /// Whether the reader's end does.
 fn is_right_to_reader(block: &[u8]) -> bool {
-    let begin = longest_begin();
-    let states: [(&'static [u8], &[&[u8]]); 8] = [
-        (&COMMAND[..5], &[]),
-        // The first block of a long command was sent, and the second.
-        (COMMAND, &[]),
-        (COMMAND, &[READY_1]),
-        // An answer was begun.
-        (&COMMAND[..5], &[&begin]),
-        (COMMAND, &[READY_1, &begin]),
-        // Three tries were needed, and one and three requests for RESYNCH.
-        (&COMMAND[..5], &[&[], &[], &[]]),
-        (&COMMAND[..5], &[&[], &[], &[], &[]]),
-        (&COMMAND[..5], &[&[], &[], &[], &[], &[], &[]]),
-    ];
-    states.iter().all(|(command, before)| is_right_reader(command, before, block))
+    READER_STATES
+        .iter()
+        .all(|(size, before)| is_right_reader(*size, before, block))
 }
 
 /// Which ends take a block, and in which of their states.
@@ -629,6 +637,7 @@ const LENGTHS: &[(usize, u8)] = &[(4, 0x00), (5, 0x01), (6, 0x02), (258, 0xFE)];
 
 #[test]
 fn blocks_are_taken_in_each_state(rt: HostRuntime) {
+    assert!(rt; LONGEST_BEGIN.len() == 258);
     for &(length, size) in LENGTHS {
         check_length(&rt, length, &[size], Taken::ByCard);
         check_length(&rt, length, &[size], Taken::ByReader);
