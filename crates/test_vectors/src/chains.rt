@@ -1,4 +1,5 @@
-//! Commands that come in two to four blocks: power is cut under the last of them, or goes off before it, or RESYNCH comes.
+//! Commands that come in two to four blocks: power is cut under the last of them, or goes off before it, or RESYNCH
+//! comes.
 
 use crate::cards::formatted;
 use crate::faults::{framed, is_reply};
@@ -17,8 +18,8 @@ const OLD_BYTES: &str = "FFFFFFFF9000";
 
 const NEW_BYTES: &str = "010203049000";
 
-/// UPDATE BINARY of these bytes, in blocks; and the reply to the last block where it comes first after power-on or RESYNCH:
-/// another number is expected, or it is a command by itself, of a class that isn't known.
+/// UPDATE BINARY of these bytes, in blocks; and the reply to the last block where it comes first after power-on or
+/// RESYNCH: another number is expected, or it is a command by itself, of a class that isn't known.
 struct Chain {
     parts: &'static [&'static str],
     control: u8,
@@ -111,7 +112,8 @@ impl Chain {
         Ok(true)
     }
 
-    /// Whether the last block, alone, is answered so that nothing of those before it is left, and the file is as it was.
+    /// Whether the last block, alone, is answered so that nothing of those before it is left, and the file is as it
+    /// was.
     fn is_forgotten(&self, alloc: Global, bench: &mut Bench<CutBoard>) -> Result<bool, Fail> {
         let block = (self.last_control(), self.last_part());
         Ok(

@@ -33,4 +33,8 @@ mod rules;
 #[cfg(test)]
 mod scripts;
 #[cfg(test)]
+mod standing;
+#[cfg(test)]
+mod tampered;
+#[cfg(test)]
 mod templates;

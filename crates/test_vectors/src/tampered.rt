@@ -1,0 +1,295 @@
+//! Memories of which a word was changed: each is refused, or started, as the rules say (`standing`).
+
+use crate::boards::with_words;
+use crate::cards::formatted;
+use crate::standing::{GATE as GATE_ADDRESS, Start, start_of};
+use card_core::{Card, StartFault};
+use nvm_board::{Board, CutBoard};
+use std::alloc::Global;
+use std::process::Abort;
+use std::test::Fail;
+
+// What a card has more than the factory's: a named directory with a transparent file of three blocks, a linear file and
+// a directory, which is in the last entry; and a deactivated cyclic file.
+const FILES: &[(u16, u32)] = &[
+    (1, 135),
+    // DF 7F10, in the master file.
+    (48, 0x0105_7F10),
+    (49, 0x0000_0504),
+    (50, 0x0700_0000),
+    (52, 0xA000_0000),
+    (53, 0x0100_0000),
+    // Transparent EF 6F01 of 130 bytes, in the blocks 129, 131, 130.
+    (64, 0x0205_6F01),
+    (65, 0x0201_0003),
+    (66, 0x0300_0000),
+    (72, 0x0082_0000),
+    (73, 0x0081_0082),
+    (2064, 131),
+    (2096, 130),
+    (2080, 0),
+    // Linear EF 6F02 of three records of 20 bytes, with room for four.
+    (80, 0x0305_6F02),
+    (81, 0x0202_0004),
+    (82, 0x0700_0000),
+    (88, 0x0050_0014),
+    (89, 0x0084_0085),
+    (90, 0x0003_0000),
+    (2128, 0),
+    // Cyclic EF 6F03 of two records of three bytes, with room for three, in the master file.
+    (112, 0x0404_6F03),
+    (113, 0x0003_0003),
+    (114, 0x0300_0000),
+    (120, 0x0009_0003),
+    (121, 0x0086_0086),
+    (122, 0x0002_0001),
+    (2144, 0),
+    // DF 5F01.
+    (1024, 0x0101_5F01),
+    (1025, 0x0200_0004),
+    (1026, 0x0700_0000),
+];
+
+/// A row of pages, and how many of the first words of each a start looks at.
+#[derive(Clone, Copy)]
+struct Part {
+    first: u16,
+    last: u16,
+    words: u16,
+}
+
+const HEADER: Part = Part {
+    first: 0,
+    last: 0,
+    words: 3,
+};
+
+const ENTRIES: Part = Part {
+    first: 1,
+    last: 64,
+    words: 11,
+};
+
+const PINS: Part = Part {
+    first: 65,
+    last: 72,
+    words: 2,
+};
+
+const GATE: Part = Part {
+    first: 73,
+    last: 73,
+    words: 1,
+};
+
+const JOURNAL: Part = Part {
+    first: 74,
+    last: 127,
+    words: 0,
+};
+
+const LINKS: Part = Part {
+    first: 128,
+    last: 1023,
+    words: 1,
+};
+
+// How often a card starts, is Damaged, and is BadJournal, where one word of a part is 0, has all bits set, or has one bit
+// turned: of the factory's memory, and of one with a file of each kind.
+const CHANGED: &[(Part, [u32; 3], [u32; 3])] = &[
+    (HEADER, [2, 100, 0], [2, 100, 0]),
+    (ENTRIES, [21_625, 2_311, 0], [21_123, 2_813, 0]),
+    (PINS, [48, 496, 0], [48, 496, 0]),
+    (GATE, [1, 9, 24], [1, 9, 24]),
+    (LINKS, [2, 30_462, 0], [5, 30_459, 0]),
+];
+
+/// Addresses, and the words that are to stand there.
+type Changes = Vec<(u16, u32)>;
+
+/// A memory: a board, and its words.
+#[derive(Drop)]
+struct Memory {
+    /// It is there, but while a card starts on it.
+    board: Option<CutBoard>,
+    words: Vec<u32>,
+}
+
+/// The address of a word.
+fn address(page: u16, place: u16) -> u16 {
+    page.saturating_mul(16).saturating_add(place)
+}
+
+/// A word after one of 34 changes: one bit turned, all clear, or all set.
+fn changed(word: u32, change: u32) -> u32 {
+    match change {
+        32 => 0x0000_0000,
+        33 => 0xFFFF_FFFF,
+        bit => word ^ 1u32.checked_shl(bit).unwrap_or(0),
+    }
+}
+
+/// A board after a start, and how the card started.
+fn started(board: CutBoard) -> Result<(CutBoard, Start), Fail> {
+    match Card::start(board) {
+        Ok(card) => Ok((card.into_board(), Start::Starts)),
+        Err((board, StartFault::Damaged)) => Ok((board, Start::Damaged)),
+        Err((board, StartFault::BadJournal)) => Ok((board, Start::BadJournal)),
+        Err(_) => Err(Fail::from("no power, or a fault")),
+    }
+}
+
+impl Memory {
+    /// The factory's memory with some words changed.
+    fn new(alloc: Global, changes: &[(u16, u32)]) -> Result<Memory, Fail> {
+        let mut board = with_words(formatted(CutBoard::new(alloc)?)?, changes)?;
+        let mut words = Vec::new(alloc);
+        for at in 0..16_384 {
+            words.push(board.read(at)?)?;
+        }
+        Ok(Memory {
+            board: Some(board),
+            words,
+        })
+    }
+
+    /// The word at an address.
+    fn word(&self, at: u16) -> u32 {
+        self.words.get(usize::from(at)).copied().unwrap_or(0)
+    }
+
+    /// Changes some words.
+    fn put(&mut self, changes: &[(u16, u32)]) -> Result<(), Fail> {
+        if let Some(board) = self.board.take() {
+            self.board = Some(with_words(board, changes)?);
+        }
+        for &(at, word) in changes {
+            if let Some(changed) = self.words.get_mut(usize::from(at)) {
+                *changed = word;
+            }
+        }
+        Ok(())
+    }
+
+    /// How a card starts. A start that undoes a journal writes, so it gets a copy.
+    fn card_start(&mut self, alloc: Global) -> Result<Start, Fail> {
+        let Some(board) = self.board.take() else {
+            return Err(Fail::from("no board"));
+        };
+        if self.words.get(GATE_ADDRESS) != Some(&0) {
+            let (_, start) = started(board.copy(alloc)?)?;
+            self.board = Some(board);
+            return Ok(start);
+        }
+        let (board, start) = started(board)?;
+        self.board = Some(board);
+        Ok(start)
+    }
+
+    /// How a card starts with some words changed, which is as the rules say.
+    fn start_with<R: Abort + AllocGlobal>(
+        &mut self,
+        rt: &R,
+        changes: &[(u16, u32)],
+    ) -> Result<Start, Fail> {
+        self.put(changes)?;
+        let start = self.card_start(rt.alloc())?;
+        let wanted = start_of(rt.alloc(), &self.words)?;
+        assert!(rt; start == wanted, "with {changes:?}: {start:?}");
+        Ok(start)
+    }
+
+    /// Counts how it starts where a word is 0, has all bits set, or one bit turned.
+    fn change_word<R: Abort + AllocGlobal>(
+        &mut self,
+        rt: &R,
+        at: u16,
+        counts: &mut [u32; 3],
+    ) -> Result<(), Fail> {
+        let word = self.word(at);
+        for change in 0..34 {
+            let count = match self.start_with(rt, &[(at, changed(word, change))])? {
+                Start::Starts => &mut counts[0],
+                Start::Damaged => &mut counts[1],
+                Start::BadJournal => &mut counts[2],
+            };
+            *count = count.saturating_add(1);
+        }
+        self.put(&[(at, word)])
+    }
+
+    /// Counts that of all words of a part that a start looks at.
+    fn change_part<R: Abort + AllocGlobal>(
+        &mut self,
+        rt: &R,
+        part: &Part,
+    ) -> Result<[u32; 3], Fail> {
+        let mut counts = [0; 3];
+        for page in part.first..=part.last {
+            for place in 0..part.words {
+                self.change_word(rt, address(page, place), &mut counts)?;
+            }
+        }
+        Ok(counts)
+    }
+
+    /// The words of a page from this place on, as they are, or as this one.
+    fn others(&self, alloc: Global, at: (u16, u16), word: Option<u32>) -> Result<Changes, Fail> {
+        let (page, first) = at;
+        let mut changes = Vec::new(alloc);
+        for place in first..16 {
+            let at = address(page, place);
+            changes.push((at, word.unwrap_or(self.word(at))))?;
+        }
+        Ok(changes)
+    }
+
+    /// It starts where the other words of a page of a part are all 0, or have all bits set.
+    fn change_others<R: Abort + AllocGlobal>(&mut self, rt: &R, part: &Part) -> Result<(), Fail> {
+        for page in part.first..=part.last {
+            let at = (page, part.words);
+            let kept = self.others(rt.alloc(), at, None)?;
+            let zeros = self.others(rt.alloc(), at, Some(0x0000_0000))?;
+            let ones = self.others(rt.alloc(), at, Some(0xFFFF_FFFF))?;
+            assert!(rt;
+                self.start_with(rt, &zeros)? == Start::Starts,
+                "in page {page}"
+            );
+            assert!(rt;
+                self.start_with(rt, &ones)? == Start::Starts,
+                "in page {page}"
+            );
+            self.put(&kept)?;
+        }
+        Ok(())
+    }
+}
+
+#[test]
+fn changed_words_of_the_factory_memory(rt: HostRuntime) -> Result<(), Fail> {
+    let mut memory = Memory::new(rt.alloc(), &[])?;
+    for (part, wanted, _) in CHANGED {
+        let counts = memory.change_part(&rt, part)?;
+        assert!(rt; counts == *wanted, "in page {}: {counts:?}", part.first);
+    }
+    Ok(())
+}
+
+#[test]
+fn changed_words_of_a_card_with_files(rt: HostRuntime) -> Result<(), Fail> {
+    let mut memory = Memory::new(rt.alloc(), FILES)?;
+    for (part, _, wanted) in CHANGED {
+        let counts = memory.change_part(&rt, part)?;
+        assert!(rt; counts == *wanted, "in page {}: {counts:?}", part.first);
+    }
+    Ok(())
+}
+
+#[test]
+fn words_that_are_not_looked_at(rt: HostRuntime) -> Result<(), Fail> {
+    let mut memory = Memory::new(rt.alloc(), FILES)?;
+    for part in [HEADER, ENTRIES, PINS, GATE, JOURNAL, LINKS] {
+        memory.change_others(&rt, &part)?;
+    }
+    Ok(())
+}
