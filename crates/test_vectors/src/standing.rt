@@ -181,19 +181,22 @@ fn has_sizes(words: &[u32], entry: usize) -> bool {
     short_identifier(words, entry) <= most_short && name_length(words, entry) <= most_name
 }
 
+/// A byte of a rule.
+fn rule_byte(words: &[u32], entry: usize, at: u8) -> u8 {
+    entry_bytes(words, entry, 2 + usize::from(at / 4))[usize::from(at % 4)]
+}
+
 /// An access mode byte without bit 8, and a condition for each bit: always, never, or a PIN.
 fn is_rule(words: &[u32], entry: usize) -> bool {
-    let [_, _, _, length] = entry_bytes(words, entry, 1);
-    let [mode, first @ ..] = entry_bytes(words, entry, 2);
-    let last = entry_bytes(words, entry, 3);
-    let count = mode.count_ones() as usize;
+    let length = entry_bytes(words, entry, 1)[3];
+    let mode = rule_byte(words, entry, 0);
     mode < 0x80
-        && usize::from(length).checked_sub(1) == Some(count)
-        && first.iter().chain(&last).take(count).all(is_condition)
+        && u32::from(length) == 1 + mode.count_ones()
+        && (1..length).all(|at| is_condition(rule_byte(words, entry, at)))
 }
 
 /// Whether a byte is a condition.
-fn is_condition(byte: &u8) -> bool {
+fn is_condition(byte: u8) -> bool {
     matches!(byte, 0x00 | 0xFF | 0x11..=0x18 | 0x91..=0x98)
 }
 
