@@ -5,6 +5,7 @@ use crate::scripts::{ends_so, outcome_of, status_of};
 use card_bench::run;
 use std::alloc::Global;
 use std::io::{self, BufRead, Error, ErrorKind, Read, Write};
+use std::process::Abort;
 use std::test::Fail;
 
 /// A script of parts: the first, then a line again and again, for so many bytes in all, and then a tail again and again. It
@@ -317,31 +318,33 @@ fn narrow_writers(rt: HostRuntime) -> Result<(), Fail> {
     Ok(())
 }
 
-/// A run ends with the first write that fails or takes nothing, whichever it is: the bytes before it stand, and no more
-/// come.
+/// A run ends with the write that fails so, whichever it is: the bytes before it stand, and no more come.
+fn check_writes<R: Abort + AllocGlobal>(rt: &R, failing: Failing) -> Result<(), Fail> {
+    let (_, text) = script_and_text(rt.alloc(), usize::MAX)?;
+    for fails_at in 1..=text.len() {
+        let (writer, status) = written_to(rt.alloc(), 1, (failing, fails_at))?;
+        let begun = text.as_bytes().get(..fails_at - 1);
+        assert!(rt;
+            status == 4 && Some(writer.printed.as_slice()) == begun,
+            "at {fails_at}"
+        );
+        assert!(rt; writer.writes == fails_at, "at {fails_at}");
+    }
+    let (_, status) = written_to(rt.alloc(), 1, (failing, text.len() + 1))?;
+    assert!(rt; status == 0);
+    Ok(())
+}
+
 #[test]
 fn each_write_fails_in_turn(rt: HostRuntime) -> Result<(), Fail> {
-    let (_, text) = script_and_text(rt.alloc(), usize::MAX)?;
-    for failing in [Failing::Takes, Failing::Writes] {
-        for fails_at in 1..=text.len() {
-            let (writer, status) = written_to(rt.alloc(), 1, (failing, fails_at))?;
-            let begun = text.as_bytes().get(..fails_at.saturating_sub(1));
-            assert!(rt;
-                status == 4 && Some(writer.printed.as_slice()) == begun,
-                "at {fails_at}"
-            );
-            assert!(rt; writer.writes == fails_at, "at {fails_at}");
-        }
-        let (_, status) = written_to(rt.alloc(), 1, (failing, text.len() + 1))?;
-        assert!(rt; status == 0);
-    }
-    Ok(())
+    check_writes(&rt, Failing::Takes)?;
+    check_writes(&rt, Failing::Writes)
 }
 
 // How many bytes are there when each line that prints something is flushed.
 const FLUSHED: &[usize] = &[19, 26, 38];
 
-/// And with the first line that isn't flushed, which stands.
+/// And with the first flush that fails, whichever it is: the line that wasn't flushed stands, and no more comes.
 #[test]
 fn each_flush_fails_in_turn(rt: HostRuntime) -> Result<(), Fail> {
     for (i, size) in FLUSHED.iter().enumerate() {

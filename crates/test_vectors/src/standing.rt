@@ -161,7 +161,8 @@ fn is_entry(words: &[u32], entry: usize) -> bool {
     }
 }
 
-/// The parent is a dedicated file, and by at most 7 steps entry 0 is reached, whose identifier and two more no other has.
+/// The parent is a dedicated file, and by at most 7 steps entry 0 is reached, whose identifier and two more no other
+/// has.
 fn is_child(words: &[u32], entry: usize) -> bool {
     let mut at = entry;
     for _ in 0..7 {
@@ -243,7 +244,8 @@ fn are_chains(words: &[u32]) -> bool {
 }
 
 impl Blocks {
-    /// The last block of a chain that begins so, or 0 where it has none; if it ends, and each of its blocks was in none yet.
+    /// The last block of a chain that begins so, or 0 where it has none; if it ends, and each of its blocks was in
+    /// none yet.
     fn takes(&mut self, words: &[u32], first: u32) -> Option<u32> {
         let mut last = 0;
         let mut next = first;
@@ -281,7 +283,8 @@ fn has_body(words: &[u32], entry: usize, blocks: &mut Blocks) -> bool {
         && blocks.count.checked_sub(before) == Some(usize::from(size).div_ceil(60))
 }
 
-/// The size is that of whole records, of 1 to 254 at most, of which some exist; where records begin in the file's ring.
+/// The size is that of whole records, of 1 to 254 at most, of which some exist; where records begin in the file's
+/// ring.
 fn are_records(words: &[u32], entry: usize) -> bool {
     let [size, length] = halves(entry_word(words, entry, 8));
     let [number, start] = halves(entry_word(words, entry, 10));
