@@ -129,6 +129,15 @@ fn changed(word: u32, change: u32) -> u32 {
     }
 }
 
+/// Counts a start among those that ended so.
+fn count(counts: &mut [u32; 3], start: Start) {
+    match start {
+        Start::Starts => counts[0] = counts[0].saturating_add(1),
+        Start::Damaged => counts[1] = counts[1].saturating_add(1),
+        Start::BadJournal => counts[2] = counts[2].saturating_add(1),
+    }
+}
+
 /// A board after a start, and how the card started.
 fn started(board: CutBoard) -> Result<(CutBoard, Start), Fail> {
     match Card::start(board) {
@@ -208,12 +217,7 @@ impl Memory {
     ) -> Result<(), Fail> {
         let word = self.word(at);
         for change in 0..34 {
-            let count = match self.start_with(rt, &[(at, changed(word, change))])? {
-                Start::Starts => &mut counts[0],
-                Start::Damaged => &mut counts[1],
-                Start::BadJournal => &mut counts[2],
-            };
-            *count = count.saturating_add(1);
+            count(counts, self.start_with(rt, &[(at, changed(word, change))])?);
         }
         self.put(&[(at, word)])
     }
