@@ -11,8 +11,8 @@ use Rattle.nvm_board.specs.laws.Torn.{Torn-all, IsMixture-Torn}
 use Rattle.undo_journal.specs.declared.layout.TheConstants.{GATE, JOURNAL_END}
 use Rattle.undo_journal.specs.Undo.{gate, undo, data_words, IsOutside, IsDataAddress, IsDataRun, IsSound}
 use Rattle.undo_journal.specs.laws.Undo.{data_words-set, sound_shut}
-use Rattle.undo_journal.specs.Memory.{Memory, committed, current, IsIdle, IsTrueToBoard}
-use Rattle.undo_journal.proofs.Standing.{board-place, board-run}
+use Rattle.undo_journal.specs.Memory.{Memory, committed, current, taken, IsIdle, IsTrueToBoard}
+use Rattle.undo_journal.proofs.Standing.{Fits, idle-fits, board-place, board-run}
 use Rattle.undo_journal.proofs.Saving.{committed-shut, gate-set, gate-shut, current-gate}
 
 -- a word that is set, and set back
@@ -146,7 +146,13 @@ module _ (m : List ℕ) (a w : ℕ) (shut : gate m ≡ 0) (place : IsDataAddress
 module _ (inside m : Memory) (seen : inside ≡ m) (held : IsTrueToBoard inside) (works : m.failed ≡ None)
     (idle : IsIdle m) where
   pub unused-within : inside.used ≡ 0
-  unused-within = ap (λ (x : Memory). x.used) seen ∙ idle
+  unused-within = let none : m.used ≡ 0 = omega (arith, idle) in ap (λ (x : Memory). x.used) seen ∙ none
+
+  pub idle-within : inside.used + length inside.waiting ≡ 0
+  idle-within = ap taken seen ∙ idle
+
+  pub fits-within : Fits inside.used inside.waiting
+  fits-within = subst (λ (x : Memory). Fits x.used x.waiting) (sym seen) (idle-fits m idle)
 
   shut-within : gate inside.facts.words ≡ 0
   shut-within = (held.works (ap (λ (x : Memory). x.failed) seen ∙ works)).counts ∙ unused-within

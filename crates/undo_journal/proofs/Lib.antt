@@ -1,7 +1,12 @@
 pub mod Pairs
+pub mod Waits
+pub mod RunLaws
 pub mod Saving
+pub mod Turning
+pub mod Costing
 pub mod Restore
 pub mod Standing
 pub mod Lasting
 pub mod Telling
 pub mod Noted
+pub mod SetRuns

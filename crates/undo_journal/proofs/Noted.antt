@@ -2,21 +2,23 @@
 use Rattle.std.specs.Prelude.{Option, Some, None, Result, Ok, Err, IfOk, OnOk, OnErr, IsErrOf, IsErrAnd}
 use Rattle.std.specs.Option.{option_or}
 use Rattle.std.specs.Result.{result_err}
-use Rattle.std.proofs.Common.{◌≡◌, ℕ, true, List, length, refl, sym, ◌∙◌, ap, subst}
+use Rattle.std.proofs.Common.{◌≡◌, ◌+◌, ℕ, true, List, length, refl, sym, ◌∙◌, ap, ap₂, subst}
+use Rattle.undo_journal.specs.declared.batch.Waiting.{Waiting}
+use Rattle.undo_journal.specs.Batches.{overlay}
 use Rattle.nvm_board.specs.declared.board.DeviceErr.{DeviceErr}
 use Rattle.nvm_board.specs.declared.board.TheConstants.{WORDS}
 use Rattle.nvm_board.specs.Facts.{Facts, AreWords, Answered}
 use Rattle.undo_journal.specs.declared.error.StoreErr.{StoreErr}
 use Rattle.undo_journal.specs.declared.error.StoreErr.TheVariants.{PowerLost}
 use Rattle.undo_journal.specs.Undo.{gate, undo, data_words, IsSound}
-use Rattle.undo_journal.specs.Memory.{Memory, IsOpen, IsIdle, IsReady, IsTrueToBoard, Reports, FailsBy, committed, current}
+use Rattle.undo_journal.specs.Memory.{Memory, IsOpen, IsIdle, IsReady, IsTrueToBoard, Reports, FailsBy, committed, current, taken}
 use Rattle.undo_journal.specs.Memory.{store_err_of, store_result_of}
 use Rattle.undo_journal.specs.Spending.{KeepsBoard, WritesAtMost}
 use Rattle.undo_journal.specs.Calls.{OnlyReads, UnlessFailed, Changes}
 use Rattle.undo_journal.specs.laws.Calls.{reads_same, reads_spend}
 use Rattle.undo_journal.specs.laws.Exits.{error_tells}
 use Rattle.undo_journal.specs.laws.Told.{none_ready}
-use Rattle.undo_journal.proofs.Standing.{open-from, ready-from}
+use Rattle.undo_journal.proofs.Standing.{Fits, open-from, ready-from}
 use Rattle.undo_journal.proofs.Telling.{fails_by, is_dark_by, reports_unused}
 
 -- what follows of a value that the device answered
@@ -67,10 +69,11 @@ module _ {T : Type 0} (answer : Result T DeviceErr) (result : Result T StoreErr)
   on_err P h = subst (λ (r : Result T StoreErr). OnErr r P) (sym is) (err-as P answer h)
 
 -- A store that had failed, from within and as its caller has it: the error is told again, and only the room may change.
-pub stuck : {T : Type 0} (inside m : Memory) (n used : ℕ) (result : Result T StoreErr) (e : StoreErr) → inside ≡ m → used ≡ 0
-    → IsErrAnd result (λ f. f ≡ e) → m.failed ≡ Some e → Changes n m (record inside { used = used }) (result_err result)
-stuck inside m n used result e seen idle is failed = record {
-  reports = reports_unused inside m used seen;
+pub stuck : {T : Type 0} (inside m : Memory) (n used : ℕ) (waiting : List Waiting) (result : Result T StoreErr) (e : StoreErr)
+    → inside ≡ m → used + length waiting ≡ 0 → IsErrAnd result (λ f. f ≡ e) → m.failed ≡ Some e
+    → Changes n m (record inside { used = used; waiting = waiting }) (result_err result)
+stuck inside m n used waiting result e seen idle is failed = record {
+  reports = reports_unused inside m used waiting seen;
   idle = idle;
   ready = none_ready result e _ is;
   tells = error_tells inside.failed result e is (ap (λ (x : Memory). x.failed) seen ∙ failed);
@@ -112,21 +115,29 @@ module _ (inside m new : Memory) (seen : inside ≡ m) (held : IsTrueToBoard ins
 
   true-as : {T : Type 0} (a : Result T DeviceErr) → new.failed ≡ result_err (store_result_of a)
       → Answered inside.facts new.facts a → IsSound new.facts.words → OnOk a (gate new.facts.words ≡ new.used)
-      → IsTrueToBoard new
-  true-as (Ok v) told light sound counts = record {
-    works = λ h. record { sound = sound; counts = counts; lit = (light.ok refl).lit };
+      → OnOk a (Fits new.used new.waiting) → IsTrueToBoard new
+  true-as (Ok v) told light sound counts batch = record {
+    works = λ h. record {
+      sound = sound;
+      counts = counts;
+      lit = (light.ok refl).lit;
+      whole = batch.whole;
+      few = batch.few;
+      fits = batch.fits;
+      sets = batch.sets;
+    };
     lost = λ h. let some : new.failed ≡ Some PowerLost = h in absurd cc;
   }
-  true-as (Err e) told light sound counts = record {
+  true-as (Err e) told light sound counts batch = record {
     works = λ h. let none : new.failed ≡ None = h in absurd cc;
     lost = λ h. let lost : store_err_of e ≡ PowerLost = cc in is_dark_by e inside.facts new.facts lost light;
   }
 
   open-as : {T : Type 0} (a : Result T DeviceErr) → new.failed ≡ result_err (store_result_of a)
       → Answered inside.facts new.facts a → length new.facts.words ≡ WORDS → AreWords new.facts.words
-      → OnOk (store_result_of a) (IsOpen new)
-  open-as (Ok v) told light size fit = open-from new told (light.ok refl).lit size fit
-  open-as (Err e) told light size fit = tt
+      → OnOk a (Fits new.used new.waiting) → OnOk (store_result_of a) (IsOpen new)
+  open-as (Ok v) told light size fit batch = open-from new told (light.ok refl).lit size fit batch
+  open-as (Err e) told light size fit batch = tt
 
   ready-as : {T : Type 0} (a : Result T DeviceErr) → new.failed ≡ result_err (store_result_of a)
       → Answered inside.facts new.facts a → length new.facts.words ≡ WORDS → AreWords new.facts.words
@@ -148,12 +159,14 @@ module _ (inside m new : Memory) (seen : inside ≡ m) (held : IsTrueToBoard ins
     noted-reports sound =
         subst (λ (x : Memory). Reports x new) seen (reports-as answer told light sound)
 
-    pub noted-true : IsSound new.facts.words → OnOk answer (gate new.facts.words ≡ new.used) → IsTrueToBoard new
-    noted-true sound counts = true-as answer told light sound counts
+    pub noted-true : IsSound new.facts.words → OnOk answer (gate new.facts.words ≡ new.used)
+        → OnOk answer (Fits new.used new.waiting) → IsTrueToBoard new
+    noted-true sound counts batch = true-as answer told light sound counts batch
 
-    pub noted-open : length new.facts.words ≡ WORDS → AreWords new.facts.words → OnOk result (IsOpen new)
-    noted-open size fit =
-        subst (λ (r : Result T StoreErr). OnOk r (IsOpen new)) (sym is) (open-as answer told light size fit)
+    pub noted-open : length new.facts.words ≡ WORDS → AreWords new.facts.words → OnOk answer (Fits new.used new.waiting)
+        → OnOk result (IsOpen new)
+    noted-open size fit batch =
+        subst (λ (r : Result T StoreErr). OnOk r (IsOpen new)) (sym is) (open-as answer told light size fit batch)
 
     pub noted-ready : length new.facts.words ≡ WORDS → AreWords new.facts.words
         → OnOk answer (gate new.facts.words ≡ 0) → IsIdle new → UnlessFailed (result_err result) (IsReady new)
@@ -174,13 +187,16 @@ module _ (inside m new : Memory) (seen : inside ≡ m) (held : IsTrueToBoard ins
     }
 
     -- what reads leave
-    pub noted-reads : KeepsBoard inside.facts new.facts → new.used ≡ inside.used → OnlyReads m new
-    noted-reads kept used = record {
+    pub noted-reads : KeepsBoard inside.facts new.facts → new.used ≡ inside.used → new.waiting ≡ inside.waiting
+        → OnlyReads m new
+    noted-reads kept used waiting = record {
       board = subst (λ (x : Memory). KeepsBoard x.facts new.facts) seen kept;
       keeps = record {
         committed_words = ap (λ (l : List ℕ). data_words (undo l)) kept.words ∙ ap committed seen;
-        current_words = ap data_words kept.words ∙ ap current seen;
-        used = used ∙ ap (λ (x : Memory). x.used) seen;
+        current_words = ap₂ (λ (w : List Waiting) (l : List ℕ). data_words (overlay w l)) waiting kept.words
+            ∙ ap current seen;
+        used = ap₂ (λ (u : ℕ) (w : List Waiting). u + length w) used waiting ∙ ap taken seen;
+        waiting = waiting ∙ ap (λ (x : Memory). x.waiting) seen;
       };
       reports = noted-reports
           (subst (λ (l : List ℕ). IsSound l) (sym kept.words) (held.works works).sound);

@@ -1,10 +1,19 @@
 -- The pairs of a journal: each by its number, and what a look-up gives.
 use Rattle.std.proofs.Common.{◌≡◌, ◌==◌, ◌<◌, ◌≤◌, ◌+◌, ◌*◌, ℕ, zero, suc, Bool, List, [], ◌∷◌, ◌++◌, length, get_or}
-use Rattle.std.proofs.Common.{slice_index, refl, sym, ◌∙◌, ap, inl, inr, drop, arith}
-use Rattle.std.specs.Prelude.{if◌then◌else◌}
+use Rattle.std.proofs.Common.{slice_index, refl, sym, ◌∙◌, ap, inl, inr, drop, arith, slice_set, ◌≢◌, ⊎_elim}
+use Rattle.std.proofs.Common.{get_or-set_same, get_or-set_other}
+use Rattle.std.specs.Prelude.{if◌then◌else◌, All}
+use Rattle.std.proofs.Math.ListN.{length-set}
+use Rattle.std.proofs.lemmas.List.Elements.{All-nil, All-cons}
+use Rattle.nvm_board.specs.declared.board.TheConstants.{WORDS}
+use Rattle.nvm_board.specs.Torn.{written}
+use Rattle.nvm_board.specs.laws.Torn.{written-elsewhere}
+use Rattle.undo_journal.specs.declared.batch.Waiting.{Waiting}
+use Rattle.undo_journal.specs.Batches.{AreSets}
+use Rattle.undo_journal.specs.Parts.{pairs_of, pair_words, Names, AllNamed}
 use Rattle.std.proofs.lemmas.Bool.Decides.{eqb_tells}
 use Rattle.undo_journal.specs.declared.layout.TheConstants.{JOURNAL}
-use Rattle.undo_journal.specs.Undo.{Pair, pair_at, pairs_from, earlier}
+use Rattle.undo_journal.specs.Undo.{Pair, pair_at, pairs_from, earlier, IsDataAddress}
 
 pub length-pairs_from : (m : List ℕ) (i n : ℕ) → length (pairs_from m i n) ≡ n
 unfolding pairs_from
@@ -41,39 +50,121 @@ pairs_from-same m l i (suc n) words =
     let lt : k < JOURNAL + 2 * (i + suc n) = omega arith in words k le lt) in
     ap (λ (p : Pair). p ∷ pairs_from m (i + 1) n) first ∙ ap (λ (ps : List Pair). pair_at l i ∷ ps) rest
 
--- one pair more, at the end
-pub pairs_from-suc : (m : List ℕ) (i n : ℕ) → pairs_from m i (suc n) ≡ pairs_from m i n ++ pair_at m (i + n) ∷ []
+-- pairs before, and pairs after
+pub pairs_from-add : (m : List ℕ) (i g n : ℕ) → pairs_from m i (g + n) ≡ pairs_from m i g ++ pairs_from m (i + g) n
 unfolding pairs_from
-pairs_from-suc m i zero = let here : i ≡ i + zero = omega arith in ap (λ (j : ℕ). pair_at m j ∷ []) here
-pairs_from-suc m i (suc n) =
-    let place : i + 1 + n ≡ i + suc n = omega arith in
-    ap (λ (ps : List Pair). pair_at m i ∷ ps)
-    (pairs_from-suc m (i + 1) n ∙ ap (λ (j : ℕ). pairs_from m (i + 1) n ++ pair_at m j ∷ []) place)
+pairs_from-add m i zero n =
+    let none : zero + n ≡ n = omega arith in
+    let here : i ≡ i + zero = omega arith in
+    ap (λ (t : ℕ). pairs_from m i t) none ∙ ap (λ (j : ℕ). pairs_from m j n) here
+pairs_from-add m i (suc g) n =
+    let more : suc g + n ≡ suc (g + n) = omega arith in
+    let place : i + 1 + g ≡ i + suc g = omega arith in
+    ap (λ (t : ℕ). pairs_from m i t) more
+    ∙ ap (λ (ps : List Pair). pair_at m i ∷ ps)
+    (pairs_from-add m (i + 1) g n ∙ ap (λ (j : ℕ). pairs_from m (i + 1) g ++ pairs_from m j n) place)
 
--- a last pair that tells the word itself changes no look-up
-pub earlier-append : (ps : List Pair) (p : Pair) (a w : ℕ) → (p.address ≡ a → p.earlier ≡ w)
-    → earlier (ps ++ p ∷ []) a w ≡ earlier ps a w
+-- a look-up among pairs, and then among others
+pub earlier-append : (ps qs : List Pair) (a w : ℕ) → earlier (ps ++ qs) a w ≡ earlier ps a (earlier qs a w)
 unfolding earlier
-earlier-append [] p a w tells = elim (eqb_tells p.address a) [
-  | inl same ↦ ap (λ (b : Bool). if b then p.earlier else w) same.0 ∙ tells same.1
-  | inr other ↦ ap (λ (b : Bool). if b then p.earlier else w) other.0
-]
-earlier-append (q ∷ ps) p a w tells = ap (λ (v : ℕ). if q.address == a then q.earlier else v)
-    (earlier-append ps p a w tells)
+earlier-append [] qs a w = refl
+earlier-append (p ∷ ps) qs a w = ap (λ (v : ℕ). if p.address == a then p.earlier else v) (earlier-append ps qs a w)
 
 -- the word itself does not matter where a pair names its address
-pub earlier-named : (ps : List Pair) (i a v w : ℕ) (d : Pair) → i < length ps → (get_or ps i d).address ≡ a
-    → earlier ps a v ≡ earlier ps a w
+pub earlier-named : (ps : List Pair) (a v w : ℕ) → Names ps a → earlier ps a v ≡ earlier ps a w
 unfolding earlier
-earlier-named [] i a v w d lt named = absurd (omega arith)
-earlier-named (p ∷ ps) zero a v w d lt named = elim (eqb_tells p.address a) [
+earlier-named [] a v w named = absurd named
+earlier-named (p ∷ ps) a v w named = elim (eqb_tells p.address a) [
   | inl same ↦ ap (λ (b : Bool). if b then p.earlier else earlier ps a v) same.0
       ∙ sym (ap (λ (b : Bool). if b then p.earlier else earlier ps a w) same.0)
-  | inr other ↦ absurd (other.1 named)
+  | inr other ↦ ap (λ (u : ℕ). if p.address == a then p.earlier else u)
+      (earlier-named ps a v w (⊎_elim (λ here. absurd (other.1 here)) (λ rest. rest) named))
 ]
-earlier-named (p ∷ ps) (suc i) a v w d lt named =
-    let below : i < length ps = omega arith in
-    ap (λ (u : ℕ). if p.address == a then p.earlier else u) (earlier-named ps i a v w d below named)
+
+-- the pairs of sets tell the words as they are
+pub earlier-pairs_of : (m : List ℕ) (sets : List Waiting) (a : ℕ)
+    → earlier (pairs_of m sets) a (slice_index m a) ≡ slice_index m a
+unfolding earlier
+earlier-pairs_of m [] a = refl
+earlier-pairs_of m (s ∷ rest) a = elim (eqb_tells s.at a) [
+  | inl same ↦
+      ap (λ (b : Bool). if b then slice_index m s.at else earlier (pairs_of m rest) a (slice_index m a)) same.0
+      ∙ ap (λ (j : ℕ). slice_index m j) same.1
+  | inr other ↦
+      ap (λ (b : Bool). if b then slice_index m s.at else earlier (pairs_of m rest) a (slice_index m a)) other.0
+      ∙ earlier-pairs_of m rest a
+]
+
+-- they name each address
+names-after : (qs ps : List Pair) (a : ℕ) → Names ps a → Names (qs ++ ps) a
+names-after [] ps a named = named
+names-after (q ∷ qs) ps a named = inr (names-after qs ps a named)
+
+all_named-more : (ps qs : List Pair) (sets : List Waiting) → ((a : ℕ) → Names ps a → Names qs a) → AllNamed ps sets
+    → AllNamed qs sets
+all_named-more ps qs [] more named = tt
+all_named-more ps qs (s ∷ rest) more named = (more s.at named.0, all_named-more ps qs rest more named.1)
+
+all_named-pairs_of : (m : List ℕ) (sets : List Waiting) → AllNamed (pairs_of m sets) sets
+all_named-pairs_of m [] = tt
+all_named-pairs_of m (s ∷ rest) =
+    (inl refl, all_named-more (pairs_of m rest) (pairs_of m (s ∷ rest)) rest (λ a named. inr named) (all_named-pairs_of m rest))
+
+pub all_named-after : (qs : List Pair) (m : List ℕ) (sets : List Waiting) → AllNamed (qs ++ pairs_of m sets) sets
+all_named-after qs m sets =
+    all_named-more (pairs_of m sets) (qs ++ pairs_of m sets) sets (names-after qs (pairs_of m sets)) (all_named-pairs_of m sets)
+
+-- of data words
+pub pairs_of-places : (m l : List ℕ) (sets : List Waiting) (least : ℕ) → length l ≡ WORDS → AreSets least sets
+    → All (λ p. IsDataAddress l p.address) (pairs_of m sets)
+pairs_of-places m l [] least size h = All-nil (λ p. IsDataAddress l p.address)
+pairs_of-places m l (s ∷ rest) least size h =
+    All-cons (λ p. IsDataAddress l p.address) (record { address = s.at; earlier = slice_index m s.at }) (pairs_of m rest)
+    (h.0.outside, (let within : s.at < length l = omega (arith, h.0.within, size) in within))
+    (pairs_of-places m l rest (s.at + 1) size h.1)
+
+-- as words of the journal
+pub length-pair_words : (m : List ℕ) (sets : List Waiting) → length (pair_words m sets) ≡ 2 * length sets
+length-pair_words m [] = refl
+length-pair_words m (s ∷ rest) = omega (arith, length-pair_words m rest)
+
+pub pair_words-append : (m : List ℕ) (sets others : List Waiting)
+    → pair_words m (sets ++ others) ≡ pair_words m sets ++ pair_words m others
+pair_words-append m [] others = refl
+pair_words-append m (s ∷ rest) others =
+    ap (λ (l : List ℕ). s.at ∷ slice_index m s.at ∷ l) (pair_words-append m rest others)
+
+-- written into the journal they are its pairs
+pub pairs_from-written : (e m : List ℕ) (sets : List Waiting) (g : ℕ) → JOURNAL + 2 * (g + length sets) ≤ length m
+    → pairs_from (written m (JOURNAL + 2 * g) (pair_words e sets)) g (length sets) ≡ pairs_of e sets
+unfolding pairs_from
+pairs_from-written e m [] g fits = refl
+pairs_from-written e m (s ∷ rest) g fits =
+    let pair : ℕ → ℕ → Pair = λ a w. record { address = a; earlier = w } in
+    let word : ℕ = slice_index e s.at in
+    let here : ℕ = JOURNAL + 2 * g in
+    let once : List ℕ = slice_set m here s.at in
+    let twice : List ℕ = slice_set once (here + 1) word in
+    let last : List ℕ = written twice (here + 1 + 1) (pair_words e rest) in
+    let low : here < here + 1 + 1 = omega arith in
+    let low_next : here + 1 < here + 1 + 1 = omega arith in
+    let within : here < length m = omega arith in
+    let within_next : here + 1 < length once = omega (arith, length-set m here s.at) in
+    let differs : here ≢ here + 1 = omega arith in
+    let first : slice_index last here ≡ s.at =
+    written-elsewhere twice (pair_words e rest) (here + 1 + 1) here (inl low)
+    ∙ get_or-set_other once (here + 1) here word 0 differs ∙ get_or-set_same m here s.at 0 within in
+    let second : slice_index last (here + 1) ≡ word =
+    written-elsewhere twice (pair_words e rest) (here + 1 + 1) (here + 1) (inl low_next)
+    ∙ get_or-set_same once (here + 1) word 0 within_next in
+    let on : JOURNAL + 2 * g + 1 + 1 ≡ JOURNAL + 2 * (g + 1) = omega arith in
+    let fits_on : JOURNAL + 2 * (g + 1 + length rest) ≤ length twice =
+    omega (arith, length-set m here s.at, length-set once (here + 1) word) in
+    ap (λ (a : ℕ). pair a (slice_index last (here + 1)) ∷ pairs_from last (g + 1) (length rest)) first
+    ∙ ap (λ (w : ℕ). pair s.at w ∷ pairs_from last (g + 1) (length rest)) second
+    ∙ ap (λ (ps : List Pair). pair s.at word ∷ ps)
+    (ap (λ (a : ℕ). pairs_from (written twice a (pair_words e rest)) (g + 1) (length rest)) on
+    ∙ pairs_from-written e twice rest (g + 1) fits_on)
 
 -- a look-up among all pairs forgets what one among the later pairs gave
 pub earlier-drop : (ps : List Pair) (i a w : ℕ) → earlier ps a (earlier (drop i ps) a w) ≡ earlier ps a w

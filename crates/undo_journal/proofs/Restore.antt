@@ -3,6 +3,7 @@ use Rattle.std.proofs.Common.{◌≡◌, ◌≢◌, ◌==◌, ◌⊎◌, ◌<◌
 use Rattle.std.proofs.Common.{slice_index, slice_set, refl, sym, ◌∙◌, ap, subst, inl, inr, drop, arith, get_or-set_same}
 use Rattle.std.proofs.Common.{get_or-set_other}
 use Rattle.std.specs.Prelude.{All, if◌then◌else◌}
+use Rattle.undo_journal.specs.Spending.{rollback_writes}
 use Rattle.std.proofs.Math.ListN.{length-set}
 use Rattle.std.proofs.Math.Seq.{drop-cons}
 use Rattle.std.proofs.lemmas.List.{drop_all}
@@ -207,3 +208,10 @@ module _ (m now : List ℕ) (sound : IsSound m) (left : ℕ) (so_far : now ≡ p
       (λ old. subst (λ (l : List ℕ). IsSound l) (sym (old ∙ so_far)) (sound-put_back m sound left))
       (λ new. subst (λ (l : List ℕ). IsSound l) (sym (end-done n within none new)) (undo_sound m))
       torn
+
+-- what a rollback of some pairs costs
+pub rollback_some : (pairs : ℕ) → pairs ≢ 0 → rollback_writes pairs ≡ pairs + 1
+rollback_some pairs some = elim (eqb_tells pairs 0) [
+  | inl none ↦ absurd (some none.1)
+  | inr other ↦ ap (λ (b : Bool). if b then 0 else pairs + 1) other.0
+]

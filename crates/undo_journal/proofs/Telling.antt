@@ -1,6 +1,7 @@
 -- What an answer tells of a board and of a store, at the exits of their calls.
 use Rattle.std.specs.Prelude.{Result, Ok, Err, OnOk, OnErr, IsErrAnd}
-use Rattle.std.proofs.Common.{◌≡◌, ◌⊎◌, ◌+◌, ℕ, true, false, refl, sym, ◌∙◌, ap, subst, inl, inr, arith}
+use Rattle.std.proofs.Common.{◌≡◌, ◌⊎◌, ◌+◌, ℕ, List, true, false, refl, sym, ◌∙◌, ap, subst, inl, inr, arith}
+use Rattle.undo_journal.specs.declared.batch.Waiting.{Waiting}
 use Rattle.std.proofs.Math.Logic.{⊎_elim, ⊎_map}
 use Rattle.nvm_board.specs.declared.board.DeviceErr.{DeviceErr}
 use Rattle.nvm_board.specs.declared.board.DeviceErr.TheVariants as device
@@ -94,9 +95,10 @@ opens_not device.Fault f old new is told =
     let family : OpenFault → Type 0 = λ x. OpensNot x old new in subst family (sym is) (told.fault refl)
 
 -- a store of which only the room changes
-pub reports_unused : (inside m : Memory) (used : ℕ) → inside ≡ m → Reports m (record inside { used = used })
-reports_unused inside m used seen =
+pub reports_unused : (inside m : Memory) (used : ℕ) (waiting : List Waiting) → inside ≡ m
+    → Reports m (record inside { used = used; waiting = waiting })
+reports_unused inside m used waiting seen =
     let same = reports_same inside in
-    let family : Memory → Type 0 = λ x. Reports x (record inside { used = used }) in
+    let family : Memory → Type 0 = λ x. Reports x (record inside { used = used; waiting = waiting }) in
     subst family seen
     (record { stuck = same.stuck; works = same.works; fails = same.fails; sound = same.sound })

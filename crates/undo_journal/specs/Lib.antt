@@ -2,8 +2,11 @@ pub use Rattle.nvm_board.specs.Facts
 pub use Rattle.nvm_board.specs.Torn
 pub mod Undo
 pub mod Spending
+pub mod Batches
+pub mod Parts
 pub mod Memory
 pub mod Commits
+pub mod Working
 pub mod Lent
 pub mod Calls
 pub mod laws

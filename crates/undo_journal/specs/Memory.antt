@@ -1,22 +1,28 @@
 -- What contracts know of a store: its value, the two lists of words that it is, and how its calls report.
-use Rattle.std.specs.Prelude.{◌≡◌, ◌⊎◌, ◌-◌, ℕ, true, false, List, length, Option, Some, None, Result}
+use Rattle.std.specs.Prelude.{◌≡◌, ◌≢◌, ◌⊎◌, ◌<◌, ◌≤◌, ◌+◌, ◌-◌, ◌*◌, ◌/◌, ◌%◌, ◌==◌, ℕ, true, false, List}
+use Rattle.std.specs.Prelude.{if◌then◌else◌, [], length, IsSome, Option, Some, None, Result}
 use Rattle.std.specs.Result.{result_map_both}
-use Rattle.nvm_board.specs.declared.board.TheConstants.{WORDS}
+use Rattle.nvm_board.specs.declared.board.TheConstants.{PAGE_WORDS, WORDS}
 use Rattle.nvm_board.specs.declared.board.DeviceErr.{DeviceErr}
 use Rattle.nvm_board.specs.declared.board.DeviceErr.TheVariants as device
+use Rattle.nvm_board.specs.Aims.{AimsOn}
 use Rattle.nvm_board.specs.Facts.{Facts, AreWords, Steady, GoesDark, Fails}
 use Rattle.undo_journal.specs.declared.error.StoreErr.{StoreErr}
 use Rattle.undo_journal.specs.declared.error.StoreErr.TheVariants.{PowerLost, Fault}
 use Rattle.undo_journal.specs.declared.error.OpenFault.{OpenFault}
 use Rattle.undo_journal.specs.declared.error.OpenFault.TheVariants as fault
 use Rattle.undo_journal.specs.declared.layout.TheConstants.{PAIRS}
+use Rattle.undo_journal.specs.declared.batch.TheConstants.{BATCH}
+use Rattle.undo_journal.specs.declared.batch.Waiting.{Waiting}
+use Rattle.undo_journal.specs.Batches.{overlay, look_up, joined, batch_writes, AreSets}
 use Rattle.undo_journal.specs.Undo.{gate, undo, data_words, IsSound, IsBadJournal}
 
--- A store: the facts of its board, why it has failed, and how much of its journal is in use.
+-- A store: the facts of its board, why it has failed, how many pairs of its journal are in use, and the sets that wait.
 pub record Memory : Type 0 where
   pub facts : Facts
   pub failed : Option StoreErr
   pub used : ℕ
+  pub waiting : List Waiting
 
 -- the words that a cut or a fault leaves: those after undo
 abbrev pub committed : Memory → List ℕ
@@ -24,11 +30,67 @@ committed m = data_words (undo m.facts.words)
 
 -- the words that a read gives
 abbrev pub current : Memory → List ℕ
-current m = data_words m.facts.words
+current m = data_words (overlay m.waiting m.facts.words)
+
+-- how many pairs the sets of the transaction take, those that wait among them
+abbrev pub taken : Memory → ℕ
+taken m = m.used + length m.waiting
 
 -- how many more sets there is room for
 abbrev pub room : Memory → ℕ
-room m = PAIRS - m.used
+room m = PAIRS - taken m
+
+-- the device writes so far, with those that are still to come of the sets that wait
+abbrev pub spent : Memory → ℕ
+spent m = m.facts.writes + batch_writes m.waiting
+
+-- device writes of a commit: of what waits, and of the gate; none where no set was made
+abbrev pub commit_writes : Memory → ℕ
+commit_writes m = if taken m == 0 then 0 else batch_writes m.waiting + 1
+
+-- the word of this address waits, or else nothing waits behind a written batch, so that any word costs no more
+abbrev pub EndsAt : Memory → ℕ → Type 0
+EndsAt m a = ((m.waiting ≡ []) × (0 < m.used)) ⊎ IsSome (look_up a m.waiting)
+
+-- a set of this address goes on with the run of the word before it, which lies in the same page
+abbrev pub GoesOn : Memory → ℕ → Type 0
+GoesOn m a = (a % PAGE_WORDS ≢ 0) × EndsAt m (a - 1)
+
+-- Device writes of so many sets that lie in one run, but for the gate of their commit: three for each eight, of their pairs, of
+-- the gate and of their words. The words of the first eight are counted by `InRuns`.
+abbrev pub run_writes : ℕ → ℕ
+run_writes sets = 3 * ((sets + 7) / 8) - 1
+
+-- Costs no more than sets that are made in so many runs of successive addresses of a page, each word of a run right after the one
+-- before it: each run more costs one device write more.
+pub record InRuns (runs : ℕ) (old new : Memory) : Type 0 where
+  pub writes : spent new + run_writes (taken old) ≤ spent old + run_writes (taken new) + runs
+  pub more : old.facts.writes ≤ new.facts.writes
+  pub cut : AimsOn old.facts new.facts
+  pub compares : new.facts.compares ≡ old.facts.compares
+  pub matches : new.facts.matches ≡ old.facts.matches
+
+-- A set that waits with others, which are fewer than a batch: nothing is written.
+pub record Waits (sets : List Waiting) (old new : Memory) : Type 0 where
+  pub few : length sets < BATCH
+  pub waiting : new.waiting ≡ sets
+  pub used : new.used ≡ old.used
+  pub facts : new.facts ≡ old.facts
+
+-- One that fills a batch, which is written.
+pub record FillsBatch (sets : List Waiting) (old new : Memory) : Type 0 where
+  pub full : length sets ≡ BATCH
+  pub waiting : new.waiting ≡ []
+  pub used : new.used ≡ old.used + BATCH
+  pub writes : new.facts.writes ≡ old.facts.writes + batch_writes sets
+
+-- what a set makes of those that wait, where it is answered
+abbrev pub Joins : Waiting → Memory → Memory → Type 0
+Joins set old new = Waits (joined set old.waiting) old new ⊎ FillsBatch (joined set old.waiting) old new
+
+-- device writes of a set: those of the batch that it fills, else none
+abbrev pub set_writes : Waiting → Memory → ℕ
+set_writes set m = if length (joined set m.waiting) == BATCH then batch_writes (joined set m.waiting) else 0
 
 -- no call has failed, and the board is lit
 pub record IsOpen (m : Memory) : Type 0 where
@@ -39,9 +101,9 @@ pub record IsOpen (m : Memory) : Type 0 where
   pub committed_fit : AreWords (committed m)
   pub current_fit : AreWords (current m)
 
--- no transaction is under way
+-- no transaction is under way, or it has made no set yet
 abbrev pub IsIdle : Memory → Type 0
-IsIdle m = m.used ≡ 0
+IsIdle m = taken m ≡ 0
 
 -- open, with no transaction: no pair counts
 pub record IsReady (m : Memory) : Type 0 where
@@ -54,17 +116,23 @@ pub record IsReady (m : Memory) : Type 0 where
 pub record KeepsWords (old new : Memory) : Type 0 where
   pub committed_words : committed new ≡ committed old
   pub current_words : current new ≡ current old
-  pub used : new.used ≡ old.used
+  pub used : taken new ≡ taken old
+  pub waiting : new.waiting ≡ old.waiting
 
--- what the invariant of a store says while it has not failed: the gate counts the pairs in use
-pub record IsHeld (facts : Facts) (used : ℕ) : Type 0 where
+-- What the invariant of a store says while it has not failed: the gate counts the pairs in use, which are whole batches; those
+-- that wait are less than one, and find room.
+pub record IsHeld (facts : Facts) (used : ℕ) (waiting : List Waiting) : Type 0 where
   pub sound : IsSound facts.words
   pub counts : gate facts.words ≡ used
   pub lit : facts.dark ≡ false
+  pub whole : used % BATCH ≡ 0
+  pub few : length waiting < BATCH
+  pub fits : used + length waiting ≤ PAIRS
+  pub sets : AreSets 0 waiting
 
 -- the invariant of a store: while it has not failed, it is held; where it failed for lost power, its board is dark
 pub record IsTrueToBoard (m : Memory) : Type 0 where
-  pub works : m.failed ≡ None → IsHeld m.facts m.used
+  pub works : m.failed ≡ None → IsHeld m.facts m.used m.waiting
   pub lost : m.failed ≡ Some PowerLost → m.facts.dark ≡ true
 
 -- the store's word for a device's error

@@ -1,5 +1,5 @@
 -- What calls on a board may cost.
-use Rattle.std.specs.Prelude.{◌≡◌, ◌==◌, ◌+◌, ◌≤◌, ℕ, if◌then◌else◌}
+use Rattle.std.specs.Prelude.{◌≡◌, ◌==◌, ◌+◌, ◌*◌, ◌/◌, ◌≤◌, ℕ, if◌then◌else◌}
 use Rattle.nvm_board.specs.Aims.{AimStays, AimsOn}
 use Rattle.nvm_board.specs.Facts.{Facts}
 use Rattle.undo_journal.specs.Undo.{gate}
@@ -36,3 +36,8 @@ rollback_writes pairs = if pairs == 0 then 0 else pairs + 1
 -- device writes of an opening at most
 abbrev pub start_writes : Facts → ℕ
 start_writes facts = rollback_writes (gate facts.words)
+
+-- device writes at most of a transaction of so many sets in so many runs, with its commit: for each eight sets one of their
+-- pairs, one of the gate and one of their words, and for each run but the first one more
+abbrev pub transaction_writes : ℕ → ℕ → ℕ
+transaction_writes sets runs = 3 * ((sets + 7) / 8) + runs

@@ -1,11 +1,12 @@
-//! The work of the journal on a board: a set behind its pair, the test of a journal, and the rollback.
+//! The work of the journal on a board: the gate, the test of a journal, and the rollback.
 ghost use Rattle.std.specs.Prelude.{◌≡◌, ◌⊎◌, ◌↔◌, ◌+◌, ◌*◌, ◌<◌, ◌≤◌, ℕ, false, IsTrue, IfOk, OnOk, MatchOption};
-ghost use Rattle.std.specs.Prelude.{[], ◌∷◌, slice_set};
+ghost use Rattle.std.specs.Prelude.{◌%◌, length, slice_set};
+ghost use Rattle.nvm_board.specs.Torn.{Torn, written};
+ghost use Rattle.undo_journal.specs.declared.batch.TheConstants.{BATCH};
 ghost use Rattle.nvm_board.specs.declared.board.TheConstants.{WORDS};
 ghost use Rattle.nvm_board.specs.Facts.{Answered};
-ghost use Rattle.nvm_board.specs.Torn.{Torn, written};
 ghost use Rattle.undo_journal.specs.declared.layout.TheConstants.{GATE, JOURNAL, PAIRS};
-ghost use Rattle.undo_journal.specs.Undo.{gate, pair_at, undo, data_words, IsOutside, IsDataAddress, IsSound};
+ghost use Rattle.undo_journal.specs.Undo.{gate, pair_at, undo, IsOutside, IsDataAddress, IsSound};
 ghost use Rattle.undo_journal.specs.Undo.{IsBadJournal};
 ghost use Rattle.undo_journal.specs.Spending.{WritesAtMost, KeepsBoard, rollback_writes};
 
@@ -33,6 +34,7 @@ pub(crate) fn write_gate<B: Board>(board: &mut B, count: u16) -> Result<(), Devi
     ensures torn { ((B.facts board.new).words ≡ (B.facts board.old).words)
         ⊎ ((B.facts board.new).words ≡ slice_set (B.facts board.old).words GATE count) }
     ensures light { Answered (B.facts board.old) (B.facts board.new) result }
+    ensures counted { OnOk result ((B.facts board.new).writes ≡ (B.facts board.old).writes + 1) }
     ensures writes { WritesAtMost 1 (B.facts board.old) (B.facts board.new) }
 {
     write_word(board, Address { number: GATE }, u32::from(count))
@@ -48,43 +50,21 @@ fn pair_address(i: u16) -> Address
     }
 }
 
-/// Writes a pair into the journal.
-fn write_pair<B: Board>(board: &mut B, i: u16, at: Address, earlier: u32) -> Result<(), DeviceErr>
-    requires { i < PAIRS }
+/// Writes pairs into the journal, which lie in one page.
+pub(crate) fn write_pairs<B: Board>(board: &mut B, i: u16, words: &[u32]) -> Result<(), DeviceErr>
+    requires whole { i % BATCH ≡ 0 }
+    requires room { 2 * i + length words.now ≤ 2 * PAIRS }
+    requires some { 0 < length words.now }
+    requires few { length words.now ≤ 2 * BATCH }
     ensures done { OnOk result ((B.facts board.new).words ≡ written (B.facts board.old).words (JOURNAL + 2 * i)
-        (at.number ∷ earlier ∷ [])) }
-    ensures torn { Torn (B.facts board.old).words (JOURNAL + 2 * i) (at.number ∷ earlier ∷ [])
-        (B.facts board.new).words }
+        words.now) }
+    ensures torn { Torn (B.facts board.old).words (JOURNAL + 2 * i) words.now (B.facts board.new).words }
     ensures light { Answered (B.facts board.old) (B.facts board.new) result }
+    ensures counted { OnOk result ((B.facts board.new).writes ≡ (B.facts board.old).writes + 1) }
     ensures writes { WritesAtMost 1 (B.facts board.old) (B.facts board.new) }
 {
     let (page, place) = pair_address(i).page_and_place();
-    board.write(page, place, &[u32::from(at.number), earlier])
-}
-
-/// Sets a data word behind its earlier word: first the pair, then the gate that counts it, then the word.
-pub(crate) fn save_and_write<B: Board>(
-    board: &mut B,
-    used: u16,
-    at: Address,
-    word: u32,
-) -> Result<(), DeviceErr>
-    requires sound { IsSound (B.facts board.old).words }
-    requires counts { gate (B.facts board.old).words ≡ used }
-    requires room { used < PAIRS }
-    requires place { IsDataAddress (B.facts board.old).words at.number }
-    ensures kept { data_words (undo (B.facts board.new).words) ≡ data_words (undo (B.facts board.old).words) }
-    ensures done { OnOk result (data_words (B.facts board.new).words ≡ slice_set (data_words (B.facts board.old).words)
-        at.number word) }
-    ensures sound { IsSound (B.facts board.new).words }
-    ensures counts { OnOk result (gate (B.facts board.new).words ≡ used + 1) }
-    ensures light { Answered (B.facts board.old) (B.facts board.new) result }
-    ensures writes { WritesAtMost 3 (B.facts board.old) (B.facts board.new) }
-{
-    let earlier = board.read(at.number)?;
-    write_pair(board, used, at, earlier)?;
-    write_gate(board, used + 1)?;
-    write_word(board, at, word)
+    board.write(page, place, words)
 }
 
 /// Whether an address is that of a data word.
@@ -138,6 +118,7 @@ fn put_back<B: Board>(board: &mut B, i: u16) -> Result<(), DeviceErr>
         ((B.facts board.new).words ≡ (B.facts board.old).words)
         ⊎ ((B.facts board.new).words ≡ slice_set (B.facts board.old).words p.address p.earlier) }
     ensures light { Answered (B.facts board.old) (B.facts board.new) result }
+    ensures counted { OnOk result ((B.facts board.new).writes ≡ (B.facts board.old).writes + 1) }
     ensures writes { WritesAtMost 1 (B.facts board.old) (B.facts board.new) }
 {
     let pair = pair_address(i);
@@ -157,6 +138,7 @@ pub(crate) fn roll_back<B: Board>(board: &mut B, count: u16) -> Result<(), Devic
     ensures done { OnOk result ((B.facts board.new).words ≡ undo (B.facts board.old).words) }
     ensures light { Answered (B.facts board.old) (B.facts board.new) result }
     ensures none { count ≡ 0 → B.facts board.new ≡ B.facts board.old }
+    ensures counted { OnOk result ((B.facts board.new).writes ≡ (B.facts board.old).writes + rollback_writes count) }
     ensures writes { WritesAtMost (rollback_writes count) (B.facts board.old) (B.facts board.new) }
 {
     if count == 0 {

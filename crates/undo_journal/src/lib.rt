@@ -3,6 +3,7 @@
 #![tactic(auto)]
 
 mod address;
+mod batch;
 mod error;
 mod journal;
 pub mod laws;
@@ -10,6 +11,7 @@ mod layout;
 mod store;
 mod txn;
 
+pub use batch::{BATCH, Waiting};
 pub use error::{OpenFault, StoreErr};
 pub use layout::{GATE, GATE_PAGE, JOURNAL, JOURNAL_END, JOURNAL_END_PAGE, JOURNAL_PAGE, PAIRS};
 pub use nvm_board::{

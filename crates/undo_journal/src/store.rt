@@ -12,12 +12,13 @@ ghost use Rattle.undo_journal.specs.declared.error.StoreErr.TheVariants.{PowerLo
 ghost use Rattle.undo_journal.specs.Undo.{undo, data_words, IsDataAddress, IsDataRun, IsSound};
 ghost use Rattle.undo_journal.specs.Spending.{KeepsShut, WritesAtMost, rollback_writes, start_writes};
 ghost use Rattle.undo_journal.specs.Commits.{StaysShut, TurnsGate};
-ghost use Rattle.undo_journal.specs.Memory.{committed, current, room, store_result_of, IsOpen, IsIdle};
-ghost use Rattle.undo_journal.specs.Memory.{IsReady, KeepsWords, OpensNot, Reports};
+ghost use Rattle.undo_journal.specs.Memory.{committed, current, commit_writes, room, set_writes, store_result_of, taken};
+ghost use Rattle.undo_journal.specs.Memory.{EndsAt, GoesOn, InRuns, IsIdle, IsOpen, IsReady, Joins, KeepsWords, OpensNot, Reports};
 
 use crate::address::Address;
+use crate::batch::{Batch, Waiting, add, finish, waiting_word};
 use crate::error::{OpenFault, StoreErr};
-use crate::journal::{roll_back, save_and_write, sound_pairs, write_gate, write_word};
+use crate::journal::{roll_back, sound_pairs, write_word};
 use crate::layout::PAIRS;
 use crate::txn::Txn;
 use nvm_board::{Armed, Board, DeviceErr, Faultless, has_no_fault};
@@ -30,7 +31,7 @@ use std::marker::Model;
 pub struct Store<B: Board> {
     board: B,
     failed: Option<StoreErr>,
-    used: u16,
+    batch: Batch,
 }
 
 impl<B: Board> Model for Store<B> {
@@ -38,9 +39,19 @@ impl<B: Board> Model for Store<B> {
 
     ghost Value = { Memory };
 
-    ghost view = { λ s. record { facts = B.facts s.board; failed = s.failed; used = s.used } };
+    ghost view = { λ s. record {
+      facts = B.facts s.board;
+      failed = s.failed;
+      used = s.batch.used;
+      waiting = s.batch.waiting.items;
+    } };
 
-    ghost invariant = { λ s. IsTrueToBoard (record { facts = B.facts s.board; failed = s.failed; used = s.used }) };
+    ghost invariant = { λ s. IsTrueToBoard (record {
+      facts = B.facts s.board;
+      failed = s.failed;
+      used = s.batch.used;
+      waiting = s.batch.waiting.items;
+    }) };
 }
 
 impl<B: Board> Store<B> {
@@ -61,6 +72,7 @@ impl<B: Board> Store<B> {
         ensures light { IfOk result (λ s. Steady (B.facts board) s.facts) }
         ensures shut { IfOk result (λ s. KeepsShut (B.facts board) s.facts) }
         ensures writes { IfOk result (λ s. WritesAtMost (start_writes (B.facts board)) (B.facts board) s.facts) }
+        ensures counted { IfOk result (λ s. s.facts.writes ≡ (B.facts board).writes + start_writes (B.facts board)) }
 
         // The undone words stay where the store is not opened, too, and undo is defined just where it was.
         ensures kept_err { IfErr result (λ e. undo (B.facts e.0).words ≡ undo (B.facts board).words) }
@@ -79,7 +91,7 @@ impl<B: Board> Store<B> {
             Ok(()) => Ok(Store {
                 board,
                 failed: None,
-                used: 0,
+                batch: Batch::new(),
             }),
             Err(e) => Err((board, OpenFault::from(e))),
         }
@@ -99,6 +111,9 @@ impl<B: Board> Store<B> {
         ensures dark { IsErrOf result PowerLost → self.new.facts.dark ≡ true }
     {
         self.check()?;
+        if let Some(word) = waiting_word(&self.batch.waiting, at) {
+            return Ok(word);
+        }
         let answer = self.board.read(at);
         noted(&mut self.failed, answer)
     }
@@ -147,6 +162,7 @@ impl<B: Board> Store<B> {
         ensures done { OnOk result (committed self.new ≡ written (committed self.old) (address page first) words.now) }
         ensures shut { StaysShut self.old self.new }
         ensures store { Changes 1 self.old self.new (result_err result) }
+        ensures counted { OnOk result (self.new.facts.writes ≡ self.old.facts.writes + 1) }
         ensures dark { IsErrOf result PowerLost → self.new.facts.dark ≡ true }
     {
         self.check()?;
@@ -190,7 +206,7 @@ impl<B: Board> Store<B> {
         let Store {
             board,
             failed: _,
-            used: _,
+            batch: _,
         } = self;
         board
     }
@@ -211,7 +227,7 @@ impl<B: Board> Store<B> {
     pub(crate) fn room(&self) -> usize
         ensures { result ≡ room self.now }
     {
-        usize::from(PAIRS.saturating_sub(self.used))
+        usize::from(PAIRS).saturating_sub(usize::from(self.batch.used) + self.batch.waiting.len())
     }
 
     /// A set of a transaction.
@@ -221,34 +237,45 @@ impl<B: Board> Store<B> {
         ensures kept { committed self.new ≡ committed self.old }
         ensures done { OnOk result (current self.new ≡ slice_set (current self.old) at word) }
         ensures room { room self.old ≤ room self.new + 1 }
+        ensures taken { taken self.new ≤ taken self.old + 1 }
         ensures ready { OnOk result (IsOpen self.new) }
         ensures reports { Reports self.old self.new }
         ensures tells { self.new.failed ≡ result_err result }
         ensures dark { IsErrOf result PowerLost → self.new.facts.dark ≡ true }
-        ensures writes { WritesAtMost 3 self.old.facts self.new.facts }
+        ensures runs { InRuns 1 self.old self.new }
+        ensures goes_on { GoesOn self.old at → InRuns 0 self.old self.new }
+        ensures next { OnOk result (EndsAt self.new at) }
+        ensures spends { WritesAtMost (set_writes (record { at = at; word = word }) self.old) self.old.facts self.new.facts }
+        ensures joins { OnOk result (Joins (record { at = at; word = word }) self.old self.new) }
     {
         self.check()?;
-        // The pair counts as used where the set fails, too: the gate may have risen over it.
-        let pair = self.used;
-        self.used += 1;
-        let answer = save_and_write(&mut self.board, pair, Address { number: at }, word);
+        let answer = add(&mut self.board, &mut self.batch, Waiting { at, word });
         noted(&mut self.failed, answer)
     }
 
-    /// Makes the current words the committed ones: the gate turns to 0, and that word alone decides.
+    /// Makes the current words the committed ones: what waits is written, and the gate turns to 0, and that word alone decides.
     pub(crate) fn commit(&mut self) -> Result<(), StoreErr>
         ensures any_exit { (committed self.new ≡ committed self.old)
             ⊎ ((committed self.new ≡ current self.old) × TurnsGate (committed self.old) self.new) }
+        ensures last { (committed self.new ≡ committed self.old)
+            ⊎ (self.old.facts.writes + commit_writes self.old ≤ self.new.facts.writes + 1) }
         ensures done { OnOk result (committed self.new ≡ current self.old) }
-        ensures store { Changes 1 self.old self.new (result_err result) }
+        ensures store { Changes (commit_writes self.old) self.old self.new (result_err result) }
+        ensures counted { OnOk result (self.new.facts.writes ≡ self.old.facts.writes + commit_writes self.old) }
         ensures dark { IsErrOf result PowerLost → self.new.facts.dark ≡ true }
     {
-        let checked = self.check();
-        // The transaction is over, also on a store that has failed.
-        self.used = 0;
-        checked?;
-        let answer = write_gate(&mut self.board, 0);
-        noted(&mut self.failed, answer)
+        match self.check() {
+            Ok(()) => {
+                let answer = finish(&mut self.board, &mut self.batch);
+                self.batch = Batch::new();
+                noted(&mut self.failed, answer)
+            }
+            Err(e) => {
+                // The transaction is over, also on a store that has failed.
+                self.batch = Batch::new();
+                Err(e)
+            }
+        }
     }
 
     /// Makes the committed words the current ones again.
@@ -256,12 +283,13 @@ impl<B: Board> Store<B> {
         ensures kept { committed self.new ≡ committed self.old }
         ensures done { OnOk result (current self.new ≡ committed self.old) }
         ensures store { Changes (rollback_writes self.old.used) self.old self.new (result_err result) }
+        ensures counted { OnOk result (self.new.facts.writes ≡ self.old.facts.writes + rollback_writes self.old.used) }
         ensures dark { IsErrOf result PowerLost → self.new.facts.dark ≡ true }
     {
         let checked = self.check();
         // The transaction is over, also on a store that has failed.
-        let count = self.used;
-        self.used = 0;
+        let count = self.batch.used;
+        self.batch = Batch::new();
         checked?;
         let answer = roll_back(&mut self.board, count);
         noted(&mut self.failed, answer)

@@ -6,8 +6,10 @@ ghost use Rattle.nvm_board.specs.Torn.{written};
 ghost use Rattle.undo_journal.specs.declared.error.StoreErr.TheVariants.{PowerLost};
 ghost use Rattle.undo_journal.specs.Commits.{TurnsGate};
 ghost use Rattle.undo_journal.specs.Undo.{IsDataAddress, IsDataRun};
-ghost use Rattle.undo_journal.specs.Spending.{rollback_writes};
-ghost use Rattle.undo_journal.specs.Memory.{committed, current, room};
+ghost use Rattle.undo_journal.specs.Spending.{rollback_writes, WritesAtMost};
+ghost use Rattle.undo_journal.specs.Batches.{joined_run, touched_pages};
+ghost use Rattle.undo_journal.specs.declared.batch.TheConstants.{BATCH};
+ghost use Rattle.undo_journal.specs.Memory.{committed, current, commit_writes, room, set_writes, EndsAt, GoesOn, InRuns, Joins, Waits};
 
 use crate::error::StoreErr;
 use crate::store::Store;
@@ -43,8 +45,8 @@ impl<B: Board> Txn<'_, B> {
         self.store.read(at)
     }
 
-    /// Sets the current word at an address. It makes three device writes: the pair that takes the earlier word,
-    /// the gate that counts the pair, and the word.
+    /// Sets the current word at an address. It waits until eight sets do, or the commit comes: then they are written together,
+    /// in one device write for their pairs, one for the gate that counts these, and one for each run of words. An abandon drops it.
     ///
     /// # Errors
     /// The store's failure: power was lost, or the device failed, in this call or in an earlier one.
@@ -53,12 +55,17 @@ impl<B: Board> Txn<'_, B> {
         requires place { IsDataAddress (current (memory_of self.old)) at }
         ensures done { OnOk result (current (memory_of self.new) ≡ slice_set (current (memory_of self.old)) at word) }
         ensures store { SetsIn 1 self.old self.new (result_err result) }
+        ensures goes_on { GoesOn (memory_of self.old) at → InRuns 0 (memory_of self.old) (memory_of self.new) }
+        ensures next { OnOk result (EndsAt (memory_of self.new) at) }
+        ensures spends { WritesAtMost (set_writes (record { at = at; word = word }) (memory_of self.old))
+            (memory_of self.old).facts (memory_of self.new).facts }
+        ensures joins { OnOk result (Joins (record { at = at; word = word }) (memory_of self.old) (memory_of self.new)) }
         ensures dark { IsErrOf result PowerLost → (memory_of self.new).facts.dark ≡ true }
     {
         self.store.set(at, word)
     }
 
-    /// Sets the words from an address on, one by one.
+    /// Sets the words from an address on, one by one, so that they lie in one run for each page.
     ///
     /// # Errors
     /// The store's failure: power was lost, or the device failed, in this call or in an earlier one.
@@ -67,6 +74,9 @@ impl<B: Board> Txn<'_, B> {
         requires place { IsDataRun (current (memory_of self.old)) at (length words.now) }
         ensures done { OnOk result (current (memory_of self.new) ≡ written (current (memory_of self.old)) at words.now) }
         ensures store { SetsIn (length words.now) self.old self.new (result_err result) }
+        ensures runs { InRuns (touched_pages at (length words.now)) (memory_of self.old) (memory_of self.new) }
+        ensures waits { OnOk result (length (memory_of self.old).waiting + length words.now < BATCH
+            → Waits (joined_run at words.now (memory_of self.old).waiting) (memory_of self.old) (memory_of self.new)) }
         ensures dark { IsErrOf result PowerLost → (memory_of self.new).facts.dark ≡ true }
     {
         self.store.check()?;
@@ -76,8 +86,8 @@ impl<B: Board> Txn<'_, B> {
         Ok(())
     }
 
-    /// Makes the current words lasting, in one device write: the gate turns to 0. While that word is old the words before
-    /// stand, with it new these.
+    /// Makes the current words lasting: what waits is written, and then the gate turns to 0, in one device write. While that
+    /// word is old the words before stand, with it new these. Where no set was made it writes nothing.
     ///
     /// # Errors
     /// The store's failure: power was lost, or the device failed, in this call or in an earlier one.
@@ -85,22 +95,32 @@ impl<B: Board> Txn<'_, B> {
         ensures any_exit { (committed self.exit.0.now ≡ committed (memory_of self.entry))
             ⊎ ((committed self.exit.0.now ≡ current (memory_of self.entry))
             × TurnsGate (committed (memory_of self.entry)) self.exit.0.now) }
+        // Other words are committed by its last write alone.
+        ensures last { (committed self.exit.0.now ≡ committed (memory_of self.entry))
+            ⊎ ((memory_of self.entry).facts.writes + commit_writes (memory_of self.entry) ≤ self.exit.0.now.facts.writes + 1) }
         ensures done { OnOk result (committed self.exit.0.now ≡ current (memory_of self.entry)) }
-        ensures store { Changes 1 (memory_of self.entry) self.exit.0.now (result_err result) }
+        ensures store { Changes (commit_writes (memory_of self.entry)) (memory_of self.entry) self.exit.0.now (result_err
+            result) }
+        ensures counted { OnOk result (self.exit.0.now.facts.writes
+            ≡ (memory_of self.entry).facts.writes + commit_writes (memory_of self.entry)) }
         ensures dark { IsErrOf result PowerLost → self.exit.0.now.facts.dark ≡ true }
     {
         let Txn { store } = self;
         store.commit()
     }
 
-    /// Takes the sets back: earlier words from the last pair to the first, and then the gate.
+    /// Takes the sets back: what waits is dropped, and earlier words are put back from the last pair to the first, and then the
+    /// gate. Where nothing was written it writes nothing.
     ///
     /// # Errors
     /// The store's failure: power was lost, or the device failed, in this call or in an earlier one.
     pub fn abandon(self) -> Result<(), StoreErr>
         ensures kept { committed self.exit.0.now ≡ committed (memory_of self.entry) }
         ensures done { OnOk result (current self.exit.0.now ≡ committed (memory_of self.entry)) }
-        ensures store { Changes (rollback_writes (memory_of self.entry).used) (memory_of self.entry) self.exit.0.now (result_err result) }
+        ensures store { Changes (rollback_writes (memory_of self.entry).used) (memory_of self.entry) self.exit.0.now
+            (result_err result) }
+        ensures counted { OnOk result (self.exit.0.now.facts.writes
+            ≡ (memory_of self.entry).facts.writes + rollback_writes (memory_of self.entry).used) }
         ensures dark { IsErrOf result PowerLost → self.exit.0.now.facts.dark ≡ true }
     {
         let Txn { store } = self;

@@ -1,9 +1,14 @@
 -- Laws of calls in a row: reads, and the sets of a transaction.
-use Rattle.std.proofs.Common.{◌+◌, ◌≤◌, ℕ, refl, ◌∙◌, arith}
-use Rattle.nvm_board.specs.Facts.{Facts}
+use Rattle.std.proofs.Common.{◌≡◌, ◌+◌, ◌-◌, ◌≤◌, ◌<◌, ℕ, zero, suc, List, length, IsSome, refl, sym, ap, subst, ◌∙◌, arith}
+use Rattle.std.proofs.Math.Logic.{⊎_map}
+use Rattle.nvm_board.specs.Facts.{address, Facts}
+use Rattle.nvm_board.specs.declared.board.TheConstants.{PAGE_WORDS}
 use Rattle.nvm_board.specs.laws.Aims.{aim_same, aims_kept, aims_stay, aims_then}
+use Rattle.undo_journal.specs.declared.batch.Waiting.{Waiting}
 use Rattle.undo_journal.specs.declared.txn.Txn.{Txn}
-use Rattle.undo_journal.specs.Memory.{Memory}
+use Rattle.undo_journal.specs.Batches.{look_up, batch_writes, touched_pages}
+use Rattle.undo_journal.specs.Lent.{memory_of}
+use Rattle.undo_journal.specs.Memory.{Memory, InRuns, EndsAt, GoesOn, run_writes}
 use Rattle.undo_journal.specs.laws.Memory.{reports_same, reports_then}
 use Rattle.undo_journal.specs.Spending.{Advances, KeepsBoard, WritesAtMost}
 use Rattle.undo_journal.specs.Calls.{OnlyReads, TxnReads, Sets}
@@ -82,7 +87,7 @@ writes_after n a b f reads costs = spends_after n a.facts b.facts f reads.board 
 pub reads_same : (m : Memory) → OnlyReads m m
 reads_same m = record {
   board = record { cut = aim_same m.facts; words = refl; writes = refl; compares = refl; matches = refl };
-  keeps = record { committed_words = refl; current_words = refl; used = refl };
+  keeps = record { committed_words = refl; current_words = refl; used = refl; waiting = refl };
   reports = reports_same m;
 }
 
@@ -94,6 +99,7 @@ reads_then a b c first rest = record {
     committed_words = rest.keeps.committed_words ∙ first.keeps.committed_words;
     current_words = rest.keeps.current_words ∙ first.keeps.current_words;
     used = rest.keeps.used ∙ first.keeps.used;
+    waiting = rest.keeps.waiting ∙ first.keeps.waiting;
   };
   reports = reports_then a b c first.reports rest.reports;
 }
@@ -103,20 +109,66 @@ pub txn_reads_then : {B : Type 0} (a b c : Txn B) → TxnReads a b → TxnReads 
 txn_reads_then a b c first rest = record
     { same_store = rest.same_store ∙ first.same_store; reads = reads_then _ _ _ first.reads rest.reads }
 
+-- runs in a row
+pub runs_then : (i k n : ℕ) (a b c : Memory) → i + k ≤ n → InRuns i a b → InRuns k b c → InRuns n a c
+runs_then i k n a b c fits first rest = record {
+  writes = omega (arith, fits, first.writes, rest.writes);
+  more = omega (arith, first.more, rest.more);
+  cut = aims_then a.facts b.facts c.facts first.cut rest.cut;
+  compares = rest.compares ∙ first.compares;
+  matches = rest.matches ∙ first.matches;
+}
+
+-- reads make none
+pub reads_runs : (n : ℕ) (a b : Memory) → OnlyReads a b → InRuns n a b
+reads_runs n a b reads = record {
+  writes = omega (arith, reads.board.writes, ap batch_writes reads.keeps.waiting, ap (λ (t : ℕ). run_writes t) reads.keeps.used);
+  more = omega (arith, reads.board.writes);
+  cut = aims_kept a.facts b.facts reads.board.cut;
+  compares = reads.board.compares;
+  matches = reads.board.matches;
+}
+
+-- fewer runs are at most as many
+pub runs_weaker : (i n : ℕ) (a b : Memory) → i ≤ n → InRuns i a b → InRuns n a b
+runs_weaker i n a b fits runs = record {
+  writes = omega (arith, fits, runs.writes);
+  more = runs.more;
+  cut = runs.cut;
+  compares = runs.compares;
+  matches = runs.matches;
+}
+
+-- words of one page are one run
+pub runs_in_page : (page place at n : ℕ) (a b : Memory) → at ≡ address page place → place + n ≤ PAGE_WORDS
+    → InRuns (touched_pages at n) a b → InRuns 1 a b
+runs_in_page page place at n a b is fits runs = runs_weaker (touched_pages at n) 1 a b (few n fits) runs
+  where
+    few : (k : ℕ) → place + k ≤ PAGE_WORDS → touched_pages at k ≤ 1
+    few zero fits = omega arith
+    few (suc k) fits = omega (arith, is, fits)
+
+-- reads leave the end of a run
+pub ends_kept : (a b : Memory) (at : ℕ) → OnlyReads a b → EndsAt a at → EndsAt b at
+ends_kept a b at reads ends = ⊎_map
+    (λ begun. (
+      reads.keeps.waiting ∙ begun.0,
+      (let u : 0 < b.used = omega (arith, reads.keeps.used, ap (λ (l : List Waiting). length l) reads.keeps.waiting, begun.1) in u),
+    ))
+    (λ waits. subst (λ (l : List Waiting). IsSome (look_up at l)) (sym reads.keeps.waiting) waits) ends
+
+pub goes_on_kept : (a b : Memory) (at : ℕ) → OnlyReads a b → GoesOn a at → GoesOn b at
+goes_on_kept a b at reads goes = (goes.0, ends_kept a b (at - 1) reads goes.1)
+
 -- sets in a row
 pub sets_then : {B : Type 0} (i k n : ℕ) (a b c : Txn B) → i + k ≤ n → Sets i a b → Sets k b c → Sets n a c
 sets_then i k n a b c fits first rest = record {
   same_store = rest.same_store ∙ first.same_store;
   kept = rest.kept ∙ first.kept;
   room = omega (arith, fits, first.room, rest.room);
+  taken = omega (arith, fits, first.taken, rest.taken);
   reports = reports_then _ _ _ first.reports rest.reports;
-  writes = record {
-    writes = omega (arith, fits, first.writes.writes, rest.writes.writes);
-    more = omega (arith, first.writes.more, rest.writes.more);
-    cut = aims_then _ _ _ first.writes.cut rest.writes.cut;
-    compares = rest.writes.compares ∙ first.writes.compares;
-    matches = rest.writes.matches ∙ first.writes.matches;
-  };
+  writes = runs_then i k n (memory_of a) (memory_of b) (memory_of c) fits first.writes rest.writes;
 }
 
 -- reads are no sets
@@ -125,8 +177,9 @@ reads_sets n a b reads = record {
   same_store = reads.same_store;
   kept = reads.reads.keeps.committed_words;
   room = omega (arith, reads.reads.keeps.used);
+  taken = omega (arith, reads.reads.keeps.used);
   reports = reads.reads.reports;
-  writes = keeping_spends _ _ _ reads.reads.board;
+  writes = reads_runs n (memory_of a) (memory_of b) reads.reads;
 }
 
 -- fewer sets are at most as many
@@ -135,12 +188,7 @@ sets_weaker i n a b fits sets = record {
   same_store = sets.same_store;
   kept = sets.kept;
   room = omega (arith, fits, sets.room);
+  taken = omega (arith, fits, sets.taken);
   reports = sets.reports;
-  writes = record {
-    writes = omega (arith, fits, sets.writes.writes);
-    more = sets.writes.more;
-    cut = sets.writes.cut;
-    compares = sets.writes.compares;
-    matches = sets.writes.matches;
-  };
+  writes = runs_weaker i n (memory_of a) (memory_of b) fits sets.writes;
 }

@@ -1,11 +1,14 @@
 -- Laws of a store's value: how calls in a row report and what they spend.
 use Rattle.std.specs.Prelude.{Option, Some, None}
-use Rattle.std.proofs.Common.{◌≡◌, ◌+◌, ℕ, length, refl, sym, ◌∙◌, ap, subst, arith}
+use Rattle.std.proofs.Common.{◌≡◌, ◌+◌, ℕ, List, [], ◌∷◌, length, slice_set, refl, sym, ◌∙◌, ap, subst, arith}
+use Rattle.std.proofs.Math.ListN.{length-set}
 use Rattle.std.proofs.Math.Logic.{⊎_map}
 use Rattle.nvm_board.specs.Facts.{Facts}
 use Rattle.nvm_board.specs.laws.Aims.{aims_then}
 use Rattle.undo_journal.specs.declared.error.StoreErr.{StoreErr}
 use Rattle.undo_journal.specs.declared.error.StoreErr.TheVariants.{PowerLost, Fault}
+use Rattle.undo_journal.specs.declared.batch.Waiting.{Waiting}
+use Rattle.undo_journal.specs.Batches.{overlay}
 use Rattle.undo_journal.specs.Undo.{undo}
 use Rattle.undo_journal.specs.laws.Undo.{length-undo, length-data_words}
 use Rattle.undo_journal.specs.Spending.{WritesAtMost}
@@ -14,8 +17,13 @@ use Rattle.undo_journal.specs.Memory.{Memory, committed, current, SameLight, Fai
 pub length-committed : (m : Memory) → length (committed m) ≡ length m.facts.words
 length-committed m = length-data_words (undo m.facts.words) ∙ length-undo m.facts.words
 
+-- those that wait are no more words
+pub length-overlay : (sets : List Waiting) (m : List ℕ) → length (overlay sets m) ≡ length m
+length-overlay [] m = refl
+length-overlay (s ∷ rest) m = length-overlay rest (slice_set m s.at s.word) ∙ length-set m s.at s.word
+
 pub length-current : (m : Memory) → length (current m) ≡ length m.facts.words
-length-current m = length-data_words m.facts.words
+length-current m = length-data_words (overlay m.waiting m.facts.words) ∙ length-overlay m.waiting m.facts.words
 
 -- the two lists are of one length, so that what keeps one keeps the length of both
 pub current_size : (m : Memory) → length (current m) ≡ length (committed m)

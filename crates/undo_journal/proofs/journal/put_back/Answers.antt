@@ -65,3 +65,8 @@ returns-in_err-earlier-clause-writes g c =
       compares = second.compares ∙ first.compares;
       matches = second.matches ∙ first.matches;
     }
+
+pub returns-clause-counted : goal.returns-clause-counted
+returns-clause-counted g c =
+    on_ok_weaker c.write_word.result (λ one. omega (arith, one, c.in_ok-earlier.ensures.writes, c.in_ok-at.ensures.writes))
+    c.write_word.ensures.counted

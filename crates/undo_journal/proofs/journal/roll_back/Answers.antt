@@ -4,7 +4,7 @@ use Rattle.undo_journal.specs.declared.layout.TheConstants.{GATE}
 use Rattle.undo_journal.specs.Undo.{gate}
 use Rattle.undo_journal.specs.laws.Undo.{undo_shut}
 use Rattle.undo_journal.proofs.Restore.{put_back_from, put_back-none, turn-place, turn-done, turn-kept, turn-sound}
-use Rattle.undo_journal.proofs.Restore.{end-done, end-kept, end-sound}
+use Rattle.undo_journal.proofs.Restore.{end-done, end-kept, end-sound, rollback_some}
 use Rattle.undo_journal.proofs.Telling.{answered_err, answered_after}
 use Rattle.std.proofs.lemmas.Result.{on_ok_weaker}
 use Rattle.undo_journal.proofs.journal.roll_back.Goals as goal
@@ -53,7 +53,7 @@ loop-left-preserved g c =
       };
       so_far = turn-done m _ c.requires.sound c.loop-left.left kept.so_far (c.loop-left.left - 1) _ next lt
           c.in_ok-put_back.ensures.done;
-      writes = omega (arith, cost.writes, kept.writes);
+      writes = omega (arith, c.in_ok-put_back.ensures.counted, kept.writes);
       more = omega (arith, cost.more, kept.more);
       cut = aims_then _ _ _ kept.cut cost.cut;
       compares = cost.compares ∙ kept.compares;
@@ -109,3 +109,9 @@ returns-in_err-put_back-clause-light g c =
 pub returns-clause-light : goal.returns-clause-light
 returns-clause-light g c =
     answered_after _ _ _ _ c.loop-left.invariant.steady c.write_gate.ensures.light
+
+pub returns-clause-counted : goal.returns-clause-counted
+returns-clause-counted g c =
+    let all = rollback_some c.args.count c.if-count-eq0.false in
+    on_ok_weaker c.write_gate.result (λ one. omega (arith, one, all, c.loop-left.invariant.writes))
+    c.write_gate.ensures.counted

@@ -9,7 +9,7 @@ invariant-loop-left g l = let first = g.B.Board.facts l.initial.board in let now
   within : l.left ≤ l.count;
   steady : Steady first now;
   so_far : now.words ≡ put_back_from first.words l.left;
-  writes : now.writes + l.left ≤ first.writes + l.count;
+  writes : now.writes + l.left ≡ first.writes + l.count;
   more : first.writes ≤ now.writes;
   cut : AimsOn first now;
   compares : now.compares ≡ first.compares;

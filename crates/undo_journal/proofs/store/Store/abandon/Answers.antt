@@ -1,35 +1,46 @@
-use Rattle.std.proofs.Common.{refl, ap, ◌∙◌, subst}
+use Rattle.std.proofs.Common.{◌+◌, sym, ap, ◌∙◌, subst}
 use Rattle.undo_journal.specs.Undo.{gate}
 use Rattle.undo_journal.specs.Memory.{Memory}
 use Rattle.undo_journal.specs.Spending.{WritesAtMost, rollback_writes}
 use Rattle.undo_journal.specs.laws.Undo.{gate_undone}
 use Rattle.std.proofs.lemmas.Result.{on_ok_weaker}
-use Rattle.undo_journal.proofs.Noted.{on_dark, stuck, noted-true, noted-changes}
+use Rattle.undo_journal.proofs.Standing.{new-idle, new-fits}
+use Rattle.undo_journal.proofs.Noted.{always, on_ok, on_dark, stuck, noted-true, noted-changes}
 use Rattle.undo_journal.proofs.store.Store.abandon.Goals as goal
 
 pub returns-in_err-checked-clause-store : goal.returns-in_err-checked-clause-store
 returns-in_err-checked-clause-store g c =
-    stuck _ _ _ 0 _ _ c.self.view_is refl c.from_residual.ensures.1 c.in_err-checked.ensures.tells
+    let fresh = c.new-self-inside.ensures in
+    stuck _ _ _ _ _ _ _ c.self.view_is (new-idle _ _ fresh.used fresh.waiting) c.from_residual.ensures.1 c.in_err-checked.ensures.tells
 
 pub invariant_of-self-2 : goal.invariant_of-self-2
 invariant_of-self-2 g c =
     let words = (g.B.Board.facts c.self.inside.board).words in
     let undone = c.roll_back-answer.ensures in
+    let fresh = c.new-self-inside.ensures in
     noted-true _ _ _ c.self.view_is c.self.invariant c.in_ok-checked.ensures.ready.works _ _ c.noted.ensures.answer
     c.noted.ensures.failed undone.light undone.sound
     (on_ok_weaker c.roll_back-answer.result
-    (λ done. ap gate done ∙ gate_undone words) undone.done)
+    (λ done. ap gate done ∙ gate_undone words ∙ sym fresh.used) undone.done)
+    (always _ _ (new-fits _ _ fresh.used fresh.waiting))
 
 pub returns-clause-store : goal.returns-clause-store
 returns-clause-store g c =
     let before = g.B.Board.facts c.self.inside.board in
     let after = g.B.Board.facts c.roll_back-answer.new.board in
     let undone = c.roll_back-answer.ensures in
+    let fresh = c.new-self-inside.ensures in
     noted-changes _ _ _ c.self.view_is c.self.invariant c.in_ok-checked.ensures.ready.works _ _ c.noted.ensures.answer
     c.noted.ensures.failed undone.light _ (g.met.B.Board.sized _) (g.met.B.Board.words_fit _) undone.sound
     (on_ok_weaker c.roll_back-answer.result
-    (λ done. ap gate done ∙ gate_undone before.words) undone.done) refl
+    (λ done. ap gate done ∙ gate_undone before.words) undone.done) (new-idle _ _ fresh.used fresh.waiting)
     (subst (λ (m : Memory). WritesAtMost (rollback_writes m.used) before after) c.self.view_is undone.writes)
 
 pub returns-clause-dark : goal.returns-clause-dark
 returns-clause-dark g c = on_dark _ _ c.noted.ensures.answer _ _ c.roll_back-answer.ensures.light
+
+pub returns-clause-counted : goal.returns-clause-counted
+returns-clause-counted g c =
+    on_ok _ _ c.noted.ensures.answer _ _
+    (λ counted. counted ∙ ap (λ (m : Memory). m.facts.writes + rollback_writes m.used) c.self.view_is)
+    c.roll_back-answer.ensures.counted

@@ -1,11 +1,11 @@
-use Rattle.std.proofs.Common.{ℕ, List, sym, ap, ◌∙◌, subst}
+use Rattle.std.proofs.Common.{◌≡◌, ℕ, List, arith, sym, ap, ◌∙◌, subst}
 use Rattle.std.specs.Prelude.{if◌then◌else◌, OnErr}
 use Rattle.nvm_board.specs.Facts.{RisesAt, raised}
 use Rattle.undo_journal.specs.Undo.{gate, IsSound}
-use Rattle.undo_journal.specs.Memory.{Memory}
+use Rattle.undo_journal.specs.Memory.{Memory, taken}
 use Rattle.undo_journal.specs.laws.Exits.{error_tells}
 use Rattle.undo_journal.specs.laws.Memory.{reports_same}
-use Rattle.undo_journal.proofs.Saving.{committed-shut}
+use Rattle.undo_journal.proofs.Standing.{held-fits, ready-from}
 use Rattle.std.proofs.lemmas.Result.{on_ok_weaker}
 use Rattle.undo_journal.proofs.Noted.{always, if_ok, on_ok, on_err, on_dark, noted_tells, noted-true, noted-open}
 use Rattle.undo_journal.proofs.Noted.{noted-reports}
@@ -23,15 +23,18 @@ invariant_of-self g c =
     let works = c.in_ok-check.ensures.ready.works in
     let held = c.self.invariant.works (ap (λ (m : Memory). m.failed) c.self.view_is ∙ works) in
     noted-true _ _ _ c.self.view_is c.self.invariant works _ _ c.noted.ensures.answer c.noted.ensures.failed kept.light
-    (subst (λ (l : List ℕ). IsSound l) (sym kept.words) held.sound) (always _ _ (ap gate kept.words ∙ held.counts))
+    (subst (λ (l : List ℕ). IsSound l) (sym kept.words) held.sound) (always _ _ (ap gate kept.words ∙ held.counts)) (always _ _ (held-fits _ _ _ held))
 
 pub returns-clause-equal : goal.returns-clause-equal
 returns-clause-equal g c = if_ok _ _ c.noted.ensures.answer _ _ (λ e h. h) c.compare-answer.ensures.equal
 
 pub returns-clause-usable : goal.returns-clause-usable
 returns-clause-usable g c =
-    noted-open _ _ _ c.self.view_is c.self.invariant c.in_ok-check.ensures.ready.works _ _ c.noted.ensures.answer
+    let works = c.in_ok-check.ensures.ready.works in
+    let held = c.self.invariant.works (ap (λ (m : Memory). m.failed) c.self.view_is ∙ works) in
+    noted-open _ _ _ c.self.view_is c.self.invariant works _ _ c.noted.ensures.answer
     c.noted.ensures.failed c.compare-answer.ensures.light (g.met.B.Board.sized _) (g.met.B.Board.words_fit _)
+    (always _ _ (held-fits _ _ _ held))
 
 pub returns-clause-ready : goal.returns-clause-ready
 returns-clause-ready g c =
@@ -40,9 +43,11 @@ returns-clause-ready g c =
     let held = c.self.invariant.works (ap (λ (m : Memory). m.failed) c.self.view_is ∙ works) in
     on_ok_weaker c.noted.result
     (λ usable idle.
-    let unused = ap (λ (m : Memory). m.used) c.self.view_is ∙ idle in
-    let shut = ap gate kept.words ∙ held.counts ∙ unused in
-    record { usable = usable; idle = unused; shut = shut; same = committed-shut _ shut }) (returns-clause-usable g c)
+    let unused = ap taken c.self.view_is ∙ idle in
+    let none : c.self.inside.batch.used ≡ 0 = omega (arith, unused) in
+    let shut = ap gate kept.words ∙ held.counts ∙ none in
+    ready-from _ usable.works usable.lit (g.met.B.Board.sized _) (g.met.B.Board.words_fit _) shut unused)
+    (returns-clause-usable g c)
 
 pub returns-clause-reports : goal.returns-clause-reports
 returns-clause-reports g c =

@@ -1,11 +1,15 @@
-use Rattle.std.proofs.Common.{slice_index, ℕ, List, subst, refl, sym, ap, ◌∙◌, arith}
+use Rattle.std.proofs.Common.{◌≡◌, ◌<◌, Some, None, length, slice_index, ℕ, List, subst, refl, sym, ap, ◌∙◌, arith}
 use Rattle.undo_journal.specs.Undo.{gate, IsDataAddress, IsSound}
 use Rattle.undo_journal.specs.laws.Exits.{error_tells}
 use Rattle.undo_journal.specs.laws.Told.{none_ready}
 use Rattle.undo_journal.specs.laws.Calls.{reads_same}
 use Rattle.undo_journal.specs.laws.Undo.{data_words-outside}
-use Rattle.undo_journal.specs.Memory.{Memory, current}
-use Rattle.undo_journal.proofs.Standing.{board-place}
+use Rattle.undo_journal.specs.Memory.{Memory, current, taken}
+use Rattle.undo_journal.proofs.Standing.{board-place, held-fits}
+use Rattle.undo_journal.specs.declared.batch.Waiting.{Waiting}
+use Rattle.undo_journal.specs.Batches.{overlay, look_up}
+use Rattle.undo_journal.specs.laws.Memory.{length-overlay}
+use Rattle.undo_journal.proofs.Waits.{look_up-found, look_up-none}
 use Rattle.undo_journal.proofs.Noted.{always, if_ok, on_dark, noted_tells, noted-true, noted-open, noted-ready, noted-reads}
 use Rattle.undo_journal.proofs.store.Store.read.Goals as goal
 
@@ -36,15 +40,22 @@ invariant_of-self g c =
     let held = c.self.invariant.works (ap (λ (m : Memory). m.failed) c.self.view_is ∙ works) in
     noted-true _ _ _ c.self.view_is c.self.invariant works _ _ c.noted.ensures.answer c.noted.ensures.failed kept.light
     (subst (λ (l : List ℕ). IsSound l) (sym kept.words) held.sound) (always _ _ (ap gate kept.words ∙ held.counts))
+    (always _ _ (held-fits _ _ _ held))
 
 pub returns-clause-word : goal.returns-clause-word
 returns-clause-word g c =
     let words = (g.B.Board.facts c.self.inside.board).words in
     let place : IsDataAddress words c.args.at =
     board-place c.args.self.now words c.args.at (ap (λ (m : Memory). m.facts.words) c.self.view_is) c.requires in
+    let sets = c.self.inside.batch.waiting.items in
+    let none : look_up c.args.at sets ≡ None =
+    sym (c.waiting_word.ensures ∙ ap (λ (l : List Waiting). look_up c.args.at l) c.deref.ensures.0) ∙ c.in_default.is in
+    let within : c.args.at < length (overlay sets words) = omega (arith, length-overlay sets words, place.1) in
+    let there : slice_index words c.args.at ≡ slice_index (current c.args.self.now) c.args.at =
+    sym (data_words-outside (overlay sets words) c.args.at within place.0 ∙ look_up-none c.args.at sets words none)
+    ∙ ap (λ (m : Memory). slice_index (current m) c.args.at) c.self.view_is in
     if_ok _ _ c.noted.ensures.answer _ _
-    (λ w word. word ∙ sym (data_words-outside words c.args.at place.1 place.0)
-    ∙ ap (λ (m : Memory). slice_index (current m) c.args.at) c.self.view_is)
+    (λ w word. word ∙ there)
     c.read-answer.ensures.word
 
 pub returns-clause-reads : goal.returns-clause-reads
@@ -59,7 +70,7 @@ returns-clause-reads g c =
       compares = kept.compares;
       matches = kept.matches;
     })
-    refl
+    refl refl
 
 pub returns-clause-tells : goal.returns-clause-tells
 returns-clause-tells g c =
@@ -71,19 +82,38 @@ returns-clause-dark g c = on_dark _ _ c.noted.ensures.answer _ _ c.read-answer.e
 
 pub returns-clause-usable : goal.returns-clause-usable
 returns-clause-usable g c =
-    noted-open _ _ _ c.self.view_is c.self.invariant c.in_ok-check.ensures.ready.works _ _ c.noted.ensures.answer
+    let works = c.in_ok-check.ensures.ready.works in
+    let held = c.self.invariant.works (ap (λ (m : Memory). m.failed) c.self.view_is ∙ works) in
+    noted-open _ _ _ c.self.view_is c.self.invariant works _ _ c.noted.ensures.answer
     c.noted.ensures.failed c.read-answer.ensures.light (g.met.B.Board.sized _) (g.met.B.Board.words_fit _)
+    (always _ _ (held-fits _ _ _ held))
 
 pub returns-clause-store : goal.returns-clause-store
 returns-clause-store g c = λ idle.
     let kept = c.read-answer.ensures in
     let works = c.in_ok-check.ensures.ready.works in
     let held = c.self.invariant.works (ap (λ (m : Memory). m.failed) c.self.view_is ∙ works) in
-    let unused = ap (λ (m : Memory). m.used) c.self.view_is ∙ idle in
+    let unused = ap taken c.self.view_is ∙ idle in
+    let none : c.self.inside.batch.used ≡ 0 = omega (arith, unused) in
     record {
       only = returns-clause-reads g c;
       ready = noted-ready _ _ _ c.self.view_is c.self.invariant works _ _ c.noted.ensures.answer c.noted.ensures.failed
           kept.light (g.met.B.Board.sized _) (g.met.B.Board.words_fit _)
-          (always _ _ (ap gate kept.words ∙ held.counts ∙ unused)) unused;
+          (always _ _ (ap gate kept.words ∙ held.counts ∙ none)) unused;
       tells = returns-clause-tells g c;
     }
+
+pub returns-in-Some-clause-word : goal.returns-in-Some-clause-word
+returns-in-Some-clause-word g c =
+    let words = (g.B.Board.facts c.self.inside.board).words in
+    let works = c.in_ok-check.ensures.ready.works in
+    let held = c.self.invariant.works (ap (λ (m : Memory). m.failed) c.self.view_is ∙ works) in
+    let place : IsDataAddress words c.args.at =
+    board-place c.args.self.now words c.args.at (ap (λ (m : Memory). m.facts.words) c.self.view_is) c.requires in
+    let sets = c.self.inside.batch.waiting.items in
+    let found : look_up c.args.at sets ≡ Some c.in-Some.word =
+    sym (c.waiting_word.ensures ∙ ap (λ (l : List Waiting). look_up c.args.at l) c.deref.ensures.0) ∙ c.in-Some.is in
+    let within : c.args.at < length (overlay sets words) = omega (arith, length-overlay sets words, place.1) in
+    sym (data_words-outside (overlay sets words) c.args.at within place.0
+    ∙ look_up-found c.args.at c.in-Some.word sets words 0 held.sets place.1 found)
+    ∙ ap (λ (m : Memory). slice_index (current m) c.args.at) c.self.view_is

@@ -1,14 +1,22 @@
-use Rattle.std.proofs.Common.{slice_set, subst, ap, ◌∙◌}
-use Rattle.undo_journal.specs.Memory.{Memory, committed, current}
-use Rattle.undo_journal.specs.Spending.{WritesAtMost}
+use Rattle.std.proofs.Common.{◌<◌, ◌+◌, length, slice_set, refl, sym, subst, ap, ◌∙◌, arith}
+use Rattle.std.proofs.Math.Logic.{⊎_map}
+use Rattle.undo_journal.specs.declared.batch.TheConstants.{BATCH}
+use Rattle.undo_journal.specs.declared.batch.Waiting.{Waiting}
+use Rattle.undo_journal.specs.Batches.{joined, batch_writes}
+use Rattle.undo_journal.specs.Memory.{Memory, committed, current, InRuns, GoesOn}
 use Rattle.undo_journal.specs.laws.Exits.{none_ok, error_tells}
 use Rattle.undo_journal.specs.laws.Memory.{reports_same}
-use Rattle.undo_journal.proofs.Standing.{board-place}
+use Rattle.std.proofs.lemmas.Result.{on_ok_weaker}
+use Rattle.undo_journal.proofs.Standing.{board-place, held-fits}
 use Rattle.undo_journal.proofs.Noted.{on_ok, on_dark, noted_tells, noted-true, noted-open, noted-reports}
+use Rattle.undo_journal.specs.Memory.{set_writes}
+use Rattle.undo_journal.specs.Spending.{WritesAtMost}
+use Rattle.undo_journal.specs.laws.Calls.{within_more}
+use Rattle.undo_journal.specs.laws.Transactions.{stays_spends}
 use Rattle.undo_journal.proofs.store.Store.set.Goals as goal
 
-pub save_and_write-answer-requires-clause-place : goal.save_and_write-answer-requires-clause-place
-save_and_write-answer-requires-clause-place g c =
+pub add-answer-requires-clause-place : goal.add-answer-requires-clause-place
+add-answer-requires-clause-place g c =
     board-place c.args.self.now _ c.args.at (ap (λ (m : Memory). m.facts.words) c.self.view_is) c.requires.place
 
 pub returns-in_err-check-clause-tells : goal.returns-in_err-check-clause-tells
@@ -19,18 +27,20 @@ returns-in_err-check-clause-reports g c = reports_same _
 
 pub invariant_of-self : goal.invariant_of-self
 invariant_of-self g c =
-    let set = c.save_and_write-answer.ensures in
+    let set = c.add-answer.ensures in
     noted-true _ _ _ c.self.view_is c.self.invariant c.in_ok-check.ensures.ready.works _ _ c.noted.ensures.answer
-    c.noted.ensures.failed set.light set.sound set.counts
+    c.noted.ensures.failed set.light set.sound (on_ok_weaker c.add-answer.result (λ held. held.counts) set.held)
+    (on_ok_weaker c.add-answer.result (λ held. held-fits _ _ _ held) set.held)
 
 pub returns-clause-ready : goal.returns-clause-ready
 returns-clause-ready g c =
     noted-open _ _ _ c.self.view_is c.self.invariant c.in_ok-check.ensures.ready.works _ _ c.noted.ensures.answer
-    c.noted.ensures.failed c.save_and_write-answer.ensures.light (g.met.B.Board.sized _) (g.met.B.Board.words_fit _)
+    c.noted.ensures.failed c.add-answer.ensures.light (g.met.B.Board.sized _) (g.met.B.Board.words_fit _)
+    (on_ok_weaker c.add-answer.result (λ held. held-fits _ _ _ held) c.add-answer.ensures.held)
 
 pub returns-clause-reports : goal.returns-clause-reports
 returns-clause-reports g c =
-    let set = c.save_and_write-answer.ensures in
+    let set = c.add-answer.ensures in
     noted-reports _ _ _ c.self.view_is c.self.invariant c.in_ok-check.ensures.ready.works _ _ c.noted.ensures.answer
     c.noted.ensures.failed set.light set.sound
 
@@ -40,21 +50,80 @@ returns-clause-tells g c =
     c.noted.ensures.failed
 
 pub returns-clause-dark : goal.returns-clause-dark
-returns-clause-dark g c = on_dark _ _ c.noted.ensures.answer _ _ c.save_and_write-answer.ensures.light
+returns-clause-dark g c = on_dark _ _ c.noted.ensures.answer _ _ c.add-answer.ensures.light
 
 pub returns-in_err-check-clause-done : goal.returns-in_err-check-clause-done
 returns-in_err-check-clause-done g c = none_ok _ _ _ c.from_residual.ensures.1
 
 pub returns-clause-kept : goal.returns-clause-kept
-returns-clause-kept g c = c.save_and_write-answer.ensures.kept ∙ ap committed c.self.view_is
+returns-clause-kept g c = c.add-answer.ensures.kept ∙ ap committed c.self.view_is
 
 pub returns-clause-done : goal.returns-clause-done
 returns-clause-done g c =
     on_ok _ _ c.noted.ensures.answer _ _
     (λ done. done ∙ ap (λ (m : Memory). slice_set (current m) c.args.at c.args.word) c.self.view_is)
-    c.save_and_write-answer.ensures.done
+    c.add-answer.ensures.done
 
-pub returns-clause-writes : goal.returns-clause-writes
-returns-clause-writes g c =
-    let after = g.B.Board.facts c.save_and_write-answer.new.board in
-    subst (λ (m : Memory). WritesAtMost 3 m.facts after) c.self.view_is c.save_and_write-answer.ensures.writes
+pub returns-clause-runs : goal.returns-clause-runs
+returns-clause-runs g c =
+    let runs = c.add-answer.ensures.runs in
+    let new : Memory = record {
+      facts = g.B.Board.facts c.add-answer.new.board;
+      failed = c.noted.new.failed;
+      used = c.add-answer.new.batch.used;
+      waiting = c.add-answer.new.batch.waiting.items;
+    } in
+    subst (λ (m : Memory). InRuns 1 m new) c.self.view_is
+    (record {
+      writes = runs.writes;
+      more = runs.more;
+      cut = runs.cut;
+      compares = runs.compares;
+      matches = runs.matches;
+    })
+
+pub returns-clause-goes_on : goal.returns-clause-goes_on
+returns-clause-goes_on g c = λ goes.
+    let runs = c.add-answer.ensures.goes_on (subst (λ (m : Memory). GoesOn m c.args.at) (sym c.self.view_is) goes) in
+    let new : Memory = record {
+      facts = g.B.Board.facts c.add-answer.new.board;
+      failed = c.noted.new.failed;
+      used = c.add-answer.new.batch.used;
+      waiting = c.add-answer.new.batch.waiting.items;
+    } in
+    subst (λ (m : Memory). InRuns 0 m new) c.self.view_is
+    (record {
+      writes = runs.writes;
+      more = runs.more;
+      cut = runs.cut;
+      compares = runs.compares;
+      matches = runs.matches;
+    })
+
+pub returns-clause-joins : goal.returns-clause-joins
+returns-clause-joins g c =
+    let set : Waiting = record { at = c.args.at; word = c.args.word } in
+    on_ok _ _ c.noted.ensures.answer _ _
+    (⊎_map
+    (λ waits. record {
+      few = subst (λ (m : Memory). length (joined set m.waiting) < BATCH) c.self.view_is waits.few;
+      waiting = waits.waiting ∙ ap (λ (m : Memory). joined set m.waiting) c.self.view_is;
+      used = waits.used ∙ ap (λ (m : Memory). m.used) c.self.view_is;
+      facts = waits.facts ∙ ap (λ (m : Memory). m.facts) c.self.view_is;
+    })
+    (λ fills. record {
+      full = ap (λ (m : Memory). length (joined set m.waiting)) (sym c.self.view_is) ∙ fills.full;
+      waiting = fills.waiting;
+      used = fills.used ∙ ap (λ (m : Memory). m.used + BATCH) c.self.view_is;
+      writes = fills.writes ∙ ap (λ (m : Memory). m.facts.writes + batch_writes (joined set m.waiting)) c.self.view_is;
+    }))
+    c.add-answer.ensures.joins
+
+pub returns-in_err-check-clause-spends : goal.returns-in_err-check-clause-spends
+returns-in_err-check-clause-spends g c = within_more 0 _ _ _ (omega arith) (stays_spends _ _ refl)
+
+pub returns-clause-spends : goal.returns-clause-spends
+returns-clause-spends g c =
+    let set : Waiting = record { at = c.args.at; word = c.args.word } in
+    subst (λ (m : Memory). WritesAtMost (set_writes set m) m.facts (g.B.Board.facts c.add-answer.new.board)) c.self.view_is
+    c.add-answer.ensures.spends

@@ -1,9 +1,9 @@
-use Rattle.std.proofs.Common.{length, refl, sym, ap, ◌∙◌, arith}
+use Rattle.std.proofs.Common.{◌+◌, length, refl, sym, ap, ◌∙◌, arith}
 use Rattle.nvm_board.specs.Facts.{address}
 use Rattle.nvm_board.specs.laws.Torn.{Torn-none}
 use Rattle.undo_journal.specs.Memory.{Memory}
 use Rattle.undo_journal.proofs.Standing.{board-run}
-use Rattle.undo_journal.proofs.Lasting.{unused-within, run-gate, run-sound, run-torn, run-written}
+use Rattle.undo_journal.proofs.Lasting.{unused-within, idle-within, fits-within, run-gate, run-sound, run-torn, run-written}
 use Rattle.undo_journal.proofs.Telling.{write_costs}
 use Rattle.undo_journal.proofs.Noted.{always, on_ok, on_dark, stuck, noted-true, noted-changes}
 use Rattle.undo_journal.proofs.store.Store.write_plain.Goals as goal
@@ -20,7 +20,7 @@ returns-in_err-check-clause-any_exit g c = Torn-none _ _ _
 
 pub returns-in_err-check-clause-store : goal.returns-in_err-check-clause-store
 returns-in_err-check-clause-store g c =
-    stuck _ _ _ _ _ _ refl c.requires.idle c.from_residual.ensures.1 c.in_err-check.ensures.tells
+    stuck _ _ _ _ _ _ _ refl c.requires.idle c.from_residual.ensures.1 c.in_err-check.ensures.tells
 
 pub invariant_of-self : goal.invariant_of-self
 invariant_of-self g c =
@@ -33,6 +33,7 @@ invariant_of-self g c =
     c.write-answer.ensures.torn)
     (always _ _ (run-gate _ _ c.self.view_is c.self.invariant works c.requires.idle at c.args.words.now c.requires.place
     _ c.write-answer.ensures.torn ∙ sym unused))
+    (always _ _ (fits-within _ _ c.self.view_is c.self.invariant works c.requires.idle))
 
 pub returns-clause-any_exit : goal.returns-clause-any_exit
 returns-clause-any_exit g c =
@@ -56,7 +57,7 @@ returns-clause-store g c =
     c.write-answer.ensures.torn)
     (always _ _ (run-gate _ _ c.self.view_is c.self.invariant works c.requires.idle at c.args.words.now c.requires.place
     _ c.write-answer.ensures.torn))
-    (unused-within _ _ c.self.view_is c.self.invariant works c.requires.idle)
+    (idle-within _ _ c.self.view_is c.self.invariant works c.requires.idle)
     (write_costs _ _ _ answered.cut answered.counted answered.counted_err answered.compares answered.matches)
 
 pub returns-clause-dark : goal.returns-clause-dark
@@ -66,3 +67,8 @@ pub returns-clause-shut : goal.returns-clause-shut
 returns-clause-shut g c = λ shut.
     run-gate _ _ c.self.view_is c.self.invariant c.in_ok-check.ensures.ready.works c.requires.idle
     (address c.args.page c.args.first) c.args.words.now c.requires.place _ c.write-answer.ensures.torn
+
+pub returns-clause-counted : goal.returns-clause-counted
+returns-clause-counted g c =
+    on_ok _ _ c.noted.ensures.answer _ _ (λ counted. counted ∙ ap (λ (m : Memory). m.facts.writes + 1) c.self.view_is)
+    c.write-answer.ensures.counted

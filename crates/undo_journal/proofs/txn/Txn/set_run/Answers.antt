@@ -1,7 +1,12 @@
-use Rattle.std.proofs.Common.{◌<◌, ◌+◌, ℕ, List, length, get_or, slice_set, refl, ap, ◌∙◌, arith}
+use Rattle.std.proofs.Common.{◌<◌, ◌+◌, ℕ, List, length, get_or, slice_set, inl, inr, refl, ap, ◌∙◌, arith}
+use Rattle.undo_journal.specs.declared.batch.TheConstants.{BATCH}
+use Rattle.undo_journal.specs.declared.batch.Waiting.{Waiting}
+use Rattle.undo_journal.specs.Batches.{joined}
+use Rattle.undo_journal.specs.Lent.{memory_of}
 use Rattle.nvm_board.specs.laws.Torn.{written-more}
-use Rattle.undo_journal.specs.laws.Calls.{reads_same, reads_sets, sets_then, sets_weaker}
+use Rattle.undo_journal.specs.laws.Calls.{reads_runs, reads_same, reads_sets, sets_then, sets_weaker}
 use Rattle.undo_journal.specs.laws.Told.{sets_in_on, sets_in_handed}
+use Rattle.undo_journal.proofs.SetRuns.{fills-none, joined_run-more, none_yet, pages_all, pages_more, pages_next}
 use Rattle.undo_journal.proofs.txn.Txn.set_run.Goals as goal
 
 pub returns-in_err-check-clause-store : goal.returns-in_err-check-clause-store
@@ -17,7 +22,20 @@ loop-i-init g c = record {
   usable = c.in_ok-check.ensures.ready;
   done = refl;
   sets = reads_sets _ _ _ (record { same_store = refl; reads = reads_same _ });
+  runs = none_yet refl (reads_runs 0 _ _ (reads_same _));
+  waits = λ few. record { few = omega (arith, few); waiting = refl; used = refl; facts = refl };
 }
+
+pub returns-in_err-check-clause-runs : goal.returns-in_err-check-clause-runs
+returns-in_err-check-clause-runs g c = reads_runs _ _ _ (reads_same _)
+
+pub returns-in_err-set-clause-runs : goal.returns-in_err-set-clause-runs
+returns-in_err-set-clause-runs g c =
+    let set = c.in_err-set.ensures in
+    pages_more _ _ _ _ c.loop-i.invariant.runs _ set.store.sets.writes set.goes_on _ (omega arith)
+
+pub returns-clause-runs : goal.returns-clause-runs
+returns-clause-runs g c = pages_all _ _ _ _ c.loop-i.invariant.runs _ (omega arith)
 
 pub returns-clause-store : goal.returns-clause-store
 returns-clause-store g c =
@@ -42,4 +60,22 @@ loop-i-preserved g c =
       usable = c.in_ok-set.ensures.store.ready;
       done = c.in_ok-set.ensures.done ∙ ap put so_far.done ∙ written-more _ _ _ _ lt;
       sets = sets_then c.loop-i.i 1 _ _ _ _ (omega arith) so_far.sets c.in_ok-set.ensures.store.sets;
+      runs = pages_next _ _ _ _ so_far.runs _ c.in_ok-set.ensures.store.sets.writes c.in_ok-set.ensures.goes_on
+          c.in_ok-set.ensures.next;
+      waits = λ few.
+          let old = (memory_of c.args.self.now).waiting in
+          let so = so_far.waits (let less : length old + c.loop-i.i < BATCH = omega (arith, few) in less) in
+          let set : Waiting = record { at = c.args.at + c.loop-i.i; word = get_or c.args.words.now c.loop-i.i 0 } in
+          let more = joined_run-more c.args.words.now c.args.at c.loop-i.i old lt in
+          let sets = ap (λ (l : List Waiting). joined set l) so.waiting ∙ more in
+          let size = ap (λ (l : List Waiting). length l) sets in
+          elim c.in_ok-set.ensures.joins [
+            | inl waits ↦ record {
+              few = omega (arith, waits.few, size);
+              waiting = waits.waiting ∙ sets;
+              used = waits.used ∙ so.used;
+              facts = waits.facts ∙ so.facts;
+            }
+            | inr fills ↦ absurd (fills-none set c.args.words.now c.args.at c.loop-i.i old _ so.waiting lt fills.full few)
+          ];
     }

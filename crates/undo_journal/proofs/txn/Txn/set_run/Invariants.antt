@@ -1,8 +1,11 @@
-use Rattle.std.proofs.Common.{◌≡◌, take}
+use Rattle.std.proofs.Common.{◌≡◌, ◌<◌, ◌+◌, length, take}
 use Rattle.nvm_board.specs.Torn.{written}
-use Rattle.undo_journal.specs.Memory.{current, IsOpen}
+use Rattle.undo_journal.specs.Memory.{current, IsOpen, Waits}
+use Rattle.undo_journal.specs.Batches.{joined_run}
+use Rattle.undo_journal.specs.declared.batch.TheConstants.{BATCH}
 use Rattle.undo_journal.specs.Calls.{Sets}
 use Rattle.undo_journal.specs.Lent.{memory_of}
+use Rattle.undo_journal.proofs.SetRuns.{AreSetSoFar}
 use Rattle.undo_journal.proofs.txn.Txn.set_run.Given as goal
 
 abbrev pub invariant-loop-i : goal.invariant-loop-i
@@ -10,4 +13,6 @@ invariant-loop-i g l = let first = memory_of l.initial.self in let now = memory_
   usable : IsOpen now;
   done : current now ≡ written (current first) l.at (take l.i l.words);
   sets : Sets l.i l.initial.self l.self;
+  runs : AreSetSoFar l.at l.i first now;
+  waits : length first.waiting + l.i < BATCH → Waits (joined_run l.at (take l.i l.words) first.waiting) first now;
 }

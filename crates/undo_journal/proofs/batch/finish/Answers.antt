@@ -1,0 +1,64 @@
+use Rattle.std.proofs.Common.{◌+◌, ◌<◌, ℕ, List, length, slice_set, inl, inr, refl, sym, ◌∙◌, ap, subst, arith}
+use Rattle.std.proofs.Math.Logic.{⊎_elim}
+use Rattle.std.proofs.lemmas.Result.{on_ok_weaker}
+use Rattle.undo_journal.specs.declared.layout.TheConstants.{GATE}
+use Rattle.undo_journal.specs.Undo.{gate, undo, data_words, IsSound}
+use Rattle.undo_journal.proofs.Saving.{committed-shut, gate-shut}
+use Rattle.undo_journal.proofs.Lasting.{gate-commits, commit-sound, set-back}
+use Rattle.undo_journal.specs.Batches.{batch_writes}
+use Rattle.undo_journal.specs.Working.{working}
+use Rattle.undo_journal.proofs.Costing.{commit-none, commit-some}
+use Rattle.undo_journal.proofs.batch.finish.Goals as goal
+
+pub returns-then-batch-eq0-clause-done : goal.returns-then-batch-eq0-clause-done
+returns-then-batch-eq0-clause-done g c =
+    committed-shut _ (c.in_ok-flush.ensures.counts ∙ c.if-batch-eq0.true) ∙ c.in_ok-flush.ensures.done
+
+pub returns-clause-any_exit : goal.returns-clause-any_exit
+returns-clause-any_exit g c =
+    let flushed = (g.B.Board.facts c.flush.new.board).words in
+    let within : GATE < length flushed = omega (arith, g.met.B.Board.sized c.flush.new.board) in
+    ⊎_elim
+    (λ old. inl (ap (λ (l : List ℕ). data_words (undo l)) old ∙ c.in_ok-flush.ensures.kept))
+    (λ new. inr (
+      gate-commits flushed _ within new ∙ c.in_ok-flush.ensures.done,
+      record {
+        shut = ap gate new ∙ gate-shut flushed within;
+        pairs = gate flushed;
+        sound = subst IsSound (sym (ap (λ (l : List ℕ). slice_set l GATE (gate flushed)) new ∙ set-back flushed GATE 0 within))
+            c.in_ok-flush.ensures.sound;
+        former = ap (λ (l : List ℕ). data_words (undo (slice_set l GATE (gate flushed)))) new
+            ∙ ap (λ (l : List ℕ). data_words (undo l)) (set-back flushed GATE 0 within) ∙ c.in_ok-flush.ensures.kept;
+      },
+    ))
+    c.write_gate.ensures.torn
+
+pub returns-clause-done : goal.returns-clause-done
+returns-clause-done g c =
+    let flushed = (g.B.Board.facts c.flush.new.board).words in
+    let within : GATE < length flushed = omega (arith, g.met.B.Board.sized c.flush.new.board) in
+    on_ok_weaker c.write_gate.result (λ new. gate-commits flushed _ within new ∙ c.in_ok-flush.ensures.done) c.write_gate.ensures.done
+
+pub returns-clause-sound : goal.returns-clause-sound
+returns-clause-sound g c =
+    let flushed = (g.B.Board.facts c.flush.new.board).words in
+    let within : GATE < length flushed = omega (arith, g.met.B.Board.sized c.flush.new.board) in
+    commit-sound flushed _ within c.in_ok-flush.ensures.sound c.write_gate.ensures.torn
+
+pub returns-then-batch-eq0-clause-counted : goal.returns-then-batch-eq0-clause-counted
+returns-then-batch-eq0-clause-counted g c =
+    commit-none (working (g.B.Board.facts c.args.board.now) c.args.batch.now) _ _ c.in_ok-flush.ensures.used
+    c.if-batch-eq0.true c.in_ok-flush.ensures.counted
+
+pub returns-clause-counted : goal.returns-clause-counted
+returns-clause-counted g c =
+    on_ok_weaker c.write_gate.result (λ one.
+    commit-some (working (g.B.Board.facts c.args.board.now) c.args.batch.now) _ _ c.in_ok-flush.ensures.used
+    c.if-batch-eq0.false (one ∙ ap (λ (n : ℕ). n + 1) c.in_ok-flush.ensures.counted)) c.write_gate.ensures.counted
+
+pub returns-clause-last : goal.returns-clause-last
+returns-clause-last g c =
+    let before = working (g.B.Board.facts c.args.board.now) c.args.batch.now in
+    let all = commit-some before _ (before.facts.writes + batch_writes before.waiting + 1) c.in_ok-flush.ensures.used
+    c.if-batch-eq0.false refl in
+    inr (omega (arith, all, c.in_ok-flush.ensures.counted, c.write_gate.ensures.writes.more))

@@ -1,0 +1,78 @@
+use Rattle.std.proofs.Common.{ℕ, List, length, inr, sym, ◌∙◌, ap, arith}
+use Rattle.std.proofs.lemmas.Result.{on_ok_weaker}
+use Rattle.undo_journal.proofs.Pairs.{length-pair_words}
+use Rattle.undo_journal.proofs.Saving.{pairs-torn, pairs-sound, gate-torn, gate-sound, named-raised, current-raised}
+use Rattle.undo_journal.proofs.Costing.{writes-some}
+use Rattle.undo_journal.proofs.batch.save_and_write.Goals as goal
+
+pub write_pairs-requires-clause-some : goal.write_pairs-requires-clause-some
+write_pairs-requires-clause-some g c =
+    let m = (g.B.Board.facts c.args.board.now).words in
+    let run = ap (λ (l : List ℕ). length l) (c.deref.ensures.0 ∙ c.in_ok-pairs.ensures.words) in
+    omega (arith, run, length-pair_words m c.args.sets.now, c.requires.some)
+
+pub returns-in_err-write_pairs-clause-kept : goal.returns-in_err-write_pairs-clause-kept
+returns-in_err-write_pairs-clause-kept g c =
+    let r = c.requires in
+    sym (pairs-torn _ _ _ c.args.sets.now _ c.in_ok-pairs.ensures.reads.words (c.deref.ensures.0 ∙ c.in_ok-pairs.ensures.words)
+    r.sound r.counts r.room r.sets (g.met.B.Board.sized _) _ c.in_err-write_pairs.ensures.torn).committed
+
+pub returns-in_err-write_pairs-clause-sound : goal.returns-in_err-write_pairs-clause-sound
+returns-in_err-write_pairs-clause-sound g c =
+    let r = c.requires in
+    pairs-sound _ _ _ c.args.sets.now _ c.in_ok-pairs.ensures.reads.words (c.deref.ensures.0 ∙ c.in_ok-pairs.ensures.words)
+    r.sound r.counts r.room r.sets (g.met.B.Board.sized _) _ c.in_err-write_pairs.ensures.torn
+
+pub returns-in_err-write_gate-clause-kept : goal.returns-in_err-write_gate-clause-kept
+returns-in_err-write_gate-clause-kept g c =
+    let r = c.requires in
+    gate-torn _ _ _ c.args.sets.now _ c.in_ok-pairs.ensures.reads.words (c.deref.ensures.0 ∙ c.in_ok-pairs.ensures.words)
+    r.sound r.counts r.room r.sets (g.met.B.Board.sized _) _ c.in_ok-write_pairs.ensures.done _ c.in_err-write_gate.ensures.torn
+
+pub returns-in_err-write_gate-clause-sound : goal.returns-in_err-write_gate-clause-sound
+returns-in_err-write_gate-clause-sound g c =
+    let r = c.requires in
+    gate-sound _ _ _ c.args.sets.now _ c.in_ok-pairs.ensures.reads.words (c.deref.ensures.0 ∙ c.in_ok-pairs.ensures.words)
+    r.sound r.counts r.room r.sets (g.met.B.Board.sized _) _ c.in_ok-write_pairs.ensures.done _ c.in_err-write_gate.ensures.torn
+
+pub write_words-requires-clause-sound : goal.write_words-requires-clause-sound
+write_words-requires-clause-sound g c =
+    let r = c.requires in
+    gate-sound _ _ _ c.args.sets.now _ c.in_ok-pairs.ensures.reads.words (c.deref.ensures.0 ∙ c.in_ok-pairs.ensures.words)
+    r.sound r.counts r.room r.sets (g.met.B.Board.sized _) _ c.in_ok-write_pairs.ensures.done _
+    (inr c.in_ok-write_gate.ensures.done)
+
+pub write_words-requires-clause-named : goal.write_words-requires-clause-named
+write_words-requires-clause-named g c =
+    let r = c.requires in
+    named-raised _ _ _ c.args.sets.now _ c.in_ok-pairs.ensures.reads.words (c.deref.ensures.0 ∙ c.in_ok-pairs.ensures.words)
+    r.sound r.counts r.room r.sets (g.met.B.Board.sized _) _ c.in_ok-write_pairs.ensures.done _ c.in_ok-write_gate.ensures.done
+
+pub returns-clause-kept : goal.returns-clause-kept
+returns-clause-kept g c =
+    let r = c.requires in
+    c.write_words.ensures.kept
+    ∙ gate-torn _ _ _ c.args.sets.now _ c.in_ok-pairs.ensures.reads.words (c.deref.ensures.0 ∙ c.in_ok-pairs.ensures.words)
+    r.sound r.counts r.room r.sets (g.met.B.Board.sized _) _ c.in_ok-write_pairs.ensures.done _
+    (inr c.in_ok-write_gate.ensures.done)
+
+pub returns-clause-done : goal.returns-clause-done
+returns-clause-done g c =
+    let r = c.requires in
+    on_ok_weaker c.write_words.result
+    (λ done. current-raised _ _ _ c.args.sets.now _ c.in_ok-pairs.ensures.reads.words
+    (c.deref.ensures.0 ∙ c.in_ok-pairs.ensures.words) r.sound r.counts r.room r.sets (g.met.B.Board.sized _) _
+    c.in_ok-write_pairs.ensures.done _ c.in_ok-write_gate.ensures.done _ done) c.write_words.ensures.done
+
+pub returns-clause-counted : goal.returns-clause-counted
+returns-clause-counted g c =
+    let some = writes-some c.args.sets.now c.requires.some in
+    on_ok_weaker c.write_words.result (λ runs.
+    omega (
+      arith,
+      runs,
+      some,
+      c.in_ok-write_gate.ensures.counted,
+      c.in_ok-write_pairs.ensures.counted,
+      c.in_ok-pairs.ensures.reads.writes,
+    )) c.write_words.ensures.counted

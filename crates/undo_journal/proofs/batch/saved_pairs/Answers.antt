@@ -1,0 +1,48 @@
+use Rattle.std.proofs.Common.{◌≡◌, ◌<◌, ◌+◌, ◌++◌, ◌∷◌, [], ℕ, List, length, drop, get_or, slice_index, sym, ◌∙◌, ap, ap₂, arith, refl, append_assoc, subst}
+use Rattle.std.proofs.lemmas.List.{drop_more}
+use Rattle.nvm_board.specs.laws.Aims.{aims_stay}
+use Rattle.undo_journal.specs.declared.batch.Waiting.{Waiting}
+use Rattle.undo_journal.specs.Batches.{AreSets}
+use Rattle.undo_journal.specs.Parts.{pair_words}
+use Rattle.undo_journal.proofs.Telling.{steady_then}
+use Rattle.undo_journal.proofs.Waits.{sets-lower}
+use Rattle.undo_journal.proofs.batch.saved_pairs.Goals as goal
+
+sets-next : (s : Waiting) (rest ps : List Waiting) → ps ≡ s ∷ rest → AreSets 0 ps → AreSets 0 rest
+sets-next s rest ps e h =
+    let there : AreSets 0 (s ∷ rest) = subst (λ (l : List Waiting). AreSets 0 l) e h in
+    sets-lower 0 (s.at + 1) rest (omega arith) there.1
+
+pub loop-set-preserved : goal.loop-set-preserved
+loop-set-preserved g c =
+    let ps = c.args.sets.now in
+    let i = c.loop-set.set-index in
+    let d : Waiting = record { at = 0; word = 0 } in
+    let s = get_or ps i d in
+    let m = (g.B.Board.facts c.args.board.now).words in
+    let kept = c.loop-set.invariant in
+    let lt : i < length ps = omega (arith, c.loop-set-test.true) in
+    let next : drop i ps ≡ s ∷ drop (i + 1) ps = drop_more ps i d lt in
+    let read = c.in_ok-earlier.ensures in
+    let word : c.in_ok-earlier.earlier ≡ slice_index m s.at = read.word ∙ ap (λ (l : List ℕ). slice_index l s.at) kept.reads.words in
+    let pushed : c.push-in-loop-set.new.self.items ≡ c.loop-set.words.items ++ s.at ∷ slice_index m s.at ∷ [] =
+    c.push-in-loop-set.ensures.items
+    ∙ ap₂ (λ (l : List ℕ) (w : ℕ). l ++ w ∷ []) c.push.ensures.items word
+    ∙ append_assoc c.loop-set.words.items (c.from.result ∷ []) (slice_index m s.at ∷ [])
+    ∙ ap (λ (a : ℕ). c.loop-set.words.items ++ a ∷ slice_index m s.at ∷ []) c.from.ensures in
+    record {
+      steady = steady_then _ _ _ kept.steady (read.light.ok refl);
+      reads = record {
+        cut = aims_stay _ _ _ kept.reads.cut read.cut;
+        words = read.words ∙ kept.reads.words;
+        writes = read.writes ∙ kept.reads.writes;
+        compares = read.compares ∙ kept.reads.compares;
+        matches = read.matches ∙ kept.reads.matches;
+      };
+      sets = sets-next s (drop (i + 1) ps) (drop i ps) next kept.sets;
+      count = omega (arith, c.push-in-loop-set.ensures.len, c.push.ensures.len, kept.count);
+      so_far = ap (λ (l : List ℕ). l ++ pair_words m (drop (i + 1) ps)) pushed
+          ∙ append_assoc c.loop-set.words.items (s.at ∷ slice_index m s.at ∷ []) (pair_words m (drop (i + 1) ps))
+          ∙ ap (λ (l : List Waiting). c.loop-set.words.items ++ pair_words m l) (sym next)
+          ∙ kept.so_far;
+    }

@@ -1,0 +1,277 @@
+//! The sets of a transaction that wait, and how they are written, eight together.
+ghost use Rattle.std.specs.Prelude.{◌≡◌, ◌⊎◌, ◌↔◌, ◌+◌, ◌-◌, ◌*◌, ◌<◌, ◌≤◌, ◌%◌, ◌==◌, ◌&&◌, not, ℕ, [], length, take, drop, false, IsTrue};
+ghost use Rattle.std.specs.Prelude.{IfOk, OnOk, slice_set};
+ghost use Rattle.arrayvec.specs.ArrayVec.{array_vec_len};
+ghost use Rattle.nvm_board.specs.declared.board.TheConstants.{WORDS};
+ghost use Rattle.nvm_board.specs.Facts.{Answered};
+ghost use Rattle.nvm_board.specs.Torn.{Torn, written};
+ghost use Rattle.undo_journal.specs.declared.batch.TheConstants.{BATCH};
+ghost use Rattle.undo_journal.specs.declared.layout.TheConstants.{JOURNAL, PAIRS};
+ghost use Rattle.undo_journal.specs.Undo.{gate, pairs, undo, data_words, IsDataAddress, IsSound};
+ghost use Rattle.undo_journal.specs.Commits.{TurnsGate};
+ghost use Rattle.undo_journal.specs.Spending.{WritesAtMost, KeepsBoard};
+ghost use Rattle.undo_journal.specs.Batches.{overlay, look_up, batch_writes, runs_from, AreSets, joined};
+ghost use Rattle.undo_journal.specs.Parts.{before, first_words, pair_words, AllNamed};
+ghost use Rattle.undo_journal.specs.Memory.{commit_writes, set_writes, EndsAt, GoesOn, InRuns, IsHeld, Joins};
+ghost use Rattle.undo_journal.specs.Working.{working};
+
+use crate::address::Address;
+use crate::journal::{write_gate, write_pairs};
+use arrayvec::ArrayVec;
+use nvm_board::{Board, DeviceErr, PAGE_WORDS};
+
+/// Sets that are written together.
+pub const BATCH: u16 = 8;
+
+const BATCH_SETS: usize = BATCH as usize;
+
+const BATCH_PAIR_WORDS: usize = 2 * BATCH_SETS;
+
+/// A set that waits: the address of a data word, and the word that it is to become.
+#[derive(Clone, Copy, Debug, Default)]
+pub struct Waiting {
+    pub at: u16,
+    pub word: u32,
+}
+
+type Sets = ArrayVec<Waiting, BATCH_SETS>;
+
+/// How many pairs of the journal are in use, and the sets that wait, by ascending address.
+#[derive(Drop)]
+pub(crate) struct Batch {
+    pub(crate) used: u16,
+    pub(crate) waiting: Sets,
+}
+
+impl Batch {
+    /// No pair is in use, and nothing waits.
+    pub(crate) fn new() -> Batch
+        ensures used { result.used ≡ 0 }
+        ensures waiting { result.waiting.items ≡ [] }
+    {
+        Batch {
+            used: 0,
+            waiting: ArrayVec::new(),
+        }
+    }
+}
+
+/// The word that waits for an address, if one does.
+pub(crate) fn waiting_word(sets: &[Waiting], at: u16) -> Option<u32>
+    ensures { result ≡ look_up at sets.now }
+{
+    for set in sets {
+        if set.at == at {
+            return Some(set.word);
+        }
+    }
+    None
+}
+
+/// How many sets, from the first on, are of smaller addresses.
+fn place_of(sets: &[Waiting], at: u16) -> usize
+    ensures { result ≡ before at sets.now }
+{
+    let mut place = 0;
+    while place < sets.len() && sets[place].at < at {
+        place += 1;
+    }
+    place
+}
+
+/// Puts a set among those that wait, in place of one of its address, or else at its place in the order.
+fn join(sets: &mut Sets, new: Waiting)
+    requires { array_vec_len sets.old < BATCH }
+    ensures { sets.new.items ≡ joined new sets.old.items }
+{
+    let place = place_of(sets, new.at);
+    if place < sets.len() && sets[place].at == new.at {
+        sets[place] = new;
+    } else {
+        sets.insert(place, new);
+    }
+}
+
+/// The words of the first run of sets: of those at successive addresses in one page.
+fn first_run(sets: &[Waiting]) -> ArrayVec<u32, BATCH_SETS>
+    requires some { 0 < length sets.now }
+    requires few { length sets.now ≤ BATCH }
+    requires sets { AreSets 0 sets.now }
+    ensures { result.items ≡ first_words sets.now }
+{
+    let first = sets[0];
+    let mut words = ArrayVec::new();
+    words.push(first.word);
+    while words.len() < sets.len() && goes_on(first.at + words.len() as u16, sets[words.len()].at) {
+        let word = sets[words.len()].word;
+        words.push(word);
+    }
+    words
+}
+
+/// Whether a word goes on with a run that would end before `next`.
+fn goes_on(next: u16, at: u16) -> bool
+    ensures { result ≡ ((at == next) && not (at % PAGE_WORDS == 0)) }
+{
+    at == next && at % PAGE_WORDS != 0
+}
+
+/// The pairs of sets as words of the journal: each address, and the word that is there.
+fn saved_pairs<B: Board>(
+    board: &mut B,
+    sets: &[Waiting],
+) -> Result<ArrayVec<u32, BATCH_PAIR_WORDS>, DeviceErr>
+    requires lit { (B.facts board.old).dark ≡ false }
+    requires few { length sets.now ≤ BATCH }
+    requires sets { AreSets 0 sets.now }
+    ensures words { IfOk result (λ v. v.items ≡ pair_words (B.facts board.old).words sets.now) }
+    ensures light { Answered (B.facts board.old) (B.facts board.new) result }
+    ensures reads { KeepsBoard (B.facts board.old) (B.facts board.new) }
+{
+    let mut words = ArrayVec::new();
+    for set in sets {
+        let earlier = board.read(set.at)?;
+        words.push(u32::from(set.at));
+        words.push(earlier);
+    }
+    Ok(words)
+}
+
+/// Writes the words of sets whose pairs count, one device write for each run.
+fn write_words<B: Board>(board: &mut B, sets: &[Waiting]) -> Result<(), DeviceErr>
+    requires lit { (B.facts board.old).dark ≡ false }
+    requires few { length sets.now ≤ BATCH }
+    requires sets { AreSets 0 sets.now }
+    requires sound { IsSound (B.facts board.old).words }
+    requires named { AllNamed (pairs (B.facts board.old).words) sets.now }
+    ensures kept { data_words (undo (B.facts board.new).words) ≡ data_words (undo (B.facts board.old).words) }
+    ensures sound { IsSound (B.facts board.new).words }
+    ensures counts { gate (B.facts board.new).words ≡ gate (B.facts board.old).words }
+    ensures done { OnOk result ((B.facts board.new).words ≡ overlay sets.now (B.facts board.old).words) }
+    ensures light { Answered (B.facts board.old) (B.facts board.new) result }
+    ensures counted { OnOk result ((B.facts board.new).writes ≡ (B.facts board.old).writes + runs_from 0 sets.now) }
+    ensures writes { WritesAtMost (runs_from 0 sets.now) (B.facts board.old) (B.facts board.new) }
+{
+    let mut rest = sets;
+    while !rest.is_empty() {
+        let run = first_run(rest);
+        let at = Address { number: rest[0].at };
+        let (page, place) = at.page_and_place();
+        board.write(page, place, &run)?;
+        let (_, after) = rest.split_at(run.len());
+        rest = after;
+    }
+    Ok(())
+}
+
+/// Sets data words behind their earlier words: first the pairs, then the gate that counts them, then the words.
+fn save_and_write<B: Board>(board: &mut B, used: u16, sets: &[Waiting]) -> Result<(), DeviceErr>
+    requires lit { (B.facts board.old).dark ≡ false }
+    requires sound { IsSound (B.facts board.old).words }
+    requires counts { gate (B.facts board.old).words ≡ used }
+    requires whole { used % BATCH ≡ 0 }
+    requires some { 0 < length sets.now }
+    requires few { length sets.now ≤ BATCH }
+    requires room { used + length sets.now ≤ PAIRS }
+    requires sets { AreSets 0 sets.now }
+    ensures kept { data_words (undo (B.facts board.new).words) ≡ data_words (undo (B.facts board.old).words) }
+    ensures done { OnOk result (data_words (B.facts board.new).words
+        ≡ data_words (overlay sets.now (B.facts board.old).words)) }
+    ensures sound { IsSound (B.facts board.new).words }
+    ensures counts { OnOk result (gate (B.facts board.new).words ≡ used + length sets.now) }
+    ensures light { Answered (B.facts board.old) (B.facts board.new) result }
+    ensures counted { OnOk result ((B.facts board.new).writes ≡ (B.facts board.old).writes + batch_writes sets.now) }
+    ensures writes { WritesAtMost (batch_writes sets.now) (B.facts board.old) (B.facts board.new) }
+{
+    let pairs = saved_pairs(board, sets)?;
+    write_pairs(board, used, &pairs)?;
+    write_gate(board, used + sets.len() as u16)?;
+    write_words(board, sets)
+}
+
+/// Writes what waits, if anything. Whatever comes of it, nothing waits any more, and its pairs are in use: the gate may have
+/// risen over them.
+fn flush<B: Board>(board: &mut B, batch: &mut Batch) -> Result<(), DeviceErr>
+    requires lit { (B.facts board.old).dark ≡ false }
+    requires sound { IsSound (B.facts board.old).words }
+    requires counts { gate (B.facts board.old).words ≡ batch.old.used }
+    requires whole { batch.old.used % BATCH ≡ 0 }
+    requires few { array_vec_len batch.old.waiting ≤ BATCH }
+    requires room { batch.old.used + array_vec_len batch.old.waiting ≤ PAIRS }
+    requires sets { AreSets 0 batch.old.waiting.items }
+    ensures kept { data_words (undo (B.facts board.new).words) ≡ data_words (undo (B.facts board.old).words) }
+    ensures done { OnOk result (data_words (B.facts board.new).words
+        ≡ data_words (overlay batch.old.waiting.items (B.facts board.old).words)) }
+    ensures sound { IsSound (B.facts board.new).words }
+    ensures counts { OnOk result (gate (B.facts board.new).words ≡ batch.new.used) }
+    ensures light { Answered (B.facts board.old) (B.facts board.new) result }
+    ensures counted { OnOk result ((B.facts board.new).writes
+        ≡ (B.facts board.old).writes + batch_writes batch.old.waiting.items) }
+    ensures writes { WritesAtMost (batch_writes batch.old.waiting.items) (B.facts board.old) (B.facts board.new) }
+    ensures used { batch.new.used ≡ batch.old.used + array_vec_len batch.old.waiting }
+    ensures empty { batch.new.waiting.items ≡ [] }
+{
+    if batch.waiting.is_empty() {
+        return Ok(());
+    }
+    let used = batch.used;
+    batch.used += batch.waiting.len() as u16;
+    let answer = save_and_write(board, used, &batch.waiting);
+    batch.waiting.clear();
+    answer
+}
+
+/// Lets a set wait. As soon as the batch is full, it is written.
+pub(crate) fn add<B: Board>(board: &mut B, batch: &mut Batch, new: Waiting) -> Result<(), DeviceErr>
+    requires held { IsHeld (B.facts board.old) batch.old.used batch.old.waiting.items }
+    requires room { batch.old.used + array_vec_len batch.old.waiting < PAIRS }
+    requires place { IsDataAddress (B.facts board.old).words new.at }
+    ensures kept { data_words (undo (B.facts board.new).words) ≡ data_words (undo (B.facts board.old).words) }
+    ensures done { OnOk result (data_words (overlay batch.new.waiting.items (B.facts board.new).words)
+        ≡ slice_set (data_words (overlay batch.old.waiting.items (B.facts board.old).words)) new.at new.word) }
+    ensures held { OnOk result (IsHeld (B.facts board.new) batch.new.used batch.new.waiting.items) }
+    ensures sound { IsSound (B.facts board.new).words }
+    ensures light { Answered (B.facts board.old) (B.facts board.new) result }
+    ensures taken { batch.new.used + array_vec_len batch.new.waiting
+        ≤ batch.old.used + array_vec_len batch.old.waiting + 1 }
+    ensures runs { InRuns 1 (working (B.facts board.old) batch.old) (working (B.facts board.new) batch.new) }
+    ensures goes_on { GoesOn (working (B.facts board.old) batch.old) new.at
+        → InRuns 0 (working (B.facts board.old) batch.old) (working (B.facts board.new) batch.new) }
+    ensures next { OnOk result (EndsAt (working (B.facts board.new) batch.new) new.at) }
+    ensures spends { WritesAtMost (set_writes new (working (B.facts board.old) batch.old)) (B.facts board.old)
+        (B.facts board.new) }
+    ensures joins { OnOk result (Joins new (working (B.facts board.old) batch.old) (working (B.facts board.new) batch.new)) }
+{
+    join(&mut batch.waiting, new);
+    if batch.waiting.is_full() {
+        return flush(board, batch);
+    }
+    Ok(())
+}
+
+/// Ends a transaction: what waits is written, and the gate turns to 0, where anything was written.
+pub(crate) fn finish<B: Board>(board: &mut B, batch: &mut Batch) -> Result<(), DeviceErr>
+    requires held { IsHeld (B.facts board.old) batch.old.used batch.old.waiting.items }
+    ensures any_exit { (data_words (undo (B.facts board.new).words) ≡ data_words (undo (B.facts board.old).words))
+        ⊎ ((data_words (undo (B.facts board.new).words)
+        ≡ data_words (overlay batch.old.waiting.items (B.facts board.old).words))
+        × TurnsGate (data_words (undo (B.facts board.old).words)) (working (B.facts board.new) batch.new)) }
+    ensures last { (data_words (undo (B.facts board.new).words) ≡ data_words (undo (B.facts board.old).words))
+        ⊎ ((B.facts board.old).writes + commit_writes (working (B.facts board.old) batch.old)
+        ≤ (B.facts board.new).writes + 1) }
+    ensures done { OnOk result (data_words (undo (B.facts board.new).words)
+        ≡ data_words (overlay batch.old.waiting.items (B.facts board.old).words)) }
+    ensures shut { OnOk result (gate (B.facts board.new).words ≡ 0) }
+    ensures sound { IsSound (B.facts board.new).words }
+    ensures light { Answered (B.facts board.old) (B.facts board.new) result }
+    ensures counted { OnOk result ((B.facts board.new).writes
+        ≡ (B.facts board.old).writes + commit_writes (working (B.facts board.old) batch.old)) }
+    ensures writes { WritesAtMost (commit_writes (working (B.facts board.old) batch.old)) (B.facts board.old)
+        (B.facts board.new) }
+{
+    flush(board, batch)?;
+    if batch.used == 0 {
+        return Ok(());
+    }
+    write_gate(board, 0)
+}
