@@ -3,3 +3,4 @@ pub mod Giving
 pub mod Runs
 pub mod Fills
 pub mod Puts
+pub mod RunCosts

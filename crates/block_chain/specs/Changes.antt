@@ -3,7 +3,7 @@ use Rattle.std.specs.Prelude.{◌≡◌, ◌≢◌, ◌⊎◌, ◌<◌, ◌+◌,
 use Rattle.std.specs.Prelude.{List, ◌++◌, length, slice_index, take, drop}
 use Rattle.std.specs.List.{splice}
 use Rattle.nvm_board.specs.declared.board.TheConstants.{PAGE_WORDS}
-use Rattle.block_chain.specs.declared.layout.TheConstants.{FREE_HEAD, HEADER_PAGE, FREE_HEAD_WORD}
+use Rattle.block_chain.specs.declared.layout.TheConstants.{BLOCK_BYTES, FREE_HEAD, HEADER_PAGE, FREE_HEAD_WORD}
 use Rattle.block_chain.specs.declared.chain.Chain.{Chain}
 use Rattle.block_chain.specs.Words.{word, IsBlock}
 use Rattle.block_chain.specs.Counts.{IsNotIn}
@@ -46,6 +46,11 @@ pub record Overwrites (m ps : List ℕ) (offset : ℕ) (bytes after : List ℕ) 
 abbrev pub touched_words : ℕ → ℕ → ℕ
 touched_words offset zero = 0
 touched_words offset (suc n) = (offset + n) / 4 + 1 - offset / 4
+
+-- how many blocks hold so many bytes of a chain from an offset on
+abbrev pub touched_blocks : ℕ → ℕ → ℕ
+touched_blocks offset zero = 0
+touched_blocks offset (suc n) = (offset + n) / BLOCK_BYTES + 1 - offset / BLOCK_BYTES
 
 -- all words of blocks stay, and the header's that names the first free one
 pub record KeepsBlocks (m after : List ℕ) : Type 0 where

@@ -3,8 +3,8 @@ ghost use Rattle.std.specs.Prelude.{◌≡◌, ◌+◌, ◌-◌, ◌*◌, ◌/�
 ghost use Rattle.std.specs.Prelude.{slice_index, ◌%◌, ◌==◌, if◌then◌else◌};
 ghost use Rattle.std.specs.Result.{result_err};
 ghost use Rattle.block_chain.specs.declared.layout.TheConstants.{BLOCK_BYTES, BLOCK_WORDS};
-ghost use Rattle.block_chain.specs.Changes.{touched_words};
-ghost use Rattle.undo_journal.specs.Memory.{committed, current, room, IsOpen, IsReady};
+ghost use Rattle.block_chain.specs.Changes.{touched_blocks, touched_words};
+ghost use Rattle.undo_journal.specs.Memory.{committed, current, room, EndsAt, GoesOn, InRuns, IsOpen, IsReady};
 ghost use Rattle.undo_journal.specs.Calls.{Changes, ReadsIn, SetsIn};
 ghost use Rattle.block_chain.specs.Chains.{free_chain, bytes_of, IsChain, chain_of, HasFree};
 ghost use Rattle.block_chain.specs.Changes.{OnlyContent, Overwrites};
@@ -61,6 +61,9 @@ fn put_word<B: Board>(
     ensures done { OnOk result (PutsWord (current (memory_of txn.old)) page k offset bytes.now
         (current (memory_of txn.new))) }
     ensures store { SetsIn 1 txn.old txn.new (result_err result) }
+    ensures goes_on { GoesOn (memory_of txn.old) (address page (1 + k % BLOCK_WORDS))
+        → InRuns 0 (memory_of txn.old) (memory_of txn.new) }
+    ensures next { OnOk result (EndsAt (memory_of txn.new) (address page (1 + k % BLOCK_WORDS))) }
 {
     let at = PAGE_WORDS * page + 1 + k % BLOCK_WORDS;
     let word = txn.read(at)?;
@@ -85,8 +88,8 @@ fn block_of_word<B: Board>(txn: &mut Txn<'_, B>, page: u16, k: u16) -> Result<u1
     }
 }
 
-/// Puts bytes in place of those of a chain from an offset on: one set for each touched word, in order. No bytes change
-/// nothing.
+/// Puts bytes in place of those of a chain from an offset on: one set for each touched word, in order, so that the sets lie in
+/// one run for each touched block. No bytes change nothing.
 ///
 /// # Errors
 /// What the store answers: power was lost, or the device failed.
@@ -103,6 +106,7 @@ pub fn set_bytes<B: Board>(
     ensures done { OnOk result (Overwrites (current (memory_of txn.old))
         (chain_of (current (memory_of txn.old)) chain) offset bytes.now (current (memory_of txn.new))) }
     ensures store { SetsIn (touched_words offset (length bytes.now)) txn.old txn.new (result_err result) }
+    ensures runs { InRuns (touched_blocks offset (length bytes.now)) (memory_of txn.old) (memory_of txn.new) }
     ensures none { length bytes.now ≡ 0 → memory_of txn.new ≡ memory_of txn.old }
 {
     if bytes.is_empty() {

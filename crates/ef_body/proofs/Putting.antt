@@ -1,7 +1,7 @@
 -- The words of a body and of its entry, as they are after bytes of its chain were set.
 use Rattle.std.proofs.Common.{refl, sym, ◌∙◌, ap, arith, inl, inr, subst, get_or-set_same, get_or-set_other}
 use Rattle.std.proofs.Math.ListN.{length-set}
-use Rattle.std.specs.Prelude.{◌≡◌, ◌≢◌, ◌<◌, ◌≤◌, ◌+◌, ◌*◌, ◌/◌, ◌%◌, ℕ, zero, suc, List, Option, length, slice_index}
+use Rattle.std.specs.Prelude.{◌≡◌, ◌≢◌, ◌<◌, ◌≤◌, ◌+◌, ◌/◌, ◌%◌, ℕ, zero, suc, List, Option, length, slice_index}
 use Rattle.std.specs.Prelude.{slice_set}
 use Rattle.nvm_board.specs.Facts.{address}
 use Rattle.nvm_board.specs.declared.board.TheConstants.{WORDS, PAGE_WORDS}
@@ -15,13 +15,14 @@ use Rattle.undo_journal.specs.declared.error.StoreErr.{StoreErr}
 use Rattle.undo_journal.specs.Memory.{Memory}
 use Rattle.undo_journal.specs.Calls.{Changes}
 use Rattle.undo_journal.specs.laws.Told.{changes_within}
+use Rattle.undo_journal.specs.Spending.{transaction_writes}
 use Rattle.ef_body.specs.declared.layout.TheConstants.{UPDATE_WRITES}
-use Rattle.block_chain.specs.Changes.{Overwrites, touched_words}
+use Rattle.block_chain.specs.Changes.{Overwrites, touched_words, touched_blocks}
 use Rattle.block_chain.specs.laws.Bytes.{leads_blocks, block_in}
 use Rattle.block_chain.specs.laws.Chains.{leads_same, pages_are}
 use Rattle.block_chain.specs.laws.Footprints.{bytes_same, not_among}
 use Rattle.block_chain.specs.laws.Laying.{leads_count, pages_most}
-use Rattle.ef_body.specs.Changes.{PutsRecord}
+use Rattle.ef_body.specs.Changes.{PutsRecord, update_writes}
 
 module _ (m mid : List ℕ) (c : Chain) (offset : ℕ) (bytes : List ℕ) (sized : length m ≡ WORDS)
     (is : IsChain m c.first (chain_of m c)) (over : Overwrites m (chain_of m c) offset bytes mid) where
@@ -98,9 +99,23 @@ pub touched_few : (offset count : ℕ) → count ≤ 255 → touched_words offse
 touched_few offset zero few = omega arith
 touched_few offset (suc n) few = omega (arith, few)
 
+-- and at most six blocks
+pub touched_few_blocks : (offset count : ℕ) → count ≤ 255 → touched_blocks offset count ≤ 6
+touched_few_blocks offset zero few = omega arith
+touched_few_blocks offset (suc n) few = omega (arith, few)
+
 -- so setting them costs no more than an update may
 pub update_within : (offset count : ℕ) (a b : Memory) (told : Option StoreErr) → count ≤ 255
-    → Changes (3 * touched_words offset count + 1) a b told → Changes UPDATE_WRITES a b told
+    → Changes (transaction_writes (touched_words offset count) (touched_blocks offset count)) a b told
+    → Changes UPDATE_WRITES a b told
 update_within offset count a b told few changes =
     let most = touched_few offset count few in
-    changes_within (3 * touched_words offset count + 1) UPDATE_WRITES a b told (omega (arith, most)) changes
+    let blocks = touched_few_blocks offset count few in
+    changes_within (transaction_writes (touched_words offset count) (touched_blocks offset count)) UPDATE_WRITES a b told
+    (omega (arith, most, blocks)) changes
+
+-- bytes touch few words, and few blocks
+pub touched_most : (offset count : ℕ)
+    → transaction_writes (touched_words offset count) (touched_blocks offset count) ≤ update_writes count
+touched_most offset zero = omega arith
+touched_most offset (suc n) = omega arith

@@ -1,5 +1,5 @@
 -- What the calls on bodies make of the words of a memory.
-use Rattle.std.specs.Prelude.{◌≡◌, ◌≢◌, ◌⊎◌, ◌<◌, ◌+◌, ◌-◌, ◌%◌, ℕ, List, length, slice_index}
+use Rattle.std.specs.Prelude.{◌≡◌, ◌≢◌, ◌⊎◌, ◌<◌, ◌+◌, ◌-◌, ◌*◌, ◌/◌, ◌%◌, ℕ, List, length, slice_index}
 use Rattle.nvm_board.specs.Facts.{address}
 use Rattle.nvm_board.specs.declared.board.TheConstants.{PAGE_WORDS}
 use Rattle.block_chain.specs.declared.chain.Chain.{Chain}
@@ -57,3 +57,8 @@ Increases m body sent after =
     let records = cyclic_records m body in
     CyclicBecomes m body (front (length records) (spelled body.record_length (raised_number records sent)) records)
     after
+
+-- Device writes at most of an UPDATE BINARY of so many bytes: they touch at most ceil(count / 4) + 1 words; for each eight of these
+-- one write of pairs, one of the gate and one of words; one write more at each of at most ceil(count / 60) ends of a block; one commit.
+abbrev pub update_writes : ℕ → ℕ
+update_writes count = 3 * (((count + 3) / 4 + 1 + 7) / 8) + (count + 59) / 60 + 1

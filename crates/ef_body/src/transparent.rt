@@ -4,10 +4,11 @@ ghost use Rattle.std.specs.Result.{result_err};
 ghost use Rattle.undo_journal.specs.Commits.{CommitsByGate};
 ghost use Rattle.undo_journal.specs.Memory.{committed, IsReady};
 ghost use Rattle.undo_journal.specs.Calls.{Reads, Changes};
-ghost use Rattle.block_chain.specs.Changes.{overwrite, touched_words, AppendsSome};
+ghost use Rattle.undo_journal.specs.Spending.{transaction_writes, WritesAtMost};
+ghost use Rattle.block_chain.specs.Changes.{overwrite, touched_blocks, touched_words, AppendsSome};
 ghost use Rattle.ef_body.specs.Refusals.{past_end, overlong, Decides, IfRefused, failure};
 ghost use Rattle.ef_body.specs.Bodies.{transparent_bytes, IsTransparent};
-ghost use Rattle.ef_body.specs.Changes.{TransparentBecomes};
+ghost use Rattle.ef_body.specs.Changes.{update_writes, TransparentBecomes};
 
 use crate::error::{BodyErr, from_store};
 use crate::reading::read_anew;
@@ -99,8 +100,9 @@ impl Transparent {
             result) }
         ensures refused { IfRefused (result_err result) (store.new ≡ store.old) }
         ensures by_gate { CommitsByGate store.old store.new }
-        ensures store { Changes (3 * touched_words offset (length bytes.now) + 1) store.old store.new (failure
-            (result_err result)) }
+        ensures store { Changes (transaction_writes (touched_words offset (length bytes.now)) (touched_blocks offset (length
+            bytes.now))) store.old store.new (failure (result_err result)) }
+        ensures writes { WritesAtMost (update_writes (length bytes.now)) store.old.facts store.new.facts }
     {
         if self.ends_at(offset) {
             return Err(BodyErr::Refused(Sw::WRONG_OFFSET));

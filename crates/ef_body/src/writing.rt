@@ -2,16 +2,17 @@
 ghost use Rattle.std.specs.Prelude.{◌≡◌, ◌⊎◌, ◌≤◌, ◌<◌, ◌+◌, ◌*◌, ◌-◌, ◌%◌, length, OnOk};
 ghost use Rattle.std.specs.Result.{result_err};
 ghost use Rattle.undo_journal.specs.Commits.{CommitsByGate};
-ghost use Rattle.undo_journal.specs.Memory.{committed, current, room, IsOpen, IsReady};
+ghost use Rattle.undo_journal.specs.Memory.{committed, current, room, InRuns, IsOpen, IsReady};
 ghost use Rattle.undo_journal.specs.Calls.{Changes, SetsIn};
 ghost use Rattle.undo_journal.specs.Lent.{memory_of};
 ghost use Rattle.undo_journal.specs.declared.layout.TheConstants.{GATE};
 ghost use Rattle.block_chain.specs.Chains.{chain_of as blocks_of_chain, IsChain};
-ghost use Rattle.block_chain.specs.Changes.{Overwrites, touched_words};
+ghost use Rattle.block_chain.specs.Changes.{Overwrites, touched_blocks, touched_words};
 ghost use Rattle.block_chain.specs.declared.layout.TheConstants.{BLOCK_BYTES};
 ghost use Rattle.ef_body.specs.declared.layout.TheConstants.{RECORD_WRITES};
 ghost use Rattle.ef_body.specs.Records.{front};
 ghost use Rattle.ef_body.specs.Bodies.{counts_word, cyclic_records, IsCyclic};
+ghost use Rattle.undo_journal.specs.Spending.{transaction_writes};
 ghost use Rattle.ef_body.specs.Changes.{CyclicBecomes, PutsRecord};
 
 use crate::cyclic::Cyclic;
@@ -42,7 +43,8 @@ pub(crate) fn put_bytes<B: Board>(
     ensures done { OnOk result (Overwrites (committed store.old) (blocks_of_chain (committed store.old) chain) offset
         bytes.now (committed store.new)) }
     ensures by_gate { CommitsByGate store.old store.new }
-    ensures store { Changes (3 * touched_words offset (length bytes.now) + 1) store.old store.new (result_err result) }
+    ensures store { Changes (transaction_writes (touched_words offset (length bytes.now)) (touched_blocks offset (length
+        bytes.now))) store.old store.new (result_err result) }
 {
     let mut txn = store.begin();
     match set_bytes(&mut txn, chain, offset, bytes) {
@@ -101,6 +103,7 @@ fn set_record<B: Board>(
     ensures done { OnOk result (PutsRecord (current (memory_of txn.old)) chain offset bytes.now told_at told (current
         (memory_of txn.new))) }
     ensures store { SetsIn (touched_words offset (length bytes.now) + 1) txn.old txn.new (result_err result) }
+    ensures runs { InRuns (touched_blocks offset (length bytes.now) + 1) (memory_of txn.old) (memory_of txn.new) }
 {
     set_bytes(txn, chain, offset, bytes)?;
     txn.set(told_at, told)

@@ -2,7 +2,7 @@
 
 ghost use Rattle.std.specs.Prelude.{◌≡◌, ◌≢◌, ◌⊎◌, ◌&&◌, ◌<◌, ◌≤◌, nat_le, length, Some, IfOk, OnOk, if◌then◌else◌};
 ghost use Rattle.std.specs.Result.{result_err};
-ghost use Rattle.undo_journal.specs.Memory.{committed, current, room, IsOpen, IsReady};
+ghost use Rattle.undo_journal.specs.Memory.{committed, current, room, InRuns, IsOpen, IsReady};
 ghost use Rattle.undo_journal.specs.Lent.{memory_of};
 ghost use Rattle.undo_journal.specs.Calls.{OnlyReads, Reads, Changes, SetsIn};
 ghost use Rattle.card_rules.specs.declared.status.Sw.{Sw};
@@ -174,6 +174,7 @@ fn add_file<B: Board>(
     requires room { 13 ≤ room (memory_of txn.old) }
     ensures done { OnOk result (AddsFile (current (memory_of txn.old)) e entry blocks (current (memory_of txn.new))) }
     ensures store { SetsIn 13 txn.old txn.new (result_err result) }
+    ensures runs { InRuns 3 (memory_of txn.old) (memory_of txn.new) }
 {
     if blocks == 0 {
         return write_entry(txn, e, entry);

@@ -16,14 +16,14 @@ ghost use Rattle.file_tree.specs.Trees.{file_in, tree_of, TreeStands};
 ghost use Rattle.file_tree.specs.Changes.{KeepsTree, SameTree};
 
 /// Entry 0 is on page 1, there are 64 entries, no file is more than seven steps below the master file, and this has the
-/// identifier 3F00. The largest file has 547 blocks; a creation makes at most 587 device writes, a deletion 388.
+/// identifier 3F00. The largest file has 547 blocks; a creation makes at most 556 device writes, a deletion 180.
 /// Word 2 of the header is 1 where the card is terminated.
 pub fn layout()
     ensures first { FIRST_ENTRY_PAGE ≡ 1 }
     ensures entries { ENTRIES ≡ 64 }
     ensures deepest { DEEPEST ≡ 7 }
     ensures master { (MASTER_FILE ≡ 0x3F00) × (master_file ≡ 0x3F00) }
-    ensures writes { (MOST_FILE_BLOCKS ≡ 547) × (CREATE_WRITES ≡ 587) × (DELETE_WRITES ≡ 388) }
+    ensures writes { (MOST_FILE_BLOCKS ≡ 547) × (CREATE_WRITES ≡ 556) × (DELETE_WRITES ≡ 180) }
     ensures state { (STATE_WORD ≡ 2) × (CARD_TERMINATED ≡ 1) }
 {}
 

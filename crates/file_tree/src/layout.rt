@@ -26,16 +26,22 @@ pub const RECORDS_WORD: u16 = 10;
 /// The most steps from a file up to the master file, which stands at level 1: no file stands below level 8.
 pub const DEEPEST: u8 = 7;
 
-/// The most device writes of a deletion: three for each entry that is freed, for each chain that is given back and for
-/// the header's word of free blocks, and one for the commit.
-pub(crate) const DELETE_WRITES: u16 = 3 * (ENTRIES + ENTRIES + 1) + 1;
+/// The most words that a deletion sets: one of each entry that is freed, the link of each chain that is given back, and the
+/// header's word of free blocks.
+pub(crate) const DELETE_SETS: u16 = ENTRIES + ENTRIES + 1;
+
+/// The most device writes of a deletion: three for each eight of its words, and one for each, since none lies beside another.
+pub(crate) const DELETE_WRITES: u16 = 3 * ((DELETE_SETS + 7) / 8) + DELETE_SETS;
 
 /// The most blocks of a file.
 pub(crate) const MOST_FILE_BLOCKS: u16 = (MOST_BYTES + BLOCK_BYTES - 1) / BLOCK_BYTES;
 
-/// The most device writes of a creation: one for each block that is filled, three for each word of the entry, for the last
-/// block's link and for the header's word of free blocks, and one for the commit.
-pub(crate) const CREATE_WRITES: u16 = MOST_FILE_BLOCKS + 3 * (ENTRY_WORDS as u16 + 2) + 1;
+/// The words that a creation sets: the entry's, the last block's link, and the header's word of free blocks.
+pub(crate) const CREATE_SETS: u16 = ENTRY_WORDS as u16 + 2;
+
+/// The most device writes of a creation: one for each block that is filled; three for each eight of the words that are set, and
+/// one for each of their three runs.
+pub(crate) const CREATE_WRITES: u16 = MOST_FILE_BLOCKS + 3 * ((CREATE_SETS + 7) / 8) + 3;
 
 /// The header's word that holds the state of the card: 0 in use, 1 terminated.
 pub const STATE_WORD: u16 = 2;

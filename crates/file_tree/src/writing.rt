@@ -2,7 +2,7 @@
 
 ghost use Rattle.std.specs.Prelude.{◌≡◌, ◌≢◌, ◌∷◌, [], ◌<◌, ◌≤◌, ◌+◌, ◌*◌, OnOk, length, take, drop};
 ghost use Rattle.std.specs.Result.{result_err};
-ghost use Rattle.undo_journal.specs.Memory.{current, room, IsOpen};
+ghost use Rattle.undo_journal.specs.Memory.{current, room, InRuns, IsOpen};
 ghost use Rattle.undo_journal.specs.Lent.{memory_of};
 ghost use Rattle.undo_journal.specs.Calls.{SetsIn};
 ghost use Rattle.block_chain.specs.Words.{word_bytes};
@@ -80,6 +80,7 @@ pub(crate) fn write_entry<B: Board>(
     requires room { 11 ≤ room (memory_of txn.old) }
     ensures done { OnOk result (WritesEntry (current (memory_of txn.old)) e entry (current (memory_of txn.new))) }
     ensures store { SetsIn 11 txn.old txn.new (result_err result) }
+    ensures runs { InRuns 1 (memory_of txn.old) (memory_of txn.new) }
 {
     let words = words_of(entry);
     txn.set_run(entry_address(e), &words)

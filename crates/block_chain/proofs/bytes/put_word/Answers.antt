@@ -1,10 +1,10 @@
 use Rattle.std.proofs.Common.{rules}
-use Rattle.std.proofs.Common.{◌≡◌, ◌+◌, ◌*◌, ◌%◌, ℕ, List, length, slice_index, slice_set, ◌∙◌, ap, ap₂, inr, arith}
+use Rattle.std.proofs.Common.{◌≡◌, ◌+◌, ◌*◌, ◌%◌, ℕ, List, length, slice_index, slice_set, ◌∙◌, ap, ap₂, subst, inr, arith}
 use Rattle.std.proofs.lemmas.Result.{on_ok_weaker}
 use Rattle.nvm_board.specs.Facts.{address}
-use Rattle.undo_journal.specs.Memory.{current}
+use Rattle.undo_journal.specs.Memory.{current, EndsAt, GoesOn}
 use Rattle.undo_journal.specs.Lent.{memory_of}
-use Rattle.undo_journal.specs.laws.Calls.{reads_sets, sets_then}
+use Rattle.undo_journal.specs.laws.Calls.{reads_sets, sets_then, runs_then, reads_runs, goes_on_kept}
 use Rattle.block_chain.specs.Parts.{byte_over}
 use Rattle.block_chain.specs.Words.{word, word_bytes}
 use Rattle.undo_journal.specs.laws.Exits.{none_ok}
@@ -61,3 +61,25 @@ returns-in_err-word-clause-store g c =
       tells = c.in_err-word.ensures.store.tells;
       sets = reads_sets _ _ _ c.read.ensures.store.only;
     })
+
+-- the runs
+
+pub returns-clause-goes_on : goal.returns-clause-goes_on
+returns-clause-goes_on g c = λ goes.
+    let at : address c.args.page (1 + c.args.k % BLOCK_WORDS) ≡ PAGE_WORDS * c.args.page + 1 + c.args.k % BLOCK_WORDS =
+    omega arith in
+    let reads = c.read.ensures.store.only.reads in
+    let moved = subst (λ (a : ℕ). GoesOn (memory_of c.args.txn.now) a) at goes in
+    runs_then 0 0 0 _ _ _ (omega arith) (reads_runs 0 _ _ reads) (c.set.ensures.goes_on (goes_on_kept _ _ _ reads moved))
+
+pub returns-clause-next : goal.returns-clause-next
+returns-clause-next g c =
+    let at : PAGE_WORDS * c.args.page + 1 + c.args.k % BLOCK_WORDS ≡ address c.args.page (1 + c.args.k % BLOCK_WORDS) =
+    omega arith in
+    on_ok_weaker c.set.result (λ ends. subst (λ (a : ℕ). EndsAt (memory_of c.set.new.self) a) at ends) c.set.ensures.next
+
+pub returns-in_err-word-clause-goes_on : goal.returns-in_err-word-clause-goes_on
+returns-in_err-word-clause-goes_on g c = λ goes. reads_runs 0 _ _ c.in_err-word.ensures.store.only.reads
+
+pub returns-in_err-word-clause-next : goal.returns-in_err-word-clause-next
+returns-in_err-word-clause-next g c = none_ok _ _ _ c.from_residual.ensures.1

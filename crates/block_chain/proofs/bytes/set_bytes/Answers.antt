@@ -1,11 +1,13 @@
-use Rattle.std.proofs.Common.{rules, ◌≡◌, ◌+◌, ◌-◌, ◌/◌, ◌≤◌, length, arith}
+use Rattle.std.proofs.Common.{rules, refl, ◌≡◌, ◌+◌, ◌-◌, ◌/◌, ◌≤◌, length, arith}
 use Rattle.undo_journal.specs.Memory.{current}
 use Rattle.undo_journal.specs.Lent.{memory_of}
-use Rattle.undo_journal.specs.laws.Calls.{reads_sets, sets_then, sets_weaker}
+use Rattle.undo_journal.specs.laws.Calls.{reads_sets, sets_then, sets_weaker, reads_same, reads_runs, runs_then}
 use Rattle.undo_journal.specs.laws.Exits.{none_ok}
 use Rattle.undo_journal.specs.laws.Told.{sets_in_handed, sets_in_on}
 use Rattle.block_chain.specs.Chains.{chain_of}
 use Rattle.block_chain.specs.laws.Overwriting.{overwrites_none}
+use Rattle.block_chain.specs.Changes.{touched_blocks}
+use Rattle.block_chain.proofs.RunCosts.{none_yet, runs_all, runs_more, run_put, run_next}
 use Rattle.block_chain.proofs.Puts.{link_small, put_few, put_first, put_last, put_more}
 use Rattle.block_chain.proofs.Puts.{word_block, word_fits, word_small}
 use Rattle.block_chain.proofs.bytes.set_bytes.Goals as goal
@@ -39,6 +41,7 @@ loop-k-init g c =
       within = omega (arith, some);
       ready = c.in_ok-page.ensures.store.ready;
       sets = reads_sets _ _ _ c.walk.ensures.store.only;
+      runs = none_yet refl (reads_runs 0 _ _ c.walk.ensures.store.only.reads);
       put = put_first m (chain_of m c.args.chain) _ c.args.offset c.args.bytes.now c.requires.chain c.requires.within
           c.requires.ready.current_size
           _ _ some c.in_ok-page.ensures.page c.walk.ensures.store.only.reads.keeps.current_words;
@@ -120,6 +123,9 @@ loop-k-preserved g c =
       within = omega (arith, c.loop-k-test.true);
       ready = c.in_ok-page-2.ensures.store.ready;
       sets = sets_then _ 0 _ _ _ _ (omega arith) put (reads_sets 0 _ _ c.block_of_word.ensures.store.only);
+      runs = run_next _ _ _ _ _ _ c.loop-k.invariant.runs refl _ c.put_word.ensures.store.sets.writes
+          c.put_word.ensures.goes_on c.loop-k.invariant.put.from c.in_ok-put_word.ensures.next _
+          c.block_of_word.ensures.store.only.reads _ _ c.in_ok-page-2.ensures.page;
       put = put_more m (chain_of m c.args.chain) _ c.args.offset c.args.bytes.now c.requires.chain c.requires.within
           c.requires.ready.current_size
           _ _ _ c.loop-k.invariant.put (omega (arith, c.loop-k-test.true)) _ c.in_ok-put_word.ensures.done
@@ -146,3 +152,29 @@ returns-clause-store g c =
       ready = c.loop-k.invariant.ready;
       tells = c.loop-k.invariant.ready.works;
     }
+
+-- the runs
+
+pub returns-then-is_empty-clause-runs : goal.returns-then-is_empty-clause-runs
+returns-then-is_empty-clause-runs g c = reads_runs _ _ _ (reads_same _)
+
+pub returns-in_err-page-clause-runs : goal.returns-in_err-page-clause-runs
+returns-in_err-page-clause-runs g c = reads_runs _ _ _ c.walk.ensures.store.only.reads
+
+pub returns-in_err-put_word-clause-runs : goal.returns-in_err-put_word-clause-runs
+returns-in_err-put_word-clause-runs g c =
+    runs_more _ _ _ _ _ _ c.loop-k.invariant.runs c.loop-k.invariant.put.some (omega (arith, c.loop-k-test.true)) _
+    (run_put _ _ _ _ _ _ c.loop-k.invariant.runs refl _ c.put_word.ensures.store.sets.writes c.put_word.ensures.goes_on
+    c.loop-k.invariant.put.from)
+
+pub returns-in_err-page-2-clause-runs : goal.returns-in_err-page-2-clause-runs
+returns-in_err-page-2-clause-runs g c =
+    let blocks = touched_blocks c.args.offset (length c.args.bytes.now) in
+    runs_then blocks 0 blocks _ _ _ (omega arith)
+    (runs_more _ _ _ _ _ _ c.loop-k.invariant.runs c.loop-k.invariant.put.some (omega (arith, c.loop-k-test.true)) _
+    (run_put _ _ _ _ _ _ c.loop-k.invariant.runs refl _ c.put_word.ensures.store.sets.writes c.put_word.ensures.goes_on
+    c.loop-k.invariant.put.from)) (reads_runs 0 _ _ c.block_of_word.ensures.store.only.reads)
+
+pub returns-clause-runs : goal.returns-clause-runs
+returns-clause-runs g c =
+    runs_all _ _ _ _ _ _ c.loop-k.invariant.runs c.loop-k.invariant.put.some (omega (arith, c.loop-k.invariant.within))

@@ -1,4 +1,3 @@
-use Rattle.std.proofs.Common.{rules}
 use Rattle.std.proofs.Common.{◌≡◌, ◌+◌, ◌-◌, ◌*◌, ◌<◌, ◌≤◌, ℕ, List, [], ◌∷◌, length, drop, slice_set, slice_index_or}
 use Rattle.std.proofs.Common.{sym, ◌∙◌, ap, inr, arith}
 use Rattle.std.proofs.lemmas.List.{drop_more}

@@ -50,7 +50,7 @@ returns-in_err-chain-clause-store g c =
     sets_in_handed _ _ _ _ _ c.from_residual.ensures.1 (record {
       ready = tt;
       tells = c.in_err-chain.ensures.store.tells;
-      sets = search rules;
+      sets = reads_sets _ _ _ c.in_err-chain.ensures.store.only;
     })
 
 pub returns-in_err-set-clause-done : goal.returns-in_err-set-clause-done

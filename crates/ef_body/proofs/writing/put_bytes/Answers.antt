@@ -9,7 +9,8 @@ use Rattle.undo_journal.specs.laws.Transactions.{begun, by_gate, commits, not_co
 use Rattle.undo_journal.specs.laws.Told.{spent, spent_failed}
 use Rattle.block_chain.specs.declared.layout.TheConstants.{BLOCK_BYTES}
 use Rattle.block_chain.specs.Chains.{chain_of, IsChain}
-use Rattle.block_chain.specs.Changes.{Overwrites, touched_words}
+use Rattle.block_chain.specs.Changes.{Overwrites, touched_words, touched_blocks}
+use Rattle.undo_journal.specs.Spending.{transaction_writes}
 use Rattle.ef_body.proofs.Putting.{touched_few}
 use Rattle.ef_body.proofs.writing.put_bytes.Goals as goal
 
@@ -39,10 +40,11 @@ returns-in-Ok-clause-done g c =
 pub returns-in-Ok-clause-store : goal.returns-in-Ok-clause-store
 returns-in-Ok-clause-store g c =
     let words = touched_words c.args.offset (length c.args.bytes.now) in
+    let blocks = touched_blocks c.args.offset (length c.args.bytes.now) in
     let sets = c.set_bytes.ensures.store.sets in
     let last = c.store-1.given.1 (sym (sets.same_store ∙ c.begin-txn.ensures.same_store)) in
-    spent (3 * words) 1 (3 * words + 1) _ _ (memory_of c.set_bytes.new.txn) _ _ _ (omega arith)
-    c.begin-txn.ensures.same last sets.reports sets.writes c.commit.ensures.store
+    spent words blocks (transaction_writes words blocks) _ _ (memory_of c.set_bytes.new.txn) _ _ _ (omega arith)
+    c.requires.ready.idle c.begin-txn.ensures.same last sets.taken sets.reports c.set_bytes.ensures.runs c.commit.ensures.store
 
 pub returns-in-Err-clause-any_exit : goal.returns-in-Err-clause-any_exit
 returns-in-Err-clause-any_exit g c =
@@ -59,10 +61,11 @@ returns-in-Err-clause-done g c =
 pub returns-in-Err-clause-store : goal.returns-in-Err-clause-store
 returns-in-Err-clause-store g c =
     let words = touched_words c.args.offset (length c.args.bytes.now) in
+    let blocks = touched_blocks c.args.offset (length c.args.bytes.now) in
     let sets = c.set_bytes.ensures.store.sets in
     let last = c.store-in-Err-1.given.1 (sym (sets.same_store ∙ c.begin-txn.ensures.same_store)) in
-    spent_failed (3 * words) _ (3 * words + 1) _ _ (memory_of c.set_bytes.new.txn) _ _ _ c.in-Err.field-0
-    (omega arith) c.begin-txn.ensures.same last sets.reports sets.writes
+    spent_failed words blocks (transaction_writes words blocks) _ _ _ (memory_of c.set_bytes.new.txn) _ _ _ c.in-Err.field-0
+    (omega arith) c.requires.ready.idle c.begin-txn.ensures.same last sets.taken sets.reports c.set_bytes.ensures.runs
     c.in-Err.ensures.store.tells c.abandon.ensures.store
 
 pub set_bytes-requires-clause-ready : goal.set_bytes-requires-clause-ready

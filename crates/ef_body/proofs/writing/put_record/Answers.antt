@@ -9,10 +9,10 @@ use Rattle.undo_journal.specs.laws.Transactions.{begun, by_gate, commits, not_co
 use Rattle.undo_journal.specs.laws.Told.{spent, spent_failed}
 use Rattle.block_chain.specs.declared.layout.TheConstants.{BLOCK_BYTES}
 use Rattle.block_chain.specs.Chains.{chain_of, IsChain}
-use Rattle.block_chain.specs.Changes.{touched_words}
+use Rattle.block_chain.specs.Changes.{touched_blocks, touched_words}
 use Rattle.ef_body.specs.declared.layout.TheConstants.{RECORD_WRITES}
 use Rattle.ef_body.specs.Changes.{PutsRecord}
-use Rattle.ef_body.proofs.Putting.{touched_few}
+use Rattle.ef_body.proofs.Putting.{touched_few, touched_few_blocks}
 use Rattle.ef_body.proofs.writing.put_record.Goals as goal
 
 pub returns-in-Ok-clause-any_exit : goal.returns-in-Ok-clause-any_exit
@@ -41,11 +41,13 @@ returns-in-Ok-clause-done g c =
 pub returns-in-Ok-clause-store : goal.returns-in-Ok-clause-store
 returns-in-Ok-clause-store g c =
     let words = touched_words c.args.offset (length c.args.bytes.now) + 1 in
+    let runs = touched_blocks c.args.offset (length c.args.bytes.now) + 1 in
     let sets = c.set_record.ensures.store.sets in
     let last = c.store-1.given.1 (sym (sets.same_store ∙ c.begin-txn.ensures.same_store)) in
     let most = touched_few c.args.offset (length c.args.bytes.now) c.requires.few in
-    spent (3 * words) 1 RECORD_WRITES _ _ (memory_of c.set_record.new.txn) _ _ _ (omega (arith, most))
-    c.begin-txn.ensures.same last sets.reports sets.writes c.commit.ensures.store
+    let blocks = touched_few_blocks c.args.offset (length c.args.bytes.now) c.requires.few in
+    spent words runs RECORD_WRITES _ _ (memory_of c.set_record.new.txn) _ _ _ (omega (arith, most, blocks))
+    c.requires.ready.idle c.begin-txn.ensures.same last sets.taken sets.reports c.set_record.ensures.runs c.commit.ensures.store
 
 pub returns-in-Err-clause-any_exit : goal.returns-in-Err-clause-any_exit
 returns-in-Err-clause-any_exit g c =
@@ -62,11 +64,13 @@ returns-in-Err-clause-done g c =
 pub returns-in-Err-clause-store : goal.returns-in-Err-clause-store
 returns-in-Err-clause-store g c =
     let words = touched_words c.args.offset (length c.args.bytes.now) + 1 in
+    let runs = touched_blocks c.args.offset (length c.args.bytes.now) + 1 in
     let sets = c.set_record.ensures.store.sets in
     let last = c.store-in-Err-1.given.1 (sym (sets.same_store ∙ c.begin-txn.ensures.same_store)) in
     let most = touched_few c.args.offset (length c.args.bytes.now) c.requires.few in
-    spent_failed (3 * words) _ RECORD_WRITES _ _ (memory_of c.set_record.new.txn) _ _ _ c.in-Err.field-0
-    (omega (arith, most)) c.begin-txn.ensures.same last sets.reports sets.writes
+    let blocks = touched_few_blocks c.args.offset (length c.args.bytes.now) c.requires.few in
+    spent_failed words runs RECORD_WRITES _ _ _ (memory_of c.set_record.new.txn) _ _ _ c.in-Err.field-0
+    (omega (arith, most, blocks)) c.requires.ready.idle c.begin-txn.ensures.same last sets.taken sets.reports c.set_record.ensures.runs
     c.in-Err.ensures.store.tells c.abandon.ensures.store
 
 pub set_record-requires-clause-ready : goal.set_record-requires-clause-ready
@@ -86,6 +90,7 @@ set_record-requires-clause-within g c =
 pub set_record-requires-clause-room : goal.set_record-requires-clause-room
 set_record-requires-clause-room g c =
     let most = touched_few c.args.offset (length c.args.bytes.now) c.requires.few in
+    let blocks = touched_few_blocks c.args.offset (length c.args.bytes.now) c.requires.few in
     omega (arith, most, c.begin-txn.ensures.room)
 
 pub returns-in-Ok-clause-by_gate : goal.returns-in-Ok-clause-by_gate

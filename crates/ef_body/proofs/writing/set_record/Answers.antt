@@ -2,9 +2,9 @@ use Rattle.std.proofs.Common.{◌≡◌, arith, slice_set, length}
 use Rattle.std.proofs.lemmas.Result.{on_ok_weaker}
 use Rattle.undo_journal.specs.Memory.{current}
 use Rattle.undo_journal.specs.Lent.{memory_of}
-use Rattle.undo_journal.specs.laws.Calls.{sets_weaker}
+use Rattle.undo_journal.specs.laws.Calls.{runs_then, runs_weaker, sets_weaker}
 use Rattle.undo_journal.specs.laws.Told.{sets_in_on, sets_in_handed}
-use Rattle.block_chain.specs.Changes.{touched_words}
+use Rattle.block_chain.specs.Changes.{touched_blocks, touched_words}
 use Rattle.ef_body.proofs.Putting.{puts}
 use Rattle.ef_body.proofs.writing.set_record.Goals as goal
 
@@ -34,3 +34,12 @@ returns-clause-done g c =
     c.args.offset
     c.args.bytes.now c.args.told_at c.args.told c.requires.ready.current_size c.requires.chain c.requires.entry
     c.in_ok-set_bytes.ensures.done done) c.set.ensures.done
+
+pub returns-in_err-set_bytes-clause-runs : goal.returns-in_err-set_bytes-clause-runs
+returns-in_err-set_bytes-clause-runs g c =
+    runs_weaker (touched_blocks c.args.offset (length c.args.bytes.now)) _ _ _ (omega arith) c.in_err-set_bytes.ensures.runs
+
+pub returns-clause-runs : goal.returns-clause-runs
+returns-clause-runs g c =
+    runs_then (touched_blocks c.args.offset (length c.args.bytes.now)) 1 _ _ _ _ (omega arith) c.set_bytes.ensures.runs
+    c.set.ensures.store.sets.writes

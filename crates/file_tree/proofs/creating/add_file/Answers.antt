@@ -1,6 +1,7 @@
 use Rattle.std.proofs.Common.{arith, inl, inr, lit<}
 use Rattle.undo_journal.specs.Lent.{memory_of}
 use Rattle.undo_journal.specs.Memory.{current}
+use Rattle.undo_journal.specs.laws.Calls.{runs_then, runs_weaker}
 use Rattle.undo_journal.specs.laws.Exits.{none_ok, on_then}
 use Rattle.undo_journal.specs.laws.Told.{sets_in_handed, sets_in_on, sets_in_within}
 use Rattle.file_tree.proofs.creating.add_file.Goals as goal
@@ -74,3 +75,13 @@ returns-clause-done g c =
 pub returns-clause-store : goal.returns-clause-store
 returns-clause-store g c =
     sets_in_on 2 11 13 _ _ _ _ (lit< tt) c.take.ensures.store.sets c.write_entry-2.ensures.store
+
+pub returns-then-blocks-eq0-clause-runs : goal.returns-then-blocks-eq0-clause-runs
+returns-then-blocks-eq0-clause-runs g c = runs_weaker 1 3 _ _ (lit< tt) c.write_entry.ensures.runs
+
+pub returns-in_err-chain-clause-runs : goal.returns-in_err-chain-clause-runs
+returns-in_err-chain-clause-runs g c = runs_weaker 2 3 _ _ (lit< tt) c.in_err-chain.ensures.store.sets.writes
+
+pub returns-clause-runs : goal.returns-clause-runs
+returns-clause-runs g c =
+    runs_then 2 1 3 _ _ _ (lit< tt) c.take.ensures.store.sets.writes c.write_entry-2.ensures.runs

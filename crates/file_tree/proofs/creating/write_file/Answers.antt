@@ -1,5 +1,5 @@
 use Rattle.std.proofs.Common.{rules, ◌≡◌, ◌*◌, ℕ, List, length, take, replicate, sym, ◌∙◌, ap, subst, inl, inr, refl, ⊎_elim}
-use Rattle.std.proofs.Common.{lit<, arith}
+use Rattle.std.proofs.Common.{arith}
 use Rattle.undo_journal.specs.Lent.{memory_of}
 use Rattle.undo_journal.specs.Memory.{committed, current, IsReady}
 use Rattle.block_chain.specs.declared.layout.TheConstants.{BLOCK_BYTES}
@@ -83,16 +83,16 @@ returns-in-Ok-clause-done g c =
 pub returns-in-Ok-clause-store : goal.returns-in-Ok-clause-store
 returns-in-Ok-clause-store g c =
     let last = c.store-1.given.1 (sym (c.add_file.ensures.store.sets.same_store ∙ c.begin-txn.ensures.same_store)) in
-    changes_on c.args.blocks 40 CREATE_WRITES _ _ _ _ (omega (arith, c.requires.few)) c.in_ok-fill.ensures.store
-    (spent 39 1 40 _ _ (memory_of c.add_file.new.txn) _ _ _ (lit< tt) c.begin-txn.ensures.same last
-    c.add_file.ensures.store.sets.reports c.add_file.ensures.store.sets.writes c.commit.ensures.store)
+    changes_on c.args.blocks 9 CREATE_WRITES _ _ _ _ (omega (arith, c.requires.few)) c.in_ok-fill.ensures.store
+    (spent 13 3 9 _ _ (memory_of c.add_file.new.txn) _ _ _ (omega arith) c.in_ok-fill.ensures.store.idle c.begin-txn.ensures.same last
+    c.add_file.ensures.store.sets.taken c.add_file.ensures.store.sets.reports c.add_file.ensures.runs c.commit.ensures.store)
 
 pub returns-in-Err-clause-store : goal.returns-in-Err-clause-store
 returns-in-Err-clause-store g c =
     let last = c.store-in-Err-1.given.1 (sym (c.add_file.ensures.store.sets.same_store ∙ c.begin-txn.ensures.same_store)) in
-    changes_on c.args.blocks 40 CREATE_WRITES _ _ _ _ (omega (arith, c.requires.few)) c.in_ok-fill.ensures.store
-    (spent_failed 39 _ 40 _ _ (memory_of c.add_file.new.txn) _ _ _ _ (lit< tt) c.begin-txn.ensures.same last
-    c.add_file.ensures.store.sets.reports c.add_file.ensures.store.sets.writes c.in-Err.ensures.store.tells
+    changes_on c.args.blocks 9 CREATE_WRITES _ _ _ _ (omega (arith, c.requires.few)) c.in_ok-fill.ensures.store
+    (spent_failed 13 3 9 _ _ _ (memory_of c.add_file.new.txn) _ _ _ _ (omega arith) c.in_ok-fill.ensures.store.idle c.begin-txn.ensures.same last
+    c.add_file.ensures.store.sets.taken c.add_file.ensures.store.sets.reports c.add_file.ensures.runs c.in-Err.ensures.store.tells
     c.abandon.ensures.store)
 
 pub returns-in-Err-clause-any_exit : goal.returns-in-Err-clause-any_exit

@@ -1,4 +1,4 @@
-use Rattle.std.proofs.Common.{◌+◌, ◌*◌, length, sym, ◌∙◌, inl, arith}
+use Rattle.std.proofs.Common.{◌+◌, length, sym, ◌∙◌, inl, arith}
 use Rattle.undo_journal.specs.Lent.{memory_of}
 use Rattle.file_tree.specs.declared.layout.TheConstants.{DELETE_WRITES}
 use Rattle.undo_journal.specs.laws.Exits.{on_then, on_error}
@@ -26,16 +26,16 @@ returns-in-Ok-clause-done g c =
 pub returns-in-Ok-clause-store : goal.returns-in-Ok-clause-store
 returns-in-Ok-clause-store g c =
     let last = c.store-1.given.1 (sym (c.take_away.ensures.store.sets.same_store ∙ c.begin-txn.ensures.same_store)) in
-    spent (3 * (64 + (length c.args.chains.now + 1))) 1 DELETE_WRITES _ _ (memory_of c.take_away.new.txn) _ _ _
-    (omega (arith, c.requires.few)) c.begin-txn.ensures.same last
-    c.take_away.ensures.store.sets.reports c.take_away.ensures.store.sets.writes c.commit.ensures.store
+    spent (64 + (length c.args.chains.now + 1)) (64 + (length c.args.chains.now + 1)) DELETE_WRITES _ _ (memory_of c.take_away.new.txn) _ _ _
+    (omega (arith, c.requires.few)) c.requires.ready.idle c.begin-txn.ensures.same last
+    c.take_away.ensures.store.sets.taken c.take_away.ensures.store.sets.reports c.take_away.ensures.store.sets.writes c.commit.ensures.store
 
 pub returns-in-Err-clause-store : goal.returns-in-Err-clause-store
 returns-in-Err-clause-store g c =
     let last = c.store-in-Err-1.given.1 (sym (c.take_away.ensures.store.sets.same_store ∙ c.begin-txn.ensures.same_store)) in
-    spent_failed (3 * (64 + (length c.args.chains.now + 1))) _ DELETE_WRITES _ _ (memory_of c.take_away.new.txn) _ _ _ _
-    (omega (arith, c.requires.few)) c.begin-txn.ensures.same last
-    c.take_away.ensures.store.sets.reports c.take_away.ensures.store.sets.writes c.in-Err.ensures.store.tells
+    spent_failed (64 + (length c.args.chains.now + 1)) (64 + (length c.args.chains.now + 1)) DELETE_WRITES _ _ _ (memory_of c.take_away.new.txn) _ _ _ _
+    (omega (arith, c.requires.few)) c.requires.ready.idle c.begin-txn.ensures.same last
+    c.take_away.ensures.store.sets.taken c.take_away.ensures.store.sets.reports c.take_away.ensures.store.sets.writes c.in-Err.ensures.store.tells
     c.abandon.ensures.store
 
 pub returns-in-Err-clause-any_exit : goal.returns-in-Err-clause-any_exit

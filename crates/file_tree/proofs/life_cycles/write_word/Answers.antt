@@ -1,4 +1,4 @@
-use Rattle.std.proofs.Common.{◌≡◌, slice_set, sym, ◌∙◌, inl, lit<}
+use Rattle.std.proofs.Common.{◌≡◌, slice_set, sym, ◌∙◌, inl, arith}
 use Rattle.undo_journal.specs.Lent.{memory_of}
 use Rattle.undo_journal.specs.laws.Exits.{on_then, on_error}
 use Rattle.undo_journal.specs.laws.Transactions.{by_gate, not_committed, stays}
@@ -24,14 +24,14 @@ returns-in-Ok-clause-done g c =
 pub returns-in-Ok-clause-store : goal.returns-in-Ok-clause-store
 returns-in-Ok-clause-store g c =
     let last = c.store-1.given.1 (sym (c.set.ensures.store.sets.same_store ∙ c.begin-txn.ensures.same_store)) in
-    spent 3 1 4 _ _ (memory_of c.set.new.self) _ _ _ (lit< tt) c.begin-txn.ensures.same last
-    c.set.ensures.store.sets.reports c.set.ensures.store.sets.writes c.commit.ensures.store
+    spent 1 1 4 _ _ (memory_of c.set.new.self) _ _ _ (omega arith) c.requires.ready.idle c.begin-txn.ensures.same last
+    c.set.ensures.store.sets.taken c.set.ensures.store.sets.reports c.set.ensures.store.sets.writes c.commit.ensures.store
 
 pub returns-in-Err-clause-store : goal.returns-in-Err-clause-store
 returns-in-Err-clause-store g c =
     let last = c.store-in-Err-1.given.1 (sym (c.set.ensures.store.sets.same_store ∙ c.begin-txn.ensures.same_store)) in
-    spent_failed 3 _ 4 _ _ (memory_of c.set.new.self) _ _ _ _ (lit< tt) c.begin-txn.ensures.same last
-    c.set.ensures.store.sets.reports c.set.ensures.store.sets.writes c.in-Err.ensures.store.tells
+    spent_failed 1 1 4 _ _ _ (memory_of c.set.new.self) _ _ _ _ (omega arith) c.requires.ready.idle c.begin-txn.ensures.same last
+    c.set.ensures.store.sets.taken c.set.ensures.store.sets.reports c.set.ensures.store.sets.writes c.in-Err.ensures.store.tells
     c.abandon.ensures.store
 
 pub returns-in-Err-clause-any_exit : goal.returns-in-Err-clause-any_exit

@@ -1,8 +1,9 @@
-use Rattle.std.proofs.Common.{rules, ◌≡◌, ◌+◌, ℕ, List, length, sym, ◌∙◌, ap, subst}
+use Rattle.std.proofs.Common.{rules, ◌≡◌, ◌+◌, ℕ, List, length, sym, ◌∙◌, ap, subst, arith}
 use Rattle.std.proofs.lemmas.Result.{on_ok_weaker}
 use Rattle.nvm_board.specs.Facts.{address}
 use Rattle.nvm_board.specs.Torn.{written}
 use Rattle.undo_journal.specs.Memory.{current}
+use Rattle.undo_journal.specs.laws.Calls.{runs_in_page}
 use Rattle.undo_journal.specs.Lent.{memory_of}
 use Rattle.file_tree.specs.declared.layout.TheConstants.{FIRST_ENTRY_PAGE}
 use Rattle.file_tree.specs.CreationParts.{WritesEntry}
@@ -21,3 +22,9 @@ returns-clause-done g c =
     subst family (sym (done ∙ ap (λ (k : ℕ). written m k ws) at))
     (written_entry m ws c.args.e c.args.entry c.requires.ready.current_size c.requires.within long c.words_of-words.ensures c.requires.used))
     c.set_run.ensures.done
+
+pub returns-clause-runs : goal.returns-clause-runs
+returns-clause-runs g c =
+    let long : length c.words_of-words.result ≡ 11 = search rules in
+    runs_in_page (FIRST_ENTRY_PAGE + c.args.e) 0 c.entry_address.result (length c.words_of-words.result) _ _
+    c.entry_address.ensures (omega (arith, long)) c.set_run.ensures.runs

@@ -1,10 +1,13 @@
-use Rattle.std.proofs.Common.{◌*◌, ◌+◌, length, arith}
+use Rattle.std.proofs.Common.{length, arith}
 use Rattle.std.proofs.lemmas.Result.{on_ok_weaker}
 use Rattle.std.proofs.Math.Logic.{⊎_map}
 use Rattle.undo_journal.specs.Calls.{Changes}
 use Rattle.undo_journal.specs.Memory.{committed}
 use Rattle.block_chain.specs.Chains.{chain_of}
-use Rattle.block_chain.specs.Changes.{touched_words, Overwrites}
+use Rattle.block_chain.specs.Changes.{touched_blocks, touched_words, Overwrites}
+use Rattle.undo_journal.specs.Spending.{transaction_writes}
+use Rattle.undo_journal.specs.laws.Calls.{within_more}
+use Rattle.ef_body.proofs.Putting.{touched_most}
 use Rattle.ef_body.specs.Bodies.{transparent_bytes}
 use Rattle.ef_body.proofs.Bytes.{length-transparent, update_past, new_past, new_inside, new_fits, bytes_put}
 use Rattle.ef_body.proofs.Refusing.{store_decides, store_done, store_refuses, store_told}
@@ -71,7 +74,8 @@ returns-clause-refused g c = store_refuses c.put_bytes.result c.from_store.resul
 pub returns-clause-store : goal.returns-clause-store
 returns-clause-store g c =
     store_told c.put_bytes.result c.from_store.result c.from_store.ensures
-    (Changes (3 * touched_words c.args.offset (length c.args.bytes.now) + 1) c.args.store.now c.put_bytes.new.store)
+    (Changes (transaction_writes (touched_words c.args.offset (length c.args.bytes.now)) (touched_blocks c.args.offset
+    (length c.args.bytes.now))) c.args.store.now c.put_bytes.new.store)
     c.put_bytes.ensures.store
 
 pub returns-then-ends_at-clause-store : goal.returns-then-ends_at-clause-store
@@ -79,3 +83,7 @@ returns-then-ends_at-clause-store g c = reads_change _ _ _ _ c.requires.ready.id
 
 pub returns-then-ends_before-clause-store : goal.returns-then-ends_before-clause-store
 returns-then-ends_before-clause-store g c = reads_change _ _ _ _ c.requires.ready.idle (reads_none _ c.requires.ready)
+
+pub returns-clause-writes : goal.returns-clause-writes
+returns-clause-writes g c =
+    within_more _ _ _ _ (touched_most c.args.offset (length c.args.bytes.now)) c.put_bytes.ensures.store.writes
