@@ -1,3 +1,4 @@
+mod Counting
 mod Pages
 mod Renewed
 mod Settled

@@ -1,9 +1,10 @@
 -- Which of the two renewals a charged secret makes, once it is known whether it is an unblocking value.
 use Rattle.std.specs.Prelude.{if◌then◌else◌, Bool, IfOk, List, ℕ, Result}
-use Rattle.std.proofs.Common.{◌≡◌, ◌⊎◌, ◌+◌, ◌*◌, subst}
+use Rattle.std.proofs.Common.{◌≡◌, ◌⊎◌, subst}
 use Rattle.nvm_board.specs.Facts.{Facts}
 use Rattle.undo_journal.specs.declared.error.StoreErr.{StoreErr}
 use Rattle.undo_journal.specs.Memory.{Memory, committed}
+use Rattle.undo_journal.specs.Spending.{transaction_writes}
 use Rattle.pin_store.specs.declared.errors.Outcome.{Outcome}
 use Rattle.pin_store.specs.Pins.{changed_pin, is_unblocking, reset_pin}
 use Rattle.pin_store.specs.Renewals.{renewal_writes, renewed_pin}
@@ -12,8 +13,9 @@ use Rattle.pin_store.specs.Trials.{pin_in, ComparesOnce, EndsByOutcome, SetsByMa
 module _ (secret : ℕ) (is : Bool) (known : is_unblocking secret ≡ is) where
   -- the device writes
   pub renewal_spends : (a c : Facts) → ComparesOnce (renewal_writes secret) secret a c
-      → ComparesOnce (3 * (if is then 4 else 3) + 1) secret a c
-  renewal_spends a c spends = subst (λ (b : Bool). ComparesOnce (3 * (if b then 4 else 3) + 1) secret a c) known spends
+      → ComparesOnce (transaction_writes (if is then 4 else 3) (if is then 1 else 2)) secret a c
+  renewal_spends a c spends =
+      subst (λ (b : Bool). ComparesOnce (transaction_writes (if b then 4 else 3) (if b then 1 else 2)) secret a c) known spends
 
   module _ (shown new : List ℕ) (a c : Memory) where
     -- at any exit

@@ -60,10 +60,10 @@ abbrev pub Compared : ℕ → List ℕ → Memory → Memory → Outcome → Typ
 Compared secret shown old new Matched = IsMatch secret shown old new
 Compared secret shown old new (Wrong left) = IsWrong secret shown left old new
 
--- device writes of VERIFY after its charge: one, of the tries that a match gives back
-abbrev pub settle_writes : Outcome → ℕ
-settle_writes Matched = 1
-settle_writes (Wrong left) = 0
+-- device writes of an end, which follows a charge: so many after a match, else none
+abbrev pub end_writes : ℕ → Outcome → ℕ
+end_writes writes Matched = writes
+end_writes writes (Wrong left) = 0
 
 -- what an end leaves by its outcome: after a match the PIN is this one, else all is as it was
 abbrev pub EndsByOutcome : ℕ → List ℕ → Pin → Memory → Memory → Outcome → Type 0

@@ -43,9 +43,9 @@ pub fn a_comparison_costs_a_try()
     ensures change { (secret : ℕ) (shown new : List ℕ) (a b c : Memory) → secret < PINS → Charges secret a b
         → WritesAtMost 1 a.facts b.facts
         → (committed c ≡ committed b) ⊎ SetsByMatch secret shown (changed_pin new (pin_in b secret)) b c
-        → ComparesOnce 10 secret b.facts c.facts → KeepsPinLaw secret shown a c }
+        → ComparesOnce 5 secret b.facts c.facts → KeepsPinLaw secret shown a c }
     ensures reset { (secret : ℕ) (shown new : List ℕ) (a b c : Memory) → PINS ≤ secret → Charges secret a b
         → WritesAtMost 1 a.facts b.facts
         → (committed c ≡ committed b) ⊎ SetsByMatch secret shown (reset_pin new (pin_in b secret)) b c
-        → ComparesOnce 13 secret b.facts c.facts → KeepsPinLaw secret shown a c }
+        → ComparesOnce 4 secret b.facts c.facts → KeepsPinLaw secret shown a c }
 {}

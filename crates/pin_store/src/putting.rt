@@ -4,9 +4,9 @@ ghost use Rattle.std.specs.Result.{result_err};
 ghost use Rattle.undo_journal.specs.Calls.{Changes, SetsIn};
 ghost use Rattle.undo_journal.specs.Commits.{CommitsByGate, StaysShut};
 ghost use Rattle.undo_journal.specs.Lent.{memory_of};
-ghost use Rattle.undo_journal.specs.Memory.{committed, current, room, IsOpen, IsReady};
+ghost use Rattle.undo_journal.specs.Memory.{committed, current, room, InRuns, IsOpen, IsReady};
 ghost use Rattle.pin_store.specs.Pins.{changed_pin, owner, reset_pin, tries_left, verified_pin, with_tries};
-ghost use Rattle.pin_store.specs.Renewals.{renewal_sets, renewal_writes, renewed_pin};
+ghost use Rattle.pin_store.specs.Renewals.{CountsCommit, renewal_runs, renewal_sets, renewal_writes, renewed_pin};
 ghost use Rattle.pin_store.specs.Pages.{pin_at, ArePinPages, SetsPin};
 ghost use Rattle.pin_store.specs.Trials.{pin_in};
 
@@ -21,6 +21,8 @@ fn set_value<B: Board>(txn: &mut Txn<'_, B>, secret: u8, new: &[u8; 8]) -> Resul
     ensures done { OnOk result (SetsPin (current (memory_of txn.old)) (owner secret)
         (changed_pin new.now (pin_at (current (memory_of txn.old)) (owner secret))) (current (memory_of txn.new))) }
     ensures store { SetsIn 3 txn.old txn.new (result_err result) }
+    ensures counted { OnOk result (CountsCommit 5 (memory_of txn.old) (memory_of txn.new)) }
+    ensures runs { InRuns 2 (memory_of txn.old) (memory_of txn.new) }
 {
     let [first, second] = words_of(new);
     txn.set_run(address_of(secret, 0), &[u32::from(TRIES)])?;
@@ -35,6 +37,8 @@ fn set_all<B: Board>(txn: &mut Txn<'_, B>, secret: u8, new: &[u8; 8]) -> Result<
     ensures done { OnOk result (SetsPin (current (memory_of txn.old)) (owner secret)
         (reset_pin new.now (pin_at (current (memory_of txn.old)) (owner secret))) (current (memory_of txn.new))) }
     ensures store { SetsIn 4 txn.old txn.new (result_err result) }
+    ensures counted { OnOk result (CountsCommit 4 (memory_of txn.old) (memory_of txn.new)) }
+    ensures runs { InRuns 1 (memory_of txn.old) (memory_of txn.new) }
 {
     let [first, second] = words_of(new);
     txn.set_run(
@@ -85,6 +89,8 @@ fn set_renewed<B: Board>(txn: &mut Txn<'_, B>, secret: u8, new: &[u8; 8]) -> Res
         (renewed_pin secret new.now (pin_at (current (memory_of txn.old)) (owner secret)))
         (current (memory_of txn.new))) }
     ensures store { SetsIn (renewal_sets secret) txn.old txn.new (result_err result) }
+    ensures counted { OnOk result (CountsCommit (renewal_writes secret) (memory_of txn.old) (memory_of txn.new)) }
+    ensures runs { InRuns (renewal_runs secret) (memory_of txn.old) (memory_of txn.new) }
 {
     if secret < PINS {
         set_value(txn, secret, new)
@@ -106,6 +112,7 @@ pub(crate) fn put_renewed<B: Board>(
         (renewed_pin secret new.now (pin_in store.old secret)) (committed store.new)) }
     ensures by_gate { CommitsByGate store.old store.new }
     ensures store { Changes (renewal_writes secret) store.old store.new (result_err result) }
+    ensures counted { OnOk result (store.new.facts.writes ≡ store.old.facts.writes + renewal_writes secret) }
 {
     let mut txn = store.begin();
     match set_renewed(&mut txn, secret, new) {

@@ -9,7 +9,7 @@ ghost use Rattle.pin_store.specs.declared.layout.TheConstants.{PINS};
 ghost use Rattle.pin_store.specs.Pins.{changed_pin, kept, reset_pin, verified_pin};
 ghost use Rattle.pin_store.specs.Renewals.{renewal_writes, renewed_pin};
 ghost use Rattle.pin_store.specs.Pages.{ArePinPages};
-ghost use Rattle.pin_store.specs.Trials.{pin_in, settle_writes, Compared, ComparesOnce, EndsByOutcome, SetsByMatch};
+ghost use Rattle.pin_store.specs.Trials.{end_writes, pin_in, Compared, ComparesOnce, EndsByOutcome, SetsByMatch};
 
 use crate::charging::{Charged, tries};
 use crate::errors::Outcome;
@@ -39,7 +39,7 @@ pub fn settle<B: Board>(
     ensures shut { StaysShut store.old store.new }
     ensures spends { ComparesOnce 1 charged store.old.facts store.new.facts }
     ensures counted { IfOk result (λ outcome. store.new.facts.writes
-        ≡ store.old.facts.writes + settle_writes outcome) }
+        ≡ store.old.facts.writes + end_writes 1 outcome) }
 {
     let secret = charged.secret();
     let outcome = compare(store, charged, shown)?;
@@ -50,7 +50,7 @@ pub fn settle<B: Board>(
 }
 
 /// CHANGE REFERENCE DATA: compares the shown bytes with the value of the charged PIN. If they are equal, its tries are 3
-/// again and the new value takes the place of the old one, in one transaction of ten device writes; else nothing is written.
+/// again and the new value takes the place of the old one, in one transaction of five device writes; else nothing is written.
 ///
 /// # Errors
 /// What the store answers: power was lost, or the device failed. The receipt is spent then, too.
@@ -70,14 +70,16 @@ pub fn change<B: Board>(
     ensures by_gate { CommitsByGate store.old store.new }
     ensures pages { ArePinPages (committed store.new) }
     ensures store { Leaves store.old store.new (result_err result) }
-    ensures spends { ComparesOnce 10 charged store.old.facts store.new.facts }
+    ensures spends { ComparesOnce 5 charged store.old.facts store.new.facts }
+    ensures counted { IfOk result (λ outcome. store.new.facts.writes
+        ≡ store.old.facts.writes + end_writes 5 outcome) }
 {
     renew(store, charged, shown, new)
 }
 
 /// RESET RETRY COUNTER: compares the shown bytes with the unblocking value of the charged PIN. If they are equal, the
 /// unblocking tries are 10 again, the tries 3, and the new value takes the place of the old one, in one transaction of
-/// thirteen device writes; else nothing is written.
+/// four device writes; else nothing is written.
 ///
 /// # Errors
 /// What the store answers: power was lost, or the device failed. The receipt is spent then, too.
@@ -97,7 +99,9 @@ pub fn reset_counter<B: Board>(
     ensures by_gate { CommitsByGate store.old store.new }
     ensures pages { ArePinPages (committed store.new) }
     ensures store { Leaves store.old store.new (result_err result) }
-    ensures spends { ComparesOnce 13 charged store.old.facts store.new.facts }
+    ensures spends { ComparesOnce 4 charged store.old.facts store.new.facts }
+    ensures counted { IfOk result (λ outcome. store.new.facts.writes
+        ≡ store.old.facts.writes + end_writes 4 outcome) }
 {
     renew(store, charged, shown, new)
 }
@@ -120,6 +124,8 @@ fn renew<B: Board>(
     ensures pages { ArePinPages (committed store.new) }
     ensures store { Leaves store.old store.new (result_err result) }
     ensures spends { ComparesOnce (renewal_writes charged) charged store.old.facts store.new.facts }
+    ensures counted { IfOk result (λ outcome. store.new.facts.writes
+        ≡ store.old.facts.writes + end_writes (renewal_writes charged) outcome) }
 {
     let secret = charged.secret();
     let outcome = compare(store, charged, shown)?;

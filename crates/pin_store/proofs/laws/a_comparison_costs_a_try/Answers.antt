@@ -12,10 +12,10 @@ returns-clause-settle c = λ secret shown a b d small.
 
 pub returns-clause-change : goal.returns-clause-change
 returns-clause-change c = λ secret shown new a b d small.
-    end_keeps_law 10 secret shown (changed_pin new (pin_in b secret)) a b d
+    end_keeps_law 5 secret shown (changed_pin new (pin_in b secret)) a b d
     (changed_ends secret new (pin_in b secret) small)
 
 pub returns-clause-reset : goal.returns-clause-reset
 returns-clause-reset c = λ secret shown new a b d large.
-    end_keeps_law 13 secret shown (reset_pin new (pin_in b secret)) a b d
+    end_keeps_law 4 secret shown (reset_pin new (pin_in b secret)) a b d
     (reset_ends secret new (pin_in b secret) large)

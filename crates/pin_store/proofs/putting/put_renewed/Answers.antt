@@ -1,9 +1,9 @@
-use Rattle.std.proofs.Common.{ℕ, ◌*◌, List, sym, ◌∙◌, ap, subst, inl, arith}
+use Rattle.std.proofs.Common.{ℕ, List, sym, ◌∙◌, ap, subst, inl, arith}
 use Rattle.std.proofs.Math.Logic.{⊎_map}
 use Rattle.undo_journal.specs.Lent.{memory_of}
-use Rattle.undo_journal.specs.Memory.{Memory, committed, IsOpen}
+use Rattle.undo_journal.specs.Memory.{Memory, committed, IsIdle, IsOpen}
 use Rattle.pin_store.specs.Pins.{owner}
-use Rattle.pin_store.specs.Renewals.{renewal_sets, renewal_writes, renewed_pin}
+use Rattle.pin_store.specs.Renewals.{renewal_runs, renewal_sets, renewal_writes, renewed_pin}
 use Rattle.undo_journal.specs.laws.Transactions.{by_gate, commits, not_committed, stays}
 use Rattle.pin_store.specs.Pages.{pin_at, SetsPin}
 use Rattle.undo_journal.specs.laws.Exits.{on_then, on_error}
@@ -32,9 +32,11 @@ returns-in-Ok-clause-done g c =
 pub returns-in-Ok-clause-store : goal.returns-in-Ok-clause-store
 returns-in-Ok-clause-store g c =
     let last = c.store-1.given.1 (sym (c.set_renewed.ensures.store.sets.same_store ∙ c.begin-txn.ensures.same_store)) in
-    spent (3 * renewal_sets c.args.secret) 1 (renewal_writes c.args.secret) _ _ (memory_of c.set_renewed.new.txn) _ _ _
-    (omega arith) c.begin-txn.ensures.same last
-    c.set_renewed.ensures.store.sets.reports c.set_renewed.ensures.store.sets.writes c.commit.ensures.store
+    let sets = renewal_sets c.args.secret in
+    let runs = renewal_runs c.args.secret in
+    spent sets runs (renewal_writes c.args.secret) _ _ (memory_of c.set_renewed.new.txn) _ _ _
+    (omega arith) c.requires.ready.idle c.begin-txn.ensures.same last
+    c.set_renewed.ensures.store.sets.taken c.set_renewed.ensures.store.sets.reports c.set_renewed.ensures.runs c.commit.ensures.store
 
 pub returns-in-Err-clause-any_exit : goal.returns-in-Err-clause-any_exit
 returns-in-Err-clause-any_exit g c =
@@ -52,9 +54,11 @@ pub returns-in-Err-clause-store : goal.returns-in-Err-clause-store
 returns-in-Err-clause-store g c =
     let last =
     c.store-in-Err-1.given.1 (sym (c.set_renewed.ensures.store.sets.same_store ∙ c.begin-txn.ensures.same_store)) in
-    spent_failed (3 * renewal_sets c.args.secret) _ (renewal_writes c.args.secret) _ _ (memory_of c.set_renewed.new.txn) _ _ _ _
-    (omega arith) c.begin-txn.ensures.same last
-    c.set_renewed.ensures.store.sets.reports c.set_renewed.ensures.store.sets.writes c.in-Err.ensures.store.tells
+    let sets = renewal_sets c.args.secret in
+    let runs = renewal_runs c.args.secret in
+    spent_failed sets runs (renewal_writes c.args.secret) _ _ _ (memory_of c.set_renewed.new.txn) _ _ _ _
+    (omega arith) c.requires.ready.idle c.begin-txn.ensures.same last
+    c.set_renewed.ensures.store.sets.taken c.set_renewed.ensures.store.sets.reports c.set_renewed.ensures.runs c.in-Err.ensures.store.tells
     c.abandon.ensures.store
 
 pub set_renewed-requires-clause-ready : goal.set_renewed-requires-clause-ready
@@ -75,3 +79,18 @@ returns-in-Err-clause-by_gate g c =
     let sets = c.set_renewed.ensures.store.sets in
     let last = c.store-in-Err-1.given.1 (sym (sets.same_store ∙ c.begin-txn.ensures.same_store)) in
     not_committed _ _ (memory_of c.set_renewed.new.txn) _ _ c.begin-txn.ensures.same last sets.kept c.abandon.ensures.kept
+
+pub returns-in-Ok-clause-counted : goal.returns-in-Ok-clause-counted
+returns-in-Ok-clause-counted g c =
+    let last = c.store-1.given.1 (sym (c.set_renewed.ensures.store.sets.same_store ∙ c.begin-txn.ensures.same_store)) in
+    let begun : IsIdle (memory_of c.begin-txn.result) =
+    subst (λ (m : Memory). IsIdle m) (sym c.begin-txn.ensures.same) c.requires.ready.idle in
+    let first = ap (λ (m : Memory). m.facts.writes) c.begin-txn.ensures.same in
+    let end = ap (λ (m : Memory). m.facts.writes) last in
+    on_then _ _ c.commit.result
+    (λ counted. omega (arith, end, counted, c.in-Ok.ensures.counted begun, first)) c.commit.ensures.counted
+
+pub returns-in-Err-clause-counted : goal.returns-in-Err-clause-counted
+returns-in-Err-clause-counted g c =
+    on_error _ c.abandon.result c.in-Err.field-0 (sym c.abandon.ensures.store.tells
+    ∙ (c.abandon.ensures.store.reports.stuck c.in-Err.field-0 c.in-Err.ensures.store.tells).0)

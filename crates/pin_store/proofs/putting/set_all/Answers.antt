@@ -7,7 +7,9 @@ use Rattle.pin_store.specs.declared.layout.TheConstants.{PINS, TRIES, UNBLOCKING
 use Rattle.pin_store.specs.Pins.{owner, reset_pin}
 use Rattle.pin_store.specs.Pages.{pin_page, pin_at, SetsPin}
 use Rattle.pin_store.specs.laws.PinPages.{sets_all}
+use Rattle.undo_journal.specs.laws.Calls.{runs_in_page}
 use Rattle.undo_journal.specs.laws.Exits.{on_then}
+use Rattle.pin_store.proofs.Counting.{all_counts}
 use Rattle.pin_store.proofs.putting.set_all.Goals as goal
 
 pub returns-clause-done : goal.returns-clause-done
@@ -26,3 +28,15 @@ returns-clause-done g c =
     (λ done. subst family (sym (done ∙ words))
     (sets_all m new pin first second c.requires.ready.current_size small c.words_of.ensures))
     c.set_run.ensures.done
+
+pub returns-clause-runs : goal.returns-clause-runs
+returns-clause-runs g c =
+    runs_in_page (pin_page (owner c.args.secret)) 0 c.address_of.result 4 _ _ c.address_of.ensures (omega arith)
+    c.set_run.ensures.runs
+
+pub returns-clause-counted : goal.returns-clause-counted
+returns-clause-counted g c = on_then _ _ c.set_run.result
+    (λ waits idle. all_counts (pin_page (owner c.args.secret)) c.from.result c.from-2.result
+    (slice_index c.words_of.result 0) _ _ (memory_of c.set_run.new.self) c.address_of.result 0 idle c.address_of.ensures
+    (slice_index c.words_of.result 1) waits)
+    c.set_run.ensures.waits

@@ -7,8 +7,10 @@ use Rattle.pin_store.specs.declared.layout.TheConstants.{PINS, TRIES}
 use Rattle.pin_store.specs.Pins.{owner, changed_pin}
 use Rattle.pin_store.specs.Pages.{pin_page, pin_at, SetsPin}
 use Rattle.pin_store.specs.laws.PinPages.{sets_value}
+use Rattle.undo_journal.specs.laws.Calls.{runs_in_page, runs_then, runs_weaker}
 use Rattle.undo_journal.specs.laws.Exits.{on_then}
 use Rattle.undo_journal.specs.laws.Told.{sets_in_on}
+use Rattle.pin_store.proofs.Counting.{value_counts}
 use Rattle.pin_store.proofs.putting.set_value.Goals as goal
 
 pub returns-clause-done : goal.returns-clause-done
@@ -33,3 +35,23 @@ returns-clause-done g c =
 pub returns-clause-store : goal.returns-clause-store
 returns-clause-store g c =
     sets_in_on 1 2 3 _ _ _ _ (lit< tt) c.set_run.ensures.store.sets c.set_run-2.ensures.store
+
+pub returns-in_err-set_run-clause-runs : goal.returns-in_err-set_run-clause-runs
+returns-in_err-set_run-clause-runs g c =
+    runs_weaker 1 2 _ _ (lit< tt)
+    (runs_in_page (pin_page (owner c.args.secret)) 0 c.address_of.result 1 _ _ c.address_of.ensures (omega arith)
+    c.in_err-set_run.ensures.runs)
+
+pub returns-clause-runs : goal.returns-clause-runs
+returns-clause-runs g c =
+    let page = pin_page (owner c.args.secret) in
+    runs_then 1 1 2 _ _ _ (lit< tt)
+    (runs_in_page page 0 c.address_of.result 1 _ _ c.address_of.ensures (omega arith) c.set_run.ensures.runs)
+    (runs_in_page page 2 c.address_of-2.result 2 _ _ c.address_of-2.ensures (omega arith) c.set_run-2.ensures.runs)
+
+pub returns-clause-counted : goal.returns-clause-counted
+returns-clause-counted g c = on_then _ _ c.set_run-2.result
+    (λ waits idle. value_counts (pin_page (owner c.args.secret)) c.from.result (slice_index c.words_of.result 0)
+    (slice_index c.words_of.result 1) _ _ _ c.address_of.result c.address_of-2.result idle c.address_of.ensures
+    c.address_of-2.ensures c.in_ok-set_run.ensures.waits waits)
+    c.set_run-2.ensures.waits
