@@ -1,5 +1,5 @@
 -- What calls say of power and device, one after another.
-use Rattle.std.proofs.Common.{◌≡◌, ◌≤◌, ◌+◌, ℕ, List, true, true≢false, Option, Some, None, Result, Ok, Err, IfOk, refl, sym, ◌∙◌, ap, subst, inl, inr, ⊎_elim}
+use Rattle.std.proofs.Common.{◌≡◌, ◌+◌, ℕ, List, true, true≢false, Option, Some, None, Result, Ok, Err, IfOk, refl, sym, ◌∙◌, ap, subst, inl, inr, ⊎_elim}
 use Rattle.std.specs.Prelude.{MatchOption, MatchResult}
 use Rattle.std.specs.Result.{result_err, IsErrAnd, IsErrOf}
 use Rattle.nvm_board.specs.declared.board.DeviceErr.{DeviceErr}
@@ -11,7 +11,6 @@ use Rattle.undo_journal.specs.declared.error.OpenFault.{OpenFault}
 use Rattle.undo_journal.specs.declared.error.OpenFault.TheVariants as opening
 use Rattle.undo_journal.specs.Memory.{committed, FailsBy as StoreFailsBy, IsReady, Memory, OpensNot, Reports}
 use Rattle.undo_journal.specs.Calls.{Reads, UnlessFailed}
-use Rattle.undo_journal.specs.Spending.{KeepsBoard, WritesAtMost}
 use Rattle.undo_journal.specs.Undo.{IsSound}
 use Rattle.file_tree.specs.declared.space.FreeSpace.{FreeSpace}
 use Rattle.card_core.specs.declared.faults.StartFault.TheVariants.{Damaged}

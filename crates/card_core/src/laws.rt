@@ -1,6 +1,8 @@
 //! Laws of the definitions, as contracts of functions that do nothing.
 ghost use Rattle.std.specs.Prelude.{◌≡◌, ◌≤◌, ◌+◌, ◌/◌, ◌++◌, ℕ, List, length};
-ghost use Rattle.block_chain.specs.Changes.{touched_words};
+ghost use Rattle.undo_journal.specs.Spending.{transaction_writes};
+ghost use Rattle.block_chain.specs.Changes.{touched_blocks, touched_words};
+ghost use Rattle.ef_body.specs.Changes.{update_writes};
 ghost use Rattle.card_core.specs.declared.machine.TheConstants.{COMMAND_WRITES};
 ghost use Rattle.card_core.specs.Spending.{writes_of};
 ghost use Rattle.card_core.specs.declared.layout.TheConstants.{MARK};
@@ -47,12 +49,14 @@ pub fn answers_are_short()
         → IsAnswer (answer_bytes (carried_out c s command).response) }
 {}
 
-/// No command makes more than 700 device writes. UPDATE BINARY of n bytes, which makes three for each word that it touches and
-/// one more, touches at most n / 4 words, rounded up, and one more.
+/// No command makes more than 700 device writes. UPDATE BINARY of n bytes touches at most n / 4 words, rounded up, and one more;
+/// for each eight of these it makes three at most, one more for each sixtieth byte, rounded up, and one.
 pub fn commands_write_little()
     ensures most { (command : List ℕ) → writes_of command ≤ COMMAND_WRITES }
     ensures number { COMMAND_WRITES ≡ 700 }
     ensures words { (offset n : ℕ) → touched_words offset n ≤ (n + 3) / 4 + 1 }
+    ensures updates { (offset n : ℕ)
+        → transaction_writes (touched_words offset n) (touched_blocks offset n) ≤ update_writes n }
 {}
 
 /// The commits of a request are those that words of their own make, one after another, and then those of which the gate is the

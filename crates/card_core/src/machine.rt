@@ -1,13 +1,16 @@
 //! A started card and its commands.
 ghost use Rattle.std.specs.Prelude.{◌≡◌, ◌⊎◌, ◌≤◌, ◌+◌, ◌-◌, Some, true, false, [], length, IsOk, IsErr, OnOk, OnErr, IfOk};
-ghost use Rattle.std.specs.Prelude.{IfErr, IsErrOf, Ok, Err, MatchOption, MatchResult};
+ghost use Rattle.std.specs.Prelude.{IfErr, IsErrOf, Ok, Err, MatchOption, MatchResult, ℕ, List};
 ghost use Rattle.nvm_board.specs.Aims.{due_of};
 ghost use Rattle.undo_journal.specs.declared.error.StoreErr.TheVariants as StoreErr;
 ghost use Rattle.card_core.specs.declared.faults.StartFault.TheVariants as StartFault;
 ghost use Rattle.card_core.specs.StartFaults.{fault_of_store};
 ghost use Rattle.undo_journal.specs.Spending.{Advances, WritesAtMost, KeepsBoard, KeepsShut, start_writes};
+ghost use Rattle.ef_body.specs.Changes.{update_writes};
 ghost use Rattle.file_tree.specs.Spaces.{free_space};
 ghost use Rattle.apdu_core.specs.Asked.{asked};
+ghost use Rattle.apdu_core.specs.Requests.{update_binary};
+ghost use Rattle.apdu_core.specs.declared.binary.Target.{Target};
 ghost use Rattle.card_core.specs.Comparing.{comparisons, ComparesAsked};
 ghost use Rattle.card_core.specs.Finding.{HasCard, FindsAgain};
 ghost use Rattle.card_core.specs.Running.{Starts, StartStopsBy, Steps, FailsIn, IsCutIn, card_found, memory_failure};
@@ -144,6 +147,10 @@ impl<B: Board> Card<B> {
         ensures advances { Advances self.old.facts self.new.facts }
         // What the bytes ask for bounds the device writes: reads and refusals by form make none.
         ensures counted { self.new.facts.writes ≤ self.old.facts.writes + writes_of command.now }
+        // Of UPDATE BINARY, by how many bytes it sends.
+        ensures updated { (target : Target) (offset : ℕ) (bytes : List ℕ)
+            → asked command.now ≡ Ok (update_binary target offset bytes)
+            → self.new.facts.writes ≤ self.old.facts.writes + update_writes (length bytes) }
         // A comparison costs a lasting try, and no command but those on PINs that carry data makes one.
         ensures compares { ComparesAsked (asked command.now) (card_found self.old) (comparisons self.old.facts)
             (card_found self.new) (comparisons self.new.facts) }

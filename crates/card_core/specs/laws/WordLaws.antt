@@ -1,5 +1,5 @@
 -- The commits of a request are those that words of their own make, and then those of which the gate is the word.
-use Rattle.std.specs.Prelude.{◌≡◌, ◌&&◌, ◌++◌, not, Bool, true, false, List, [], ◌∷◌, Option, None, Some, if◌then◌else◌, refl}
+use Rattle.std.specs.Prelude.{◌≡◌, ◌&&◌, ◌++◌, not, Bool, true, false, [], ◌∷◌, Option, None, Some, if◌then◌else◌, refl}
 use Rattle.card_rules.specs.declared.status.Sw.{Sw}
 use Rattle.apdu_core.specs.Requests.{Request, select, read_binary, update_binary, create_file, delete_file}
 use Rattle.apdu_core.specs.Requests.{read_record, update_record, append_record, search_record, increase}

@@ -6,3 +6,6 @@ returns-clause-most c = laws.few_writes
 
 pub returns-clause-words : goal.returns-clause-words
 returns-clause-words c = laws.few_words
+
+pub returns-clause-updates : goal.returns-clause-updates
+returns-clause-updates c = laws.few_updates

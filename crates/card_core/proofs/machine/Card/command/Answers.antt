@@ -1,4 +1,4 @@
-use Rattle.std.proofs.Common.{refl, ◌≡◌, ◌⊎◌, ◌+◌, ◌≤◌, OnOk, OnErr, sym, ◌∙◌, ap, subst, arith}
+use Rattle.std.proofs.Common.{refl, ◌≡◌, ◌⊎◌, ◌+◌, ◌≤◌, OnOk, OnErr, sym, ◌∙◌, ap, subst, arith, length}
 use Rattle.nvm_board.specs.laws.Aims.{aim_same, aims_same}
 use Rattle.undo_journal.specs.Spending.{Advances, KeepsBoard}
 use Rattle.apdu_core.specs.Asked.{asked}
@@ -9,11 +9,11 @@ use Rattle.card_core.specs.Comparing.{comparisons, ComparesAsked}
 use Rattle.card_core.specs.Finding.{HasCard}
 use Rattle.card_core.specs.Running.{card_found, FailsIn, IsCutIn, Running, Steps}
 use Rattle.card_core.specs.Sessions.{Session}
-use Rattle.card_core.specs.Spending.{writes_of}
+use Rattle.card_core.specs.Spending.{writes_asked, writes_of}
 use Rattle.card_core.specs.Stages.{ChangesNothing, IsStage}
 use Rattle.card_core.specs.Words.{StandsAsked}
 use Rattle.card_core.specs.Working.{card_in, session_while, table_in}
-use Rattle.card_core.specs.laws.SpendLaws.{few_writes}
+use Rattle.card_core.specs.laws.SpendLaws.{few_writes, few_updates}
 use Rattle.card_core.proofs.Commanding.{after, still-compares, still-stage, ended-done, ended-kept, ended-lost, ended-unlit, Ends}
 use Rattle.card_core.proofs.machine.Card.command.Given.{Over}
 use Rattle.card_core.proofs.machine.Card.command.Goals.{After-end_command}
@@ -201,3 +201,16 @@ returns-in-Failed-clause-stands g c = λ works.
 pub returns-in-Dark-clause-stands : goal.returns-in-Dark-clause-stands
 returns-in-Dark-clause-stands g c = λ works.
     let never : Working ≡ Dark = sym works ∙ (ap (λ (r : Running). r.state) (sym c.self.view_is) ∙ c.in-Dark.is) in cc
+
+pub returns-clause-updated : goal.returns-clause-updated
+returns-clause-updated g c = λ target offset bytes is.
+    let counted = returns-clause-counted g c in
+    let asks = ap writes_asked is in
+    let few = few_updates offset (length bytes) in
+    omega (arith, counted, asks, few)
+
+pub returns-in-Failed-clause-updated : goal.returns-in-Failed-clause-updated
+returns-in-Failed-clause-updated g c = λ target offset bytes is. omega arith
+
+pub returns-in-Dark-clause-updated : goal.returns-in-Dark-clause-updated
+returns-in-Dark-clause-updated g c = λ target offset bytes is. omega arith
