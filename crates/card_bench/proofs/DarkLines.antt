@@ -1,6 +1,6 @@
 -- Where a line prints that power was lost, a cut was due, and is gone.
 use Rattle.std.specs.Prelude.{◌≡◌, ◌≤◌, ◌+◌, ◌*◌, ℕ, zero, suc, List, Option, None, Some, Result, Ok, Err, refl}
-use Rattle.std.proofs.Common.{arith, ap, inl, inr, subst, sym, ◌∙◌}
+use Rattle.std.proofs.Common.{arith, ap, inl, inr, ◌∙◌}
 use Rattle.t1_link.specs.ReaderFields.{next_of}
 use Rattle.t1_link.specs.ReaderTable.{Reader, reader_sends}
 use Rattle.t1_link.specs.declared.reader_end.Next.{Next}
@@ -19,11 +19,11 @@ use Rattle.card_bench.specs.declared.playing.Item.TheVariants as item
 use Rattle.card_bench.specs.declared.playing.Turn.TheVariants as turn
 use Rattle.card_bench.specs.BenchStates.{BenchState, off, on, bench_facts}
 use Rattle.card_bench.specs.Exchanges.{Arrives, CardTakes, Commands, Desk, Ends, Exchanges, GoesThrough, NextBlock}
-use Rattle.card_bench.specs.Exchanges.{ReaderTurns, following, printed_by, toward_card, toward_reader}
+use Rattle.card_bench.specs.Exchanges.{following, printed_by, toward_card, toward_reader}
 use Rattle.card_bench.specs.Lasting.{HasLeft}
 use Rattle.card_bench.specs.Performing.{Performs, PerformsCommand, shown, free_shown}
-use Rattle.card_bench.specs.Printouts.{Print, prints_dark}
-use Rattle.card_bench.specs.Turns.{GoodBlock, dark_of}
+use Rattle.card_bench.specs.Printouts.{prints_dark}
+use Rattle.card_bench.specs.Turns.{dark_of}
 use Rattle.card_bench.proofs.Wearing.{LINE_STEPS, arrives-last, block-due, due-spent, fewer}
 
 -- 1 where power was lost, else 0

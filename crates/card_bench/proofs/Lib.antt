@@ -28,3 +28,7 @@ pub mod Written
 mod WorldLawful
 mod WorldPhases
 mod WorldSteps
+pub mod TallyLemmas
+pub mod CompleteSweeps
+pub mod SweepLemmas
+pub mod StageLemmas

@@ -22,3 +22,7 @@ pub mod ExchangeViews
 pub mod Performing
 pub mod ScriptWorlds
 pub mod Printouts
+pub mod Masks
+pub mod Sweeps
+pub mod SweptRuns
+pub mod Tallies

@@ -15,7 +15,10 @@ ghost use Rattle.card_bench.specs.declared.playing.Item.TheVariants.{Mute};
 ghost use Rattle.card_bench.specs.declared.playing.Turn.{Turn};
 ghost use Rattle.card_bench.specs.declared.playing.Turn.TheVariants.{On};
 ghost use Rattle.card_bench.specs.declared.reading.TheConstants.{SCRIPT_LIMIT};
-ghost use Rattle.card_bench.specs.BenchStates.{BenchState, BenchHasCard, bench_facts};
+ghost use Rattle.nvm_board.specs.Facts.{Facts};
+ghost use Rattle.card_bench.specs.BenchStates.{BenchState, BenchHasCard, bench_card, bench_facts};
+ghost use Rattle.card_bench.specs.Sweeps.{GivenByRun, IsStageOf};
+ghost use Rattle.card_bench.specs.Tallies.{Finding};
 ghost use Rattle.card_bench.specs.Exchanges.{Desk};
 ghost use Rattle.card_bench.specs.ExchangeWorlds.{ExchangeLaw};
 ghost use Rattle.card_bench.specs.Guessing.{GuessesFew, unblocking_guessed, value_guessed};
@@ -127,6 +130,13 @@ pub fn counts_last()
         → HasLeft 700000 (bench_facts old.bench) → (bench_facts new.bench).pending ≡ None }
     ensures dark { (order : Order) (old new : Desk) → Performs order old new prints_dark
         → HasLeft 700000 (bench_facts old.bench) → (bench_facts old.bench).due ≡ (bench_facts new.bench).due + 1 }
+{}
+
+/// What a run of a sweep shows is shown of a card that is a stage of the command that was cut, however many starts were cut
+/// behind it.
+pub fn swept_cards_are_stages()
+    ensures { (board : Facts) (prepare : List Turn) (command : List ℕ) (probe : List Turn) (depth : ℕ) (given : Finding)
+        → (s : GivenByRun board prepare command probe depth given) → IsStageOf s.cut.armed command (bench_card s.rest.end.started) }
 {}
 
 /// The numbers of the script's language and of the line, as a reader sees them.

@@ -41,6 +41,22 @@ pub enum Item {
     Reply(BlockBytes),
 }
 
+impl Item {
+    /// Whether the same came of a turn.
+    pub(crate) fn is_same(&self, other: &Item) -> bool
+        ensures { IsTrue result ↔ (self.now ≡ other.now) }
+    {
+        match (self, other) {
+            (Item::Atr, Item::Atr)
+            | (Item::Quiet, Item::Quiet)
+            | (Item::Mute, Item::Mute)
+            | (Item::Dark, Item::Dark) => true,
+            (Item::Reply(left), Item::Reply(right)) => left.as_slice() == right.as_slice(),
+            _ => false,
+        }
+    }
+}
+
 /// How a power-on ended.
 #[derive(Clone, Copy)]
 pub(crate) enum PowerOn {
@@ -226,6 +242,16 @@ impl<B: Armed + Faultless> Bench<B> {
         self.arm(k, mask);
         self.has_no_fault();
     }
+
+    /// Sets a cut to come at a later write, on a board without faults.
+    pub(crate) fn arm_well(&mut self, k: u32, mask: u16)
+        requires { 1 ≤ k }
+        ensures good { IsGood self.old → IsGood self.new }
+        ensures armed { IsArmed k mask self.old self.new }
+    {
+        self.arm(k, mask);
+        self.has_no_fault();
+    }
 }
 
 impl<B: Socket + Faultless> Bench<B> {
@@ -256,6 +282,33 @@ impl<B: Socket + Faultless> Bench<B> {
         ensures good { IsGood self.new }
         ensures turn { GoodBlock self.old block.now (sent_item result out.new) self.new }
         ensures heard { IsOn self.old → IsHeard (sent_item result out.new) self.new }
+    {
+        let sent = self.send(block, out);
+        self.has_no_fault();
+        sent
+    }
+
+    /// Plays turns on a board without faults (`play`).
+    pub(crate) fn play_well(&mut self, turns: &[Turn<'_>], trace: &mut [Item])
+        requires { length turns.now ≡ length trace.old }
+        ensures { IsGood self.old → IsGood self.new × Runs self.old turns.now trace.new self.new }
+    {
+        self.play(turns, trace);
+        self.has_no_fault();
+    }
+
+    /// Power off if it is on, and then a start, on a board without faults.
+    pub(crate) fn start_well(&mut self) -> PowerOn
+        ensures { IsGood self.old → IsGood self.new × GoodTurn self.old Turn.On (powered_item result) self.new }
+    {
+        let power_on = self.turn_on();
+        self.has_no_fault();
+        power_on
+    }
+
+    /// A block straight to the card's end (`send`), on a board without faults.
+    pub(crate) fn send_well(&mut self, block: &[u8], out: &mut BlockBytes) -> Sent
+        ensures { IsGood self.old → IsGood self.new × GoodBlock self.old block.now (sent_item result out.new) self.new }
     {
         let sent = self.send(block, out);
         self.has_no_fault();

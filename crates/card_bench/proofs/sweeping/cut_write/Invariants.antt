@@ -1,0 +1,15 @@
+use Rattle.nvm_board.specs.Cut.{cut_facts}
+use Rattle.card_core.specs.Finding.{HasCard}
+use Rattle.card_bench.specs.Tallies.{findings, Adds, Counts}
+use Rattle.card_bench.specs.Sweeps.{GivenByRun}
+use Rattle.card_bench.specs.SweptRuns.{InTurn, AreOfMask}
+use Rattle.card_bench.proofs.sweeping.cut_write.Given as goal
+
+abbrev pub invariant-loop-i : goal.invariant-loop-i
+invariant-loop-i l = record {
+  so_far : HasCard (cut_facts l.board).words → Adds (GivenByRun (cut_facts l.board) l.prepare l.command l.probe l.depth)
+      (findings l.fn.sweep.seen.items) (findings l.sweep.seen.items);
+  counted : HasCard (cut_facts l.board).words
+      → Counts (InTurn (AreOfMask (cut_facts l.board) l.prepare l.command l.probe l.depth l.k l.words) l.i)
+      l.fn.sweep.seen.items l.sweep.seen.items;
+}

@@ -1,0 +1,102 @@
+-- What the runs of a sweep give.
+use Rattle.std.specs.Prelude.{◌≡◌, ◌⊎◌, ◌≤◌, ◌≢◌, ℕ, zero, suc, true, List, None, is_some}
+use Rattle.nvm_board.specs.Facts.{Facts}
+use Rattle.file_tree.specs.declared.space.FreeSpace.{FreeSpace}
+use Rattle.card_bench.specs.declared.playing.Turn.{Turn}
+use Rattle.card_bench.specs.declared.playing.Turn.TheVariants as turn
+use Rattle.card_bench.specs.declared.playing.Item.{Item}
+use Rattle.card_bench.specs.declared.playing.Item.TheVariants.{Dark}
+use Rattle.card_bench.specs.BenchStates.{BenchState, off, on, bench_facts}
+use Rattle.card_core.specs.Finding.{HasCard}
+use Rattle.card_bench.specs.Turns.{GoodBlock, GoodTurn, Runs}
+use Rattle.card_bench.specs.Performing.{IsArmed}
+use Rattle.card_bench.specs.CardBlocks.{IsBlockStage}
+use Rattle.file_tree.specs.Spaces.{free_space}
+use Rattle.card_core.specs.Cards.{Card}
+use Rattle.card_core.specs.Running.{card_found}
+use Rattle.t1_link.specs.CardTable.{link_step}
+use Rattle.card_bench.specs.Tallies.{Finding}
+
+-- a bench with this board, power off
+abbrev pub off_with : Facts → BenchState
+off_with facts = off (record facts { dark = true })
+
+-- the board that is taken from a bench
+abbrev pub left_by : BenchState → Facts
+left_by b = record (bench_facts b) { dark = true }
+
+-- the free space that a run shows: that of the card that is found; none where power is off
+abbrev pub free_of : BenchState → FreeSpace
+free_of (off facts) = record { blocks = 0; entries = 0 }
+free_of (on powered) = free_space (card_found powered.card).tree
+
+-- The command is cut at this write, by this mask: the preparation is played on the board, the cut is set, and power is lost
+-- while the command runs. No cut is to come any more.
+pub record CutsCommand (number mask : ℕ) (board : Facts) (prepare : List Turn) (command : List ℕ) (left : Facts) : Type 0 where
+  pub trace : List Item
+  pub prepared : BenchState
+  pub armed : BenchState
+  pub last : BenchState
+  pub before : Runs (off_with board) prepare trace prepared
+  pub arm : IsArmed number mask prepared armed
+  pub cut : GoodBlock armed command Dark last
+  pub left_is : left ≡ left_by last
+  pub fired : left.pending ≡ None
+  pub has_card : HasCard left.words
+
+-- A start is cut at this write, by this mask.
+pub record CutsStart (number mask : ℕ) (board left : Facts) : Type 0 where
+  pub armed : BenchState
+  pub last : BenchState
+  pub arm : IsArmed number mask (off_with board) armed
+  pub cut : GoodTurn armed turn.On Dark last
+  pub left_is : left ≡ left_by last
+  pub fired : left.pending ≡ None
+  pub has_card : HasCard left.words
+
+-- A start makes fewer writes: a cut that is set to come at this one doesn't come in it.
+pub record SparesStart (number mask : ℕ) (board : Facts) : Type 0 where
+  pub item : Item
+  pub armed : BenchState
+  pub last : BenchState
+  pub arm : IsArmed number mask (off_with board) armed
+  pub start : GoodTurn armed turn.On item last
+  pub spared : (item ≢ Dark) ⊎ (is_some (bench_facts last).pending ≡ true)
+
+-- so many starts are cut, one after another, each at some write
+unfoldable pub CutsStarts : ℕ → Facts → Facts → Type 0
+CutsStarts zero board left = left ≡ board
+CutsStarts (suc n) board left =
+    (number mask : ℕ) × (between : Facts) × CutsStart number mask board between × CutsStarts n between left
+
+-- A run's end: a start that isn't cut, the free space, and the probe.
+pub record EndsIn (board : Facts) (probe : List Turn) (given : Finding) : Type 0 where
+  pub item : Item
+  pub started : BenchState
+  pub last : BenchState
+  pub start : GoodTurn (off_with board) turn.On item started
+  pub free : given.free ≡ free_of started
+  pub probed : Runs started probe given.trace last
+
+-- What comes behind a cut: starts are cut, until so many were or one makes no write, and then the run ends.
+pub record EndsBehindStarts (depth : ℕ) (board : Facts) (probe : List Turn) (given : Finding) : Type 0 where
+  pub starts : ℕ
+  pub few : starts ≤ depth
+  pub left : Facts
+  pub cut : CutsStarts starts board left
+  pub done : (starts ≡ depth) ⊎ SparesStart 1 0 left
+  pub end : EndsIn left probe given
+
+-- A run of a sweep gives this.
+pub record GivenByRun (board : Facts) (prepare : List Turn) (command : List ℕ) (probe : List Turn) (depth : ℕ) (given : Finding)
+    : Type 0 where
+  pub number : ℕ
+  pub mask : ℕ
+  pub left : Facts
+  pub cut : CutsCommand number mask board prepare command left
+  pub rest : EndsBehindStarts depth left probe given
+
+-- a card that is a stage of this command, which a bench is given as a block
+abbrev pub IsStageOf : BenchState → List ℕ → Card → Type 0
+IsStageOf (off facts) command card = ⊥
+IsStageOf (on powered) command card = IsBlockStage powered (link_step powered.link command).reaction card

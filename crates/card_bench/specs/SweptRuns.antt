@@ -1,0 +1,88 @@
+-- All runs of a sweep, in their order: what each gives.
+use Rattle.std.specs.Prelude.{◌≡◌, ◌⊎◌, ◌≤◌, ◌≢◌, ◌<◌, ◌+◌, ◌-◌, ◌/◌, ◌%◌, ◌^◌, ℕ, zero, suc, true, List, [], ◌∷◌, ◌++◌, is_some}
+use Rattle.nvm_board.specs.Facts.{Facts}
+use Rattle.card_bench.specs.declared.playing.Turn.{Turn}
+use Rattle.card_bench.specs.declared.playing.Item.{Item}
+use Rattle.card_bench.specs.declared.playing.Item.TheVariants.{Dark}
+use Rattle.card_bench.specs.BenchStates.{BenchState, bench_facts}
+use Rattle.card_bench.specs.Turns.{GoodBlock, Runs}
+use Rattle.card_bench.specs.Performing.{IsArmed}
+use Rattle.card_bench.specs.Masks.{mask_of, mask_count_of}
+use Rattle.card_bench.specs.Sweeps.{CutsCommand, CutsStart, SparesStart, EndsIn, off_with}
+use Rattle.card_bench.specs.Tallies.{Finding}
+
+-- The command makes fewer writes: a cut that is set to come at this one doesn't come in it.
+pub record SparesCommand (number mask : ℕ) (board : Facts) (prepare : List Turn) (command : List ℕ) : Type 0 where
+  pub trace : List Item
+  pub item : Item
+  pub prepared : BenchState
+  pub armed : BenchState
+  pub last : BenchState
+  pub before : Runs (off_with board) prepare trace prepared
+  pub arm : IsArmed number mask prepared armed
+  pub sent : GoodBlock armed command item last
+  pub spared : (item ≢ Dark) ⊎ (is_some (bench_facts last).pending ≡ true)
+
+-- so many parts, one behind the other
+unfoldable pub InTurn : (ℕ → List Finding → Type 0) → ℕ → List Finding → Type 0
+InTurn Part zero all = all ≡ []
+InTurn Part (suc n) all = (before part : List Finding) × InTurn Part n before × Part n part × (all ≡ before ++ part)
+
+-- One run: a look at this board.
+pub record IsOneLook (probe : List Turn) (board : Facts) (all : List Finding) : Type 0 where
+  pub given : Finding
+  pub end : EndsIn board probe given
+  pub one : all ≡ given ∷ []
+
+-- Cut number i of a start, counted from 0: each write comes twice, with its word old and with it new. Then what comes behind it.
+pub record AreBehindCut (Behind : Facts → List Finding → Type 0) (board : Facts) (i : ℕ) (all : List Finding) : Type 0 where
+  pub left : Facts
+  pub cut : CutsStart (i / 2 + 1) (i % 2) board left
+  pub behind : Behind left all
+
+-- A start is cut at each of its writes. (There are at most 2,147,483,648 of them.)
+pub record AreBehindStart (Behind : Facts → List Finding → Type 0) (board : Facts) (all : List Finding) : Type 0 where
+  pub cuts : ℕ
+  pub some : 1 ≤ cuts
+  pub each : InTurn (AreBehindCut Behind board) cuts all
+  pub done : SparesStart (cuts / 2 + 1) (cuts % 2) board ⊎ (cuts ≡ 2 ^ 32 - 1)
+
+-- All runs behind a cut: starts are cut until so many were, or one makes no write.
+unfoldable pub AreAllBehind : ℕ → List Turn → Facts → List Finding → Type 0
+AreAllBehind zero probe board all = IsOneLook probe board all
+AreAllBehind (suc depth) probe board all =
+    (SparesStart 1 0 board × IsOneLook probe board all) ⊎ AreBehindStart (AreAllBehind depth probe) board all
+
+-- The command is cut at this write by mask number i, counted from 0. Then what comes behind it.
+pub record AreOfMask (board : Facts) (prepare : List Turn) (command : List ℕ) (probe : List Turn) (depth number words i : ℕ)
+    (all : List Finding) : Type 0 where
+  pub left : Facts
+  pub cut : CutsCommand number (mask_of words i) board prepare command left
+  pub behind : AreAllBehind depth probe left all
+
+-- The command is cut at this write by each mask, for so many words as the board tells.
+pub record AreOfWrite (board : Facts) (prepare : List Turn) (command : List ℕ) (probe : List Turn) (depth number : ℕ)
+    (all : List Finding) : Type 0 where
+  pub words : ℕ
+  pub some : 1 ≤ words
+  pub fit : words ≤ 16
+  pub each : InTurn (AreOfMask board prepare command probe depth number words) (mask_count_of words) all
+
+-- The command doesn't make this write: a cut by one of the masks doesn't come in it, and none is tried behind it.
+pub record AreOfLastWrite (board : Facts) (prepare : List Turn) (command : List ℕ) (probe : List Turn) (depth number : ℕ)
+    (all : List Finding) : Type 0 where
+  pub words : ℕ
+  pub masks : ℕ
+  pub few : masks < mask_count_of words
+  pub each : InTurn (AreOfMask board prepare command probe depth number words) masks all
+  pub spared : SparesCommand number (mask_of words masks) board prepare command
+
+-- All runs: the command is cut at each of its writes. (There are at most 4,294,967,295 of them.)
+pub record AreAllRuns (board : Facts) (prepare : List Turn) (command : List ℕ) (probe : List Turn) (depth : ℕ)
+    (all : List Finding) : Type 0 where
+  pub writes : ℕ
+  pub before : List Finding
+  pub last : List Finding
+  pub each : InTurn (λ n. AreOfWrite board prepare command probe depth (n + 1)) writes before
+  pub done : AreOfLastWrite board prepare command probe depth (writes + 1) last ⊎ ((writes ≡ 2 ^ 32 - 1) × (last ≡ []))
+  pub all_are : all ≡ before ++ last
