@@ -96,18 +96,19 @@ macro_rules! on_pin {
 }
 
 const SPACES: &[Torn] = &[
-    // DELETE FILE of the factory's file: an entry, a chain and the header, three writes each, and the commit.
+    // DELETE FILE of the factory's file: the pairs of a word of its entry, of its chain and of the header, the gate, each of these
+    // words, since none lies beside another, and the commit.
     Torn {
         prepare: "on\n",
         command: "apdu 00E40000022FE2\n",
-        writes: 10,
+        writes: 6,
         answer: "< 9000",
         has_all_masks: true,
         has_torn_starts: false,
         look: "on\nfree\n",
         found: ["free 895 62\n", "free 895 62\n", "free 896 63\n"],
     },
-    // And of a dedicated file with two files and a dedicated file in it: four entries, two chains, and the header.
+    // And of a dedicated file with two files and a dedicated file in it: words of four entries, of two chains, and of the header.
     Torn {
         prepare: "on\napdu 00E000001362118202782183027F108A01058C0407000000\n\
             apdu 00E000001962178202412183026F018801088002000A8A01058C03030000\n\
@@ -115,18 +116,19 @@ const SPACES: &[Torn] = &[
             apdu 00E000001362118202782183025F018A01058C0407000000\n\
             apdu 00A4000C023F00\n",
         command: "apdu 00E40000027F10\n",
-        writes: 22,
+        writes: 10,
         answer: "< 9000",
         has_all_masks: true,
         has_torn_starts: false,
         look: "on\nfree\n",
         found: ["free 892 58\n", "free 892 58\n", "free 895 62\n"],
     },
-    // CREATE FILE of a file of two blocks: they are filled, and then eleven words of the entry, the header and a link are set.
+    // CREATE FILE of a file of two blocks: they are filled; then the pairs of eight words, the gate, the header's word, six of the
+    // entry, and a link; then the pairs of five, the gate, and the other five of the entry; and the commit.
     Torn {
         prepare: "on\n",
         command: "apdu 00E000001862168202412183026F0588008002003D8A01058C03030000\n",
-        writes: 42,
+        writes: 11,
         answer: "< 9000",
         has_all_masks: false,
         has_torn_starts: false,
@@ -136,11 +138,11 @@ const SPACES: &[Torn] = &[
 ];
 
 const UPDATES: &[Torn] = &[
-    // UPDATE BINARY of eight bytes from byte 1 on, which lie in three words.
+    // UPDATE BINARY of eight bytes from byte 1 on, which lie in three words: their pairs, the gate, the words, and the commit.
     Torn {
         prepare: "on\napdu 00E000001962178202412183026F018801088002000A8A01058C03030000\n",
         command: "apdu 00D68101080102030405060708\n",
-        writes: 10,
+        writes: 4,
         answer: "< 9000",
         has_all_masks: false,
         has_torn_starts: true,
@@ -151,12 +153,12 @@ const UPDATES: &[Torn] = &[
             "< FF0102030405060708FF9000\n",
         ],
     },
-    // UPDATE RECORD of a cyclic file, whose slot 1 touches two words; one word of the entry is set too.
+    // UPDATE RECORD of a cyclic file, whose slot 1 touches two words; one word of the entry is set too, and written first.
     Torn {
         prepare: "on\napdu 00E000001A621882044621000383026F038800800200098A01058C03030000\n\
             apdu 00DC000303010203\n",
         command: "apdu 00DC000303040506\n",
-        writes: 10,
+        writes: 5,
         answer: "< 9000",
         has_all_masks: false,
         has_torn_starts: false,
@@ -170,7 +172,8 @@ const UPDATES: &[Torn] = &[
 ];
 
 const COMPARISONS: &[Torn] = &[
-    // VERIFY, wrong and right; CHANGE REFERENCE DATA and RESET RETRY COUNTER: the first word decides that a try is gone.
+    // VERIFY, wrong and right; CHANGE REFERENCE DATA, whose tries and value are two runs, and RESET RETRY COUNTER, which sets one:
+    // the first write decides that a try is gone.
     on_pin!(
         "apdu 002000010835363738FFFFFFFF\n",
         1,
@@ -187,14 +190,14 @@ const COMPARISONS: &[Torn] = &[
     ),
     on_pin!(
         "apdu 002400011031323334FFFFFFFF35363738FFFFFFFF\n",
-        11,
+        6,
         "< 9000",
         CHARGED,
         CHANGED
     ),
     on_pin!(
         "apdu 002C000110313233343536373835363738FFFFFFFF\n",
-        14,
+        5,
         "< 9000",
         UNBLOCKING_CHARGED,
         CHANGED

@@ -3,6 +3,8 @@
 #![tactic(auto)]
 
 #[cfg(test)]
+mod batches;
+#[cfg(test)]
 mod blocks;
 #[cfg(test)]
 mod boards;
@@ -34,6 +36,8 @@ mod rules;
 mod scripts;
 #[cfg(test)]
 mod standing;
+#[cfg(test)]
+mod sweeping;
 #[cfg(test)]
 mod tampered;
 #[cfg(test)]

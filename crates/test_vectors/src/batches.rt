@@ -1,0 +1,109 @@
+//! Sets that wait and are written eight together: device writes, counted, and words before or after a cut at each of them.
+ghost use Rattle.std.specs.Prelude.{◌≤◌, OnOk};
+ghost use Rattle.undo_journal.specs.Memory.{room, IsOpen, IsReady};
+ghost use Rattle.undo_journal.specs.Lent.{memory_of};
+
+use crate::journal::opened;
+use nvm_board::{Armed, Board, CutBoard, Socket};
+use std::alloc::Global;
+use std::process::Abort;
+use std::test::Fail;
+use undo_journal::{Store, StoreErr, Txn};
+
+// Words 5, 2048, 2052, 3000 and 3007 after the change. Before it all are 0.
+const AFTER: [u32; 5] = [3, 2, 9, 1, 8];
+
+/// Fourteen sets, of which two are of one word: 5, 2048 to 2050, 2052 and 3000 to 3002 fill a batch; 3003 to 3007 wait.
+fn set_words<B: Board>(txn: &mut Txn<'_, B>) -> Result<(), StoreErr>
+    requires ready { IsOpen (memory_of txn.old) }
+    requires room { 14 ≤ room (memory_of txn.old) }
+{
+    txn.set(5, 1)?;
+    txn.set(2052, 9)?;
+    txn.set(5, 3)?;
+    txn.set_run(2048, &[2, 4, 5])?;
+    txn.set_run(3000, &[1, 2, 3, 4, 5, 6, 7, 8])
+}
+
+// What becomes of the sets, and how many device writes they then make.
+#[derive(Clone, Copy)]
+enum End {
+    Commits,
+    Abandons,
+}
+
+// The pairs of a batch, the gate and its four runs; the pairs of the other five words, the gate and their run; the commit. Taken
+// back, it is the eight pairs of the batch, and the gate.
+const ENDS: &[(End, u32)] = &[(End::Commits, 6 + 3 + 1), (End::Abandons, 6 + 8 + 1)];
+
+const MASKS: &[u16] = &[0x0000, 0xFFFF, 0x0001, 0x0002];
+
+fn change<B: Board>(store: &mut Store<B>, end: End) -> Result<(), StoreErr>
+    requires { IsReady store.old }
+{
+    let mut txn = store.begin();
+    if txn.room() < 14 {
+        return txn.abandon();
+    }
+    match (set_words(&mut txn), end) {
+        (Ok(()), End::Commits) => txn.commit(),
+        _ => txn.abandon(),
+    }
+}
+
+/// The five words.
+fn found<B: Board>(store: &mut Store<B>) -> Result<[u32; 5], StoreErr>
+    requires { IsReady store.old }
+    ensures { OnOk result (IsReady store.new) }
+{
+    Ok([
+        store.read(5)?,
+        store.read(2048)?,
+        store.read(2052)?,
+        store.read(3000)?,
+        store.read(3007)?,
+    ])
+}
+
+/// Whether a change is cut that is armed at a write, and the words after it, when there is power again.
+fn cut_at(alloc: Global, end: End, write: u32, mask: u16) -> Result<(bool, [u32; 5]), Fail>
+    requires { 1 ≤ write }
+{
+    let mut store = opened(CutBoard::new(alloc)?)?;
+    store.arm(write, mask);
+    let is_cut = change(&mut store, end).is_err();
+    let mut board = store.into_board();
+    board.light()?;
+    let mut store = opened(board)?;
+    Ok((is_cut, found(&mut store)?))
+}
+
+/// Words after a change that is cut: those after it exactly where the last write of a commit was made.
+fn words_after(end: End, writes: u32, write: u32, mask: u16) -> [u32; 5] {
+    match end {
+        End::Commits if write > writes || write == writes && mask & 1 == 1 => AFTER,
+        _ => [0; 5],
+    }
+}
+
+/// A change is cut at each of its writes, and not past them.
+fn check_end<R: Abort + AllocGlobal>(rt: &R, end: End, writes: u32) -> Result<(), Fail> {
+    for write in 1..=writes.saturating_add(1) {
+        for &mask in MASKS {
+            let found = cut_at(rt.alloc(), end, write, mask)?;
+            assert!(rt;
+                found == (write <= writes, words_after(end, writes, write, mask)),
+                "at {write}"
+            );
+        }
+    }
+    Ok(())
+}
+
+#[test]
+fn writes_eight_together(rt: HostRuntime) -> Result<(), Fail> {
+    for &(end, writes) in ENDS {
+        check_end(&rt, end, writes)?;
+    }
+    Ok(())
+}

@@ -1,0 +1,414 @@
+//! Commands that are cut at each of their device writes, with the starts behind them: how many runs there are, and how many of
+//! them gave each result.
+
+ghost use Rattle.std.specs.Prelude.{◌≡◌, None, IfOk};
+ghost use Rattle.nvm_board.specs.Cut.{cut_facts};
+
+use crate::cards::formatted;
+use crate::faults::framed;
+use card_bench::{Item, Seen, Sweep, Turn, sweep};
+use nvm_board::CutBoard;
+use std::alloc::{AllocError, Global};
+use std::process::Abort;
+use std::test::Fail;
+
+/// A command that is swept. Commands and answers are hexadecimal digits.
+#[derive(Clone, Copy)]
+struct Case {
+    /// The commands between a power-on and it.
+    prepare: &'static [&'static str],
+    command: &'static str,
+    /// The commands behind the start that isn't cut.
+    probe: &'static [&'static str],
+}
+
+/// A result: the free blocks and entries, the answers of the probe, and how many runs gave it.
+type Given = (u16, u16, &'static [&'static str], u32);
+
+// A file 6F01 of ten bytes; a directory; rings and lists of records; files whose states may be set.
+const FILE: &str = "00E000001962178202412183026F018801088002000A8A01058C03030000";
+
+const DIRECTORY: &str = "00E000001362118202782183027F108A01058C0407000000";
+
+const RING: &str = "00E000001A621882044621000383026F038800800200098A01058C03030000";
+
+const LIST: &str = "00E000001B621982044221000383026F04880120800200098A01058C03030000";
+
+const GROWING: &str = "00E000001D621B8205422100040183026F018801088002000C8A01058C0407000000";
+
+const OWNED: &str = "00E000001B62198202412183026F068800800200018A01058C063B0000000000";
+
+const ASLEEP: &str = "00E000001B62198202412183026F068800800200018A01048C063B0000000000";
+
+const OWNED_DIRECTORY: &str = "00E0000011620F8202782183027F218A01058C022000";
+
+const SELECT: &str = "00A4000C026F01";
+
+const READ: &str = "00B000000A";
+
+const RECORDS: &[&str] = &["00A4000C026F03", "00B2010403", "00B2020403"];
+
+const STATE: &[&str] = &["00A4000C026F06"];
+
+const WRONG: &str = "002000010830303030FFFFFFFF";
+
+const RIGHT: &str = "002000010831323334FFFFFFFF";
+
+const TRIES: &[&str] = &["00200001"];
+
+const OLD_BYTES: &[&str] = &["9000", "FFFFFFFFFFFFFFFFFFFF9000"];
+
+const ONE_WORD: Case = Case {
+    prepare: &[FILE],
+    command: "00D600000401020304",
+    probe: &[SELECT, READ],
+};
+
+const NEW_WORD: &[&str] = &["9000", "01020304FFFFFFFFFFFF9000"];
+
+const TWO_WORDS: Case = Case {
+    prepare: &[FILE],
+    command: "00D60000080102030405060708",
+    probe: &[SELECT, READ],
+};
+
+const NEW_WORDS: &[&str] = &["9000", "0102030405060708FFFF9000"];
+
+const ONE_WRONG: Case = Case {
+    prepare: &[],
+    command: WRONG,
+    probe: TRIES,
+};
+
+const RIGHT_AT_LAST: Case = Case {
+    prepare: &[WRONG, WRONG],
+    command: RIGHT,
+    probe: TRIES,
+};
+
+/// A board with the factory's memory, and no cut to come.
+fn uncut_board(alloc: Global) -> Result<CutBoard, Fail>
+    ensures { IfOk result (λ b. (cut_facts b).pending ≡ None) }
+{
+    let board = formatted(CutBoard::new(alloc)?)?;
+    if board.pending() {
+        return Err(Fail::from("a cut is to come"));
+    }
+    Ok(board)
+}
+
+/// Commands as blocks, numbered in turn.
+fn blocks_of(alloc: Global, commands: &[&str]) -> Result<Vec<Vec<u8>>, Fail> {
+    let mut blocks = Vec::new(alloc);
+    let mut control = 0x00;
+    for command in commands {
+        blocks.push(framed(alloc, control, command)?)?;
+        control ^= 0x40;
+    }
+    Ok(blocks)
+}
+
+/// The turns that send blocks, behind a power-on where one is asked for.
+fn turns_of<'a>(alloc: Global, is_on: bool, blocks: &'a [Vec<u8>]) -> Result<Vec<Turn<'a>>, Fail> {
+    let mut turns = Vec::new(alloc);
+    if is_on {
+        turns.push(Turn::On)?;
+    }
+    for block in blocks {
+        turns.push(Turn::Block(block))?;
+    }
+    Ok(turns)
+}
+
+/// The sweep of a command on the factory's card.
+fn swept(alloc: Global, case: &Case, depth: u8) -> Result<Result<Sweep, AllocError>, Fail> {
+    let board = uncut_board(alloc)?;
+    let before = blocks_of(alloc, case.prepare)?;
+    let after = blocks_of(alloc, case.probe)?;
+    let control = if before.len() & 1 == 1 { 0x40 } else { 0x00 };
+    let command = framed(alloc, control, case.command)?;
+    let prepare = turns_of(alloc, true, &before)?;
+    let probe = turns_of(alloc, false, &after)?;
+    Ok(sweep(alloc, &board, &prepare, &command, &probe, depth))
+}
+
+/// Whether the replies to a probe carry these answers.
+fn replies_so(alloc: Global, trace: &[Item], answers: &[&str]) -> Result<bool, Fail> {
+    let wanted = blocks_of(alloc, answers)?;
+    for i in 0..trace.len() {
+        match (&trace[i], wanted.get(i)) {
+            (Item::Reply(reply), Some(block)) if reply.as_slice() == block.as_slice() => {}
+            _ => return Ok(false),
+        }
+    }
+    Ok(trace.len() == answers.len())
+}
+
+/// Whether a result is this one.
+fn is_given(alloc: Global, seen: &Seen, given: &Given) -> Result<bool, Fail> {
+    let &(blocks, entries, answers, count) = given;
+    let is_counted = seen.count == count
+        && seen.free.blocks == blocks
+        && seen.free.entries == entries;
+    Ok(is_counted && replies_so(alloc, &seen.trace, answers)?)
+}
+
+/// Whether a sweep gave these results and no others, in this order.
+fn gives(alloc: Global, sweep: &Sweep, given: &[Given]) -> Result<bool, Fail> {
+    for i in 0..sweep.seen.len() {
+        match given.get(i) {
+            Some(given) if is_given(alloc, &sweep.seen[i], given)? => {}
+            _ => return Ok(false),
+        }
+    }
+    Ok(sweep.seen.len() == given.len())
+}
+
+/// A command's sweep has so many runs, and these results.
+fn check<R: Abort + AllocGlobal>(
+    rt: &R,
+    case: &Case,
+    depth: u8,
+    runs: u32,
+    given: &[Given],
+) -> Result<(), Fail> {
+    let sweep = swept(rt.alloc(), case, depth)??;
+    assert!(rt; sweep.runs == runs, "{} runs", sweep.runs);
+    assert!(rt; gives(rt.alloc(), &sweep, given)?, "other results");
+    Ok(())
+}
+
+/// So many different results come where no start is cut.
+fn check_results<R: Abort + AllocGlobal>(rt: &R, case: &Case, results: usize) -> Result<(), Fail> {
+    let sweep = swept(rt.alloc(), case, 0)??;
+    assert!(rt; sweep.seen.len() == results, "{} results", sweep.seen.len());
+    Ok(())
+}
+
+/// The old bytes so often, and the new ones once.
+fn old_or_new(old: u32) -> [Given; 2] {
+    [(894, 61, OLD_BYTES, old), (894, 61, NEW_WORD, 1)]
+}
+
+/// The writes are pairs, gate, word, gate: two words, and one each.
+#[test]
+fn one_word_is_old_or_new(rt: HostRuntime) -> Result<(), Fail> {
+    check(&rt, &ONE_WORD, 0, 10, &old_or_new(9))?;
+    check(&rt, &ONE_WORD, 1, 22, &old_or_new(21))?;
+    check(&rt, &ONE_WORD, 3, 166, &old_or_new(165))
+}
+
+/// The writes are pairs, gate, words, gate: four words, one, two, and one.
+#[test]
+fn two_words_are_old_or_new(rt: HostRuntime) -> Result<(), Fail> {
+    check(
+        &rt,
+        &TWO_WORDS,
+        0,
+        14,
+        &[(894, 61, OLD_BYTES, 13), (894, 61, NEW_WORDS, 1)],
+    )
+}
+
+#[test]
+fn two_words_are_old_or_new_three_deep(rt: HostRuntime) -> Result<(), Fail> {
+    check(
+        &rt,
+        &TWO_WORDS,
+        3,
+        944,
+        &[(894, 61, OLD_BYTES, 943), (894, 61, NEW_WORDS, 1)],
+    )
+}
+
+/// A wrong value costs a try, by one write.
+#[test]
+fn wrong_value_costs_a_try(rt: HostRuntime) -> Result<(), Fail> {
+    check(
+        &rt,
+        &ONE_WRONG,
+        3,
+        2,
+        &[(895, 62, &["63C3"], 1), (895, 62, &["63C2"], 1)],
+    )
+}
+
+/// The right one too, until all tries are given back by the second write.
+#[test]
+fn right_value_costs_a_try_until_the_last_write(rt: HostRuntime) -> Result<(), Fail> {
+    check(
+        &rt,
+        &RIGHT_AT_LAST,
+        3,
+        4,
+        &[
+            (895, 62, &["63C1"], 1),
+            (895, 62, &["63C0"], 2),
+            (895, 62, &["63C3"], 1),
+        ],
+    )
+}
+
+/// Where memory is refused in the sweep, it says so, and nothing else.
+#[test]
+fn refused_memory_is_told(rt: HostRuntime) -> Result<(), Fail> {
+    let board = uncut_board(rt.alloc())?;
+    let command = framed(rt.alloc(), 0x00, WRONG)?;
+    let query = framed(rt.alloc(), 0x00, "00200001")?;
+    match sweep(
+        rt.alloc(),
+        &board,
+        &[Turn::On],
+        &command,
+        &[Turn::Block(&query)],
+        3,
+    ) {
+        Ok(sweep) => assert!(rt;
+            sweep.runs == 2 && sweep.seen.len() == 2,
+            "{} runs",
+            sweep.runs
+        ),
+        Err(AllocError) => {}
+    }
+    Ok(())
+}
+
+#[test]
+fn created_file_is_there_or_not(rt: HostRuntime) -> Result<(), Fail> {
+    let case = Case {
+        prepare: &[],
+        command: FILE,
+        probe: &[SELECT],
+    };
+    check_results(&rt, &case, 2)
+}
+
+#[test]
+fn deleted_directory_is_there_or_not(rt: HostRuntime) -> Result<(), Fail> {
+    let case = Case {
+        prepare: &[DIRECTORY, FILE, "00A4000C023F00"],
+        command: "00E40000027F10",
+        probe: &["00A4000C027F10"],
+    };
+    check_results(&rt, &case, 2)
+}
+
+#[test]
+fn ring_has_the_record_or_not(rt: HostRuntime) -> Result<(), Fail> {
+    let case = Case {
+        prepare: &[RING, "00DC000303000005"],
+        command: "00DC000303000006",
+        probe: RECORDS,
+    };
+    check_results(&rt, &case, 2)
+}
+
+#[test]
+fn record_is_raised_or_not(rt: HostRuntime) -> Result<(), Fail> {
+    let case = Case {
+        prepare: &[RING, "00DC000303000005"],
+        command: "803200000300000100",
+        probe: RECORDS,
+    };
+    check_results(&rt, &case, 2)
+}
+
+#[test]
+fn record_is_appended_or_not(rt: HostRuntime) -> Result<(), Fail> {
+    let case = Case {
+        prepare: &[GROWING],
+        command: "00E200080401020304",
+        probe: &[SELECT, "00B2020404"],
+    };
+    check_results(&rt, &case, 2)
+}
+
+#[test]
+fn record_is_old_or_new(rt: HostRuntime) -> Result<(), Fail> {
+    let case = Case {
+        prepare: &[LIST],
+        command: "00DC022403010203",
+        probe: &["00A4000C026F04", "00B2020403"],
+    };
+    check_results(&rt, &case, 2)
+}
+
+#[test]
+fn file_is_activated_or_not(rt: HostRuntime) -> Result<(), Fail> {
+    let case = Case {
+        prepare: &[ASLEEP],
+        command: "00440000026F06",
+        probe: STATE,
+    };
+    check_results(&rt, &case, 2)
+}
+
+#[test]
+fn file_is_deactivated_or_not(rt: HostRuntime) -> Result<(), Fail> {
+    let case = Case {
+        prepare: &[OWNED],
+        command: "00040000026F06",
+        probe: STATE,
+    };
+    check_results(&rt, &case, 2)
+}
+
+#[test]
+fn directory_is_terminated_or_not(rt: HostRuntime) -> Result<(), Fail> {
+    let case = Case {
+        prepare: &[OWNED_DIRECTORY],
+        command: "00E60000027F21",
+        probe: &["00A4000C027F21"],
+    };
+    check_results(&rt, &case, 2)
+}
+
+#[test]
+fn file_is_terminated_or_not(rt: HostRuntime) -> Result<(), Fail> {
+    let case = Case {
+        prepare: &[OWNED],
+        command: "00E80000026F06",
+        probe: STATE,
+    };
+    check_results(&rt, &case, 2)
+}
+
+#[test]
+fn use_of_the_card_ends_or_not(rt: HostRuntime) -> Result<(), Fail> {
+    let case = Case {
+        prepare: &["002000080831323334FFFFFFFF"],
+        command: "00FE0000",
+        probe: &["00A4000C023F00"],
+    };
+    check_results(&rt, &case, 2)
+}
+
+#[test]
+fn wrong_unblocking_value_costs_a_try_or_not(rt: HostRuntime) -> Result<(), Fail> {
+    let case = Case {
+        prepare: &[],
+        command: "002C000110303030303030303035363738FFFFFFFF",
+        probe: &["002C0001"],
+    };
+    check_results(&rt, &case, 2)
+}
+
+#[test]
+fn pin_is_changed_or_costs_a_try_or_not(rt: HostRuntime) -> Result<(), Fail> {
+    let case = Case {
+        prepare: &[WRONG],
+        command: "002400011031323334FFFFFFFF35363738FFFFFFFF",
+        probe: TRIES,
+    };
+    check_results(&rt, &case, 3)
+}
+
+#[test]
+fn pin_is_reset_or_costs_a_try_or_not(rt: HostRuntime) -> Result<(), Fail> {
+    let case = Case {
+        prepare: &[],
+        command: "002C000110313233343536373835363738FFFFFFFF",
+        probe: &["002C0001", "002000010835363738FFFFFFFF"],
+    };
+    check_results(&rt, &case, 3)
+}
