@@ -1,7 +1,7 @@
 //! Turns that a bench plays by blocks from outside.
 
-use crate::cards::formatted;
 use card_bench::{Bench, Item, Turn};
+use card_vectors::fixtures::formatted;
 use nvm_board::CutBoard;
 use std::test::Fail;
 

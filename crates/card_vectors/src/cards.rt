@@ -1,18 +1,11 @@
 //! The factory's memory, memories that start and that don't, and boards without power.
 
-use crate::boards::with_words;
+use crate::fixtures::formatted;
 use card_core::{Card, StartFault, format};
 use nvm_board::{Armed, Board, CutBoard, DeviceErr, RamBoard, Socket};
 use std::alloc::Global;
 use std::test::Fail;
-
-/// A board with the factory's memory.
-pub fn formatted<B: Board + Drop>(board: B) -> Result<B, Fail> {
-    match format(board) {
-        Ok(board) => Ok(board),
-        Err((_, error)) => Err(Fail::from(error)),
-    }
-}
+use store_vectors::fixtures::with_words;
 
 // What `format` writes: the mark, the first free block and the card state; the first words of both files; the tries of
 // PIN 1; the end of the file's chain and its first bytes; the free chain and its end.

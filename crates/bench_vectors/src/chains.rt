@@ -1,9 +1,10 @@
 //! Commands that come in two to four blocks: power is cut under the last of them, or goes off before it, or RESYNCH
 //! comes.
 
-use crate::cards::formatted;
-use crate::faults::{framed, is_reply};
+use crate::replies::is_reply;
 use card_bench::{Bench, Item, Turn};
+use card_vectors::fixtures::formatted;
+use link_vectors::fixtures::framed;
 use nvm_board::CutBoard;
 use std::alloc::Global;
 use std::process::Abort;

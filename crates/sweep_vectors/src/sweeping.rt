@@ -4,9 +4,9 @@
 ghost use Rattle.std.specs.Prelude.{◌≡◌, None, IfOk};
 ghost use Rattle.nvm_board.specs.Cut.{cut_facts};
 
-use crate::cards::formatted;
-use crate::faults::framed;
 use card_bench::{Item, Seen, Sweep, Turn, sweep};
+use card_vectors::fixtures::formatted;
+use link_vectors::fixtures::framed;
 use nvm_board::CutBoard;
 use std::alloc::{AllocError, Global};
 use std::process::Abort;

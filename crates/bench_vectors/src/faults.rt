@@ -1,9 +1,10 @@
-//! Boards that fail once, at a call or at a write: a start is stopped, a command is answered 6581, and what the next
-//! start finds is as before the command or as after it.
+//! Boards that fail once, at a call or at a write, in a command: it is answered 6581, and what the next start finds is as before
+//! the command or as after it.
 
-use crate::cards::formatted;
+use crate::replies::is_reply;
 use card_bench::{Bench, Item, Turn};
-use card_core::{Card, StartFault};
+use card_vectors::fixtures::formatted;
+use link_vectors::fixtures::framed;
 use nvm_board::FaultBoard;
 use std::alloc::Global;
 use std::process::Abort;
@@ -11,28 +12,6 @@ use std::test::Fail;
 
 // A command and its answer, in hexadecimal digits.
 type Exchange = (&'static str, &'static str);
-
-/// A block that carries these bytes.
-pub fn framed(alloc: Global, control: u8, digits: &str) -> Result<Vec<u8>, Fail> {
-    let bytes = hex::decode(alloc, digits)?;
-    let mut block = Vec::from_array(alloc, [0x00, control])?;
-    block.push(u8::try_from(bytes.len())?)?;
-    block.extend_from_slice(&bytes)?;
-    let mut check = 0;
-    for byte in &block {
-        check ^= *byte;
-    }
-    block.push(check)?;
-    Ok(block)
-}
-
-/// Whether the card's end sent this block.
-pub fn is_reply(trace: &[Item; 1], wanted: &[u8]) -> bool {
-    match trace {
-        [Item::Reply(block)] => block.as_slice() == wanted,
-        _ => false,
-    }
-}
 
 /// A card on a bench, and the control byte of the next block. Each command and each answer goes in one.
 #[derive(Drop)]
@@ -175,28 +154,6 @@ fn a_failed_write_is_answered_6581(rt: HostRuntime) -> Result<(), Fail> {
             row.mask
         );
     }
-    Ok(())
-}
-
-/// How many calls of a start can fail, each in turn: the start then fails, and the next one begins as it did.
-fn failed_starts(board: FaultBoard) -> Option<u32> {
-    let mut board = board;
-    for call in 1..=2_000 {
-        board.arm_call(call);
-        match Card::start(board) {
-            Ok(_) => return Some(call - 1),
-            Err((again, StartFault::Fault)) => board = again,
-            Err(_) => return None,
-        }
-    }
-    None
-}
-
-#[test]
-fn a_failed_call_stops_a_start(rt: HostRuntime) -> Result<(), Fail> {
-    let board = formatted(FaultBoard::on_calls(rt.alloc())?)?;
-    // It reads the gate, three words of the header, eleven of each entry, two of each PIN, and the link of each block.
-    assert!(rt; failed_starts(board) == Some(1 + 3 + 11 * 64 + 2 * 8 + 896));
     Ok(())
 }
 

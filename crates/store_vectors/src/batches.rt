@@ -3,7 +3,7 @@ ghost use Rattle.std.specs.Prelude.{◌≤◌, OnOk};
 ghost use Rattle.undo_journal.specs.Memory.{room, IsOpen, IsReady};
 ghost use Rattle.undo_journal.specs.Lent.{memory_of};
 
-use crate::journal::opened;
+use crate::fixtures::opened;
 use nvm_board::{Armed, Board, CutBoard, Socket};
 use std::alloc::Global;
 use std::process::Abort;

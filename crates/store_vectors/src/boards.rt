@@ -4,16 +4,6 @@ use nvm_board::{Armed, Board, CutBoard, DeviceErr, RamBoard, Socket};
 use std::alloc::Global;
 use std::test::Fail;
 
-/// A board with words at these addresses. It has 16,384.
-pub fn with_words<B: Board + Drop>(mut board: B, words: &[(u16, u32)]) -> Result<B, Fail> {
-    for &(at, word) in words {
-        if at < 16_384 {
-            board.write(at / 16, (at % 16) as u8, &[word])?;
-        }
-    }
-    Ok(board)
-}
-
 /// Whether these are words 2, 3 and 4 of page 3.
 fn holds(board: &mut CutBoard, [second, third, fourth]: [u32; 3]) -> bool {
     board.read(50) == Ok(second) && board.read(51) == Ok(third) && board.read(52) == Ok(fourth)

@@ -1,13 +1,13 @@
 //! Memories of which a word was changed: each is refused, or started, as the rules say (`standing`).
 
-use crate::boards::with_words;
-use crate::cards::formatted;
+use crate::fixtures::formatted;
 use crate::standing::{GATE as GATE_ADDRESS, Start, start_of};
 use card_core::{Card, StartFault};
 use nvm_board::{Board, CutBoard};
 use std::alloc::Global;
 use std::process::Abort;
 use std::test::Fail;
+use store_vectors::fixtures::with_words;
 
 // What a card has more than the factory's: a named directory with a transparent file of three blocks, a linear file
 // and a directory, which is in the last entry; and a deactivated cyclic file.

@@ -1,39 +1,10 @@
-//! Memories whose journal can't be undone are left as they are, and one whose journal can is undone.
+//! A memory whose journal can be undone is undone by a start.
 
-use crate::boards::with_words;
-use crate::cards::formatted;
 use card_bench::{Bench, Item, Turn};
-use card_core::{Card, StartFault};
-use nvm_board::{Armed, CutBoard};
-use std::alloc::Global;
+use card_vectors::fixtures::formatted;
+use nvm_board::CutBoard;
 use std::test::Fail;
-
-// Changes of the factory's memory: a pair too many; a pair that counts and names the gate, and one that names no word.
-const BAD_JOURNALS: &[&[(u16, u32)]] = &[
-    &[(1168, 433)],
-    &[(1168, 1), (1184, 1168)],
-    &[(1168, 1), (1184, 16_384)],
-];
-
-/// Whether a card isn't started for its journal, and nothing was written, which would have met the cut.
-fn is_left(board: CutBoard) -> bool {
-    let mut board = board;
-    board.arm(1, 0x0000);
-    match Card::start(board) {
-        Err((board, StartFault::BadJournal)) => board.pending(),
-        _ => false,
-    }
-}
-
-#[test]
-fn bad_journal_is_left(rt: HostRuntime) -> Result<(), Fail> {
-    let board = formatted(CutBoard::new(rt.alloc())?)?;
-    for words in BAD_JOURNALS {
-        let changed = with_words(board.copy(rt.alloc())?, words)?;
-        assert!(rt; is_left(changed), "with {words:?}");
-    }
-    Ok(())
-}
+use store_vectors::fixtures::with_words;
 
 // Two pairs that count name the first word of the file, which was written since. The first of them has the word that
 // was there.

@@ -1,12 +1,12 @@
-//! PINs: the receipt of a charge. What commands on PINs answer stands in rows, what a cut leaves in `cuts`.
+//! PINs: the receipt of a charge. What commands on PINs answer stands in rows, what a cut leaves in `script_vectors`.
 ghost use Rattle.std.specs.Prelude.{◌<◌};
 ghost use Rattle.undo_journal.specs.Memory.{IsReady};
 
-use crate::cards::formatted;
-use crate::journal::opened;
+use crate::fixtures::formatted;
 use nvm_board::{Board, RamBoard};
 use pin_store::{Outcome, are_pins, charge, settle};
 use std::test::Fail;
+use store_vectors::fixtures::opened;
 use undo_journal::{Store, StoreErr};
 
 // The value of each of the factory's PINs.

@@ -1,9 +1,9 @@
-//! The store: words before or after a cut at each write, of a change and of the openings after it; errors. Which journals are bad stands in `cards`.
-ghost use Rattle.std.specs.Prelude.{◌≤◌, IfOk, OnOk};
+//! The store: words before or after a cut at each write, of a change and of the openings after it; errors. Which journals are bad stands in `card_vectors`.
+ghost use Rattle.std.specs.Prelude.{◌≤◌, OnOk};
 ghost use Rattle.undo_journal.specs.Memory.{room, IsOpen, IsReady};
 ghost use Rattle.undo_journal.specs.Lent.{memory_of};
 
-use crate::boards::with_words;
+use crate::fixtures::{opened, with_words};
 use nvm_board::{Armed, Board, CutBoard, DeviceErr, Socket};
 use std::alloc::Global;
 use std::process::Abort;
@@ -24,16 +24,6 @@ const WORDS: &[(u16, u32)] = &[
     (2048, 60),
     (2049, 61),
 ];
-
-/// A store of a board that can be opened.
-pub fn opened<B: Board + Drop>(board: B) -> Result<Store<B>, Fail>
-    ensures { IfOk result IsReady }
-{
-    match Store::open(board) {
-        Ok(store) => Ok(store),
-        Err(_) => Err(Fail::from("not opened")),
-    }
-}
 
 /// The three words.
 fn found<B: Board>(store: &mut Store<B>) -> Result<[u32; 3], StoreErr>
