@@ -35,11 +35,14 @@ use Rattle.card_core.specs.declared.current.Current.{Current}
 use Rattle.card_core.specs.Cards.{Card}
 use Rattle.card_core.specs.Comparing.{attempt_of, comparisons, ComparesBy, ComparesShown, CostsATry}
 use Rattle.card_core.specs.Counting.{CountsAttempt, CountsServed, CountsShown}
-use Rattle.card_core.specs.Outcomes.{refused, refused_by}
-use Rattle.card_core.specs.Pins.{Attempt, attempt_commits, attempt_refusals, attempted, attempted_as, charged_card, is_right}
-use Rattle.card_core.specs.Pins.{changing, no_refusals, pin_of, resetting, settled_card, told_tries, tries_of, tries_told}
+use Rattle.card_core.specs.Outcomes.{no_refusals, refused, refused_by}
+use Rattle.card_core.specs.Attempts.{Attempt, attempt_commits, charged_card, is_right}
+use Rattle.card_core.specs.Pins.{attempt_refusals, attempted, attempted_as}
+use Rattle.card_core.specs.Pins.{changing, resetting, told_tries, tries_told}
+use Rattle.card_core.specs.Attempts.{pin_of, settled_card, tries_of}
 use Rattle.card_core.specs.Words.{StandsByWord, StandsServed, commits_alone, commits_gated}
-use Rattle.card_core.specs.Pins.{tries_commits, value_commits, unblocking_of, unverified, value_of, verifying, with_pin_of}
+use Rattle.card_core.specs.Attempts.{tries_commits, value_commits, unblocking_of, value_of, with_pin_of}
+use Rattle.card_core.specs.Pins.{unverified, verifying}
 use Rattle.card_core.specs.Served.{IsDoing, Serves}
 use Rattle.card_core.specs.Sessions.{Session, marked}
 use Rattle.card_core.specs.Spending.{most_writes}

@@ -24,7 +24,7 @@ use Rattle.file_tree.specs.declared.layout.TheConstants.{STATE_WORD}
 use Rattle.card_core.specs.Cards.{Card}
 use Rattle.card_core.specs.Comparing.{attempt_of, comparisons, Comparisons, ComparesAsked, ComparesBy}
 use Rattle.card_core.specs.Counting.{CountsAnswered, CountsServed, CountsShown}
-use Rattle.card_core.specs.Pins.{Attempt}
+use Rattle.card_core.specs.Attempts.{Attempt}
 use Rattle.card_core.specs.Outcomes.{refused}
 use Rattle.card_core.specs.Served.{CarriesOut, IsDoing, Serves}
 use Rattle.card_core.specs.Sessions.{Session}

@@ -28,7 +28,7 @@ use Rattle.file_tree.specs.Trees.{tree_of}
 use Rattle.card_core.specs.declared.current.Current.{Current}
 use Rattle.card_core.specs.FileGuards.{IsNewFile}
 use Rattle.card_core.specs.Served.{IsDoing, Serves}
-use Rattle.card_core.specs.Spending.{creation_writes}
+use Rattle.card_core.specs.Files.{creation_writes}
 use Rattle.card_core.specs.Standing.{card_of, IsCard}
 use Rattle.card_core.specs.Working.{card_in, current_at, outcome, session_in, session_of, space_in, table_in, IsCurrent}
 use Rattle.card_core.proofs.Creations.{any-creating, any-stage, any-stands, created-current, created-is-card, created-space, filled-card, filled-stands}

@@ -38,7 +38,8 @@ use Rattle.card_core.specs.Reaching.{current_elementary}
 use Rattle.card_core.specs.Sessions.{Session}
 use Rattle.card_core.specs.Selecting.{selecting}
 use Rattle.card_core.specs.Served.{IsDoing}
-use Rattle.card_core.specs.Stages.{commits, life_commits}
+use Rattle.card_core.specs.Stages.{commits}
+use Rattle.card_core.specs.LifeCycles.{life_commits}
 use Rattle.card_core.specs.Standing.{card_of, IsCard}
 use Rattle.card_core.specs.Steps.{effect, refusals_of, served}
 use Rattle.card_core.specs.Working.{current_at, outcome, session_of, verified_in, IsCurrent, IsElementary}

@@ -12,7 +12,8 @@ use Rattle.file_tree.specs.Spaces.{free_space}
 use Rattle.apdu_core.specs.Requests.{Request}
 use Rattle.card_core.specs.declared.current.Current.{Current}
 use Rattle.card_core.specs.Cards.{Card}
-use Rattle.card_core.specs.Pins.{attempt_commits, charged_card, is_right, pin_commits, settled_card, Attempt}
+use Rattle.card_core.specs.Attempts.{attempt_commits, charged_card, is_right, settled_card, Attempt}
+use Rattle.card_core.specs.Pins.{pin_commits}
 use Rattle.card_core.specs.Served.{IsDoing, Serves}
 use Rattle.card_core.specs.Stages.{commits}
 use Rattle.card_core.specs.Working.{card_in, session_in, space_in}

@@ -13,7 +13,7 @@ use Rattle.pin_store.specs.Pages.{pin_at, pin_page, pins_of, ArePinPages, SetsPi
 use Rattle.pin_store.specs.declared.layout.TheConstants.{PINS, PIN_WORDS}
 use Rattle.pin_store.specs.laws.AllPins.{pins_set}
 use Rattle.card_core.specs.Cards.{Pin}
-use Rattle.card_core.specs.Pins.{no_pin, pin_of, with_pin_of}
+use Rattle.card_core.specs.Attempts.{no_pin, pin_of, with_pin_of}
 use Rattle.card_core.specs.Standing.{card_of, IsCard}
 
 -- PIN n of the card is the one of its page

@@ -27,7 +27,7 @@ use Rattle.card_core.specs.declared.record_body.RecordBody.{RecordBody}
 use Rattle.card_core.specs.declared.record_body.RecordBody.TheVariants as bodies
 use Rattle.card_core.specs.Cards.{Card, Kind, Path}
 use Rattle.card_core.specs.Comparing.{attempt_of, comparisons, ComparesBy, ComparesShown}
-use Rattle.card_core.specs.Pins.{Attempt}
+use Rattle.card_core.specs.Attempts.{Attempt}
 use Rattle.card_core.specs.Elementary.{file_refusals, target_kind, target_path}
 use Rattle.card_core.specs.Outcomes.{refused_by, Refusal}
 use Rattle.card_core.specs.Records.{appended_records, capacity_of, has_records, is_linear, no_record}
@@ -35,7 +35,8 @@ use Rattle.card_core.specs.Records.{no_record_length, pointer_after, pointing, r
 use Rattle.card_core.specs.Records.{replaced_number, replaces, target_number, updated_records, with_records_at}
 use Rattle.card_core.specs.Served.{IsDoing, Serves}
 use Rattle.card_core.specs.Sessions.{Session}
-use Rattle.card_core.specs.Spending.{most_writes, record_writes}
+use Rattle.card_core.specs.Spending.{most_writes}
+use Rattle.card_core.specs.Records.{record_writes}
 use Rattle.card_core.specs.Stages.{commits}
 use Rattle.card_core.specs.Standing.{card_of, IsCard}
 use Rattle.card_core.specs.Steps.{effect, refusals_of}

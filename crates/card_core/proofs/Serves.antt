@@ -16,7 +16,7 @@ use Rattle.card_core.specs.Comparing.{attempt_of, comparisons, ComparesBy, Compa
 use Rattle.card_core.specs.Counting.{CountsServed, CountsShown}
 use Rattle.card_core.specs.Cards.{Card}
 use Rattle.card_core.specs.Outcomes.{refused}
-use Rattle.card_core.specs.Pins.{Attempt}
+use Rattle.card_core.specs.Attempts.{Attempt}
 use Rattle.card_core.specs.Sessions.{Session}
 use Rattle.card_core.specs.Served.{IsDoing, Serves}
 use Rattle.card_core.specs.Spending.{most_writes}

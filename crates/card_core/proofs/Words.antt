@@ -13,7 +13,7 @@ use Rattle.card_core.specs.Cards.{Card}
 use Rattle.card_core.specs.Comparing.{attempt_of}
 use Rattle.card_core.specs.Finding.{found}
 use Rattle.card_core.specs.Outcomes.{refused_by}
-use Rattle.card_core.specs.Pins.{Attempt}
+use Rattle.card_core.specs.Attempts.{Attempt}
 use Rattle.card_core.specs.Served.{IsDoing}
 use Rattle.card_core.specs.Sessions.{Session}
 use Rattle.card_core.specs.Stages.{commits, commits_unless}

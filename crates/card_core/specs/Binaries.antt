@@ -4,6 +4,9 @@ use Rattle.std.specs.Prelude.{if◌then◌else◌}
 use Rattle.card_rules.specs.declared.access_mode.AccessBit.TheVariants.{Read, Update}
 use Rattle.card_rules.specs.declared.status.TheConstants.Sw.{DONE, END_REACHED, NO_ROOM, WRONG_OFFSET}
 use Rattle.apdu_core.specs.declared.binary.Target.{Target}
+use Rattle.undo_journal.specs.Spending.{transaction_writes}
+use Rattle.block_chain.specs.Changes.{touched_blocks, touched_words}
+use Rattle.card_core.specs.Behaviours.{Behaviour, changes, looks}
 use Rattle.card_core.specs.Cards.{Card, is_transparent, bytes_of, overwrite, with_content}
 use Rattle.card_core.specs.Elementary.{file_refusals, naming, target_kind, target_path, with_limits}
 use Rattle.card_core.specs.Outcomes.{Outcome, Refusal, Refusals, Response, only_status}
@@ -59,3 +62,14 @@ binary_updated c s target offset bytes = record {
   session = naming s target (target_path c s target);
   response = only_status DONE;
 }
+
+abbrev pub on_read_binary : Target → ℕ → ℕ → Behaviour
+on_read_binary target offset expected =
+    looks (λ c s. read_refusals c s target offset) (λ c s. binary_read c s target offset expected)
+
+-- UPDATE BINARY sets each word that it touches once: of n bytes at most n / 4, rounded up, and one more; they lie in a run for each
+-- block that it touches
+abbrev pub on_update_binary : Target → ℕ → List ℕ → Behaviour
+on_update_binary target offset bytes =
+    changes (λ c s. update_refusals c s target offset bytes) (λ c s. binary_updated c s target offset bytes)
+    (transaction_writes (touched_words offset (length bytes)) (touched_blocks offset (length bytes)))

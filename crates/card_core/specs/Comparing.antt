@@ -1,15 +1,13 @@
 -- Which comparisons a request makes, and that each costs a lasting try (ISO/IEC 7816-4, clause 11, basic security handling).
-use Rattle.std.specs.Prelude.{◌≡◌, ◌⊎◌, ◌<◌, ◌+◌, ◌-◌, ℕ, List, slice_set, Option, option_map, Some, None, Result, Ok, Err}
+use Rattle.std.specs.Prelude.{◌≡◌, ◌⊎◌, ◌<◌, ◌+◌, ◌-◌, ℕ, List, slice_set, Option, Some, None, Result, Ok, Err}
 use Rattle.card_rules.specs.declared.status.Sw.{Sw}
 use Rattle.nvm_board.specs.Facts.{Facts, RisesAt, raised}
-use Rattle.apdu_core.specs.Requests.{Request, select, read_binary, update_binary, create_file, delete_file}
-use Rattle.apdu_core.specs.Requests.{read_record, update_record, append_record, search_record, increase}
-use Rattle.apdu_core.specs.Requests.{change_life_cycle, terminate_card_usage, verify, change_reference_data}
-use Rattle.apdu_core.specs.Requests.{reset_retry_counter}
+use Rattle.apdu_core.specs.Requests.{Request}
 use Rattle.pin_store.specs.declared.layout.TheConstants.{PINS}
 use Rattle.pin_store.specs.Pins.{charged_pin, full_tries, kept, tries_left}
+use Rattle.card_core.specs.Attempts.{Attempt, pin_of}
 use Rattle.card_core.specs.Cards.{Card, Pin}
-use Rattle.card_core.specs.Pins.{Attempt, changing, pin_of, resetting, verifying}
+use Rattle.card_core.specs.Commands.{behaviour_of}
 
 -- the counts of a board, of each secret: how often it was compared, and how often it was what was shown
 pub record Comparisons : Type 0 where
@@ -61,21 +59,7 @@ pub record ComparesAttempt (a : Attempt) (c d : Card) (old new : Comparisons) : 
 
 -- what a request shows of a PIN, if it does
 abbrev pub attempt_of : Request → Option Attempt
-attempt_of (select selection returned expected) = None
-attempt_of (read_binary target offset expected) = None
-attempt_of (update_binary target offset bytes) = None
-attempt_of (create_file template) = None
-attempt_of (delete_file subject) = None
-attempt_of (read_record target choice expected) = None
-attempt_of (update_record target choice bytes) = None
-attempt_of (append_record target bytes) = None
-attempt_of (search_record target first direction text expected) = None
-attempt_of (increase sent expected) = None
-attempt_of (change_life_cycle change subject) = None
-attempt_of terminate_card_usage = None
-attempt_of (verify pin shown) = option_map (verifying pin) shown
-attempt_of (change_reference_data pin shown new) = Some (changing pin shown new)
-attempt_of (reset_retry_counter pin values) = option_map (λ values. resetting pin values.0 values.1) values
+attempt_of request = (behaviour_of request).shown
 
 -- a request that shows no secret makes no comparison
 abbrev pub ComparesShown : Option Attempt → Card → Comparisons → Card → Comparisons → Type 0

@@ -6,7 +6,7 @@ use Rattle.apdu_core.specs.Requests.{Request}
 use Rattle.card_core.specs.Cards.{Card}
 use Rattle.card_core.specs.Comparing.{attempt_of}
 use Rattle.card_core.specs.Outcomes.{refused_by}
-use Rattle.card_core.specs.Pins.{Attempt}
+use Rattle.card_core.specs.Attempts.{Attempt}
 use Rattle.card_core.specs.Sessions.{Session}
 use Rattle.card_core.specs.Steps.{refusals_of}
 

@@ -8,7 +8,7 @@ use Rattle.apdu_core.specs.declared.binary.Target.{Target}
 use Rattle.apdu_core.specs.declared.binary.Target.TheVariants.{Current, Short}
 use Rattle.card_core.specs.Cards.{Card, Path, Kind, file_at, identifier, parent}
 use Rattle.card_core.specs.Guards.{barred_file, denied}
-use Rattle.card_core.specs.Outcomes.{Refusal, Refusals}
+use Rattle.card_core.specs.Outcomes.{Refusal, Refusals, no_refusals}
 use Rattle.card_core.specs.Reaching.{target_of}
 use Rattle.card_core.specs.Sessions.{Session, at_elementary_file}
 
@@ -28,13 +28,11 @@ missing (Short n) = FILE_NOT_FOUND
 -- What refuses each command on contents by its file: none is named; it is barred; its structure isn't one that the command is
 -- for; its rule doesn't allow what the command does.
 abbrev pub file_refusals : Card → Session → Target → (Kind → Bool) → AccessBit → Refusals
-file_refusals c s target fits bit = record {
+file_refusals c s target fits bit = record no_refusals {
   target = record { applies = is_none (target_of c.tree s target); status = missing target } ∷ [];
   life_cycle = barred_file c (target_path c s target) ∷ [];
   structure = record { applies = not (fits (target_kind c s target)); status = WRONG_STRUCTURE } ∷ [];
-  template = [];
   access = denied c s (target_path c s target) bit ∷ [];
-  limits = [];
 }
 
 -- and further by what the contents are

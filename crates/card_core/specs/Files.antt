@@ -1,5 +1,5 @@
 -- Commands on files as such: CREATE FILE and DELETE FILE (ISO/IEC 7816-9).
-use Rattle.std.specs.Prelude.{◌==◌, ◌||◌, ℕ, List, [], ◌∷◌, ◌++◌, length, not, nat_eq, None, is_none, unwrap_or}
+use Rattle.std.specs.Prelude.{◌+◌, ◌==◌, ◌||◌, ℕ, List, [], ◌∷◌, ◌++◌, length, not, nat_eq, None, is_none, unwrap_or}
 use Rattle.std.specs.Prelude.{Bool, true, false, Result, Ok, Err}
 use Rattle.std.specs.FinMap.{insert, retain_keys}
 use Rattle.std.specs.List.{starts_with}
@@ -14,11 +14,13 @@ use Rattle.fcp_template.specs.declared.fcp.FileKind.{FileKind}
 use Rattle.fcp_template.specs.declared.fcp.FileKind.TheVariants.{Df, Transparent, Linear, Cyclic}
 use Rattle.fcp_template.specs.Function.{fcp_read}
 use Rattle.fcp_template.specs.Views.{name_bytes, short_of_kind}
+use Rattle.undo_journal.specs.Spending.{transaction_writes}
 use Rattle.file_tree.specs.NewFiles.{has_name, has_no_room, has_short_given, new_file, short_of_new}
 use Rattle.apdu_core.specs.declared.files.Subject.{Subject}
+use Rattle.card_core.specs.Behaviours.{Behaviour, changes}
 use Rattle.card_core.specs.Cards.{Card, Path, exists, parent}
 use Rattle.card_core.specs.Guards.{allowed, barred_above, barred_file, denied, unless_allowed}
-use Rattle.card_core.specs.Outcomes.{Outcome, Refusal, Refusals, only_status}
+use Rattle.card_core.specs.Outcomes.{Outcome, Refusal, Refusals, no_refusals, only_status}
 use Rattle.card_core.specs.Reaching.{subject_of}
 use Rattle.card_core.specs.Selecting.{selecting}
 use Rattle.card_core.specs.Sessions.{Session, at_dedicated_file}
@@ -30,15 +32,12 @@ subject_path c s subject = unwrap_or (subject_of c.tree s subject) []
 -- What refuses DELETE FILE: no such file; the master file, which can't be deleted; a file above it is deactivated or terminated,
 -- while the file itself may be; neither its own rule allows it nor, for the files in it, that of its parent.
 abbrev pub delete_refusals : Card → Session → Subject → Refusals
-delete_refusals c s subject = record {
+delete_refusals c s subject = record no_refusals {
   target = record { applies = is_none (subject_of c.tree s subject); status = FILE_NOT_FOUND }
       ∷ record { applies = length (subject_path c s subject) == 0; status = CONDITIONS_NOT_SATISFIED } ∷ [];
   life_cycle = barred_above c (subject_path c s subject) ∷ [];
-  structure = [];
-  template = [];
   access = unless_allowed (allowed c s (subject_path c s subject) DeleteSelf
       || allowed c s (parent (subject_path c s subject)) DeleteChild) ∷ [];
-  limits = [];
 }
 
 -- a card without the file at a path and all files below it: those whose paths begin with it
@@ -55,6 +54,15 @@ file_deleted c s subject = record {
   session = at_dedicated_file s (parent (subject_path c s subject));
   response = only_status DONE;
 }
+
+-- It sets at most a word of each of 64 entries, a link of each of 64 chains, and the word of the header that tells of the first free
+-- block.
+abbrev pub deletion_writes : ℕ
+deletion_writes = transaction_writes 129 129
+
+abbrev pub on_delete_file : Subject → Behaviour
+on_delete_file subject =
+    changes (λ c s. delete_refusals c s subject) (λ c s. file_deleted c s subject) deletion_writes
 
 -- the file control parameters that a template tells; where it tells none, those of no file, and the command is refused
 abbrev pub no_parameters : Fcp
@@ -89,10 +97,8 @@ creation_bit (Cyclic short records) = CreateEf
 -- What refuses CREATE FILE: the current dedicated file is barred; a template that tells of no file; the rule of the current
 -- dedicated file doesn't allow a file of this kind in it; what the file would need is taken.
 abbrev pub create_refusals : Card → Session → List ℕ → Refusals
-create_refusals c s template = record {
-  target = [];
+create_refusals c s template = record no_refusals {
   life_cycle = barred_file c s.current_df ∷ [];
-  structure = [];
   template = record { applies = tells_none (fcp_read template); status = WRONG_DATA } ∷ [];
   access = denied c s s.current_df (creation_bit (told_by (fcp_read template)).kind) ∷ [];
   limits = place_refusals c s.current_df (told_by (fcp_read template));
@@ -120,3 +126,12 @@ new_outcome c s fcp =
 
 abbrev pub file_created : Card → Session → List ℕ → Outcome
 file_created c s template = new_outcome c s (told_by (fcp_read template))
+
+-- It fills the blocks of the largest file, 547, one write each, and sets 11 words of its entry, which are one run, the link of its
+-- last block, and the header's word of the first free block.
+abbrev pub creation_writes : ℕ
+creation_writes = 547 + transaction_writes 13 3
+
+abbrev pub on_create_file : List ℕ → Behaviour
+on_create_file template =
+    changes (λ c s. create_refusals c s template) (λ c s. file_created c s template) creation_writes

@@ -6,11 +6,13 @@ use Rattle.apdu_core.specs.declared.binary.Target.TheVariants.{Current}
 use Rattle.ef_body.specs.Numbers.{spelled}
 use Rattle.ef_body.specs.Records.{front}
 use Rattle.ef_body.specs.Refusals.{raised_number}
+use Rattle.card_core.specs.Behaviours.{Behaviour, changes}
 use Rattle.card_core.specs.Cards.{Card, Kind}
 use Rattle.card_core.specs.Elementary.{file_refusals, target_kind, target_path, with_limits}
 use Rattle.card_core.specs.Lengths.{given, length_refusal}
 use Rattle.card_core.specs.Outcomes.{Outcome, Refusals}
-use Rattle.card_core.specs.Records.{is_cyclic, no_record, pointing, record_length, records_of, with_records_at}
+use Rattle.card_core.specs.Records.{is_cyclic, no_record, pointing, record_length, record_writes, records_of}
+use Rattle.card_core.specs.Records.{with_records_at}
 use Rattle.card_core.specs.Sessions.{Session}
 
 -- the current file, and its records
@@ -50,3 +52,7 @@ increased c s sent expected = record {
   session = pointing s Current (target_path c s Current) (Some 1);
   response = record { text = given expected (increased_data c s sent); status = DONE };
 }
+
+abbrev pub on_increase : List ℕ → Option ℕ → Behaviour
+on_increase sent expected =
+    changes (λ c s. increase_refusals c s sent expected) (λ c s. increased c s sent expected) record_writes

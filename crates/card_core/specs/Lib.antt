@@ -4,6 +4,8 @@ pub mod Cards
 pub mod Sessions
 pub mod Reaching
 pub mod Outcomes
+pub mod Attempts
+pub mod Behaviours
 pub mod Lengths
 pub mod Templates
 pub mod Selecting
@@ -15,6 +17,7 @@ pub mod Records
 pub mod Increasing
 pub mod LifeCycles
 pub mod Pins
+pub mod Commands
 pub mod Steps
 pub mod Stages
 pub mod Spending

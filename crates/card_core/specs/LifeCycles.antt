@@ -1,6 +1,7 @@
 -- Commands on life cycles: ACTIVATE FILE, DEACTIVATE FILE, TERMINATE DF, TERMINATE EF and TERMINATE CARD USAGE
 -- (ISO/IEC 7816-9).
-use Rattle.std.specs.Prelude.{Bool, true, false, not, [], ◌∷◌, Option, Some, is_none, unwrap_or}
+use Rattle.std.specs.Prelude.{◌==◌, ℕ, Bool, true, false, not, if◌then◌else◌, List, [], ◌∷◌}
+use Rattle.std.specs.Prelude.{Option, Some, is_none, unwrap_or}
 use Rattle.std.specs.FinMap.{insert}
 use Rattle.card_rules.specs.declared.access_mode.AccessBit.{AccessBit}
 use Rattle.card_rules.specs.declared.access_mode.AccessBit.TheVariants as bit
@@ -9,14 +10,17 @@ use Rattle.card_rules.specs.declared.life_cycle.LifeCycleCommand.{LifeCycleComma
 use Rattle.card_rules.specs.declared.life_cycle.LifeCycleCommand.TheVariants as command
 use Rattle.card_rules.specs.declared.status.Sw.{Sw}
 use Rattle.card_rules.specs.declared.status.TheConstants.Sw.{DONE, FILE_NOT_FOUND, NO_CURRENT_EF, WRONG_STRUCTURE}
+use Rattle.card_rules.specs.LifeCycle.{life_cycle_byte}
 use Rattle.apdu_core.specs.declared.files.Subject.{Subject}
 use Rattle.apdu_core.specs.declared.files.Subject.TheVariants.{Current, Identifier}
 use Rattle.apdu_core.specs.declared.life_cycles.LifeCycleChange.{LifeCycleChange}
 use Rattle.apdu_core.specs.declared.life_cycles.LifeCycleChange.TheVariants.{Activate, Deactivate, TerminateDf, TerminateEf}
+use Rattle.undo_journal.specs.Spending.{transaction_writes}
 use Rattle.file_tree.specs.States.{life_at, next_life, with_life}
+use Rattle.card_core.specs.Behaviours.{Behaviour, changes}
 use Rattle.card_core.specs.Cards.{Card, Kind, Path, Tree, dedicated, elementary, file_at}
 use Rattle.card_core.specs.Guards.{denied, no_next_life}
-use Rattle.card_core.specs.Outcomes.{Outcome, Refusals, only_status}
+use Rattle.card_core.specs.Outcomes.{Outcome, Refusals, no_refusals, only_status}
 use Rattle.card_core.specs.Reaching.{current_elementary, subject_of}
 use Rattle.card_core.specs.Selecting.{selecting}
 use Rattle.card_core.specs.Sessions.{Session}
@@ -69,13 +73,11 @@ no_subject (Identifier id) = FILE_NOT_FOUND
 abbrev pub change_refusals : Card → Session → LifeCycleChange → Subject → Refusals
 change_refusals c s change subject =
     let path = changed_path c s change subject in
-    record {
+    record no_refusals {
       target = record { applies = is_none (changed_file c.tree s change subject); status = no_subject subject } ∷ [];
       life_cycle = no_next_life c path (command_of change) ∷ [];
       structure = record { applies = not (is_for change (file_at c.tree path).kind); status = WRONG_STRUCTURE } ∷ [];
-      template = [];
       access = denied c s path (change_bit change) ∷ [];
-      limits = [];
     }
 
 -- the state after the change; where there is none, the command is refused
@@ -101,16 +103,26 @@ life_changed c s change subject =
       response = only_status DONE;
     }
 
+-- a change to the state that a file has already commits nothing
+abbrev pub life_commits : Card → Session → LifeCycleChange → Subject → List Card
+life_commits c s change subject =
+    if life_cycle_byte (changed_life c s change subject)
+    == life_cycle_byte (life_at c.tree (changed_path c s change subject)) then [] else
+    changed_card c s change subject ∷ []
+
+-- one word: the first of an entry, or that of the card's state
+abbrev pub life_writes : ℕ
+life_writes = transaction_writes 1 1
+
+abbrev pub on_change_life_cycle : LifeCycleChange → Subject → Behaviour
+on_change_life_cycle change subject =
+    record (changes (λ c s. change_refusals c s change subject) (λ c s. life_changed c s change subject) life_writes) {
+      commits = λ c s. life_commits c s change subject;
+    }
+
 -- TERMINATE CARD USAGE asks the rule of the master file alone
 abbrev pub terminate_card_refusals : Card → Session → Refusals
-terminate_card_refusals c s = record {
-  target = [];
-  life_cycle = [];
-  structure = [];
-  template = [];
-  access = denied c s [] bit.Terminate ∷ [];
-  limits = [];
-}
+terminate_card_refusals c s = record no_refusals { access = denied c s [] bit.Terminate ∷ [] }
 
 -- a card whose use has ended
 abbrev pub terminated_card : Card → Card
@@ -118,3 +130,6 @@ terminated_card c = record c { in_use = false }
 
 abbrev pub card_terminated : Card → Session → Outcome
 card_terminated c s = record { card = terminated_card c; session = s; response = only_status DONE }
+
+abbrev pub on_terminate_card_usage : Behaviour
+on_terminate_card_usage = changes terminate_card_refusals card_terminated life_writes

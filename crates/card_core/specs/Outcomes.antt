@@ -43,6 +43,10 @@ pub record Refusals : Type 0 where
   -- names that are taken, sizes, contents, and the length of the answer
   pub limits : List Refusal
 
+-- nothing refuses it
+abbrev pub no_refusals : Refusals
+no_refusals = record { target = []; life_cycle = []; structure = []; template = []; access = []; limits = [] }
+
 -- the order in which refusals count, for all commands
 abbrev pub in_order : Refusals → List Refusal
 in_order refusals =

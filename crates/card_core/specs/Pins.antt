@@ -1,44 +1,19 @@
 -- Commands on PINs: VERIFY, CHANGE REFERENCE DATA and RESET RETRY COUNTER (ISO/IEC 7816-4, 11.5 and 11.6).
-use Rattle.std.specs.Prelude.{ℕ, ◌+◌, ◌-◌, ◌==◌, ◌&&◌, not, nat_eq, Bool, true, false, if◌then◌else◌, List, [], ◌∷◌, slice_index_or}
-use Rattle.std.specs.Prelude.{slice_set, Option, Some, None}
+use Rattle.std.specs.Prelude.{ℕ, ◌+◌, ◌==◌, Bool, true, false, List, [], ◌∷◌, Option, option_map, Some, None}
 use Rattle.std.specs.FinSet.{insert, remove}
-use Rattle.std.specs.Cmp.Lexicographic.{pointwise}
+use Rattle.std.specs.Option.{option_map_or}
 use Rattle.card_rules.specs.declared.status.Sw.{Sw}
 use Rattle.card_rules.specs.declared.status.TheConstants.Sw.{DONE, METHOD_BLOCKED}
-use Rattle.pin_store.specs.declared.layout.TheConstants.{PINS}
-use Rattle.pin_store.specs.Pins.{changed_pin, charged_pin, kept, reset_pin, tries_left, verified_pin}
-use Rattle.card_core.specs.Cards.{Card, Pin}
-use Rattle.card_core.specs.Outcomes.{Outcome, Refusals, only_status}
+use Rattle.undo_journal.specs.Spending.{transaction_writes}
+use Rattle.pin_store.specs.Pins.{changed_pin, reset_pin, verified_pin}
+pub use Rattle.card_core.specs.Attempts.{Attempt, no_pin, pin_of, unblocking_of, value_of}
+use Rattle.card_core.specs.Attempts.{attempt_commits, charged_card, is_right, settled_card, tries_of}
+use Rattle.card_core.specs.Behaviours.{Behaviour}
+use Rattle.card_core.specs.Cards.{Card}
+use Rattle.card_core.specs.Outcomes.{Outcome, Refusals, no_refusals, only_status}
 use Rattle.card_core.specs.Sessions.{Session}
 
--- PIN n of a card: PIN 1 is the first
-abbrev pub no_pin : Pin
-no_pin = record { value = []; tries = 0; unblocking = []; unblocking_tries = 0 }
-
-abbrev pub pin_of : Card → ℕ → Pin
-pin_of c n = slice_index_or c.pins (n - 1) no_pin
-
--- a card whose PIN n is this one
-abbrev pub with_pin_of : Card → ℕ → Pin → Card
-with_pin_of c n pin = record c { pins = slice_set c.pins (n - 1) pin }
-
--- the secrets of PIN n: its value, and the value that unblocks it
-abbrev pub value_of : ℕ → ℕ
-value_of n = n - 1
-
-abbrev pub unblocking_of : ℕ → ℕ
-unblocking_of n = PINS + (n - 1)
-
--- A secret of a PIN is shown: which one, and what is shown of it; what the PIN becomes where that is right, and whether a new
--- value is set with it; and whether it is no longer verified where it is wrong.
-pub record Attempt : Type 0 where
-  pub pin : ℕ
-  pub secret : ℕ
-  pub shown : List ℕ
-  pub becomes : Pin → Pin
-  pub renews : Bool
-  pub unverifies : Bool
-
+-- what each command shows, and what comes of it
 abbrev pub verifying : ℕ → List ℕ → Attempt
 verifying n shown = record {
   pin = n;
@@ -69,43 +44,19 @@ resetting n shown new = record {
   unverifies = false;
 }
 
--- the tries that are left of a secret of PIN n
-abbrev pub tries_of : Card → ℕ → ℕ → ℕ
-tries_of c n secret = tries_left secret (pin_of c n)
-
 -- 63CX: X tries are left
 abbrev pub tries_told : ℕ → Sw
 tries_told tries = record { 0 = 0x63C0 + tries }
 
 -- an attempt is refused where no try is left, and nothing is compared then; a question for the tries never is
 abbrev pub attempt_refusals : Card → Attempt → Refusals
-attempt_refusals c a = record {
-  target = [];
-  life_cycle = [];
-  structure = [];
-  template = [];
-  access = [];
+attempt_refusals c a = record no_refusals {
   limits = record { applies = tries_of c a.pin a.secret == 0; status = METHOD_BLOCKED } ∷ [];
 }
-
-abbrev pub no_refusals : Refusals
-no_refusals = record { target = []; life_cycle = []; structure = []; template = []; access = []; limits = [] }
 
 abbrev pub pin_refusals : Card → Option Attempt → Refusals
 pin_refusals c None = no_refusals
 pin_refusals c (Some a) = attempt_refusals c a
-
--- a try is taken away before anything is compared
-abbrev pub charged_card : Card → Attempt → Card
-charged_card c a = with_pin_of c a.pin (charged_pin a.secret (pin_of c a.pin))
-
--- whether what is shown is what the PIN keeps
-abbrev pub is_right : Card → Attempt → Bool
-is_right c a = pointwise nat_eq (kept a.secret (pin_of c a.pin)) a.shown
-
--- after the charge, where it is right, the PIN is set
-abbrev pub settled_card : Card → Attempt → Card
-settled_card c a = let charged = charged_card c a in with_pin_of charged a.pin (a.becomes (pin_of charged a.pin))
 
 -- a PIN that was shown is verified; one whose value was shown wrong no longer is
 abbrev pub verifying_session : Session → Attempt → Session
@@ -139,18 +90,38 @@ abbrev pub pin_effect : Card → Session → ℕ → ℕ → Option Attempt → 
 pin_effect c s n secret None = told_tries c s n secret
 pin_effect c s n secret (Some a) = attempted c s a
 
--- The cards that an attempt passes: the charge lasts by itself.
-abbrev pub attempt_commits : Card → Attempt → List Card
-attempt_commits c a = charged_card c a ∷ (if is_right c a then settled_card c a ∷ [] else [])
-
+-- and the cards that it passes
 abbrev pub pin_commits : Card → Option Attempt → List Card
 pin_commits c None = []
 pin_commits c (Some a) = attempt_commits c a
 
--- those that the word of the tries commits: the charge, and where no new value is set what a right value renews
-abbrev pub tries_commits : Card → Attempt → List Card
-tries_commits c a = charged_card c a ∷ (if is_right c a && not a.renews then settled_card c a ∷ [] else [])
+-- A charge is one write by itself. After a match VERIFY sets the tries by another one, CHANGE REFERENCE DATA sets three words in a
+-- transaction, the tries and then the value, and RESET RETRY COUNTER four successive ones.
+abbrev pub verify_writes : ℕ
+verify_writes = 1 + 1
 
--- and those that a transaction commits: a new value, with the tries
-abbrev pub value_commits : Card → Attempt → List Card
-value_commits c a = if is_right c a && a.renews then settled_card c a ∷ [] else []
+abbrev pub change_writes : ℕ
+change_writes = 1 + transaction_writes 3 2
+
+abbrev pub reset_writes : ℕ
+reset_writes = 1 + transaction_writes 4 1
+
+-- a command on a secret of PIN n: it shows the secret, by at most so many writes, or asks for the tries that are left of it
+abbrev pub shows : ℕ → ℕ → Option Attempt → ℕ → Behaviour
+shows n secret shown most = record {
+  refusals = λ c s. pin_refusals c shown;
+  effect = λ c s. pin_effect c s n secret shown;
+  commits = λ c s. pin_commits c shown;
+  most_writes = option_map_or (λ a. most) shown 0;
+  shown = shown;
+}
+
+abbrev pub on_verify : ℕ → Option (List ℕ) → Behaviour
+on_verify n shown = shows n (value_of n) (option_map (verifying n) shown) verify_writes
+
+abbrev pub on_change_reference_data : ℕ → List ℕ → List ℕ → Behaviour
+on_change_reference_data n shown new = shows n (value_of n) (Some (changing n shown new)) change_writes
+
+abbrev pub on_reset_retry_counter : ℕ → Option (List ℕ × List ℕ) → Behaviour
+on_reset_retry_counter n values =
+    shows n (unblocking_of n) (option_map (λ values. resetting n values.0 values.1) values) reset_writes

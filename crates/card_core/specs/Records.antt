@@ -14,10 +14,12 @@ use Rattle.apdu_core.specs.declared.records.RecordChoice.{RecordChoice}
 use Rattle.apdu_core.specs.declared.records.RecordChoice.TheVariants.{Next, Previous, At}
 use Rattle.apdu_core.specs.declared.records.Direction.{Direction}
 use Rattle.apdu_core.specs.declared.records.Direction.TheVariants as ways
+use Rattle.undo_journal.specs.Spending.{transaction_writes}
 use Rattle.ef_body.specs.declared.search.Direction.{Direction as SearchDirection}
 use Rattle.ef_body.specs.declared.search.Direction.TheVariants as searches
 use Rattle.ef_body.specs.Records.{front, has_record, record_of}
 use Rattle.ef_body.specs.Searching.{found}
+use Rattle.card_core.specs.Behaviours.{Behaviour, changes, looks}
 use Rattle.card_core.specs.Cards.{Card, Kind, Path, linear, cyclic, elementary, file_at}
 use Rattle.card_core.specs.Elementary.{file_refusals, naming, target_kind, target_path, with_limits}
 use Rattle.card_core.specs.Lengths.{given, length_refusal, right_length}
@@ -136,6 +138,14 @@ record_read c s target choice =
       response = record { text = record_of (records_of (target_kind c s target)) number; status = DONE };
     }
 
+abbrev pub on_read_record : Target → RecordChoice → ℕ → Behaviour
+on_read_record target choice expected =
+    looks (λ c s. read_record_refusals c s target choice expected) (λ c s. record_read c s target choice)
+
+-- A record of 255 bytes touches 65 words at most, in 6 blocks, and one word of the entry tells of the records.
+abbrev pub record_writes : ℕ
+record_writes = transaction_writes 66 7
+
 -- Of a cyclic file UPDATE RECORD replaces the oldest record alone, which is the one before record 1: another one is refused as
 -- one of a structure that the command isn't for.
 abbrev pub is_oldest : RecordChoice → Bool
@@ -178,6 +188,11 @@ record_updated c s target choice bytes =
       response = only_status DONE;
     }
 
+abbrev pub on_update_record : Target → RecordChoice → List ℕ → Behaviour
+on_update_record target choice bytes =
+    changes (λ c s. update_record_refusals c s target choice bytes) (λ c s. record_updated c s target choice bytes)
+    record_writes
+
 -- APPEND RECORD: a linear file that is full is refused, and a cyclic one drops its last record
 abbrev pub append_refusals : Card → Session → Target → List ℕ → Refusals
 append_refusals c s target bytes =
@@ -204,6 +219,10 @@ record_appended c s target bytes =
       session = pointing s target (target_path c s target) (Some number);
       response = only_status DONE;
     }
+
+abbrev pub on_append_record : Target → List ℕ → Behaviour
+on_append_record target bytes =
+    changes (λ c s. append_refusals c s target bytes) (λ c s. record_appended c s target bytes) record_writes
 
 -- SEARCH RECORD: from the record that is named on, up to the last or down to the first
 abbrev pub searching : Direction → SearchDirection
@@ -237,3 +256,8 @@ records_searched c s target first direction text expected =
       session = pointing s target (target_path c s target) (pointer_found (pointer_at s target) numbers);
       response = record { text = given expected numbers; status = search_status numbers };
     }
+
+abbrev pub on_search_record : Target → RecordPlace → Direction → List ℕ → Option ℕ → Behaviour
+on_search_record target first direction text expected =
+    looks (λ c s. search_refusals c s target first direction text expected)
+    (λ c s. records_searched c s target first direction text expected)

@@ -9,9 +9,10 @@ use Rattle.card_rules.specs.declared.life_cycle.LifeCycle.TheVariants.{Activated
 use Rattle.apdu_core.specs.declared.select.Returned.{Returned}
 use Rattle.apdu_core.specs.declared.select.Returned.TheVariants.{Template, Nothing}
 use Rattle.apdu_core.specs.Selections.{Selection}
+use Rattle.card_core.specs.Behaviours.{Behaviour, looks}
 use Rattle.card_core.specs.Cards.{Card, Path, Kind, Tree, dedicated, elementary, file_at, identifier, parent}
 use Rattle.card_core.specs.Lengths.{given, length_refusal}
-use Rattle.card_core.specs.Outcomes.{Outcome, Refusals}
+use Rattle.card_core.specs.Outcomes.{Outcome, Refusals, no_refusals}
 use Rattle.card_core.specs.Reaching.{selected_from}
 use Rattle.card_core.specs.Sessions.{Session, at_dedicated_file, at_elementary_file}
 use Rattle.card_core.specs.Templates.{template_at}
@@ -43,12 +44,8 @@ selected_data c s selection returned = selection_data returned c.tree (selected_
 
 -- What refuses SELECT: no file is reached; Le asks for less than its data. Neither life cycles nor access rules bar it.
 abbrev pub select_refusals : Card → Session → Selection → Returned → Option ℕ → Refusals
-select_refusals c s selection returned expected = record {
+select_refusals c s selection returned expected = record no_refusals {
   target = record { applies = is_none (selected_from c.tree s.current_df selection); status = FILE_NOT_FOUND } ∷ [];
-  life_cycle = [];
-  structure = [];
-  template = [];
-  access = [];
   limits = length_refusal expected (selected_data c s selection returned) ∷ [];
 }
 
@@ -65,3 +62,7 @@ selected c s selection returned expected =
         status = selection_status file.life;
       };
     }
+
+abbrev pub on_select : Selection → Returned → Option ℕ → Behaviour
+on_select selection returned expected =
+    looks (λ c s. select_refusals c s selection returned expected) (λ c s. selected c s selection returned expected)

@@ -9,7 +9,7 @@ use Rattle.card_core.specs.Cards.{Card}
 use Rattle.card_core.specs.Comparing.{attempt_of}
 use Rattle.card_core.specs.Finding.{Finds, found}
 use Rattle.card_core.specs.Outcomes.{refused_by}
-use Rattle.card_core.specs.Pins.{Attempt, tries_commits, value_commits}
+use Rattle.card_core.specs.Attempts.{Attempt, tries_commits, value_commits}
 use Rattle.card_core.specs.Sessions.{Session}
 use Rattle.card_core.specs.Stages.{commits, commits_unless}
 use Rattle.card_core.specs.Steps.{refusals_of}

@@ -6,48 +6,19 @@ use Rattle.std.proofs.lemmas.List.{length-append}
 use Rattle.std.proofs.lemmas.List.Elements.{All-append}
 use Rattle.card_rules.specs.declared.status.Sw.{Sw}
 use Rattle.card_rules.specs.declared.status.TheConstants.Sw.{CONDITIONS_NOT_SATISFIED}
-use Rattle.apdu_core.specs.declared.binary.Target.{Target}
-use Rattle.apdu_core.specs.declared.binary.Target.TheVariants.{Current, Short}
-use Rattle.apdu_core.specs.declared.files.Subject.{Subject}
-use Rattle.apdu_core.specs.declared.files.Subject.TheVariants as subjects
 use Rattle.apdu_core.specs.Asked.{asked}
 use Rattle.apdu_core.specs.OfBytes.{AreBytes, IsOfBytes, IsStatusWord}
-use Rattle.apdu_core.specs.Requests.{Request, select, read_binary, update_binary, create_file, delete_file}
-use Rattle.apdu_core.specs.Requests.{read_record, update_record, append_record, search_record, increase}
-use Rattle.apdu_core.specs.Requests.{change_life_cycle, terminate_card_usage, verify, change_reference_data}
-use Rattle.apdu_core.specs.Requests.{reset_retry_counter}
+use Rattle.apdu_core.specs.Requests.{Request}
 use Rattle.apdu_core.specs.laws.ByteLaws.{asked-of_bytes}
-use Rattle.pin_store.specs.laws.AllPins.{changed_few, reset_few, verified_few}
 use Rattle.card_core.specs.Cards.{Card}
-use Rattle.card_core.specs.Elementary.{missing}
-use Rattle.card_core.specs.LifeCycles.{no_subject}
 use Rattle.card_core.specs.Outcomes.{Outcome, Refusal, Response, answer_bytes, first_applying, in_order, refused}
 use Rattle.card_core.specs.Outcomes.{refused_by, unless_refused}
-use Rattle.card_core.specs.Pins.{changing, resetting, unblocking_of, value_of, verifying}
 use Rattle.card_core.specs.Proper.{IsAnswer, IsProper}
 use Rattle.card_core.specs.Sessions.{Session}
 use Rattle.card_core.specs.Steps.{carried_out, effect, outcome_of, refusals_of, served, step}
-use Rattle.card_core.specs.laws.BinaryLaws.{fine-read, fine-update}
-use Rattle.card_core.specs.laws.FileLaws.{fine-create, fine-delete, fine-selected}
-use Rattle.card_core.specs.laws.IncreaseLaws.{fine-increased}
-use Rattle.card_core.specs.laws.LifeLaws.{fine-card_terminated, fine-life_changed}
-use Rattle.card_core.specs.laws.PinLaws.{fine-attempted, fine-told}
+use Rattle.card_core.specs.laws.CommandLaws.{lawful}
+use Rattle.card_core.specs.laws.Lawful.{AreWords}
 use Rattle.card_core.specs.laws.ProperLaws.{IsFine, IsShort, either-if, short-status}
-use Rattle.card_core.specs.laws.RecordLaws.{fine-record_appended, fine-record_read, fine-record_updated}
-use Rattle.card_core.specs.laws.RecordLaws.{fine-records_searched}
-
--- the status words of refusals
-missing-word : (target : Target) → IsStatusWord (missing target)
-missing-word Current = lit< tt
-missing-word (Short n) = lit< tt
-
-subject-word : (subject : Subject) → IsStatusWord (no_subject subject)
-subject-word subjects.Current = lit< tt
-subject-word (subjects.Identifier id) = lit< tt
-
-abbrev AreWords : List Refusal → Type 0
-AreWords [] = Unit {0}
-AreWords (refusal ∷ refusals) = IsStatusWord refusal.status × AreWords refusals
 
 abbrev IsWordOrNone : Option Sw → Type 0
 IsWordOrNone None = Unit {0}
@@ -62,31 +33,7 @@ word-first (refusal ∷ refusals) words =
 -- each refusal of each request has one
 word-refusals : (c : Card) (s : Session) (request : Request) → AreWords (in_order (refusals_of c s request))
 unfolding refusals_of
-word-refusals c s (select selection returned expected) = (lit< tt, (omega arith, tt))
-word-refusals c s (read_binary target offset expected) =
-    (missing-word target, (lit< tt, (lit< tt, (lit< tt, (lit< tt, tt)))))
-word-refusals c s (update_binary target offset bytes) =
-    (missing-word target, (lit< tt, (lit< tt, (lit< tt, (lit< tt, (lit< tt, tt))))))
-word-refusals c s (create_file template) =
-    (lit< tt, (lit< tt, (lit< tt, (lit< tt, (lit< tt, (lit< tt, (lit< tt, (lit< tt, tt))))))))
-word-refusals c s (delete_file subject) = (lit< tt, (lit< tt, (lit< tt, (lit< tt, tt))))
-word-refusals c s (read_record target choice expected) =
-    (missing-word target, (lit< tt, (lit< tt, (lit< tt, (lit< tt, (omega arith, tt))))))
-word-refusals c s (update_record target choice bytes) =
-    (missing-word target, (lit< tt, (lit< tt, (lit< tt, (lit< tt, (lit< tt, tt))))))
-word-refusals c s (append_record target bytes) =
-    (missing-word target, (lit< tt, (lit< tt, (lit< tt, (lit< tt, (lit< tt, tt))))))
-word-refusals c s (search_record target first direction text expected) =
-    (missing-word target, (lit< tt, (lit< tt, (lit< tt, (lit< tt, (omega arith, tt))))))
-word-refusals c s (increase sent expected) =
-    (lit< tt, (lit< tt, (lit< tt, (lit< tt, (lit< tt, (lit< tt, (lit< tt, (omega arith, tt))))))))
-word-refusals c s (change_life_cycle change subject) = (subject-word subject, (lit< tt, (lit< tt, (lit< tt, tt))))
-word-refusals c s terminate_card_usage = (lit< tt, tt)
-word-refusals c s (verify pin None) = tt
-word-refusals c s (verify pin (Some shown)) = (lit< tt, tt)
-word-refusals c s (change_reference_data pin shown new) = (lit< tt, tt)
-word-refusals c s (reset_retry_counter pin None) = tt
-word-refusals c s (reset_retry_counter pin (Some values)) = (lit< tt, tt)
+word-refusals c s request = (lawful request).words c s
 
 -- a refusal leaves the card
 fine-refused : (c : Card) (s : Session) (status : Sw) → IsProper c → IsStatusWord status → IsFine (refused c s status)
@@ -96,34 +43,7 @@ fine-refused c s status proper word = record { card = proper; response = short-s
 fine-effect : (c : Card) (s : Session) (request : Request) → IsProper c → IsOfBytes request
     → refused_by (refusals_of c s request) ≡ None → IsFine (effect c s request)
 unfolding effect refusals_of
-fine-effect c s (select selection returned expected) proper small unrefused =
-    fine-selected c s proper selection returned expected
-fine-effect c s (read_binary target offset expected) proper small unrefused =
-    fine-read c s proper target offset expected small
-fine-effect c s (update_binary target offset bytes) proper all unrefused =
-    fine-update c s proper target offset bytes all unrefused
-fine-effect c s (create_file template) proper all unrefused = fine-create c s proper template all
-fine-effect c s (delete_file subject) proper small unrefused = fine-delete c s proper subject
-fine-effect c s (read_record target choice expected) proper small unrefused =
-    fine-record_read c s proper target choice
-fine-effect c s (update_record target choice bytes) proper all unrefused =
-    fine-record_updated c s proper target choice bytes all unrefused
-fine-effect c s (append_record target bytes) proper all unrefused =
-    fine-record_appended c s proper target bytes all unrefused
-fine-effect c s (search_record target first direction text expected) proper all unrefused =
-    fine-records_searched c s proper target first direction text expected unrefused
-fine-effect c s (increase sent expected) proper all unrefused = fine-increased c s proper sent all.0 expected unrefused
-fine-effect c s (change_life_cycle change subject) proper small unrefused =
-    fine-life_changed c s proper change subject unrefused
-fine-effect c s terminate_card_usage proper small unrefused = fine-card_terminated c s proper
-fine-effect c s (verify pin None) proper all unrefused = fine-told c s proper pin (value_of pin)
-fine-effect c s (verify pin (Some shown)) proper all unrefused =
-    fine-attempted c s proper (verifying pin shown) verified_few
-fine-effect c s (change_reference_data pin shown new) proper all unrefused =
-    fine-attempted c s proper (changing pin shown new) (changed_few new)
-fine-effect c s (reset_retry_counter pin None) proper all unrefused = fine-told c s proper pin (unblocking_of pin)
-fine-effect c s (reset_retry_counter pin (Some values)) proper all unrefused =
-    fine-attempted c s proper (resetting pin values.0 values.1) (λ was few. reset_few values.1 was)
+fine-effect c s request = (lawful request).fine c s
 
 fine-unless : (c : Card) (s : Session) (refusal : Option Sw) (done : Outcome) → IsProper c → IsWordOrNone refusal
     → (refusal ≡ None → IsFine done)

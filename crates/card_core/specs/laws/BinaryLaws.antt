@@ -8,15 +8,19 @@ use Rattle.std.proofs.lemmas.List.Elements.{All-append, All-take, All-drop}
 use Rattle.card_rules.specs.declared.status.TheConstants.Sw.{DONE, END_REACHED}
 use Rattle.apdu_core.specs.declared.binary.Target.{Target}
 use Rattle.apdu_core.specs.OfBytes.{AreBytes}
-use Rattle.card_core.specs.Binaries.{binary_read, binary_updated, read_response, target_bytes, update_refusals}
+use Rattle.apdu_core.specs.Requests.{read_binary, update_binary}
+use Rattle.card_core.specs.Binaries.{binary_read, binary_updated, on_read_binary, on_update_binary, read_response}
+use Rattle.card_core.specs.Binaries.{target_bytes, update_refusals}
 use Rattle.card_core.specs.Cards.{Card, File, Kind, Path, transparent, linear, cyclic, dedicated, elementary, bytes_of}
 use Rattle.card_core.specs.Cards.{file_at, identifier, is_transparent, overwrite, with_bytes, with_content}
 use Rattle.card_core.specs.Elementary.{target_kind, target_path}
 use Rattle.card_core.specs.Outcomes.{refused_by}
 use Rattle.card_core.specs.Proper.{IsContent, IsProper, IsProperKind}
 use Rattle.card_core.specs.Sessions.{Session}
+use Rattle.card_core.specs.laws.Lawful.{Lawful, lawful-unshown, missing-word, same-none, same-one}
 use Rattle.card_core.specs.laws.ProperLaws.{IsFine, IsShort, either-if, no_bytes, proper-file_at, proper-insert}
 use Rattle.card_core.specs.laws.ProperLaws.{short-status, there-identifier, unrefused-each}
+use Rattle.card_core.specs.laws.TouchLaws.{few_blocks, few_words}
 
 -- the bytes that a file holds, if it holds bytes
 empty-content : IsContent []
@@ -110,3 +114,20 @@ module _ (c : Card) (s : Session) (proper : IsProper c) (target : Target) (offse
             (proper-overwrite (target_bytes c s target) offset bytes within proper-target all);
         response = short-status DONE (lit< tt);
       }
+
+-- the laws of both
+module _ (target : Target) (offset : ℕ) where
+  pub lawful-read : (expected : ℕ) → Lawful (read_binary target offset expected)
+  lawful-read expected =
+      lawful-unshown (read_binary target offset expected) (on_read_binary target offset expected) refl
+      (λ c s. (missing-word target, (lit< tt, (lit< tt, (lit< tt, (lit< tt, tt))))))
+      (λ c s proper small unrefused. fine-read c s proper target offset expected small) (λ sized. omega arith)
+      (λ c s. same-none c)
+
+  pub lawful-update : (bytes : List ℕ) → Lawful (update_binary target offset bytes)
+  lawful-update bytes =
+      lawful-unshown (update_binary target offset bytes) (on_update_binary target offset bytes) refl
+      (λ c s. (missing-word target, (lit< tt, (lit< tt, (lit< tt, (lit< tt, (lit< tt, tt)))))))
+      (λ c s proper all unrefused. fine-update c s proper target offset bytes all unrefused)
+      (λ sized. let few = few_words offset (length bytes) in let blocks = few_blocks offset (length bytes) in
+      let most = sized.1 in omega (arith, few, blocks, most)) (λ c s. same-one c _ refl)

@@ -7,7 +7,7 @@ use Rattle.pin_store.specs.Pins.{tries_left}
 use Rattle.card_core.specs.Cards.{Card, Pin}
 use Rattle.card_core.specs.Comparing.{attempt_of, Comparisons, ComparesAsked, ComparesBy, ComparesNothing, ComparesShown}
 use Rattle.card_core.specs.Comparing.{CostsATry}
-use Rattle.card_core.specs.Pins.{no_pin, pin_of, Attempt}
+use Rattle.card_core.specs.Attempts.{no_pin, pin_of, Attempt}
 
 -- where no word changed, and nothing was compared, no try was paid for
 pub costs-nothing : (secret : ℕ) (shown : List ℕ) (pin now : Pin) (old new : Comparisons) → now ≡ pin → new ≡ old

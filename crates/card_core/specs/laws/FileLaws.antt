@@ -20,15 +20,17 @@ use Rattle.apdu_core.specs.declared.files.Subject.{Subject}
 use Rattle.apdu_core.specs.declared.select.Returned.{Returned}
 use Rattle.apdu_core.specs.declared.select.Returned.TheVariants.{Template, Nothing}
 use Rattle.apdu_core.specs.OfBytes.{AreBytes, IsStatusWord}
+use Rattle.apdu_core.specs.Requests.{select, create_file, delete_file}
 use Rattle.apdu_core.specs.Selections.{Selection}
 use Rattle.card_core.specs.Cards.{Card, File, Path, file_at, identifier, master_file}
 use Rattle.card_core.specs.Files.{created_card, file_created, file_deleted, no_parameters, subject_path, told_by, with_new}
-use Rattle.card_core.specs.Files.{without}
+use Rattle.card_core.specs.Files.{on_create_file, on_delete_file, without}
 use Rattle.card_core.specs.Lengths.{given}
 use Rattle.card_core.specs.Proper.{IsProper, IsProperFile}
-use Rattle.card_core.specs.Selecting.{selected, selected_path, selection_data, selection_status}
+use Rattle.card_core.specs.Selecting.{on_select, selected, selected_path, selection_data, selection_status}
 use Rattle.card_core.specs.Sessions.{Session}
 use Rattle.card_core.specs.Templates.{template_at, template_of}
+use Rattle.card_core.specs.laws.Lawful.{Lawful, lawful-unshown, same-none, same-one}
 use Rattle.card_core.specs.laws.ProperLaws.{IsFine, no_bytes, proper-insert, short-status}
 use Rattle.card_core.specs.laws.TemplateLaws.{IsFineFcp, IsFineRead, fine-read, proper-new}
 use Rattle.card_core.specs.laws.TextLaws.{IsText, text-template}
@@ -134,3 +136,25 @@ module _ (c : Card) (s : Session) (proper : IsProper c) where
     card = proper-without c (subject_path c s subject) proper;
     response = short-status DONE (lit< tt);
   }
+
+-- the laws of the three
+pub lawful-select : (selection : Selection) (returned : Returned) (expected : Option ℕ)
+    → Lawful (select selection returned expected)
+lawful-select selection returned expected =
+    lawful-unshown (select selection returned expected) (on_select selection returned expected) refl
+    (λ c s. (lit< tt, (omega arith, tt)))
+    (λ c s proper small unrefused. fine-selected c s proper selection returned expected) (λ sized. omega arith)
+    (λ c s. same-none c)
+
+pub lawful-create : (template : List ℕ) → Lawful (create_file template)
+lawful-create template =
+    lawful-unshown (create_file template) (on_create_file template) refl
+    (λ c s. (lit< tt, (lit< tt, (lit< tt, (lit< tt, (lit< tt, (lit< tt, (lit< tt, (lit< tt, tt)))))))))
+    (λ c s proper all unrefused. fine-create c s proper template all) (λ sized. omega arith)
+    (λ c s. same-one c _ refl)
+
+pub lawful-delete : (subject : Subject) → Lawful (delete_file subject)
+lawful-delete subject =
+    lawful-unshown (delete_file subject) (on_delete_file subject) refl
+    (λ c s. (lit< tt, (lit< tt, (lit< tt, (lit< tt, tt)))))
+    (λ c s proper small unrefused. fine-delete c s proper subject) (λ sized. omega arith) (λ c s. same-one c _ refl)

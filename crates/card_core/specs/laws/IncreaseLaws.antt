@@ -2,24 +2,27 @@
 use Rattle.std.specs.Prelude.{◌≡◌, ◌<◌, ◌≤◌, ◌+◌, ◌/◌, ◌%◌, ◌^◌, ℕ, zero, suc}
 use Rattle.std.specs.Prelude.{nat_lt, List, length}
 use Rattle.std.specs.Prelude.{Option, None}
-use Rattle.std.proofs.Common.{arith, lit<}
+use Rattle.std.proofs.Common.{arith, refl, lit<}
 use Rattle.std.proofs.lemmas.Bool.{ltb-false, not-false, or_parts, or_right}
 use Rattle.std.proofs.lemmas.List.{length-append}
 use Rattle.std.proofs.lemmas.List.Elements.{All-cons, All-append}
 use Rattle.apdu_core.specs.declared.binary.Target.TheVariants.{Current}
 use Rattle.apdu_core.specs.OfBytes.{AreBytes}
+use Rattle.apdu_core.specs.Requests.{increase}
 use Rattle.ef_body.specs.Numbers.{spelled}
 use Rattle.ef_body.specs.Records.{front}
 use Rattle.ef_body.specs.Refusals.{raised_number}
 use Rattle.ef_body.proofs.Increasing.{length-spelled}
 use Rattle.card_core.specs.Cards.{Card}
-use Rattle.card_core.specs.Increasing.{increase_refusals, increased, increased_data, increased_kind, sum_record}
+use Rattle.card_core.specs.Increasing.{increase_refusals, increased, increased_data, increased_kind, on_increase}
+use Rattle.card_core.specs.Increasing.{sum_record}
 use Rattle.card_core.specs.Outcomes.{refused_by}
 use Rattle.card_core.specs.Proper.{IsProper, IsRecord}
 use Rattle.card_core.specs.Records.{is_cyclic, is_linear}
 use Rattle.card_core.specs.Records.{record_length, records_of}
 use Rattle.card_core.specs.Sessions.{Session}
 use Rattle.card_core.specs.laws.FileLaws.{short-given}
+use Rattle.card_core.specs.laws.Lawful.{Lawful, lawful-unshown, missing-word, same-one}
 use Rattle.card_core.specs.laws.ProperLaws.{IsFine, no_bytes}
 use Rattle.card_core.specs.laws.ProperLaws.{unrefused-each}
 use Rattle.card_core.specs.laws.TextLaws.{IsText}
@@ -81,3 +84,10 @@ module _ (c : Card) (s : Session) (proper : IsProper c) (sent : List ℕ) (all :
             current_records.each);
         response = record { size = text.size; bytes = text.bytes; status = lit< tt };
       }
+
+pub lawful-increase : (sent : List ℕ) (expected : Option ℕ) → Lawful (increase sent expected)
+lawful-increase sent expected =
+    lawful-unshown (increase sent expected) (on_increase sent expected) refl
+    (λ c s. (missing-word Current, (lit< tt, (lit< tt, (lit< tt, (lit< tt, (lit< tt, (lit< tt, (omega arith, tt)))))))))
+    (λ c s proper all unrefused. fine-increased c s proper sent all.0 expected unrefused) (λ sized. omega arith)
+    (λ c s. same-one c _ refl)

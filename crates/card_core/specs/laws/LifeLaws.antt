@@ -1,22 +1,27 @@
 -- Commands on life cycles: proper cards stay proper.
-use Rattle.std.specs.Prelude.{◌≡◌, ◌<◌, true, None}
-use Rattle.std.proofs.Common.{refl, lit<}
+use Rattle.std.specs.Prelude.{◌≡◌, ◌<◌, ◌==◌, true, [], ◌∷◌, None}
+use Rattle.std.proofs.Common.{arith, refl, lit<}
 use Rattle.std.proofs.lemmas.Bool.{not-false}
 use Rattle.card_rules.specs.declared.access_mode.AccessBit.{AccessBit}
 use Rattle.card_rules.specs.declared.life_cycle.LifeCycle.{LifeCycle}
 use Rattle.card_rules.specs.declared.status.TheConstants.Sw.{DONE}
+use Rattle.card_rules.specs.LifeCycle.{life_cycle_byte}
 use Rattle.card_rules.specs.Rule.{allows}
 use Rattle.apdu_core.specs.declared.files.Subject.{Subject}
+use Rattle.apdu_core.specs.declared.files.Subject.TheVariants as subjects
 use Rattle.apdu_core.specs.declared.life_cycles.LifeCycleChange.{LifeCycleChange}
-use Rattle.file_tree.specs.States.{with_life}
+use Rattle.apdu_core.specs.OfBytes.{IsStatusWord}
+use Rattle.apdu_core.specs.Requests.{change_life_cycle, terminate_card_usage}
+use Rattle.file_tree.specs.States.{life_at, with_life}
 use Rattle.card_core.specs.Cards.{Card, File, Path, file_at, identifier}
 use Rattle.card_core.specs.Guards.{allowed}
 use Rattle.card_core.specs.LifeCycles.{card_terminated, change_bit, change_refusals, changed_life, changed_path, life_changed}
-use Rattle.card_core.specs.LifeCycles.{with_life_at}
+use Rattle.card_core.specs.LifeCycles.{changed_card, no_subject, on_change_life_cycle, on_terminate_card_usage, with_life_at}
 use Rattle.card_core.specs.Outcomes.{refused_by}
 use Rattle.card_core.specs.Proper.{IsProper}
 use Rattle.card_core.specs.Sessions.{Session, marks_of}
-use Rattle.card_core.specs.laws.ProperLaws.{IsFine, proper-file_at, proper-insert, short-status}
+use Rattle.card_core.specs.laws.Lawful.{Lawful, SamePins, lawful-unshown, same-none, same-one}
+use Rattle.card_core.specs.laws.ProperLaws.{IsFine, either-if, proper-file_at, proper-insert, short-status}
 use Rattle.card_core.specs.laws.ProperLaws.{there-identifier, unrefused-each}
 
 -- a state of a life cycle tells nothing that an answer is long by
@@ -51,3 +56,22 @@ module _ (c : Card) (s : Session) (proper : IsProper c) where
     card = record { files = proper.files; identifiers = proper.identifiers; pins = proper.pins };
     response = short-status DONE (lit< tt);
   }
+
+-- the laws of both
+subject-word : (subject : Subject) → IsStatusWord (no_subject subject)
+subject-word subjects.Current = lit< tt
+subject-word (subjects.Identifier id) = lit< tt
+
+pub lawful-life : (change : LifeCycleChange) (subject : Subject) → Lawful (change_life_cycle change subject)
+lawful-life change subject =
+    lawful-unshown (change_life_cycle change subject) (on_change_life_cycle change subject) refl
+    (λ c s. (subject-word subject, (lit< tt, (lit< tt, (lit< tt, tt)))))
+    (λ c s proper small unrefused. fine-life_changed c s proper change subject unrefused) (λ sized. omega arith)
+    (λ c s. either-if (SamePins c) (life_cycle_byte (changed_life c s change subject)
+    == life_cycle_byte (life_at c.tree (changed_path c s change subject))) [] (changed_card c s change subject ∷ [])
+    (same-none c) (same-one c (changed_card c s change subject) refl))
+
+pub lawful-terminate : Lawful terminate_card_usage
+lawful-terminate =
+    lawful-unshown terminate_card_usage on_terminate_card_usage refl (λ c s. (lit< tt, tt))
+    (λ c s proper small unrefused. fine-card_terminated c s proper) (λ sized. omega arith) (λ c s. same-one c _ refl)

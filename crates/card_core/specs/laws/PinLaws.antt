@@ -1,16 +1,24 @@
 -- Commands on PINs: proper cards stay proper, and answers are short.
-use Rattle.std.specs.Prelude.{◌≤◌, ◌-◌, ℕ, Bool, true, false, if◌then◌else◌}
-use Rattle.std.proofs.Common.{arith, lit<}
+use Rattle.std.specs.Prelude.{◌≡◌, ◌≤◌, ◌-◌, ◌++◌, ◌&&◌, not, ℕ, Bool, true, false, List, [], ◌∷◌}
+use Rattle.std.specs.Prelude.{Option, Some, None, if◌then◌else◌}
+use Rattle.std.proofs.Common.{arith, refl, inl, inr, lit<}
 use Rattle.std.proofs.lemmas.List.Elements.{All-set}
 use Rattle.card_rules.specs.declared.status.TheConstants.Sw.{DONE}
 use Rattle.apdu_core.specs.OfBytes.{IsStatusWord}
+use Rattle.apdu_core.specs.Requests.{Request, verify, change_reference_data, reset_retry_counter}
 use Rattle.pin_store.specs.Pins.{HasFewTries, charged_pin, is_unblocking, tries_left}
-use Rattle.pin_store.specs.laws.AllPins.{with_few}
+use Rattle.pin_store.specs.laws.AllPins.{changed_few, reset_few, verified_few, with_few}
+use Rattle.card_core.specs.declared.machine.TheConstants.{COMMAND_WRITES}
 use Rattle.card_core.specs.Cards.{Card, Pin}
-use Rattle.card_core.specs.Pins.{Attempt, attempted, attempted_as, charged_card, is_right, no_pin, pin_of}
-use Rattle.card_core.specs.Pins.{told_tries, tries_of, tries_told, with_pin_of}
+use Rattle.card_core.specs.Attempts.{Attempt, charged_card, is_right, no_pin, pin_of}
+use Rattle.card_core.specs.Pins.{attempted, attempted_as}
+use Rattle.card_core.specs.Pins.{told_tries, tries_told}
+use Rattle.card_core.specs.Attempts.{tries_of, with_pin_of}
+use Rattle.card_core.specs.Pins.{change_writes, changing, reset_writes, resetting, shows, verify_writes, verifying}
+use Rattle.card_core.specs.Attempts.{unblocking_of, value_of}
 use Rattle.card_core.specs.Proper.{IsProper}
 use Rattle.card_core.specs.Sessions.{Session}
+use Rattle.card_core.specs.laws.Lawful.{IsLawful, IsOfItsPin, Lawful, same-none}
 use Rattle.card_core.specs.laws.ProperLaws.{IsFine, at-or, short-status}
 
 -- each PIN of a proper card, and one that stands for none
@@ -76,3 +84,52 @@ module _ (c : Card) (s : Session) (proper : IsProper c) where
     card = proper;
     response = short-status (tries_told (tries_of c n secret)) (told-word c n secret proper);
   }
+
+-- the commits of an attempt: where only the tries are renewed, and where a value is, with them
+by-words : (right renews : Bool) (charged settled : Card)
+    → (charged ∷ (if right && not renews then settled ∷ [] else [])) ++ (if right && renews then settled ∷ [] else [])
+    ≡ charged ∷ (if right then settled ∷ [] else [])
+by-words true true charged settled = refl
+by-words true false charged settled = refl
+by-words false renews charged settled = refl
+
+-- the laws of a command on a secret of PIN n: it asks for the tries that are left, or shows the secret
+module _ (request : Request) (n secret most : ℕ) where
+  lawful-asking : IsLawful request (shows n secret None most)
+  lawful-asking = record {
+    words = λ c s. tt;
+    fine = λ c s proper all unrefused. fine-told c s proper n secret;
+    few = λ sized. omega arith;
+    of_pin = tt;
+    pins = λ c s is. same-none c;
+    by_words = λ c s. refl;
+  }
+
+  lawful-showing : (a : Attempt) → most ≤ COMMAND_WRITES → KeepsFew a → IsOfItsPin a
+      → IsLawful request (shows n secret (Some a) most)
+  lawful-showing a few keeps of_pin = record {
+    words = λ c s. (lit< tt, tt);
+    fine = λ c s proper all unrefused. fine-attempted c s proper a keeps;
+    few = λ sized. few;
+    of_pin = of_pin;
+    pins = λ c s is. absurd cc;
+    by_words = λ c s. by-words (is_right c a) a.renews _ _;
+  }
+
+module _ (n : ℕ) where
+  pub lawful-verify : (shown : Option (List ℕ)) → Lawful (verify n shown)
+  lawful-verify None = lawful-asking (verify n None) n (value_of n) verify_writes
+  lawful-verify (Some shown) =
+      lawful-showing (verify n (Some shown)) n (value_of n) verify_writes (verifying n shown) (omega arith) verified_few
+      (inl refl)
+
+  pub lawful-change : (shown new : List ℕ) → Lawful (change_reference_data n shown new)
+  lawful-change shown new =
+      lawful-showing (change_reference_data n shown new) n (value_of n) change_writes (changing n shown new)
+      (omega arith) (changed_few new) (inl refl)
+
+  pub lawful-reset : (values : Option (List ℕ × List ℕ)) → Lawful (reset_retry_counter n values)
+  lawful-reset None = lawful-asking (reset_retry_counter n None) n (unblocking_of n) reset_writes
+  lawful-reset (Some values) =
+      lawful-showing (reset_retry_counter n (Some values)) n (unblocking_of n) reset_writes
+      (resetting n values.0 values.1) (omega arith) (λ was few. reset_few values.1 was) (inr refl)

@@ -13,6 +13,7 @@ use Rattle.apdu_core.specs.declared.records.RecordPlace.{RecordPlace}
 use Rattle.apdu_core.specs.declared.records.RecordChoice.{RecordChoice}
 use Rattle.apdu_core.specs.declared.records.Direction.{Direction}
 use Rattle.apdu_core.specs.OfBytes.{AreBytes, IsStatusWord}
+use Rattle.apdu_core.specs.Requests.{read_record, update_record, append_record, search_record}
 use Rattle.ef_body.specs.declared.search.Direction.{Direction as SearchDirection}
 use Rattle.ef_body.specs.declared.search.Direction.TheVariants as searches
 use Rattle.ef_body.specs.Records.{front, has_record, record_of}
@@ -24,12 +25,14 @@ use Rattle.card_core.specs.Elementary.{target_kind, target_path}
 use Rattle.card_core.specs.Outcomes.{refused_by}
 use Rattle.card_core.specs.Proper.{IsProper, IsProperKind, IsRecord}
 use Rattle.card_core.specs.Records.{append_refusals, appended_records, capacity_of, has_records, is_cyclic, is_linear}
-use Rattle.card_core.specs.Records.{is_oldest, matches, place_number, pointer_at, record_appended}
+use Rattle.card_core.specs.Records.{is_oldest, matches, on_append_record, on_read_record, on_search_record}
+use Rattle.card_core.specs.Records.{on_update_record, place_number, pointer_at, record_appended}
 use Rattle.card_core.specs.Records.{record_length, record_read, record_updated, records_of, records_searched, replaces}
 use Rattle.card_core.specs.Records.{search_refusals, search_status, searching, target_number, update_record_refusals}
 use Rattle.card_core.specs.Records.{updated_records, with_records, with_records_at}
 use Rattle.card_core.specs.Sessions.{Session}
 use Rattle.card_core.specs.laws.FileLaws.{short-given}
+use Rattle.card_core.specs.laws.Lawful.{Lawful, lawful-unshown, missing-word, same-none, same-one}
 use Rattle.card_core.specs.laws.ProperLaws.{IsFine, at-or, no_bytes, proper-file_at, proper-insert}
 use Rattle.card_core.specs.laws.ProperLaws.{short-status, there-identifier, unrefused-each}
 use Rattle.card_core.specs.laws.TextLaws.{IsText}
@@ -262,3 +265,35 @@ module _ (c : Card) (s : Session) (proper : IsProper c) (target : Target) where
         card = proper;
         response = record { size = given.size; bytes = given.bytes; status = search-word numbers };
       }
+
+-- the laws of the four
+module _ (target : Target) where
+  pub lawful-read : (choice : RecordChoice) (expected : ℕ) → Lawful (read_record target choice expected)
+  lawful-read choice expected =
+      lawful-unshown (read_record target choice expected) (on_read_record target choice expected) refl
+      (λ c s. (missing-word target, (lit< tt, (lit< tt, (lit< tt, (lit< tt, (omega arith, tt)))))))
+      (λ c s proper small unrefused. fine-record_read c s proper target choice) (λ sized. omega arith)
+      (λ c s. same-none c)
+
+  pub lawful-update : (choice : RecordChoice) (bytes : List ℕ) → Lawful (update_record target choice bytes)
+  lawful-update choice bytes =
+      lawful-unshown (update_record target choice bytes) (on_update_record target choice bytes) refl
+      (λ c s. (missing-word target, (lit< tt, (lit< tt, (lit< tt, (lit< tt, (lit< tt, tt)))))))
+      (λ c s proper all unrefused. fine-record_updated c s proper target choice bytes all unrefused)
+      (λ sized. omega arith) (λ c s. same-one c _ refl)
+
+  pub lawful-append : (bytes : List ℕ) → Lawful (append_record target bytes)
+  lawful-append bytes =
+      lawful-unshown (append_record target bytes) (on_append_record target bytes) refl
+      (λ c s. (missing-word target, (lit< tt, (lit< tt, (lit< tt, (lit< tt, (lit< tt, tt)))))))
+      (λ c s proper all unrefused. fine-record_appended c s proper target bytes all unrefused) (λ sized. omega arith)
+      (λ c s. same-one c _ refl)
+
+  pub lawful-search : (first : RecordPlace) (direction : Direction) (text : List ℕ) (expected : Option ℕ)
+      → Lawful (search_record target first direction text expected)
+  lawful-search first direction text expected =
+      lawful-unshown (search_record target first direction text expected)
+      (on_search_record target first direction text expected) refl
+      (λ c s. (missing-word target, (lit< tt, (lit< tt, (lit< tt, (lit< tt, (omega arith, tt)))))))
+      (λ c s proper all unrefused. fine-records_searched c s proper target first direction text expected unrefused)
+      (λ sized. omega arith) (λ c s. same-none c)

@@ -13,7 +13,8 @@ use Rattle.card_core.specs.Spending.{writes_asked, writes_of}
 use Rattle.card_core.specs.Stages.{ChangesNothing, IsStage}
 use Rattle.card_core.specs.Words.{StandsAsked}
 use Rattle.card_core.specs.Working.{card_in, session_while, table_in}
-use Rattle.card_core.specs.laws.SpendLaws.{few_writes, few_updates}
+use Rattle.card_core.specs.laws.SpendLaws.{few_writes}
+use Rattle.card_core.specs.laws.TouchLaws.{few_updates}
 use Rattle.card_core.proofs.Commanding.{after, still-compares, still-stage, ended-done, ended-kept, ended-lost, ended-unlit, Ends}
 use Rattle.card_core.proofs.machine.Card.command.Given.{Over}
 use Rattle.card_core.proofs.machine.Card.command.Goals.{After-end_command}
