@@ -14,11 +14,11 @@ pub record Behaviour : Type 0 where
   pub most_writes : ℕ
   pub shown : Option Attempt
 
--- a command that only looks commits nothing and writes nothing
+-- a command that only looks leaves the card as it is: it commits nothing, and writes nothing
 abbrev pub looks : (Card → Session → Refusals) → (Card → Session → Outcome) → Behaviour
 looks refusals effect = record {
   refusals = refusals;
-  effect = effect;
+  effect = λ c s. record (effect c s) { card = c };
   commits = λ c s. [];
   most_writes = 0;
   shown = None;

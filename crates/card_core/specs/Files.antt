@@ -55,8 +55,7 @@ file_deleted c s subject = record {
   response = only_status DONE;
 }
 
--- It sets at most a word of each of 64 entries, a link of each of 64 chains, and the word of the header that tells of the first free
--- block.
+-- DELETE FILE sets at most a word of each of 64 entries, a link of each of 64 chains, and the header's word of the first free block.
 abbrev pub deletion_writes : ℕ
 deletion_writes = transaction_writes 129 129
 
@@ -127,8 +126,8 @@ new_outcome c s fcp =
 abbrev pub file_created : Card → Session → List ℕ → Outcome
 file_created c s template = new_outcome c s (told_by (fcp_read template))
 
--- It fills the blocks of the largest file, 547, one write each, and sets 11 words of its entry, which are one run, the link of its
--- last block, and the header's word of the first free block.
+-- CREATE FILE fills the blocks of the largest file, 547, one write each, and sets 11 words of its entry, which are one run, the
+-- link of its last block, and the header's word of the first free block.
 abbrev pub creation_writes : ℕ
 creation_writes = 547 + transaction_writes 13 3
 
