@@ -4,3 +4,5 @@ pub mod Runs
 pub mod Fills
 pub mod Puts
 pub mod RunCosts
+pub mod Places
+pub mod Counting

@@ -51,13 +51,14 @@ module _ (m ps : List ℕ) (from offset : ℕ) (bytes : List ℕ) (chain : IsCha
 
   module _ (k page : ℕ) (now : List ℕ) (so_far : IsPutSoFar m ps offset bytes k page now)
       (lt : k < (offset + length bytes + 3) / 4) where
-    in_chain : k < BLOCK_WORDS * length ps
-    in_chain = omega (arith, lt, within)
+    -- the word is one of the chain
+    pub word_within : k < BLOCK_WORDS * length ps
+    word_within = omega (arith, lt, within)
 
     place_in : k / BLOCK_WORDS < length ps
-    place_in = omega (arith, in_chain)
+    place_in = omega (arith, word_within)
 
-    -- the word lies in a block
+    -- it lies in a block
     pub word_block : IsBlock page
     word_block =
         let family : ℕ → Type 0 = λ q. IsBlock q in
@@ -65,7 +66,7 @@ module _ (m ps : List ℕ) (from offset : ℕ) (bytes : List ℕ) (chain : IsCha
 
     -- and its bytes have offsets of 16 bits
     pub word_small : 4 * k + 3 < 65536
-    word_small = omega (arith, in_chain, chain.size)
+    word_small = omega (arith, word_within, chain.size)
 
     -- there is room for it, while each word before it took one place
     pub word_fits : k - offset / 4 + 1 ≤ touched_words offset (length bytes)
@@ -76,7 +77,7 @@ module _ (m ps : List ℕ) (from offset : ℕ) (bytes : List ℕ) (chain : IsCha
       -- the word is put, beside those before it
       word_put : IsPut m ps offset bytes (k + 1) after
       word_put = put_step m ps offset bytes sized (leads_blocks m from 0 ps chain.leads) chain.once k page now after
-          so_far.put in_chain so_far.block puts
+          so_far.put word_within so_far.block puts
 
       -- the block's link is as it was
       link_put : link after page ≡ slice_index ps (k / BLOCK_WORDS + 1)

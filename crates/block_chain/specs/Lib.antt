@@ -3,6 +3,7 @@ pub mod Words
 pub mod Counts
 pub mod Chains
 pub mod Changes
+pub mod Writes
 pub mod Layout
 pub mod Parts
 pub mod laws

@@ -3,6 +3,8 @@ use Rattle.std.specs.Prelude.{◌≡◌, ◌<◌, ◌≤◌, ◌+◌, ◌-◌, �
 use Rattle.std.specs.Prelude.{if◌then◌else◌, ◌*◌, ◌%◌, [], ◌∷◌, slice_set}
 use Rattle.nvm_board.specs.Facts.{address}
 use Rattle.nvm_board.specs.declared.board.TheConstants.{PAGES}
+use Rattle.undo_journal.specs.Calls.{OnlyReads}
+use Rattle.undo_journal.specs.Memory.{Memory, Joins}
 use Rattle.block_chain.specs.Chains.{Leads, chain, free_chain}
 use Rattle.block_chain.specs.Counts.{count}
 use Rattle.block_chain.specs.Words.{word, link, IsBlock, word_bytes}
@@ -30,6 +32,13 @@ pub record PutsWord (m : List ℕ) (page k offset : ℕ) (bytes after : List ℕ
   pub over : (place : ℕ) → place < 4
       → slice_index (word_bytes put) place ≡ byte_over offset bytes (4 * k + place)
       (slice_index (word_bytes (word m page (1 + k % BLOCK_WORDS))) place)
+
+-- Behind reads, a set of some word at an address joins those that wait, or fills a batch with them.
+pub record JoinsAt (at : ℕ) (old new : Memory) : Type 0 where
+  pub found : Memory
+  pub reads : OnlyReads old found
+  pub word : ℕ
+  pub joins : Joins (record { at = at; word = word }) found new
 
 -- the first block of chains, or else the first free one
 abbrev pub first_of : List ℕ → List Chain → ℕ

@@ -11,3 +11,4 @@ pub mod Laying
 pub mod Extents
 pub mod Footprints
 pub mod Relaying
+pub mod Writes

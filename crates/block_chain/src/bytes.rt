@@ -4,12 +4,13 @@ ghost use Rattle.std.specs.Prelude.{slice_index, ◌%◌, ◌==◌, if◌then◌
 ghost use Rattle.std.specs.Result.{result_err};
 ghost use Rattle.block_chain.specs.declared.layout.TheConstants.{BLOCK_BYTES, BLOCK_WORDS};
 ghost use Rattle.block_chain.specs.Changes.{touched_blocks, touched_words};
-ghost use Rattle.undo_journal.specs.Memory.{committed, current, room, EndsAt, GoesOn, InRuns, IsOpen, IsReady};
+ghost use Rattle.undo_journal.specs.Memory.{committed, current, room, CountsCommit, EndsAt, GoesOn, InRuns, IsOpen, IsReady};
 ghost use Rattle.undo_journal.specs.Calls.{Changes, ReadsIn, SetsIn};
 ghost use Rattle.block_chain.specs.Chains.{free_chain, bytes_of, IsChain, chain_of, HasFree};
 ghost use Rattle.block_chain.specs.Changes.{OnlyContent, Overwrites};
-ghost use Rattle.block_chain.specs.Parts.{byte_over, PutsWord};
+ghost use Rattle.block_chain.specs.Parts.{byte_over, JoinsAt, PutsWord};
 ghost use Rattle.block_chain.specs.Words.{link, word_bytes, IsBlock};
+ghost use Rattle.block_chain.specs.Writes.{put_writes};
 ghost use Rattle.nvm_board.specs.Facts.{address};
 ghost use Rattle.nvm_board.specs.declared.board.TheConstants.{PAGES};
 ghost use Rattle.nvm_board.specs.Torn.{Torn, written};
@@ -64,6 +65,7 @@ fn put_word<B: Board>(
     ensures goes_on { GoesOn (memory_of txn.old) (address page (1 + k % BLOCK_WORDS))
         → InRuns 0 (memory_of txn.old) (memory_of txn.new) }
     ensures next { OnOk result (EndsAt (memory_of txn.new) (address page (1 + k % BLOCK_WORDS))) }
+    ensures joins { OnOk result (JoinsAt (address page (1 + k % BLOCK_WORDS)) (memory_of txn.old) (memory_of txn.new)) }
 {
     let at = PAGE_WORDS * page + 1 + k % BLOCK_WORDS;
     let word = txn.read(at)?;
@@ -107,6 +109,8 @@ pub fn set_bytes<B: Board>(
         (chain_of (current (memory_of txn.old)) chain) offset bytes.now (current (memory_of txn.new))) }
     ensures store { SetsIn (touched_words offset (length bytes.now)) txn.old txn.new (result_err result) }
     ensures runs { InRuns (touched_blocks offset (length bytes.now)) (memory_of txn.old) (memory_of txn.new) }
+    ensures counted { OnOk result (CountsCommit (put_writes offset (length bytes.now)) (memory_of txn.old)
+        (memory_of txn.new)) }
     ensures none { length bytes.now ≡ 0 → memory_of txn.new ≡ memory_of txn.old }
 {
     if bytes.is_empty() {

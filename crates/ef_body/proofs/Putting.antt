@@ -22,6 +22,8 @@ use Rattle.block_chain.specs.laws.Bytes.{leads_blocks, block_in}
 use Rattle.block_chain.specs.laws.Chains.{leads_same, pages_are}
 use Rattle.block_chain.specs.laws.Footprints.{bytes_same, not_among}
 use Rattle.block_chain.specs.laws.Laying.{leads_count, pages_most}
+use Rattle.block_chain.specs.Writes.{put_writes}
+use Rattle.block_chain.specs.laws.Writes.{put_writes_most}
 use Rattle.ef_body.specs.Changes.{PutsRecord, update_writes}
 
 module _ (m mid : List ℕ) (c : Chain) (offset : ℕ) (bytes : List ℕ) (sized : length m ≡ WORDS)
@@ -119,3 +121,15 @@ pub touched_most : (offset count : ℕ)
     → transaction_writes (touched_words offset count) (touched_blocks offset count) ≤ update_writes count
 touched_most offset zero = omega arith
 touched_most offset (suc n) = omega arith
+
+-- and what it is exactly is no more
+pub updates_most : (offset count : ℕ) → put_writes offset count ≤ update_writes count
+updates_most offset count =
+    let most = put_writes_most offset count in let bound = touched_most offset count in omega (arith, most, bound)
+
+pub updates_few : (offset count : ℕ) → count ≤ 255 → put_writes offset count ≤ UPDATE_WRITES
+updates_few offset count few =
+    let most = put_writes_most offset count in
+    let words = touched_few offset count few in
+    let blocks = touched_few_blocks offset count few in
+    omega (arith, most, words, blocks)

@@ -1,5 +1,7 @@
 //! Laws of the constants, as contracts of functions that do nothing.
-ghost use Rattle.std.specs.Prelude.{◌≡◌};
+ghost use Rattle.std.specs.Prelude.{◌≡◌, ◌≤◌, ℕ};
+ghost use Rattle.block_chain.specs.Writes.{put_writes};
+ghost use Rattle.ef_body.specs.Changes.{update_writes};
 ghost use Rattle.ef_body.specs.declared.layout.TheConstants.{MOST_RECORD_BYTES, RECORD_WRITES, UPDATE_WRITES};
 
 /// A record has at most 255 bytes. An update of one makes at most 33 device writes, and a record that is added, or
@@ -8,4 +10,12 @@ pub fn numbers()
     ensures bytes { MOST_RECORD_BYTES ≡ 255 }
     ensures update { UPDATE_WRITES ≡ 33 }
     ensures record_writes { RECORD_WRITES ≡ 34 }
+{}
+
+/// The device writes of an UPDATE BINARY, which its offset and the number of its bytes say exactly, are no more than its bounds:
+/// that by the number of bytes alone, and 33 of up to 255 bytes.
+#[tactic(auto, using(crate::proofs::Putting::updates_most, crate::proofs::Putting::updates_few))]
+pub fn updates_write_little()
+    ensures most { (offset count : ℕ) → put_writes offset count ≤ update_writes count }
+    ensures few { (offset count : ℕ) → count ≤ 255 → put_writes offset count ≤ UPDATE_WRITES }
 {}

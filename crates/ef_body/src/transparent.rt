@@ -6,6 +6,7 @@ ghost use Rattle.undo_journal.specs.Memory.{committed, IsReady};
 ghost use Rattle.undo_journal.specs.Calls.{Reads, Changes};
 ghost use Rattle.undo_journal.specs.Spending.{transaction_writes, WritesAtMost};
 ghost use Rattle.block_chain.specs.Changes.{overwrite, touched_blocks, touched_words, AppendsSome};
+ghost use Rattle.block_chain.specs.Writes.{put_writes};
 ghost use Rattle.ef_body.specs.Refusals.{past_end, overlong, Decides, IfRefused, failure};
 ghost use Rattle.ef_body.specs.Bodies.{transparent_bytes, IsTransparent};
 ghost use Rattle.ef_body.specs.Changes.{update_writes, TransparentBecomes};
@@ -74,8 +75,8 @@ impl Transparent {
         from_store(read_anew(store, self.chain, offset, count, bytes))
     }
 
-    /// Puts bytes, 255 at most, in place of those from an offset on, in one transaction (UPDATE BINARY, ISO/IEC
-    /// 7816-4, 11.3.5).
+    /// Puts bytes, 255 at most, in place of those from an offset on, in one transaction, of as many device writes as the
+    /// offset and their number say (UPDATE BINARY, ISO/IEC 7816-4, 11.3.5).
     ///
     /// # Errors
     /// 6B00 where the offset is at the end of the body or past it, 6A84 where they reach past the end. What the store
@@ -102,6 +103,8 @@ impl Transparent {
         ensures by_gate { CommitsByGate store.old store.new }
         ensures store { Changes (transaction_writes (touched_words offset (length bytes.now)) (touched_blocks offset (length
             bytes.now))) store.old store.new (failure (result_err result)) }
+        ensures counted { OnOk result (store.new.facts.writes
+            ≡ store.old.facts.writes + put_writes offset (length bytes.now)) }
         ensures writes { WritesAtMost (update_writes (length bytes.now)) store.old.facts store.new.facts }
     {
         if self.ends_at(offset) {

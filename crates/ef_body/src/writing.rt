@@ -8,6 +8,7 @@ ghost use Rattle.undo_journal.specs.Lent.{memory_of};
 ghost use Rattle.undo_journal.specs.declared.layout.TheConstants.{GATE};
 ghost use Rattle.block_chain.specs.Chains.{chain_of as blocks_of_chain, IsChain};
 ghost use Rattle.block_chain.specs.Changes.{Overwrites, touched_blocks, touched_words};
+ghost use Rattle.block_chain.specs.Writes.{put_writes};
 ghost use Rattle.block_chain.specs.declared.layout.TheConstants.{BLOCK_BYTES};
 ghost use Rattle.ef_body.specs.declared.layout.TheConstants.{RECORD_WRITES};
 ghost use Rattle.ef_body.specs.Records.{front};
@@ -45,6 +46,8 @@ pub(crate) fn put_bytes<B: Board>(
     ensures by_gate { CommitsByGate store.old store.new }
     ensures store { Changes (transaction_writes (touched_words offset (length bytes.now)) (touched_blocks offset (length
         bytes.now))) store.old store.new (result_err result) }
+    ensures counted { OnOk result (store.new.facts.writes
+        ≡ store.old.facts.writes + put_writes offset (length bytes.now)) }
 {
     let mut txn = store.begin();
     match set_bytes(&mut txn, chain, offset, bytes) {

@@ -1,6 +1,5 @@
 -- What a right secret and a new value renew of a PIN, whichever of its two secrets it is. No public clause names these.
-use Rattle.std.specs.Prelude.{◌≡◌, ◌+◌, ℕ, if◌then◌else◌, List}
-use Rattle.undo_journal.specs.Memory.{Memory, IsIdle, commit_writes}
+use Rattle.std.specs.Prelude.{ℕ, if◌then◌else◌, List}
 use Rattle.undo_journal.specs.Spending.{transaction_writes}
 use Rattle.pin_store.specs.Pins.{Pin, changed_pin, is_unblocking, reset_pin}
 
@@ -19,7 +18,3 @@ renewal_runs secret = if is_unblocking secret then 1 else 2
 -- and the device writes of their transaction
 abbrev pub renewal_writes : ℕ → ℕ
 renewal_writes secret = transaction_writes (renewal_sets secret) (renewal_runs secret)
-
--- a transaction that begins with these sets makes so many with its commit
-abbrev pub CountsCommit : ℕ → Memory → Memory → Type 0
-CountsCommit writes old new = IsIdle old → new.facts.writes + commit_writes new ≡ old.facts.writes + writes

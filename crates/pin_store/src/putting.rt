@@ -4,9 +4,9 @@ ghost use Rattle.std.specs.Result.{result_err};
 ghost use Rattle.undo_journal.specs.Calls.{Changes, SetsIn};
 ghost use Rattle.undo_journal.specs.Commits.{CommitsByGate, StaysShut};
 ghost use Rattle.undo_journal.specs.Lent.{memory_of};
-ghost use Rattle.undo_journal.specs.Memory.{committed, current, room, InRuns, IsOpen, IsReady};
+ghost use Rattle.undo_journal.specs.Memory.{committed, current, room, CountsCommit, InRuns, IsOpen, IsReady};
 ghost use Rattle.pin_store.specs.Pins.{changed_pin, owner, reset_pin, tries_left, verified_pin, with_tries};
-ghost use Rattle.pin_store.specs.Renewals.{CountsCommit, renewal_runs, renewal_sets, renewal_writes, renewed_pin};
+ghost use Rattle.pin_store.specs.Renewals.{renewal_runs, renewal_sets, renewal_writes, renewed_pin};
 ghost use Rattle.pin_store.specs.Pages.{pin_at, ArePinPages, SetsPin};
 ghost use Rattle.pin_store.specs.Trials.{pin_in};
 

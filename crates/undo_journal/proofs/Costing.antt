@@ -12,13 +12,11 @@ use Rattle.undo_journal.specs.laws.Undo.{data_words-set}
 use Rattle.undo_journal.specs.laws.Memory.{length-overlay}
 use Rattle.undo_journal.specs.Batches.{overlay, look_up, batch_writes, runs_from, AreSets, joined}
 use Rattle.undo_journal.specs.Memory.{Memory, commit_writes, run_writes, taken}
-use Rattle.undo_journal.proofs.Waits.{overlay-joined, length-joined, joined-length, look_up-joined}
-use Rattle.undo_journal.proofs.RunLaws.{runs-joined, runs-goes_on, begins-one}
-
--- a batch of some sets
-pub writes-some : (ps : List Waiting) → 1 ≤ length ps → batch_writes ps ≡ 2 + runs_from 0 ps
-writes-some [] some = absurd (omega arith)
-writes-some (s ∷ rest) some = refl
+use Rattle.undo_journal.specs.laws.Joining.{writes-some}
+use Rattle.undo_journal.specs.laws.Runs.{begins-one}
+use Rattle.undo_journal.specs.laws.Waits.{look_up-joined}
+use Rattle.undo_journal.proofs.Waits.{overlay-joined, length-joined, joined-length}
+use Rattle.undo_journal.proofs.RunLaws.{runs-joined, runs-goes_on}
 
 -- One more set among those that wait, as the first of a batch or not.
 module _ (new : Waiting) (used : ℕ) (whole : used % BATCH ≡ 0) where

@@ -10,37 +10,9 @@ use Rattle.undo_journal.specs.declared.batch.Waiting.{Waiting}
 use Rattle.undo_journal.specs.Undo.{Pair, IsDataAddress}
 use Rattle.undo_journal.specs.Batches.{overlay, look_up, AreSets, begins, runs_from, joined}
 use Rattle.undo_journal.specs.Parts.{run_words, first_words, Names, AllNamed}
-use Rattle.undo_journal.proofs.Waits.{below, same, above, order, joined-below, joined-same, joined-above, look_up-below}
-use Rattle.undo_journal.proofs.Waits.{sets-lower}
-
--- a word goes on with a run, or begins one
-pub data Going (next a : ℕ) : Type 0 where
-  goes : ((a == next) && not (a % PAGE_WORDS == 0)) ≡ true → a ≡ next → a % PAGE_WORDS ≢ 0 → begins next a ≡ 0 → Going next a
-  stops : ((a == next) && not (a % PAGE_WORDS == 0)) ≡ false → (a ≢ next) ⊎ (a % PAGE_WORDS ≡ 0) → begins next a ≡ 1
-      → Going next a
-
-pub going : (next a : ℕ) → Going next a
-going next a = elim (eqb_tells a next) [
-  | inl e ↦ elim (eqb_tells (a % PAGE_WORDS) 0) [
-    | inl first ↦
-        let test : ((a == next) && not (a % PAGE_WORDS == 0)) ≡ false =
-        ap (λ (b : Bool). b && not (a % PAGE_WORDS == 0)) e.0 ∙ ap not first.0 in
-        stops test (inr first.1) (ap (λ (b : Bool). if b then 0 else 1) test)
-    | inr other ↦
-        let test : ((a == next) && not (a % PAGE_WORDS == 0)) ≡ true =
-        ap (λ (b : Bool). b && not (a % PAGE_WORDS == 0)) e.0 ∙ ap not other.0 in
-        goes test e.1 other.1 (ap (λ (b : Bool). if b then 0 else 1) test)
-  ]
-  | inr other ↦
-      let test : ((a == next) && not (a % PAGE_WORDS == 0)) ≡ false = ap (λ (b : Bool). b && not (a % PAGE_WORDS == 0)) other.0 in
-      stops test (inl other.1) (ap (λ (b : Bool). if b then 0 else 1) test)
-]
-
-pub begins-one : (next a : ℕ) → begins next a ≤ 1
-begins-one next a = elim (going next a) [
-  | goes t e p is ↦ omega (arith, is)
-  | stops t e is ↦ omega (arith, is)
-]
+use Rattle.undo_journal.specs.laws.Runs.{goes, stops, going, begins-first, begins-one}
+use Rattle.undo_journal.specs.laws.Waits.{below, same, above, order, joined-below, joined-same, joined-above}
+use Rattle.undo_journal.proofs.Waits.{look_up-below, sets-lower}
 
 -- One more set.
 module _ (new : Waiting) where
@@ -163,12 +135,6 @@ run-inside (s ∷ rest) a = elim (going (a + 1) s.at) [
   | stops t o is ↦
       let run = ap (λ (b : Bool). length (if b then s.word ∷ run_words (s.at + 1) rest else [])) t in
       omega (arith, run)
-]
-
-begins-first : (a : ℕ) → begins 0 a ≡ 1
-begins-first a = elim (going 0 a) [
-  | goes t e p is ↦ absurd (p (let z : a % PAGE_WORDS ≡ 0 = omega (arith, e) in z))
-  | stops t o is ↦ is
 ]
 
 -- the sets after them make one run less, with the one that they are

@@ -10,6 +10,7 @@ use Rattle.nvm_board.specs.Facts.{AreWords}
 use Rattle.undo_journal.specs.declared.batch.Waiting.{Waiting}
 use Rattle.undo_journal.specs.Batches.{overlay, look_up, IsSet, AreSets, joined}
 use Rattle.undo_journal.specs.Parts.{before}
+use Rattle.undo_journal.specs.laws.Waits.{below, same, above, order, joined-below, joined-same, joined-above}
 use Rattle.std.specs.List.{refill}
 use Rattle.std.proofs.lemmas.Grind.{common_steps}
 
@@ -28,21 +29,6 @@ pub set-set_same : (m : List ℕ) (a v w : ℕ) → slice_set (slice_set m a v) 
 set-set_same [] a v w = refl
 set-set_same (x ∷ m) zero v w = refl
 set-set_same (x ∷ m) (suc a) v w = ap (λ (l : List ℕ). x ∷ l) (set-set_same m a v w)
-
--- an address below another, the same, or above it
-pub data Order (x a : ℕ) : Type 0 where
-  below : nat_lt x a ≡ true → x < a → Order x a
-  same : nat_lt x a ≡ false → (x == a) ≡ true → x ≡ a → Order x a
-  above : nat_lt x a ≡ false → (x == a) ≡ false → a < x → Order x a
-
-pub order : (x a : ℕ) → Order x a
-order x a = elim (leb_tells (suc x) a) [
-  | inl lt ↦ below lt.0 (let l : x < a = omega (arith, lt.1) in l)
-  | inr ge ↦ elim (eqb_tells x a) [
-    | inl e ↦ same ge.0 e.0 e.1
-    | inr other ↦ above ge.0 other.0 (let differs : x ≢ a = other.1 in let l : a < x = omega (arith, ge.1) in l)
-  ]
-]
 
 -- sets of addresses from this one on are of addresses from a smaller one on
 pub sets-lower : (k l : ℕ) (ps : List Waiting) → k ≤ l → AreSets l ps → AreSets k ps
@@ -132,38 +118,22 @@ look_up-below a least (s ∷ rest) h lt =
 
 -- One more set among those that wait.
 module _ (new : Waiting) where
-  pub joined-below : (s : Waiting) (rest : List Waiting) → nat_lt s.at new.at ≡ true → joined new (s ∷ rest) ≡ s ∷ joined new rest
-  joined-below s rest lower =
-      ap (λ (b : Bool). if b then s ∷ joined new rest else (if s.at == new.at then new ∷ rest else new ∷ s ∷ rest)) lower
-
-  pub joined-same : (s : Waiting) (rest : List Waiting) → nat_lt s.at new.at ≡ false → (s.at == new.at) ≡ true
-      → joined new (s ∷ rest) ≡ new ∷ rest
-  joined-same s rest lower is =
-      ap (λ (b : Bool). if b then s ∷ joined new rest else (if s.at == new.at then new ∷ rest else new ∷ s ∷ rest)) lower
-      ∙ ap (λ (b : Bool). if b then new ∷ rest else new ∷ s ∷ rest) is
-
-  pub joined-above : (s : Waiting) (rest : List Waiting) → nat_lt s.at new.at ≡ false → (s.at == new.at) ≡ false
-      → joined new (s ∷ rest) ≡ new ∷ s ∷ rest
-  joined-above s rest lower is =
-      ap (λ (b : Bool). if b then s ∷ joined new rest else (if s.at == new.at then new ∷ rest else new ∷ s ∷ rest)) lower
-      ∙ ap (λ (b : Bool). if b then new ∷ rest else new ∷ s ∷ rest) is
-
   -- its word is the one that is read
   pub overlay-joined : (ps : List Waiting) (m : List ℕ) (least : ℕ) → AreSets least ps
       → overlay (joined new ps) m ≡ slice_set (overlay ps m) new.at new.word
   overlay-joined [] m least h = refl
   overlay-joined (s ∷ rest) m least h = elim (order s.at new.at) [
-    | below b lt ↦ ap (λ (l : List Waiting). overlay l m) (joined-below s rest b)
+    | below b lt ↦ ap (λ (l : List Waiting). overlay l m) (joined-below new s rest b)
         ∙ overlay-joined rest (slice_set m s.at s.word) (s.at + 1) h.1
     | same b e is ↦
         let moved : AreSets (new.at + 1) rest = let family : ℕ → Type 0 = λ k. AreSets (k + 1) rest in subst family is h.1 in
-        ap (λ (l : List Waiting). overlay l m) (joined-same s rest b e)
+        ap (λ (l : List Waiting). overlay l m) (joined-same new s rest b e)
         ∙ ap (λ (l : List ℕ). overlay rest l) (sym (ap (λ (j : ℕ). slice_set (slice_set m j s.word) new.at new.word) is
         ∙ set-set_same m new.at s.word new.word))
         ∙ overlay-set rest (slice_set m s.at s.word) new.at new.word moved
     | above b e lt ↦
         let le : new.at + 1 ≤ s.at = omega (arith, lt) in
-        ap (λ (l : List Waiting). overlay l m) (joined-above s rest b e)
+        ap (λ (l : List Waiting). overlay l m) (joined-above new s rest b e)
         ∙ overlay-set (s ∷ rest) m new.at new.word (
           record {
             from = le;
@@ -180,17 +150,17 @@ module _ (new : Waiting) where
   sets-joined (s ∷ rest) least h is_set = elim (order s.at new.at) [
     | below b lt ↦
         let from : s.at + 1 ≤ new.at = omega (arith, lt) in
-        subst (λ (l : List Waiting). AreSets least l) (sym (joined-below s rest b)) (
+        subst (λ (l : List Waiting). AreSets least l) (sym (joined-below new s rest b)) (
           h.0,
           sets-joined rest (s.at + 1) h.1
               (record { from = from; outside = is_set.outside; within = is_set.within; fits = is_set.fits }),
         )
     | same b e is ↦
         let moved : AreSets (new.at + 1) rest = let family : ℕ → Type 0 = λ k. AreSets (k + 1) rest in subst family is h.1 in
-        subst (λ (l : List Waiting). AreSets least l) (sym (joined-same s rest b e)) (is_set, moved)
+        subst (λ (l : List Waiting). AreSets least l) (sym (joined-same new s rest b e)) (is_set, moved)
     | above b e lt ↦
         let from : new.at + 1 ≤ s.at = omega (arith, lt) in
-        subst (λ (l : List Waiting). AreSets least l) (sym (joined-above s rest b e)) (
+        subst (λ (l : List Waiting). AreSets least l) (sym (joined-above new s rest b e)) (
           is_set,
           (
             record {
@@ -208,39 +178,17 @@ module _ (new : Waiting) where
   pub length-joined : (ps : List Waiting) → length ps ≤ length (joined new ps)
   length-joined [] = omega arith
   length-joined (s ∷ rest) = elim (order s.at new.at) [
-    | below b lt ↦ omega (arith, ap (λ (l : List Waiting). length l) (joined-below s rest b), length-joined rest)
-    | same b e is ↦ omega (arith, ap (λ (l : List Waiting). length l) (joined-same s rest b e))
-    | above b e lt ↦ omega (arith, ap (λ (l : List Waiting). length l) (joined-above s rest b e))
+    | below b lt ↦ omega (arith, ap (λ (l : List Waiting). length l) (joined-below new s rest b), length-joined rest)
+    | same b e is ↦ omega (arith, ap (λ (l : List Waiting). length l) (joined-same new s rest b e))
+    | above b e lt ↦ omega (arith, ap (λ (l : List Waiting). length l) (joined-above new s rest b e))
   ]
 
   pub joined-length : (ps : List Waiting) → length (joined new ps) ≤ length ps + 1
   joined-length [] = omega arith
   joined-length (s ∷ rest) = elim (order s.at new.at) [
-    | below b lt ↦ omega (arith, ap (λ (l : List Waiting). length l) (joined-below s rest b), joined-length rest)
-    | same b e is ↦ omega (arith, ap (λ (l : List Waiting). length l) (joined-same s rest b e))
-    | above b e lt ↦ omega (arith, ap (λ (l : List Waiting). length l) (joined-above s rest b e))
-  ]
-
-  -- it waits
-  look_up-first : (rest : List Waiting) → look_up new.at (new ∷ rest) ≡ Some new.word
-  look_up-first rest = elim (eqb_tells new.at new.at) [
-    | inl e ↦ ap (λ (b : Bool). if b then Some new.word else look_up new.at rest) e.0
-    | inr other ↦ absurd (other.1 refl)
-  ]
-
-  pub look_up-joined : (ps : List Waiting) → look_up new.at (joined new ps) ≡ Some new.word
-  look_up-joined [] = look_up-first []
-  look_up-joined (s ∷ rest) = elim (order s.at new.at) [
-    | below b lt ↦
-        let other : s.at ≢ new.at = omega (arith, lt) in
-        ap (λ (l : List Waiting). look_up new.at l) (joined-below s rest b)
-        ∙ elim (eqb_tells s.at new.at) [
-          | inl e ↦ absurd (other e.1)
-          | inr differs ↦ ap (λ (b : Bool). if b then Some s.word else look_up new.at (joined new rest)) differs.0
-              ∙ look_up-joined rest
-        ]
-    | same b e is ↦ ap (λ (l : List Waiting). look_up new.at l) (joined-same s rest b e) ∙ look_up-first rest
-    | above b e lt ↦ ap (λ (l : List Waiting). look_up new.at l) (joined-above s rest b e) ∙ look_up-first (s ∷ rest)
+    | below b lt ↦ omega (arith, ap (λ (l : List Waiting). length l) (joined-below new s rest b), joined-length rest)
+    | same b e is ↦ omega (arith, ap (λ (l : List Waiting). length l) (joined-same new s rest b e))
+    | above b e lt ↦ omega (arith, ap (λ (l : List Waiting). length l) (joined-above new s rest b e))
   ]
 
 -- the place of a set by the number of those of smaller addresses: it is taken by a set of its address

@@ -105,6 +105,10 @@ pub record IsOpen (m : Memory) : Type 0 where
 abbrev pub IsIdle : Memory → Type 0
 IsIdle m = taken m ≡ 0
 
+-- A transaction that begins with these calls makes so many device writes with its commit: those so far, and those of the commit.
+abbrev pub CountsCommit : ℕ → Memory → Memory → Type 0
+CountsCommit writes old new = IsIdle old → new.facts.writes + commit_writes new ≡ old.facts.writes + writes
+
 -- open, with no transaction: no pair counts
 pub record IsReady (m : Memory) : Type 0 where
   pub usable : IsOpen m

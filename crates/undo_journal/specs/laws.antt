@@ -7,3 +7,6 @@ pub mod Calls
 pub mod Told
 pub mod Exits
 pub mod Transactions
+pub mod Waits
+pub mod Runs
+pub mod Joining

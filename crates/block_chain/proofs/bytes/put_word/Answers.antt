@@ -2,10 +2,10 @@ use Rattle.std.proofs.Common.{rules}
 use Rattle.std.proofs.Common.{◌≡◌, ◌+◌, ◌*◌, ◌%◌, ℕ, List, length, slice_index, slice_set, ◌∙◌, ap, ap₂, subst, inr, arith}
 use Rattle.std.proofs.lemmas.Result.{on_ok_weaker}
 use Rattle.nvm_board.specs.Facts.{address}
-use Rattle.undo_journal.specs.Memory.{current, EndsAt, GoesOn}
+use Rattle.undo_journal.specs.Memory.{current, EndsAt, GoesOn, Joins}
 use Rattle.undo_journal.specs.Lent.{memory_of}
 use Rattle.undo_journal.specs.laws.Calls.{reads_sets, sets_then, runs_then, reads_runs, goes_on_kept}
-use Rattle.block_chain.specs.Parts.{byte_over}
+use Rattle.block_chain.specs.Parts.{byte_over, JoinsAt}
 use Rattle.block_chain.specs.Words.{word, word_bytes}
 use Rattle.undo_journal.specs.laws.Exits.{none_ok}
 use Rattle.undo_journal.specs.laws.Told.{sets_in_handed}
@@ -83,3 +83,20 @@ returns-in_err-word-clause-goes_on g c = λ goes. reads_runs 0 _ _ c.in_err-word
 
 pub returns-in_err-word-clause-next : goal.returns-in_err-word-clause-next
 returns-in_err-word-clause-next g c = none_ok _ _ _ c.from_residual.ensures.1
+
+pub returns-clause-joins : goal.returns-clause-joins
+returns-clause-joins g c =
+    let at : PAGE_WORDS * c.args.page + 1 + c.args.k % BLOCK_WORDS ≡ address c.args.page (1 + c.args.k % BLOCK_WORDS) =
+    omega arith in
+    on_ok_weaker c.set.result (λ
+    (joins : Joins (record { at = PAGE_WORDS * c.args.page + 1 + c.args.k % BLOCK_WORDS; word = c.overwritten_word-new.result })
+    (memory_of c.read.new.self) (memory_of c.set.new.self)).
+    subst (λ (a : ℕ). JoinsAt a (memory_of c.args.txn.now) (memory_of c.set.new.self)) at (record {
+      found = memory_of c.read.new.self;
+      reads = c.read.ensures.store.only.reads;
+      word = c.overwritten_word-new.result;
+      joins = joins;
+    })) c.set.ensures.joins
+
+pub returns-in_err-word-clause-joins : goal.returns-in_err-word-clause-joins
+returns-in_err-word-clause-joins g c = none_ok _ _ _ c.from_residual.ensures.1

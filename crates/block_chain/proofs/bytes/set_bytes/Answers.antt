@@ -9,7 +9,8 @@ use Rattle.block_chain.specs.laws.Overwriting.{overwrites_none}
 use Rattle.block_chain.specs.Changes.{touched_blocks}
 use Rattle.block_chain.proofs.RunCosts.{none_yet, runs_all, runs_more, run_put, run_next}
 use Rattle.block_chain.proofs.Puts.{link_small, put_few, put_first, put_last, put_more}
-use Rattle.block_chain.proofs.Puts.{word_block, word_fits, word_small}
+use Rattle.block_chain.proofs.Puts.{word_block, word_fits, word_small, word_within}
+use Rattle.block_chain.proofs.Counting.{counted-all, counted-more, counted-no_bytes, counted-none}
 use Rattle.block_chain.proofs.bytes.set_bytes.Goals as goal
 
 -- no bytes are put
@@ -42,6 +43,7 @@ loop-k-init g c =
       ready = c.in_ok-page.ensures.store.ready;
       sets = reads_sets _ _ _ c.walk.ensures.store.only;
       runs = none_yet refl (reads_runs 0 _ _ c.walk.ensures.store.only.reads);
+      counted = λ idle. counted-none (chain_of m c.args.chain) (c.args.offset / 4) _ _ c.walk.ensures.store.only.reads idle;
       put = put_first m (chain_of m c.args.chain) _ c.args.offset c.args.bytes.now c.requires.chain c.requires.within
           c.requires.ready.current_size
           _ _ some c.in_ok-page.ensures.page c.walk.ensures.store.only.reads.keeps.current_words;
@@ -126,6 +128,11 @@ loop-k-preserved g c =
       runs = run_next _ _ _ _ _ _ c.loop-k.invariant.runs refl _ c.put_word.ensures.store.sets.writes
           c.put_word.ensures.goes_on c.loop-k.invariant.put.from c.in_ok-put_word.ensures.next _
           c.block_of_word.ensures.store.only.reads _ _ c.in_ok-page-2.ensures.page;
+      counted = λ idle. counted-more (chain_of m c.args.chain) (c.args.offset / 4) k _ _ _ _ _ (c.loop-k.invariant.counted idle)
+          c.requires.chain.once c.loop-k.invariant.put.from
+          (word_within m (chain_of m c.args.chain) _ c.args.offset c.args.bytes.now c.requires.chain c.requires.within
+          c.requires.ready.current_size _ _ _ c.loop-k.invariant.put (omega (arith, c.loop-k-test.true)))
+          c.loop-k.invariant.put.block c.in_ok-put_word.ensures.joins c.block_of_word.ensures.store.only.reads;
       put = put_more m (chain_of m c.args.chain) _ c.args.offset c.args.bytes.now c.requires.chain c.requires.within
           c.requires.ready.current_size
           _ _ _ c.loop-k.invariant.put (omega (arith, c.loop-k-test.true)) _ c.in_ok-put_word.ensures.done
@@ -178,3 +185,26 @@ returns-in_err-page-2-clause-runs g c =
 pub returns-clause-runs : goal.returns-clause-runs
 returns-clause-runs g c =
     runs_all _ _ _ _ _ _ c.loop-k.invariant.runs c.loop-k.invariant.put.some (omega (arith, c.loop-k.invariant.within))
+
+-- the device writes, counted
+
+pub returns-then-is_empty-clause-counted : goal.returns-then-is_empty-clause-counted
+returns-then-is_empty-clause-counted g c = λ idle.
+    let none : length c.args.bytes.now ≡ 0 = search rules in
+    counted-no_bytes c.args.offset (length c.args.bytes.now) (memory_of c.args.txn.now) none idle
+
+pub returns-clause-counted : goal.returns-clause-counted
+returns-clause-counted g c = λ idle.
+    let m = current (memory_of c.args.txn.now) in
+    counted-all (chain_of m c.args.chain) c.args.offset (length c.args.bytes.now) c.loop-k.k _ _ (c.loop-k.invariant.counted idle)
+    c.loop-k.invariant.put.some c.loop-k.invariant.put.from (omega (arith, c.loop-k-test.false))
+    (omega (arith, c.loop-k.invariant.within))
+
+pub returns-in_err-page-clause-counted : goal.returns-in_err-page-clause-counted
+returns-in_err-page-clause-counted g c = none_ok _ _ _ c.from_residual.ensures.1
+
+pub returns-in_err-put_word-clause-counted : goal.returns-in_err-put_word-clause-counted
+returns-in_err-put_word-clause-counted g c = none_ok _ _ _ c.from_residual-in_err-put_word.ensures.1
+
+pub returns-in_err-page-2-clause-counted : goal.returns-in_err-page-2-clause-counted
+returns-in_err-page-2-clause-counted g c = none_ok _ _ _ c.from_residual-in_err-page-2.ensures.1

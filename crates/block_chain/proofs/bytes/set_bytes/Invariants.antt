@@ -1,10 +1,11 @@
 use Rattle.std.proofs.Common.{◌≤◌, ◌-◌, ◌/◌}
-use Rattle.undo_journal.specs.Memory.{current, IsOpen}
+use Rattle.undo_journal.specs.Memory.{current, IsIdle, IsOpen}
 use Rattle.undo_journal.specs.Lent.{memory_of}
 use Rattle.undo_journal.specs.Calls.{Sets}
 use Rattle.block_chain.specs.Chains.{chain_of}
 use Rattle.block_chain.proofs.Puts.{IsPutSoFar}
 use Rattle.block_chain.proofs.RunCosts.{AreRunsSoFar}
+use Rattle.block_chain.proofs.Counting.{IsCounted}
 use Rattle.block_chain.proofs.bytes.set_bytes.Given as goal
 
 abbrev pub invariant-loop-k : goal.invariant-loop-k
@@ -13,6 +14,8 @@ invariant-loop-k g l = let m = current (memory_of l.fn.txn) in record {
   ready : IsOpen (memory_of l.txn);
   sets : Sets (l.k - l.offset / 4) l.fn.txn l.txn;
   runs : AreRunsSoFar (l.offset / 4) l.k l.page (memory_of l.fn.txn) (memory_of l.txn);
+  counted : IsIdle (memory_of l.fn.txn)
+      → IsCounted (chain_of m l.fn.chain) (l.offset / 4) l.k (memory_of l.fn.txn) (memory_of l.txn);
   put : IsPutSoFar m (chain_of m l.fn.chain) l.offset l.bytes l.k l.page (current (memory_of l.txn));
 }
 

@@ -3,7 +3,7 @@ use Rattle.std.proofs.Common.{◌≡◌, ℕ, List, sym, ◌∙◌, ap, subst, i
 use Rattle.std.proofs.Math.Logic.{⊎_map}
 use Rattle.std.proofs.lemmas.Result.{on_ok_weaker}
 use Rattle.undo_journal.specs.Lent.{memory_of}
-use Rattle.undo_journal.specs.Memory.{Memory, committed, current, IsOpen}
+use Rattle.undo_journal.specs.Memory.{Memory, committed, current, IsIdle, IsOpen}
 use Rattle.undo_journal.specs.laws.Exits.{on_error}
 use Rattle.undo_journal.specs.laws.Transactions.{begun, by_gate, commits, not_committed, stays}
 use Rattle.undo_journal.specs.laws.Told.{spent, spent_failed}
@@ -98,3 +98,19 @@ returns-in-Err-clause-by_gate g c =
     let sets = c.set_bytes.ensures.store.sets in
     let last = c.store-in-Err-1.given.1 (sym (sets.same_store ∙ c.begin-txn.ensures.same_store)) in
     not_committed _ _ (memory_of c.set_bytes.new.txn) _ _ c.begin-txn.ensures.same last sets.kept c.abandon.ensures.kept
+
+pub returns-in-Ok-clause-counted : goal.returns-in-Ok-clause-counted
+returns-in-Ok-clause-counted g c =
+    let last = c.store-1.given.1 (sym (c.set_bytes.ensures.store.sets.same_store ∙ c.begin-txn.ensures.same_store)) in
+    let begun : IsIdle (memory_of c.begin-txn.result) =
+    subst (λ (m : Memory). IsIdle m) (sym c.begin-txn.ensures.same) c.requires.ready.idle in
+    let first = ap (λ (m : Memory). m.facts.writes) c.begin-txn.ensures.same in
+    let end = ap (λ (m : Memory). m.facts.writes) last in
+    on_ok_weaker c.commit.result
+    (λ counted. omega (arith, end, counted, c.in-Ok.ensures.counted begun, first)) c.commit.ensures.counted
+
+pub returns-in-Err-clause-counted : goal.returns-in-Err-clause-counted
+returns-in-Err-clause-counted g c =
+    let told = c.in-Err.field-0 in
+    on_error _ c.abandon.result told
+    (sym c.abandon.ensures.store.tells ∙ (c.abandon.ensures.store.reports.stuck told c.in-Err.ensures.store.tells).0)

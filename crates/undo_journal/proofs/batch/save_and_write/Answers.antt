@@ -2,7 +2,7 @@ use Rattle.std.proofs.Common.{ℕ, List, length, inr, sym, ◌∙◌, ap, arith}
 use Rattle.std.proofs.lemmas.Result.{on_ok_weaker}
 use Rattle.undo_journal.proofs.Pairs.{length-pair_words}
 use Rattle.undo_journal.proofs.Saving.{pairs-torn, pairs-sound, gate-torn, gate-sound, named-raised, current-raised}
-use Rattle.undo_journal.proofs.Costing.{writes-some}
+use Rattle.undo_journal.specs.laws.Joining.{writes-some}
 use Rattle.undo_journal.proofs.batch.save_and_write.Goals as goal
 
 pub write_pairs-requires-clause-some : goal.write_pairs-requires-clause-some

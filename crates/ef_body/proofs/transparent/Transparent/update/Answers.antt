@@ -87,3 +87,7 @@ returns-then-ends_before-clause-store g c = reads_change _ _ _ _ c.requires.read
 pub returns-clause-writes : goal.returns-clause-writes
 returns-clause-writes g c =
     within_more _ _ _ _ (touched_most c.args.offset (length c.args.bytes.now)) c.put_bytes.ensures.store.writes
+
+pub returns-clause-counted : goal.returns-clause-counted
+returns-clause-counted g c =
+    store_done c.put_bytes.result c.from_store.result c.from_store.ensures _ c.put_bytes.ensures.counted
