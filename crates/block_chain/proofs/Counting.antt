@@ -1,11 +1,11 @@
 -- The device writes of bytes that are put into a chain, counted word by word, in a transaction that had made no set.
-use Rattle.std.proofs.Common.{◌≡◌, ◌≢◌, ◌==◌, ◌⊎◌, ◌<◌, ◌≤◌, ◌+◌, ◌-◌, ◌*◌, ◌/◌, ◌%◌, ℕ, zero, suc, Bool, List, [], ◌∷◌, length}
-use Rattle.std.proofs.Common.{slice_index, refl, sym, ◌∙◌, ap, subst, inl, inr, arith, Option, Some, None, IsSome, is_some}
+use Rattle.std.proofs.Common.{◌≡◌, ◌≢◌, ◌==◌, ◌<◌, ◌≤◌, ◌+◌, ◌-◌, ◌*◌, ◌/◌, ◌%◌, ℕ, zero, suc, Bool, List, [], length}
+use Rattle.std.proofs.Common.{slice_index, refl, sym, ◌∙◌, ap, subst, inl, inr, arith, Option, None, IsSome, is_some}
 use Rattle.std.specs.Prelude.{if◌then◌else◌}
 use Rattle.std.proofs.lemmas.Bool.{cases_lt}
 use Rattle.std.proofs.lemmas.Bool.Decides.{eqb_tells}
 use Rattle.std.proofs.lemmas.List.{nil_from_length}
-use Rattle.nvm_board.specs.Facts.{address, Facts}
+use Rattle.nvm_board.specs.Facts.{address}
 use Rattle.undo_journal.specs.declared.batch.TheConstants.{BATCH}
 use Rattle.undo_journal.specs.declared.batch.Waiting.{Waiting}
 use Rattle.undo_journal.specs.Batches.{batch_writes, joined, look_up}
@@ -47,7 +47,7 @@ counted-none ps first old now reads idle =
     let nothing : word_writes first (first - first) ≡ 0 = ap (λ (n : ℕ). word_writes first n) none in
     record {
       costs = omega (arith, nothing, ap batch_writes waiting, reads.board.writes);
-      takes = omega (arith, none, reads.keeps.used, idle);
+      takes = omega (arith, none, reads.keeps.taken, idle);
       waits = omega (arith, none, ap (λ (l : List Waiting). length l) waiting);
       behind = subst (λ (l : List Waiting). AreBehind ps first first l) (sym waiting) (record {
         ascending = tt;
@@ -170,7 +170,7 @@ counted-read : (ps : List ℕ) (first k : ℕ) (old now last : Memory) → IsCou
     → IsCounted ps first k old last
 counted-read ps first k old now last so_far reads = record {
   costs = omega (arith, so_far.costs, reads.board.writes, ap batch_writes reads.keeps.waiting);
-  takes = reads.keeps.used ∙ so_far.takes;
+  takes = reads.keeps.taken ∙ so_far.takes;
   waits = ap (λ (l : List Waiting). length l) reads.keeps.waiting ∙ so_far.waits;
   behind = subst (λ (l : List Waiting). AreBehind ps first k l) (sym reads.keeps.waiting) so_far.behind;
 }

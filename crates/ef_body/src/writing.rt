@@ -50,11 +50,8 @@ pub(crate) fn put_bytes<B: Board>(
         ≡ store.old.facts.writes + put_writes offset (length bytes.now)) }
 {
     let mut txn = store.begin();
-    match set_bytes(&mut txn, chain, offset, bytes) {
-        Ok(()) => txn.commit(),
-        // The store keeps its error, and abandon answers it.
-        Err(_) => txn.abandon(),
-    }
+    let work = set_bytes(&mut txn, chain, offset, bytes);
+    txn.end(work)
 }
 
 /// Puts a record's bytes in place of those of a chain from an offset on, and then sets the word of the entry, in one
@@ -80,11 +77,8 @@ pub(crate) fn put_record<B: Board>(
     ensures store { Changes RECORD_WRITES store.old store.new (result_err result) }
 {
     let mut txn = store.begin();
-    match set_record(&mut txn, chain, offset, bytes, told_at, told) {
-        Ok(()) => txn.commit(),
-        // The store keeps its error, and abandon answers it.
-        Err(_) => txn.abandon(),
-    }
+    let work = set_record(&mut txn, chain, offset, bytes, told_at, told);
+    txn.end(work)
 }
 
 /// Sets a record's bytes, and then the word of the entry.

@@ -208,11 +208,8 @@ fn write_file<B: Board>(
 {
     fill(store, blocks, BLANK)?;
     let mut txn = store.begin();
-    match add_file(&mut txn, e, entry, blocks) {
-        Ok(()) => txn.commit(),
-        // the store keeps the error, and `abandon` answers it
-        Err(_) => txn.abandon(),
-    }
+    let work = add_file(&mut txn, e, entry, blocks);
+    txn.end(work)
 }
 
 /// The place of a new file in a dedicated file, or the first reason why it is refused.

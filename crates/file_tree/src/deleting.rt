@@ -138,11 +138,8 @@ fn remove<B: Board>(store: &mut Store<B>, part: &[Entry], chains: &[Chain]) -> R
     ensures store { Changes DELETE_WRITES store.old store.new (result_err result) }
 {
     let mut txn = store.begin();
-    match take_away(&mut txn, part, chains) {
-        Ok(()) => txn.commit(),
-        // the store keeps the error, and `abandon` answers it
-        Err(_) => txn.abandon(),
-    }
+    let work = take_away(&mut txn, part, chains);
+    txn.end(work)
 }
 
 /// What goes with a file: its entries and those of all files below it, their chains, and how much they take.

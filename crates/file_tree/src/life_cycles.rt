@@ -122,11 +122,8 @@ fn write_word<B: Board>(store: &mut Store<B>, at: u16, word: u32) -> Result<(), 
     ensures store { Changes 4 store.old store.new (result_err result) }
 {
     let mut txn = store.begin();
-    match txn.set(at, word) {
-        Ok(()) => txn.commit(),
-        // the store keeps the error, and `abandon` answers it
-        Err(_) => txn.abandon(),
-    }
+    let work = txn.set(at, word);
+    txn.end(work)
 }
 
 /// Brings the file of an entry into a state: ACTIVATE, DEACTIVATE and TERMINATE, once nothing refuses them. Where the file

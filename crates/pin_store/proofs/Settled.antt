@@ -37,7 +37,7 @@ pub compare_ends : (a b c : Memory) (told : Option StoreErr) → IsIdle a → On
     → UnlessFailed told (IsReady c) → c.failed ≡ told → Leaves a c told
 compare_ends a b c told idle reads keeps reports ready tells = record {
   reports = reports_then a b c reads.reports reports;
-  idle = keeps.used ∙ reads.keeps.used ∙ idle;
+  idle = keeps.taken ∙ reads.keeps.taken ∙ idle;
   ready = ready;
   tells = tells;
 }

@@ -115,9 +115,6 @@ pub(crate) fn put_renewed<B: Board>(
     ensures counted { OnOk result (store.new.facts.writes ≡ store.old.facts.writes + renewal_writes secret) }
 {
     let mut txn = store.begin();
-    match set_renewed(&mut txn, secret, new) {
-        Ok(()) => txn.commit(),
-        // The store keeps its error, and abandon answers it.
-        Err(_) => txn.abandon(),
-    }
+    let work = set_renewed(&mut txn, secret, new);
+    txn.end(work)
 }

@@ -1,5 +1,5 @@
 -- What one more set costs.
-use Rattle.std.proofs.Common.{Bool, ◌≡◌, ◌≢◌, ◌⊎◌, ◌<◌, ◌≤◌, ◌+◌, ◌-◌, ◌%◌, ℕ, List, [], ◌∷◌, length, refl, ◌∙◌, ap}
+use Rattle.std.proofs.Common.{Bool, ◌≡◌, ◌≢◌, ◌⊎◌, ◌<◌, ◌≤◌, ◌+◌, ◌-◌, ◌%◌, ℕ, List, [], ◌∷◌, length, ◌∙◌, ap}
 use Rattle.std.proofs.Common.{inl, inr, arith, IsSome, is_some, slice_set, suc, true, false, ◌==◌}
 use Rattle.std.specs.Prelude.{if◌then◌else◌}
 use Rattle.std.proofs.lemmas.Bool.Decides.{eqb_tells, nat_tests}
@@ -10,7 +10,7 @@ use Rattle.undo_journal.specs.declared.batch.Waiting.{Waiting}
 use Rattle.undo_journal.specs.Undo.{data_words, IsDataAddress}
 use Rattle.undo_journal.specs.laws.Undo.{data_words-set}
 use Rattle.undo_journal.specs.laws.Memory.{length-overlay}
-use Rattle.undo_journal.specs.Batches.{overlay, look_up, batch_writes, runs_from, AreSets, joined}
+use Rattle.undo_journal.specs.Batches.{overlay, look_up, batch_writes, AreSets, joined}
 use Rattle.undo_journal.specs.Memory.{Memory, commit_writes, run_writes, taken}
 use Rattle.undo_journal.specs.laws.Joining.{writes-some}
 use Rattle.undo_journal.specs.laws.Runs.{begins-one}

@@ -195,7 +195,7 @@ module _ (inside m new : Memory) (seen : inside ≡ m) (held : IsTrueToBoard ins
         committed_words = ap (λ (l : List ℕ). data_words (undo l)) kept.words ∙ ap committed seen;
         current_words = ap₂ (λ (w : List Waiting) (l : List ℕ). data_words (overlay w l)) waiting kept.words
             ∙ ap current seen;
-        used = ap₂ (λ (u : ℕ) (w : List Waiting). u + length w) used waiting ∙ ap taken seen;
+        taken = ap₂ (λ (u : ℕ) (w : List Waiting). u + length w) used waiting ∙ ap taken seen;
         waiting = waiting ∙ ap (λ (x : Memory). x.waiting) seen;
       };
       reports = noted-reports

@@ -1,5 +1,5 @@
 -- The runs of sets: with one more of them, and as they are written.
-use Rattle.std.proofs.Common.{◌≡◌, ◌≢◌, ◌==◌, ◌⊎◌, ◌<◌, ◌≤◌, ◌+◌, ◌-◌, ◌%◌, ◌&&◌, not, ℕ, zero, suc, Bool, true, false, List}
+use Rattle.std.proofs.Common.{◌≡◌, ◌≢◌, ◌<◌, ◌≤◌, ◌+◌, ◌-◌, ◌%◌, ℕ, zero, suc, Bool, List}
 use Rattle.std.proofs.Common.{[], ◌∷◌, length, drop, get_or, slice_set, refl, sym, ◌∙◌, ap, subst, inl, inr, arith}
 use Rattle.std.proofs.Common.{Some, None, is_some, IsSome, true≢false}
 use Rattle.std.specs.Prelude.{if◌then◌else◌}

@@ -1,10 +1,10 @@
 -- The sets that wait: one more, and what they make of the words.
-use Rattle.std.proofs.Common.{◌≡◌, ◌≢◌, ◌==◌, ◌<◌, ◌≤◌, ◌+◌, ◌^◌, ℕ, zero, suc, Bool, true, false, List}
+use Rattle.std.proofs.Common.{◌≡◌, ◌≢◌, ◌<◌, ◌≤◌, ◌+◌, ◌^◌, ℕ, zero, suc, Bool, List}
 use Rattle.std.proofs.Common.{[], ◌∷◌, length, get_or, slice_index, slice_set, refl, sym, ◌∙◌, ap, subst}
-use Rattle.std.proofs.Common.{inl, inr, arith, nat_lt, Some, None, get_or-set_same, get_or-set_other, insert}
+use Rattle.std.proofs.Common.{inl, inr, arith, Some, None, get_or-set_same, get_or-set_other, insert}
 use Rattle.std.specs.Prelude.{if◌then◌else◌}
 use Rattle.std.proofs.Math.ListN.{length-set}
-use Rattle.std.proofs.lemmas.Bool.Decides.{eqb_tells, leb_tells}
+use Rattle.std.proofs.lemmas.Bool.Decides.{eqb_tells}
 use Rattle.std.proofs.lemmas.List.Elements.{All-set}
 use Rattle.nvm_board.specs.Facts.{AreWords}
 use Rattle.undo_journal.specs.declared.batch.Waiting.{Waiting}

@@ -6,6 +6,7 @@ pub mod Batches
 pub mod Parts
 pub mod Memory
 pub mod Commits
+pub mod Endings
 pub mod Working
 pub mod Lent
 pub mod Calls

@@ -120,7 +120,7 @@ pub record IsReady (m : Memory) : Type 0 where
 pub record KeepsWords (old new : Memory) : Type 0 where
   pub committed_words : committed new ≡ committed old
   pub current_words : current new ≡ current old
-  pub used : taken new ≡ taken old
+  pub taken : taken new ≡ taken old
   pub waiting : new.waiting ≡ old.waiting
 
 -- What the invariant of a store says while it has not failed: the gate counts the pairs in use, which are whole batches; those

@@ -7,6 +7,7 @@ pub mod Calls
 pub mod Told
 pub mod Exits
 pub mod Transactions
+pub mod Endings
 pub mod Waits
 pub mod Runs
 pub mod Joining

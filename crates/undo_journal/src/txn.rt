@@ -1,10 +1,11 @@
 //! A transaction.
-ghost use Rattle.std.specs.Prelude.{◌≡◌, ◌⊎◌, ◌+◌, ◌*◌, ◌<◌, ◌≤◌, length, IfOk, OnOk, IsErrOf, true, slice_index};
+ghost use Rattle.std.specs.Prelude.{◌≡◌, ◌⊎◌, ◌+◌, ◌*◌, ◌<◌, ◌≤◌, length, IfOk, OnOk, IsErrOf, IsOk, None, Some, true, slice_index};
 ghost use Rattle.std.specs.Prelude.{slice_set};
 ghost use Rattle.std.specs.Result.{result_err};
 ghost use Rattle.nvm_board.specs.Torn.{written};
 ghost use Rattle.undo_journal.specs.declared.error.StoreErr.TheVariants.{PowerLost};
 ghost use Rattle.undo_journal.specs.Commits.{TurnsGate};
+ghost use Rattle.undo_journal.specs.Endings.{ended, end_writes};
 ghost use Rattle.undo_journal.specs.Undo.{IsDataAddress, IsDataRun};
 ghost use Rattle.undo_journal.specs.Spending.{rollback_writes, WritesAtMost};
 ghost use Rattle.undo_journal.specs.Batches.{joined_run, touched_pages};
@@ -15,8 +16,8 @@ use crate::error::StoreErr;
 use crate::store::Store;
 use nvm_board::Board;
 
-/// A transaction on a store: its sets become lasting together by `commit`, or none of them by `abandon`.
-/// It must be spent by one of the two.
+/// A transaction on a store: its sets become lasting together by `commit`, or none of them by `abandon`. It must be spent: by `end`,
+/// which is the one or the other by what became of the work, or by one of the two.
 pub struct Txn<'a, B: Board> {
     pub(crate) store: &'a mut Store<B>,
 }
@@ -125,5 +126,35 @@ impl<B: Board> Txn<'_, B> {
     {
         let Txn { store } = self;
         store.abandon()
+    }
+
+    /// Ends the transaction by what became of its work: commits it where that was done, and abandons it where it failed. Then the
+    /// work's error is answered, also where the words could not be put back.
+    ///
+    /// # Errors
+    /// The work's error; or the store's failure in the commit: power was lost, or the device failed, in it or in an earlier call.
+    pub fn end(self, work: Result<(), StoreErr>) -> Result<(), StoreErr>
+        ensures any_exit { (committed self.exit.0.now ≡ committed (memory_of self.entry))
+            ⊎ (IsOk work × (committed self.exit.0.now ≡ current (memory_of self.entry))
+            × TurnsGate (committed (memory_of self.entry)) self.exit.0.now) }
+        ensures last { (committed self.exit.0.now ≡ committed (memory_of self.entry))
+            ⊎ ((memory_of self.entry).facts.writes + commit_writes (memory_of self.entry) ≤ self.exit.0.now.facts.writes + 1) }
+        ensures done { OnOk result (committed self.exit.0.now ≡ current (memory_of self.entry)) }
+        ensures answered { result ≡ ended work self.exit.0.now.failed }
+        ensures store { Changes (end_writes work (memory_of self.entry)) (memory_of self.entry) self.exit.0.now
+            self.exit.0.now.failed }
+        ensures counted { self.exit.0.now.failed ≡ None → self.exit.0.now.facts.writes
+            ≡ (memory_of self.entry).facts.writes + end_writes work (memory_of self.entry) }
+        ensures dark { self.exit.0.now.failed ≡ Some PowerLost → self.exit.0.now.facts.dark ≡ true }
+    {
+        let Txn { store } = self;
+        match work {
+            Ok(()) => store.commit(),
+            Err(e) => {
+                // the error that ended the work is told, whatever comes of the rollback
+                let _ = store.abandon();
+                Err(e)
+            }
+        }
     }
 }

@@ -87,7 +87,7 @@ writes_after n a b f reads costs = spends_after n a.facts b.facts f reads.board 
 pub reads_same : (m : Memory) → OnlyReads m m
 reads_same m = record {
   board = record { cut = aim_same m.facts; words = refl; writes = refl; compares = refl; matches = refl };
-  keeps = record { committed_words = refl; current_words = refl; used = refl; waiting = refl };
+  keeps = record { committed_words = refl; current_words = refl; taken = refl; waiting = refl };
   reports = reports_same m;
 }
 
@@ -98,7 +98,7 @@ reads_then a b c first rest = record {
   keeps = record {
     committed_words = rest.keeps.committed_words ∙ first.keeps.committed_words;
     current_words = rest.keeps.current_words ∙ first.keeps.current_words;
-    used = rest.keeps.used ∙ first.keeps.used;
+    taken = rest.keeps.taken ∙ first.keeps.taken;
     waiting = rest.keeps.waiting ∙ first.keeps.waiting;
   };
   reports = reports_then a b c first.reports rest.reports;
@@ -122,7 +122,7 @@ runs_then i k n a b c fits first rest = record {
 -- reads make none
 pub reads_runs : (n : ℕ) (a b : Memory) → OnlyReads a b → InRuns n a b
 reads_runs n a b reads = record {
-  writes = omega (arith, reads.board.writes, ap batch_writes reads.keeps.waiting, ap (λ (t : ℕ). run_writes t) reads.keeps.used);
+  writes = omega (arith, reads.board.writes, ap batch_writes reads.keeps.waiting, ap (λ (t : ℕ). run_writes t) reads.keeps.taken);
   more = omega (arith, reads.board.writes);
   cut = aims_kept a.facts b.facts reads.board.cut;
   compares = reads.board.compares;
@@ -153,7 +153,7 @@ pub ends_kept : (a b : Memory) (at : ℕ) → OnlyReads a b → EndsAt a at → 
 ends_kept a b at reads ends = ⊎_map
     (λ begun. (
       reads.keeps.waiting ∙ begun.0,
-      (let u : 0 < b.used = omega (arith, reads.keeps.used, ap (λ (l : List Waiting). length l) reads.keeps.waiting, begun.1) in u),
+      (let u : 0 < b.used = omega (arith, reads.keeps.taken, ap (λ (l : List Waiting). length l) reads.keeps.waiting, begun.1) in u),
     ))
     (λ waits. subst (λ (l : List Waiting). IsSome (look_up at l)) (sym reads.keeps.waiting) waits) ends
 
@@ -176,8 +176,8 @@ pub reads_sets : {B : Type 0} (n : ℕ) (a b : Txn B) → TxnReads a b → Sets 
 reads_sets n a b reads = record {
   same_store = reads.same_store;
   kept = reads.reads.keeps.committed_words;
-  room = omega (arith, reads.reads.keeps.used);
-  taken = omega (arith, reads.reads.keeps.used);
+  room = omega (arith, reads.reads.keeps.taken);
+  taken = omega (arith, reads.reads.keeps.taken);
   reports = reads.reads.reports;
   writes = reads_runs n (memory_of a) (memory_of b) reads.reads;
 }

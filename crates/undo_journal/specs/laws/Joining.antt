@@ -1,9 +1,8 @@
 -- What a set costs that stands alone, by what it makes of those that wait: none of its address waits yet, nor of the one behind it.
 -- It is the first of a batch, or it goes on with the run of the word before it, or it begins a run.
-use Rattle.std.proofs.Common.{◌≡◌, ◌≢◌, ◌⊎◌, ◌<◌, ◌≤◌, ◌+◌, ◌-◌, ◌%◌, ℕ, List, [], ◌∷◌, length, refl, ◌∙◌, ap, inl, inr, arith}
+use Rattle.std.proofs.Common.{◌≡◌, ◌≢◌, ◌⊎◌, ◌≤◌, ◌+◌, ◌-◌, ◌%◌, List, [], ◌∷◌, length, refl, ap, inl, inr, arith}
 use Rattle.std.proofs.Common.{IsSome, None}
 use Rattle.nvm_board.specs.declared.board.TheConstants.{PAGE_WORDS}
-use Rattle.undo_journal.specs.declared.batch.TheConstants.{BATCH}
 use Rattle.undo_journal.specs.declared.batch.Waiting.{Waiting}
 use Rattle.undo_journal.specs.Batches.{look_up, joined, batch_writes, runs_from}
 use Rattle.undo_journal.specs.Memory.{Memory, Joins, spent, taken}

@@ -1,21 +1,16 @@
 -- Laws of what calls tell: a call after others, and an error that is handed on. `a` is the store before them, `b` between
 -- them, `c` after them; `r` is what is answered.
-use Rattle.std.specs.Prelude.{if◌then◌else◌, Option, Some, None, Result, Ok, Err, IsErrAnd}
+use Rattle.std.specs.Prelude.{Option, Some, None, Result, Ok, Err, IsErrAnd}
 use Rattle.std.specs.Result.{result_err}
-use Rattle.std.proofs.Common.{◌≡◌, ◌≢◌, ◌≤◌, ◌+◌, ℕ, Bool, [], length, sym, ap, subst, inl, inr, ◌∙◌, arith}
-use Rattle.std.proofs.lemmas.Bool.Decides.{eqb_tells}
+use Rattle.std.proofs.Common.{◌≡◌, ◌≤◌, ◌+◌, ℕ, [], length, sym, ap, subst, ◌∙◌, arith}
 use Rattle.std.proofs.lemmas.List.{nil_from_length}
-use Rattle.nvm_board.specs.laws.Aims.{aims_then}
-use Rattle.undo_journal.specs.Batches.{batch_writes}
 use Rattle.undo_journal.specs.declared.error.StoreErr.{StoreErr}
 use Rattle.undo_journal.specs.declared.txn.Txn.{Txn}
-use Rattle.undo_journal.specs.Memory.{Memory, Reports, InRuns, IsIdle, IsReady, commit_writes, taken}
-use Rattle.undo_journal.specs.Spending.{transaction_writes}
+use Rattle.undo_journal.specs.Memory.{Memory, Reports, IsIdle, IsReady}
 use Rattle.undo_journal.specs.Calls.{OnlyReads, TxnReads, Sets, UnlessFailed, Reads, Leaves, Changes, ReadsIn, SetsIn}
 use Rattle.undo_journal.specs.laws.Memory.{reports_then, writes_then}
 use Rattle.undo_journal.specs.laws.Calls.{reads_then, reads_same, reads_spend, writes_after, within_more}
 use Rattle.undo_journal.specs.laws.Calls.{txn_reads_then, sets_then, sets_weaker}
-use Rattle.undo_journal.specs.laws.Transactions.{stays_spends}
 
 -- the error that is answered is the one that was handed on
 pub told_is : {T E : Type 0} (r : Result T E) (e : E) → IsErrAnd r (λ f. f ≡ e) → Some e ≡ result_err r
@@ -52,7 +47,7 @@ reads_none a ready = reads_so_far a a (reads_same a) ready
 pub reads_leave : (a b : Memory) (told : Option StoreErr) → IsIdle a → Reads a b told → Leaves a b told
 reads_leave a b told idle reads = record {
   reports = reads.only.reports;
-  idle = reads.only.keeps.used ∙ idle;
+  idle = reads.only.keeps.taken ∙ idle;
   ready = reads.ready;
   tells = reads.tells;
 }
@@ -60,7 +55,7 @@ reads_leave a b told idle reads = record {
 pub reads_change : (n : ℕ) (a b : Memory) (told : Option StoreErr) → IsIdle a → Reads a b told → Changes n a b told
 reads_change n a b told idle reads = record {
   reports = reads.only.reports;
-  idle = reads.only.keeps.used ∙ idle;
+  idle = reads.only.keeps.taken ∙ idle;
   ready = reads.ready;
   tells = reads.tells;
   writes = reads_spend n a b reads.only;
@@ -165,63 +160,3 @@ sets_in_handed n a b r e is sets = subst (λ (told : Option StoreErr). SetsIn n 
 -- where no set was made nothing waits
 pub idle_waits : (m : Memory) → IsIdle m → m.waiting ≡ []
 idle_waits m idle = nil_from_length m.waiting (let none : length m.waiting ≡ 0 = omega (arith, idle) in none)
-
--- what the sets of a transaction and its commit cost
-pub transaction_costs : (n r : ℕ) (b t : Memory) → IsIdle b → taken t ≤ taken b + n → InRuns r b t
-    → t.facts.writes + commit_writes t ≤ b.facts.writes + transaction_writes n r
-transaction_costs n r b t idle few runs =
-    let none = ap batch_writes (idle_waits b idle) in
-    elim (eqb_tells (taken t) 0) [
-      | inl nothing ↦
-          let commit = ap (λ (z : Bool). if z then 0 else batch_writes t.waiting + 1) nothing.0 in
-          omega (arith, idle, few, runs.writes, none, commit, nothing.1)
-      | inr some ↦
-          let commit = ap (λ (z : Bool). if z then 0 else batch_writes t.waiting + 1) some.0 in
-          let more : taken t ≢ 0 = some.1 in
-          omega (arith, idle, few, runs.writes, none, commit, more)
-    ]
-
--- A transaction that is begun on an idle store and spent: `a` is the store before it, `b` as it is begun, `t` after the work, `c` as
--- commit leaves it, and `x` the store afterwards.
-pub spent : (n r k : ℕ) (a b t c x : Memory) (told : Option StoreErr) → transaction_writes n r ≤ k → IsIdle a → b ≡ a → x ≡ c
-    → taken t ≤ taken b + n → Reports b t → InRuns r b t → Changes (commit_writes t) t c told → Changes k a x told
-spent n r k a b t c x told fits idle begun last few first runs rest =
-    let idle_b : IsIdle b = subst (λ (m : Memory). IsIdle m) (sym begun) idle in
-    let costs = transaction_costs n r b t idle_b few runs in
-    subst (λ (m : Memory). Changes k m x told) begun
-    (subst (λ (m : Memory). Changes k b m told) (sym last) (record {
-      reports = reports_then b t c first rest.reports;
-      idle = rest.idle;
-      ready = rest.ready;
-      tells = rest.tells;
-      writes = record {
-        writes = omega (arith, costs, rest.writes.writes, fits);
-        more = omega (arith, runs.more, rest.writes.more);
-        cut = aims_then b.facts t.facts c.facts runs.cut rest.writes.cut;
-        compares = rest.writes.compares ∙ runs.compares;
-        matches = rest.writes.matches ∙ runs.matches;
-      };
-    }))
-
--- one whose work failed: what abandoning it does is nothing
-pub spent_failed : (n r k i : ℕ) (a b t c x : Memory) (told : Option StoreErr) (e : StoreErr) → transaction_writes n r ≤ k → IsIdle a
-    → b ≡ a → x ≡ c → taken t ≤ taken b + n → Reports b t → InRuns r b t → t.failed ≡ Some e → Changes i t c told
-    → Changes k a x told
-spent_failed n r k i a b t c x told e fits idle begun last few first runs failed rest =
-    let idle_b : IsIdle b = subst (λ (m : Memory). IsIdle m) (sym begun) idle in
-    let costs = transaction_costs n r b t idle_b few runs in
-    let same = stays_spends t.facts c.facts (rest.reports.stuck e failed).1 in
-    subst (λ (m : Memory). Changes k m x told) begun
-    (subst (λ (m : Memory). Changes k b m told) (sym last) (record {
-      reports = reports_then b t c first rest.reports;
-      idle = rest.idle;
-      ready = rest.ready;
-      tells = rest.tells;
-      writes = record {
-        writes = omega (arith, costs, same.writes, fits);
-        more = omega (arith, runs.more, same.more);
-        cut = aims_then b.facts t.facts c.facts runs.cut same.cut;
-        compares = same.compares ∙ runs.compares;
-        matches = same.matches ∙ runs.matches;
-      };
-    }))

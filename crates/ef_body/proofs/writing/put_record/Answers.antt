@@ -1,106 +1,64 @@
 use Rattle.std.specs.Prelude.{◌*◌, ◌+◌, ◌≤◌, length}
-use Rattle.std.proofs.Common.{◌≡◌, ℕ, List, sym, ◌∙◌, ap, subst, inl, arith}
-use Rattle.std.proofs.Math.Logic.{⊎_map}
-use Rattle.std.proofs.lemmas.Result.{on_ok_weaker}
+use Rattle.std.proofs.Common.{ℕ, List, sym, ◌∙◌, subst, arith}
 use Rattle.undo_journal.specs.Lent.{memory_of}
-use Rattle.undo_journal.specs.Memory.{Memory, committed, current, IsOpen}
-use Rattle.undo_journal.specs.laws.Exits.{on_error}
-use Rattle.undo_journal.specs.laws.Transactions.{begun, by_gate, commits, not_committed, stays}
-use Rattle.undo_journal.specs.laws.Told.{spent, spent_failed}
+use Rattle.undo_journal.specs.Memory.{Memory, IsOpen}
+use Rattle.undo_journal.specs.laws.Endings.{ends, ends_answered, ends_by_gate, ends_done}
+use Rattle.undo_journal.specs.laws.Transactions.{begun}
 use Rattle.block_chain.specs.declared.layout.TheConstants.{BLOCK_BYTES}
 use Rattle.block_chain.specs.Chains.{chain_of, IsChain}
-use Rattle.block_chain.specs.Changes.{touched_blocks, touched_words}
+use Rattle.block_chain.specs.Changes.{touched_words, touched_blocks}
 use Rattle.ef_body.specs.declared.layout.TheConstants.{RECORD_WRITES}
 use Rattle.ef_body.specs.Changes.{PutsRecord}
 use Rattle.ef_body.proofs.Putting.{touched_few, touched_few_blocks}
 use Rattle.ef_body.proofs.writing.put_record.Goals as goal
 
-pub returns-in-Ok-clause-any_exit : goal.returns-in-Ok-clause-any_exit
-returns-in-Ok-clause-any_exit g c =
-    let sets = c.set_record.ensures.store.sets in
-    let last = c.store-1.given.1 (sym (sets.same_store ∙ c.begin-txn.ensures.same_store)) in
-    ⊎_map
-    (λ still. stays _ _ (memory_of c.set_record.new.txn) _ _ c.begin-txn.ensures.same last sets.kept still)
-    (λ made. commits
-    (λ (m after : List ℕ). PutsRecord m c.args.chain c.args.offset c.args.bytes.now c.args.told_at c.args.told after)
-    _ _ _ _ c.begin-txn.ensures.same c.requires.ready c.in-Ok.ensures.done
-    (ap (λ (m : Memory). committed m) last ∙ made.0))
-    c.commit.ensures.any_exit
-
-pub returns-in-Ok-clause-done : goal.returns-in-Ok-clause-done
-returns-in-Ok-clause-done g c =
-    let sets = c.set_record.ensures.store.sets in
-    let last = c.store-1.given.1 (sym (sets.same_store ∙ c.begin-txn.ensures.same_store)) in
-    on_ok_weaker c.commit.result
-    (λ (made : committed c.commit.new.self.0 ≡ current (memory_of c.set_record.new.txn)). commits
-    (λ (m after : List ℕ). PutsRecord m c.args.chain c.args.offset c.args.bytes.now c.args.told_at c.args.told after)
-    _ _ _ _ c.begin-txn.ensures.same c.requires.ready c.in-Ok.ensures.done
-    (ap (λ (m : Memory). committed m) last ∙ made))
-    c.commit.ensures.done
-
-pub returns-in-Ok-clause-store : goal.returns-in-Ok-clause-store
-returns-in-Ok-clause-store g c =
-    let words = touched_words c.args.offset (length c.args.bytes.now) + 1 in
-    let runs = touched_blocks c.args.offset (length c.args.bytes.now) + 1 in
-    let sets = c.set_record.ensures.store.sets in
-    let last = c.store-1.given.1 (sym (sets.same_store ∙ c.begin-txn.ensures.same_store)) in
-    let most = touched_few c.args.offset (length c.args.bytes.now) c.requires.few in
-    let blocks = touched_few_blocks c.args.offset (length c.args.bytes.now) c.requires.few in
-    spent words runs RECORD_WRITES _ _ (memory_of c.set_record.new.txn) _ _ _ (omega (arith, most, blocks))
-    c.requires.ready.idle c.begin-txn.ensures.same last sets.taken sets.reports c.set_record.ensures.runs c.commit.ensures.store
-
-pub returns-in-Err-clause-any_exit : goal.returns-in-Err-clause-any_exit
-returns-in-Err-clause-any_exit g c =
-    let sets = c.set_record.ensures.store.sets in
-    let last = c.store-in-Err-1.given.1 (sym (sets.same_store ∙ c.begin-txn.ensures.same_store)) in
-    inl (stays _ _ (memory_of c.set_record.new.txn) _ _ c.begin-txn.ensures.same last sets.kept c.abandon.ensures.kept)
-
-pub returns-in-Err-clause-done : goal.returns-in-Err-clause-done
-returns-in-Err-clause-done g c =
-    let told = c.in-Err.field-0 in
-    on_error _ c.abandon.result told
-    (sym c.abandon.ensures.store.tells ∙ (c.abandon.ensures.store.reports.stuck told c.in-Err.ensures.store.tells).0)
-
-pub returns-in-Err-clause-store : goal.returns-in-Err-clause-store
-returns-in-Err-clause-store g c =
-    let words = touched_words c.args.offset (length c.args.bytes.now) + 1 in
-    let runs = touched_blocks c.args.offset (length c.args.bytes.now) + 1 in
-    let sets = c.set_record.ensures.store.sets in
-    let last = c.store-in-Err-1.given.1 (sym (sets.same_store ∙ c.begin-txn.ensures.same_store)) in
-    let most = touched_few c.args.offset (length c.args.bytes.now) c.requires.few in
-    let blocks = touched_few_blocks c.args.offset (length c.args.bytes.now) c.requires.few in
-    spent_failed words runs RECORD_WRITES _ _ _ (memory_of c.set_record.new.txn) _ _ _ c.in-Err.field-0
-    (omega (arith, most, blocks)) c.requires.ready.idle c.begin-txn.ensures.same last sets.taken sets.reports c.set_record.ensures.runs
-    c.in-Err.ensures.store.tells c.abandon.ensures.store
-
-pub set_record-requires-clause-ready : goal.set_record-requires-clause-ready
-set_record-requires-clause-ready g c =
+pub set_record-work-requires-clause-ready : goal.set_record-work-requires-clause-ready
+set_record-work-requires-clause-ready g c =
     subst (λ (m : Memory). IsOpen m) (sym c.begin-txn.ensures.same) c.requires.ready.usable
 
-pub set_record-requires-clause-chain : goal.set_record-requires-clause-chain
-set_record-requires-clause-chain g c =
+pub set_record-work-requires-clause-chain : goal.set_record-work-requires-clause-chain
+set_record-work-requires-clause-chain g c =
     subst (λ (m : List ℕ). IsChain m c.args.chain.first (chain_of m c.args.chain))
     (begun c.args.store.now (memory_of c.begin-txn.result) c.begin-txn.ensures.same c.requires.ready) c.requires.chain
 
-pub set_record-requires-clause-within : goal.set_record-requires-clause-within
-set_record-requires-clause-within g c =
+pub set_record-work-requires-clause-within : goal.set_record-work-requires-clause-within
+set_record-work-requires-clause-within g c =
     subst (λ (m : List ℕ). c.args.offset + length c.args.bytes.now ≤ BLOCK_BYTES * length (chain_of m c.args.chain))
     (begun c.args.store.now (memory_of c.begin-txn.result) c.begin-txn.ensures.same c.requires.ready) c.requires.within
 
-pub set_record-requires-clause-room : goal.set_record-requires-clause-room
-set_record-requires-clause-room g c =
+pub set_record-work-requires-clause-room : goal.set_record-work-requires-clause-room
+set_record-work-requires-clause-room g c =
     let most = touched_few c.args.offset (length c.args.bytes.now) c.requires.few in
     let blocks = touched_few_blocks c.args.offset (length c.args.bytes.now) c.requires.few in
     omega (arith, most, c.begin-txn.ensures.room)
 
-pub returns-in-Ok-clause-by_gate : goal.returns-in-Ok-clause-by_gate
-returns-in-Ok-clause-by_gate g c =
-    let sets = c.set_record.ensures.store.sets in
-    let last = c.store-1.given.1 (sym (sets.same_store ∙ c.begin-txn.ensures.same_store)) in
-    by_gate _ _ _ (memory_of c.set_record.new.txn) _ _ c.begin-txn.ensures.same last sets.kept c.commit.ensures.any_exit
+pub returns-clause-any_exit : goal.returns-clause-any_exit
+returns-clause-any_exit g c =
+    let set = c.set_record-work.ensures in
+    let last = c.store-1.given.1 (sym (set.store.sets.same_store ∙ c.begin-txn.ensures.same_store)) in
+    ends (λ m after. PutsRecord m c.args.chain c.args.offset c.args.bytes.now c.args.told_at c.args.told after) _ c.set_record-work.result _ _ (memory_of c.set_record-work.new.txn) _ _ c.begin-txn.ensures.same last
+    c.requires.ready set.store.sets.kept set.done c.end.ensures.any_exit
 
-pub returns-in-Err-clause-by_gate : goal.returns-in-Err-clause-by_gate
-returns-in-Err-clause-by_gate g c =
-    let sets = c.set_record.ensures.store.sets in
-    let last = c.store-in-Err-1.given.1 (sym (sets.same_store ∙ c.begin-txn.ensures.same_store)) in
-    not_committed _ _ (memory_of c.set_record.new.txn) _ _ c.begin-txn.ensures.same last sets.kept c.abandon.ensures.kept
+pub returns-clause-done : goal.returns-clause-done
+returns-clause-done g c =
+    let set = c.set_record-work.ensures in
+    let last = c.store-1.given.1 (sym (set.store.sets.same_store ∙ c.begin-txn.ensures.same_store)) in
+    ends_done (λ m after. PutsRecord m c.args.chain c.args.offset c.args.bytes.now c.args.told_at c.args.told after) c.set_record-work.result c.end.result _ _ (memory_of c.set_record-work.new.txn) _ _ c.begin-txn.ensures.same last
+    c.requires.ready set.done c.end.ensures.answered c.end.ensures.done
+
+pub returns-clause-by_gate : goal.returns-clause-by_gate
+returns-clause-by_gate g c =
+    let set = c.set_record-work.ensures in
+    let last = c.store-1.given.1 (sym (set.store.sets.same_store ∙ c.begin-txn.ensures.same_store)) in
+    ends_by_gate _ _ _ _ (memory_of c.set_record-work.new.txn) _ _ c.begin-txn.ensures.same last set.store.sets.kept
+    c.end.ensures.any_exit
+
+pub returns-clause-store : goal.returns-clause-store
+returns-clause-store g c =
+    let set = c.set_record-work.ensures in
+    let last = c.store-1.given.1 (sym (set.store.sets.same_store ∙ c.begin-txn.ensures.same_store)) in
+    let most = touched_few c.args.offset (length c.args.bytes.now) c.requires.few in
+    let blocks = touched_few_blocks c.args.offset (length c.args.bytes.now) c.requires.few in
+    ends_answered (touched_words c.args.offset (length c.args.bytes.now) + 1) (touched_blocks c.args.offset (length c.args.bytes.now) + 1) RECORD_WRITES c.set_record-work.result c.end.result _ _ (memory_of c.set_record-work.new.txn) _ _ (omega (arith, most, blocks))
+    c.begin-txn.ensures.same last c.requires.ready set.store.sets.taken set.store.sets.reports set.runs set.store.tells
+    c.end.ensures.store c.end.ensures.answered

@@ -1,57 +1,33 @@
-use Rattle.std.proofs.Common.{◌≡◌, slice_set, sym, ◌∙◌, inl, arith}
+use Rattle.std.proofs.Common.{◌≡◌, slice_set, sym, ◌∙◌, arith}
 use Rattle.undo_journal.specs.Lent.{memory_of}
-use Rattle.undo_journal.specs.laws.Exits.{on_then, on_error}
-use Rattle.undo_journal.specs.laws.Transactions.{by_gate, not_committed, stays}
-use Rattle.file_tree.proofs.Transactions.{lasts, stays_or_lasts}
-use Rattle.undo_journal.specs.laws.Told.{spent, spent_failed}
+use Rattle.undo_journal.specs.laws.Endings.{ends, ends_answered, ends_by_gate, ends_done}
 use Rattle.file_tree.proofs.life_cycles.write_word.Goals as goal
 
-pub returns-in-Ok-clause-any_exit : goal.returns-in-Ok-clause-any_exit
-returns-in-Ok-clause-any_exit g c =
-    let last = c.store-1.given.1 (sym (c.set.ensures.store.sets.same_store ∙ c.begin-txn.ensures.same_store)) in
-    stays_or_lasts (λ m after. after ≡ slice_set m c.args.at c.args.word) _ _ _
-    (memory_of c.set.new.self) _ _ c.begin-txn.ensures.same last c.requires.ready c.set.ensures.store.sets.kept
-    c.in-Ok.ensures.done c.commit.ensures.any_exit
+pub returns-clause-any_exit : goal.returns-clause-any_exit
+returns-clause-any_exit g c =
+    let set = c.set-work.ensures in
+    let last = c.store-1.given.1 (sym (set.store.sets.same_store ∙ c.begin-txn.ensures.same_store)) in
+    ends (λ m after. after ≡ slice_set m c.args.at c.args.word) _ c.set-work.result _ _ (memory_of c.set-work.new.self) _ _ c.begin-txn.ensures.same last
+    c.requires.ready set.store.sets.kept set.done c.end.ensures.any_exit
 
-pub returns-in-Ok-clause-done : goal.returns-in-Ok-clause-done
-returns-in-Ok-clause-done g c =
-    let last = c.store-1.given.1 (sym (c.set.ensures.store.sets.same_store ∙ c.begin-txn.ensures.same_store)) in
-    on_then _ _ c.commit.result
-    (λ made. lasts (λ m after. after ≡ slice_set m c.args.at c.args.word) _ _
-    (memory_of c.set.new.self) _ _ c.begin-txn.ensures.same last c.requires.ready c.in-Ok.ensures.done made)
-    c.commit.ensures.done
+pub returns-clause-done : goal.returns-clause-done
+returns-clause-done g c =
+    let set = c.set-work.ensures in
+    let last = c.store-1.given.1 (sym (set.store.sets.same_store ∙ c.begin-txn.ensures.same_store)) in
+    ends_done (λ m after. after ≡ slice_set m c.args.at c.args.word) c.set-work.result c.end.result _ _ (memory_of c.set-work.new.self) _ _ c.begin-txn.ensures.same last
+    c.requires.ready set.done c.end.ensures.answered c.end.ensures.done
 
-pub returns-in-Ok-clause-store : goal.returns-in-Ok-clause-store
-returns-in-Ok-clause-store g c =
-    let last = c.store-1.given.1 (sym (c.set.ensures.store.sets.same_store ∙ c.begin-txn.ensures.same_store)) in
-    spent 1 1 4 _ _ (memory_of c.set.new.self) _ _ _ (omega arith) c.requires.ready.idle c.begin-txn.ensures.same last
-    c.set.ensures.store.sets.taken c.set.ensures.store.sets.reports c.set.ensures.store.sets.writes c.commit.ensures.store
+pub returns-clause-by_gate : goal.returns-clause-by_gate
+returns-clause-by_gate g c =
+    let set = c.set-work.ensures in
+    let last = c.store-1.given.1 (sym (set.store.sets.same_store ∙ c.begin-txn.ensures.same_store)) in
+    ends_by_gate _ _ _ _ (memory_of c.set-work.new.self) _ _ c.begin-txn.ensures.same last set.store.sets.kept
+    c.end.ensures.any_exit
 
-pub returns-in-Err-clause-store : goal.returns-in-Err-clause-store
-returns-in-Err-clause-store g c =
-    let last = c.store-in-Err-1.given.1 (sym (c.set.ensures.store.sets.same_store ∙ c.begin-txn.ensures.same_store)) in
-    spent_failed 1 1 4 _ _ _ (memory_of c.set.new.self) _ _ _ _ (omega arith) c.requires.ready.idle c.begin-txn.ensures.same last
-    c.set.ensures.store.sets.taken c.set.ensures.store.sets.reports c.set.ensures.store.sets.writes c.in-Err.ensures.store.tells
-    c.abandon.ensures.store
-
-pub returns-in-Err-clause-any_exit : goal.returns-in-Err-clause-any_exit
-returns-in-Err-clause-any_exit g c =
-    let last = c.store-in-Err-1.given.1 (sym (c.set.ensures.store.sets.same_store ∙ c.begin-txn.ensures.same_store)) in
-    inl (stays _ _ (memory_of c.set.new.self) _ _ c.begin-txn.ensures.same last c.set.ensures.store.sets.kept c.abandon.ensures.kept)
-
-pub returns-in-Err-clause-done : goal.returns-in-Err-clause-done
-returns-in-Err-clause-done g c =
-    on_error _ c.abandon.result c.in-Err.field-0 (sym c.abandon.ensures.store.tells ∙
-    (c.abandon.ensures.store.reports.stuck c.in-Err.field-0 c.in-Err.ensures.store.tells).0)
-
-pub returns-in-Ok-clause-by_gate : goal.returns-in-Ok-clause-by_gate
-returns-in-Ok-clause-by_gate g c =
-    let sets = c.set.ensures.store.sets in
-    let last = c.store-1.given.1 (sym (sets.same_store ∙ c.begin-txn.ensures.same_store)) in
-    by_gate _ _ _ (memory_of c.set.new.self) _ _ c.begin-txn.ensures.same last sets.kept c.commit.ensures.any_exit
-
-pub returns-in-Err-clause-by_gate : goal.returns-in-Err-clause-by_gate
-returns-in-Err-clause-by_gate g c =
-    let sets = c.set.ensures.store.sets in
-    let last = c.store-in-Err-1.given.1 (sym (sets.same_store ∙ c.begin-txn.ensures.same_store)) in
-    not_committed _ _ (memory_of c.set.new.self) _ _ c.begin-txn.ensures.same last sets.kept c.abandon.ensures.kept
+pub returns-clause-store : goal.returns-clause-store
+returns-clause-store g c =
+    let set = c.set-work.ensures in
+    let last = c.store-1.given.1 (sym (set.store.sets.same_store ∙ c.begin-txn.ensures.same_store)) in
+    ends_answered 1 1 4 c.set-work.result c.end.result _ _ (memory_of c.set-work.new.self) _ _ (omega arith)
+    c.begin-txn.ensures.same last c.requires.ready set.store.sets.taken set.store.sets.reports set.store.sets.writes set.store.tells
+    c.end.ensures.store c.end.ensures.answered

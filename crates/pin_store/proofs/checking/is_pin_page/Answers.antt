@@ -16,17 +16,17 @@ pub returns-in_err-unblocking_tries-clause-store : goal.returns-in_err-unblockin
 returns-in_err-unblocking_tries-clause-store g c =
     reads_handed _ _ _ _ c.from_residual-in_err-unblocking_tries.ensures.1
     (reads_on _ _ _ _ c.read.ensures.reads
-    (c.in_err-unblocking_tries.ensures.store (c.read.ensures.reads.keeps.used ∙ c.requires.ready.idle)))
+    (c.in_err-unblocking_tries.ensures.store (c.read.ensures.reads.keeps.taken ∙ c.requires.ready.idle)))
 
 pub returns-then-tries-from-clause-store : goal.returns-then-tries-from-clause-store
 returns-then-tries-from-clause-store g c =
     reads_on _ _ _ _ c.read.ensures.reads
-    (c.in_ok-unblocking_tries.ensures.store (c.read.ensures.reads.keeps.used ∙ c.requires.ready.idle))
+    (c.in_ok-unblocking_tries.ensures.store (c.read.ensures.reads.keeps.taken ∙ c.requires.ready.idle))
 
 pub returns-else-tries-from-clause-store : goal.returns-else-tries-from-clause-store
 returns-else-tries-from-clause-store g c =
     reads_on _ _ _ _ c.read.ensures.reads
-    (c.in_ok-unblocking_tries.ensures.store (c.read.ensures.reads.keeps.used ∙ c.requires.ready.idle))
+    (c.in_ok-unblocking_tries.ensures.store (c.read.ensures.reads.keeps.taken ∙ c.requires.ready.idle))
 
 pub returns-then-tries-from-clause-page : goal.returns-then-tries-from-clause-page
 returns-then-tries-from-clause-page g c =

@@ -58,7 +58,7 @@ pub returns-clause-store : goal.returns-clause-store
 returns-clause-store g c =
     compare_ends _ _ _ _ c.requires.ready.idle (reads_then _ _ _ c.tries.ensures.store.only c.kept.ensures.store.only)
     c.compare.ensures.keeps c.compare.ensures.reports
-    (c.in_ok-right.ensures.ready (c.kept.ensures.store.only.keeps.used ∙ c.tries.ensures.store.only.keeps.used
+    (c.in_ok-right.ensures.ready (c.kept.ensures.store.only.keeps.taken ∙ c.tries.ensures.store.only.keeps.taken
     ∙ c.requires.ready.idle)) c.in_ok-right.ensures.tells
 
 pub returns-clause-spends : goal.returns-clause-spends

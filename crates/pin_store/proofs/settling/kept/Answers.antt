@@ -31,9 +31,9 @@ pub returns-in_err-second-clause-store : goal.returns-in_err-second-clause-store
 returns-in_err-second-clause-store g c =
     reads_handed _ _ _ _ c.from_residual-in_err-second.ensures.1
     (reads_on _ _ _ _ c.read.ensures.reads
-    (c.in_err-second.ensures.store (c.read.ensures.reads.keeps.used ∙ c.requires.ready.idle)))
+    (c.in_err-second.ensures.store (c.read.ensures.reads.keeps.taken ∙ c.requires.ready.idle)))
 
 pub returns-clause-store : goal.returns-clause-store
 returns-clause-store g c =
     reads_on _ _ _ _ c.read.ensures.reads
-    (c.in_ok-second.ensures.store (c.read.ensures.reads.keeps.used ∙ c.requires.ready.idle))
+    (c.in_ok-second.ensures.store (c.read.ensures.reads.keeps.taken ∙ c.requires.ready.idle))
