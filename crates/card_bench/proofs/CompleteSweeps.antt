@@ -2,10 +2,12 @@
 use Rattle.std.specs.Prelude.{◌≡◌, ◌⊎◌, ◌≤◌, ◌<◌, ◌+◌, ◌-◌, ◌/◌, ◌%◌, ◌^◌, ℕ, zero, suc, List, [], ◌∷◌, ◌++◌}
 use Rattle.std.proofs.Common.{refl, sym, subst, inl, inr, arith}
 use Rattle.std.proofs.lemmas.List.{append-nil}
+use Rattle.nvm_board.specs.declared.cut_board.CutBoard.{CutBoard}
+use Rattle.nvm_board.specs.Cut.{cut_facts, last_torn}
 use Rattle.nvm_board.specs.Facts.{Facts}
 use Rattle.card_bench.specs.declared.playing.Turn.{Turn}
 use Rattle.card_bench.specs.declared.tally.Seen.{Seen}
-use Rattle.card_bench.specs.Masks.{mask_of, mask_count_of}
+use Rattle.card_bench.specs.Masks.{mask_of, mask_count_of, words_tried}
 use Rattle.card_bench.specs.Sweeps.{CutsCommand, CutsStart, SparesStart, EndsIn}
 use Rattle.card_bench.specs.SweptRuns.{InTurn, IsOneLook, AreBehindCut, AreAllBehind, SparesCommand, AreOfMask, AreOfWrite, AreOfLastWrite, AreAllRuns}
 use Rattle.card_bench.specs.Tallies.{Finding, CountsOne, CountsEach, Counts}
@@ -95,14 +97,16 @@ counts-cut depth i probe board left old between new some cut behind =
     (λ all these. record { left = left; cut = cut; behind = these }) behind)
 
 -- the command is cut at a write by one mask more
-pub counts-mask : (depth number words i : ℕ) (board left : Facts) (prepare : List Turn) (command : List ℕ) (probe : List Turn)
-    (old between new : List Seen) → Counts (InTurn (AreOfMask board prepare command probe depth number words) i) old between
-    → CutsCommand number (mask_of words i) board prepare command left → Counts (AreAllBehind depth probe left) between new
+pub counts-mask : (depth number words i : ℕ) (board : Facts) (left : CutBoard) (prepare : List Turn) (command : List ℕ)
+    (probe : List Turn) (old between new : List Seen) → (i ≡ 0 → words ≡ words_tried (last_torn left))
+    → Counts (InTurn (AreOfMask board prepare command probe depth number words) i) old between
+    → CutsCommand number (mask_of words i) board prepare command (cut_facts left)
+    → Counts (AreAllBehind depth probe (cut_facts left)) between new
     → Counts (InTurn (AreOfMask board prepare command probe depth number words) (i + 1)) old new
-counts-mask depth number words i board left prepare command probe old between new some cut behind =
+counts-mask depth number words i board left prepare command probe old between new told some cut behind =
     counts-next (AreOfMask board prepare command probe depth number words) i old between new some
-    (counts-weaker (AreAllBehind depth probe left) (AreOfMask board prepare command probe depth number words i) between new
-    (λ all these. record { left = left; cut = cut; behind = these }) behind)
+    (counts-weaker (AreAllBehind depth probe (cut_facts left)) (AreOfMask board prepare command probe depth number words i)
+    between new (λ all these. record { left = left; cut = cut; words_told = told; behind = these }) behind)
 
 -- a mask by what is told of it
 pub mask-is : (words i mask : ℕ) → (i ≡ 0 → mask ≡ 0) → (i ≡ 1 → mask + 1 ≡ 2 ^ words)

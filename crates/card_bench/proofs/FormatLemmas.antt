@@ -1,6 +1,7 @@
 -- Formatting a new board succeeds: no cut is due, and no count stands at its end.
-use Rattle.std.specs.Prelude.{◌≡◌, ◌<◌, ℕ, zero, suc, true, false, List, None, Err, Contains, replicate, slice_index_or, refl}
+use Rattle.std.specs.Prelude.{◌≡◌, ◌<◌, ℕ, zero, suc, true, false, List, Option, None, Some, Err, Contains, replicate, slice_index_or, refl}
 use Rattle.std.proofs.Common.{arith, inl, inr, subst, sym, ap, ◌∙◌, true≢false}
+use Rattle.nvm_board.specs.declared.board.Arm.{Arm}
 use Rattle.nvm_board.specs.declared.board.DeviceErr.{DeviceErr}
 use Rattle.nvm_board.specs.declared.board.DeviceErr.TheVariants.{PowerLost, Fault}
 use Rattle.nvm_board.specs.declared.board.TheConstants.{COUNT_END, PAGES}
@@ -66,6 +67,11 @@ just_written old new is steady spent =
       compares = spent.compares ∙ ap (λ (f : Facts). f.compares) is;
       matches = spent.matches ∙ ap (λ (f : Facts). f.matches) is;
     }
+
+-- no cut is to come where none is due
+pub none_due : (pending : Option Arm) → due_of pending ≡ 0 → pending ≡ None
+none_due None due = refl
+none_due (Some arm) due = absurd (omega (arith, due))
 
 -- the desk with the factory's board
 pub first_desk : (d : Desk) (f : Facts) → d.bench ≡ off (record f { dark = true }) → d.reader ≡ None → d.line ≡ record { lose = None; garble = None }

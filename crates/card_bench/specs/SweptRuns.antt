@@ -1,5 +1,7 @@
 -- All runs of a sweep, in their order: what each gives.
 use Rattle.std.specs.Prelude.{◌≡◌, ◌⊎◌, ◌≤◌, ◌≢◌, ◌<◌, ◌+◌, ◌-◌, ◌/◌, ◌%◌, ◌^◌, ℕ, zero, suc, true, List, [], ◌∷◌, ◌++◌, is_some}
+use Rattle.nvm_board.specs.declared.cut_board.CutBoard.{CutBoard}
+use Rattle.nvm_board.specs.Cut.{cut_facts, last_torn}
 use Rattle.nvm_board.specs.Facts.{Facts}
 use Rattle.card_bench.specs.declared.playing.Turn.{Turn}
 use Rattle.card_bench.specs.declared.playing.Item.{Item}
@@ -7,7 +9,7 @@ use Rattle.card_bench.specs.declared.playing.Item.TheVariants.{Dark}
 use Rattle.card_bench.specs.BenchStates.{BenchState, bench_facts}
 use Rattle.card_bench.specs.Turns.{GoodBlock, Runs}
 use Rattle.card_bench.specs.Performing.{IsArmed}
-use Rattle.card_bench.specs.Masks.{mask_of, mask_count_of}
+use Rattle.card_bench.specs.Masks.{mask_of, mask_count_of, words_tried}
 use Rattle.card_bench.specs.Sweeps.{CutsCommand, CutsStart, SparesStart, EndsIn, off_with}
 use Rattle.card_bench.specs.Tallies.{Finding}
 
@@ -53,14 +55,16 @@ AreAllBehind zero probe board all = IsOneLook probe board all
 AreAllBehind (suc depth) probe board all =
     (SparesStart 1 0 board × IsOneLook probe board all) ⊎ AreBehindStart (AreAllBehind depth probe) board all
 
--- The command is cut at this write by mask number i, counted from 0. Then what comes behind it.
+-- The command is cut at this write by mask number i, counted from 0. Then what comes behind it. The board that the first
+-- mask leaves tells how many words its torn write had, and so by which masks that write is tried.
 pub record AreOfMask (board : Facts) (prepare : List Turn) (command : List ℕ) (probe : List Turn) (depth number words i : ℕ)
     (all : List Finding) : Type 0 where
-  pub left : Facts
-  pub cut : CutsCommand number (mask_of words i) board prepare command left
-  pub behind : AreAllBehind depth probe left all
+  pub left : CutBoard
+  pub cut : CutsCommand number (mask_of words i) board prepare command (cut_facts left)
+  pub words_told : i ≡ 0 → words ≡ words_tried (last_torn left)
+  pub behind : AreAllBehind depth probe (cut_facts left) all
 
--- The command is cut at this write by each mask, for so many words as the board tells.
+-- The command is cut at this write by each mask, for as many words as the board tells.
 pub record AreOfWrite (board : Facts) (prepare : List Turn) (command : List ℕ) (probe : List Turn) (depth number : ℕ)
     (all : List Finding) : Type 0 where
   pub words : ℕ

@@ -3,6 +3,7 @@
 
 mod desk;
 mod exchange;
+mod factory;
 mod fault;
 pub mod laws;
 mod line;
@@ -16,6 +17,7 @@ mod script;
 mod sweeping;
 mod tally;
 
+pub use factory::factory_board;
 pub use fault::RunFault;
 pub use playing::{Bench, Item, Turn};
 pub use powered::Powered;

@@ -1,6 +1,16 @@
 //! By which masks a torn write is tried.
 ghost use Rattle.std.specs.Prelude.{◌≡◌, ◌≤◌, ◌<◌, ◌+◌, ◌-◌, ◌^◌, ℕ};
-ghost use Rattle.card_bench.specs.Masks.{mask_count_of};
+ghost use Rattle.card_bench.specs.Masks.{mask_count_of, words_tried};
+
+/// For how many words a torn write is tried, by how many the board tells. No write has none.
+pub(crate) fn words_to_try(told: u8) -> u8
+    requires { told ≤ 16 }
+    ensures tried { result ≡ words_tried told }
+    ensures some { 1 ≤ result }
+    ensures fits { result ≤ 16 }
+{
+    if told == 0 { 1 } else { told }
+}
 
 /// How many masks are tried on a torn write of so many words: on one word none new and all new, and on more words each
 /// single word new besides.

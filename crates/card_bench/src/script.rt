@@ -1,18 +1,14 @@
 //! A script, run from its first line to its last.
 ghost use Rattle.std.specs.Prelude.{◌≡◌, ◌≢◌, Err, IfSome, IfErr, OnOk};
-ghost use Rattle.nvm_board.specs.Cut.{cut_facts};
-ghost use Rattle.nvm_board.specs.Facts.{new_board};
-ghost use Rattle.card_core.specs.Factory.{factory_card};
-ghost use Rattle.card_core.specs.Finding.{Finds};
 ghost use Rattle.card_bench.specs.Endings.{IsRunToEnd, RunStopsBy};
-ghost use Rattle.card_bench.specs.Prints.{IsFirstDesk, IsJustWritten};
+ghost use Rattle.card_bench.specs.Prints.{IsFirstDesk};
 
 use crate::desk::Desk;
+use crate::factory::factory_board;
 use crate::fault::RunFault;
 use crate::order::Order;
 use crate::printing::{PrintedText, print};
 use crate::reading::{LineBytes, LineEnd, LineFault, SCRIPT_LIMIT, read_line};
-use card_core::format;
 use nvm_board::CutBoard;
 use std::alloc::Global;
 use std::io::{BufRead, Write};
@@ -44,10 +40,10 @@ pub fn run<R: BufRead, W: Write>(
     ensures unread { result ≡ Err RunFault.Memory → R.remaining reader.new ≡ R.remaining reader.old }
     ensures unwritten { result ≡ Err RunFault.Memory → W.contents writer.new ≡ W.contents writer.old }
 {
-    let Ok(board) = CutBoard::new(alloc) else {
+    let Ok(board) = factory_board(alloc) else {
         return Err(RunFault::Memory);
     };
-    let mut desk = Desk::new(factory_board(board));
+    let mut desk = Desk::new(board);
     run_lines(&mut desk, reader, writer)
 }
 
@@ -89,16 +85,4 @@ fn run_lines<R: BufRead, W: Write>(
         }
     }
     unreachable!()
-}
-
-/// A new board with the factory's card. Nothing can be cut on it yet, so that it takes all that is written.
-fn factory_board(board: CutBoard) -> CutBoard
-    requires { cut_facts board ≡ new_board }
-    ensures card { Finds (cut_facts result).words factory_card }
-    ensures counts { IsJustWritten (cut_facts result) }
-{
-    match format(board) {
-        Ok(board) => board,
-        Err(_) => unreachable!(),
-    }
 }

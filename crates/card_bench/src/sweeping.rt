@@ -1,6 +1,6 @@
 //! A command cut at each of its writes, and the starts after it cut too.
 ghost use Rattle.std.specs.Prelude.{◌≡◌, ◌⊎◌, ◌≤◌, ◌<◌, ◌^◌, ◌-◌, ◌+◌, [], sum_by, All, AllPairs, ◌≢◌, None, IfOk, IfErr, OnOk, IfSome, IfNone, is_some, true, false, IsSome};
-ghost use Rattle.nvm_board.specs.Cut.{cut_facts, last_torn};
+ghost use Rattle.nvm_board.specs.Cut.{cut_facts};
 ghost use Rattle.card_bench.specs.declared.playing.Item.TheVariants.{Dark};
 ghost use Rattle.card_core.specs.Finding.{HasCard};
 ghost use Rattle.card_bench.specs.Plays.{IsGood};
@@ -11,7 +11,7 @@ ghost use Rattle.card_bench.specs.declared.sweeping.Stop.TheVariants.{Memory, Fu
 ghost use Rattle.card_bench.specs.SweptRuns.{SparesCommand, IsOneLook, AreAllBehind, AreOfWrite, AreOfLastWrite, AreAllRuns};
 ghost use Rattle.card_bench.specs.Sweeps.{CutsCommand, CutsStart, SparesStart, EndsIn, EndsBehindStarts, GivenByRun, free_of};
 
-use crate::masks::{mask_at, mask_count};
+use crate::masks::{mask_at, mask_count, words_to_try};
 use crate::playing::{Bench, PowerOn, Sent, Turn};
 use crate::tally::{Sweep, Trace, blank_trace};
 use card_core::FreeSpace;
@@ -126,7 +126,7 @@ fn cut_write(
     let Some(torn) = command_cut(alloc, board, prepare, command, k, 0)? else {
         return Ok(false);
     };
-    let words = words_torn(&torn);
+    let words = words_to_try(torn.torn_words());
     cut_starts(alloc, &torn, probe, depth, sweep)?;
     for i in 1..mask_count(words) {
         let Some(torn) = command_cut(alloc, board, prepare, command, k, mask_at(words, i))? else {
@@ -135,16 +135,6 @@ fn cut_write(
         cut_starts(alloc, &torn, probe, depth, sweep)?;
     }
     Ok(true)
-}
-
-/// How many words the torn write had. No write has none.
-fn words_torn(board: &CutBoard) -> u8
-    ensures some { 1 ≤ result }
-    ensures fits { result ≤ 16 }
-    ensures last { 1 ≤ last_torn board.now → result ≡ last_torn board.now }
-{
-    let words = board.torn_words();
-    if words == 0 { 1 } else { words }
 }
 
 /// The board after the command, cut at one of its writes; none where it makes fewer writes.

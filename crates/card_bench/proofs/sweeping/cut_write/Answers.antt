@@ -1,6 +1,6 @@
-use Rattle.std.proofs.Common.{◌≡◌, ◌<◌, ◌≤◌, ℕ, arith, subst}
-use Rattle.nvm_board.specs.Cut.{cut_facts}
-use Rattle.card_bench.specs.Masks.{mask_of, mask_count_of}
+use Rattle.std.proofs.Common.{◌≡◌, ◌<◌, ◌≤◌, ◌∙◌, ℕ, ap, arith, subst}
+use Rattle.nvm_board.specs.Cut.{cut_facts, last_torn}
+use Rattle.card_bench.specs.Masks.{mask_of, mask_count_of, words_tried}
 use Rattle.card_bench.specs.Sweeps.{CutsCommand}
 use Rattle.card_bench.specs.SweptRuns.{SparesCommand}
 use Rattle.card_bench.proofs.TallyLemmas.{adds-on, adds-weaker}
@@ -25,7 +25,8 @@ loop-i-init c =
     record {
       so_far = λ card. adds-weaker _ _ _ _ (λ given rest. given-by-run _ _ _ _ _ _ _ _ _ (cut card) rest)
           (c.cut_starts.ensures.given (cut card).has_card);
-      counted = λ card. counts-mask _ _ c.words_torn-words.result 0 _ _ _ _ _ _ _ _ (counts-none _ _) (cut card)
+      counted = λ card. counts-mask _ _ c.words_to_try-words.result 0 _ c.in-Some.torn _ _ _ _ _ _
+          (λ _. c.words_to_try-words.ensures.tried ∙ ap words_tried c.torn_words.ensures.last) (counts-none _ _) (cut card)
           (c.in_ok-cut_starts.ensures.complete (cut card).has_card);
     }
 
@@ -37,7 +38,7 @@ returns-in_default-2-clause-given c = c.loop-i.invariant.so_far
 
 pub returns-in_default-2-clause-last : goal.returns-in_default-2-clause-last
 returns-in_default-2-clause-last c = λ _ card.
-    let words = c.words_torn-words.result in
+    let words = c.words_to_try-words.result in
     let spared = rw c.in_default-2.is at c.in_ok-torn-2.ensures.spared in
     let mask : c.mask_at.result ≡ mask_of words c.loop-i.i =
     mask-is words c.loop-i.i c.mask_at.result c.mask_at.ensures.none c.mask_at.ensures.all c.mask_at.ensures.single in
@@ -54,17 +55,19 @@ returns-in_err-cut_starts-2-clause-given c = λ card.
 
 pub loop-i-preserved : goal.loop-i-preserved
 loop-i-preserved c =
-    let words = c.words_torn-words.result in
+    let words = c.words_to_try-words.result in
     let cut = rw c.in-Some-2.is at c.in_ok-torn-2.ensures.cut in
     let mask : c.mask_at.result ≡ mask_of words c.loop-i.i =
     mask-is words c.loop-i.i c.mask_at.result c.mask_at.ensures.none c.mask_at.ensures.all c.mask_at.ensures.single in
     let Cuts : ℕ → Type 0 = λ m. CutsCommand c.args.k m (cut_facts c.args.board.now) c.args.prepare.now c.args.command.now
     (cut_facts c.in-Some-2.torn) in
+    let later : c.loop-i.i ≡ 0 → words ≡ words_tried (last_torn c.in-Some-2.torn) = λ first.
+    absurd (omega (arith, first)) in
     record {
       so_far = λ card. adds-on _ _ _ _ (c.loop-i.invariant.so_far card)
           (adds-weaker _ _ _ _ (λ given rest. given-by-run _ _ _ _ _ _ _ _ _ (cut card) rest)
           (c.cut_starts-in-loop-i.ensures.given (cut card).has_card));
-      counted = λ card. counts-mask _ _ words c.loop-i.i _ _ _ _ _ _ _ _ (c.loop-i.invariant.counted card)
+      counted = λ card. counts-mask _ _ words c.loop-i.i _ c.in-Some-2.torn _ _ _ _ _ _ later (c.loop-i.invariant.counted card)
           (subst Cuts mask (cut card)) (c.in_ok-cut_starts-2.ensures.complete (cut card).has_card);
     }
 
@@ -73,9 +76,9 @@ returns-clause-given c = c.loop-i.invariant.so_far
 
 pub returns-clause-whole : goal.returns-clause-whole
 returns-clause-whole c = λ _ card.
-    let words = c.words_torn-words.result in
+    let words = c.words_to_try-words.result in
     let tried : 1 ≤ mask_count_of words = masks-some words in
     let end : c.loop-i.i ≡ mask_count_of words =
     omega (arith, tried, c.loop-i-test.false, c.loop-i.auto.i-end, c.mask_count-i-end.ensures) in
-    counts-write _ _ words c.loop-i.i _ _ _ _ _ _ c.words_torn-words.ensures.some c.words_torn-words.ensures.fits end
+    counts-write _ _ words c.loop-i.i _ _ _ _ _ _ c.words_to_try-words.ensures.some c.words_to_try-words.ensures.fits end
     (c.loop-i.invariant.counted card)

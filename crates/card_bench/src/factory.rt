@@ -1,0 +1,26 @@
+//! The factory's card on a new board.
+ghost use Rattle.std.specs.Prelude.{◌≡◌, None, IfOk};
+ghost use Rattle.nvm_board.specs.Cut.{cut_facts};
+ghost use Rattle.card_core.specs.Factory.{factory_card};
+ghost use Rattle.card_core.specs.Finding.{Finds};
+ghost use Rattle.card_bench.specs.Prints.{IsJustWritten};
+
+use card_core::format;
+use nvm_board::CutBoard;
+use std::alloc::{AllocError, Global};
+
+/// A new board with the factory's card. It has counted the writes of its making alone, and no cut is to come.
+///
+/// # Errors
+/// There is too little memory for the words.
+pub fn factory_board(alloc: Global) -> Result<CutBoard, AllocError>
+    ensures card { IfOk result (λ board. Finds (cut_facts board).words factory_card) }
+    ensures counts { IfOk result (λ board. IsJustWritten (cut_facts board)) }
+    ensures uncut { IfOk result (λ board. (cut_facts board).pending ≡ None) }
+{
+    // No cut is to come on a new board, so it takes all that is written.
+    match format(CutBoard::new(alloc)?) {
+        Ok(board) => Ok(board),
+        Err(_) => unreachable!(),
+    }
+}
