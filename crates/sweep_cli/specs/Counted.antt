@@ -1,0 +1,27 @@
+-- What is printed of a sweep of a command of the factory's card: its counts.
+use Rattle.std.specs.Prelude.{◌≡◌, ◌<◌, ◌-◌, ◌^◌, ℕ, List, [], ◌∷◌, ◌++◌, None, flat_map}
+use Rattle.std.specs.Fmt.{decimal}
+use Rattle.nvm_board.specs.Facts.{Facts}
+use Rattle.card_core.specs.Factory.{factory_card}
+use Rattle.card_core.specs.Finding.{Finds}
+use Rattle.card_bench.specs.declared.tally.Seen.{Seen}
+use Rattle.card_bench.specs.SweptRuns.{AreAllRuns}
+use Rattle.card_bench.specs.Tallies.{Counts, IsTally}
+use Rattle.sweep_cli.specs.declared.cases.Case.{Case}
+
+-- how many runs there were and a colon (58), and behind a space (32) each how many gave each result
+abbrev pub counts_text : ℕ → List Seen → List ℕ
+counts_text runs seen = decimal runs ++ 58 ∷ flat_map (λ s. 32 ∷ decimal s.count) seen ++ 10 ∷ []
+
+-- The counts of a sweep on a board with the factory's card. What was seen is the tally of all runs that there are, in their order,
+-- unless their count came to its end.
+pub record IsCountOf (case : Case) (text : List ℕ) : Type 0 where
+  pub board : Facts
+  pub card : Finds board.words factory_card
+  pub uncut : board.pending ≡ None
+  pub runs : ℕ
+  pub seen : List Seen
+  pub tally : IsTally runs seen
+  pub all : runs < 2 ^ 32 - 1
+      → Counts (AreAllRuns board case.prepare.now case.command.now case.probe.now case.depth) [] seen
+  pub text_is : text ≡ counts_text runs seen
