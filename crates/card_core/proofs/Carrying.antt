@@ -32,8 +32,9 @@ use Rattle.card_core.specs.Spending.{writes_asked}
 use Rattle.card_core.specs.Standing.{IsCard, card_of}
 use Rattle.card_core.specs.Steps.{carried_out, outcome_of, served, step}
 use Rattle.card_core.specs.Words.{StandsAsked, StandsByWord, StandsServed, alone_served, gated_served}
-use Rattle.card_core.specs.Working.{card_in, outcome, session_in, session_of, table_in, IsCurrent}
+use Rattle.card_core.specs.Working.{card_in, outcome, session_in, session_of, IsKept}
 use Rattle.card_core.specs.laws.StageLaws.{doing_lasts, stage_doing, stage_first}
+use Rattle.card_core.proofs.Readings.{kept_still}
 use Rattle.card_core.proofs.Serves.{reads-compared, reads-nothing}
 use Rattle.card_core.proofs.Words.{stands-first}
 
@@ -64,8 +65,7 @@ module _ (request : Request) (old mid new : Memory) (x y : Current) (text : List
             (λ doing. inr (subst (λ (l : List ℕ). IsDoing (card_of l) (session_of (table l) x) request (card_in new)) same
             doing))
             serves.stage;
-        ready = serves.ready;
-        current = serves.current;
+        kept = serves.kept;
         card = serves.card;
         reports = reports_then old mid new reads.reports serves.reports;
         tells = serves.tells;
@@ -113,8 +113,7 @@ module _ (bytes : List ℕ) (old new : Memory) (x y : Current) (text : List ℕ)
         (λ doing. stage_doing c s bytes request is in_use (card_in new) doing) serves.stage;
     idle = λ nothing. ⊎_elim (λ reads. reads)
         (λ doing. absurd (doing_lasts c s bytes request is in_use (card_in new) doing nothing)) serves.stage;
-    ready = serves.ready;
-    current = serves.current;
+    kept = serves.kept;
     card = serves.card;
     reports = serves.reports;
     tells = serves.tells;
@@ -152,16 +151,15 @@ module _ (bytes : List ℕ) (old new : Memory) (x y : Current) (text : List ℕ)
   -- A call that only read carries out the command, if its answer is the step's.
   looked : OnlyReads old new → IsCard (committed old)
       → IfOk result (λ status. carried_out c s bytes ≡ outcome (card_in new) (session_in new y) text status)
-      → length text ≤ 256 → OnOk result (IsReady new) → OnOk result (IsCurrent (table_in new) y)
-      → new.failed ≡ result_err result → OnOk result (CountsAnswered (asked bytes) c s old.facts new.facts)
+      → length text ≤ 256 → OnOk result (IsKept new y) → new.failed ≡ result_err result
+      → OnOk result (CountsAnswered (asked bytes) c s old.facts new.facts)
       → CarriesOut bytes old x new y text result
-  looked reads card is room ready current tells counted = record {
+  looked reads card is room kept tells counted = record {
     step = is;
     room = room;
     stage = stage_first c s bytes (card_in new) (ap card_of reads.keeps.committed_words);
     idle = λ nothing. reads;
-    ready = ready;
-    current = current;
+    kept = kept;
     card = subst IsCard (sym reads.keeps.committed_words) card;
     reports = reads.reports;
     tells = tells;
@@ -173,8 +171,7 @@ module _ (bytes : List ℕ) (old new : Memory) (x y : Current) (text : List ℕ)
     counted = counted;
   }
 
-module _ (bytes : List ℕ) (old new : Memory) (x : Current) (card : IsCard (committed old))
-    (current : IsCurrent (table_in old) x) where
+module _ (bytes : List ℕ) (old new : Memory) (x : Current) (kept : IsKept old x) where
   -- a refusal after reads
   turned-down : (status : Sw) → carried_out (card_in old) (session_in old x) bytes
       ≡ refused (card_in old) (session_in old x) status → OnlyReads old new → IsReady new
@@ -182,9 +179,9 @@ module _ (bytes : List ℕ) (old new : Memory) (x : Current) (card : IsCard (com
       → CarriesOut bytes old x new x [] (Ok status)
   turned-down status is reads ready counted =
       let same = sym reads.keeps.committed_words in
-      looked bytes old new x x [] (Ok status) reads card
-      (is ∙ ap (λ (l : List ℕ). outcome (card_of l) (session_of (table l) x) [] status) same) (omega arith) ready
-      (subst (λ (l : List ℕ). IsCurrent (table l) x) same current) ready.usable.works counted
+      looked bytes old new x x [] (Ok status) reads kept.card
+      (is ∙ ap (λ (l : List ℕ). outcome (card_of l) (session_of (table l) x) [] status) same) (omega arith)
+      (kept_still old new x reads ready kept) ready.usable.works counted
 
   -- the form of the command refuses it
   pub refused-by-form : (status : Sw) → asked bytes ≡ Err status → OnlyReads old new → IsReady new
@@ -207,4 +204,4 @@ module _ (bytes : List ℕ) (old new : Memory) (x : Current) (card : IsCard (com
   -- the store failed in a read
   pub failed-reading : (y : Current) (e : StoreErr) → OnlyReads old new → new.failed ≡ Some e
       → CarriesOut bytes old x new y [] (Err e)
-  failed-reading y e reads failed = looked bytes old new x y [] (Err e) reads card tt (omega arith) tt tt failed tt
+  failed-reading y e reads failed = looked bytes old new x y [] (Err e) reads kept.card tt (omega arith) tt failed tt

@@ -129,9 +129,9 @@ module _ (old new : Memory) (x y : Current) (command text said : List ℕ) (read
   -- the card is one again, and is kept where it works
   pub ended-kept : (carried : Result Sw StoreErr) → CarriesOut command old x new y text carried
       → Ends carried was now text said result → (free : FreeSpace) → OnOk carried (free ≡ space_in new)
-      → (now ≡ Working → IsKept new y free) × (now ≡ Dark → new.facts.dark ≡ true)
+      → (now ≡ Working → IsKept new y × (free ≡ space_in new)) × (now ≡ Dark → new.facts.dark ≡ true)
   ended-kept (Ok status) carries ends free space = (
-    λ works. record { ready = carries.ready; current = carries.current; space = space },
+    λ works. (carries.kept, space),
     λ dark. let never : Dark ≡ Working = sym dark ∙ (ends.done.1 ∙ working) in cc,
   )
   ended-kept (Err Fault) carries ends free space = (

@@ -17,7 +17,7 @@ use Rattle.card_core.specs.declared.faults.StartFault.TheVariants.{Damaged}
 use Rattle.file_tree.specs.Spaces.{free_space}
 use Rattle.card_core.specs.Finding.{words_found, FindsAgain, HasCard}
 use Rattle.card_core.specs.Standing.{card_of, IsCard}
-use Rattle.card_core.specs.Working.{fresh_current, IsKept, TellsCard}
+use Rattle.card_core.specs.Working.{fresh_current, space_in, IsKept, TellsCard}
 use Rattle.card_core.specs.declared.faults.StartFault.{StartFault}
 use Rattle.card_core.specs.StartFaults.{fault_of_open, fault_of_store}
 use Rattle.card_core.specs.Running.{StartStopsBy}
@@ -137,7 +137,7 @@ found-again first opened last kept undone sound still =
 -- the card of a start is found, its store is ready, and its free space is what was told
 pub starts-kept : (opened last : Memory) (free : FreeSpace) (found : Result (Option FreeSpace) StoreErr)
     → found ≡ Ok (Some free) → IsSound opened.facts.words → IfOk found (TellsCard (committed opened))
-    → Reads opened last (result_err found) → HasCard last.facts.words × IsKept last fresh_current free
+    → Reads opened last (result_err found) → HasCard last.facts.words × IsKept last fresh_current × (free ≡ space_in last)
 starts-kept opened last free found is sound card reads =
     let told = subst (λ (r : Result (Option FreeSpace) StoreErr). IfOk r (TellsCard (committed opened))) is card in
     let same = sym reads.only.keeps.committed_words in
@@ -145,7 +145,8 @@ starts-kept opened last free found is sound card reads =
       record { journal = reads.only.reports.sound sound; words = stands },
       record {
         ready = subst (λ (r : Result (Option FreeSpace) StoreErr). UnlessFailed (result_err r) (IsReady last)) is reads.ready;
+        card = stands;
         current = record { df = stands.tree.entries.master.kind; ef = tt; marks = refl };
-        space = told.1 ∙ ap (λ (l : List ℕ). free_space (card_of l).tree) same;
       },
+      told.1 ∙ ap (λ (l : List ℕ). free_space (card_of l).tree) same,
     )

@@ -1,13 +1,13 @@
 -- What reads in a row leave of a card: what was known of its words is known after them.
 use Rattle.std.proofs.Common.{◌≡◌, ℕ, List, sym, subst, arith}
 use Rattle.undo_journal.specs.Calls.{OnlyReads}
-use Rattle.undo_journal.specs.Memory.{Memory, committed}
+use Rattle.undo_journal.specs.Memory.{Memory, committed, IsReady}
 use Rattle.file_tree.specs.declared.entry.Entry.{Entry}
 use Rattle.file_tree.specs.Table.{table, entry_in, IsUsed}
 use Rattle.file_tree.specs.Trees.{TreeStands}
 use Rattle.card_core.specs.declared.current.Current.{Current}
 use Rattle.card_core.specs.Standing.{IsCard}
-use Rattle.card_core.specs.Working.{IsCurrent}
+use Rattle.card_core.specs.Working.{IsCurrent, IsKept}
 
 -- they are still the words of a card, whose files make a tree
 pub card_still : (a b : Memory) → OnlyReads a b → IsCard (committed a) → IsCard (committed b)
@@ -24,6 +24,14 @@ pub current_still : (a b : Memory) (x : Current) → OnlyReads a b → IsCurrent
     → IsCurrent (table (committed b)) x
 current_still a b x reads current =
     subst (λ (l : List ℕ). IsCurrent (table l) x) (sym reads.keeps.committed_words) current
+
+-- and so what is kept stays so
+pub kept_still : (a b : Memory) (x : Current) → OnlyReads a b → IsReady b → IsKept a x → IsKept b x
+kept_still a b x reads ready kept = record {
+  ready = ready;
+  card = card_still a b reads kept.card;
+  current = current_still a b x reads kept.current;
+}
 
 -- the entry of the current dedicated file is used
 pub df_used : (t : List Entry) (x : Current) → IsCurrent t x → IsUsed t x.df

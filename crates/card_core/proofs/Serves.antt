@@ -61,8 +61,7 @@ module _ (request : Request) (old : Memory) (x : Current) (new : Memory) where
     step = tt;
     room = room;
     stage = inl reads;
-    ready = tt;
-    current = tt;
+    kept = tt;
     card = subst IsCard (sym reads.keeps.committed_words) card;
     reports = reads.reports;
     tells = failed;
@@ -92,8 +91,11 @@ module _ (request : Request) (old : Memory) (x : Current) (new : Memory) where
         step = is ∙ ap (λ (l : List ℕ). outcome (card_of l) (session_of (table l) y) text status) same;
         room = room;
         stage = inl reads;
-        ready = ready;
-        current = subst (λ (l : List ℕ). IsCurrent (table l) y) same current;
+        kept = record {
+          ready = ready;
+          card = subst IsCard same card;
+          current = subst (λ (l : List ℕ). IsCurrent (table l) y) same current;
+        };
         card = subst IsCard same card;
         reports = reads.reports;
         tells = ready.usable.works;
@@ -123,8 +125,7 @@ module _ (request : Request) (old : Memory) (x : Current) (new : Memory) where
     step = tt;
     room = room;
     stage = stage;
-    ready = tt;
-    current = tt;
+    kept = tt;
     card = card;
     reports = reports;
     tells = failed;
@@ -148,8 +149,7 @@ module _ (request : Request) (old : Memory) (x : Current) (new : Memory) where
     step = is;
     room = room;
     stage = stage;
-    ready = ready;
-    current = current;
+    kept = record { ready = ready; card = card; current = current };
     card = card;
     reports = reports;
     tells = ready.usable.works;

@@ -31,6 +31,7 @@ pub mod Running
 pub mod StartFaults
 pub mod Proper
 pub mod Working
+pub mod Lending
 pub mod Changing
 pub mod Served
 pub mod FileGuards

@@ -7,7 +7,7 @@ use Rattle.undo_journal.specs.declared.error.StoreErr.{StoreErr}
 use Rattle.undo_journal.specs.Calls.{OnlyReads}
 use Rattle.undo_journal.specs.Spending.{Advances}
 use Rattle.undo_journal.specs.Undo.{gate}
-use Rattle.undo_journal.specs.Memory.{Memory, committed, IsReady, Reports}
+use Rattle.undo_journal.specs.Memory.{Memory, committed, Reports}
 use Rattle.apdu_core.specs.Asked.{asked}
 use Rattle.apdu_core.specs.Requests.{Request}
 use Rattle.card_core.specs.declared.current.Current.{Current}
@@ -21,7 +21,7 @@ use Rattle.card_core.specs.Stages.{commits, ChangesNothing, IsStage}
 use Rattle.card_core.specs.Standing.{IsCard}
 use Rattle.card_core.specs.Steps.{carried_out, refusals_of, served}
 use Rattle.card_core.specs.Words.{StandsAsked, StandsServed}
-use Rattle.card_core.specs.Working.{card_in, outcome, session_in, table_in, IsCurrent}
+use Rattle.card_core.specs.Working.{card_in, outcome, session_in, IsKept}
 
 -- A request that isn't refused and changes something lasting, at whatever exit: the card is the one before it, or the one after
 -- one of its commits.
@@ -38,8 +38,7 @@ pub record Serves (request : Request) (old : Memory) (x : Current) (new : Memory
       ≡ outcome (card_in new) (session_in new y) text status)
   pub room : length text ≤ 256
   pub stage : OnlyReads old new ⊎ IsDoing (card_in old) (session_in old x) request (card_in new)
-  pub ready : OnOk result (IsReady new)
-  pub current : OnOk result (IsCurrent (table_in new) y)
+  pub kept : OnOk result (IsKept new y)
   pub card : IsCard (committed new)
   pub reports : Reports old new
   pub tells : new.failed ≡ result_err result
@@ -57,8 +56,7 @@ pub record CarriesOut (command : List ℕ) (old : Memory) (x : Current) (new : M
   pub room : length text ≤ 256
   pub stage : IsStage (card_in old) (session_in old x) command (card_in new)
   pub idle : ChangesNothing (card_in old) (session_in old x) command → OnlyReads old new
-  pub ready : OnOk result (IsReady new)
-  pub current : OnOk result (IsCurrent (table_in new) y)
+  pub kept : OnOk result (IsKept new y)
   pub card : IsCard (committed new)
   pub reports : Reports old new
   pub tells : new.failed ≡ result_err result

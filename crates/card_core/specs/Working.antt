@@ -102,11 +102,12 @@ session_in m x = session_of (table_in m) x
 abbrev pub space_in : Memory → FreeSpace
 space_in m = free_space (card_in m).tree
 
--- what a card that works keeps: a store that is ready, numbers of current files, and counts of its free space
-pub record IsKept (m : Memory) (x : Current) (free : FreeSpace) : Type 0 where
+-- What a card that works keeps of its memory and its current files: a store that is ready, the words of a card, and the numbers
+-- of files that can be current.
+pub record IsKept (m : Memory) (x : Current) : Type 0 where
   pub ready : IsReady m
+  pub card : IsCard (committed m)
   pub current : IsCurrent (table_in m) x
-  pub space : free ≡ space_in m
 
 -- the master file is current, and no PIN is verified
 abbrev pub fresh_current : Current

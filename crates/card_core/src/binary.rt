@@ -1,11 +1,9 @@
 //! READ BINARY and UPDATE BINARY (ISO/IEC 7816-4, 11.3).
 ghost use Rattle.std.specs.Prelude.{◌≡◌, ◌≤◌, ◌==◌, if◌then◌else◌, [], length, OnOk};
-ghost use Rattle.undo_journal.specs.Memory.{committed, IsReady};
 ghost use Rattle.apdu_core.specs.Ranges.{IsTarget};
 ghost use Rattle.apdu_core.specs.Requests.{read_binary, update_binary};
-ghost use Rattle.card_core.specs.Standing.{IsCard};
 ghost use Rattle.card_core.specs.Served.{Serves};
-ghost use Rattle.card_core.specs.Working.{end_status, space_in, table_in, IsCurrent};
+ghost use Rattle.card_core.specs.Working.{end_status, space_in, IsKept};
 
 use crate::current::Current;
 use crate::named::{Need, Structure, find_file};
@@ -38,9 +36,7 @@ pub(crate) fn read_file<B: Board>(
     expected: u8,
     answer: &mut Answer,
 ) -> Result<Sw, StoreErr>
-    requires ready { IsReady store.old }
-    requires card { IsCard (committed store.old) }
-    requires current { IsCurrent (table_in store.old) current.old }
+    requires kept { IsKept store.old current.old }
     requires target { IsTarget target }
     requires empty { answer.old.items ≡ [] }
     ensures { Serves (read_binary target offset expected) store.old current.old store.new current.new answer.new.items result }
@@ -67,9 +63,7 @@ pub(crate) fn update_file<B: Board>(
     offset: u16,
     bytes: &[u8],
 ) -> Result<Sw, StoreErr>
-    requires ready { IsReady store.old }
-    requires card { IsCard (committed store.old) }
-    requires current { IsCurrent (table_in store.old) current.old }
+    requires kept { IsKept store.old current.old }
     requires target { IsTarget target }
     requires some { 1 ≤ length bytes.now }
     requires few { length bytes.now ≤ 255 }

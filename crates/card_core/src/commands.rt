@@ -2,52 +2,48 @@
 ghost use Rattle.std.specs.Prelude.{◌≡◌, ◌==◌, [], IfOk, OnOk};
 ghost use Rattle.std.specs.Result.{result_err};
 ghost use Rattle.undo_journal.specs.Calls.{Reads};
-ghost use Rattle.undo_journal.specs.Memory.{committed, IsReady};
+ghost use Rattle.undo_journal.specs.Memory.{IsReady};
 ghost use Rattle.apdu_core.specs.Ranges.{IsInRange};
 ghost use Rattle.apdu_core.specs.Requests.{request_of};
 ghost use Rattle.card_core.specs.Served.{CarriesOut, Serves};
-ghost use Rattle.card_core.specs.Standing.{IsCard};
-ghost use Rattle.card_core.specs.Working.{card_in, space_in, table_in, IsCurrent};
+ghost use Rattle.card_core.specs.Lending.{IsWhole};
+ghost use Rattle.card_core.specs.Working.{card_in, space_in};
 
 use crate::binary::{read_file, update_file};
-use crate::current::Current;
 use crate::files::{create_file, delete_file};
 use crate::increasing::increase;
 use crate::layout::CARD_IN_USE;
+use crate::lent::Lent;
 use crate::life_cycles::{change_life_cycle, terminate_card_usage};
 use crate::pins::{change_reference_data, reset_retry_counter, verify};
 use crate::records::{append_record, read_record, search_record, update_record};
 use crate::select::select_file;
 use apdu_core::{Answer, Command, Sw};
 use block_chain::HEADER_PAGE;
-use file_tree::{FreeSpace, STATE_WORD};
+use file_tree::STATE_WORD;
 use undo_journal::{Board, PAGE_WORDS, Store, StoreErr};
 
 /// Carries out the bytes of a command: the data goes into `answer`, the free space is kept, and the status word is the result.
 /// What the form of the command calls for comes first, and then whether the use of the card has ended.
 pub(crate) fn carry_out<B: Board>(
-    store: &mut Store<B>,
-    current: &mut Current,
-    free: &mut FreeSpace,
+    lent: &mut Lent<B>,
     command: &[u8],
     answer: &mut Answer,
 ) -> Result<Sw, StoreErr>
-    requires ready { IsReady store.old }
-    requires card { IsCard (committed store.old) }
-    requires current { IsCurrent (table_in store.old) current.old }
-    requires space { free.old ≡ space_in store.old }
+    requires whole { IsWhole lent.old }
     requires empty { answer.old.items ≡ [] }
-    ensures carries { CarriesOut command.now store.old current.old store.new current.new answer.new.items result }
-    ensures space { OnOk result (free.new ≡ space_in store.new) }
+    ensures carries { CarriesOut command.now lent.old.store lent.old.current lent.new.store lent.new.current
+        answer.new.items result }
+    ensures space { OnOk result (lent.new.free ≡ space_in lent.new.store) }
 {
     let command = match Command::parse(command) {
         Ok(command) => command,
         Err(refusal) => return Ok(refusal),
     };
-    if !is_in_use(store)? {
+    if !is_in_use(&mut lent.store)? {
         return Ok(Sw::CONDITIONS_NOT_SATISFIED);
     }
-    serve(store, current, free, command, answer)
+    serve(lent, command, answer)
 }
 
 /// The use of the card has not ended.
@@ -60,23 +56,24 @@ fn is_in_use<B: Board>(store: &mut Store<B>) -> Result<bool, StoreErr>
     Ok(state == CARD_IN_USE)
 }
 
-/// Carries out a command on a card that is in use.
+/// Carries out a command on a card that is in use. It is lent those parts of the card that it has a need of.
 fn serve<B: Board>(
-    store: &mut Store<B>,
-    current: &mut Current,
-    free: &mut FreeSpace,
+    lent: &mut Lent<B>,
     command: Command<'_>,
     answer: &mut Answer,
 ) -> Result<Sw, StoreErr>
-    requires ready { IsReady store.old }
-    requires card { IsCard (committed store.old) }
-    requires current { IsCurrent (table_in store.old) current.old }
-    requires space { free.old ≡ space_in store.old }
+    requires whole { IsWhole lent.old }
     requires empty { answer.old.items ≡ [] }
     requires in_range { IsInRange command }
-    ensures serves { Serves (request_of command.entry) store.old current.old store.new current.new answer.new.items result }
-    ensures space { OnOk result (free.new ≡ space_in store.new) }
+    ensures serves { Serves (request_of command.entry) lent.old.store lent.old.current lent.new.store lent.new.current
+        answer.new.items result }
+    ensures space { OnOk result (lent.new.free ≡ space_in lent.new.store) }
 {
+    let Lent {
+        store,
+        current,
+        free,
+    } = lent;
     match command {
         Command::Select {
             selector,

@@ -2,7 +2,7 @@
 ghost use Rattle.std.specs.Prelude.{◌≡◌, ◌||◌, [], true, option_map, Some, IfOk, IfSome, OnOk, MatchResult};
 ghost use Rattle.std.specs.Result.{result_err};
 ghost use Rattle.undo_journal.specs.Calls.{Reads};
-ghost use Rattle.undo_journal.specs.Memory.{committed, IsReady};
+ghost use Rattle.undo_journal.specs.Memory.{committed};
 ghost use Rattle.apdu_core.specs.Requests.{create_file as creation, delete_file as deletion};
 ghost use Rattle.card_rules.specs.declared.access_mode.AccessBit.TheVariants.{DeleteChild, DeleteSelf};
 ghost use Rattle.file_tree.specs.States.{is_barred as is_barred_at};
@@ -12,9 +12,8 @@ ghost use Rattle.card_core.specs.Files.{create_refusals, creation_bit, delete_re
 ghost use Rattle.card_core.specs.Guards.{allowed};
 ghost use Rattle.card_core.specs.Outcomes.{refused_by};
 ghost use Rattle.card_core.specs.Reaching.{subject_of};
-ghost use Rattle.card_core.specs.Standing.{IsCard};
 ghost use Rattle.card_core.specs.Served.{Serves};
-ghost use Rattle.card_core.specs.Working.{card_in, file_refusal, session_in, space_in, table_in, IsCurrent};
+ghost use Rattle.card_core.specs.Working.{card_in, file_refusal, session_in, space_in, table_in, IsKept};
 
 use crate::current::Current;
 use crate::named::{Findings, Named};
@@ -33,9 +32,7 @@ pub(crate) fn create_file<B: Board>(
     free: &mut FreeSpace,
     template: &[u8],
 ) -> Result<Sw, StoreErr>
-    requires ready { IsReady store.old }
-    requires card { IsCard (committed store.old) }
-    requires current { IsCurrent (table_in store.old) current.old }
+    requires kept { IsKept store.old current.old }
     requires space { free.old ≡ space_in store.old }
     ensures serves { Serves (creation template.now) store.old current.old store.new current.new [] result }
     ensures space { OnOk result (free.new ≡ space_in store.new) }
@@ -64,9 +61,7 @@ fn find_new_file<'a, B: Board>(
     current: &Current,
     template: &'a [u8],
 ) -> Result<Result<Fcp<'a>, Sw>, StoreErr>
-    requires ready { IsReady store.old }
-    requires card { IsCard (committed store.old) }
-    requires current { IsCurrent (table_in store.old) current.now }
+    requires kept { IsKept store.old current.now }
     ensures found { IfOk result (λ answer. MatchResult answer
         (λ fcp. IsNewFile (committed store.old) current.now template.now fcp)
         (λ refusal. refused_by (create_refusals (card_in store.old) (session_in store.old current.now) template.now)
@@ -105,9 +100,7 @@ pub(crate) fn delete_file<B: Board>(
     free: &mut FreeSpace,
     subject: Subject,
 ) -> Result<Sw, StoreErr>
-    requires ready { IsReady store.old }
-    requires card { IsCard (committed store.old) }
-    requires current { IsCurrent (table_in store.old) current.old }
+    requires kept { IsKept store.old current.old }
     requires space { free.old ≡ space_in store.old }
     ensures serves { Serves (deletion subject) store.old current.old store.new current.new [] result }
     ensures space { OnOk result (free.new ≡ space_in store.new) }
@@ -138,9 +131,7 @@ fn find_deletable<B: Board>(
     current: &Current,
     subject: Subject,
 ) -> Result<Result<Named, Sw>, StoreErr>
-    requires ready { IsReady store.old }
-    requires card { IsCard (committed store.old) }
-    requires current { IsCurrent (table_in store.old) current.now }
+    requires kept { IsKept store.old current.now }
     ensures found { IfOk result (λ answer. MatchResult answer
         (λ file. IsDeletable (committed store.old) current.now subject file.number file.entry)
         (λ refusal. refused_by (delete_refusals (card_in store.old) (session_in store.old current.now) subject)
@@ -168,9 +159,7 @@ fn deletion_refusal<B: Board>(
     number: u8,
     parent: u8,
 ) -> Result<Option<Sw>, StoreErr>
-    requires ready { IsReady store.old }
-    requires card { IsCard (committed store.old) }
-    requires current { IsCurrent (table_in store.old) current.now }
+    requires kept { IsKept store.old current.now }
     requires used { IsUsed (table_in store.old) number }
     requires above { IsUsed (table_in store.old) parent }
     ensures found { IfOk result (λ refusal. refusal ≡ file_refusal
@@ -198,9 +187,7 @@ fn find_subject<B: Board>(
     current: &Current,
     subject: Subject,
 ) -> Result<Option<u8>, StoreErr>
-    requires ready { IsReady store.old }
-    requires card { IsCard (committed store.old) }
-    requires current { IsCurrent (table_in store.old) current.now }
+    requires kept { IsKept store.old current.now }
     ensures found { IfOk result (λ found. subject_of (card_in store.old).tree (session_in store.old current.now) subject
         ≡ option_map (path_of (table_in store.old)) found) }
     ensures used { IfOk result (λ found. IfSome found (IsUsed (table_in store.old))) }

@@ -13,9 +13,8 @@ ghost use Rattle.ef_body.specs.Refusals.{raised_number, unraised};
 ghost use Rattle.card_core.specs.Outcomes.{refused_by};
 ghost use Rattle.card_core.specs.RecordGuards.{IsIncreasable};
 ghost use Rattle.card_core.specs.Served.{Serves};
-ghost use Rattle.card_core.specs.Standing.{IsCard};
 ghost use Rattle.card_core.specs.Steps.{refusals_of};
-ghost use Rattle.card_core.specs.Working.{card_in, session_in, space_in, table_in, IsCurrent};
+ghost use Rattle.card_core.specs.Working.{card_in, session_in, space_in, IsKept};
 
 use crate::current::Current;
 use crate::lengths::{ResponseData, asks_less, give, right_length};
@@ -43,9 +42,7 @@ pub(crate) fn increase<B: Board>(
     expected: Option<u8>,
     answer: &mut Answer,
 ) -> Result<Sw, StoreErr>
-    requires ready { IsReady store.old }
-    requires card { IsCard (committed store.old) }
-    requires current { IsCurrent (table_in store.old) current.old }
+    requires kept { IsKept store.old current.old }
     requires few { length amount.now ≤ 255 }
     requires empty { answer.old.items ≡ [] }
     ensures serves { Serves (increasing amount.now expected) store.old current.old store.new current.new answer.new.items result }
@@ -78,9 +75,7 @@ fn find_increased<B: Board>(
     expected: Option<u8>,
     response: &mut ResponseData,
 ) -> Result<Result<CyclicFile, Sw>, StoreErr>
-    requires ready { IsReady store.old }
-    requires card { IsCard (committed store.old) }
-    requires current { IsCurrent (table_in store.old) current.now }
+    requires kept { IsKept store.old current.now }
     requires few { length amount.now ≤ 255 }
     ensures found { IfOk result (λ answer. MatchResult answer
         (λ file. IsIncreasable (committed store.old) current.now amount.now expected file.number file.body response.new.items)

@@ -13,6 +13,7 @@ mod increasing;
 pub mod laws;
 mod layout;
 mod lengths;
+mod lent;
 mod life_cycles;
 mod machine;
 mod named;

@@ -11,7 +11,7 @@ ghost use Rattle.card_core.specs.LifeCycles.{change_bit, change_refusals, change
 ghost use Rattle.card_core.specs.Outcomes.{refused_by};
 ghost use Rattle.card_core.specs.Served.{Serves};
 ghost use Rattle.card_core.specs.Standing.{IsCard};
-ghost use Rattle.card_core.specs.Working.{card_in, session_in, space_in, table_in, IsCurrent};
+ghost use Rattle.card_core.specs.Working.{card_in, session_in, space_in, table_in, IsKept};
 
 use crate::current::Current;
 use apdu_core::{LifeCycleChange, Subject, Sw};
@@ -38,9 +38,7 @@ pub(crate) fn change_life_cycle<B: Board>(
     change: LifeCycleChange,
     subject: Subject,
 ) -> Result<Sw, StoreErr>
-    requires ready { IsReady store.old }
-    requires card { IsCard (committed store.old) }
-    requires current { IsCurrent (table_in store.old) current.old }
+    requires kept { IsKept store.old current.old }
     ensures serves { Serves (changing change subject) store.old current.old store.new current.new [] result }
     ensures space { OnOk result (space_in store.new ≡ space_in store.old) }
 {
@@ -59,9 +57,7 @@ pub(crate) fn terminate_card_usage<B: Board>(
     store: &mut Store<B>,
     current: &Current,
 ) -> Result<Sw, StoreErr>
-    requires ready { IsReady store.old }
-    requires card { IsCard (committed store.old) }
-    requires current { IsCurrent (table_in store.old) current.now }
+    requires kept { IsKept store.old current.now }
     ensures { Serves (terminating) store.old current.now store.new current.now [] result }
 {
     if !is_allowed(store, 0, AccessBit::Terminate, &current.verified)? {
@@ -81,9 +77,7 @@ fn find_change<B: Board>(
     change: LifeCycleChange,
     subject: Subject,
 ) -> Result<Result<Changed, Sw>, StoreErr>
-    requires ready { IsReady store.old }
-    requires card { IsCard (committed store.old) }
-    requires current { IsCurrent (table_in store.old) current.now }
+    requires kept { IsKept store.old current.now }
     ensures found { IfOk result (λ answer. MatchResult answer
         (λ changed. IsChanged (committed store.old) current.now change subject changed)
         (λ refusal. refused_by (change_refusals (card_in store.old) (session_in store.old current.now) change subject)
@@ -151,9 +145,7 @@ fn find_changed<B: Board>(
     change: LifeCycleChange,
     subject: Subject,
 ) -> Result<Option<u8>, StoreErr>
-    requires ready { IsReady store.old }
-    requires card { IsCard (committed store.old) }
-    requires current { IsCurrent (table_in store.old) current.now }
+    requires kept { IsKept store.old current.now }
     ensures found { IfOk result (λ found. changed_file (card_in store.old).tree (session_in store.old current.now) change subject
         ≡ option_map (path_of (table_in store.old)) found) }
     ensures used { IfOk result (λ found. IfSome found (IsUsed (table_in store.old))) }

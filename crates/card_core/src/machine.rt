@@ -24,6 +24,7 @@ use crate::check::find_card;
 use crate::commands::carry_out;
 use crate::current::Current;
 use crate::faults::{PowerLost, StartFault};
+use crate::lent::Lent;
 use apdu_core::{Answer, Sw};
 use file_tree::FreeSpace;
 use std::marker::Model;
@@ -35,9 +36,7 @@ pub const COMMAND_WRITES: u16 = 700;
 /// A started card: its memory, its session, and what it can still do.
 #[derive(Drop)]
 pub struct Card<B: Board> {
-    store: Store<B>,
-    current: Current,
-    free: FreeSpace,
+    lent: Lent<B>,
     state: CardState,
 }
 
@@ -53,16 +52,17 @@ impl<B: Board> Model for Card<B> {
     ghost use Rattle.std.specs.Prelude.{◌≡◌, true};
     ghost use Rattle.card_core.specs.Finding.{HasCard};
     ghost use Rattle.card_core.specs.declared.card_state.CardState.TheVariants.{Working, Dark};
-    ghost use Rattle.card_core.specs.Working.{session_while, table_in, IsKept};
+    ghost use Rattle.card_core.specs.Lending.{IsWhole};
+    ghost use Rattle.card_core.specs.Working.{session_while, table_in};
 
     ghost view = { λ c. record {
-      facts = c.store.facts;
-      session = session_while c.state (table_in c.store) c.current;
+      facts = c.lent.store.facts;
+      session = session_while c.state (table_in c.lent.store) c.lent.current;
       state = c.state;
     } };
 
-    ghost invariant = { λ c. HasCard c.store.facts.words × (c.state ≡ Working → IsKept c.store c.current c.free)
-        × (c.state ≡ Dark → c.store.facts.dark ≡ true) };
+    ghost invariant = { λ c. HasCard c.lent.store.facts.words × (c.state ≡ Working → IsWhole c.lent)
+        × (c.state ≡ Dark → c.lent.store.facts.dark ≡ true) };
 }
 
 impl<B: Board> Card<B> {
@@ -91,9 +91,11 @@ impl<B: Board> Card<B> {
         };
         match space_of(find_card(&mut store)) {
             Ok(free) => Ok(Card {
-                store,
-                current: Current::fresh(),
-                free,
+                lent: Lent {
+                    store,
+                    current: Current::fresh(),
+                    free,
+                },
                 state: CardState::Working,
             }),
             Err(fault) => Err((store.into_board(), fault)),
@@ -114,7 +116,7 @@ impl<B: Board> Card<B> {
     pub fn free(&self) -> FreeSpace
         ensures { self.now.state ≡ CardState.Working → result ≡ free_space (card_found self.now).tree }
     {
-        self.free
+        self.lent.free
     }
 
     /// Carries out the bytes of a command (ISO/IEC 7816-4, clause 5), and puts its answer into the buffer, whatever that held.
@@ -164,13 +166,7 @@ impl<B: Board> Card<B> {
             }
             CardState::Dark => return Err(PowerLost),
         }
-        let carried = carry_out(
-            &mut self.store,
-            &mut self.current,
-            &mut self.free,
-            command,
-            answer,
-        );
+        let carried = carry_out(&mut self.lent, command, answer);
         end_command(carried, &mut self.state, answer)
     }
 
@@ -178,12 +174,12 @@ impl<B: Board> Card<B> {
     pub fn into_board(self) -> B
         ensures { B.facts result ≡ self.facts }
     {
-        let Card {
+        let Card { lent, state: _ } = self;
+        let Lent {
             store,
             current: _,
             free: _,
-            state: _,
-        } = self;
+        } = lent;
         store.into_board()
     }
 }
@@ -194,7 +190,7 @@ impl<B: Faultless> Card<B> {
         ensures faults { self.now.facts.faults ≡ 0 }
         ensures due { self.now.facts.due ≡ due_of self.now.facts.pending }
     {
-        self.store.has_no_fault();
+        self.lent.store.has_no_fault();
     }
 }
 
@@ -210,7 +206,7 @@ impl<B: Armed> Card<B> {
           };
         } }
     {
-        self.store.arm(k, mask);
+        self.lent.store.arm(k, mask);
     }
 }
 

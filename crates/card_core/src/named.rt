@@ -2,7 +2,7 @@
 ghost use Rattle.std.specs.Prelude.{◌≡◌, Some, option_map, IfOk, IfSome, MatchResult};
 ghost use Rattle.std.specs.Result.{result_err};
 ghost use Rattle.undo_journal.specs.Calls.{Reads};
-ghost use Rattle.undo_journal.specs.Memory.{committed, IsReady};
+ghost use Rattle.undo_journal.specs.Memory.{committed};
 ghost use Rattle.apdu_core.specs.Ranges.{IsTarget};
 ghost use Rattle.file_tree.specs.States.{is_barred as is_barred_at};
 ghost use Rattle.file_tree.specs.Table.{path_of, IsUsed};
@@ -10,8 +10,7 @@ ghost use Rattle.card_core.specs.Elementary.{file_refusals, missing as missing_s
 ghost use Rattle.card_core.specs.Guards.{allowed};
 ghost use Rattle.card_core.specs.Outcomes.{refused_by};
 ghost use Rattle.card_core.specs.Reaching.{target_of};
-ghost use Rattle.card_core.specs.Standing.{IsCard};
-ghost use Rattle.card_core.specs.Working.{card_in, file_refusal, fits, fits_kind, session_in, table_in, IsCurrent, IsElementary, IsNamed};
+ghost use Rattle.card_core.specs.Working.{card_in, file_refusal, fits, fits_kind, session_in, table_in, IsElementary, IsKept, IsNamed};
 
 use crate::current::Current;
 use apdu_core::{Sw, Target};
@@ -55,9 +54,7 @@ pub(crate) fn find_file<B: Board>(
     target: Target,
     need: Need,
 ) -> Result<Result<Named, Sw>, StoreErr>
-    requires ready { IsReady store.old }
-    requires card { IsCard (committed store.old) }
-    requires current { IsCurrent (table_in store.old) current.now }
+    requires kept { IsKept store.old current.now }
     requires target { IsTarget target }
     ensures found { IfOk result (λ answer. MatchResult answer
         (λ file. IsNamed (committed store.old) current.now target need file.number file.entry)
@@ -84,9 +81,7 @@ fn refusal_of<B: Board>(
     kind: u8,
     need: Need,
 ) -> Result<Option<Sw>, StoreErr>
-    requires ready { IsReady store.old }
-    requires card { IsCard (committed store.old) }
-    requires current { IsCurrent (table_in store.old) current.now }
+    requires kept { IsKept store.old current.now }
     requires used { IsUsed (table_in store.old) number }
     ensures found { IfOk result (λ refusal. refusal ≡ file_refusal
         (is_barred_at (card_in store.old).tree (path_of (table_in store.old) number)) (fits_kind need.structure kind)
@@ -147,9 +142,7 @@ pub(crate) fn find_target<B: Board>(
     current: &Current,
     target: Target,
 ) -> Result<Option<u8>, StoreErr>
-    requires ready { IsReady store.old }
-    requires card { IsCard (committed store.old) }
-    requires current { IsCurrent (table_in store.old) current.now }
+    requires kept { IsKept store.old current.now }
     requires target { IsTarget target }
     ensures found { IfOk result (λ found. target_of (card_in store.old).tree (session_in store.old current.now) target
         ≡ option_map (path_of (table_in store.old)) found) }

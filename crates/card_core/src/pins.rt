@@ -13,8 +13,7 @@ ghost use Rattle.pin_store.specs.Pins.{tries_left};
 ghost use Rattle.pin_store.specs.Trials.{pin_in, Charges};
 ghost use Rattle.card_core.specs.Pins.{tries_told};
 ghost use Rattle.card_core.specs.Served.{Serves};
-ghost use Rattle.card_core.specs.Standing.{IsCard};
-ghost use Rattle.card_core.specs.Working.{end_of_attempt, table_in, IsCurrent};
+ghost use Rattle.card_core.specs.Working.{end_of_attempt, IsKept};
 
 use crate::current::{Current, Shown};
 use apdu_core::{Replacement, Sw};
@@ -29,9 +28,7 @@ pub(crate) fn verify<B: Board>(
     pin: u8,
     shown: Option<&[u8; 8]>,
 ) -> Result<Sw, StoreErr>
-    requires ready { IsReady store.old }
-    requires card { IsCard (committed store.old) }
-    requires current { IsCurrent (table_in store.old) current.old }
+    requires kept { IsKept store.old current.old }
     requires pin { IsPinNumber pin }
     ensures { Serves (verifying pin (option_map (λ value. value.now) shown.entry)) store.old current.old store.new
         current.new [] result }
@@ -50,9 +47,7 @@ pub(crate) fn change_reference_data<B: Board>(
     pin: u8,
     values: Replacement<'_>,
 ) -> Result<Sw, StoreErr>
-    requires ready { IsReady store.old }
-    requires card { IsCard (committed store.old) }
-    requires current { IsCurrent (table_in store.old) current.old }
+    requires kept { IsKept store.old current.old }
     requires pin { IsPinNumber pin }
     ensures { Serves (changing pin values.entry.shown.now values.entry.new.now) store.old current.old store.new current.new []
         result }
@@ -74,9 +69,7 @@ pub(crate) fn reset_retry_counter<B: Board>(
     pin: u8,
     values: Option<Replacement<'_>>,
 ) -> Result<Sw, StoreErr>
-    requires ready { IsReady store.old }
-    requires card { IsCard (committed store.old) }
-    requires current { IsCurrent (table_in store.old) current.old }
+    requires kept { IsKept store.old current.old }
     requires pin { IsPinNumber pin }
     ensures { Serves (resetting pin (option_map (λ values. (values.shown.now, values.new.now)) values.entry)) store.old
         current.old store.new current.new [] result }
@@ -94,9 +87,7 @@ fn verify_value<B: Board>(
     pin: u8,
     shown: &[u8; 8],
 ) -> Result<Sw, StoreErr>
-    requires ready { IsReady store.old }
-    requires card { IsCard (committed store.old) }
-    requires current { IsCurrent (table_in store.old) current.old }
+    requires kept { IsKept store.old current.old }
     requires pin { IsPinNumber pin }
     ensures { Serves (verifying pin (Some shown.now)) store.old current.old store.new current.new [] result }
 {
@@ -116,9 +107,7 @@ fn reset_value<B: Board>(
     pin: u8,
     values: Replacement<'_>,
 ) -> Result<Sw, StoreErr>
-    requires ready { IsReady store.old }
-    requires card { IsCard (committed store.old) }
-    requires current { IsCurrent (table_in store.old) current.old }
+    requires kept { IsKept store.old current.old }
     requires pin { IsPinNumber pin }
     ensures { Serves (resetting pin (Some (values.entry.shown.now, values.entry.new.now))) store.old current.old store.new
         current.new [] result }

@@ -2,18 +2,17 @@
 ghost use Rattle.std.specs.Prelude.{◌≡◌, ◌≢◌, ◌≤◌, ◌==◌, ◌&&◌, not, [], length, Some, IfOk, OnOk, MatchResult};
 ghost use Rattle.std.specs.Result.{result_err};
 ghost use Rattle.undo_journal.specs.Calls.{Reads};
-ghost use Rattle.undo_journal.specs.Memory.{committed, IsReady};
+ghost use Rattle.undo_journal.specs.Memory.{committed};
 ghost use Rattle.apdu_core.specs.Ranges.{IsTarget};
 ghost use Rattle.apdu_core.specs.Requests.{append_record as appending, read_record as reading, search_record as searching, update_record as updating};
 ghost use Rattle.card_rules.specs.declared.access_mode.AccessBit.TheVariants as AccessBit;
 ghost use Rattle.card_core.specs.declared.named.Structure.TheVariants as Structure;
 ghost use Rattle.card_core.specs.Outcomes.{refused_by};
 ghost use Rattle.card_core.specs.Elementary.{file_refusals};
-ghost use Rattle.card_core.specs.Standing.{IsCard};
 ghost use Rattle.card_core.specs.RecordGuards.{choice_refusals, IsAppendable, IsChosen, IsReplaceable};
 ghost use Rattle.card_core.specs.Served.{Serves};
 ghost use Rattle.card_core.specs.Steps.{refusals_of};
-ghost use Rattle.card_core.specs.Working.{card_in, fits, session_in, space_in, structure_replaced, table_in, IsCurrent, IsRecordFile};
+ghost use Rattle.card_core.specs.Working.{card_in, fits, session_in, space_in, structure_replaced, IsKept, IsRecordFile};
 ghost use Rattle.card_core.specs.Records.{pointer_found, search_status, searching as searching_way};
 
 use crate::current::Current;
@@ -83,9 +82,7 @@ pub(crate) fn find_records<B: Board>(
     target: Target,
     need: Need,
 ) -> Result<Result<RecordFile, Sw>, StoreErr>
-    requires ready { IsReady store.old }
-    requires card { IsCard (committed store.old) }
-    requires current { IsCurrent (table_in store.old) current.now }
+    requires kept { IsKept store.old current.now }
     requires target { IsTarget target }
     requires records { need.structure ≢ Structure.Bytes }
     ensures found { IfOk result (λ answer. MatchResult answer
@@ -110,9 +107,7 @@ fn find_record<B: Board>(
     target: Target,
     choice: RecordChoice,
 ) -> Result<Result<FileRecord, Sw>, StoreErr>
-    requires ready { IsReady store.old }
-    requires card { IsCard (committed store.old) }
-    requires current { IsCurrent (table_in store.old) current.now }
+    requires kept { IsKept store.old current.now }
     requires target { IsTarget target }
     ensures found { IfOk result (λ answer. MatchResult answer
         (λ found. IsChosen (committed store.old) current.now target choice found.file.number found.file.body found.number)
@@ -140,9 +135,7 @@ pub(crate) fn read_record<B: Board>(
     expected: u8,
     answer: &mut Answer,
 ) -> Result<Sw, StoreErr>
-    requires ready { IsReady store.old }
-    requires card { IsCard (committed store.old) }
-    requires current { IsCurrent (table_in store.old) current.old }
+    requires kept { IsKept store.old current.old }
     requires target { IsTarget target }
     requires empty { answer.old.items ≡ [] }
     ensures { Serves (reading target choice expected) store.old current.old store.new current.new answer.new.items result }
@@ -172,9 +165,7 @@ pub(crate) fn update_record<B: Board>(
     choice: RecordChoice,
     bytes: &[u8],
 ) -> Result<Sw, StoreErr>
-    requires ready { IsReady store.old }
-    requires card { IsCard (committed store.old) }
-    requires current { IsCurrent (table_in store.old) current.old }
+    requires kept { IsKept store.old current.old }
     requires target { IsTarget target }
     requires some { 1 ≤ length bytes.now }
     requires few { length bytes.now ≤ 255 }
@@ -202,9 +193,7 @@ fn find_replaced<B: Board>(
     choice: RecordChoice,
     bytes: &[u8],
 ) -> Result<Result<FileRecord, Sw>, StoreErr>
-    requires ready { IsReady store.old }
-    requires card { IsCard (committed store.old) }
-    requires current { IsCurrent (table_in store.old) current.now }
+    requires kept { IsKept store.old current.now }
     requires target { IsTarget target }
     ensures found { IfOk result (λ answer. MatchResult answer
         (λ replaced. IsReplaceable (committed store.old) current.now target choice bytes.now replaced.file.number
@@ -235,9 +224,7 @@ pub(crate) fn append_record<B: Board>(
     target: Target,
     bytes: &[u8],
 ) -> Result<Sw, StoreErr>
-    requires ready { IsReady store.old }
-    requires card { IsCard (committed store.old) }
-    requires current { IsCurrent (table_in store.old) current.old }
+    requires kept { IsKept store.old current.old }
     requires target { IsTarget target }
     requires some { 1 ≤ length bytes.now }
     requires few { length bytes.now ≤ 255 }
@@ -262,9 +249,7 @@ fn find_appended<B: Board>(
     target: Target,
     bytes: &[u8],
 ) -> Result<Result<RecordFile, Sw>, StoreErr>
-    requires ready { IsReady store.old }
-    requires card { IsCard (committed store.old) }
-    requires current { IsCurrent (table_in store.old) current.now }
+    requires kept { IsKept store.old current.now }
     requires target { IsTarget target }
     ensures found { IfOk result (λ answer. MatchResult answer
         (λ file. IsAppendable (committed store.old) current.now target bytes.now file.number file.body)
@@ -297,9 +282,7 @@ pub(crate) fn search_record<B: Board>(
     expected: Option<u8>,
     answer: &mut Answer,
 ) -> Result<Sw, StoreErr>
-    requires ready { IsReady store.old }
-    requires card { IsCard (committed store.old) }
-    requires current { IsCurrent (table_in store.old) current.old }
+    requires kept { IsKept store.old current.old }
     requires target { IsTarget target }
     requires few { length text.now ≤ 255 }
     requires empty { answer.old.items ≡ [] }

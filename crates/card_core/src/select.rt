@@ -2,16 +2,14 @@
 ghost use Rattle.std.specs.Prelude.{◌≡◌, [], option_map, IfOk, IfSome};
 ghost use Rattle.std.specs.Result.{result_err};
 ghost use Rattle.undo_journal.specs.Calls.{Reads};
-ghost use Rattle.undo_journal.specs.Memory.{committed, IsReady};
 ghost use Rattle.apdu_core.specs.Ranges.{IsFilePath, IsSelector};
 ghost use Rattle.apdu_core.specs.Requests.{select as selection};
 ghost use Rattle.apdu_core.specs.Selections.{identifiers_in, selection_of};
 ghost use Rattle.file_tree.specs.Table.{path_of, IsUsed};
 ghost use Rattle.card_core.specs.Reaching.{selected_from};
 ghost use Rattle.card_core.specs.Selecting.{selection_status};
-ghost use Rattle.card_core.specs.Standing.{IsCard};
 ghost use Rattle.card_core.specs.Served.{Serves};
-ghost use Rattle.card_core.specs.Working.{card_in, data_in, life_of, session_in, table_in, IsCurrent, IsToldEntry};
+ghost use Rattle.card_core.specs.Working.{card_in, data_in, life_of, session_in, table_in, IsKept, IsToldEntry};
 
 use crate::current::Current;
 use crate::lengths::{ResponseData, asks_less, give, right_length};
@@ -37,9 +35,7 @@ pub(crate) fn select_file<B: Board>(
     expected: Option<u8>,
     answer: &mut Answer,
 ) -> Result<Sw, StoreErr>
-    requires ready { IsReady store.old }
-    requires card { IsCard (committed store.old) }
-    requires current { IsCurrent (table_in store.old) current.old }
+    requires kept { IsKept store.old current.old }
     requires selector { IsSelector selector }
     requires empty { answer.old.items ≡ [] }
     ensures { Serves (selection (selection_of selector.entry) returned expected) store.old current.old store.new current.new answer.new.items result }
@@ -63,9 +59,7 @@ fn find_selected<B: Board>(
     current: Current,
     selector: Selector<'_>,
 ) -> Result<Option<u8>, StoreErr>
-    requires ready { IsReady store.old }
-    requires card { IsCard (committed store.old) }
-    requires current { IsCurrent (table_in store.old) current }
+    requires kept { IsKept store.old current }
     requires selector { IsSelector selector }
     ensures found { IfOk result (λ found. selected_from (card_in store.old).tree (session_in store.old
         current).current_df (selection_of selector.entry)

@@ -37,7 +37,7 @@ returns-in-Select-clause-serves g c = told _ _ _ _ _ _ _ c.in-Select.is _ c.sele
 
 pub returns-in-Select-clause-space : goal.returns-in-Select-clause-space
 unfolding commits
-returns-in-Select-clause-space g c = space_left _ _ _ _ _ _ _ _ c.select_file.ensures tt c.requires.space
+returns-in-Select-clause-space g c = space_left _ _ _ _ _ _ _ _ c.select_file.ensures tt c.requires.whole.space
 
 pub read_file-requires-clause-target : goal.read_file-requires-clause-target
 read_file-requires-clause-target g c = (subst IsInRange c.in-ReadBinary.is c.requires.in_range).0
@@ -47,7 +47,7 @@ returns-in-ReadBinary-clause-serves g c = told _ _ _ _ _ _ _ c.in-ReadBinary.is 
 
 pub returns-in-ReadBinary-clause-space : goal.returns-in-ReadBinary-clause-space
 unfolding commits
-returns-in-ReadBinary-clause-space g c = space_left _ _ _ _ _ _ _ _ c.read_file.ensures tt c.requires.space
+returns-in-ReadBinary-clause-space g c = space_left _ _ _ _ _ _ _ _ c.read_file.ensures tt c.requires.whole.space
 
 pub update_file-requires-clause-target : goal.update_file-requires-clause-target
 update_file-requires-clause-target g c = (subst IsInRange c.in-UpdateBinary.is c.requires.in_range).0
@@ -63,7 +63,7 @@ returns-in-UpdateBinary-clause-serves g c =
     silent _ _ _ _ _ _ _ c.in-UpdateBinary.is _ c.requires.empty c.update_file.ensures.serves
 
 pub returns-in-UpdateBinary-clause-space : goal.returns-in-UpdateBinary-clause-space
-returns-in-UpdateBinary-clause-space g c = space_kept _ _ _ _ c.requires.space c.update_file.ensures.space
+returns-in-UpdateBinary-clause-space g c = space_kept _ _ _ _ c.requires.whole.space c.update_file.ensures.space
 
 pub returns-in-CreateFile-clause-serves : goal.returns-in-CreateFile-clause-serves
 returns-in-CreateFile-clause-serves g c =
@@ -81,7 +81,7 @@ returns-in-ReadRecord-clause-serves g c = told _ _ _ _ _ _ _ c.in-ReadRecord.is 
 
 pub returns-in-ReadRecord-clause-space : goal.returns-in-ReadRecord-clause-space
 unfolding commits
-returns-in-ReadRecord-clause-space g c = space_left _ _ _ _ _ _ _ _ c.read_record.ensures tt c.requires.space
+returns-in-ReadRecord-clause-space g c = space_left _ _ _ _ _ _ _ _ c.read_record.ensures tt c.requires.whole.space
 
 pub update_record-requires-clause-target : goal.update_record-requires-clause-target
 update_record-requires-clause-target g c = (subst IsInRange c.in-UpdateRecord.is c.requires.in_range).0
@@ -97,7 +97,7 @@ returns-in-UpdateRecord-clause-serves g c =
     silent _ _ _ _ _ _ _ c.in-UpdateRecord.is _ c.requires.empty c.update_record.ensures.serves
 
 pub returns-in-UpdateRecord-clause-space : goal.returns-in-UpdateRecord-clause-space
-returns-in-UpdateRecord-clause-space g c = space_kept _ _ _ _ c.requires.space c.update_record.ensures.space
+returns-in-UpdateRecord-clause-space g c = space_kept _ _ _ _ c.requires.whole.space c.update_record.ensures.space
 
 pub append_record-requires-clause-target : goal.append_record-requires-clause-target
 append_record-requires-clause-target g c = (subst IsInRange c.in-AppendRecord.is c.requires.in_range).0
@@ -113,7 +113,7 @@ returns-in-AppendRecord-clause-serves g c =
     silent _ _ _ _ _ _ _ c.in-AppendRecord.is _ c.requires.empty c.append_record.ensures.serves
 
 pub returns-in-AppendRecord-clause-space : goal.returns-in-AppendRecord-clause-space
-returns-in-AppendRecord-clause-space g c = space_kept _ _ _ _ c.requires.space c.append_record.ensures.space
+returns-in-AppendRecord-clause-space g c = space_kept _ _ _ _ c.requires.whole.space c.append_record.ensures.space
 
 pub search_record-requires-clause-target : goal.search_record-requires-clause-target
 search_record-requires-clause-target g c = (subst IsInRange c.in-SearchRecord.is c.requires.in_range).0
@@ -126,7 +126,7 @@ returns-in-SearchRecord-clause-serves g c = told _ _ _ _ _ _ _ c.in-SearchRecord
 
 pub returns-in-SearchRecord-clause-space : goal.returns-in-SearchRecord-clause-space
 unfolding commits
-returns-in-SearchRecord-clause-space g c = space_left _ _ _ _ _ _ _ _ c.search_record.ensures tt c.requires.space
+returns-in-SearchRecord-clause-space g c = space_left _ _ _ _ _ _ _ _ c.search_record.ensures tt c.requires.whole.space
 
 pub increase-requires-clause-few : goal.increase-requires-clause-few
 increase-requires-clause-few g c = (subst IsInRange c.in-Increase.is c.requires.in_range).1
@@ -135,14 +135,14 @@ pub returns-in-Increase-clause-serves : goal.returns-in-Increase-clause-serves
 returns-in-Increase-clause-serves g c = told _ _ _ _ _ _ _ c.in-Increase.is _ c.increase.ensures.serves
 
 pub returns-in-Increase-clause-space : goal.returns-in-Increase-clause-space
-returns-in-Increase-clause-space g c = space_kept _ _ _ _ c.requires.space c.increase.ensures.space
+returns-in-Increase-clause-space g c = space_kept _ _ _ _ c.requires.whole.space c.increase.ensures.space
 
 pub returns-in-ChangeLifeCycle-clause-serves : goal.returns-in-ChangeLifeCycle-clause-serves
 returns-in-ChangeLifeCycle-clause-serves g c =
     silent _ _ _ _ _ _ _ c.in-ChangeLifeCycle.is _ c.requires.empty c.change_life_cycle.ensures.serves
 
 pub returns-in-ChangeLifeCycle-clause-space : goal.returns-in-ChangeLifeCycle-clause-space
-returns-in-ChangeLifeCycle-clause-space g c = space_kept _ _ _ _ c.requires.space c.change_life_cycle.ensures.space
+returns-in-ChangeLifeCycle-clause-space g c = space_kept _ _ _ _ c.requires.whole.space c.change_life_cycle.ensures.space
 
 pub returns-in-TerminateCardUsage-clause-serves : goal.returns-in-TerminateCardUsage-clause-serves
 returns-in-TerminateCardUsage-clause-serves g c =
@@ -151,7 +151,7 @@ returns-in-TerminateCardUsage-clause-serves g c =
 pub returns-in-TerminateCardUsage-clause-space : goal.returns-in-TerminateCardUsage-clause-space
 unfolding commits
 returns-in-TerminateCardUsage-clause-space g c =
-    space_left _ _ _ _ _ _ _ _ c.terminate_card_usage.ensures (refl, tt) c.requires.space
+    space_left _ _ _ _ _ _ _ _ c.terminate_card_usage.ensures (refl, tt) c.requires.whole.space
 
 pub verify-requires-clause-pin : goal.verify-requires-clause-pin
 verify-requires-clause-pin g c = subst IsInRange c.in-Verify.is c.requires.in_range
@@ -161,7 +161,7 @@ returns-in-Verify-clause-serves g c = silent _ _ _ _ _ _ _ c.in-Verify.is _ c.re
 
 pub returns-in-Verify-clause-space : goal.returns-in-Verify-clause-space
 unfolding commits
-returns-in-Verify-clause-space g c = space_left _ _ _ _ _ _ _ _ c.verify.ensures (pin-files _ _) c.requires.space
+returns-in-Verify-clause-space g c = space_left _ _ _ _ _ _ _ _ c.verify.ensures (pin-files _ _) c.requires.whole.space
 
 pub change_reference_data-requires-clause-pin : goal.change_reference_data-requires-clause-pin
 change_reference_data-requires-clause-pin g c = subst IsInRange c.in-ChangeReferenceData.is c.requires.in_range
@@ -175,8 +175,8 @@ unfolding commits
 returns-in-ChangeReferenceData-clause-space g c =
     let values = c.in-ChangeReferenceData.values in
     let attempt = changing c.in-ChangeReferenceData.pin values.shown.now values.new.now in
-    space_left _ _ _ _ _ _ _ _ c.change_reference_data.ensures (attempt-files (card_in c.args.store.now) attempt)
-    c.requires.space
+    space_left _ _ _ _ _ _ _ _ c.change_reference_data.ensures (attempt-files (card_in c.args.lent.now.store) attempt)
+    c.requires.whole.space
 
 pub reset_retry_counter-requires-clause-pin : goal.reset_retry_counter-requires-clause-pin
 reset_retry_counter-requires-clause-pin g c = subst IsInRange c.in-ResetRetryCounter.is c.requires.in_range
@@ -188,4 +188,4 @@ returns-in-ResetRetryCounter-clause-serves g c =
 pub returns-in-ResetRetryCounter-clause-space : goal.returns-in-ResetRetryCounter-clause-space
 unfolding commits
 returns-in-ResetRetryCounter-clause-space g c =
-    space_left _ _ _ _ _ _ _ _ c.reset_retry_counter.ensures (pin-files _ _) c.requires.space
+    space_left _ _ _ _ _ _ _ _ c.reset_retry_counter.ensures (pin-files _ _) c.requires.whole.space

@@ -17,7 +17,7 @@ use Rattle.card_core.proofs.files.create_file.Goals as goal
 
 pub returns-in_err-fcp-clause-serves : goal.returns-in_err-fcp-clause-serves
 returns-in_err-fcp-clause-serves g c =
-    handed (create_file c.args.template.now) c.args.store.now c.args.current.now c.find_new_file.new.store c.requires.card
+    handed (create_file c.args.template.now) c.args.store.now c.args.current.now c.find_new_file.new.store c.requires.kept.card
     c.args.current.now [] _ _ c.from_residual.ensures.1 c.in_err-fcp.ensures.store (omega arith)
 
 pub returns-in-Err-clause-serves : goal.returns-in-Err-clause-serves
@@ -26,15 +26,15 @@ returns-in-Err-clause-serves g c =
     let x = c.args.current.now in
     let template = c.args.template.now in
     let refused = said_err _ _ c.in_ok-fcp.field-0 c.in-Err.refusal c.in-Err.is c.in_ok-fcp.ensures.found in
-    declined (create_file template) old x c.find_new_file.new.store (λ _. tt) c.requires.card c.in-Err.refusal
-    c.find_new_file.ensures.store.only c.in_ok-fcp.ensures.store.ready c.requires.current
+    declined (create_file template) old x c.find_new_file.new.store (λ _. tt) c.requires.kept.card c.in-Err.refusal
+    c.find_new_file.ensures.store.only c.in_ok-fcp.ensures.store.ready c.requires.kept.current
     (create-refusal (card_in old) (session_in old x) template c.in-Err.refusal refused)
 
 pub returns-in_err-entry-clause-serves : goal.returns-in_err-entry-clause-serves
 returns-in_err-entry-clause-serves g c =
     let found = said_ok _ _ c.in_ok-fcp.field-0 c.in-Ok.fcp c.in-Ok.is c.in_ok-fcp.ensures.found in
-    creation-torn _ c.find_new_file.new.store c.create.new.store c.requires.ready c.requires.card c.args.current.now
-    c.requires.current c.args.template.now c.in-Ok.fcp found c.find_new_file.ensures.store.only _ _
+    creation-torn _ c.find_new_file.new.store c.create.new.store c.requires.kept.ready c.requires.kept.card c.args.current.now
+    c.requires.kept.current c.args.template.now c.in-Ok.fcp found c.find_new_file.ensures.store.only _ _
     c.from_residual-in_err-entry.ensures.1 c.create.ensures.any_exit c.create.ensures.idle c.create.ensures.by_gate _ c.in_err-entry.ensures.store
     (omega arith)
 
@@ -44,23 +44,23 @@ returns-in-Refused-clause-serves g c =
     let found = said_ok _ _ c.in_ok-fcp.field-0 c.in-Ok.fcp c.in-Ok.is c.in_ok-fcp.ensures.found in
     let tells = subst (λ (creation : Creation). TellsCreation (committed c.find_new_file.new.store) x.df c.in-Ok.fcp
     creation (committed c.create.new.store)) c.in-Refused.is c.in_ok-entry.ensures.done in
-    creation-refused _ c.find_new_file.new.store c.create.new.store c.requires.ready c.requires.card x
-    c.requires.current c.args.template.now c.in-Ok.fcp found c.find_new_file.ensures.store.only c.in-Refused.refusal
+    creation-refused _ c.find_new_file.new.store c.create.new.store c.requires.kept.ready c.requires.kept.card x
+    c.requires.kept.current c.args.template.now c.in-Ok.fcp found c.find_new_file.ensures.store.only c.in-Refused.refusal
     tells c.create.ensures.idle c.in_ok-entry.ensures.store.ready
 
 pub read_entry-requires-clause-within : goal.read_entry-requires-clause-within
 read_entry-requires-clause-within g c =
     let found = said_ok _ _ c.in_ok-fcp.field-0 c.in-Ok.fcp c.in-Ok.is c.in_ok-fcp.ensures.found in
     used_small (committed c.create.new.store) c.in-Created.entry
-    (creation-used _ c.find_new_file.new.store c.create.new.store c.requires.ready c.requires.card c.args.current.now
-    c.requires.current c.args.template.now c.in-Ok.fcp found c.find_new_file.ensures.store.only c.in-Created.entry
+    (creation-used _ c.find_new_file.new.store c.create.new.store c.requires.kept.ready c.requires.kept.card c.args.current.now
+    c.requires.kept.current c.args.template.now c.in-Ok.fcp found c.find_new_file.ensures.store.only c.in-Created.entry
     c.in-Created.blocks c.in_ok-entry.field-0 c.in_ok-entry.ensures.done c.in-Created.is)
 
 pub returns-in_err-entry-2-clause-serves : goal.returns-in_err-entry-2-clause-serves
 returns-in_err-entry-2-clause-serves g c =
     let found = said_ok _ _ c.in_ok-fcp.field-0 c.in-Ok.fcp c.in-Ok.is c.in_ok-fcp.ensures.found in
-    created-torn _ c.find_new_file.new.store c.create.new.store c.requires.ready c.requires.card c.args.current.now
-    c.requires.current c.args.template.now c.in-Ok.fcp found c.find_new_file.ensures.store.only c.in-Created.entry
+    created-torn _ c.find_new_file.new.store c.create.new.store c.requires.kept.ready c.requires.kept.card c.args.current.now
+    c.requires.kept.current c.args.template.now c.in-Ok.fcp found c.find_new_file.ensures.store.only c.in-Created.entry
     c.in-Created.blocks c.in_ok-entry.field-0 c.in_ok-entry.ensures.done c.in-Created.is c.read_entry.new.store _
     c.create.ensures.by_gate _
     c.in_ok-entry.ensures.store (omega arith) c.in_err-entry-2.ensures.store _ _ c.from_residual-in_err-entry-2.ensures.1 refl
@@ -68,15 +68,15 @@ returns-in_err-entry-2-clause-serves g c =
 pub overflow_sub-free : goal.overflow_sub-free
 overflow_sub-free g c =
     let found = said_ok _ _ c.in_ok-fcp.field-0 c.in-Ok.fcp c.in-Ok.is c.in_ok-fcp.ensures.found in
-    creation-taken _ c.find_new_file.new.store c.create.new.store c.requires.ready c.requires.card c.args.current.now
-    c.requires.current c.args.template.now c.in-Ok.fcp found c.find_new_file.ensures.store.only c.in-Created.entry
+    creation-taken _ c.find_new_file.new.store c.create.new.store c.requires.kept.ready c.requires.kept.card c.args.current.now
+    c.requires.kept.current c.args.template.now c.in-Ok.fcp found c.find_new_file.ensures.store.only c.in-Created.entry
     c.in-Created.blocks c.in_ok-entry.field-0 c.in_ok-entry.ensures.done c.in-Created.is c.args.free.now c.requires.space
 
 pub overflow_sub-free-2 : goal.overflow_sub-free-2
 overflow_sub-free-2 g c =
     let found = said_ok _ _ c.in_ok-fcp.field-0 c.in-Ok.fcp c.in-Ok.is c.in_ok-fcp.ensures.found in
-    creation-taken-one _ c.find_new_file.new.store c.create.new.store c.requires.ready c.requires.card
-    c.args.current.now c.requires.current c.args.template.now c.in-Ok.fcp found c.find_new_file.ensures.store.only
+    creation-taken-one _ c.find_new_file.new.store c.create.new.store c.requires.kept.ready c.requires.kept.card
+    c.args.current.now c.requires.kept.current c.args.template.now c.in-Ok.fcp found c.find_new_file.ensures.store.only
     c.in-Created.entry c.in-Created.blocks c.in_ok-entry.field-0 c.in_ok-entry.ensures.done c.in-Created.is
     c.args.free.now c.requires.space
 
@@ -87,8 +87,8 @@ returns-clause-serves g c =
     let new = c.read_entry.new.store in
     let found = said_ok _ _ c.in_ok-fcp.field-0 c.in-Ok.fcp c.in-Ok.is c.in_ok-fcp.ensures.found in
     subst (λ (y : Current). Serves (create_file c.args.template.now) old x new y [] (Ok DONE)) (sym c.at.ensures)
-    (created-done old c.find_new_file.new.store c.create.new.store c.requires.ready c.requires.card x
-    c.requires.current c.args.template.now c.in-Ok.fcp found c.find_new_file.ensures.store.only c.in-Created.entry
+    (created-done old c.find_new_file.new.store c.create.new.store c.requires.kept.ready c.requires.kept.card x
+    c.requires.kept.current c.args.template.now c.in-Ok.fcp found c.find_new_file.ensures.store.only c.in-Created.entry
     c.in-Created.blocks c.in_ok-entry.field-0 c.in_ok-entry.ensures.done c.in-Created.is new _ c.create.ensures.by_gate _
     c.in_ok-entry.ensures.store (omega arith) c.in_ok-entry-2.ensures.store c.in_ok-entry-2.ensures.store.ready c.in_ok-entry-2.entry
     c.in_ok-entry-2.ensures.entry)
@@ -96,8 +96,8 @@ returns-clause-serves g c =
 pub returns-clause-space : goal.returns-clause-space
 returns-clause-space g c =
     let found = said_ok _ _ c.in_ok-fcp.field-0 c.in-Ok.fcp c.in-Ok.is c.in_ok-fcp.ensures.found in
-    created-counts _ c.find_new_file.new.store c.create.new.store c.requires.ready c.requires.card c.args.current.now
-    c.requires.current c.args.template.now c.in-Ok.fcp found c.find_new_file.ensures.store.only c.in-Created.entry
+    created-counts _ c.find_new_file.new.store c.create.new.store c.requires.kept.ready c.requires.kept.card c.args.current.now
+    c.requires.kept.current c.args.template.now c.in-Ok.fcp found c.find_new_file.ensures.store.only c.in-Created.entry
     c.in-Created.blocks c.in_ok-entry.field-0 c.in_ok-entry.ensures.done c.in-Created.is c.read_entry.new.store _
     c.create.ensures.by_gate _
     c.in_ok-entry.ensures.store (omega arith) c.in_ok-entry-2.ensures.store c.args.free.now c.requires.space

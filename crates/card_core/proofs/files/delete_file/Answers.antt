@@ -22,7 +22,7 @@ returns-in_err-file-clause-serves g c =
     let x = c.args.current.now in
     subst (λ (r : Result Sw StoreErr). Serves (delete_file c.args.subject) old x c.find_deletable.new.store x [] r)
     (sym (err-is _ _ c.from_residual.ensures.1))
-    (stopped (delete_file c.args.subject) old x c.find_deletable.new.store c.requires.card x [] c.in_err-file.field-0.0
+    (stopped (delete_file c.args.subject) old x c.find_deletable.new.store c.requires.kept.card x [] c.in_err-file.field-0.0
     c.find_deletable.ensures.store.only c.in_err-file.ensures.store.tells (omega arith))
 
 pub returns-in-Err-clause-serves : goal.returns-in-Err-clause-serves
@@ -30,15 +30,15 @@ returns-in-Err-clause-serves g c =
     let old = c.args.store.now in
     let x = c.args.current.now in
     let refused = said_err _ _ c.in_ok-file.field-0 c.in-Err.refusal c.in-Err.is c.in_ok-file.ensures.found in
-    declined (delete_file c.args.subject) old x c.find_deletable.new.store (λ _. tt) c.requires.card c.in-Err.refusal
-    c.find_deletable.ensures.store.only c.in_ok-file.ensures.store.ready c.requires.current
+    declined (delete_file c.args.subject) old x c.find_deletable.new.store (λ _. tt) c.requires.kept.card c.in-Err.refusal
+    c.find_deletable.ensures.store.only c.in_ok-file.ensures.store.ready c.requires.kept.current
     (delete-refused (card_in old) (session_in old x) c.args.subject c.in-Err.refusal refused)
 
 pub returns-in_err-freed-clause-serves : goal.returns-in_err-freed-clause-serves
 returns-in_err-freed-clause-serves g c =
     let old = c.args.store.now in
     let m = committed old in
-    let sized = c.requires.ready.usable.committed_size in
+    let sized = c.requires.kept.ready.usable.committed_size in
     let x = c.args.current.now in
     let mid = c.find_deletable.new.store in
     let new = c.delete.new.store in
@@ -46,14 +46,14 @@ returns-in_err-freed-clause-serves g c =
     let same = c.find_deletable.ensures.store.only.keeps.committed_words in
     let reads = c.find_deletable.ensures.store.only in
     let request = delete_file c.args.subject in
-    let stage = any-deleting m sized c.requires.card x c.args.subject c.in-Ok.file.number found.below found.used
+    let stage = any-deleting m sized c.requires.kept.card x c.args.subject c.in-Ok.file.number found.below found.used
     found.place (committed mid) (committed new) same found.unrefused c.delete.ensures.any_exit in
-    let card = any-stands m sized c.requires.card x c.args.subject c.in-Ok.file.number found.below found.used
+    let card = any-stands m sized c.requires.kept.card x c.args.subject c.in-Ok.file.number found.below found.used
     found.place (committed mid) (committed new) same c.delete.ensures.any_exit in
     let reports = reports_then old mid new reads.reports c.delete.ensures.store.reports in
     let spends = c.delete.ensures.store.writes.writes in
     let spent = reads.board.writes in
-    let went = went-after request old x new _ mid c.requires.card refl (inr stage) reads c.delete.ensures.store.writes
+    let went = went-after request old x new _ mid c.requires.kept.card refl (inr stage) reads c.delete.ensures.store.writes
     c.delete.ensures.by_gate in
     let compares = compared-none _ mid.facts new.facts c.delete.ensures.store.writes ∙ reads-compared old mid reads in
     subst (λ (r : Result Sw StoreErr). Serves request old x new x [] r)
@@ -65,7 +65,7 @@ pub returns-clause-serves : goal.returns-clause-serves
 returns-clause-serves g c =
     let old = c.args.store.now in
     let m = committed old in
-    let sized = c.requires.ready.usable.committed_size in
+    let sized = c.requires.kept.ready.usable.committed_size in
     let x = c.args.current.now in
     let mid = c.find_deletable.new.store in
     let new = c.delete.new.store in
@@ -73,20 +73,20 @@ returns-clause-serves g c =
     let same = c.find_deletable.ensures.store.only.keeps.committed_words in
     let reads = c.find_deletable.ensures.store.only in
     let request = delete_file c.args.subject in
-    let stage = any-deleting m sized c.requires.card x c.args.subject c.in-Ok.file.number found.below found.used
+    let stage = any-deleting m sized c.requires.kept.card x c.args.subject c.in-Ok.file.number found.below found.used
     found.place (committed mid) (committed new) same found.unrefused c.delete.ensures.any_exit in
-    let card = any-stands m sized c.requires.card x c.args.subject c.in-Ok.file.number found.below found.used
+    let card = any-stands m sized c.requires.kept.card x c.args.subject c.in-Ok.file.number found.below found.used
     found.place (committed mid) (committed new) same c.delete.ensures.any_exit in
     let reports = reports_then old mid new reads.reports c.delete.ensures.store.reports in
     let spends = c.delete.ensures.store.writes.writes in
     let spent = reads.board.writes in
-    let went = went-after request old x new _ mid c.requires.card refl (inr stage) reads c.delete.ensures.store.writes
+    let went = went-after request old x new _ mid c.requires.kept.card refl (inr stage) reads c.delete.ensures.store.writes
     c.delete.ensures.by_gate in
     let compares = compared-none _ mid.facts new.facts c.delete.ensures.store.writes ∙ reads-compared old mid reads in
-    let done = done-step m sized c.requires.card x c.args.subject c.in-Ok.file.number found.below found.used
+    let done = done-step m sized c.requires.kept.card x c.args.subject c.in-Ok.file.number found.below found.used
     found.place (committed mid) (committed new) same found.unrefused c.in_ok-freed.ensures.done in
-    let current = done-current m sized c.requires.card x c.args.subject c.in-Ok.file.number found.below found.used
-    found.place (committed mid) (committed new) same c.requires.current.marks
+    let current = done-current m sized c.requires.kept.card x c.args.subject c.in-Ok.file.number found.below found.used
+    found.place (committed mid) (committed new) same c.requires.kept.current.marks
     c.in_ok-freed.ensures.done in
     subst (λ (y : Entry). Serves request old x new (record x { df = y.parent; ef = None; pointer = None }) [] (Ok DONE))
     (sym found.entry_is)

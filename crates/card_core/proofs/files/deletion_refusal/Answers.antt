@@ -27,7 +27,7 @@ returns-clause-found g c =
     let m = committed c.args.store.now in
     let t = table m in
     let x = c.args.current.now in
-    let marks = marks-are t x c.requires.current.marks in
+    let marks = marks-are t x c.requires.kept.current.marks in
     let same = c.is_barred.ensures.store.only.keeps.committed_words in
     let still = c.is_allowed.ensures.store.only.keeps.committed_words ∙ same in
     let shown = sym marks in
@@ -53,7 +53,7 @@ returns-clause-found g c =
 
 pub is_allowed-requires-clause-tree : goal.is_allowed-requires-clause-tree
 is_allowed-requires-clause-tree g c =
-    tree_still c.args.store.now c.is_barred.new.store c.is_barred.ensures.store.only c.requires.card
+    tree_still c.args.store.now c.is_barred.new.store c.is_barred.ensures.store.only c.requires.kept.card
 
 pub is_allowed-requires-clause-used : goal.is_allowed-requires-clause-used
 is_allowed-requires-clause-used g c =
@@ -62,7 +62,7 @@ is_allowed-requires-clause-used g c =
 pub is_allowed-requires-2-clause-tree : goal.is_allowed-requires-2-clause-tree
 is_allowed-requires-2-clause-tree g c =
     tree_still c.args.store.now c.is_allowed.new.store (reads_then c.args.store.now c.is_barred.new.store
-    c.is_allowed.new.store c.is_barred.ensures.store.only c.is_allowed.ensures.store.only) c.requires.card
+    c.is_allowed.new.store c.is_barred.ensures.store.only c.is_allowed.ensures.store.only) c.requires.kept.card
 
 pub is_allowed-requires-2-clause-used : goal.is_allowed-requires-2-clause-used
 is_allowed-requires-2-clause-used g c =

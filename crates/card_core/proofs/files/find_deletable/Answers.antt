@@ -10,7 +10,7 @@ use Rattle.card_core.specs.Standing.{card_of}
 use Rattle.card_core.specs.Working.{session_of}
 use Rattle.card_core.proofs.Deletions.{deletable, deletion_verdict, file-verdict}
 use Rattle.card_core.proofs.FileSteps.{delete-master}
-use Rattle.card_core.proofs.Readings.{card_still, current_still, used_still}
+use Rattle.card_core.proofs.Readings.{kept_still, used_still}
 use Rattle.undo_journal.specs.laws.Told.{reads_on, reads_handed}
 use Rattle.card_core.proofs.files.find_deletable.Goals as goal
 
@@ -54,7 +54,7 @@ deletion_refusal-requires-clause-above g c =
     let below : 0 < e = omega arith in
     subst (λ (l : List ℕ). IsUsed (table l) c.in_ok-entry.entry.parent) (sym same)
     (subst (λ (y : Entry). IsUsed (table m) y.parent) (sym entry)
-    (parent_used (table m) c.requires.card.tree.entries e below used))
+    (parent_used (table m) c.requires.kept.card.tree.entries e below used))
 
 pub returns-in-Some-2-clause-found : goal.returns-in-Some-2-clause-found
 returns-in-Some-2-clause-found g c =
@@ -69,7 +69,7 @@ returns-in-Some-2-clause-found g c =
     c.in_ok-entry.ensures.entry ∙ ap (λ (l : List ℕ). entry_in (table l) e)
     c.find_subject.ensures.store.only.keeps.committed_words in
     let below : 0 < e = omega arith in
-    file-verdict m c.requires.ready.usable.committed_size c.requires.card x c.args.subject e below used place
+    file-verdict m c.requires.kept.ready.usable.committed_size c.requires.kept.card x c.args.subject e below used place
     ∙ ap (λ (y : Entry). deletion_verdict m x e y.parent) (sym entry)
     ∙ ap (λ (l : List ℕ). deletion_verdict l x e c.in_ok-entry.entry.parent) (sym same)
     ∙ sym c.in_ok-refusal.ensures.found ∙ c.in-Some-2.is
@@ -87,8 +87,8 @@ returns-in-None-clause-found g c =
     c.in_ok-entry.ensures.entry ∙ ap (λ (l : List ℕ). entry_in (table l) e)
     c.find_subject.ensures.store.only.keeps.committed_words in
     let below : 0 < e = omega arith in
-    deletable m c.requires.ready.usable.committed_size c.requires.card x c.args.subject e below used place
-    (file-verdict m c.requires.ready.usable.committed_size c.requires.card x c.args.subject e below used place
+    deletable m c.requires.kept.ready.usable.committed_size c.requires.kept.card x c.args.subject e below used place
+    (file-verdict m c.requires.kept.ready.usable.committed_size c.requires.kept.card x c.args.subject e below used place
     ∙ ap (λ (y : Entry). deletion_verdict m x e y.parent) (sym entry)
     ∙ ap (λ (l : List ℕ). deletion_verdict l x e c.in_ok-entry.entry.parent) (sym same)
     ∙ sym c.in_ok-refusal.ensures.found ∙ c.in-None.is)
@@ -99,17 +99,10 @@ returns-in_err-entry-clause-store g c =
     reads_handed _ _ _ _ c.from_residual-in_err-entry.ensures.1
     (reads_on _ _ _ _ c.find_subject.ensures.store.only c.in_err-entry.ensures.store)
 
-pub deletion_refusal-requires-clause-card : goal.deletion_refusal-requires-clause-card
-deletion_refusal-requires-clause-card g c =
-    card_still c.args.store.now c.read_entry.new.store
-    (reads_then c.args.store.now c.find_subject.new.store c.read_entry.new.store c.find_subject.ensures.store.only c.read_entry.ensures.store.only)
-    c.requires.card
-
-pub deletion_refusal-requires-clause-current : goal.deletion_refusal-requires-clause-current
-deletion_refusal-requires-clause-current g c =
-    current_still c.args.store.now c.read_entry.new.store c.args.current.now
-    (reads_then c.args.store.now c.find_subject.new.store c.read_entry.new.store c.find_subject.ensures.store.only c.read_entry.ensures.store.only)
-    c.requires.current
+pub deletion_refusal-requires-clause-kept : goal.deletion_refusal-requires-clause-kept
+deletion_refusal-requires-clause-kept g c =
+    kept_still _ _ _ (reads_then _ _ _ c.find_subject.ensures.store.only c.read_entry.ensures.store.only)
+    c.in_ok-entry.ensures.store.ready c.requires.kept
 
 pub deletion_refusal-requires-clause-used : goal.deletion_refusal-requires-clause-used
 deletion_refusal-requires-clause-used g c =

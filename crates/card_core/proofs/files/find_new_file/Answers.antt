@@ -11,7 +11,7 @@ use Rattle.card_core.proofs.files.find_new_file.Goals as goal
 
 pub is_barred-requires-clause-used : goal.is_barred-requires-clause-used
 is_barred-requires-clause-used g c =
-    df_used (table (committed c.args.store.now)) c.args.current.now c.requires.current
+    df_used (table (committed c.args.store.now)) c.args.current.now c.requires.kept.current
 
 pub returns-then-branch-clause-found : goal.returns-then-branch-clause-found
 returns-then-branch-clause-found g c =
@@ -30,12 +30,12 @@ returns-in_default-clause-found g c =
 
 pub is_allowed-requires-clause-tree : goal.is_allowed-requires-clause-tree
 is_allowed-requires-clause-tree g c =
-    tree_still c.args.store.now c.is_barred.new.store c.is_barred.ensures.store.only c.requires.card
+    tree_still c.args.store.now c.is_barred.new.store c.is_barred.ensures.store.only c.requires.kept.card
 
 pub is_allowed-requires-clause-used : goal.is_allowed-requires-clause-used
 is_allowed-requires-clause-used g c =
     used_still c.args.store.now c.is_barred.new.store c.args.current.now.df c.is_barred.ensures.store.only
-    (df_used (table (committed c.args.store.now)) c.args.current.now c.requires.current)
+    (df_used (table (committed c.args.store.now)) c.args.current.now c.requires.kept.current)
 
 pub returns-in_err-is_allowed-clause-store : goal.returns-in_err-is_allowed-clause-store
 returns-in_err-is_allowed-clause-store g c =
@@ -50,7 +50,7 @@ returns-then-not-branch-clause-found g c =
     create-denied (card_in old) (session_in old x) c.args.template.now
     (barred-is (committed old) x c.in_ok-is_barred.field-0 c.in_ok-is_barred.ensures.barred ∙ c.if-branch.false)
     fcp (sym c.parse.ensures.value ∙ c.in-Ok.is)
-    (permits-is (committed old) (committed c.is_barred.new.store) x c.requires.current.marks
+    (permits-is (committed old) (committed c.is_barred.new.store) x c.requires.kept.current.marks
     c.is_barred.ensures.store.only.keeps.committed_words c.creation_bit-bit.result (creation_bit fcp.kind)
     c.creation_bit-bit.ensures _ refl c.in_ok-is_allowed.field-0
     c.in_ok-is_allowed.ensures.allowed ∙ c.if-not-branch.true)
@@ -69,7 +69,7 @@ returns-clause-found g c =
       creatable = c.in-Ok.ensures.ranges;
       unbarred = barred-is (committed old) x c.in_ok-is_barred.field-0 c.in_ok-is_barred.ensures.barred
           ∙ c.if-branch.false;
-      permitted = permits-is (committed old) (committed c.is_barred.new.store) x c.requires.current.marks
+      permitted = permits-is (committed old) (committed c.is_barred.new.store) x c.requires.kept.current.marks
           c.is_barred.ensures.store.only.keeps.committed_words c.creation_bit-bit.result (creation_bit fcp.kind)
           c.creation_bit-bit.ensures _ refl c.in_ok-is_allowed.field-0
           c.in_ok-is_allowed.ensures.allowed ∙ c.if-not-branch.false;

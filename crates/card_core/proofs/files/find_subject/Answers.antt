@@ -17,7 +17,7 @@ pub returns-in-Current-clause-found : goal.returns-in-Current-clause-found
 returns-in-Current-clause-found g c =
     let m = committed c.args.store.now in
     ap (λ (subject : Subject). subject_of (card_of m).tree (session_of (table m) c.args.current.now) subject) c.in-Current.is
-    ∙ subject-current m c.requires.card c.args.current.now c.requires.current
+    ∙ subject-current m c.requires.kept.card c.args.current.now c.requires.kept.current
     ∙ ap (λ (found : Option ℕ). option_map (path_of (table m)) found) (ap (λ (e : ℕ). Some e) (sym c.unwrap_or.ensures))
 
 pub returns-in-Identifier-clause-found : goal.returns-in-Identifier-clause-found

@@ -27,7 +27,7 @@ returns-then-is_too_long-clause-found g c =
     let body = c.cyclic-body.result in
     let found = found-cyclic m c.args.current.now target.Current _ c.in-Ok.file.number c.in-Ok.file.body body
     c.cyclic-body.ensures (said_ok _ _ c.in_ok-file.field-0 c.in-Ok.file c.in-Ok.is c.in_ok-file.ensures.found) in
-    increase-long m c.requires.ready.usable.committed_size c.requires.card c.args.current.now _ c.in-Ok.file.number body
+    increase-long m c.requires.kept.ready.usable.committed_size c.requires.kept.card c.args.current.now _ c.in-Ok.file.number body
     found c.args.amount.now c.args.expected found.named.unrefused (sym c.is_too_long.ensures ∙ c.if-is_too_long.true)
 
 pub raised-requires-clause-body : goal.raised-requires-clause-body
@@ -37,7 +37,7 @@ raised-requires-clause-body g c =
     let found = found-cyclic m c.args.current.now target.Current _ c.in-Ok.file.number c.in-Ok.file.body body
     c.cyclic-body.ensures (said_ok _ _ c.in_ok-file.field-0 c.in-Ok.file c.in-Ok.is c.in_ok-file.ensures.found) in
     subst (λ (l : List ℕ). IsCyclic l body) (sym c.find_records.ensures.store.only.keeps.committed_words)
-    (agree m c.requires.ready.usable.committed_size c.requires.card c.args.current.now target.Current _
+    (agree m c.requires.kept.ready.usable.committed_size c.requires.kept.card c.args.current.now target.Current _
     c.in-Ok.file.number (bodies.Cyclic body) found).stands
 
 pub raised-requires-clause-sent : goal.raised-requires-clause-sent
@@ -55,7 +55,7 @@ returns-in-Some-clause-found g c =
     let body = c.cyclic-body.result in
     let found = found-cyclic m c.args.current.now target.Current _ c.in-Ok.file.number c.in-Ok.file.body body
     c.cyclic-body.ensures (said_ok _ _ c.in_ok-file.field-0 c.in-Ok.file c.in-Ok.is c.in_ok-file.ensures.found) in
-    increase-unraised m c.requires.ready.usable.committed_size c.requires.card c.args.current.now _
+    increase-unraised m c.requires.kept.ready.usable.committed_size c.requires.kept.card c.args.current.now _
     c.in-Ok.file.number body found sent c.args.expected found.named.unrefused
     (sym c.is_too_long.ensures ∙ c.if-is_too_long.false) c.in-Some.refusal
     (ap (λ (l : List ℕ). unraised body.record_length (cyclic_records l body) sent)
@@ -94,7 +94,7 @@ returns-then-asks_less-clause-found g c =
     let less = ap (asks_less expected) (sym data_is) ∙ sym c.asks_less.ensures
     ∙ c.if-asks_less.true in
     let status = ap right_length (sym data_is) ∙ sym c.right_length.ensures in
-    increase-less m c.requires.ready.usable.committed_size c.requires.card c.args.current.now _ c.in-Ok.file.number body
+    increase-less m c.requires.kept.ready.usable.committed_size c.requires.kept.card c.args.current.now _ c.in-Ok.file.number body
     found sent expected found.named.unrefused (sym c.is_too_long.ensures ∙ c.if-is_too_long.false) free less
     ∙ ap (λ (refusal : Sw). Some refusal) status
 

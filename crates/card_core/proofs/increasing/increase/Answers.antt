@@ -16,7 +16,7 @@ pub returns-in_err-file-clause-serves : goal.returns-in_err-file-clause-serves
 returns-in_err-file-clause-serves g c =
     let none_yet : length c.args.answer.now.items ≡ 0 = ap (λ (l : List ℕ). length l) c.requires.empty in
     handed (increase c.args.amount.now c.args.expected) c.args.store.now c.args.current.now c.find_increased.new.store
-    c.requires.card c.args.current.now c.args.answer.now.items _ _ c.from_residual.ensures.1 c.in_err-file.ensures.store
+    c.requires.kept.card c.args.current.now c.args.answer.now.items _ _ c.from_residual.ensures.1 c.in_err-file.ensures.store
     (omega (arith, none_yet))
 
 pub returns-in-Err-clause-serves : goal.returns-in-Err-clause-serves
@@ -26,8 +26,8 @@ returns-in-Err-clause-serves g c =
     let request = increase c.args.amount.now c.args.expected in
     let refused = said_err _ _ c.in_ok-file.field-0 c.in-Err.refusal c.in-Err.is c.in_ok-file.ensures.found in
     declined-empty request old x c.find_increased.new.store c.args.answer.now.items c.requires.empty (λ _. tt)
-    c.requires.card c.in-Err.refusal c.find_increased.ensures.store.only c.in_ok-file.ensures.store.ready
-    c.requires.current
+    c.requires.kept.card c.in-Err.refusal c.find_increased.ensures.store.only c.in_ok-file.ensures.store.ready
+    c.requires.kept.current
     (served-refused (card_in old) (session_in old x) request c.in-Err.refusal refused)
 
 pub returns-in-Err-clause-space : goal.returns-in-Err-clause-space
@@ -37,26 +37,26 @@ returns-in-Err-clause-space g c =
 pub put_sum-requires-clause-body : goal.put_sum-requires-clause-body
 put_sum-requires-clause-body g c =
     let found = said_ok _ _ c.in_ok-file.field-0 c.in-Ok.file c.in-Ok.is c.in_ok-file.ensures.found in
-    increased-body c.args.store.now c.find_increased.new.store c.find_increased.new.store c.requires.ready
-    c.requires.card c.args.current.now c.requires.current c.find_increased.ensures.store.only _ _ _ _ _ found
+    increased-body c.args.store.now c.find_increased.new.store c.find_increased.new.store c.requires.kept.ready
+    c.requires.kept.card c.args.current.now c.requires.kept.current c.find_increased.ensures.store.only _ _ _ _ _ found
 
 pub put_sum-requires-clause-sent : goal.put_sum-requires-clause-sent
 put_sum-requires-clause-sent g c =
     let found = said_ok _ _ c.in_ok-file.field-0 c.in-Ok.file c.in-Ok.is c.in_ok-file.ensures.found in
-    increased-sent c.args.store.now c.find_increased.new.store c.find_increased.new.store c.requires.ready
-    c.requires.card c.args.current.now c.requires.current c.find_increased.ensures.store.only _ _ _ _ _ found
+    increased-sent c.args.store.now c.find_increased.new.store c.find_increased.new.store c.requires.kept.ready
+    c.requires.kept.card c.args.current.now c.requires.kept.current c.find_increased.ensures.store.only _ _ _ _ _ found
 
 pub put_sum-requires-clause-free : goal.put_sum-requires-clause-free
 put_sum-requires-clause-free g c =
     let found = said_ok _ _ c.in_ok-file.field-0 c.in-Ok.file c.in-Ok.is c.in_ok-file.ensures.found in
-    increased-raises c.args.store.now c.find_increased.new.store c.find_increased.new.store c.requires.ready
-    c.requires.card c.args.current.now c.requires.current c.find_increased.ensures.store.only _ _ _ _ _ found
+    increased-raises c.args.store.now c.find_increased.new.store c.find_increased.new.store c.requires.kept.ready
+    c.requires.kept.card c.args.current.now c.requires.kept.current c.find_increased.ensures.store.only _ _ _ _ _ found
 
 pub returns-in_err-put_sum-clause-serves : goal.returns-in_err-put_sum-clause-serves
 returns-in_err-put_sum-clause-serves g c =
     let found = said_ok _ _ c.in_ok-file.field-0 c.in-Ok.file c.in-Ok.is c.in_ok-file.ensures.found in
-    increased-torn c.args.store.now c.find_increased.new.store c.put_sum.new.store c.requires.ready c.requires.card
-    c.args.current.now c.requires.current c.find_increased.ensures.store.only _ _ _ _ _ found
+    increased-torn c.args.store.now c.find_increased.new.store c.put_sum.new.store c.requires.kept.ready c.requires.kept.card
+    c.args.current.now c.requires.kept.current c.find_increased.ensures.store.only _ _ _ _ _ found
     c.put_sum.ensures.any_exit c.put_sum.ensures.by_gate _ c.in_err-put_sum.ensures.store c.args.answer.now.items c.requires.empty _ _
     c.from_residual-in_err-put_sum.ensures.1 refl
 
@@ -67,14 +67,14 @@ returns-clause-serves g c =
     let found = said_ok _ _ c.in_ok-file.field-0 c.in-Ok.file c.in-Ok.is c.in_ok-file.ensures.found in
     subst (λ (y : Current). Serves (increase c.args.amount.now c.args.expected) old x c.put_sum.new.store y
     c.give.new.answer.items (Ok DONE)) (sym c.pointing.ensures)
-    (increased-done old c.find_increased.new.store c.put_sum.new.store c.requires.ready c.requires.card x
-    c.requires.current c.find_increased.ensures.store.only _ _ c.in-Ok.file.number c.in-Ok.file.body _ found
+    (increased-done old c.find_increased.new.store c.put_sum.new.store c.requires.kept.ready c.requires.kept.card x
+    c.requires.kept.current c.find_increased.ensures.store.only _ _ c.in-Ok.file.number c.in-Ok.file.body _ found
     c.put_sum.ensures.any_exit c.put_sum.ensures.by_gate _ c.in_ok-put_sum.ensures.store c.in_ok-put_sum.ensures.done
     c.in_ok-put_sum.ensures.store.ready c.give.new.answer.items c.give.ensures.given c.give.ensures.room)
 
 pub returns-clause-space : goal.returns-clause-space
 returns-clause-space g c =
     let found = said_ok _ _ c.in_ok-file.field-0 c.in-Ok.file c.in-Ok.is c.in_ok-file.ensures.found in
-    increased-space c.args.store.now c.find_increased.new.store c.put_sum.new.store c.requires.ready c.requires.card
-    c.args.current.now c.requires.current c.find_increased.ensures.store.only _ _ _ _ _ found
+    increased-space c.args.store.now c.find_increased.new.store c.put_sum.new.store c.requires.kept.ready c.requires.kept.card
+    c.args.current.now c.requires.kept.current c.find_increased.ensures.store.only _ _ _ _ _ found
     c.put_sum.ensures.any_exit c.put_sum.ensures.by_gate _ c.in_ok-put_sum.ensures.store c.in_ok-put_sum.ensures.done

@@ -23,7 +23,7 @@ returns-clause-found g c =
     c.in_ok-number.ensures.found ∙ ap (λ (found : Option ℕ). option_map (path_of (table m)) found) c.in-Some.is in
     let used = subst (λ (found : Option ℕ). IfSome found (IsUsed (table m))) c.in-Some.is c.in_ok-number.ensures.used in
     IfOk-weaker c.read_change.result (λ (answer : Result Changed Sw). answer ≡ change_at (committed c.find_changed.new.store) x c.args.change e) _
-    (λ answer is. found-is m c.requires.card x c.requires.current c.args.change c.args.subject e used place answer
+    (λ answer is. found-is m c.requires.kept.card x c.requires.kept.current c.args.change c.args.subject e used place answer
     (is ∙ ap (λ (l : List ℕ). change_at l x c.args.change e) same))
     c.read_change.ensures.found
 
@@ -33,7 +33,7 @@ returns-clause-store g c =
 
 pub read_change-requires-clause-card : goal.read_change-requires-clause-card
 read_change-requires-clause-card g c =
-    card_still c.args.store.now c.find_changed.new.store c.find_changed.ensures.store.only c.requires.card
+    card_still c.args.store.now c.find_changed.new.store c.find_changed.ensures.store.only c.requires.kept.card
 
 pub read_change-requires-clause-used : goal.read_change-requires-clause-used
 read_change-requires-clause-used g c =

@@ -18,14 +18,14 @@ returns-in-Current-clause-found g c =
     let m = committed c.args.store.now in
     let x = c.args.current.now in
     ap (λ (subject : Subject). changed_file (card_of m).tree (session_of (table m) x) c.args.change subject) c.in-Current.is
-    ∙ current-subject m c.requires.card x c.requires.current c.args.change
+    ∙ current-subject m c.requires.kept.card x c.requires.kept.current c.args.change
     ∙ ap (λ (found : Option ℕ). option_map (path_of (table m)) found) (sym c.current_changed.ensures)
 
 pub returns-in-Current-clause-used : goal.returns-in-Current-clause-used
 returns-in-Current-clause-used g c =
     let t = table (committed c.args.store.now) in
     subst (λ (found : Option ℕ). IfSome found (IsUsed t)) (sym c.current_changed.ensures)
-    (current-there t c.args.current.now c.requires.current c.args.change)
+    (current-there t c.args.current.now c.requires.kept.current c.args.change)
 
 pub returns-in-Identifier-clause-found : goal.returns-in-Identifier-clause-found
 returns-in-Identifier-clause-found g c =

@@ -16,10 +16,10 @@ returns-then-not-branch g c =
     let old = c.args.store.now in
     let x = c.args.current.now in
     let denied : c.in_ok-is_allowed.field-0 ≡ false = c.if-not-branch.true in
-    declined terminate_card_usage old x c.is_allowed.new.store (λ _. tt) c.requires.card ACCESS_DENIED
+    declined terminate_card_usage old x c.is_allowed.new.store (λ _. tt) c.requires.kept.card ACCESS_DENIED
     c.is_allowed.ensures.store.only
-    c.in_ok-is_allowed.ensures.store.ready c.requires.current
-    (end-refused (committed old) x c.requires.current _ refl c.in_ok-is_allowed.field-0
+    c.in_ok-is_allowed.ensures.store.ready c.requires.kept.current
+    (end-refused (committed old) x c.requires.kept.current _ refl c.in_ok-is_allowed.field-0
     c.in_ok-is_allowed.ensures.allowed denied)
 
 pub returns-in_err-terminate_card : goal.returns-in_err-terminate_card
@@ -30,7 +30,7 @@ returns-in_err-terminate_card g c =
     let granted : c.in_ok-is_allowed.field-0 ≡ true = c.if-not-branch.false in
     let tells = c.in_err-terminate_card.ensures.store.tells ∙ sym (ap (λ (r : Result Sw StoreErr). result_err r)
     (err-is _ _ c.from_residual-in_err-terminate_card.ensures.1)) in
-    end-torn old mid new c.requires.ready c.requires.card c.args.current.now c.requires.current _
+    end-torn old mid new c.requires.kept.ready c.requires.kept.card c.args.current.now c.requires.kept.current _
     refl (sym granted ∙ c.in_ok-is_allowed.ensures.allowed) c.is_allowed.ensures.store.only
     c.terminate_card.ensures.any_exit c.terminate_card.ensures.by_gate c.terminate_card.ensures.store.reports c.terminate_card.ensures.store.writes
     c.from_residual-in_err-terminate_card.result c.from_residual-in_err-terminate_card.ensures.0 tells
@@ -41,7 +41,7 @@ returns g c =
     let mid = c.is_allowed.new.store in
     let new = c.terminate_card.new.store in
     let granted : c.in_ok-is_allowed.field-0 ≡ true = c.if-not-branch.false in
-    end-made old mid new c.requires.ready c.requires.card c.args.current.now c.requires.current _
+    end-made old mid new c.requires.kept.ready c.requires.kept.card c.args.current.now c.requires.kept.current _
     refl (sym granted ∙ c.in_ok-is_allowed.ensures.allowed) c.is_allowed.ensures.store.only
     c.terminate_card.ensures.any_exit c.terminate_card.ensures.by_gate c.terminate_card.ensures.store.reports c.terminate_card.ensures.store.writes
     c.in_ok-terminate_card.ensures.done c.in_ok-terminate_card.ensures.store.ready
@@ -53,5 +53,5 @@ returns-in_err-is_allowed g c =
     let mid = c.is_allowed.new.store in
     subst (λ (r : Result Sw StoreErr). Serves terminate_card_usage old x mid x [] r) (sym (err-is _ _
     c.from_residual.ensures.1))
-    (stopped terminate_card_usage old x mid c.requires.card x [] c.in_err-is_allowed.field-0.0 c.is_allowed.ensures.store.only
+    (stopped terminate_card_usage old x mid c.requires.kept.card x [] c.in_err-is_allowed.field-0.0 c.is_allowed.ensures.store.only
     c.in_err-is_allowed.ensures.store.tells (omega arith))

@@ -12,8 +12,7 @@ use Rattle.card_core.specs.Guards.{allowed}
 use Rattle.card_core.specs.Standing.{card_of}
 use Rattle.card_core.specs.Working.{file_refusal, fits_kind, session_of, IsElementary}
 use Rattle.card_core.proofs.NamedEntries.{entry-named, entry-refusal}
-use Rattle.card_core.specs.Standing.{IsCard}
-use Rattle.card_core.specs.Working.{IsCurrent}
+use Rattle.card_core.proofs.Readings.{kept_still}
 use Rattle.file_tree.specs.Table.{IsUsed}
 use Rattle.undo_journal.specs.laws.Told.{reads_on, reads_handed}
 use Rattle.card_core.proofs.named.find_file.Goals as goal
@@ -42,7 +41,7 @@ returns-in-Some-2-clause-found g c =
     let entry : c.in_ok-entry.entry ≡ entry_in t e =
     c.in_ok-entry.ensures.entry ∙ ap (λ (l : List ℕ). entry_in (table l) e)
     c.find_target.ensures.store.only.keeps.committed_words in
-    entry-refusal m c.requires.ready.usable.committed_size c.requires.card c.args.current.now c.args.target c.args.need e
+    entry-refusal m c.requires.kept.ready.usable.committed_size c.requires.kept.card c.args.current.now c.args.target c.args.need e
     file place
     ∙ ap (λ (y : Entry). file_refusal (is_barred (card_of m).tree (path_of t e)) (fits_kind c.args.need.structure y.kind)
     (allowed (card_of m) (session_of t c.args.current.now) (path_of t e) c.args.need.bit)) (sym entry)
@@ -63,7 +62,7 @@ returns-in-None-clause-found g c =
     let entry : c.in_ok-entry.entry ≡ entry_in t e =
     c.in_ok-entry.ensures.entry ∙ ap (λ (l : List ℕ). entry_in (table l) e)
     c.find_target.ensures.store.only.keeps.committed_words in
-    let none = entry-refusal m c.requires.ready.usable.committed_size c.requires.card c.args.current.now c.args.target
+    let none = entry-refusal m c.requires.kept.ready.usable.committed_size c.requires.kept.card c.args.current.now c.args.target
     c.args.need e file place
     ∙ ap (λ (y : Entry). file_refusal (is_barred (card_of m).tree (path_of t e)) (fits_kind c.args.need.structure y.kind)
     (allowed (card_of m) (session_of t c.args.current.now) (path_of t e) c.args.need.bit)) (sym entry)
@@ -71,18 +70,13 @@ returns-in-None-clause-found g c =
     (fits_kind c.args.need.structure c.in_ok-entry.entry.kind)
     (allowed (card_of l) (session_of (table l) c.args.current.now) (path_of (table l) e) c.args.need.bit)) (sym same)
     ∙ sym c.in_ok-refusal.ensures.found ∙ c.in-None.is in
-    entry-named m c.requires.ready.usable.committed_size c.requires.card c.args.current.now c.args.target c.args.need e file
+    entry-named m c.requires.kept.ready.usable.committed_size c.requires.kept.card c.args.current.now c.args.target c.args.need e file
     place none c.in_ok-entry.entry entry
 
-pub refusal_of-requires-clause-card : goal.refusal_of-requires-clause-card
-refusal_of-requires-clause-card g c =
-    let same = c.read_entry.ensures.store.only.keeps.committed_words ∙ c.find_target.ensures.store.only.keeps.committed_words in
-    subst IsCard (sym same) c.requires.card
-
-pub refusal_of-requires-clause-current : goal.refusal_of-requires-clause-current
-refusal_of-requires-clause-current g c =
-    let same = c.read_entry.ensures.store.only.keeps.committed_words ∙ c.find_target.ensures.store.only.keeps.committed_words in
-    subst (λ (l : List ℕ). IsCurrent (table l) c.args.current.now) (sym same) c.requires.current
+pub refusal_of-requires-clause-kept : goal.refusal_of-requires-clause-kept
+refusal_of-requires-clause-kept g c =
+    kept_still _ _ _ (reads_then _ _ _ c.find_target.ensures.store.only c.read_entry.ensures.store.only)
+    c.in_ok-entry.ensures.store.ready c.requires.kept
 
 pub refusal_of-requires-clause-used : goal.refusal_of-requires-clause-used
 refusal_of-requires-clause-used g c =

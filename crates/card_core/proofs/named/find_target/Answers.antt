@@ -18,7 +18,7 @@ pub returns-in-Current-clause-found : goal.returns-in-Current-clause-found
 returns-in-Current-clause-found g c =
     let m = committed c.args.store.now in
     ap (λ (target : Target). target_of (card_of m).tree (session_of (table m) c.args.current.now) target) c.in-Current.is
-    ∙ current-path m c.requires.card c.args.current.now c.requires.current
+    ∙ current-path m c.requires.kept.card c.args.current.now c.requires.kept.current
 
 pub returns-in-Short-clause-found : goal.returns-in-Short-clause-found
 returns-in-Short-clause-found g c =

@@ -23,7 +23,7 @@ returns-clause-found g c =
     let barred : c.in_ok-is_barred.field-0 ≡ is_barred (card_of m).tree path =
     c.in_ok-is_barred.ensures.barred ∙ sym (ap (λ (tree : Tree). is_barred tree path) (card-tree m)) in
     let same = c.is_barred.ensures.store.only.keeps.committed_words in
-    let marks = sym (marks-are t c.args.current.now c.requires.current.marks) in
+    let marks = sym (marks-are t c.args.current.now c.requires.kept.current.marks) in
     let permitted : c.in_ok-is_allowed.field-0 ≡ allowed (card_of m) (session_of t c.args.current.now) path bit =
     c.in_ok-is_allowed.ensures.allowed
     ∙ (λ i. is_allowed (tree_of (same i)) (path_of (table (same i)) c.args.number) bit (marks i))
@@ -32,7 +32,7 @@ returns-clause-found g c =
 
 pub is_allowed-requires-clause-tree : goal.is_allowed-requires-clause-tree
 is_allowed-requires-clause-tree g c =
-    tree_still c.args.store.now c.is_barred.new.store c.is_barred.ensures.store.only c.requires.card
+    tree_still c.args.store.now c.is_barred.new.store c.is_barred.ensures.store.only c.requires.kept.card
 
 pub is_allowed-requires-clause-used : goal.is_allowed-requires-clause-used
 is_allowed-requires-clause-used g c =

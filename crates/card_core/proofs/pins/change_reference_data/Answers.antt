@@ -6,7 +6,7 @@ use Rattle.card_core.proofs.pins.change_reference_data.Goals as goal
 pub returns-in_err-charged : goal.returns-in_err-charged
 returns-in_err-charged g c =
     charge-torn _ _ (changes c.args.pin c.requires.pin c.args.values.shown.now c.args.values.new.now) 5 refl c.args.store.now c.args.current.now
-    c.requires.ready c.requires.card c.requires.current c.take_try.new.store c.from_residual.result
+    c.requires.kept.ready c.requires.kept.card c.requires.kept.current c.take_try.new.store c.from_residual.result
     c.in_err-charged.field-0.0 c.from_residual.ensures.1 c.take_try.ensures.any_exit c.take_try.ensures.kept
     c.take_try.ensures.pages c.take_try.ensures.store.reports c.in_err-charged.ensures.store.tells c.take_try.ensures.store.writes
     c.take_try.ensures.shut
@@ -14,7 +14,7 @@ returns-in_err-charged g c =
 pub returns-in-None : goal.returns-in-None
 returns-in-None g c =
     charge-blocked _ _ (changes c.args.pin c.requires.pin c.args.values.shown.now c.args.values.new.now) 5 refl c.args.store.now c.args.current.now
-    c.requires.ready c.requires.card c.requires.current c.take_try.new.store c.in_ok-charged.field-0 c.in-None.is
+    c.requires.kept.ready c.requires.kept.card c.requires.kept.current c.take_try.new.store c.in_ok-charged.field-0 c.in-None.is
     c.in_ok-charged.ensures.done c.take_try.ensures.kept c.in_ok-charged.ensures.store.ready
 
 pub returns-in_err-outcome : goal.returns-in_err-outcome
@@ -23,7 +23,7 @@ returns-in_err-outcome g c =
     let last = c.requires.pin.last in
     let small : c.args.pin - 1 < 8 = omega (arith, first, last) in
     end-torn _ _ (changes c.args.pin c.requires.pin c.args.values.shown.now c.args.values.new.now) 5 refl c.args.store.now c.args.current.now
-    c.requires.ready c.requires.card c.requires.current c.take_try.new.store c.change.new.store c.in_ok-charged.field-0
+    c.requires.kept.ready c.requires.kept.card c.requires.kept.current c.take_try.new.store c.change.new.store c.in_ok-charged.field-0
     c.in-Some.charged c.in-Some.is c.in_ok-charged.ensures.done c.take_try.ensures.pages c.take_try.ensures.store.writes
     c.take_try.ensures.store.reports (λ p. changed_ends (c.args.pin - 1) c.args.values.new.now p small) c.change.ensures.any_exit
     c.change.ensures.spends c.change.ensures.pages c.change.ensures.store.reports c.take_try.ensures.shut
@@ -36,7 +36,7 @@ returns g c =
     let last = c.requires.pin.last in
     let small : c.args.pin - 1 < 8 = omega (arith, first, last) in
     end-made _ _ (changes c.args.pin c.requires.pin c.args.values.shown.now c.args.values.new.now) 5 refl c.args.store.now c.args.current.now
-    c.requires.ready c.requires.card c.requires.current c.take_try.new.store c.change.new.store c.in_ok-charged.field-0
+    c.requires.kept.ready c.requires.kept.card c.requires.kept.current c.take_try.new.store c.change.new.store c.in_ok-charged.field-0
     c.in-Some.charged c.in-Some.is c.in_ok-charged.ensures.done c.take_try.ensures.pages c.take_try.ensures.store.writes
     c.take_try.ensures.store.reports (λ p. changed_ends (c.args.pin - 1) c.args.values.new.now p small) c.change.ensures.any_exit
     c.change.ensures.spends c.change.ensures.pages c.change.ensures.store.reports c.take_try.ensures.shut
@@ -49,7 +49,7 @@ pub take_try-requires-clause-secret : goal.take_try-requires-clause-secret
 take_try-requires-clause-secret g c = let last = c.requires.pin.last in omega (arith, last)
 
 pub take_try-requires-clause-pages : goal.take_try-requires-clause-pages
-take_try-requires-clause-pages g c = c.requires.card.pins
+take_try-requires-clause-pages g c = c.requires.kept.card.pins
 
 pub change-requires-clause-pages : goal.change-requires-clause-pages
 change-requires-clause-pages g c = c.take_try.ensures.pages

@@ -11,14 +11,14 @@ returns-in-None g c =
     subst (λ (values : Option (List ℕ × List ℕ)). Serves (reset_retry_counter c.args.pin values) c.args.store.now
     c.args.current.now c.tell_tries.new.store c.args.current.now [] c.tell_tries.result) (sym none)
     (question-answered _ c.args.pin (8 + (c.args.pin - 1)) (asks-unblocking c.args.pin c.requires.pin) c.args.store.now
-    c.args.current.now c.requires.card c.requires.current c.tell_tries.new.store c.tell_tries.result
+    c.args.current.now c.requires.kept.card c.requires.kept.current c.tell_tries.new.store c.tell_tries.result
     c.tell_tries.ensures.told c.tell_tries.ensures.store)
 
 pub tell_tries-requires-clause-secret : goal.tell_tries-requires-clause-secret
 tell_tries-requires-clause-secret g c = let last = c.requires.pin.last in omega (arith, last)
 
 pub tell_tries-requires-clause-pages : goal.tell_tries-requires-clause-pages
-tell_tries-requires-clause-pages g c = c.requires.card.pins
+tell_tries-requires-clause-pages g c = c.requires.kept.card.pins
 
 pub returns-in-Some : goal.returns-in-Some
 returns-in-Some g c =

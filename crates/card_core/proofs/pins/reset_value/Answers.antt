@@ -6,7 +6,7 @@ use Rattle.card_core.proofs.pins.reset_value.Goals as goal
 pub returns-in_err-charged : goal.returns-in_err-charged
 returns-in_err-charged g c =
     charge-torn _ _ (resets c.args.pin c.requires.pin c.args.values.shown.now c.args.values.new.now) 4 refl c.args.store.now c.args.current.now
-    c.requires.ready c.requires.card c.requires.current c.take_try.new.store c.from_residual.result
+    c.requires.kept.ready c.requires.kept.card c.requires.kept.current c.take_try.new.store c.from_residual.result
     c.in_err-charged.field-0.0 c.from_residual.ensures.1 c.take_try.ensures.any_exit c.take_try.ensures.kept
     c.take_try.ensures.pages c.take_try.ensures.store.reports c.in_err-charged.ensures.store.tells c.take_try.ensures.store.writes
     c.take_try.ensures.shut
@@ -14,14 +14,14 @@ returns-in_err-charged g c =
 pub returns-in-None : goal.returns-in-None
 returns-in-None g c =
     charge-blocked _ _ (resets c.args.pin c.requires.pin c.args.values.shown.now c.args.values.new.now) 4 refl c.args.store.now c.args.current.now
-    c.requires.ready c.requires.card c.requires.current c.take_try.new.store c.in_ok-charged.field-0 c.in-None.is
+    c.requires.kept.ready c.requires.kept.card c.requires.kept.current c.take_try.new.store c.in_ok-charged.field-0 c.in-None.is
     c.in_ok-charged.ensures.done c.take_try.ensures.kept c.in_ok-charged.ensures.store.ready
 
 pub returns-in_err-outcome : goal.returns-in_err-outcome
 returns-in_err-outcome g c =
     let large : 8 ≤ 8 + (c.args.pin - 1) = omega arith in
     end-torn _ _ (resets c.args.pin c.requires.pin c.args.values.shown.now c.args.values.new.now) 4 refl c.args.store.now c.args.current.now
-    c.requires.ready c.requires.card c.requires.current c.take_try.new.store c.reset_counter.new.store c.in_ok-charged.field-0
+    c.requires.kept.ready c.requires.kept.card c.requires.kept.current c.take_try.new.store c.reset_counter.new.store c.in_ok-charged.field-0
     c.in-Some.charged c.in-Some.is c.in_ok-charged.ensures.done c.take_try.ensures.pages c.take_try.ensures.store.writes
     c.take_try.ensures.store.reports (λ p. reset_ends (8 + (c.args.pin - 1)) c.args.values.new.now p large) c.reset_counter.ensures.any_exit
     c.reset_counter.ensures.spends c.reset_counter.ensures.pages c.reset_counter.ensures.store.reports c.take_try.ensures.shut
@@ -32,7 +32,7 @@ pub returns : goal.returns
 returns g c =
     let large : 8 ≤ 8 + (c.args.pin - 1) = omega arith in
     end-made _ _ (resets c.args.pin c.requires.pin c.args.values.shown.now c.args.values.new.now) 4 refl c.args.store.now c.args.current.now
-    c.requires.ready c.requires.card c.requires.current c.take_try.new.store c.reset_counter.new.store c.in_ok-charged.field-0
+    c.requires.kept.ready c.requires.kept.card c.requires.kept.current c.take_try.new.store c.reset_counter.new.store c.in_ok-charged.field-0
     c.in-Some.charged c.in-Some.is c.in_ok-charged.ensures.done c.take_try.ensures.pages c.take_try.ensures.store.writes
     c.take_try.ensures.store.reports (λ p. reset_ends (8 + (c.args.pin - 1)) c.args.values.new.now p large) c.reset_counter.ensures.any_exit
     c.reset_counter.ensures.spends c.reset_counter.ensures.pages c.reset_counter.ensures.store.reports c.take_try.ensures.shut
@@ -45,7 +45,7 @@ pub take_try-requires-clause-secret : goal.take_try-requires-clause-secret
 take_try-requires-clause-secret g c = let last = c.requires.pin.last in omega (arith, last)
 
 pub take_try-requires-clause-pages : goal.take_try-requires-clause-pages
-take_try-requires-clause-pages g c = c.requires.card.pins
+take_try-requires-clause-pages g c = c.requires.kept.card.pins
 
 pub reset_counter-requires-clause-pages : goal.reset_counter-requires-clause-pages
 reset_counter-requires-clause-pages g c = c.take_try.ensures.pages

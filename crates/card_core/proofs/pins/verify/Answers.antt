@@ -10,7 +10,7 @@ returns-in-None g c =
     subst (λ (shown : Option (List ℕ)). Serves (verify c.args.pin shown) c.args.store.now c.args.current.now
     c.tell_tries.new.store c.args.current.now [] c.tell_tries.result) (sym none)
     (question-answered _ c.args.pin (c.args.pin - 1) (asks-value c.args.pin c.requires.pin) c.args.store.now
-    c.args.current.now c.requires.card c.requires.current c.tell_tries.new.store c.tell_tries.result
+    c.args.current.now c.requires.kept.card c.requires.kept.current c.tell_tries.new.store c.tell_tries.result
     c.tell_tries.ensures.told c.tell_tries.ensures.store)
 
 pub returns-in-Some : goal.returns-in-Some
@@ -23,4 +23,4 @@ pub tell_tries-requires-clause-secret : goal.tell_tries-requires-clause-secret
 tell_tries-requires-clause-secret g c = let last = c.requires.pin.last in omega (arith, last)
 
 pub tell_tries-requires-clause-pages : goal.tell_tries-requires-clause-pages
-tell_tries-requires-clause-pages g c = c.requires.card.pins
+tell_tries-requires-clause-pages g c = c.requires.kept.card.pins

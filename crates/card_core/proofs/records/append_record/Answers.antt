@@ -14,7 +14,7 @@ use Rattle.card_core.proofs.records.append_record.Goals as goal
 pub returns-in_err-file-clause-serves : goal.returns-in_err-file-clause-serves
 returns-in_err-file-clause-serves g c =
     handed (append_record c.args.target c.args.bytes.now) c.args.store.now c.args.current.now c.find_appended.new.store
-    c.requires.card c.args.current.now [] _ _ c.from_residual.ensures.1 c.in_err-file.ensures.store (omega arith)
+    c.requires.kept.card c.args.current.now [] _ _ c.from_residual.ensures.1 c.in_err-file.ensures.store (omega arith)
 
 pub returns-in-Err-clause-serves : goal.returns-in-Err-clause-serves
 returns-in-Err-clause-serves g c =
@@ -22,8 +22,8 @@ returns-in-Err-clause-serves g c =
     let x = c.args.current.now in
     let request = append_record c.args.target c.args.bytes.now in
     let refused = said_err _ _ c.in_ok-file.field-0 c.in-Err.refusal c.in-Err.is c.in_ok-file.ensures.found in
-    declined request old x c.find_appended.new.store (λ _. tt) c.requires.card c.in-Err.refusal
-    c.find_appended.ensures.store.only c.in_ok-file.ensures.store.ready c.requires.current
+    declined request old x c.find_appended.new.store (λ _. tt) c.requires.kept.card c.in-Err.refusal
+    c.find_appended.ensures.store.only c.in_ok-file.ensures.store.ready c.requires.kept.current
     (served-refused (card_in old) (session_in old x) request c.in-Err.refusal refused)
 
 pub returns-in-Err-clause-space : goal.returns-in-Err-clause-space
@@ -33,8 +33,8 @@ returns-in-Err-clause-space g c =
 pub append-requires-clause-body : goal.append-requires-clause-body
 append-requires-clause-body g c =
     let found = said_ok _ _ c.in_ok-file.field-0 c.in-Ok.file c.in-Ok.is c.in_ok-file.ensures.found in
-    appended-body c.args.store.now c.find_appended.new.store c.find_appended.new.store c.requires.ready c.requires.card
-    c.args.current.now c.requires.current c.find_appended.ensures.store.only _ _ _ _ found
+    appended-body c.args.store.now c.find_appended.new.store c.find_appended.new.store c.requires.kept.ready c.requires.kept.card
+    c.args.current.now c.requires.kept.current c.find_appended.ensures.store.only _ _ _ _ found
 
 pub append-requires-clause-room : goal.append-requires-clause-room
 append-requires-clause-room g c =
@@ -47,15 +47,15 @@ append-requires-clause-size g c =
 pub returns-in_err-append-clause-serves : goal.returns-in_err-append-clause-serves
 returns-in_err-append-clause-serves g c =
     let found = said_ok _ _ c.in_ok-file.field-0 c.in-Ok.file c.in-Ok.is c.in_ok-file.ensures.found in
-    appended-torn c.args.store.now c.find_appended.new.store c.append.new.store c.requires.ready c.requires.card
-    c.args.current.now c.requires.current c.find_appended.ensures.store.only _ _ _ _ found c.append.ensures.any_exit c.append.ensures.by_gate _
+    appended-torn c.args.store.now c.find_appended.new.store c.append.new.store c.requires.kept.ready c.requires.kept.card
+    c.args.current.now c.requires.kept.current c.find_appended.ensures.store.only _ _ _ _ found c.append.ensures.any_exit c.append.ensures.by_gate _
     c.in_err-append.ensures.store _ _ c.from_residual-in_err-append.ensures.1 refl
 
 pub added-number-requires : goal.added-number-requires
 added-number-requires g c =
     let found = said_ok _ _ c.in_ok-file.field-0 c.in-Ok.file c.in-Ok.is c.in_ok-file.ensures.found in
-    appended-few c.args.store.now c.find_appended.new.store c.find_appended.new.store c.requires.ready c.requires.card
-    c.args.current.now c.requires.current c.find_appended.ensures.store.only _ _ _ _ found
+    appended-few c.args.store.now c.find_appended.new.store c.find_appended.new.store c.requires.kept.ready c.requires.kept.card
+    c.args.current.now c.requires.kept.current c.find_appended.ensures.store.only _ _ _ _ found
 
 pub returns-clause-serves : goal.returns-clause-serves
 returns-clause-serves g c =
@@ -65,14 +65,14 @@ returns-clause-serves g c =
     let found = said_ok _ _ c.in_ok-file.field-0 c.in-Ok.file c.in-Ok.is c.in_ok-file.ensures.found in
     subst (λ (y : Current). Serves (append_record c.args.target c.args.bytes.now) old x c.append.new.store y []
     (Ok DONE)) (sym c.pointing.ensures)
-    (appended-done old c.find_appended.new.store c.append.new.store c.requires.ready c.requires.card x
-    c.requires.current c.find_appended.ensures.store.only c.args.target c.args.bytes.now file.number file.body found
+    (appended-done old c.find_appended.new.store c.append.new.store c.requires.kept.ready c.requires.kept.card x
+    c.requires.kept.current c.find_appended.ensures.store.only c.args.target c.args.bytes.now file.number file.body found
     c.append.ensures.any_exit c.append.ensures.by_gate _ c.in_ok-append.ensures.store c.in_ok-append.ensures.done
     c.in_ok-append.ensures.store.ready c.added-number.result c.added-number.ensures)
 
 pub returns-clause-space : goal.returns-clause-space
 returns-clause-space g c =
     let found = said_ok _ _ c.in_ok-file.field-0 c.in-Ok.file c.in-Ok.is c.in_ok-file.ensures.found in
-    appended-space c.args.store.now c.find_appended.new.store c.append.new.store c.requires.ready c.requires.card
-    c.args.current.now c.requires.current c.find_appended.ensures.store.only _ _ _ _ found c.append.ensures.any_exit c.append.ensures.by_gate _
+    appended-space c.args.store.now c.find_appended.new.store c.append.new.store c.requires.kept.ready c.requires.kept.card
+    c.args.current.now c.requires.kept.current c.find_appended.ensures.store.only _ _ _ _ found c.append.ensures.any_exit c.append.ensures.by_gate _
     c.in_ok-append.ensures.store c.in_ok-append.ensures.done

@@ -15,14 +15,14 @@ returns-in-Err-clause-found g c =
 pub returns-then-is_full-clause-found : goal.returns-then-is_full-clause-found
 returns-then-is_full-clause-found g c =
     let found = said_ok _ _ c.in_ok-file.field-0 c.in-Ok.file c.in-Ok.is c.in_ok-file.ensures.found in
-    append-full (committed c.args.store.now) c.requires.ready.usable.committed_size c.requires.card c.args.current.now
+    append-full (committed c.args.store.now) c.requires.kept.ready.usable.committed_size c.requires.kept.card c.args.current.now
     c.args.target _ c.in-Ok.file.number c.in-Ok.file.body found c.args.bytes.now found.named.unrefused
     (sym c.is_full.ensures ∙ c.if-is_full.true)
 
 pub returns-then-not-takes-clause-found : goal.returns-then-not-takes-clause-found
 returns-then-not-takes-clause-found g c =
     let found = said_ok _ _ c.in_ok-file.field-0 c.in-Ok.file c.in-Ok.is c.in_ok-file.ensures.found in
-    append-other (committed c.args.store.now) c.requires.ready.usable.committed_size c.requires.card c.args.current.now
+    append-other (committed c.args.store.now) c.requires.kept.ready.usable.committed_size c.requires.kept.card c.args.current.now
     c.args.target _ c.in-Ok.file.number c.in-Ok.file.body found c.args.bytes.now found.named.unrefused
     (sym c.is_full.ensures ∙ c.if-is_full.false) (sym c.takes.ensures ∙ c.if-not-takes.true)
 

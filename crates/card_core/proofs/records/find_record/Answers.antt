@@ -21,7 +21,7 @@ returns-then-not-has_record-clause-found g c =
     let body = c.in-Ok.file.body in
     let file = said_ok _ _ c.in_ok-file.field-0 c.in-Ok.file c.in-Ok.is c.in_ok-file.ensures.found in
     let number = c.chosen-number.ensures ∙ ap (λ p. chosen_in body p c.args.choice) c.pointer_at.ensures in
-    record-gone (committed c.args.store.now) c.requires.ready.usable.committed_size c.requires.card c.args.current.now
+    record-gone (committed c.args.store.now) c.requires.kept.ready.usable.committed_size c.requires.kept.card c.args.current.now
     c.args.target _ c.in-Ok.file.number body file file.named.unrefused c.args.choice
     (sym (ap (has_in body) number) ∙ sym c.has_record.ensures ∙ c.if-not-has_record.true)
 

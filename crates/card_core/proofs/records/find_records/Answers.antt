@@ -18,7 +18,7 @@ pub of-body-requires-clause-told : goal.of-body-requires-clause-told
 of-body-requires-clause-told g c =
     let named = said_ok _ _ c.in_ok-file.field-0 c.in-Ok.file c.in-Ok.is c.in_ok-file.ensures.found in
     subst IsToldEntry (sym named.entry_is)
-    (told-entry (committed c.args.store.now) c.requires.ready.usable.committed_size c.requires.card
+    (told-entry (committed c.args.store.now) c.requires.kept.ready.usable.committed_size c.requires.kept.card
     c.in-Ok.file.number named.file.child.used)
 
 pub returns-clause-found : goal.returns-clause-found

@@ -27,7 +27,7 @@ returns-then-not-has_record-clause-found g c =
     c.replacing.ensures.structure c.replacing.ensures.bit
     (said_ok _ _ c.in_ok-file.field-0 c.in-Ok.file c.in-Ok.is c.in_ok-file.ensures.found) in
     let n_is = c.replaced-number.ensures ∙ ap (λ p. number_replaced_in body p c.args.choice) c.pointer_at.ensures in
-    update-gone (committed old) c.requires.ready.usable.committed_size c.requires.card x c.args.target _
+    update-gone (committed old) c.requires.kept.ready.usable.committed_size c.requires.kept.card x c.args.target _
     c.in-Ok.file.number body file c.args.bytes.now c.args.choice
     (sym (replaces-is (card_in old) (session_in old x) c.args.target c.args.choice) ∙ file.named.unrefused)
     (sym (ap (has_in body) n_is) ∙ sym c.has_record.ensures ∙ c.if-not-has_record.true)
@@ -41,7 +41,7 @@ returns-then-not-takes-clause-found g c =
     c.replacing.ensures.structure c.replacing.ensures.bit
     (said_ok _ _ c.in_ok-file.field-0 c.in-Ok.file c.in-Ok.is c.in_ok-file.ensures.found) in
     let n_is = c.replaced-number.ensures ∙ ap (λ p. number_replaced_in body p c.args.choice) c.pointer_at.ensures in
-    update-other (committed old) c.requires.ready.usable.committed_size c.requires.card x c.args.target _
+    update-other (committed old) c.requires.kept.ready.usable.committed_size c.requires.kept.card x c.args.target _
     c.in-Ok.file.number body file c.args.bytes.now c.args.choice
     (sym (replaces-is (card_in old) (session_in old x) c.args.target c.args.choice) ∙ file.named.unrefused)
     (sym (ap (has_in body) n_is) ∙ sym c.has_record.ensures ∙ c.if-not-has_record.false)

@@ -26,9 +26,9 @@ returns-in-Err g c =
     let x = c.args.current.now in
     let refused = said_err _ _ c.in_ok-found.field-0 c.in-Err.refusal c.in-Err.is c.in_ok-found.ensures.found in
     declined-empty (read_record c.args.target c.args.choice c.args.expected) old x c.find_record.new.store
-    c.args.answer.now.items c.requires.empty (λ _. tt) c.requires.card c.in-Err.refusal
+    c.args.answer.now.items c.requires.empty (λ _. tt) c.requires.kept.card c.in-Err.refusal
     c.find_record.ensures.store.only
-    c.in_ok-found.ensures.store.ready c.requires.current
+    c.in_ok-found.ensures.store.ready c.requires.kept.current
     (read-refused (card_in old) (session_in old x) c.args.target c.in-Err.refusal c.args.choice refused c.args.expected)
 
 pub read-requires-clause-body : goal.read-requires-clause-body
@@ -37,7 +37,7 @@ read-requires-clause-body g c =
     let body = c.in-Ok.found.file.body in
     let found = said_ok _ _ c.in_ok-found.field-0 c.in-Ok.found c.in-Ok.is c.in_ok-found.ensures.found in
     subst (λ (l : List ℕ). IsBodyIn l body) (sym c.find_record.ensures.store.only.keeps.committed_words)
-    (agree (committed old) c.requires.ready.usable.committed_size c.requires.card c.args.current.now c.args.target _
+    (agree (committed old) c.requires.kept.ready.usable.committed_size c.requires.kept.card c.args.current.now c.args.target _
     c.in-Ok.found.file.number body found.file).stands
 
 pub returns-in_err-read : goal.returns-in_err-read
@@ -47,7 +47,7 @@ returns-in_err-read g c =
     let none : length c.args.answer.now.items ≡ 0 = ap (λ (l : List ℕ). length l) c.requires.empty in
     subst (λ (r : Result Sw StoreErr). Serves (read_record c.args.target c.args.choice c.args.expected) old x
     c.read.new.store x c.args.answer.now.items r) (sym (err-is _ _ c.from_residual-in_err-read.ensures.1))
-    (stopped (read_record c.args.target c.args.choice c.args.expected) old x c.read.new.store c.requires.card x
+    (stopped (read_record c.args.target c.args.choice c.args.expected) old x c.read.new.store c.requires.kept.card x
     c.args.answer.now.items c.in_err-read.field-0.0
     (reads_then old c.find_record.new.store c.read.new.store c.find_record.ensures.store.only c.read.ensures.store.only)
     c.in_err-read.ensures.store.tells (omega (arith, none)))
@@ -68,10 +68,10 @@ returns-then-is_other_length g c =
     ∙ sym c.is_other_length.ensures ∙ c.if-is_other_length.true in
     let status = ap right_length (sym text) ∙ sym c.right_length.ensures in
     declined-empty (read_record c.args.target c.args.choice c.args.expected) old x c.read.new.store
-    c.args.answer.now.items c.requires.empty (λ _. tt) c.requires.card c.right_length.result
+    c.args.answer.now.items c.requires.empty (λ _. tt) c.requires.kept.card c.right_length.result
     (reads_then old c.find_record.new.store c.read.new.store c.find_record.ensures.store.only c.read.ensures.store.only)
-    c.in_ok-read.ensures.store.ready c.requires.current
-    (read-other (committed old) c.requires.ready.usable.committed_size c.requires.card x c.args.target _
+    c.in_ok-read.ensures.store.ready c.requires.kept.current
+    (read-other (committed old) c.requires.kept.ready.usable.committed_size c.requires.kept.card x c.args.target _
     c.in-Ok.found.file.number body found.file found.file.named.unrefused c.args.choice c.args.expected has other
     ∙ ap (refused (card_in old) (session_in old x)) status)
 
@@ -80,7 +80,7 @@ pointer_after-pointer-requires g c =
     let old = c.args.store.now in
     let body = c.in-Ok.found.file.body in
     let found = said_ok _ _ c.in_ok-found.field-0 c.in-Ok.found c.in-Ok.is c.in_ok-found.ensures.found in
-    let stands = (agree (committed old) c.requires.ready.usable.committed_size c.requires.card c.args.current.now
+    let stands = (agree (committed old) c.requires.kept.ready.usable.committed_size c.requires.kept.card c.args.current.now
     c.args.target _ c.in-Ok.found.file.number body found.file).stands in
     let few = has-few (committed old) body stands c.in-Ok.found.number found.has in
     omega (arith, few)
@@ -91,7 +91,7 @@ returns g c =
     let x = c.args.current.now in
     let body = c.in-Ok.found.file.body in
     let e = c.in-Ok.found.file.number in
-    let sized = c.requires.ready.usable.committed_size in
+    let sized = c.requires.kept.ready.usable.committed_size in
     let same = c.find_record.ensures.store.only.keeps.committed_words in
     let found = said_ok _ _ c.in_ok-found.field-0 c.in-Ok.found c.in-Ok.is c.in_ok-found.ensures.found in
     let number = found.number_is in
@@ -108,16 +108,16 @@ returns g c =
     c.args.choice (chosen_in body (pointer_from x c.args.target) c.args.choice)) =
     c.pointing.ensures ∙ ap (pointing_from x c.args.target e) pointer in
     let given_is = c.give.ensures.given ∙ text in
-    let current = current-is (committed old) sized c.requires.card x c.args.target _ e body found.file c.requires.current
+    let current = current-is (committed old) sized c.requires.kept.card x c.args.target _ e body found.file c.requires.kept.current
     (pointer_after (pointer_from x c.args.target) c.args.choice (chosen_in body (pointer_from x c.args.target)
     c.args.choice)) in
-    answered (read_record c.args.target c.args.choice c.args.expected) old x c.read.new.store (λ _. tt) c.requires.card
+    answered (read_record c.args.target c.args.choice c.args.expected) old x c.read.new.store (λ _. tt) c.requires.kept.card
     c.pointing.result c.give.new.answer.items DONE
     (reads_then old c.find_record.new.store c.read.new.store c.find_record.ensures.store.only c.read.ensures.store.only)
     c.in_ok-read.ensures.store.ready
     (subst (λ (y : Current). IsCurrent (table_in old) y) (sym y_is) current)
     c.give.ensures.room
-    (read-whole (committed old) sized c.requires.card x c.args.target _ e body found.file found.file.named.unrefused
+    (read-whole (committed old) sized c.requires.kept.card x c.args.target _ e body found.file found.file.named.unrefused
     c.args.choice c.args.expected has whole
     ∙ (λ i. outcome (card_in old) (session_in old (sym y_is i)) (sym given_is i) DONE))
 
@@ -125,5 +125,5 @@ pub returns-in_err-found : goal.returns-in_err-found
 returns-in_err-found g c =
     let none : length c.args.answer.now.items ≡ 0 = ap (λ (l : List ℕ). length l) c.requires.empty in
     handed (read_record c.args.target c.args.choice c.args.expected) c.args.store.now
-    c.args.current.now c.find_record.new.store c.requires.card c.args.current.now c.args.answer.now.items _ _
+    c.args.current.now c.find_record.new.store c.requires.kept.card c.args.current.now c.args.answer.now.items _ _
     c.from_residual.ensures.1 c.in_err-found.ensures.store (omega (arith, none))

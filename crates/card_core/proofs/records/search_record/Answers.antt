@@ -24,8 +24,8 @@ returns-in-Err g c =
     let x = c.args.current.now in
     let refused = said_err _ _ c.in_ok-found.field-0 c.in-Err.refusal c.in-Err.is c.in_ok-found.ensures.found in
     declined-empty (search_record c.args.target c.args.first c.args.direction c.args.text.now c.args.expected) old x
-    c.find_record.new.store c.args.answer.now.items c.requires.empty (λ _. tt) c.requires.card c.in-Err.refusal
-    c.find_record.ensures.store.only c.in_ok-found.ensures.store.ready c.requires.current
+    c.find_record.new.store c.args.answer.now.items c.requires.empty (λ _. tt) c.requires.kept.card c.in-Err.refusal
+    c.find_record.ensures.store.only c.in_ok-found.ensures.store.ready c.requires.kept.current
     (search-refused (card_in old) (session_in old x) c.args.target c.in-Err.refusal c.args.first refused c.args.direction
     c.args.text.now c.args.expected)
 
@@ -35,7 +35,7 @@ search-requires-clause-body g c =
     let body = c.in-Ok.found.file.body in
     let found = said_ok _ _ c.in_ok-found.field-0 c.in-Ok.found c.in-Ok.is c.in_ok-found.ensures.found in
     subst (λ (l : List ℕ). IsBodyIn l body) (sym c.find_record.ensures.store.only.keeps.committed_words)
-    (agree (committed old) c.requires.ready.usable.committed_size c.requires.card c.args.current.now c.args.target _
+    (agree (committed old) c.requires.kept.ready.usable.committed_size c.requires.kept.card c.args.current.now c.args.target _
     c.in-Ok.found.file.number body found.file).stands
 
 pub returns-in_err-search : goal.returns-in_err-search
@@ -47,7 +47,7 @@ returns-in_err-search g c =
     c.args.expected) old x c.search.new.store x c.args.answer.now.items r)
     (sym (err-is _ _ c.from_residual-in_err-search.ensures.1))
     (stopped (search_record c.args.target c.args.first c.args.direction c.args.text.now c.args.expected) old x
-    c.search.new.store c.requires.card x c.args.answer.now.items c.in_err-search.field-0.0
+    c.search.new.store c.requires.kept.card x c.args.answer.now.items c.in_err-search.field-0.0
     (reads_then old c.find_record.new.store c.search.new.store c.find_record.ensures.store.only c.search.ensures.store.only)
     c.in_err-search.ensures.store.tells (omega (arith, none)))
 
@@ -68,10 +68,10 @@ returns-then-asks_less g c =
     ∙ c.if-asks_less.true in
     let status = ap right_length (sym numbers) ∙ sym c.right_length.ensures in
     declined-empty (search_record c.args.target c.args.first c.args.direction c.args.text.now c.args.expected) old x
-    c.search.new.store c.args.answer.now.items c.requires.empty (λ _. tt) c.requires.card c.right_length.result
+    c.search.new.store c.args.answer.now.items c.requires.empty (λ _. tt) c.requires.kept.card c.right_length.result
     (reads_then old c.find_record.new.store c.search.new.store c.find_record.ensures.store.only c.search.ensures.store.only)
-    c.in_ok-search.ensures.store.ready c.requires.current
-    (search-less (committed old) c.requires.ready.usable.committed_size c.requires.card x c.args.target _
+    c.in_ok-search.ensures.store.ready c.requires.kept.current
+    (search-less (committed old) c.requires.kept.ready.usable.committed_size c.requires.kept.card x c.args.target _
     c.in-Ok.found.file.number body found.file found.file.named.unrefused c.args.first c.args.direction c.args.text.now c.args.expected
     has less
     ∙ ap (refused (card_in old) (session_in old x)) status)
@@ -82,7 +82,7 @@ returns g c =
     let x = c.args.current.now in
     let body = c.in-Ok.found.file.body in
     let e = c.in-Ok.found.file.number in
-    let sized = c.requires.ready.usable.committed_size in
+    let sized = c.requires.kept.ready.usable.committed_size in
     let same = c.find_record.ensures.store.only.keeps.committed_words in
     let found = said_ok _ _ c.in_ok-found.field-0 c.in-Ok.found c.in-Ok.is c.in_ok-found.ensures.found in
     let number : c.in-Ok.found.number ≡ place_number c.args.first (pointer_from x c.args.target) = found.number_is in
@@ -101,15 +101,15 @@ returns g c =
     let given_is : c.give.new.answer.items ≡ given c.args.expected all =
     c.give.ensures.given ∙ ap (given c.args.expected) numbers in
     let status : c.status_of.result ≡ search_status all = c.status_of.ensures ∙ ap search_status numbers in
-    let current = current-is (committed old) sized c.requires.card x c.args.target _ e body found.file c.requires.current
+    let current = current-is (committed old) sized c.requires.kept.card x c.args.target _ e body found.file c.requires.kept.current
     (pointer_found (pointer_from x c.args.target) all) in
     answered (search_record c.args.target c.args.first c.args.direction c.args.text.now c.args.expected) old x
-    c.search.new.store (λ _. tt) c.requires.card c.pointing.result c.give.new.answer.items c.status_of.result
+    c.search.new.store (λ _. tt) c.requires.kept.card c.pointing.result c.give.new.answer.items c.status_of.result
     (reads_then old c.find_record.new.store c.search.new.store c.find_record.ensures.store.only c.search.ensures.store.only)
     c.in_ok-search.ensures.store.ready
     (subst (λ (y : Current). IsCurrent (table_in old) y) (sym y_is) current)
     c.give.ensures.room
-    (search-whole (committed old) sized c.requires.card x c.args.target _ e body found.file found.file.named.unrefused
+    (search-whole (committed old) sized c.requires.kept.card x c.args.target _ e body found.file found.file.named.unrefused
     c.args.first c.args.direction c.args.text.now c.args.expected has enough
     ∙ (λ i. outcome (card_in old) (session_in old (sym y_is i)) (sym given_is i) (sym status i)))
 
@@ -117,5 +117,5 @@ pub returns-in_err-found : goal.returns-in_err-found
 returns-in_err-found g c =
     let none : length c.args.answer.now.items ≡ 0 = ap (λ (l : List ℕ). length l) c.requires.empty in
     handed (search_record c.args.target c.args.first c.args.direction c.args.text.now c.args.expected) c.args.store.now
-    c.args.current.now c.find_record.new.store c.requires.card c.args.current.now c.args.answer.now.items _ _
+    c.args.current.now c.find_record.new.store c.requires.kept.card c.args.current.now c.args.answer.now.items _ _
     c.from_residual.ensures.1 c.in_err-found.ensures.store (omega (arith, none))

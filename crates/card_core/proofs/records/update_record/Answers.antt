@@ -15,7 +15,7 @@ use Rattle.card_core.proofs.records.update_record.Goals as goal
 pub returns-in_err-replaced-clause-serves : goal.returns-in_err-replaced-clause-serves
 returns-in_err-replaced-clause-serves g c =
     handed (update_record c.args.target c.args.choice c.args.bytes.now) c.args.store.now c.args.current.now
-    c.find_replaced.new.store c.requires.card c.args.current.now [] _ _ c.from_residual.ensures.1
+    c.find_replaced.new.store c.requires.kept.card c.args.current.now [] _ _ c.from_residual.ensures.1
     c.in_err-replaced.ensures.store (omega arith)
 
 pub returns-in-Err-clause-serves : goal.returns-in-Err-clause-serves
@@ -24,8 +24,8 @@ returns-in-Err-clause-serves g c =
     let x = c.args.current.now in
     let request = update_record c.args.target c.args.choice c.args.bytes.now in
     let refused = said_err _ _ c.in_ok-replaced.field-0 c.in-Err.refusal c.in-Err.is c.in_ok-replaced.ensures.found in
-    declined request old x c.find_replaced.new.store (λ _. tt) c.requires.card c.in-Err.refusal
-    c.find_replaced.ensures.store.only c.in_ok-replaced.ensures.store.ready c.requires.current
+    declined request old x c.find_replaced.new.store (λ _. tt) c.requires.kept.card c.in-Err.refusal
+    c.find_replaced.ensures.store.only c.in_ok-replaced.ensures.store.ready c.requires.kept.current
     (served-refused (card_in old) (session_in old x) request c.in-Err.refusal refused)
 
 pub returns-in-Err-clause-space : goal.returns-in-Err-clause-space
@@ -35,14 +35,14 @@ returns-in-Err-clause-space g c =
 pub update-requires-clause-body : goal.update-requires-clause-body
 update-requires-clause-body g c =
     let found = said_ok _ _ c.in_ok-replaced.field-0 c.in-Ok.replaced c.in-Ok.is c.in_ok-replaced.ensures.found in
-    replaced-body c.args.store.now c.find_replaced.new.store c.find_replaced.new.store c.requires.ready c.requires.card
-    c.args.current.now c.requires.current c.find_replaced.ensures.store.only _ _ _ _ _ _ found
+    replaced-body c.args.store.now c.find_replaced.new.store c.find_replaced.new.store c.requires.kept.ready c.requires.kept.card
+    c.args.current.now c.requires.kept.current c.find_replaced.ensures.store.only _ _ _ _ _ _ found
 
 pub update-requires-clause-record : goal.update-requires-clause-record
 update-requires-clause-record g c =
     let found = said_ok _ _ c.in_ok-replaced.field-0 c.in-Ok.replaced c.in-Ok.is c.in_ok-replaced.ensures.found in
-    replaced-looked c.args.store.now c.find_replaced.new.store c.find_replaced.new.store c.requires.ready c.requires.card
-    c.args.current.now c.requires.current c.find_replaced.ensures.store.only _ _ _ _ _ _ found
+    replaced-looked c.args.store.now c.find_replaced.new.store c.find_replaced.new.store c.requires.kept.ready c.requires.kept.card
+    c.args.current.now c.requires.kept.current c.find_replaced.ensures.store.only _ _ _ _ _ _ found
 
 pub update-requires-clause-size : goal.update-requires-clause-size
 update-requires-clause-size g c =
@@ -51,15 +51,15 @@ update-requires-clause-size g c =
 pub returns-in_err-update-clause-serves : goal.returns-in_err-update-clause-serves
 returns-in_err-update-clause-serves g c =
     let found = said_ok _ _ c.in_ok-replaced.field-0 c.in-Ok.replaced c.in-Ok.is c.in_ok-replaced.ensures.found in
-    replaced-torn c.args.store.now c.find_replaced.new.store c.update.new.store c.requires.ready c.requires.card
-    c.args.current.now c.requires.current c.find_replaced.ensures.store.only _ _ _ _ _ _ found
+    replaced-torn c.args.store.now c.find_replaced.new.store c.update.new.store c.requires.kept.ready c.requires.kept.card
+    c.args.current.now c.requires.kept.current c.find_replaced.ensures.store.only _ _ _ _ _ _ found
     c.update.ensures.any_exit c.update.ensures.by_gate _ c.in_err-update.ensures.store _ _ c.from_residual-in_err-update.ensures.1 refl
 
 pub pointer_replaced-after-requires : goal.pointer_replaced-after-requires
 pointer_replaced-after-requires g c =
     let found = said_ok _ _ c.in_ok-replaced.field-0 c.in-Ok.replaced c.in-Ok.is c.in_ok-replaced.ensures.found in
-    replaced-few c.args.store.now c.find_replaced.new.store c.find_replaced.new.store c.requires.ready c.requires.card
-    c.args.current.now c.requires.current c.find_replaced.ensures.store.only _ _ _ _ _ _ found
+    replaced-few c.args.store.now c.find_replaced.new.store c.find_replaced.new.store c.requires.kept.ready c.requires.kept.card
+    c.args.current.now c.requires.kept.current c.find_replaced.ensures.store.only _ _ _ _ _ _ found
 
 pub returns-clause-serves : goal.returns-clause-serves
 returns-clause-serves g c =
@@ -71,8 +71,8 @@ returns-clause-serves g c =
     let found = said_ok _ _ c.in_ok-replaced.field-0 c.in-Ok.replaced c.in-Ok.is c.in_ok-replaced.ensures.found in
     subst (λ (y : Current). Serves (update_record c.args.target choice c.args.bytes.now) old x c.update.new.store y []
     (Ok DONE)) (sym c.pointing.ensures)
-    (replaced-done old c.find_replaced.new.store c.update.new.store c.requires.ready c.requires.card x
-    c.requires.current c.find_replaced.ensures.store.only c.args.target choice c.args.bytes.now file.number file.body
+    (replaced-done old c.find_replaced.new.store c.update.new.store c.requires.kept.ready c.requires.kept.card x
+    c.requires.kept.current c.find_replaced.ensures.store.only c.args.target choice c.args.bytes.now file.number file.body
     number found c.update.ensures.any_exit c.update.ensures.by_gate _ c.in_ok-update.ensures.store c.in_ok-update.ensures.done
     c.in_ok-update.ensures.store.ready c.pointer_replaced-after.result (c.pointer_replaced-after.ensures
     ∙ ap (λ (p : Option ℕ). if wraps_in file.body then Some 1 else pointer_after p choice number)
@@ -81,6 +81,6 @@ returns-clause-serves g c =
 pub returns-clause-space : goal.returns-clause-space
 returns-clause-space g c =
     let found = said_ok _ _ c.in_ok-replaced.field-0 c.in-Ok.replaced c.in-Ok.is c.in_ok-replaced.ensures.found in
-    replaced-space c.args.store.now c.find_replaced.new.store c.update.new.store c.requires.ready c.requires.card
-    c.args.current.now c.requires.current c.find_replaced.ensures.store.only _ _ _ _ _ _ found
+    replaced-space c.args.store.now c.find_replaced.new.store c.update.new.store c.requires.kept.ready c.requires.kept.card
+    c.args.current.now c.requires.kept.current c.find_replaced.ensures.store.only _ _ _ _ _ _ found
     c.update.ensures.any_exit c.update.ensures.by_gate _ c.in_ok-update.ensures.store c.in_ok-update.ensures.done

@@ -30,7 +30,7 @@ returns-in_err-e g c =
     let none : length c.args.answer.now.items ≡ 0 = ap (λ (l : List ℕ). length l) c.requires.empty in
     subst (λ (r : Result Sw StoreErr). Serves request old x c.find_selected.new.store x c.args.answer.now.items r)
     (sym (err-is _ _ c.from_residual.ensures.1))
-    (stopped request old x c.find_selected.new.store c.requires.card x c.args.answer.now.items c.in_err-e.field-0.0
+    (stopped request old x c.find_selected.new.store c.requires.kept.card x c.args.answer.now.items c.in_err-e.field-0.0
     c.find_selected.ensures.store.only c.in_err-e.ensures.store.tells (omega (arith, none)))
 
 pub returns-in_default : goal.returns-in_default
@@ -42,9 +42,9 @@ returns-in_default g c =
     let s = session_of t x in
     let request = select (selection_of c.args.selector) c.args.returned c.args.expected in
     subst (λ (l : List ℕ). Serves request old x c.find_selected.new.store x l (Ok FILE_NOT_FOUND)) (sym c.requires.empty)
-    (declined request old x c.find_selected.new.store (λ _. tt) c.requires.card FILE_NOT_FOUND
+    (declined request old x c.find_selected.new.store (λ _. tt) c.requires.kept.card FILE_NOT_FOUND
     c.find_selected.ensures.store.only
-    c.in_ok-e.ensures.store.ready c.requires.current
+    c.in_ok-e.ensures.store.ready c.requires.kept.current
     (select-missed (card_of m) s (selection_of c.args.selector) c.args.returned c.args.expected
     (c.in_ok-e.ensures.found ∙ ap (λ (o : Option ℕ). option_map (path_of t) o) c.in_default.is)))
 
@@ -56,7 +56,7 @@ returns-in_err-entry g c =
     let none : length c.args.answer.now.items ≡ 0 = ap (λ (l : List ℕ). length l) c.requires.empty in
     subst (λ (r : Result Sw StoreErr). Serves request old x c.read_entry.new.store x c.args.answer.now.items r)
     (sym (err-is _ _ c.from_residual-in_err-entry.ensures.1))
-    (stopped request old x c.read_entry.new.store c.requires.card x c.args.answer.now.items c.in_err-entry.field-0.0
+    (stopped request old x c.read_entry.new.store c.requires.kept.card x c.args.answer.now.items c.in_err-entry.field-0.0
     (reads_then old c.find_selected.new.store c.read_entry.new.store c.find_selected.ensures.store.only
     c.read_entry.ensures.store.only)
     c.in_err-entry.ensures.store.tells (omega (arith, none)))
@@ -74,7 +74,7 @@ data_of-data-requires g c =
     let entry : c.in_ok-entry.entry ≡ entry_in (table m) e =
     c.in_ok-entry.ensures.entry ∙ ap (λ (l : List ℕ). entry_in (table l) e)
     c.find_selected.ensures.store.only.keeps.committed_words in
-    subst IsToldEntry (sym entry) (told-entry m c.requires.ready.usable.committed_size c.requires.card e used)
+    subst IsToldEntry (sym entry) (told-entry m c.requires.kept.ready.usable.committed_size c.requires.kept.card e used)
 
 pub returns-then-asks_less : goal.returns-then-asks_less
 returns-then-asks_less g c =
@@ -97,10 +97,10 @@ returns-then-asks_less g c =
     let less = ap (asks_less expected) (sym told) ∙ sym c.asks_less.ensures ∙ c.if-asks_less.true in
     let status = ap right_length (sym told) ∙ sym c.right_length.ensures in
     subst (λ (l : List ℕ). Serves request old x c.read_entry.new.store x l (Ok c.right_length.result)) (sym c.requires.empty)
-    (declined request old x c.read_entry.new.store (λ _. tt) c.requires.card c.right_length.result reads
+    (declined request old x c.read_entry.new.store (λ _. tt) c.requires.kept.card c.right_length.result reads
     c.in_ok-entry.ensures.store.ready
-    c.requires.current
-    (select-entry-less m c.requires.card e used c.requires.ready.usable.committed_size x (selection_of c.args.selector)
+    c.requires.kept.current
+    (select-entry-less m c.requires.kept.card e used c.requires.kept.ready.usable.committed_size x (selection_of c.args.selector)
     c.args.returned expected place less
     ∙ ap (λ (sw : Sw). outcome (card_of m) (session_of t x) [] sw) status))
 
@@ -127,11 +127,11 @@ returns g c =
     let current = sym at in
     let text = sym (c.give.ensures.given ∙ ap (given expected) told) in
     let status = sym (c.status_of.ensures ∙ ap (λ (y : Entry). selection_status (life_of y)) entry) in
-    answered request old x c.read_entry.new.store (λ _. tt) c.requires.card c.at.result c.give.new.answer.items
+    answered request old x c.read_entry.new.store (λ _. tt) c.requires.kept.card c.at.result c.give.new.answer.items
     c.status_of.result
     reads c.in_ok-entry.ensures.store.ready
-    (subst (λ (y : Current). IsCurrent t y) current (current-entry m c.requires.card e used x c.requires.current.marks))
+    (subst (λ (y : Current). IsCurrent t y) current (current-entry m c.requires.kept.card e used x c.requires.kept.current.marks))
     c.give.ensures.room
-    (select-entry m c.requires.card e used c.requires.ready.usable.committed_size x (selection_of c.args.selector)
+    (select-entry m c.requires.kept.card e used c.requires.kept.ready.usable.committed_size x (selection_of c.args.selector)
     c.args.returned expected place enough
     ∙ (λ i. outcome (card_of m) (session_of t (current i)) (text i) (status i)))

@@ -29,7 +29,7 @@ ends g c = record {
   lost = c.end_command.ensures.lost;
 }
 
-there : (g : Over) (c : After-end_command g) → HasCard c.carry_out-carried.new.store.facts.words
+there : (g : Over) (c : After-end_command g) → HasCard c.carry_out-carried.new.lent.store.facts.words
 there g c =
     let carries = c.carry_out-carried.ensures.carries in
     record { journal = carries.reports.sound c.self.invariant.0.journal; words = carries.card }
@@ -42,73 +42,73 @@ returns-clause-has_card g c = there g c
 
 pub returns-clause-stage : goal.returns-clause-stage
 returns-clause-stage g c =
-    let new = card_in c.carry_out-carried.new.store in
+    let new = card_in c.carry_out-carried.new.lent.store in
     let inside = c.self.inside in
-    let session = sym (ap (λ (state : CardState). session_while state (table_in inside.store) inside.current)
+    let session = sym (ap (λ (state : CardState). session_while state (table_in inside.lent.store) inside.lent.current)
     c.in-Working.is) in
     subst (λ (r : Running). IsStage (card_found r) r.session c.args.command.now new) c.self.view_is
-    (subst (λ (s : Session). IsStage (card_in inside.store) s c.args.command.now new) session
+    (subst (λ (s : Session). IsStage (card_in inside.lent.store) s c.args.command.now new) session
     c.carry_out-carried.ensures.carries.stage)
 
 pub returns-clause-idle : goal.returns-clause-idle
 returns-clause-idle g c =
-    let new = c.carry_out-carried.new.store.facts in
+    let new = c.carry_out-carried.new.lent.store.facts in
     let inside = c.self.inside in
-    let session = sym (ap (λ (state : CardState). session_while state (table_in inside.store) inside.current)
+    let session = sym (ap (λ (state : CardState). session_while state (table_in inside.lent.store) inside.lent.current)
     c.in-Working.is) in
     subst (λ (r : Running). ChangesNothing (card_found r) r.session c.args.command.now → KeepsBoard r.facts new)
     c.self.view_is
-    (subst (λ (s : Session). ChangesNothing (card_in inside.store) s c.args.command.now → KeepsBoard inside.store.facts new)
+    (subst (λ (s : Session). ChangesNothing (card_in inside.lent.store) s c.args.command.now → KeepsBoard inside.lent.store.facts new)
     session (λ nothing. (c.carry_out-carried.ensures.carries.idle nothing).board))
 
 pub returns-clause-done : goal.returns-clause-done
 returns-clause-done g c =
     let inside = c.self.inside in
-    let new = c.carry_out-carried.new.store in
-    let y = c.carry_out-carried.new.current in
+    let new = c.carry_out-carried.new.lent.store in
+    let y = c.carry_out-carried.new.lent.current in
     let bytes = c.args.command.now in
     let said = c.end_command.new.answer.items in
-    let ready = (c.self.invariant.1 c.in-Working.is).ready in
-    let leaves = after inside.store new inside.current y bytes c.carry_out-carried.new.answer.items said ready inside.state
+    let ready = (c.self.invariant.1 c.in-Working.is).kept.ready in
+    let leaves = after inside.lent.store new inside.lent.current y bytes c.carry_out-carried.new.answer.items said ready inside.state
     c.end_command.new.state c.in-Working.is c.end_command.result in
     subst (λ (r : Running). OnOk c.end_command.result (r.state ≡ Working → Steps r bytes leaves said
     ⊎ FailsIn r leaves said)) c.self.view_is
-    (ended-done inside.store new inside.current y bytes c.carry_out-carried.new.answer.items said ready inside.state
+    (ended-done inside.lent.store new inside.lent.current y bytes c.carry_out-carried.new.answer.items said ready inside.state
     c.end_command.new.state c.in-Working.is c.end_command.result c.carry_out-carried.result
     c.carry_out-carried.ensures.carries (ends g c))
 
 pub returns-clause-lost : goal.returns-clause-lost
 returns-clause-lost g c =
     let inside = c.self.inside in
-    let new = c.carry_out-carried.new.store in
-    let y = c.carry_out-carried.new.current in
+    let new = c.carry_out-carried.new.lent.store in
+    let y = c.carry_out-carried.new.lent.current in
     let bytes = c.args.command.now in
     let said = c.end_command.new.answer.items in
-    let ready = (c.self.invariant.1 c.in-Working.is).ready in
-    let leaves = after inside.store new inside.current y bytes c.carry_out-carried.new.answer.items said ready inside.state
+    let ready = (c.self.invariant.1 c.in-Working.is).kept.ready in
+    let leaves = after inside.lent.store new inside.lent.current y bytes c.carry_out-carried.new.answer.items said ready inside.state
     c.end_command.new.state c.in-Working.is c.end_command.result in
     subst (λ (r : Running). OnErr c.end_command.result (r.state ≡ Working → IsCutIn r leaves said)) c.self.view_is
-    (ended-lost inside.store new inside.current y bytes c.carry_out-carried.new.answer.items said ready inside.state
+    (ended-lost inside.lent.store new inside.lent.current y bytes c.carry_out-carried.new.answer.items said ready inside.state
     c.end_command.new.state c.in-Working.is c.end_command.result c.carry_out-carried.result
     c.carry_out-carried.ensures.carries (ends g c))
 
 pub returns-clause-unlit : goal.returns-clause-unlit
 returns-clause-unlit g c =
     let inside = c.self.inside in
-    ended-unlit inside.store c.carry_out-carried.new.store inside.current c.carry_out-carried.new.current c.args.command.now
-    c.carry_out-carried.new.answer.items c.end_command.new.answer.items (c.self.invariant.1 c.in-Working.is).ready
+    ended-unlit inside.lent.store c.carry_out-carried.new.lent.store inside.lent.current c.carry_out-carried.new.lent.current c.args.command.now
+    c.carry_out-carried.new.answer.items c.end_command.new.answer.items (c.self.invariant.1 c.in-Working.is).kept.ready
     inside.state c.end_command.new.state c.in-Working.is c.end_command.result c.carry_out-carried.result
     c.carry_out-carried.ensures.carries (ends g c)
 
 pub invariant_of-self : goal.invariant_of-self
 invariant_of-self g c =
     let inside = c.self.inside in
-    let kept = ended-kept inside.store c.carry_out-carried.new.store inside.current c.carry_out-carried.new.current
+    let kept = ended-kept inside.lent.store c.carry_out-carried.new.lent.store inside.lent.current c.carry_out-carried.new.lent.current
     c.args.command.now c.carry_out-carried.new.answer.items c.end_command.new.answer.items
-    (c.self.invariant.1 c.in-Working.is).ready inside.state c.end_command.new.state c.in-Working.is c.end_command.result
-    c.carry_out-carried.result c.carry_out-carried.ensures.carries (ends g c) c.carry_out-carried.new.free
+    (c.self.invariant.1 c.in-Working.is).kept.ready inside.state c.end_command.new.state c.in-Working.is c.end_command.result
+    c.carry_out-carried.result c.carry_out-carried.ensures.carries (ends g c) c.carry_out-carried.new.lent.free
     c.carry_out-carried.ensures.space in
-    (there g c, kept.0, kept.1)
+    (there g c, λ works. let k = kept.0 works in record { kept = k.0; space = k.1 }, kept.1)
 
 pub returns-clause-failed : goal.returns-clause-failed
 returns-clause-failed g c = λ is.
@@ -122,17 +122,17 @@ pub returns-clause-writes : goal.returns-clause-writes
 returns-clause-writes g c =
     let writes = c.carry_out-carried.ensures.carries.writes in
     let few = few_writes c.args.command.now in
-    subst (λ (r : Running). c.carry_out-carried.new.store.facts.writes ≤ r.facts.writes + COMMAND_WRITES) c.self.view_is
+    subst (λ (r : Running). c.carry_out-carried.new.lent.store.facts.writes ≤ r.facts.writes + COMMAND_WRITES) c.self.view_is
     (omega (arith, writes, few))
 
 pub returns-clause-counted : goal.returns-clause-counted
 returns-clause-counted g c =
-    subst (λ (r : Running). c.carry_out-carried.new.store.facts.writes ≤ r.facts.writes + writes_of c.args.command.now)
+    subst (λ (r : Running). c.carry_out-carried.new.lent.store.facts.writes ≤ r.facts.writes + writes_of c.args.command.now)
     c.self.view_is c.carry_out-carried.ensures.carries.writes
 
 pub returns-clause-compares : goal.returns-clause-compares
 returns-clause-compares g c =
-    let new = c.carry_out-carried.new.store in
+    let new = c.carry_out-carried.new.lent.store in
     subst (λ (r : Running). ComparesAsked (asked c.args.command.now) (card_found r) (comparisons r.facts) (card_in new)
     (comparisons new.facts)) c.self.view_is c.carry_out-carried.ensures.carries.compares
 
@@ -176,17 +176,17 @@ returns-in-Dark-clause-compares g c = still-compares c.args.self.now c.args.comm
 
 pub returns-clause-stands : goal.returns-clause-stands
 returns-clause-stands g c = λ works.
-    let new = c.carry_out-carried.new.store.facts.words in
+    let new = c.carry_out-carried.new.lent.store.facts.words in
     let inside = c.self.inside in
-    let session = sym (ap (λ (state : CardState). session_while state (table_in inside.store) inside.current)
+    let session = sym (ap (λ (state : CardState). session_while state (table_in inside.lent.store) inside.lent.current)
     c.in-Working.is) in
     subst (λ (r : Running). StandsAsked (card_found r) r.session (asked c.args.command.now) new) c.self.view_is
-    (subst (λ (s : Session). StandsAsked (card_in inside.store) s (asked c.args.command.now) new) session
-    (c.carry_out-carried.ensures.carries.stands (c.self.invariant.1 c.in-Working.is).ready.shut))
+    (subst (λ (s : Session). StandsAsked (card_in inside.lent.store) s (asked c.args.command.now) new) session
+    (c.carry_out-carried.ensures.carries.stands (c.self.invariant.1 c.in-Working.is).kept.ready.shut))
 
 pub returns-clause-advances : goal.returns-clause-advances
 returns-clause-advances g c =
-    subst (λ (r : Running). Advances r.facts c.carry_out-carried.new.store.facts) c.self.view_is
+    subst (λ (r : Running). Advances r.facts c.carry_out-carried.new.lent.store.facts) c.self.view_is
     c.carry_out-carried.ensures.carries.advances
 
 pub returns-in-Failed-clause-advances : goal.returns-in-Failed-clause-advances

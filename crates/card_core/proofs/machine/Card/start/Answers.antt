@@ -58,7 +58,10 @@ invariant_of-result g c =
     let kept = starts-kept c.in-Ok.store c.find_card.new.store c.in-Ok-space_of.free c.find_card.result there
     c.in-Ok.ensures.defined c.find_card.ensures.card c.find_card.ensures.store in (
       kept.0,
-      λ works. subst (λ (x : Current). IsKept c.find_card.new.store x c.in-Ok-space_of.free) (sym c.fresh.ensures) kept.1,
+      λ works. record {
+        kept = subst (λ (x : Current). IsKept c.find_card.new.store x) (sym c.fresh.ensures) kept.1;
+        space = kept.2;
+      },
       λ dark. let never : Working ≡ Dark = dark in cc,
     )
 

@@ -1,0 +1,14 @@
+//! The card as it is lent to what carries out a command.
+
+use crate::current::Current;
+use file_tree::FreeSpace;
+use undo_journal::{Board, Store};
+
+/// The card as it is lent to what carries out a command: its memory, its current files, and the counts of its free space. What
+/// these owe one another while the card works is one record (`IsWhole`).
+#[derive(Drop)]
+pub(crate) struct Lent<B: Board> {
+    pub store: Store<B>,
+    pub current: Current,
+    pub free: FreeSpace,
+}
