@@ -1,5 +1,6 @@
 -- Bodies after bytes were put into a slot.
-use Rattle.std.proofs.Common.{sym, ◌∙◌, ap, ap₂, arith}
+use Rattle.std.proofs.Common.{sym, ◌∙◌, ap, ap₂, arith, subst, length-append}
+use Rattle.std.proofs.Math.ListN.{length-set}
 use Rattle.std.specs.Prelude.{◌≡◌, ◌<◌, ◌≤◌, ◌+◌, ◌-◌, ◌*◌, ◌%◌, ℕ, List, [], ◌∷◌, ◌++◌, length, slice_index}
 use Rattle.std.specs.Prelude.{slice_set, take, drop}
 use Rattle.nvm_board.specs.declared.board.TheConstants.{WORDS}
@@ -8,15 +9,16 @@ use Rattle.block_chain.specs.Changes.{Overwrites, overwrite}
 use Rattle.block_chain.specs.laws.Bytes.{leads_blocks, length-bytes_of}
 use Rattle.ef_body.specs.declared.linear.Linear.{Linear}
 use Rattle.ef_body.specs.declared.cyclic.Cyclic.{Cyclic}
+use Rattle.ef_body.specs.declared.slot.RecordSlot.{RecordSlot}
 use Rattle.ef_body.specs.Records.{slot, in_order, newest_first, front, record_of}
 use Rattle.ef_body.specs.Bodies.{counts_word, number_told, start_told, linear_records, cyclic_records, IsLinear}
 use Rattle.ef_body.specs.Bodies.{IsCyclic}
-use Rattle.ef_body.specs.Changes.{LinearBecomes, CyclicBecomes, PutsRecord}
-use Rattle.ef_body.specs.laws.Lists.{length-in_order, in_order-put, in_order-added, slot_before, slot_before-small}
-use Rattle.ef_body.specs.laws.Lists.{newest_first-front, length-newest_first, at-newest_first, in_order-ring}
+use Rattle.ef_body.specs.Changes.{LinearBecomes, CyclicBecomes, RecordsBecome, PutsRecord}
+use Rattle.ef_body.specs.laws.Lists.{length-in_order, slot_before, slot_before-small}
+use Rattle.ef_body.specs.laws.Lists.{newest_first-front, newest_first-put, newest_first-back, length-newest_first, at-newest_first, in_order-ring}
 use Rattle.ef_body.specs.Bodies.{ring_of}
 use Rattle.ef_body.specs.laws.Slots.{slot-within, slot-take, length-slot}
-use Rattle.std.proofs.Math.Nat.{mul-le-mul_left, mod-lt}
+use Rattle.std.proofs.Math.Nat.{mod-lt}
 use Rattle.ef_body.proofs.Putting.{chain_kept, before_kept}
 
 -- the word of an entry tells both numbers
@@ -27,14 +29,6 @@ pub told_start : (m : List ℕ) (at n s : ℕ) → slice_index m at ≡ counts_w
 told_start m at n s is small = omega (arith, is, small)
 
 -- as many bytes as the blocks have
-pub slots_fit : (m : List ℕ) (c : Linear) → length m ≡ WORDS → IsLinear m c
-    → c.capacity * c.record_length ≤ length (chain_bytes m c.chain)
-slots_fit m c sized is =
-    let long = length-bytes_of m (chain_of m c.chain) sized
-    (leads_blocks m c.chain.first 0 (chain_of m c.chain) is.slots.chain.leads) in
-    let fits = is.slots.fits in
-    omega (arith, long, fits)
-
 pub ring_fits : (m : List ℕ) (c : Cyclic) → length m ≡ WORDS → IsCyclic m c
     → c.capacity * c.record_length ≤ length (chain_bytes m c.chain)
 ring_fits m c sized is =
@@ -42,11 +36,6 @@ ring_fits m c sized is =
     (leads_blocks m c.chain.first 0 (chain_of m c.chain) is.slots.chain.leads) in
     let fits = is.slots.fits in
     omega (arith, long, fits)
-
--- the slots of fewer records fit where those of more do
-many_fit : (n capacity size room : ℕ) → n ≤ capacity → capacity * size ≤ room → n * size ≤ room
-many_fit n capacity size room few fits =
-    let more : size * n ≤ size * capacity = mul-le-mul_left size few in omega (arith, more, fits)
 
 -- a linear body as the memory tells of it
 pub linear_is : (m : List ℕ) (body : Linear) → IsLinear m body
@@ -93,28 +82,91 @@ ring_records m body is =
     ∙ in_order-ring body.record_length body.capacity (chain_bytes m body.chain) body.records is.number
     ∙ sym (linear_is m body is)
 
--- a record in place of another
-pub linear_put : (m after : List ℕ) (body : Linear) (i : ℕ) (bytes : List ℕ) → length m ≡ WORDS → IsLinear m body
-    → length bytes ≡ body.record_length → i < body.records
-    → Overwrites m (chain_of m body.chain) (i * body.record_length) bytes after
-    → LinearBecomes m body (slice_set (linear_records m body) i bytes) after
-linear_put m after body i bytes sized is long lt over =
+-- The ring of a linear body does not wrap: what it becomes, that body becomes.
+linear_becomes : (m after : List ℕ) (body : Linear) (records : List (List ℕ)) → length records ≤ body.capacity
+    → RecordsBecome m (ring_of body) records after → LinearBecomes m body records after
+linear_becomes m after body records few ring =
     let size = body.record_length in
-    let offset = i * body.record_length in
-    let blocks = chain_kept m after body.chain offset bytes sized is.slots.chain over in
-    let told = before_kept m after body.chain offset bytes sized is.slots.chain over body.told_at is.slots.entry in
-    let content : chain_bytes after body.chain ≡ overwrite (chain_bytes m body.chain) offset bytes =
-    ap (bytes_of after) blocks ∙ over.content in
-    let number = told_number after body.told_at body.records 0 (told ∙ is.told) (omega arith) in
-    let all = slots_fit m body sized is in
-    let few = is.number in
-    let fits : body.records * size ≤ length (chain_bytes m body.chain) = many_fit body.records body.capacity size _
-    few all in
+    let bs = chain_bytes after body.chain in
+    let n = number_told after body.told_at in
+    let start = start_told after body.told_at in
+    let many : length (newest_first size body.capacity bs start n) ≡ length records =
+    ap (λ (l : List (List ℕ)). length l) ring.becomes in
+    let told = length-newest_first size body.capacity bs start n in
     record {
-      becomes = ap₂ (in_order size) content number
-          ∙ in_order-put size (chain_bytes m body.chain) body.records i bytes long fits lt
-          ∙ ap (λ (l : List (List ℕ)). slice_set l i bytes) (sym (linear_is m body is));
-      start = told_start after body.told_at body.records 0 (told ∙ is.told) (omega arith);
+      becomes = sym (in_order-ring size body.capacity bs n (omega (arith, many, told, few)))
+          ∙ ap (λ (s : ℕ). newest_first size body.capacity bs s n) (sym ring.start) ∙ ring.becomes;
+      start = ring.start;
+      blocks = ring.blocks;
+      only = ring.only;
+    }
+
+-- a linear body, and the ring that is taken for it
+module _ (m : List ℕ) (body : Linear) (ring : Cyclic) (same : ring ≡ ring_of body) (is : IsLinear m body) where
+  pub taken : IsCyclic m ring
+  taken = subst (λ (r : Cyclic). IsCyclic m r) (sym same) (ring_is m body is)
+
+  pub taken_records : cyclic_records m ring ≡ linear_records m body
+  taken_records = ap (cyclic_records m) same ∙ ring_records m body is
+
+  pub taken_becomes : (after : List ℕ) (records : List (List ℕ)) → length records ≤ body.capacity
+      → RecordsBecome m ring records after → LinearBecomes m body records after
+  taken_becomes after records few becomes =
+      linear_becomes m after body records few (subst (λ (r : Cyclic). RecordsBecome m r records after) same becomes)
+
+  -- with a record in place of another, and with one behind the last one
+  pub taken_put : (after : List ℕ) (n number : ℕ) (bytes : List ℕ) → n ≡ number
+      → RecordsBecome m ring (slice_set (cyclic_records m ring) (n - 1) bytes) after
+      → LinearBecomes m body (slice_set (linear_records m body) (number - 1) bytes) after
+  taken_put after n number bytes at becomes =
+      let long = length-set (linear_records m body) (number - 1) bytes in
+      let many = length-linear m body is in
+      let most = is.number in
+      taken_becomes after (slice_set (linear_records m body) (number - 1) bytes) (omega (arith, long, many, most))
+      (subst (λ (l : List (List ℕ)). RecordsBecome m ring l after)
+      (ap₂ (λ (l : List (List ℕ)) (k : ℕ). slice_set l (k - 1) bytes) taken_records at) becomes)
+
+  pub taken_added : (after : List ℕ) (bytes : List ℕ) → ring.records < ring.capacity
+      → RecordsBecome m ring (cyclic_records m ring ++ bytes ∷ []) after
+      → LinearBecomes m body (linear_records m body ++ bytes ∷ []) after
+  taken_added after bytes room becomes =
+      let long = length-append (linear_records m body) (bytes ∷ []) in
+      let many = length-linear m body is in
+      let records : ring.records ≡ body.records = ap (λ (r : Cyclic). r.records) same in
+      let capacity : ring.capacity ≡ body.capacity = ap (λ (r : Cyclic). r.capacity) same in
+      taken_becomes after (linear_records m body ++ bytes ∷ []) (omega (arith, long, many, room, records, capacity))
+      (subst (λ (l : List (List ℕ)). RecordsBecome m ring (l ++ bytes ∷ []) after) taken_records becomes)
+
+-- a record in place of another
+pub ring_put : (m after : List ℕ) (ring : Cyclic) (number : ℕ) (bytes : List ℕ) → length m ≡ WORDS → IsCyclic m ring
+    → length bytes ≡ ring.record_length → 1 ≤ number → number ≤ ring.records
+    → (slot offset : ℕ) → slot ≡ (ring.start + number - 1) % ring.capacity → offset ≡ slot * ring.record_length
+    → Overwrites m (chain_of m ring.chain) offset bytes after
+    → RecordsBecome m ring (slice_set (cyclic_records m ring) (number - 1) bytes) after
+ring_put m after ring number bytes sized is long some most slot offset lies at over =
+    let size = ring.record_length in
+    let bs = chain_bytes m ring.chain in
+    let few = is.slots.few in
+    let small : ring.start < 0x10000 = (let start = is.start in omega (arith, few, start)) in
+    let blocks = chain_kept m after ring.chain offset bytes sized is.slots.chain over in
+    let told = before_kept m after ring.chain offset bytes sized is.slots.chain over ring.told_at is.slots.entry ∙ is.told in
+    let first = told_start after ring.told_at ring.records ring.start told small in
+    let count = told_number after ring.told_at ring.records ring.start told small in
+    let place : ring.start + number - 1 ≡ ring.start + (number - 1) = omega (arith, some) in
+    let here : offset ≡ (ring.start + (number - 1)) % ring.capacity * size =
+    at ∙ ap (λ (s : ℕ). s * size) (lies ∙ ap (λ (i : ℕ). i % ring.capacity) place) in
+    let content : chain_bytes after ring.chain
+    ≡ overwrite bs ((ring.start + (number - 1)) % ring.capacity * size) bytes =
+    ap (bytes_of after) blocks ∙ over.content ∙ ap (λ (o : ℕ). overwrite bs o bytes) here in
+    record {
+      becomes = ap (λ (l : List ℕ). newest_first size ring.capacity l (start_told after ring.told_at)
+          (number_told after ring.told_at)) content
+          ∙ ap₂ (newest_first size ring.capacity
+          (overwrite bs ((ring.start + (number - 1)) % ring.capacity * size) bytes)) first count
+          ∙ newest_first-put size ring.capacity bs ring.start ring.records bytes long (ring_fits m ring sized is)
+          is.start (number - 1) (omega (arith, some, most)) is.number
+          ∙ ap (λ (l : List (List ℕ)). slice_set l (number - 1) bytes) (sym (cyclic_is m ring is));
+      start = first;
       blocks = blocks;
       only = record {
         size = over.only.size;
@@ -124,22 +176,31 @@ linear_put m after body i bytes sized is long lt over =
     }
 
 -- a record behind the last one
-pub linear_added : (m after : List ℕ) (body : Linear) (bytes : List ℕ) → length m ≡ WORDS → IsLinear m body
-    → length bytes ≡ body.record_length → body.records < body.capacity
-    → (told : ℕ) → told ≡ counts_word (body.records + 1) 0
-    → PutsRecord m body.chain (body.records * body.record_length) bytes body.told_at told after
-    → LinearBecomes m body (linear_records m body ++ bytes ∷ []) after
-linear_added m after body bytes sized is long lt told tells puts =
-    let size = body.record_length in
-    let number = told_number after body.told_at (body.records + 1) 0 (puts.tells ∙ tells) (omega arith) in
-    let all = slots_fit m body sized is in
-    let w = slot-within size body.records body.capacity lt in
-    let fits : body.records * size + size ≤ length (chain_bytes m body.chain) = omega (arith, w, all) in
+pub ring_added : (m after : List ℕ) (ring : Cyclic) (bytes : List ℕ) → length m ≡ WORDS → IsCyclic m ring
+    → length bytes ≡ ring.record_length → ring.records < ring.capacity
+    → (slot offset told : ℕ) → slot ≡ (ring.start + (ring.records + 1) - 1) % ring.capacity
+    → offset ≡ slot * ring.record_length → told ≡ counts_word (ring.records + 1) ring.start
+    → PutsRecord m ring.chain offset bytes ring.told_at told after
+    → RecordsBecome m ring (cyclic_records m ring ++ bytes ∷ []) after
+ring_added m after ring bytes sized is long room slot offset told lies at tells puts =
+    let size = ring.record_length in
+    let bs = chain_bytes m ring.chain in
+    let few = is.slots.few in
+    let small : ring.start < 0x10000 = (let start = is.start in omega (arith, few, start)) in
+    let first = told_start after ring.told_at (ring.records + 1) ring.start (puts.tells ∙ tells) small in
+    let count = told_number after ring.told_at (ring.records + 1) ring.start (puts.tells ∙ tells) small in
+    let place : ring.start + (ring.records + 1) - 1 ≡ ring.start + ring.records = omega arith in
+    let here : offset ≡ (ring.start + ring.records) % ring.capacity * size =
+    at ∙ ap (λ (s : ℕ). s * size) (lies ∙ ap (λ (i : ℕ). i % ring.capacity) place) in
     record {
-      becomes = ap₂ (in_order size) puts.becomes number
-          ∙ in_order-added size (chain_bytes m body.chain) body.records bytes long fits
-          ∙ ap (λ (l : List (List ℕ)). l ++ bytes ∷ []) (sym (linear_is m body is));
-      start = told_start after body.told_at (body.records + 1) 0 (puts.tells ∙ tells) (omega arith);
+      becomes = ap (λ (l : List ℕ). newest_first size ring.capacity l (start_told after ring.told_at)
+          (number_told after ring.told_at)) (puts.becomes ∙ ap (λ (o : ℕ). overwrite bs o bytes) here)
+          ∙ ap₂ (newest_first size ring.capacity
+          (overwrite bs ((ring.start + ring.records) % ring.capacity * size) bytes)) first count
+          ∙ newest_first-back size ring.capacity bs ring.start ring.records bytes long (ring_fits m ring sized is)
+          is.start room
+          ∙ ap (λ (l : List (List ℕ)). l ++ bytes ∷ []) (sym (cyclic_is m ring is));
+      start = first;
       blocks = puts.blocks;
       only = puts.only;
     }
@@ -147,10 +208,10 @@ linear_added m after body bytes sized is long lt told tells puts =
 -- a record before the others
 pub cyclic_front : (m after : List ℕ) (body : Cyclic) (bytes : List ℕ) (n : ℕ) → length m ≡ WORDS → IsCyclic m body
     → length bytes ≡ body.record_length → 1 ≤ n → n ≤ body.capacity → n ≤ body.records + 1
-    → (slot told : ℕ) → slot ≡ slot_before body.start body.capacity → told ≡ counts_word n slot
-    → PutsRecord m body.chain (slot * body.record_length) bytes body.told_at told after
+    → (slot offset told : ℕ) → slot ≡ slot_before body.start body.capacity → offset ≡ slot * body.record_length
+    → told ≡ counts_word n slot → PutsRecord m body.chain offset bytes body.told_at told after
     → CyclicBecomes m body (front n bytes (cyclic_records m body)) after
-cyclic_front m after body bytes n sized is long some most more slot told before tells puts =
+cyclic_front m after body bytes n sized is long some most more slot offset told before at tells puts =
     let size = body.record_length in
     let bs = chain_bytes m body.chain in
     let low = slot_before-small body.start body.capacity is.start in
@@ -161,7 +222,8 @@ cyclic_front m after body bytes n sized is long some most more slot told before 
     let all = ring_fits m body sized is in
     record {
       becomes = ap (λ (l : List ℕ). newest_first size body.capacity l (start_told after body.told_at)
-          (number_told after body.told_at)) (puts.becomes ∙ ap (λ (s : ℕ). overwrite bs (s * size) bytes) before)
+          (number_told after body.told_at)) (puts.becomes ∙ ap (λ (o : ℕ). overwrite bs o bytes) (at
+          ∙ ap (λ (s : ℕ). s * size) before))
           ∙ ap₂ (newest_first size body.capacity
           (overwrite bs (slot_before body.start body.capacity * size) bytes)) first number
           ∙ newest_first-front size body.capacity bs body.start body.records bytes long all is.start n some most more
@@ -190,6 +252,27 @@ record_read m body number is some most =
     ∙ at-newest_first size body.capacity bs body.start body.records (number - 1) [] lt
     ∙ ap (λ (i : ℕ). slot size bs (i % body.capacity)) place
     ∙ slot-take size bs ((body.start + number - 1) % body.capacity)
+
+-- the bytes that are read at that offset
+pub record_at : (m : List ℕ) (body : Cyclic) (number : ℕ) → IsCyclic m body → 1 ≤ number → number ≤ body.records
+    → (slot offset : ℕ) → slot ≡ (body.start + number - 1) % body.capacity → offset ≡ slot * body.record_length
+    → take body.record_length (drop offset (chain_bytes m body.chain)) ≡ record_of (cyclic_records m body) number
+record_at m body number is some most slot offset lies at =
+    ap (λ (o : ℕ). take body.record_length (drop o (chain_bytes m body.chain)))
+    (at ∙ ap (λ (s : ℕ). s * body.record_length) lies)
+    ∙ sym (record_read m body number is some most)
+
+-- what a receipt tells of the body that gave it
+module _ (body : Cyclic) (number : ℕ) (slot : RecordSlot) (at : (slot.ring ≡ body) × (slot.number ≡ number)) where
+  pub received_last : number ≤ body.records
+  received_last =
+      let most = slot.to_last in
+      let records : slot.ring.records ≡ body.records = ap (λ (r : Cyclic). r.records) at.0 in
+      omega (arith, most, records, at.1)
+
+  pub received_record : (m : List ℕ)
+      → record_of (cyclic_records m slot.ring) slot.number ≡ record_of (cyclic_records m body) number
+  received_record m = ap₂ (λ (r : Cyclic) (n : ℕ). record_of (cyclic_records m r) n) at.0 at.1
 
 -- a record has the length of a slot
 pub length-record : (m : List ℕ) (body : Cyclic) (number : ℕ) → length m ≡ WORDS → IsCyclic m body → 1 ≤ number

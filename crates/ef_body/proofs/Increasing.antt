@@ -1,20 +1,16 @@
 -- The record that INCREASE stores, and what it makes of a body.
-use Rattle.std.proofs.Common.{refl, sym, ◌∙◌, ap, ap₂, arith, ⊎_elim, subst}
+use Rattle.std.proofs.Common.{refl, sym, ◌∙◌, ap, ap₂, arith, ⊎_elim}
 use Rattle.std.proofs.lemmas.Bool.{cases_lt, le-leb, lt-leb}
 use Rattle.std.proofs.lemmas.List.{take_all}
 use Rattle.std.specs.Prelude.{◌≡◌, ◌<◌, ◌≤◌, ◌+◌, ◌%◌, ◌^◌, ℕ, zero, suc, Bool, true, false, List, ◌∷◌}
 use Rattle.std.specs.Prelude.{length, All, Option, Some, None, if◌then◌else◌, nat_le, min}
 use Rattle.card_rules.specs.declared.status.Sw.{Sw}
 use Rattle.card_rules.specs.declared.status.TheConstants.Sw.{RECORD_NOT_FOUND, MAXIMUM_REACHED}
-use Rattle.ef_body.specs.declared.cyclic.Cyclic.{Cyclic}
 use Rattle.ef_body.specs.Records.{has_record, record_of, front}
 use Rattle.ef_body.specs.Numbers.{number_of, spelled}
-use Rattle.ef_body.specs.Refusals.{raised_number, unraised}
-use Rattle.ef_body.specs.Bodies.{cyclic_records, IsCyclic}
-use Rattle.ef_body.specs.Changes.{CyclicBecomes, Increases}
+use Rattle.ef_body.specs.Refusals.{missing_record, raised_number, unraised}
 use Rattle.ef_body.specs.laws.Numbers.{number-small, spelled-number}
-use Rattle.ef_body.proofs.Becoming.{length-cyclic}
-use Rattle.ef_body.proofs.Refusing.{there, not_there}
+use Rattle.ef_body.proofs.Refusing.{there}
 
 -- at most as many records as there is room for
 pub front-most : (k capacity : ℕ) (new : List ℕ) (records : List (List ℕ)) → k ≡ min (length records + 1) capacity
@@ -27,10 +23,6 @@ front-most k capacity new records is = ⊎_elim
     (λ (none : capacity ≤ length records).
     let same : k ≡ capacity = omega (arith, is, none) in ap (λ (n : ℕ). front n new records) same)
     (cases_lt (length records) capacity)
-
--- what refuses does not let through
-pub not_both : (refusal : Option Sw) (status : Sw) → refusal ≡ Some status → refusal ≡ None → ⊥
-not_both refusal status is none = let e : Some status ≡ None = sym is ∙ none in cc
 
 -- as many bytes as are asked for
 pub length-spelled : (size n : ℕ) → length (spelled size n) ≡ size
@@ -46,6 +38,18 @@ unraised_missing size records sent none =
     then (if nat_le (256 ^ size) (raised_number records sent) then Some MAXIMUM_REACHED else None)
     else Some RECORD_NOT_FOUND in status) none
 
+-- as a look tells it
+pub unraised_unfound : (size : ℕ) (records : List (List ℕ)) (sent : List ℕ) (status : Sw)
+    → missing_record records 1 ≡ Some status → unraised size records sent ≡ Some status
+unraised_unfound size records sent status is =
+    by_test (has_record records 1)
+    (if nat_le (256 ^ size) (raised_number records sent) then Some MAXIMUM_REACHED else None) is
+  where
+    by_test : (h : Bool) (raised : Option Sw) → (let missing : Option Sw = if h then None else Some RECORD_NOT_FOUND in missing) ≡ Some status
+        → (let status : Option Sw = if h then raised else Some RECORD_NOT_FOUND in status) ≡ Some status
+    by_test true raised is = cc
+    by_test false raised is = is
+
 -- there is one
 pub unraised_there : (size : ℕ) (records : List (List ℕ)) (sent : List ℕ) (high : Bool) → has_record records 1 ≡ true
     → nat_le (256 ^ size) (raised_number records sent) ≡ high
@@ -53,17 +57,6 @@ pub unraised_there : (size : ℕ) (records : List (List ℕ)) (sent : List ℕ) 
 unraised_there size records sent high some is =
     ap₂ (λ (h k : Bool). let status : Option Sw = if h then (if k then Some MAXIMUM_REACHED else None)
     else Some RECORD_NOT_FOUND in status) some is
-
--- where nothing refuses to raise record 1, there is one
-pub raised_there : (size : ℕ) (records : List (List ℕ)) (sent : List ℕ) → unraised size records sent ≡ None
-    → 1 ≤ length records
-raised_there size records sent ok = ⊎_elim
-    (λ (none : length records < 1).
-    let no = not_there records (length records) 1 refl (λ both. let z : ⊥ = omega (arith, none, both.1) in z) in
-    let e : Some RECORD_NOT_FOUND ≡ None = sym (unraised_missing size records sent no) ∙ ok in
-    absurd (let z : ⊥ = cc in z))
-    (λ (some : 1 ≤ length records). some)
-    (cases_lt (length records) 1)
 
 -- the sum, and whether it is too high
 module _ (size : ℕ) (records : List (List ℕ)) (sent old now : List ℕ) (high : Bool) (many : 1 ≤ length records)
@@ -106,16 +99,3 @@ module _ (size : ℕ) (records : List (List ℕ)) (sent old now : List ℕ) (hig
   pub is_sum : high ≡ false → now ≡ spelled size (raised_number records sent)
   is_sum is =
       sym (spelled-number now digits) ∙ ap₂ spelled (same ∙ long) (exact is)
-
--- the sum becomes the newest record
-pub increases : (m n after : List ℕ) (body : Cyclic) (bytes sent : List ℕ) → n ≡ m → IsCyclic m body
-    → bytes ≡ spelled body.record_length (raised_number (cyclic_records m body) sent)
-    → CyclicBecomes n body (front body.records bytes (cyclic_records n body)) after → Increases m body sent after
-increases m n after body bytes sent same is value becomes =
-    let at : List ℕ → Type 0 = λ l. CyclicBecomes l body (front body.records bytes (cyclic_records l body)) after in
-    let here = subst at same becomes in
-    let with_number : ℕ → Type 0 = λ k. CyclicBecomes m body (front k bytes (cyclic_records m body)) after in
-    let whole = subst with_number (sym (length-cyclic m body is)) here in
-    let with_bytes : List ℕ → Type 0 = λ l. CyclicBecomes m body (front (length (cyclic_records m body)) l
-    (cyclic_records m body)) after in
-    subst with_bytes value whole

@@ -1,7 +1,7 @@
 -- The words of a body and of its entry, as they are after bytes of its chain were set.
 use Rattle.std.proofs.Common.{refl, sym, ◌∙◌, ap, arith, inl, inr, subst, get_or-set_same, get_or-set_other}
 use Rattle.std.proofs.Math.ListN.{length-set}
-use Rattle.std.specs.Prelude.{◌≡◌, ◌≢◌, ◌<◌, ◌≤◌, ◌+◌, ◌/◌, ◌%◌, ℕ, zero, suc, List, Option, length, slice_index}
+use Rattle.std.specs.Prelude.{◌≡◌, ◌≢◌, ◌<◌, ◌≤◌, ◌+◌, ◌/◌, ◌%◌, ℕ, zero, suc, List, length, slice_index}
 use Rattle.std.specs.Prelude.{slice_set}
 use Rattle.nvm_board.specs.Facts.{address}
 use Rattle.nvm_board.specs.declared.board.TheConstants.{WORDS, PAGE_WORDS}
@@ -11,10 +11,6 @@ use Rattle.block_chain.specs.declared.layout.TheConstants.{BLOCKS, BLOCK_WORDS}
 use Rattle.block_chain.specs.Words.{word, IsBlock}
 use Rattle.block_chain.specs.Counts.{count, IsNotIn}
 use Rattle.block_chain.specs.Chains.{chain_of, bytes_of, IsChain}
-use Rattle.undo_journal.specs.declared.error.StoreErr.{StoreErr}
-use Rattle.undo_journal.specs.Memory.{Memory}
-use Rattle.undo_journal.specs.Calls.{Changes}
-use Rattle.undo_journal.specs.laws.Told.{changes_within}
 use Rattle.undo_journal.specs.Spending.{transaction_writes}
 use Rattle.ef_body.specs.declared.layout.TheConstants.{UPDATE_WRITES}
 use Rattle.block_chain.specs.Changes.{Overwrites, touched_words, touched_blocks}
@@ -105,16 +101,6 @@ touched_few offset (suc n) few = omega (arith, few)
 pub touched_few_blocks : (offset count : ℕ) → count ≤ 255 → touched_blocks offset count ≤ 6
 touched_few_blocks offset zero few = omega arith
 touched_few_blocks offset (suc n) few = omega (arith, few)
-
--- so setting them costs no more than an update may
-pub update_within : (offset count : ℕ) (a b : Memory) (told : Option StoreErr) → count ≤ 255
-    → Changes (transaction_writes (touched_words offset count) (touched_blocks offset count)) a b told
-    → Changes UPDATE_WRITES a b told
-update_within offset count a b told few changes =
-    let most = touched_few offset count few in
-    let blocks = touched_few_blocks offset count few in
-    changes_within (transaction_writes (touched_words offset count) (touched_blocks offset count)) UPDATE_WRITES a b told
-    (omega (arith, most, blocks)) changes
 
 -- bytes touch few words, and few blocks
 pub touched_most : (offset count : ℕ)

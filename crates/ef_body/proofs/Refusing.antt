@@ -2,19 +2,16 @@
 use Rattle.std.proofs.Common.{sym, ◌∙◌, ap, ap₂, arith, subst, ⊎_elim}
 use Rattle.std.proofs.lemmas.Bool.{cases_lt, le-leb, lt-leb}
 use Rattle.std.specs.Prelude.{◌≡◌, ◌<◌, ◌≤◌, ◌↔◌, ◌&&◌, ℕ, Bool, true, false, List, length, IsTrue, Option, Some, None}
-use Rattle.std.specs.Prelude.{if◌then◌else◌, nat_le}
+use Rattle.std.specs.Prelude.{nat_le}
 use Rattle.std.specs.Prelude.{Result, Ok, Err, IsErrAnd, OnOk, option_map}
 use Rattle.std.specs.Result.{result_err}
 use Rattle.card_rules.specs.declared.status.Sw.{Sw}
-use Rattle.card_rules.specs.declared.status.TheConstants.Sw.{RECORD_NOT_FOUND, NO_ROOM}
 use Rattle.undo_journal.specs.declared.error.StoreErr.{StoreErr}
-use Rattle.undo_journal.specs.Memory.{Memory}
-use Rattle.undo_journal.specs.Calls.{Changes}
 use Rattle.undo_journal.specs.laws.Told.{told_is}
 use Rattle.ef_body.specs.declared.error.BodyErr.{BodyErr}
-use Rattle.ef_body.specs.declared.error.BodyErr.TheVariants.{Store}
+use Rattle.ef_body.specs.declared.error.BodyErr.TheVariants.{Refused, Store}
 use Rattle.ef_body.specs.Records.{has_record}
-use Rattle.ef_body.specs.Refusals.{missing_record, full, failure, Decides, DecidesUnlessFailed, IfRefused}
+use Rattle.ef_body.specs.Refusals.{failure, Decides, DecidesUnlessFailed, IfRefused}
 
 -- what a test that gave false tells
 pub not_so : (b : Bool) (fact : Type 0) → (IsTrue b ↔ fact) → b ≡ false → fact → ⊥
@@ -45,39 +42,6 @@ not_there records n number many none_there = ⊎_elim
     (cases_lt (length records) number))
     (cases_lt number 1)
 
-module _ (records : List (List ℕ)) (n number : ℕ) (b : Bool) (many : length records ≡ n)
-    (tells : IsTrue b ↔ ((1 ≤ number) × (number ≤ n))) where
-  pub missing : b ≡ false → missing_record records number ≡ Some RECORD_NOT_FOUND
-  missing is =
-      ap (λ (h : Bool). let status : Option Sw = if h then None else Some RECORD_NOT_FOUND in status)
-      (not_there records n number many (not_so b _ tells is))
-
-  pub present : b ≡ true → missing_record records number ≡ None
-  present is =
-      let both = tells.0 is in
-      ap (λ (h : Bool). let status : Option Sw = if h then None else Some RECORD_NOT_FOUND in status)
-      (there records n number many both.0 both.1)
-
-module _ (capacity : ℕ) (records : List (List ℕ)) (n : ℕ) (b : Bool) (many : length records ≡ n)
-    (tells : IsTrue b ↔ (capacity ≤ n)) where
-  pub is_full : b ≡ true → full capacity records ≡ Some NO_ROOM
-  is_full is =
-      let most = tells.0 is in
-      let all : capacity ≤ length records = omega (arith, most, many) in
-      ap (λ (h : Bool). let status : Option Sw = if h then Some NO_ROOM else None in status) (le-leb capacity (length
-      records) all)
-
-  pub has_room : b ≡ false → n < capacity
-  has_room is = ⊎_elim (λ (less : n < capacity). less) (λ (most : capacity ≤ n). absurd (not_so b _ tells is most))
-      (cases_lt n capacity)
-
-  pub not_full : b ≡ false → full capacity records ≡ None
-  not_full is =
-      let room = has_room is in
-      let left : length records < capacity = omega (arith, room, many) in
-      ap (λ (h : Bool). let status : Option Sw = if h then Some NO_ROOM else None in status)
-      (lt-leb capacity (length records) left)
-
 -- what a call answers that nothing refuses is the store's answer
 module _ {T : Type 0} (r : Result T StoreErr) (s : Result T BodyErr)
     (is : result_err s ≡ option_map Store (result_err r)) where
@@ -88,14 +52,6 @@ module _ {T : Type 0} (r : Result T StoreErr) (s : Result T BodyErr)
       decides : (told : Option StoreErr) → Decides refusal (option_map Store told)
       decides None = none
       decides (Some e) = none
-
-  pub store_undecided : (refusal : Option Sw) → refusal ≡ None → DecidesUnlessFailed refusal (result_err s)
-  store_undecided refusal none =
-      subst (λ (answer : Option BodyErr). DecidesUnlessFailed refusal answer) (sym is) (decides (result_err r))
-    where
-      decides : (told : Option StoreErr) → DecidesUnlessFailed refusal (option_map Store told)
-      decides None = none
-      decides (Some e) = tt
 
   pub store_refuses : (fact : Type 0) → IfRefused (result_err s) fact
   store_refuses fact = subst (λ (answer : Option BodyErr). IfRefused answer fact) (sym is) (refuses (result_err r))
@@ -121,11 +77,15 @@ module _ {T : Type 0} (r : Result T StoreErr) (s : Result T BodyErr)
       done (Err e) (Ok y) is fact holds = cc
       done r (Err e) is fact holds = tt
 
--- a call that fails as one that it made: what that tells of the store, it tells too
-pub changes_fail : {T : Type 0} (n : ℕ) (old new : Memory) (r : Result T BodyErr) (e : BodyErr)
-    → IsErrAnd r (λ b. b ≡ e) → Changes n old new (failure (Some e)) → Changes n old new (failure (result_err r))
-changes_fail n old new r e is changes =
-    subst (λ (why : Option BodyErr). Changes n old new (failure why)) (told_is r e is) changes
+-- what a look refuses, handed on
+module _ {T : Type 0} (r : Result T BodyErr) (status : Sw) (is : IsErrAnd r (λ b. b ≡ Refused status)) where
+  pub refused_decides : (refusal : Option Sw) → refusal ≡ Some status → Decides refusal (result_err r)
+  refused_decides refusal due =
+      subst (λ (answer : Option BodyErr). Decides refusal answer) (told_is r (Refused status) is) due
+
+  pub refused_undecided : (refusal : Option Sw) → refusal ≡ Some status → DecidesUnlessFailed refusal (result_err r)
+  refused_undecided refusal due =
+      subst (λ (answer : Option BodyErr). DecidesUnlessFailed refusal answer) (told_is r (Refused status) is) due
 
 -- what holds anyway holds of a success
 pub ok_anyway : {T E : Type 0} (r : Result T E) (fact : Type 0) → fact → OnOk r fact

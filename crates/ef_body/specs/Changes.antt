@@ -34,6 +34,13 @@ pub record LinearBecomes (m : List ℕ) (body : Linear) (records : List (List �
   pub blocks : chain_of after body.chain ≡ chain_of m body.chain
   pub only : OnlyBody m (chain_of m body.chain) body.told_at after
 
+-- A ring has these records, of which the first lies where it lay before, and all else stays.
+pub record RecordsBecome (m : List ℕ) (ring : Cyclic) (records : List (List ℕ)) (after : List ℕ) : Type 0 where
+  pub becomes : cyclic_records after ring ≡ records
+  pub start : start_told after ring.told_at ≡ ring.start
+  pub blocks : chain_of after ring.chain ≡ chain_of m ring.chain
+  pub only : OnlyBody m (chain_of m ring.chain) ring.told_at after
+
 -- A cyclic body has these records, of which the first lies in the slot before that of record 1 before, and all else
 -- stays.
 pub record CyclicBecomes (m : List ℕ) (body : Cyclic) (records : List (List ℕ)) (after : List ℕ) : Type 0 where

@@ -1,5 +1,6 @@
 //! Cyclic bodies: records of one length, the newest first (ETSI TS 102 221, 8.2.2.3).
-ghost use Rattle.std.specs.Prelude.{◌≡◌, ◌≤◌, ◌<◌, ◌⊎◌, ◌↔◌, ◌+◌, [], min, length, None, Some, IsTrue, OnOk};
+ghost use Rattle.std.specs.Prelude.{◌≡◌, ◌≤◌, ◌<◌, ◌⊎◌, ◌↔◌, ◌+◌, [], min, length, None, Some, IsTrue, IfOk};
+ghost use Rattle.std.specs.Prelude.{ℕ, List, OnOk};
 ghost use Rattle.std.specs.Result.{result_err};
 ghost use Rattle.undo_journal.specs.Commits.{CommitsByGate};
 ghost use Rattle.undo_journal.specs.Memory.{committed, IsReady};
@@ -17,13 +18,13 @@ ghost use Rattle.ef_body.specs.Changes.{CyclicBecomes, Increases};
 
 use crate::error::{BodyErr, from_store};
 use crate::number::add;
-use crate::reading::read_record;
-use crate::search::{Direction, search_records};
+use crate::search::Direction;
+use crate::slot::RecordSlot;
 use crate::writing::put_front;
 use arrayvec::ArrayVec;
 use block_chain::Chain;
 use card_rules::Sw;
-use undo_journal::{Board, Store};
+use undo_journal::{Board, Store, StoreErr};
 
 /// A cyclic body: the chain of its blocks, the length of a record in bytes (1 to 255), how many records it has room
 /// for (1 to 254) and how many there are, the slot of record 1, and the address of the word of its entry that tells
@@ -40,10 +41,25 @@ pub struct Cyclic {
 
 impl Cyclic {
     /// Whether there is a record of this number, 1 the newest.
-    pub fn has_record(self, number: u16) -> bool
+    fn has_record(self, number: u16) -> bool
         ensures { IsTrue result ↔ ((1 ≤ number) × (number ≤ self.records)) }
     {
         (1..=self.records).contains(&number)
+    }
+
+    /// Looks for the record of a number, 1 the newest.
+    ///
+    /// # Errors
+    /// 6A83 exactly where there is no such record.
+    pub fn find(self, number: u16) -> Result<RecordSlot, Sw>
+        ensures found { IfOk result (λ slot. (slot.ring ≡ self) × (slot.number ≡ number)) }
+        ensures refusal { (records : List (List ℕ)) → length records ≡ self.records
+            → missing_record records number ≡ result_err result }
+    {
+        if !self.has_record(number) {
+            return Err(Sw::RECORD_NOT_FOUND);
+        }
+        Ok(RecordSlot { ring: self, number })
     }
 
     /// Reads the record of a number into the buffer, in place of what stood there (READ RECORD, ISO/IEC 7816-4,
@@ -70,10 +86,8 @@ impl Cyclic {
         ensures store { Reads store.old store.new (failure (result_err result)) }
     {
         bytes.clear();
-        if !self.has_record(number) {
-            return Err(BodyErr::Refused(Sw::RECORD_NOT_FOUND));
-        }
-        from_store(read_record(self, store, number, bytes))
+        let slot = self.find(number)?;
+        from_store(slot.read(store, bytes))
     }
 
     /// Puts a record in front and drops the oldest one, in one transaction: the number of records stays (UPDATE
@@ -95,10 +109,8 @@ impl Cyclic {
         ensures by_gate { CommitsByGate store.old store.new }
         ensures store { Changes RECORD_WRITES store.old store.new (failure (result_err result)) }
     {
-        if !self.has_record(1) {
-            return Err(BodyErr::Refused(Sw::RECORD_NOT_FOUND));
-        }
-        from_store(put_front(self, store, bytes, self.records))
+        let newest = self.find(1)?;
+        from_store(newest.replace_oldest(store, bytes))
     }
 
     /// Adds a record in front, in one transaction: where there is room for no more, the oldest one is dropped (APPEND
@@ -119,7 +131,26 @@ impl Cyclic {
         ensures by_gate { CommitsByGate store.old store.new }
         ensures store { Changes RECORD_WRITES store.old store.new (failure (result_err result)) }
     {
-        from_store(put_front(self, store, bytes, self.appended()))
+        from_store(self.push_front(store, bytes))
+    }
+
+    /// The same, answered as the store answers it.
+    ///
+    /// # Errors
+    /// What the store answers: then the records are as before, or with the new one.
+    pub fn push_front<B: Board>(self, store: &mut Store<B>, bytes: &[u8]) -> Result<(), StoreErr>
+        requires ready { IsReady store.old }
+        requires body { IsCyclic (committed store.old) self }
+        requires size { length bytes.now ≡ self.record_length }
+        ensures any_exit { (committed store.new ≡ committed store.old)
+            ⊎ CyclicBecomes (committed store.old) self (front self.capacity bytes.now (cyclic_records (committed
+            store.old) self)) (committed store.new) }
+        ensures done { OnOk result (CyclicBecomes (committed store.old) self (front self.capacity bytes.now
+            (cyclic_records (committed store.old) self)) (committed store.new)) }
+        ensures by_gate { CommitsByGate store.old store.new }
+        ensures store { Changes RECORD_WRITES store.old store.new (result_err result) }
+    {
+        put_front(self, store, bytes, self.appended())
     }
 
     /// How many records there are with one more: as many as there is room for at most.
@@ -157,16 +188,44 @@ impl Cyclic {
             (result_err result) }
         ensures store { Reads store.old store.new (failure (result_err result)) }
     {
+        self.raise(store, sent, bytes)?;
+        Ok(())
+    }
+
+    /// Looks whether record 1 can be raised by the sent number: puts the sum into the buffer as `sum` does, and answers
+    /// the receipt of record 1. `RecordSlot::replace_oldest` stores the sum then, and refuses nothing.
+    ///
+    /// # Errors
+    /// As of `sum`.
+    pub fn raise<B: Board, const N: usize>(
+        self,
+        store: &mut Store<B>,
+        sent: &[u8],
+        bytes: &mut ArrayVec<u8, N>,
+    ) -> Result<RecordSlot, BodyErr>
+        requires ready { IsReady store.old }
+        requires body { IsCyclic (committed store.old) self }
+        requires sent { length sent.now ≤ self.record_length }
+        requires room { self.record_length ≤ N }
+        ensures found { IfOk result (λ slot. (slot.ring ≡ self) × (slot.number ≡ 1)) }
+        ensures bytes { OnOk result (bytes.new.items ≡ spelled self.record_length (raised_number (cyclic_records
+            (committed store.old) self) sent.now)) }
+        ensures emptied { IfRefused (result_err result) (bytes.new.items ≡ []) }
+        ensures buffer { AppendsSome [] (record_of (cyclic_records (committed store.old) self) 1) bytes.new.items
+            ⊎ (bytes.new.items ≡ spelled self.record_length (raised_number (cyclic_records (committed store.old) self)
+            sent.now)) }
+        ensures refusal { DecidesUnlessFailed (unraised self.record_length (cyclic_records (committed store.old) self)
+            sent.now) (result_err result) }
+        ensures store { Reads store.old store.new (failure (result_err result)) }
+    {
         bytes.clear();
-        if !self.has_record(1) {
-            return Err(BodyErr::Refused(Sw::RECORD_NOT_FOUND));
-        }
-        read_record(self, store, 1, bytes)?;
+        let newest = self.find(1)?;
+        newest.read(store, bytes)?;
         if add(bytes, sent) {
             bytes.clear();
             return Err(BodyErr::Refused(Sw::MAXIMUM_REACHED));
         }
-        Ok(())
+        Ok(newest)
     }
 
     /// Stores the sum of record 1 and the sent number as a new record in front, in one transaction, and drops the
@@ -202,8 +261,8 @@ impl Cyclic {
         ensures by_gate { CommitsByGate store.old store.new }
         ensures store { Changes RECORD_WRITES store.old store.new (failure (result_err result)) }
     {
-        self.sum(store, sent, bytes)?;
-        from_store(put_front(self, store, bytes, self.records))
+        let newest = self.raise(store, sent, bytes)?;
+        from_store(newest.replace_oldest(store, bytes))
     }
 
     /// Puts the numbers of the records that hold the text into the buffer, in place of what stood there: from the
@@ -234,9 +293,7 @@ impl Cyclic {
         ensures store { Reads store.old store.new (failure (result_err result)) }
     {
         numbers.clear();
-        if !self.has_record(first) {
-            return Err(BodyErr::Refused(Sw::RECORD_NOT_FOUND));
-        }
-        from_store(search_records(self, store, direction, first, text, numbers))
+        let slot = self.find(first)?;
+        from_store(slot.search(store, direction, text, numbers))
     }
 }

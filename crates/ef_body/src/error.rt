@@ -1,7 +1,7 @@
 //! Why a call on a body fails.
 ghost use Rattle.std.specs.Prelude.{◌≡◌, option_map};
 ghost use Rattle.std.specs.Result.{result_err};
-ghost use Rattle.ef_body.specs.declared.error.BodyErr.TheVariants.{Store};
+ghost use Rattle.ef_body.specs.declared.error.BodyErr.TheVariants.{Refused, Store};
 
 use card_rules::Sw;
 use undo_journal::StoreErr;
@@ -20,6 +20,14 @@ impl From<StoreErr> for BodyErr {
 
     fn from(e: StoreErr) -> Self {
         BodyErr::Store(e)
+    }
+}
+
+impl From<Sw> for BodyErr {
+    ghost from_gives = { λ status r. r ≡ Refused status };
+
+    fn from(status: Sw) -> Self {
+        BodyErr::Refused(status)
     }
 }
 

@@ -10,6 +10,7 @@ mod linear;
 mod number;
 mod reading;
 mod search;
+mod slot;
 mod transparent;
 mod writing;
 
@@ -18,4 +19,5 @@ pub use error::BodyErr;
 pub use layout::{MOST_RECORD_BYTES, RECORD_WRITES, UPDATE_WRITES};
 pub use linear::Linear;
 pub use search::Direction;
+pub use slot::{FreeSlot, RecordSlot};
 pub use transparent::Transparent;

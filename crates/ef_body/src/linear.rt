@@ -1,6 +1,6 @@
 //! Linear bodies: records of one length, in number order (ETSI TS 102 221, 8.2.2.2).
 ghost use Rattle.std.specs.Prelude.{◌≡◌, ◌≤◌, ◌<◌, ◌+◌, ◌-◌, ◌*◌, ◌⊎◌, ◌↔◌, ◌++◌, ◌∷◌, [], length, slice_set, IsTrue};
-ghost use Rattle.std.specs.Prelude.{OnOk};
+ghost use Rattle.std.specs.Prelude.{ℕ, List, IfOk, OnOk};
 ghost use Rattle.std.specs.Result.{result_err};
 ghost use Rattle.undo_journal.specs.Commits.{CommitsByGate};
 ghost use Rattle.undo_journal.specs.Memory.{committed, IsReady};
@@ -16,7 +16,7 @@ ghost use Rattle.ef_body.specs.Changes.{LinearBecomes};
 use crate::cyclic::Cyclic;
 use crate::error::{BodyErr, from_store};
 use crate::search::Direction;
-use crate::writing::{counts, put_bytes, put_record};
+use crate::slot::{FreeSlot, RecordSlot};
 use arrayvec::ArrayVec;
 use block_chain::Chain;
 use card_rules::Sw;
@@ -34,20 +34,6 @@ pub struct Linear {
 }
 
 impl Linear {
-    /// Whether there is a record of this number, 1 the first.
-    pub fn has_record(self, number: u16) -> bool
-        ensures { IsTrue result ↔ ((1 ≤ number) × (number ≤ self.records)) }
-    {
-        (1..=self.records).contains(&number)
-    }
-
-    /// Whether there is no room for one more record.
-    pub fn is_full(self) -> bool
-        ensures { IsTrue result ↔ (self.capacity ≤ self.records) }
-    {
-        self.capacity <= self.records
-    }
-
     /// The same body as a cyclic one, whose record 1 lies in slot 0: its slots are never followed past the last one.
     fn ring(self) -> Cyclic
         ensures { result ≡ ring_of self }
@@ -60,6 +46,40 @@ impl Linear {
             start: 0,
             told_at: self.told_at,
         }
+    }
+
+    /// Looks for the record of a number, 1 the first.
+    ///
+    /// # Errors
+    /// 6A83 exactly where there is no such record.
+    pub fn find(self, number: u16) -> Result<RecordSlot, Sw>
+        ensures found { IfOk result (λ slot. (slot.ring ≡ ring_of self) × (slot.number ≡ number)) }
+        ensures refusal { (records : List (List ℕ)) → length records ≡ self.records
+            → missing_record records number ≡ result_err result }
+    {
+        self.ring().find(number)
+    }
+
+    /// Whether there is no room for one more record.
+    fn is_full(self) -> bool
+        ensures { IsTrue result ↔ (self.capacity ≤ self.records) }
+    {
+        self.capacity <= self.records
+    }
+
+    /// Looks for room behind the last record.
+    ///
+    /// # Errors
+    /// 6A84 exactly where there are as many records as there is room for.
+    pub fn find_room(self) -> Result<FreeSlot, Sw>
+        ensures found { IfOk result (λ slot. slot.ring ≡ ring_of self) }
+        ensures refusal { (records : List (List ℕ)) → length records ≡ self.records
+            → full self.capacity records ≡ result_err result }
+    {
+        if self.is_full() {
+            return Err(Sw::NO_ROOM);
+        }
+        Ok(FreeSlot { ring: self.ring() })
     }
 
     /// Reads the record of a number into the buffer, in place of what stood there (READ RECORD, ISO/IEC 7816-4,
@@ -112,11 +132,8 @@ impl Linear {
         ensures by_gate { CommitsByGate store.old store.new }
         ensures store { Changes UPDATE_WRITES store.old store.new (failure (result_err result)) }
     {
-        if !self.has_record(number) {
-            return Err(BodyErr::Refused(Sw::RECORD_NOT_FOUND));
-        }
-        let offset = (number - 1) * self.record_length;
-        from_store(put_bytes(store, self.chain, offset, bytes))
+        let slot = self.find(number)?;
+        from_store(slot.replace(store, bytes))
     }
 
     /// Adds a record behind the last one, in one transaction: its bytes, and then how many there are (APPEND RECORD,
@@ -139,12 +156,8 @@ impl Linear {
         ensures by_gate { CommitsByGate store.old store.new }
         ensures store { Changes RECORD_WRITES store.old store.new (failure (result_err result)) }
     {
-        if self.is_full() {
-            return Err(BodyErr::Refused(Sw::NO_ROOM));
-        }
-        let offset = self.records * self.record_length;
-        let told = counts(self.records + 1, 0);
-        from_store(put_record(store, self.chain, offset, bytes, self.told_at, told))
+        let slot = self.find_room()?;
+        from_store(slot.append(store, bytes))
     }
 
     /// Puts the numbers of the records that hold the text into the buffer, in place of what stood there: from the

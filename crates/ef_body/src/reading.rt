@@ -9,7 +9,7 @@ ghost use Rattle.block_chain.specs.declared.layout.TheConstants.{BLOCK_BYTES};
 ghost use Rattle.ef_body.specs.Records.{record_of};
 ghost use Rattle.ef_body.specs.Bodies.{cyclic_records, IsCyclic};
 
-use crate::cyclic::Cyclic;
+use crate::slot::{RecordSlot, offset_of, slot_of};
 use arrayvec::ArrayVec;
 use block_chain::{Chain, read_bytes};
 use undo_journal::{Board, Store, StoreErr};
@@ -36,24 +36,33 @@ pub(crate) fn read_anew<B: Board, const N: usize>(
     read_bytes(store, chain, offset, count, bytes)
 }
 
-/// Reads the record of a number, which exists, into the empty buffer.
-pub(crate) fn read_record<B: Board, const N: usize>(
-    body: Cyclic,
-    store: &mut Store<B>,
-    number: u16,
-    bytes: &mut ArrayVec<u8, N>,
-) -> Result<(), StoreErr>
-    requires ready { IsReady store.old }
-    requires body { IsCyclic (committed store.old) body }
-    requires first { 1 ≤ number }
-    requires last { number ≤ body.records }
-    requires room { body.record_length ≤ N }
-    requires empty { bytes.old.items ≡ [] }
-    ensures bytes { OnOk result (bytes.new.items ≡ record_of (cyclic_records (committed store.old) body) number) }
-    ensures any_exit { AppendsSome [] (record_of (cyclic_records (committed store.old) body) number) bytes.new.items }
-    ensures store { Reads store.old store.new (result_err result) }
-{
-    let slot = (body.start + number - 1) % body.capacity;
-    let offset = slot * body.record_length;
-    read_anew(store, body.chain, offset, body.record_length, bytes)
+impl RecordSlot {
+    /// Reads the record into the buffer, in place of what stood there (READ RECORD, ISO/IEC 7816-4, 11.4.3).
+    ///
+    /// # Errors
+    /// What the store answers: then the buffer may hold some of its bytes, from the first on. It refuses nothing.
+    pub fn read<B: Board, const N: usize>(
+        self,
+        store: &mut Store<B>,
+        bytes: &mut ArrayVec<u8, N>,
+    ) -> Result<(), StoreErr>
+        requires ready { IsReady store.old }
+        requires body { IsCyclic (committed store.old) self.ring }
+        requires room { self.ring.record_length ≤ N }
+        ensures bytes { OnOk result (bytes.new.items
+            ≡ record_of (cyclic_records (committed store.old) self.ring) self.number) }
+        ensures any_exit { AppendsSome [] (record_of (cyclic_records (committed store.old) self.ring) self.number)
+            bytes.new.items }
+        ensures store { Reads store.old store.new (result_err result) }
+    {
+        bytes.clear();
+        let offset = offset_of(self.ring, slot_of(self.ring, self.number));
+        read_anew(
+            store,
+            self.ring.chain,
+            offset,
+            self.ring.record_length,
+            bytes,
+        )
+    }
 }

@@ -12,7 +12,7 @@ ghost use Rattle.ef_body.specs.Bodies.{cyclic_records, IsCyclic};
 
 use crate::cyclic::Cyclic;
 use crate::layout::MOST_RECORD_BYTES;
-use crate::reading::read_record;
+use crate::slot::RecordSlot;
 use arrayvec::ArrayVec;
 use undo_journal::{Board, Store, StoreErr};
 
@@ -61,7 +61,8 @@ fn record_holds<B: Board>(
     ensures store { Reads store.old store.new (result_err result) }
 {
     let mut bytes = ArrayVec::<u8, MOST_RECORD_BYTES>::new();
-    read_record(body, store, number, &mut bytes)?;
+    let slot = RecordSlot { ring: body, number };
+    slot.read(store, &mut bytes)?;
     Ok(stands(text, &bytes))
 }
 
@@ -106,7 +107,7 @@ fn note<const N: usize>(numbers: &mut ArrayVec<u8, N>, number: u16, holds: bool)
 }
 
 /// Puts the numbers of the records that hold the text into the empty buffer, from the record of a number on.
-pub(crate) fn search_records<B: Board, const N: usize>(
+fn search_records<B: Board, const N: usize>(
     body: Cyclic,
     store: &mut Store<B>,
     direction: Direction,
@@ -133,4 +134,32 @@ pub(crate) fn search_records<B: Board, const N: usize>(
         note(numbers, number, holds);
     }
     Ok(())
+}
+
+impl RecordSlot {
+    /// Puts the numbers of the records that hold the text into the buffer, in place of what stood there: from this
+    /// record on up to the last one, or down to record 1, without wrapping around (SEARCH RECORD, ISO/IEC 7816-4,
+    /// 11.4.7).
+    ///
+    /// # Errors
+    /// What the store answers: then the buffer may hold some of the numbers, from the first on. It refuses nothing.
+    pub fn search<B: Board, const N: usize>(
+        self,
+        store: &mut Store<B>,
+        direction: Direction,
+        text: &[u8],
+        numbers: &mut ArrayVec<u8, N>,
+    ) -> Result<(), StoreErr>
+        requires ready { IsReady store.old }
+        requires body { IsCyclic (committed store.old) self.ring }
+        requires room { self.ring.records ≤ N }
+        ensures numbers { OnOk result (numbers.new.items
+            ≡ found direction self.number text.now (cyclic_records (committed store.old) self.ring)) }
+        ensures any_exit { AppendsSome [] (found direction self.number text.now (cyclic_records (committed store.old)
+            self.ring)) numbers.new.items }
+        ensures store { Reads store.old store.new (result_err result) }
+    {
+        numbers.clear();
+        search_records(self.ring, store, direction, self.number, text, numbers)
+    }
 }

@@ -1,5 +1,5 @@
 //! The words of bodies that are written, each time in one transaction.
-ghost use Rattle.std.specs.Prelude.{◌≡◌, ◌⊎◌, ◌≤◌, ◌<◌, ◌+◌, ◌*◌, ◌-◌, ◌%◌, length, OnOk};
+ghost use Rattle.std.specs.Prelude.{◌≡◌, ◌⊎◌, ◌≤◌, ◌<◌, ◌+◌, ◌*◌, ◌-◌, ◌++◌, ◌∷◌, [], length, slice_set, OnOk};
 ghost use Rattle.std.specs.Result.{result_err};
 ghost use Rattle.undo_journal.specs.Commits.{CommitsByGate};
 ghost use Rattle.undo_journal.specs.Memory.{committed, current, room, InRuns, IsOpen, IsReady};
@@ -10,18 +10,19 @@ ghost use Rattle.block_chain.specs.Chains.{chain_of as blocks_of_chain, IsChain}
 ghost use Rattle.block_chain.specs.Changes.{Overwrites, touched_blocks, touched_words};
 ghost use Rattle.block_chain.specs.Writes.{put_writes};
 ghost use Rattle.block_chain.specs.declared.layout.TheConstants.{BLOCK_BYTES};
-ghost use Rattle.ef_body.specs.declared.layout.TheConstants.{RECORD_WRITES};
+ghost use Rattle.ef_body.specs.declared.layout.TheConstants.{RECORD_WRITES, UPDATE_WRITES};
 ghost use Rattle.ef_body.specs.Records.{front};
 ghost use Rattle.ef_body.specs.Bodies.{counts_word, cyclic_records, IsCyclic};
 ghost use Rattle.undo_journal.specs.Spending.{transaction_writes};
-ghost use Rattle.ef_body.specs.Changes.{CyclicBecomes, PutsRecord};
+ghost use Rattle.ef_body.specs.Changes.{CyclicBecomes, PutsRecord, RecordsBecome};
 
 use crate::cyclic::Cyclic;
+use crate::slot::{FreeSlot, RecordSlot, offset_of, slot_of};
 use block_chain::{Chain, set_bytes};
 use undo_journal::{Board, Store, StoreErr, Txn};
 
 /// The word of an entry that tells how many records there are, and in which slot record 1 lies.
-pub(crate) fn counts(number: u16, start: u16) -> u32
+fn counts(number: u16, start: u16) -> u32
     ensures { result ≡ counts_word number start }
 {
     0x10000 * u32::from(number) + u32::from(start)
@@ -56,7 +57,7 @@ pub(crate) fn put_bytes<B: Board>(
 
 /// Puts a record's bytes in place of those of a chain from an offset on, and then sets the word of the entry, in one
 /// transaction.
-pub(crate) fn put_record<B: Board>(
+fn put_record<B: Board>(
     store: &mut Store<B>,
     chain: Chain,
     offset: u16,
@@ -129,17 +130,81 @@ pub(crate) fn put_front<B: Board>(
     ensures by_gate { CommitsByGate store.old store.new }
     ensures store { Changes RECORD_WRITES store.old store.new (result_err result) }
 {
-    let start = slot_before(body.start, body.capacity);
-    let offset = start * body.record_length;
+    let start = slot_of(body, body.capacity);
+    let offset = offset_of(body, start);
     let told = counts(records, start);
     put_record(store, body.chain, offset, bytes, body.told_at, told)
 }
 
-/// The slot before a slot: before the first one lies the last one.
-fn slot_before(slot: u16, capacity: u16) -> u16
-    requires slot { slot < capacity }
-    requires few { capacity ≤ 254 }
-    ensures { result ≡ (slot + capacity - 1) % capacity }
-{
-    (slot + capacity - 1) % capacity
+impl RecordSlot {
+    /// Puts a record in place of this one, in one transaction (UPDATE RECORD, ISO/IEC 7816-4, 11.4.5).
+    ///
+    /// # Errors
+    /// What the store answers: then the old record stands, or the new one. It refuses nothing.
+    pub fn replace<B: Board>(self, store: &mut Store<B>, bytes: &[u8]) -> Result<(), StoreErr>
+        requires ready { IsReady store.old }
+        requires body { IsCyclic (committed store.old) self.ring }
+        requires size { length bytes.now ≡ self.ring.record_length }
+        ensures any_exit { (committed store.new ≡ committed store.old)
+            ⊎ RecordsBecome (committed store.old) self.ring (slice_set (cyclic_records (committed store.old) self.ring)
+            (self.number - 1) bytes.now) (committed store.new) }
+        ensures done { OnOk result (RecordsBecome (committed store.old) self.ring (slice_set (cyclic_records (committed
+            store.old) self.ring) (self.number - 1) bytes.now) (committed store.new)) }
+        ensures by_gate { CommitsByGate store.old store.new }
+        ensures store { Changes UPDATE_WRITES store.old store.new (result_err result) }
+    {
+        let offset = offset_of(self.ring, slot_of(self.ring, self.number));
+        put_bytes(store, self.ring.chain, offset, bytes)
+    }
+
+    /// Puts a record in front and drops the oldest one, in one transaction: the number of records stays (UPDATE
+    /// RECORD, PREVIOUS, and INCREASE, ETSI TS 102 221, 11.1.6 and 11.1.8). Which record the receipt is of plays no
+    /// part: that there is one does.
+    ///
+    /// # Errors
+    /// What the store answers: then the records are as before, or with the new one. It refuses nothing.
+    pub fn replace_oldest<B: Board>(
+        self,
+        store: &mut Store<B>,
+        bytes: &[u8],
+    ) -> Result<(), StoreErr>
+        requires ready { IsReady store.old }
+        requires body { IsCyclic (committed store.old) self.ring }
+        requires size { length bytes.now ≡ self.ring.record_length }
+        ensures any_exit { (committed store.new ≡ committed store.old)
+            ⊎ CyclicBecomes (committed store.old) self.ring (front (length (cyclic_records (committed store.old)
+            self.ring)) bytes.now (cyclic_records (committed store.old) self.ring)) (committed store.new) }
+        ensures done { OnOk result (CyclicBecomes (committed store.old) self.ring (front (length (cyclic_records
+            (committed store.old) self.ring)) bytes.now (cyclic_records (committed store.old) self.ring)) (committed
+            store.new)) }
+        ensures by_gate { CommitsByGate store.old store.new }
+        ensures store { Changes RECORD_WRITES store.old store.new (result_err result) }
+    {
+        put_front(self.ring, store, bytes, self.ring.records)
+    }
+}
+
+impl FreeSlot {
+    /// Adds a record behind the last one, in one transaction: its bytes, and then how many there are (APPEND RECORD,
+    /// ISO/IEC 7816-4, 11.4.6).
+    ///
+    /// # Errors
+    /// What the store answers: then the records are as before, or with the new one. It refuses nothing.
+    pub fn append<B: Board>(self, store: &mut Store<B>, bytes: &[u8]) -> Result<(), StoreErr>
+        requires ready { IsReady store.old }
+        requires body { IsCyclic (committed store.old) self.ring }
+        requires size { length bytes.now ≡ self.ring.record_length }
+        ensures any_exit { (committed store.new ≡ committed store.old)
+            ⊎ RecordsBecome (committed store.old) self.ring (cyclic_records (committed store.old) self.ring ++ bytes.now
+            ∷ []) (committed store.new) }
+        ensures done { OnOk result (RecordsBecome (committed store.old) self.ring (cyclic_records (committed store.old)
+            self.ring ++ bytes.now ∷ []) (committed store.new)) }
+        ensures by_gate { CommitsByGate store.old store.new }
+        ensures store { Changes RECORD_WRITES store.old store.new (result_err result) }
+    {
+        let ring = self.ring;
+        let offset = offset_of(ring, slot_of(ring, ring.records + 1));
+        let told = counts(ring.records + 1, ring.start);
+        put_record(store, ring.chain, offset, bytes, ring.told_at, told)
+    }
 }

@@ -7,7 +7,7 @@ use Rattle.std.proofs.lemmas.List.FromFn.{get_or-map-range_with_len, length-map-
 use Rattle.std.proofs.lemmas.List.FromFn.{map-range_with_len_more}
 use Rattle.std.proofs.lemmas.Bool.{cases_lt}
 use Rattle.std.proofs.lemmas.Bool.Decides.{eqb_tells}
-use Rattle.std.specs.Prelude.{◌≡◌, ◌≢◌, ◌<◌, ◌≤◌, ◌+◌, ◌-◌, ◌*◌, ◌%◌, ℕ, zero, suc, List, [], ◌∷◌, ◌++◌, length}
+use Rattle.std.specs.Prelude.{◌≡◌, ◌≢◌, ◌⊎◌, ◌<◌, ◌≤◌, ◌+◌, ◌-◌, ◌*◌, ◌%◌, ℕ, zero, suc, List, [], ◌∷◌, ◌++◌, length}
 use Rattle.std.specs.Prelude.{slice_index_or, slice_set}
 use Rattle.std.proofs.Math.Nat.{mod-lt, mod-eq-sub-mod}
 use Rattle.block_chain.specs.Changes.{overwrite}
@@ -51,62 +51,38 @@ in_order-ring size capacity bytes n few =
     ∙ ap (slot size bytes) (ap (λ (i : ℕ). i % capacity) place ∙ slot-here k capacity (omega (arith, small, few)))
     ∙ sym (at-in_order size bytes n k d small))
 
--- a record in place of another
-pub in_order-put : (size : ℕ) (bytes : List ℕ) (n i : ℕ) (new : List ℕ) → length new ≡ size → n * size ≤ length bytes
-    → i < n → in_order size (overwrite bytes (i * size) new) n ≡ slice_set (in_order size bytes n) i new
-in_order-put size bytes n i new long fits lt =
-    let here = length-in_order size (overwrite bytes (i * size) new) n in
-    let there = length-set (in_order size bytes n) i new ∙ length-in_order size bytes n in
-    let old = length-in_order size bytes n in
-    let within : i * size + size ≤ length bytes = (let w = slot-within size i n lt in omega (arith, w, fits)) in
-    same_lists _ _ (here ∙ sym there) (λ k d small.
-    let below : k < n = omega (arith, small, here) in
-    at-in_order size (overwrite bytes (i * size) new) n k d below
-    ∙ elim (eqb_tells k i) [
-      | inl same ↦
-          let inside : i < length (in_order size bytes n) = omega (arith, old, lt) in
-          ap (slot size (overwrite bytes (i * size) new)) same.1 ∙ slot-put_same size bytes i new long within
-          ∙ sym (ap (λ (j : ℕ). slice_index_or (slice_set (in_order size bytes n) i new) j d) same.1
-          ∙ get_or-set_same (in_order size bytes n) i new d inside)
-      | inr other ↦
-          let inside : k * size + size ≤ length bytes = (let w = slot-within size k n below in omega (
-            arith,
-            w,
-            fits,
-          )) in
-          slot-put_other size bytes i new long within k other.1 inside
-          ∙ sym (get_or-set_other (in_order size bytes n) i k new d other.1 ∙ at-in_order size bytes n k d below)
-    ])
+-- one record more lies in the slot behind the others
+pub newest_first-more : (size capacity : ℕ) (bytes : List ℕ) (start n : ℕ)
+    → newest_first size capacity bytes start (n + 1)
+    ≡ newest_first size capacity bytes start n ++ slot size bytes ((start + n) % capacity) ∷ []
+unfolding newest_first
+newest_first-more size capacity bytes start n =
+    let place : 0 + n ≡ n = omega arith in
+    map-range_with_len_more (λ i. slot size bytes ((start + i) % capacity)) 0 n n place
 
--- one record more lies behind the others
-pub in_order-more : (size : ℕ) (bytes : List ℕ) (n : ℕ)
-    → in_order size bytes (n + 1) ≡ in_order size bytes n ++ slot size bytes n ∷ []
-unfolding in_order
-in_order-more size bytes n = let place : 0 + n ≡ n = omega arith in map-range_with_len_more (slot size bytes) 0 n n
-    place
+-- the slot of a record: it lies before the end, or goes on at the first slot
+slot-is : (start capacity k : ℕ) → start < capacity → k < capacity
+    → ((start + k < capacity) × ((start + k) % capacity ≡ start + k))
+    ⊎ ((capacity ≤ start + k) × ((start + k) % capacity ≡ start + k - capacity))
+slot-is start capacity k lt small = ⊎_elim
+    (λ (low : start + k < capacity). inl (low, slot-here (start + k) capacity low))
+    (λ (high : capacity ≤ start + k). inr (high, slot-around (start + k) capacity high (omega (arith, lt, small))))
+    (cases_lt (start + k) capacity)
 
--- a record in a slot behind theirs leaves them
-pub in_order-before : (size : ℕ) (bytes : List ℕ) (n : ℕ) (new : List ℕ) → length new ≡ size
-    → n * size + size ≤ length bytes → in_order size (overwrite bytes (n * size) new) n ≡ in_order size bytes n
-in_order-before size bytes n new long fits =
-    let here = length-in_order size (overwrite bytes (n * size) new) n in
-    let there = length-in_order size bytes n in
-    same_lists _ _ (here ∙ sym there) (λ k d small.
-    let below : k < n = omega (arith, small, here) in
-    let inside : k * size + size ≤ length bytes = (let w = slot-within size k n below in omega (arith, w, fits)) in
-    let other : k ≢ n = λ same. let z : ⊥ = omega (arith, below, same) in z in
-    at-in_order size (overwrite bytes (n * size) new) n k d below
-    ∙ slot-put_other size bytes n new long fits k other inside
-    ∙ sym (at-in_order size bytes n k d below))
-
--- a record behind the last one
-pub in_order-added : (size : ℕ) (bytes : List ℕ) (n : ℕ) (new : List ℕ) → length new ≡ size
-    → n * size + size ≤ length bytes
-    → in_order size (overwrite bytes (n * size) new) (n + 1) ≡ in_order size bytes n ++ new ∷ []
-in_order-added size bytes n new long fits =
-    in_order-more size (overwrite bytes (n * size) new) n
-    ∙ ap₂ (λ (rs : List (List ℕ)) (r : List ℕ). rs ++ r ∷ []) (in_order-before size bytes n new long fits)
-    (slot-put_same size bytes n new long fits)
+-- different records lie in different slots
+pub slots-differ : (start capacity i k : ℕ) → start < capacity → i < capacity → k < capacity → k ≢ i
+    → (start + k) % capacity ≢ (start + i) % capacity
+slots-differ start capacity i k lt small_i small_k other same =
+    elim (slot-is start capacity i lt small_i) [
+      | inl a ↦ elim (slot-is start capacity k lt small_k) [
+        | inl b ↦ let z : ⊥ = omega (arith, a.1, b.1, same, other) in z
+        | inr b ↦ let z : ⊥ = omega (arith, a.1, b.0, b.1, same, small_k) in z
+      ]
+      | inr a ↦ elim (slot-is start capacity k lt small_k) [
+        | inl b ↦ let z : ⊥ = omega (arith, a.0, a.1, b.1, same, small_i) in z
+        | inr b ↦ let z : ⊥ = omega (arith, a.0, a.1, b.0, b.1, same, other) in z
+      ]
+    ]
 
 -- the slot before that of record 1
 abbrev pub slot_before : ℕ → ℕ → ℕ
@@ -142,26 +118,11 @@ slot_before-next start capacity k lt small = ⊎_elim
 pub slot_before-other : (start capacity k : ℕ) → start < capacity → k + 1 < capacity
     → (start + k) % capacity ≢ slot_before start capacity
 slot_before-other start capacity k lt small same =
-    let before : slot_before start capacity < capacity = slot_before-small start capacity lt in
-    ⊎_elim
-    (λ (none : start < 1).
-    let first : start + capacity - 1 < capacity = omega (arith, none, lt) in
-    let e = slot-here (start + capacity - 1) capacity first in
-    let f = slot-here (start + k) capacity (omega (arith, none, small)) in
-    let z : ⊥ = omega (arith, e, f, same, none, small) in z)
-    (λ (some : 1 ≤ start).
-    let e = slot-around (start + capacity - 1) capacity (omega (arith, some)) (omega (arith, lt)) in
-    ⊎_elim
-    (λ (low : start + k < capacity).
-    let f = slot-here (start + k) capacity low in
-    let z : ⊥ = omega (arith, e, f, same, some, small) in z)
-    (λ (high : capacity ≤ start + k).
-    let f = slot-around (start + k) capacity high (omega (arith, lt, small)) in
-    let z : ⊥ = omega (arith, e, f, same, some, small) in z)
-    (cases_lt (start + k) capacity))
-    (cases_lt start 1)
+    let last : start + (capacity - 1) ≡ start + capacity - 1 = omega (arith, lt) in
+    slots-differ start capacity (capacity - 1) k lt (omega (arith, lt)) (omega (arith, small))
+    (λ is. let z : ⊥ = omega (arith, is, small) in z) (same ∙ ap (λ (n : ℕ). n % capacity) (sym last))
 
--- a record before the others, in the slot before theirs
+-- a record that is put into a slot
 module _ (size capacity : ℕ) (bytes : List ℕ) (start n : ℕ) (new : List ℕ) (long : length new ≡ size)
     (fits : capacity * size ≤ length bytes) (lt : start < capacity) where
   abbrev pub before : ℕ
@@ -179,6 +140,64 @@ module _ (size capacity : ℕ) (bytes : List ℕ) (start n : ℕ) (new : List �
       let some : 0 < capacity = omega (arith, lt) in
       let w = slot-within size (a % capacity) capacity (mod-lt a some) in omega (arith, w, fits)
 
+  -- into that of one, which leaves the others
+  put_elsewhere : (i k : ℕ) → i < capacity → k < capacity → k ≢ i
+      → slot size (overwrite bytes ((start + i) % capacity * size) new) ((start + k) % capacity)
+      ≡ slot size bytes ((start + k) % capacity)
+  put_elsewhere i k small_i small_k other =
+      slot-put_other size bytes ((start + i) % capacity) new long (slot_within (start + i)) ((start + k) % capacity)
+      (slots-differ start capacity i k lt small_i small_k other) (slot_within (start + k))
+
+  -- in place of it
+  pub newest_first-put : (i : ℕ) → i < n → n ≤ capacity
+      → newest_first size capacity (overwrite bytes ((start + i) % capacity * size) new) start n
+      ≡ slice_set (newest_first size capacity bytes start n) i new
+  newest_first-put i inside few =
+      let at = (start + i) % capacity in
+      let here = length-newest_first size capacity (overwrite bytes (at * size) new) start n in
+      let old = length-newest_first size capacity bytes start n in
+      let there = length-set (newest_first size capacity bytes start n) i new ∙ old in
+      same_lists _ _ (here ∙ sym there) (λ k d small.
+      let below : k < n = omega (arith, small, here) in
+      at-newest_first size capacity (overwrite bytes (at * size) new) start n k d below
+      ∙ elim (eqb_tells k i) [
+        | inl same ↦
+            let room : i < length (newest_first size capacity bytes start n) = omega (arith, old, inside) in
+            ap (λ (j : ℕ). slot size (overwrite bytes (at * size) new) ((start + j) % capacity)) same.1
+            ∙ slot-put_same size bytes at new long (slot_within (start + i))
+            ∙ sym (ap (λ (j : ℕ). slice_index_or (slice_set (newest_first size capacity bytes start n) i new) j d)
+            same.1
+            ∙ get_or-set_same (newest_first size capacity bytes start n) i new d room)
+        | inr other ↦
+            put_elsewhere i k (omega (arith, inside, few)) (omega (arith, below, few)) other.1
+            ∙ sym (get_or-set_other (newest_first size capacity bytes start n) i k new d other.1
+            ∙ at-newest_first size capacity bytes start n k d below)
+      ])
+
+  -- behind the last one
+  newest_first-before : n < capacity
+      → newest_first size capacity (overwrite bytes ((start + n) % capacity * size) new) start n
+      ≡ newest_first size capacity bytes start n
+  newest_first-before room =
+      let at = (start + n) % capacity in
+      let here = length-newest_first size capacity (overwrite bytes (at * size) new) start n in
+      let there = length-newest_first size capacity bytes start n in
+      same_lists _ _ (here ∙ sym there) (λ k d small.
+      let below : k < n = omega (arith, small, here) in
+      let other : k ≢ n = λ same. let z : ⊥ = omega (arith, below, same) in z in
+      at-newest_first size capacity (overwrite bytes (at * size) new) start n k d below
+      ∙ put_elsewhere n k room (omega (arith, below, room)) other
+      ∙ sym (at-newest_first size capacity bytes start n k d below))
+
+  pub newest_first-back : n < capacity
+      → newest_first size capacity (overwrite bytes ((start + n) % capacity * size) new) start (n + 1)
+      ≡ newest_first size capacity bytes start n ++ new ∷ []
+  newest_first-back room =
+      newest_first-more size capacity (overwrite bytes ((start + n) % capacity * size) new) start n
+      ∙ ap₂ (λ (rs : List (List ℕ)) (r : List ℕ). rs ++ r ∷ []) (newest_first-before room)
+      (slot-put_same size bytes ((start + n) % capacity) new long (slot_within (start + n)))
+
+  -- before the first one, in the slot before theirs
   pub newest_first-front : (many : ℕ) → 1 ≤ many → many ≤ capacity → many ≤ n + 1
       → newest_first size capacity (overwrite bytes (before * size) new) before many
       ≡ front many new (newest_first size capacity bytes start n)

@@ -1,15 +1,12 @@
-use Rattle.std.proofs.Common.{refl, ◌≡◌, ◌+◌, List, ℕ, OnOk, ap, sym, subst, length, ◌∙◌}
-use Rattle.std.specs.Prelude.{min, None}
+use Rattle.std.proofs.Common.{◌≡◌, ◌+◌, ◌∙◌, List, ℕ, OnOk, ap, sym, subst, length}
+use Rattle.std.specs.Prelude.{min}
 use Rattle.std.proofs.Math.Logic.{⊎_map}
-use Rattle.undo_journal.specs.Calls.{Changes}
 use Rattle.undo_journal.specs.Memory.{committed}
-use Rattle.ef_body.specs.declared.layout.TheConstants.{RECORD_WRITES}
 use Rattle.ef_body.specs.Bodies.{cyclic_records}
 use Rattle.ef_body.specs.Changes.{CyclicBecomes}
 use Rattle.ef_body.proofs.Becoming.{length-cyclic}
 use Rattle.ef_body.proofs.Increasing.{front-most}
-use Rattle.ef_body.proofs.Refusing.{store_decides, store_done, store_told}
-use Rattle.ef_body.proofs.cyclic.Cyclic.append.Goals as goal
+use Rattle.ef_body.proofs.cyclic.Cyclic.push_front.Goals as goal
 
 pub returns-clause-any_exit : goal.returns-clause-any_exit
 returns-clause-any_exit g c =
@@ -29,15 +26,6 @@ returns-clause-done g c =
     let is : c.appended.result ≡ min (length rs + 1) c.args.self.capacity =
     c.appended.ensures ∙ ap (λ (n : ℕ). min (n + 1) c.args.self.capacity) (sym (length-cyclic m c.args.self
     c.requires.body)) in
-    store_done c.put_front.result c.from_store.result c.from_store.ensures _
-    (subst (λ (l : List (List ℕ)). OnOk c.put_front.result (CyclicBecomes m c.args.self l (committed
+    subst (λ (l : List (List ℕ)). OnOk c.put_front.result (CyclicBecomes m c.args.self l (committed
     c.put_front.new.store))) (front-most c.appended.result c.args.self.capacity c.args.bytes.now rs is)
-    c.put_front.ensures.done)
-
-pub returns-clause-refusal : goal.returns-clause-refusal
-returns-clause-refusal g c = store_decides c.put_front.result c.from_store.result c.from_store.ensures None refl
-
-pub returns-clause-store : goal.returns-clause-store
-returns-clause-store g c =
-    store_told c.put_front.result c.from_store.result c.from_store.ensures
-    (Changes RECORD_WRITES c.args.store.now c.put_front.new.store) c.put_front.ensures.store
+    c.put_front.ensures.done
