@@ -14,4 +14,7 @@ pub mod Creations
 pub mod Parts
 pub mod CreationParts
 pub mod DeletionParts
+pub mod Keys
+pub mod Indexes
+pub mod IndexParts
 pub mod laws

@@ -28,3 +28,7 @@ pub mod Made
 pub mod Selecting
 pub mod Barring
 pub mod Living
+pub mod Indexes
+pub mod Pruning
+pub mod Indexed
+pub mod Entering

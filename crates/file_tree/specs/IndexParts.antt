@@ -1,0 +1,60 @@
+-- What single steps of a search and of a change of an index find. No public clause names these.
+use Rattle.std.specs.Prelude.{◌≡◌, ◌==◌, ◌<◌, ◌≤◌, ◌/◌, ◌||◌, ◌++◌, ℕ, zero, suc, Bool, not, if◌then◌else◌, List, [], ◌∷◌}
+use Rattle.std.specs.Prelude.{All, Contains, length, slice_index_or, Result, Ok, Err}
+use Rattle.file_tree.specs.declared.entry.Entry.{Entry}
+use Rattle.file_tree.specs.declared.steps.Key.{Key}
+use Rattle.file_tree.specs.declared.index.Place.{Place}
+use Rattle.file_tree.specs.Keys.{IsBefore}
+use Rattle.file_tree.specs.Table.{IsUsed}
+use Rattle.file_tree.specs.Indexes.{AreSorted, IsPlace, place_of}
+
+-- the key of the place with a number
+abbrev pub key_at : List Place → ℕ → Place → Key
+key_at places k d = (slice_index_or places k d).key
+
+-- all places before a number have keys before one, and all from a number on keys behind it
+abbrev pub AreBefore : List Place → Key → ℕ → Type 0
+AreBefore places key low = (k : ℕ) (d : Place) → k < low → IsBefore (key_at places k d) key
+
+abbrev pub AreBehind : List Place → Key → ℕ → Type 0
+AreBehind places key high = (k : ℕ) (d : Place) → high ≤ k → k < length places → IsBefore key (key_at places k d)
+
+-- where a key stands, or where it would
+abbrev pub TellsSearch : List Place → Key → Result ℕ ℕ → Type 0
+TellsSearch places key (Ok at) = (d : Place) → key_at places at d ≡ key
+TellsSearch places key (Err at) = AreBefore places key at × AreBehind places key at
+
+-- how many of 63 places are left after so many halvings
+unfoldable pub halved : ℕ → ℕ
+halved zero = 63
+halved (suc n) = halved n / 2
+
+-- A place is put between those with keys before its own and those with keys behind it.
+pub record Puts (old : List Place) (place : Place) (new : List Place) : Type 0 where
+  pub front : List Place
+  pub back : List Place
+  pub old_is : old ≡ front ++ back
+  pub new_is : new ≡ front ++ place ∷ back
+  pub before : All (λ p. IsBefore p.key place.key) front
+  pub behind : All (λ p. IsBefore place.key p.key) back
+
+-- The places of the files of the entries 1 to before a number, by ascending keys.
+pub record ArePlacesTo (t : List Entry) (end : ℕ) (places : List Place) : Type 0 where
+  pub each : All (IsPlace t) places
+  pub below : All (λ p. p.entry < end) places
+  pub all : (e : ℕ) → 0 < e → e < end → IsUsed t e → Contains places (place_of t e)
+  pub sorted : AreSorted places
+
+-- the parent of an entry by its place; the entry without one is the master file's
+unfoldable pub parent_by : List Place → ℕ → ℕ
+parent_by [] e = 0
+parent_by (p ∷ ps) e = if p.entry == e then p.key.parent else parent_by ps e
+
+-- whether at most so many steps to parents lead from an entry to another one, or it is that
+unfoldable pub leads_by : List Place → ℕ → ℕ → ℕ → Bool
+leads_by places zero top e = e == top
+leads_by places (suc n) top e = (e == top) || leads_by places n top (parent_by places e)
+
+-- whether a place is neither that of an entry's file nor of a file below it
+abbrev pub is_outside : List Place → ℕ → Place → Bool
+is_outside places top p = not (leads_by places 7 top p.entry)

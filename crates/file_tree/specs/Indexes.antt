@@ -1,0 +1,52 @@
+-- The index of a tree: in which entry each file is, by the entry of its parent and its identifier.
+use Rattle.std.specs.Prelude.{◌≡◌, ◌≢◌, ◌<◌, ℕ, if◌then◌else◌, List, [], ◌∷◌, ◌++◌, All, Contains, length, Option, None, Some}
+use Rattle.file_tree.specs.declared.layout.TheConstants.{ENTRIES}
+use Rattle.file_tree.specs.declared.entry.Entry.{Entry}
+use Rattle.file_tree.specs.declared.index.Place.{Place}
+use Rattle.file_tree.specs.declared.index.Index.{Index}
+use Rattle.file_tree.specs.Cards.{Path, Tree, exists}
+use Rattle.file_tree.specs.Keys.{key_for, IsBefore}
+use Rattle.file_tree.specs.Table.{entry_in, IsUsed}
+
+-- where the file of an entry is found
+abbrev pub place_of : List Entry → ℕ → Place
+place_of t e = record { key = key_for (entry_in t e).parent (entry_in t e).identifier; entry = e }
+
+-- A place is that of a file which is not the master file.
+pub record IsPlace (t : List Entry) (place : Place) : Type 0 where
+  pub below : 0 < place.entry
+  pub used : IsUsed t place.entry
+  pub key_is : place.key ≡ key_for (entry_in t place.entry).parent (entry_in t place.entry).identifier
+
+-- each key is before those of all places that follow
+abbrev pub AreSorted : List Place → Type 0
+AreSorted [] = Unit {0}
+AreSorted (place ∷ places) = All (λ p. IsBefore place.key p.key) places × AreSorted places
+
+-- The places are those of all files but the master file, each once, by ascending keys.
+pub record IsIndex (t : List Entry) (index : Index) : Type 0 where
+  pub each : All (IsPlace t) index.places.items
+  pub all : (e : ℕ) → 0 < e → IsUsed t e → Contains index.places.items (place_of t e)
+  pub sorted : AreSorted index.places.items
+
+-- An index is that of a table in which an entry is free.
+pub record IsFreeIn (index : Index) (e : ℕ) : Type 0 where
+  pub entries : List Entry
+  pub size : length entries ≡ ENTRIES
+  pub indexed : IsIndex entries index
+  pub below : 0 < e
+  pub within : e < ENTRIES
+  pub free : (entry_in entries e).kind ≡ 0
+
+-- An entry that was free is that of a file with this parent and identifier, and no other entry is other.
+pub record AddsEntry (t : List Entry) (parent identifier e : ℕ) (after : List Entry) : Type 0 where
+  pub below : 0 < e
+  pub free : (entry_in t e).kind ≡ 0
+  pub used : IsUsed after e
+  pub parent_is : (entry_in after e).parent ≡ parent
+  pub identifier_is : (entry_in after e).identifier ≡ identifier
+  pub others : (f : ℕ) → f ≢ e → entry_in after f ≡ entry_in t f
+
+-- the child of a dedicated file with an identifier: the first that two bytes may name
+abbrev pub child_by_identifier : Tree → Path → ℕ → Option Path
+child_by_identifier tree df id = if exists tree (df ++ id ∷ []) then Some (df ++ id ∷ []) else None

@@ -1,0 +1,180 @@
+//! Where each file is by its parent and identifier, held in working memory, so that no store is read to find it.
+
+ghost use Rattle.std.specs.Prelude.{◌≡◌, ◌≢◌, ◌<◌, ◌≤◌, ℕ, List, All, length, filter, option_map, IfOk};
+ghost use Rattle.std.specs.List.Sorted.{IsSearchInRange};
+ghost use Rattle.std.specs.Result.{result_err};
+ghost use Rattle.undo_journal.specs.Memory.{committed, IsReady};
+ghost use Rattle.undo_journal.specs.Calls.{Reads};
+ghost use Rattle.file_tree.specs.declared.entry.Entry.{Entry};
+ghost use Rattle.file_tree.specs.Table.{table, path_of, IsUsed, IsTable};
+ghost use Rattle.file_tree.specs.Trees.{tree_of, TreeStands};
+ghost use Rattle.file_tree.specs.Changes.{Deletes};
+ghost use Rattle.file_tree.specs.Parts.{TellsChild};
+ghost use Rattle.file_tree.specs.Indexes.{AreSorted, IsIndex, IsFreeIn, AddsEntry, child_by_identifier};
+ghost use Rattle.file_tree.specs.IndexParts.{TellsSearch, Puts, parent_by, leads_by, is_outside};
+
+use crate::kinds;
+use crate::layout::{DEEPEST, ENTRIES_END};
+use crate::look_up::Reached;
+use crate::reading::read_entry;
+use crate::steps::{Key, Steps};
+use arrayvec::ArrayVec;
+use std::cmp::Ordering;
+use undo_journal::{Board, Store, StoreErr};
+
+/// The most places: one for each entry but the master file's.
+const MOST_PLACES: usize = 63;
+
+/// Where a file is: what it is found by, and its entry.
+#[derive(Clone, Copy, Default)]
+struct Place {
+    key: Key,
+    entry: u8,
+}
+
+/// Places by ascending keys.
+type PlaceList = ArrayVec<Place, MOST_PLACES>;
+
+/// Where each file of a tree is but the master file, by ascending keys.
+#[derive(Drop)]
+pub struct Index {
+    places: PlaceList,
+}
+
+/// Where a key stands among places with ascending keys, or else where it would stand. Each comparison halves what is left
+/// of them.
+fn search(places: &[Place], key: Key, steps: &mut Steps) -> Result<usize, usize>
+    requires few { length places.now ≤ 63 }
+    requires fresh { steps.old ≡ 0 }
+    ensures within { IsSearchInRange result (length places.now) }
+    ensures found { AreSorted places.now → TellsSearch places.now key result }
+    ensures steps { steps.new ≤ 6 }
+{
+    let mut low = 0;
+    let mut high = places.len();
+    while low < high {
+        let middle = low + (high - low) / 2;
+        match steps.compare(places[middle].key, key) {
+            Ordering::Less => low = middle + 1,
+            Ordering::Equal => return Ok(middle),
+            Ordering::Greater => high = middle,
+        }
+    }
+    Err(low)
+}
+
+/// The entry of the parent of an entry's file; of the master file its own.
+fn parent_of(places: &[Place], entry: u8) -> u8
+    ensures { result ≡ parent_by places.now entry }
+{
+    for place in places {
+        if place.entry == entry {
+            return place.key.parent();
+        }
+    }
+    0
+}
+
+/// An entry is another one, or stands below it: at most seven steps to parents lead to that.
+fn is_within(places: &[Place], top: u8, entry: u8) -> bool
+    ensures { result ≡ leads_by places.now 7 top entry }
+{
+    let mut at = entry;
+    for _step in 0..DEEPEST {
+        if at == top {
+            return true;
+        }
+        at = parent_of(places, at);
+    }
+    at == top
+}
+
+/// The places of all files but that of an entry and those below it.
+fn places_outside(places: &[Place], top: u8) -> PlaceList
+    requires { length places.now ≤ 63 }
+    ensures { result.items ≡ filter (is_outside places.now top) places.now }
+{
+    let mut outside = PlaceList::new();
+    for place in places {
+        if !is_within(places, top, place.entry) {
+            outside.push(*place);
+        }
+    }
+    outside
+}
+
+impl Index {
+    /// The index of the tree that a store holds. It reads each entry but the master file's once.
+    ///
+    /// # Errors
+    /// What the store answers: power was lost, or the device failed.
+    pub fn of<B: Board>(store: &mut Store<B>) -> Result<Index, StoreErr>
+        requires ready { IsReady store.old }
+        requires tree { TreeStands (committed store.old) }
+        ensures index { IfOk result (IsIndex (table (committed store.old))) }
+        ensures store { Reads store.old store.new (result_err result) }
+    {
+        let mut index = Index {
+            places: PlaceList::new(),
+        };
+        for e in 1..ENTRIES_END {
+            let entry = read_entry(store, e)?;
+            if entry.kind != kinds::FREE {
+                index.put(Place {
+                    key: Key::new(entry.parent, entry.identifier),
+                    entry: e,
+                });
+            }
+        }
+        Ok(index)
+    }
+
+    /// The entry of the child of a dedicated file with an identifier, if it has one, and how many comparisons that took.
+    pub fn find(&self, parent: u8, identifier: u16) -> (Reached, Steps)
+        ensures found { (m : List ℕ) → IsIndex (table m) self.now → TellsChild (table m) parent identifier result.0 }
+        ensures path { (m : List ℕ) → TreeStands m → IsUsed (table m) parent → IsIndex (table m) self.now
+            → option_map (path_of (table m)) result.0 ≡ child_by_identifier (tree_of m) (path_of (table m) parent) identifier }
+        ensures steps { result.1 ≤ 7 }
+    {
+        let places = self.places.as_slice();
+        let mut steps = Steps::new();
+        match search(places, Key::new(parent, identifier), &mut steps) {
+            Ok(at) => (Some(places[at].entry), steps),
+            Err(_) => (None, steps),
+        }
+    }
+
+    /// Puts the place of one file more where its key belongs.
+    fn put(&mut self, place: Place)
+        requires { length self.old.places.items < 63 }
+        ensures { AreSorted self.old.places.items → All (λ other. other.key ≢ place.key) self.old.places.items
+            → Puts self.old.places.items place self.new.places.items }
+    {
+        let mut steps = Steps::new();
+        let at = match search(self.places.as_slice(), place.key, &mut steps) {
+            Ok(at) | Err(at) => at,
+        };
+        self.places.insert(at, place);
+    }
+
+    /// The index once a file is created: the file of this entry, with this identifier in the dedicated file of its parent.
+    pub fn with(&mut self, parent: u8, identifier: u16, entry: u8)
+        requires free { IsFreeIn self.old entry }
+        ensures added { (t after : List Entry) → IsTable after → AddsEntry t parent identifier entry after → IsIndex t self.old
+            → IsIndex after self.new }
+    {
+        let place = Place {
+            key: Key::new(parent, identifier),
+            entry,
+        };
+        self.put(place);
+    }
+
+    /// The index once the file of an entry is deleted, with all files below it.
+    pub fn without(&mut self, entry: u8)
+        ensures deleted { (m after : List ℕ) → TreeStands m → 0 < entry → IsUsed (table m) entry → Deletes m entry after
+            → IsIndex (table m) self.old → IsIndex (table after) self.new }
+    {
+        self.places = places_outside(self.places.as_slice(), entry);
+    }
+}
