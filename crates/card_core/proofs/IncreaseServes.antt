@@ -1,5 +1,5 @@
 -- What INCREASE leaves, where nothing refuses it: first it only reads, up to the store `mid`, and then it writes.
-use Rattle.std.proofs.Common.{◌≡◌, ◌⊎◌, ◌≤◌, ℕ, List, [], length, Option, Some, None, Result, Ok, refl, sym, ◌∙◌}
+use Rattle.std.proofs.Common.{◌≡◌, ◌⊎◌, ◌≤◌, ◌+◌, ◌++◌, ℕ, true, List, [], length, Option, Some, Result, Ok, refl, sym, ◌∙◌}
 use Rattle.std.proofs.Common.{ap, subst, arith}
 use Rattle.std.specs.Result.{IsErrAnd}
 use Rattle.nvm_board.specs.declared.board.TheConstants.{WORDS}
@@ -12,17 +12,18 @@ use Rattle.undo_journal.specs.Commits.{CommitsByGate}
 use Rattle.undo_journal.specs.Memory.{Memory, committed, IsReady}
 use Rattle.apdu_core.specs.Requests.{increase}
 use Rattle.apdu_core.specs.declared.binary.Target.TheVariants as target
-use Rattle.ef_body.specs.declared.cyclic.Cyclic.{Cyclic}
+use Rattle.ef_body.specs.declared.cyclic.Cyclic.{Cyclic as Ring}
+use Rattle.ef_body.specs.declared.slot.RecordSlot.{RecordSlot}
 use Rattle.ef_body.specs.declared.layout.TheConstants.{RECORD_WRITES}
 use Rattle.ef_body.specs.Bodies.{cyclic_records, IsCyclic}
-use Rattle.ef_body.specs.Changes.{Increases}
+use Rattle.ef_body.specs.Changes.{CyclicBecomes}
 use Rattle.ef_body.specs.Numbers.{spelled}
 use Rattle.ef_body.specs.Records.{front}
-use Rattle.ef_body.specs.Refusals.{raised_number, unraised}
+use Rattle.ef_body.specs.Refusals.{raised_number}
 use Rattle.card_core.specs.declared.current.Current.{Current}
 use Rattle.card_core.specs.declared.named.Need.{Need}
 use Rattle.card_core.specs.declared.named.Structure.TheVariants.{Cyclic as Cyclic_file}
-use Rattle.card_core.specs.declared.record_body.RecordBody.TheVariants as bodies
+use Rattle.card_core.specs.declared.record_file.RecordFile.{RecordFile}
 use Rattle.card_core.specs.Elementary.{target_path}
 use Rattle.card_core.specs.Lengths.{asks_less, given}
 use Rattle.card_core.specs.RecordGuards.{IsIncreasable}
@@ -33,7 +34,7 @@ use Rattle.card_core.specs.Working.{card_in, outcome}
 use Rattle.card_core.specs.Working.{pointing_from, session_in, space_in, table_in}
 use Rattle.card_core.specs.Working.{IsCurrent}
 use Rattle.card_core.proofs.RecordBodies.{replaced-fits}
-use Rattle.card_core.proofs.RecordSums.{increase-commits, increase-effect, increase-free, short-sent}
+use Rattle.card_core.proofs.RecordSums.{increase-commits, increase-effect, increase-free, length-spelled, short-fits}
 use Rattle.card_core.proofs.RecordWrites.{records-made, records-space, records-torn}
 use Rattle.card_core.proofs.RecordWrites.{PutsRecords}
 use Rattle.card_core.proofs.Recording.{agree}
@@ -49,64 +50,87 @@ module _ (old mid new : Memory) (ready : IsReady old) (words : IsCard (committed
   same : committed mid ≡ m
   same = reads.keeps.committed_words
 
-  module _ (sent : List ℕ) (expected : Option ℕ) (e : ℕ) (body : Cyclic) (answer : List ℕ)
-      (found : IsIncreasable m x sent expected e body answer) where
-    stands : IsCyclic m body
-    stands = (agree m sized words x target.Current _ e (bodies.Cyclic body) found.file).stands
+  module _ (sent : List ℕ) (expected : Option ℕ) (file : RecordFile) (newest : RecordSlot) (sum : List ℕ)
+      (found : IsIncreasable m x sent expected file newest sum) (bytes : List ℕ) (bytes_are : bytes ≡ sum) where
+    stands : IsCyclic m file.ring
+    stands = (agree m sized words x target.Current _ file found.named).stands
 
-    pub increased-body : IsCyclic (committed mid) body
-    increased-body = subst (λ (l : List ℕ). IsCyclic l body) (sym same) stands
+    pub increased-body : IsCyclic (committed mid) newest.ring
+    increased-body = subst (λ (l : List ℕ). IsCyclic l newest.ring) (sym same)
+        (subst (λ (r : Ring). IsCyclic m r) (sym found.ring_is) stands)
 
-    pub increased-sent : length sent ≤ body.record_length
-    increased-sent = short-sent body.record_length (length sent) found.short
+    sum-long : length sum ≡ file.ring.record_length
+    sum-long = ap (λ (l : List ℕ). length l) found.sum_is ∙ length-spelled file.ring.record_length _
 
-    pub increased-raises : unraised body.record_length (cyclic_records (committed mid) body) sent ≡ None
-    increased-raises = ap (λ (l : List ℕ). unraised body.record_length (cyclic_records l body) sent) same ∙ found.raises
+    pub increased-long : length bytes ≡ newest.ring.record_length
+    increased-long = ap (λ (l : List ℕ). length l) bytes_are ∙ sum-long ∙ ap (λ (r : Ring). r.record_length) (sym
+        found.ring_is)
 
-    abbrev sum_in : List ℕ → List ℕ
-    sum_in l = spelled body.record_length (raised_number (cyclic_records l body) sent)
+    pub increased-short : length sum + length sent ≤ 256
+    increased-short =
+        let long = sum-long in
+        let fits = short-fits file.ring.record_length (length sent) found.short in omega (arith, long, fits)
 
-    abbrev records_in : List ℕ → List (List ℕ)
-    records_in l = front (length (cyclic_records l body)) (sum_in l) (cyclic_records l body)
+    -- the file is a cyclic one
+    wraps : true ≡ file.wraps
+    wraps = sym (ap (λ (f : RecordFile). f.wraps) found.named.file_is ∙ found.named.named.structure)
+
+    abbrev held : List (List ℕ)
+    held = cyclic_records m file.ring
+
+    abbrev records : List (List ℕ)
+    records = front (length held) (spelled file.ring.record_length (raised_number held sent)) held
 
     abbrev need : Need
     need = record { structure = Cyclic_file; bit = Update }
 
-    puts : PutsRecords old x target.Current need e (bodies.Cyclic body) (increase sent expected) (records_in m)
+    -- what INCREASE answers
+    answer-is : sum ++ sent ≡ spelled file.ring.record_length (raised_number held sent) ++ sent
+    answer-is = ap (λ (l : List ℕ). l ++ sent) found.sum_is
+
+    puts : PutsRecords old x target.Current need file (increase sent expected) records
     puts = record {
-      found = found.file;
-      none = increase-free m sized words x _ e body found.file sent expected found.file.named.unrefused found.short
-          found.raises (sym (ap (asks_less expected) found.answer_is) ∙ found.enough);
-      commits_is = increase-commits m sized words x _ e body found.file sent expected found.file.named.unrefused;
-      few = replaced-fits m (bodies.Cyclic body) stands 1 (sum_in m);
+      found = found.named;
+      none = increase-free m sized words x _ file found.named sent expected found.named.named.unrefused found.short
+          found.raises (sym (ap (asks_less expected) answer-is) ∙ found.enough);
+      commits_is = increase-commits m sized words x _ file found.named sent expected found.named.named.unrefused;
+      few = replaced-fits m file.ring stands true 1 (spelled file.ring.record_length (raised_number held sent));
       most = refl;
       unshown = refl;
     }
 
-    put-are : records_in (committed mid) ≡ records_in m
-    put-are = ap records_in same
+    abbrev put : List (List ℕ)
+    put =
+        front (length (cyclic_records (committed mid) newest.ring)) bytes (cyclic_records (committed mid) newest.ring)
 
-    module _ (any_exit : (committed new ≡ committed mid) ⊎ Increases (committed mid) body sent (committed new))
+    put-are : put ≡ records
+    put-are =
+        let ring = found.ring_is in
+        let words_same = same in
+        let new_is = bytes_are ∙ found.sum_is in
+        λ i. front (length (cyclic_records (words_same i) (ring i))) (new_is i) (cyclic_records (words_same i) (ring i))
+
+    module _ (any_exit : (committed new ≡ committed mid) ⊎ CyclicBecomes (committed mid) newest.ring put (committed new))
         (by_gate : CommitsByGate mid new) (told : Option StoreErr) (changes : Changes RECORD_WRITES mid new told) where
       pub increased-torn : (text : List ℕ) → text ≡ [] → (r : Result Sw StoreErr) (error : StoreErr)
           → IsErrAnd r (λ f. f ≡ error) → told ≡ Some error → Serves (increase sent expected) old x new x text r
       increased-torn text empty =
           let none_yet : length text ≡ 0 = ap (λ (l : List ℕ). length l) empty in
-          records-torn old mid new ready words x current target.Current need e (bodies.Cyclic body) _ (records_in m) puts
-          reads (records_in (committed mid)) put-are any_exit by_gate told changes text (omega (arith, none_yet))
+          records-torn old mid new ready words x current target.Current need file _ records puts reads true wraps newest.ring
+          found.ring_is put put-are any_exit by_gate told changes text (omega (arith, none_yet))
 
-      pub increased-done : Increases (committed mid) body sent (committed new) → IsReady new → (text : List ℕ)
-          → text ≡ given expected answer → length text ≤ 256
-          → Serves (increase sent expected) old x new (pointing_from x target.Current e (Some 1)) text (Ok DONE)
+      pub increased-done : CyclicBecomes (committed mid) newest.ring put (committed new) → IsReady new → (text : List ℕ)
+          → text ≡ given expected (sum ++ sent) → length text ≤ 256
+          → Serves (increase sent expected) old x new (pointing_from x target.Current file.number (Some 1)) text (Ok DONE)
       increased-done becomes ready_now text text_is room =
-          let effect_is = increase-effect m sized words x _ e body found.file sent expected found.file.named.unrefused
+          let effect_is = increase-effect m sized words x _ file found.named sent expected found.named.named.unrefused
           ∙ ap (λ (t : List ℕ). outcome (with_records_at (card_in old) (target_path (card_in old) (session_in old x)
-          target.Current) (records_in m)) (pointing (session_in old x) target.Current (target_path (card_in old)
-          (session_in old x) target.Current) (Some 1)) t DONE) (sym (text_is ∙ ap (given expected) found.answer_is)) in
-          records-made old mid new ready words x current target.Current need e (bodies.Cyclic body) _ (records_in m) puts
-          reads (records_in (committed mid)) put-are any_exit by_gate told changes becomes ready_now (Some 1) text room effect_is
+          target.Current) records) (pointing (session_in old x) target.Current (target_path (card_in old)
+          (session_in old x) target.Current) (Some 1)) t DONE) (sym (text_is ∙ ap (given expected) answer-is)) in
+          records-made old mid new ready words x current target.Current need file _ records puts reads true wraps newest.ring
+          found.ring_is put put-are any_exit by_gate told changes becomes ready_now (Some 1) text room effect_is
 
-      pub increased-space : Increases (committed mid) body sent (committed new) → space_in new ≡ space_in old
+      pub increased-space : CyclicBecomes (committed mid) newest.ring put (committed new) → space_in new ≡ space_in old
       increased-space =
-          records-space old mid new ready words x current target.Current need e (bodies.Cyclic body) _ (records_in m) puts
-          reads (records_in (committed mid)) put-are any_exit by_gate told changes
+          records-space old mid new ready words x current target.Current need file _ records puts reads true wraps newest.ring
+          found.ring_is put put-are any_exit by_gate told changes

@@ -1,50 +1,61 @@
--- The bodies of records that entries tell of.
-use Rattle.std.proofs.Common.{◌≡◌, ◌≢◌, ◌<◌, ◌≤◌, ◌+◌, ◌/◌, ◌%◌, ◌==◌, ◌&&◌, ℕ, Bool, true, false, nat_le}
-use Rattle.std.proofs.Common.{Result, Ok, Err, OnOk, List, [], ◌∷◌, ◌-◌, length, length-append, length-set, length-take, take}
-use Rattle.std.specs.Result.{result_err}
-use Rattle.std.proofs.Common.{slice_index, Option, Some, None, if◌then◌else◌, refl, sym, ◌∙◌, ap, subst, arith, inl, inr}
-use Rattle.std.proofs.Common.{⊎_elim, true≢false, is_some, unwrap_or}
-use Rattle.std.proofs.lemmas.Bool.{ne_eqb, cases_eq, leb-false, leb-true}
-use Rattle.std.proofs.lemmas.List.FromFn.{length-map-range_with_len}
+-- The files of records that entries tell of.
+use Rattle.std.proofs.Common.{◌≡◌, ◌≢◌, ◌⊎◌, ◌<◌, ◌≤◌, ◌+◌, ◌/◌, ◌%◌, ◌==◌, ◌&&◌, ℕ, Bool, true, false, not, nat_le}
+use Rattle.std.proofs.Common.{List, [], ◌∷◌, ◌-◌, length, length-append, length-set, length-take, take, slice_index}
+use Rattle.std.proofs.Common.{Some, None, if◌then◌else◌, sym, ◌∙◌, ap, arith, ⊎_elim, true≢false}
+use Rattle.std.proofs.lemmas.Bool.{le-leb, leb-false}
 use Rattle.nvm_board.specs.declared.board.TheConstants.{WORDS}
 use Rattle.block_chain.specs.Words.{page_words}
 use Rattle.block_chain.specs.laws.Words.{index-page_words}
 use Rattle.block_chain.specs.Chains.{chain_bytes}
-use Rattle.card_rules.specs.declared.status.Sw.{Sw}
-use Rattle.card_rules.specs.declared.status.TheConstants.Sw.{NO_ROOM, RECORD_NOT_FOUND}
-use Rattle.undo_journal.specs.declared.error.StoreErr.{StoreErr}
-use Rattle.ef_body.specs.declared.error.BodyErr.{BodyErr}
-use Rattle.ef_body.specs.declared.error.BodyErr.TheVariants.{Refused, Store}
-use Rattle.ef_body.specs.Bodies.{cyclic_records, linear_records, number_told, start_told, IsCyclic, IsLinear}
+use Rattle.ef_body.specs.declared.cyclic.Cyclic.{Cyclic as Ring}
+use Rattle.ef_body.specs.declared.slot.RecordSlot.{RecordSlot}
+use Rattle.ef_body.specs.Bodies.{cyclic_records, number_told, start_told, IsCyclic}
 use Rattle.ef_body.specs.Records.{in_order, newest_first}
-use Rattle.ef_body.specs.Refusals.{failure, missing_record, Decides}
-use Rattle.ef_body.specs.laws.Lists.{length-in_order, length-newest_first}
+use Rattle.ef_body.specs.laws.Lists.{in_order-ring, length-newest_first}
 use Rattle.file_tree.specs.declared.entry.Entry.{Entry}
-use Rattle.file_tree.specs.Cards.{Kind, transparent, linear, cyclic, dedicated, elementary}
-use Rattle.file_tree.specs.Entries.{file_of, free_entry, capacity_of, name_of, slot}
+use Rattle.file_tree.specs.Cards.{Body, Kind, transparent, linear, cyclic, dedicated, elementary}
+use Rattle.file_tree.specs.Entries.{file_of, free_entry, capacity_of, name_of}
 use Rattle.file_tree.specs.Entries.{linear_records as linear_of, cyclic_records as cyclic_of}
 use Rattle.file_tree.specs.Table.{table, entry_in, IsRecordBody, IsUsed}
 use Rattle.file_tree.specs.Trees.{content, file_in}
 use Rattle.file_tree.specs.laws.Nodes.{used_small}
 use Rattle.file_tree.specs.laws.Tables.{entry_in-table, entry_of-free, entry_of-used, length-table}
-use Rattle.card_core.specs.declared.record_body.RecordBody.{RecordBody}
-use Rattle.card_core.specs.declared.record_body.RecordBody.TheVariants as bodies
+use Rattle.card_core.specs.declared.record_file.RecordFile.{RecordFile}
 use Rattle.card_core.specs.Records.{is_cyclic, is_linear, record_length, records_of, capacity_of as capacity_in}
 use Rattle.card_core.specs.Standing.{IsCard}
-use Rattle.card_core.specs.Working.{body_in, count_in, cyclic_in, full_in, has_in, is_full_in, length_in, linear_in}
-use Rattle.card_core.specs.Working.{records_at, room_in, told_address, wraps_in, IsBodyIn}
-use Rattle.card_core.specs.Working.{appended_in, looked_at, replaced_in}
+use Rattle.card_core.specs.Working.{appended_in, has_in, is_full_in, record_file_in, replaced_in, ring_in, told_address}
 use Rattle.card_core.proofs.Contents.{chain-is, content-is, fits-chain}
 
--- what a body and the kind of its file have in common
-pub record Agree (m : List ℕ) (kind : Kind) (body : RecordBody) : Type 0 where
-  pub order : is_cyclic kind ≡ wraps_in body
-  pub records : records_of kind ≡ records_at m body
-  pub length_is : record_length kind ≡ length_in body
-  pub capacity : capacity_in kind ≡ room_in body
-  pub full : (is_linear kind && nat_le (capacity_in kind) (length (records_of kind))) ≡ is_full_in body
-  pub number : length (records_of kind) ≡ count_in body
-  pub stands : IsBodyIn m body
+-- what a file of records and the kind that it is have in common
+pub record Agree (m : List ℕ) (kind : Kind) (file : RecordFile) : Type 0 where
+  pub order : is_cyclic kind ≡ file.wraps
+  pub records : records_of kind ≡ cyclic_records m file.ring
+  pub length_is : record_length kind ≡ file.ring.record_length
+  pub capacity : capacity_in kind ≡ file.ring.capacity
+  pub full : (is_linear kind && nat_le (capacity_in kind) (length (records_of kind))) ≡ is_full_in file
+  pub number : length (records_of kind) ≡ file.ring.records
+  pub stands : IsCyclic m file.ring
+  pub straight : file.wraps ≡ false → file.ring.start ≡ 0
+
+-- how many records a ring has, and at most 254
+pub count-at : (m : List ℕ) (ring : Ring) → IsCyclic m ring → length (cyclic_records m ring) ≡ ring.records
+count-at m ring is =
+    let few = is.slots.few in
+    let number = is.number in
+    let start = is.start in
+    let told = is.told in
+    let count : number_told m ring.told_at ≡ ring.records = omega (arith, few, number, start, told) in
+    length-newest_first ring.record_length ring.capacity (chain_bytes m ring.chain) (start_told m ring.told_at)
+    (number_told m ring.told_at)
+    ∙ count
+
+pub count-few : (m : List ℕ) (ring : Ring) → IsCyclic m ring → ring.records ≤ 254
+count-few m ring is = let few = is.slots.few in let number = is.number in omega (arith, few, number)
+
+-- the body of a file of records
+abbrev pub body_with : Bool → ℕ → ℕ → List (List ℕ) → Body
+body_with true long capacity records = cyclic long capacity records
+body_with false long capacity records = linear long capacity records
 
 module _ (m : List ℕ) (sized : length m ≡ WORDS) (words : IsCard m) (e : ℕ) (used : IsUsed (table m) e) where
   abbrev x : Entry
@@ -52,14 +63,6 @@ module _ (m : List ℕ) (sized : length m ≡ WORDS) (words : IsCard m) (e : ℕ
 
   below : e < 64
   below = used_small m e used
-
-  rules-body : (x.kind ≡ 3) → IsRecordBody x
-  rules-body is = ((words.tree.entries.each e free_entry (let l = length-table m in omega (arith, l, below))).used
-      used).body.records (inl is)
-
-  rules-ring : (x.kind ≡ 4) → IsRecordBody x
-  rules-ring is = ((words.tree.entries.each e free_entry (let l = length-table m in omega (arith, l, below))).used
-      used).body.records (inr is)
 
   -- the word of the entry that tells of its records
   abbrev told : ℕ
@@ -76,32 +79,18 @@ module _ (m : List ℕ) (sized : length m ≡ WORDS) (words : IsCard m) (e : ℕ
         ap (λ (y : Entry). y.start) is ∙ ap (λ (w : ℕ). w % 0x10000) at,
       )
 
-  module _ (linear_kind : x.kind ≡ 3) where
-    pub linear-kind : (file_in m e).kind ≡ elementary (if x.short == 0 then None else Some x.short)
-        (linear x.record_length (capacity_of x) (linear_of x (content m x)))
-    unfolding file_of
-    linear-kind =
-        let bytes = content m x in
-        ap (λ (k : ℕ). if k == 1 then dedicated (if x.name_length == 0 then None else Some (name_of x))
-        else elementary (if x.short == 0 then None else Some x.short)
-        (if k == 2 then transparent (take x.size bytes) else
-        if k == 3 then linear x.record_length (capacity_of x) (linear_of x bytes) else
-        cyclic x.record_length (capacity_of x) (cyclic_of x bytes))) linear_kind
+  module _ (of_records : (x.kind ≡ 3) ⊎ (x.kind ≡ 4)) where
+    pub rules : IsRecordBody x
+    rules = ((words.tree.entries.each e free_entry (let l = length-table m in let lt = below in omega (arith, l, lt))).used
+        used).body.records of_records
 
-    high : 2 ≤ x.kind
-    high = omega (arith, linear_kind)
+    pub high : 2 ≤ x.kind
+    high = ⊎_elim (λ (is : x.kind ≡ 3). omega (arith, is)) (λ (is : x.kind ≡ 4). omega (arith, is)) of_records
 
-    pub linear-records : linear_of x (content m x) ≡ linear_records m (linear_in e x)
-    unfolding in_order
-    linear-records =
-        let bytes = content-is m e sized words below high in
-        let number = told-is.0 in
-        λ i. in_order x.record_length (bytes i) (number i)
-
-    linear-stands : IsLinear m (linear_in e x)
-    linear-stands =
-        let body = rules-body linear_kind in
-        let start = body.linear linear_kind in
+    pub ring-stands : IsCyclic m (ring_in e x)
+    ring-stands =
+        let body = rules in
+        let lt = below in
         let whole = body.multiple in
         let size = body.size in
         let fits = fits-chain m e sized words below high in
@@ -116,219 +105,129 @@ module _ (m : List ℕ) (sized : length m ≡ WORDS) (words : IsCard m) (e : ℕ
             few = body.capacity;
             small = omega (arith, whole, size);
             fits = omega (arith, whole, fits);
-            entry = omega (arith, below);
-          };
-          number = body.records;
-          told = omega (arith, told_number, told_start, start);
-        }
-
-    linear-agrees : Agree m (file_in m e).kind (bodies.Linear (linear_in e x))
-    linear-agrees = record {
-      order = ap is_cyclic linear-kind;
-      records = ap records_of linear-kind ∙ linear-records;
-      length_is = ap record_length linear-kind;
-      capacity = ap capacity_in linear-kind;
-      full = ap (λ (k : Kind). is_linear k && nat_le (capacity_in k) (length (records_of k))) linear-kind
-          ∙ ap (nat_le (capacity_of x)) (length-map-range_with_len (slot x (content m x)) 0 x.records);
-      number = ap (λ (k : Kind). length (records_of k)) linear-kind
-          ∙ length-map-range_with_len (slot x (content m x)) 0 x.records;
-      stands = linear-stands;
-    }
-
-  module _ (cyclic_kind : x.kind ≡ 4) where
-    pub cyclic-kind : (file_in m e).kind ≡ elementary (if x.short == 0 then None else Some x.short)
-        (cyclic x.record_length (capacity_of x) (cyclic_of x (content m x)))
-    unfolding file_of
-    cyclic-kind =
-        let bytes = content m x in
-        ap (λ (k : ℕ). if k == 1 then dedicated (if x.name_length == 0 then None else Some (name_of x))
-        else elementary (if x.short == 0 then None else Some x.short)
-        (if k == 2 then transparent (take x.size bytes) else
-        if k == 3 then linear x.record_length (capacity_of x) (linear_of x bytes) else
-        cyclic x.record_length (capacity_of x) (cyclic_of x bytes))) cyclic_kind
-
-    ring-high : 2 ≤ x.kind
-    ring-high = omega (arith, cyclic_kind)
-
-    pub cyclic-records : cyclic_of x (content m x) ≡ cyclic_records m (cyclic_in e x)
-    unfolding newest_first
-    cyclic-records =
-        let bytes = content-is m e sized words below ring-high in
-        let number = told-is.0 in
-        let start = told-is.1 in
-        λ i. newest_first x.record_length (capacity_of x) (bytes i) (start i) (number i)
-
-    cyclic-stands : IsCyclic m (cyclic_in e x)
-    cyclic-stands =
-        let body = rules-ring cyclic_kind in
-        let whole = body.multiple in
-        let size = body.size in
-        let fits = fits-chain m e sized words below ring-high in
-        let told_number = told-is.0 in
-        let told_start = told-is.1 in
-        record {
-          slots = record {
-            chain = chain-is m e sized words below ring-high;
-            some = body.some;
-            short = body.record_length;
-            room = body.room;
-            few = body.capacity;
-            small = omega (arith, whole, size);
-            fits = omega (arith, whole, fits);
-            entry = omega (arith, below);
+            entry = omega (arith, lt);
           };
           number = body.records;
           start = body.start;
           told = omega (arith, told_number, told_start);
         }
 
-    cyclic-agrees : Agree m (file_in m e).kind (bodies.Cyclic (cyclic_in e x))
-    cyclic-agrees = record {
-      order = ap is_cyclic cyclic-kind;
-      records = ap records_of cyclic-kind ∙ cyclic-records;
-      length_is = ap record_length cyclic-kind;
-      capacity = ap capacity_in cyclic-kind;
-      full = ap (λ (k : Kind). is_linear k && nat_le (capacity_in k) (length (records_of k))) cyclic-kind;
-      number = ap (λ (k : Kind). length (records_of k)) cyclic-kind
-          ∙ length-map-range_with_len (λ i. slot x (content m x) ((x.start + i) % capacity_of x)) 0 x.records;
-      stands = cyclic-stands;
-    }
+    abbrev records : List (List ℕ)
+    records = cyclic_records m (ring_in e x)
 
-  -- the body by the kind of the entry
-  abbrev by_kind : ℕ → Option RecordBody
-  by_kind k =
-      if k == 3 then Some (bodies.Linear (linear_in e x)) else
-      if k == 4 then Some (bodies.Cyclic (cyclic_in e x)) else None
+    -- the kind of its file, by the kind of the entry
+    abbrev kind_by : ℕ → Body → Kind
+    kind_by k body =
+        if k == 1 then dedicated (if x.name_length == 0 then None else Some (name_of x))
+        else elementary (if x.short == 0 then None else Some x.short) body
 
-  abbrev by_tests : Bool → Bool → Option RecordBody
-  by_tests three four =
-      if three then Some (bodies.Linear (linear_in e x)) else
-      if four then Some (bodies.Cyclic (cyclic_in e x)) else None
+    abbrev body_by : ℕ → List ℕ → Body
+    body_by k bytes =
+        if k == 2 then transparent (take x.size bytes) else
+        if k == 3 then linear x.record_length (capacity_of x) (linear_of x bytes) else
+        cyclic x.record_length (capacity_of x) (cyclic_of x bytes)
 
-  same-body : (one other : RecordBody) → Some one ≡ Some other → one ≡ other
-  same-body one other is = ap (λ (o : Option RecordBody). unwrap_or o one) is
+    by-entry : (k : ℕ) → x.kind ≡ k → (file_in m e).kind ≡ kind_by k (body_by k (content m x))
+    unfolding file_of
+    by-entry k is = ap (λ (j : ℕ). kind_by j (body_by j (content m x))) is
 
-  -- an entry that tells of a body
-  pub body-agrees : (body : RecordBody) → body_in e x ≡ Some body → Agree m (file_in m e).kind body
-  body-agrees body is = ⊎_elim
-      (λ (three : x.kind ≡ 3).
-      subst (λ (b : RecordBody). Agree m (file_in m e).kind b)
-      (same-body (bodies.Linear (linear_in e x)) body (sym (ap by_kind three) ∙ is)) (linear-agrees three))
-      (λ (third : x.kind ≢ 3). ⊎_elim
-      (λ (four : x.kind ≡ 4).
-      subst (λ (b : RecordBody). Agree m (file_in m e).kind b)
-      (same-body (bodies.Cyclic (cyclic_in e x)) body (sym (ap by_kind four) ∙ is)) (cyclic-agrees four))
-      (λ (fourth : x.kind ≢ 4).
-      let three = ne_eqb x.kind 3 third in
-      let four = ne_eqb x.kind 4 fourth in
-      let none : None ≡ Some body = sym (λ i. by_tests (three i) (four i)) ∙ is in
-      absurd (true≢false (sym (ap (λ (o : Option RecordBody). is_some o) none))))
-      (cases_eq x.kind 4))
-      (cases_eq x.kind 3)
+    linear-records : x.kind ≡ 3 → linear_of x (content m x) ≡ records
+    unfolding in_order
+    linear-records three =
+        let ring = ring_in e x in
+        let bytes = content-is m e sized words below high in
+        let number = told-is.0 in
+        let straight = rules.linear three in
+        let start = told-is.1 in
+        let zero : start_told m ring.told_at ≡ 0 = omega (arith, start, straight) in
+        let most = rules.records in
+        let few : number_told m ring.told_at ≤ ring.capacity = omega (arith, number, most) in
+        (λ i. in_order x.record_length (bytes i) (number i))
+        ∙ sym (in_order-ring ring.record_length ring.capacity (chain_bytes m ring.chain) (number_told m ring.told_at) few)
+        ∙ ap (λ (s : ℕ). newest_first ring.record_length ring.capacity (chain_bytes m ring.chain) s (number_told m
+        ring.told_at)) (sym zero)
 
--- how many records a body has
-pub count-at : (m : List ℕ) (body : RecordBody) → IsBodyIn m body → length (records_at m body) ≡ count_in body
-count-at m (bodies.Linear body) is =
-    let few = is.slots.few in
-    let number = is.number in
-    let told = is.told in
-    let count : number_told m body.told_at ≡ body.records = omega (arith, few, number, told) in
-    length-in_order body.record_length (chain_bytes m body.chain) (number_told m body.told_at) ∙ count
-count-at m (bodies.Cyclic body) is =
-    let few = is.slots.few in
-    let number = is.number in
-    let start = is.start in
-    let told = is.told in
-    let count : number_told m body.told_at ≡ body.records = omega (arith, few, number, start, told) in
-    length-newest_first body.record_length body.capacity (chain_bytes m body.chain) (start_told m body.told_at)
-    (number_told m body.told_at)
-    ∙ count
+    ring-records : cyclic_of x (content m x) ≡ records
+    unfolding newest_first
+    ring-records =
+        let bytes = content-is m e sized words below high in
+        let number = told-is.0 in
+        let start = told-is.1 in
+        λ i. newest_first x.record_length (capacity_of x) (bytes i) (start i) (number i)
 
--- at most 254
-pub count-few : (m : List ℕ) (body : RecordBody) → IsBodyIn m body → count_in body ≤ 254
-count-few m (bodies.Linear body) is = let few = is.slots.few in let number = is.number in omega (arith, few, number)
-count-few m (bodies.Cyclic body) is = let few = is.slots.few in let number = is.number in omega (arith, few, number)
+    pub kind-told : (file_in m e).kind ≡ elementary (if x.short == 0 then None else Some x.short)
+        (body_with (x.kind == 4) x.record_length (capacity_of x) records)
+    kind-told = ⊎_elim
+        (λ (three : x.kind ≡ 3).
+        by-entry 3 three ∙ ap (λ (rs : List (List ℕ)). kind_by 3 (linear x.record_length (capacity_of x) rs)) (linear-records three)
+        ∙ ap (λ (k : ℕ). kind_by 3 (body_with (k == 4) x.record_length (capacity_of x) records)) (sym three))
+        (λ (four : x.kind ≡ 4).
+        by-entry 4 four ∙ ap (λ (rs : List (List ℕ)). kind_by 4 (cyclic x.record_length (capacity_of x) rs)) ring-records
+        ∙ ap (λ (k : ℕ). kind_by 4 (body_with (k == 4) x.record_length (capacity_of x) records)) (sym four))
+        of_records
 
--- so the number of a record that there is, is a byte
-pub has-few : (m : List ℕ) (body : RecordBody) → IsBodyIn m body → (n : ℕ) → has_in body n ≡ true → n ≤ 254
-has-few m body is n has =
-    let few = count-few m body is in
-    let least = and-right (nat_le 1 n) (nat_le n (count_in body)) has in
-    let most = leb-true n (count_in body) least in
-    omega (arith, few, most)
-  where
-    and-right : (a b : Bool) → (a && b) ≡ true → b ≡ true
-    and-right true b is = is
-    and-right false b is = cc
+    abbrev kind_with : Bool → Kind
+    kind_with wraps = elementary (if x.short == 0 then None else Some x.short)
+        (body_with wraps x.record_length (capacity_of x) records)
 
--- nothing refuses where the record is there, or there is room for one
-pub none-missing : (m : List ℕ) (body : RecordBody) → IsBodyIn m body → (n : ℕ) → has_in body n ≡ true
-    → missing_record (records_at m body) n ≡ None
-none-missing m body is n here =
-    ap (λ (l : ℕ). if nat_le 1 n && nat_le n l then None else Some RECORD_NOT_FOUND) (count-at m body is)
-    ∙ ap (λ (b : Bool). if b then None else Some RECORD_NOT_FOUND) here
+    -- what is said of a kind with these records, by the order of records
+    by-order : (wraps : Bool) → (is_cyclic (kind_with wraps) ≡ wraps) × (records_of (kind_with wraps) ≡ records)
+        × (record_length (kind_with wraps) ≡ x.record_length) × (capacity_in (kind_with wraps) ≡ capacity_of x)
+        × (is_linear (kind_with wraps) ≡ not wraps)
+    by-order true = (λ i. true, λ i. records, λ i. x.record_length, λ i. capacity_of x, λ i. false)
+    by-order false = (λ i. false, λ i. records, λ i. x.record_length, λ i. capacity_of x, λ i. true)
 
-pub none-full : (m : List ℕ) (body : RecordBody) → IsBodyIn m body → is_full_in body ≡ false → full_in m body ≡ None
-none-full m (bodies.Linear body) is room =
-    ap (λ (l : ℕ). if nat_le body.capacity l then Some NO_ROOM else None) (count-at m (bodies.Linear body) is)
-    ∙ ap (λ (b : Bool). if b then Some NO_ROOM else None) room
-none-full m (bodies.Cyclic body) is room = refl
+    pub file-agrees : Agree m (file_in m e).kind (record_file_in e x)
+    file-agrees =
+        let told = kind-told in
+        let order = by-order (x.kind == 4) in
+        let count = count-at m (ring_in e x) ring-stands in
+        let records_are = ap records_of told ∙ order.1 in
+        let capacity_is = ap capacity_in told ∙ order.3 in
+        let linear_is = ap is_linear told ∙ order.4 in
+        let number_is = ap (λ (rs : List (List ℕ)). length rs) records_are ∙ count in
+        record {
+          order = ap is_cyclic told ∙ order.0;
+          records = records_are;
+          length_is = ap record_length told ∙ order.2;
+          capacity = capacity_is;
+          full = λ i. linear_is i && nat_le (capacity_is i) (number_is i);
+          number = number_is;
+          stands = ring-stands;
+          straight = λ other. ⊎_elim (λ (three : x.kind ≡ 3). rules.linear three)
+              (λ (four : x.kind ≡ 4). absurd (true≢false (sym (ap (λ (k : ℕ). k == 4) four) ∙ other))) of_records;
+        }
 
--- so the body of each kind refuses nothing
-module _ (m : List ℕ) (self this : RecordBody) (is : self ≡ this) (body : IsBodyIn m self) where
-  pub none-missing-of : (n : ℕ) → has_in self n ≡ true → missing_record (records_at m this) n ≡ None
-  none-missing-of n here =
-      subst (λ (it : RecordBody). missing_record (records_at m it) n ≡ None) is (none-missing m self body n here)
+-- the record of a receipt is there, and its number is a byte
+pub has-slot : (slot : RecordSlot) → has_in slot.ring slot.number ≡ true
+has-slot slot = λ i. le-leb 1 slot.number slot.from_first i && le-leb slot.number slot.ring.records slot.to_last i
 
-  pub none-replaced-of : (n : ℕ) → has_in self (looked_at self n) ≡ true
-      → missing_record (records_at m this) (looked_at this n) ≡ None
-  none-replaced-of n here =
-      subst (λ (it : RecordBody). missing_record (records_at m it) (looked_at it n) ≡ None) is
-      (none-missing m self body (looked_at self n) here)
-
-  pub none-full-of : is_full_in self ≡ false → full_in m this ≡ None
-  none-full-of room = subst (λ (it : RecordBody). full_in m it ≡ None) is (none-full m self body room)
-
--- of a cyclic body record 1 must be there if one is to be replaced
-pub looked-replaced : (body : RecordBody) (n : ℕ) → looked_at body (if wraps_in body then 1 else n)
-    ≡ (if wraps_in body then 1 else n)
-looked-replaced (bodies.Linear body) n = refl
-looked-replaced (bodies.Cyclic body) n = refl
+pub slot-few : (m : List ℕ) (slot : RecordSlot) → IsCyclic m slot.ring → slot.number ≤ 254
+slot-few m slot is =
+    let few = count-few m slot.ring is in let last = slot.to_last in omega (arith, few, last)
 
 -- as many records as there is room for
-pub replaced-fits : (m : List ℕ) (body : RecordBody) → IsBodyIn m body → (n : ℕ) (bytes : List ℕ)
-    → length (replaced_in m body n bytes) ≤ room_in body
-replaced-fits m (bodies.Linear body) is n bytes =
-    let count = count-at m (bodies.Linear body) is in
+pub replaced-fits : (m : List ℕ) (ring : Ring) → IsCyclic m ring → (wraps : Bool) (n : ℕ) (bytes : List ℕ)
+    → length (replaced_in wraps (cyclic_records m ring) n bytes) ≤ ring.capacity
+replaced-fits m ring is true n bytes =
+    let count = count-at m ring is in
     let number = is.number in
-    let same = length-set (linear_records m body) (n - 1) bytes in
-    omega (arith, count, number, same)
-replaced-fits m (bodies.Cyclic body) is n bytes =
-    let count = count-at m (bodies.Cyclic body) is in
-    let number = is.number in
-    let some = length-take (length (cyclic_records m body)) (bytes ∷ cyclic_records m body) in
+    let some = length-take (length (cyclic_records m ring)) (bytes ∷ cyclic_records m ring) in
     omega (arith, count, number, some)
+replaced-fits m ring is false n bytes =
+    let count = count-at m ring is in
+    let number = is.number in
+    let same = length-set (cyclic_records m ring) (n - 1) bytes in
+    omega (arith, count, number, same)
 
-pub appended-fits : (m : List ℕ) (body : RecordBody) → IsBodyIn m body → is_full_in body ≡ false → (bytes : List ℕ)
-    → length (appended_in m body bytes) ≤ room_in body
-appended-fits m (bodies.Linear body) is room bytes =
-    let count = count-at m (bodies.Linear body) is in
-    let less = leb-false body.capacity body.records room in
-    let more = length-append (linear_records m body) (bytes ∷ []) in
-    omega (arith, count, less, more)
-appended-fits m (bodies.Cyclic body) is room bytes =
-    let some = length-take body.capacity (bytes ∷ cyclic_records m body) in
+pub appended-fits : (m : List ℕ) (ring : Ring) → IsCyclic m ring → (wraps : Bool)
+    → (not wraps && nat_le ring.capacity ring.records) ≡ false → (bytes : List ℕ)
+    → length (appended_in wraps ring.capacity (cyclic_records m ring) bytes) ≤ ring.capacity
+appended-fits m ring is true room bytes =
+    let some = length-take ring.capacity (bytes ∷ cyclic_records m ring) in
     omega (arith, some)
-
--- what a body answers is the store's answer where nothing refuses
-pub decides-none : (refusal : Option Sw) (answer : Option BodyErr) → refusal ≡ None → Decides refusal answer
-    → Decides None answer
-decides-none refusal answer none decides = subst (λ (o : Option Sw). Decides o answer) none decides
-
-module _ {T : Type 0} (P : Type 0) where
-  pub ok-then : (answered : Result T BodyErr) (result : Result T StoreErr) → Decides None (result_err answered)
-      → result_err result ≡ failure (result_err answered) → OnOk answered P → OnOk result P
-  ok-then (Ok x) (Ok y) none same fact = fact
-  ok-then (Err (Refused status)) (Ok y) none same fact = cc
-  ok-then (Err (Store e)) (Ok y) none same fact = cc
-  ok-then answered (Err e) none same fact = tt
+appended-fits m ring is false room bytes =
+    let count = count-at m ring is in
+    let less = leb-false ring.capacity ring.records room in
+    let more = length-append (cyclic_records m ring) (bytes ∷ []) in
+    omega (arith, count, less, more)

@@ -1,24 +1,25 @@
 -- What other records in the body of a file make of the card.
 use Rattle.std.proofs.Common.{◌≡◌, ◌≢◌, ◌⊎◌, ◌==◌, ◌<◌, ◌≤◌, ◌+◌, ◌-◌, ℕ, if◌then◌else◌, List}
 use Rattle.std.proofs.Common.{length, slice_index, slice_set, Bool, Option, Some, None}
-use Rattle.std.proofs.Common.{refl, sym, ◌∙◌, ap, subst, arith, inl, inr, ⊎_elim, unwrap_or, is_some, true≢false}
+use Rattle.std.proofs.Common.{refl, sym, ◌∙◌, ap, subst, arith, inl, inr, ⊎_elim, true≢false, true, false}
 use Rattle.std.proofs.Common.{get_or-set_same, get_or-set_other, length-set}
-use Rattle.std.proofs.lemmas.Bool.{cases_eq, ne_eqb}
+use Rattle.std.proofs.lemmas.Bool.{cases_eq}
 use Rattle.std.specs.FinMap.{insert}
 use Rattle.std.proofs.Math.Nat.{mod-lt}
 use Rattle.nvm_board.specs.Facts.{address}
 use Rattle.nvm_board.specs.declared.board.TheConstants.{WORDS}
-use Rattle.block_chain.specs.Chains.{chain, chain_bytes}
+use Rattle.block_chain.specs.Chains.{chain, chain_bytes, chain_of}
 use Rattle.block_chain.specs.Changes.{OnlyContent}
 use Rattle.block_chain.specs.Counts.{count, IsNotIn}
 use Rattle.block_chain.specs.Layout.{blocks_of}
 use Rattle.block_chain.specs.laws.Bytes.{AreBlocks, leads_blocks}
 use Rattle.block_chain.specs.laws.Footprints.{not_among}
-use Rattle.ef_body.specs.Bodies.{cyclic_records, linear_records, number_told, start_told}
-use Rattle.ef_body.specs.Changes.{CyclicBecomes, LinearBecomes, OnlyBody}
-use Rattle.ef_body.specs.laws.Lists.{length-in_order, length-newest_first}
+use Rattle.ef_body.specs.declared.cyclic.Cyclic.{Cyclic as Ring}
+use Rattle.ef_body.specs.Bodies.{cyclic_records, number_told, start_told, IsCyclic}
+use Rattle.ef_body.specs.Changes.{OnlyBody}
+use Rattle.ef_body.specs.laws.Lists.{length-newest_first}
 use Rattle.file_tree.specs.declared.entry.Entry.{Entry}
-use Rattle.file_tree.specs.Cards.{Kind, File, Tree, linear, cyclic, elementary, file_at}
+use Rattle.file_tree.specs.Cards.{Kind, File, Tree, elementary, file_at}
 use Rattle.file_tree.specs.Changes.{KeepsRest}
 use Rattle.file_tree.specs.Entries.{capacity_of, extent_told, file_of, free_entry, high, low}
 use Rattle.file_tree.specs.Spaces.{free_space}
@@ -30,14 +31,12 @@ use Rattle.file_tree.specs.laws.Nodes.{file_at_entry, used_small}
 use Rattle.file_tree.specs.laws.Rewriting.{content_file, content_free, content_stands, content_table, entries_apart}
 use Rattle.file_tree.specs.laws.Tables.{length-table}
 use Rattle.card_core.specs.declared.current.Current.{Current}
-use Rattle.card_core.specs.declared.record_body.RecordBody.{RecordBody}
-use Rattle.card_core.specs.declared.record_body.RecordBody.TheVariants as bodies
 use Rattle.card_core.specs.Records.{with_records, with_records_at}
 use Rattle.card_core.specs.Standing.{card_of, IsCard}
-use Rattle.card_core.specs.Working.{body_in, cyclic_in, linear_in, room_in, session_of, told_address, BodyBecomes, IsCurrent}
+use Rattle.card_core.specs.Working.{ring_in, session_of, told_address, IsCurrent, RingBecomes}
 use Rattle.card_core.proofs.Entries.{card-tree}
 use Rattle.card_core.proofs.Keeping.{files-after, files-stand}
-use Rattle.card_core.proofs.RecordBodies.{cyclic-kind, cyclic-records, linear-kind, linear-records}
+use Rattle.card_core.proofs.RecordBodies.{body_with, kind-told, ring-stands, rules}
 use Rattle.card_core.proofs.RecordTables.{bytes-mid, current-mid, file-mid, free-mid, free_chain-mid, here, paths-mid}
 use Rattle.card_core.proofs.RecordTables.{session-mid, stands-mid, used-mid, was-used-mid, retold}
 
@@ -228,118 +227,84 @@ module _ (m after : List ℕ) (e : ℕ) (sized : length m ≡ WORDS) (words : Is
       ∙ sym (ap (λ (f : File). record f { kind = with_records f.kind records }) at_path)))
       ∙ sym (ap (λ (tree : Tree). with_records_at (record (card_of m) { tree = tree }) p records) (card-tree m))
 
--- The body that the entry of a file tells of has these records then.
+-- What becomes of a ring, whether its last record is followed by the first or not.
+record Becomes (m : List ℕ) (ring : Ring) (wraps : Bool) (records : List (List ℕ)) (after : List ℕ) : Type 0 where
+  becomes : cyclic_records after ring ≡ records
+  begins : start_told after ring.told_at < ring.capacity
+  straight : wraps ≡ false → start_told after ring.told_at ≡ ring.start
+  only : OnlyBody m (chain_of m ring.chain) ring.told_at after
+
+of-ring : (m : List ℕ) (ring : Ring) (wraps : Bool) (records : List (List ℕ)) (after : List ℕ) → IsCyclic m ring
+    → RingBecomes wraps m ring records after → Becomes m ring wraps records after
+of-ring m ring true records after is made =
+    let room = is.start in
+    let some : 0 < ring.capacity = omega (arith, room) in
+    record {
+      becomes = made.becomes;
+      begins = subst (λ (n : ℕ). n < ring.capacity) (sym made.start) (mod-lt (ring.start + ring.capacity - 1) some);
+      straight = λ no. absurd (true≢false no);
+      only = made.only;
+    }
+of-ring m ring false records after is made = record {
+  becomes = made.becomes;
+  begins = subst (λ (n : ℕ). n < ring.capacity) (sym made.start) is.start;
+  straight = λ _. made.start;
+  only = made.only;
+}
+
+-- other records make another kind of the same file
+with-body : (short : Option ℕ) (wraps : Bool) (long capacity : ℕ) (old new : List (List ℕ))
+    → elementary short (body_with wraps long capacity new)
+    ≡ with_records (elementary short (body_with wraps long capacity old)) new
+with-body short true long capacity old new = refl
+with-body short false long capacity old new = refl
+
+-- The ring that the entry of a file tells of has these records then.
 module _ (m after : List ℕ) (e : ℕ) (sized : length m ≡ WORDS) (words : IsCard m) (used : IsUsed (table m) e)
-    (records : List (List ℕ)) where
+    (of_records : ((entry_in (table m) e).kind ≡ 3) ⊎ ((entry_in (table m) e).kind ≡ 4)) (records : List (List ℕ)) where
   abbrev entry_m : Entry
   entry_m = entry_in (table m) e
 
-  abbrev told : ℕ
-  told = slice_index after (told_address e)
+  abbrev ring : Ring
+  ring = ring_in e entry_m
 
-  linear-become : length records ≤ capacity_of entry_m → entry_m.kind ≡ 3
-      → LinearBecomes m (linear_in e entry_m) records after → Records m e records after
-  linear-become few is becomes =
-      let count = length-in_order entry_m.record_length (chain_bytes after (linear_in e entry_m).chain) (number_told after (told_address e)) in
-      let all = ap (λ (rs : List (List ℕ)). length rs) becomes.becomes in
-      let number : number_told after (told_address e) ≤ capacity_of entry_m = omega (arith, count, all, few) in
-      let within = length-table m in
-      let small = used_small m e used in
-      let body = ((words.tree.entries.each e free_entry (omega (arith, within, small))).used used).body.records (inl is) in
-      let room = body.room in
-      let begins = becomes.start in
-      let start : start_told after (told_address e) < capacity_of entry_m = omega (arith, begins, room) in
-      let stands = card-stands m after e sized words used (inl is) becomes.only number start (λ _. begins) in
-      let own = entry-after m after e sized words used (inl is) becomes.only number start (λ _. begins) in
-      let sized_after : length after ≡ WORDS = becomes.only.size ∙ sized in
-      let kind : (entry_in (table after) e).kind ≡ 3 = ap (λ (y : Entry). y.kind) own ∙ is in
-      let used_after : IsUsed (table after) e = λ none. let z : ⊥ = omega (arith, kind, none) in z in
-      let short = if entry_m.short == 0 then None else Some entry_m.short in
-      let kind_is : (file_in after e).kind ≡ with_records (file_in m e).kind records =
-      linear-kind after sized_after stands e used_after kind
-      ∙ ap (λ (rs : List (List ℕ)). elementary (if (entry_in (table after) e).short == 0 then None else Some (entry_in
-      (table after) e).short) (linear (entry_in (table after) e).record_length (capacity_of (entry_in (table after) e)) rs))
-      (linear-records after sized_after stands e used_after kind)
-      ∙ ap (λ (y : Entry). elementary (if y.short == 0 then None else Some y.short)
-      (linear y.record_length (capacity_of y) (linear_records after (linear_in e y)))) own
-      ∙ ap (λ (rs : List (List ℕ)). elementary short (linear entry_m.record_length (capacity_of entry_m) rs)) becomes.becomes
-      ∙ sym (ap (λ (k : Kind). with_records k records) (linear-kind m sized words e used is)) in
-      record {
-        stands = stands;
-        card = card-after m after e sized words used (inl is) becomes.only number start (λ _. begins) records kind_is;
-        space = space-after m after e sized words used (inl is) becomes.only number start (λ _. begins);
-        session = session-after m after e sized words used (inl is) becomes.only number start (λ _. begins);
-        current = current-after m after e sized words used (inl is) becomes.only number start (λ _. begins);
-      }
+  abbrev kind_of : List ℕ → Entry → Kind
+  kind_of l y = elementary (if y.short == 0 then None else Some y.short)
+      (body_with (y.kind == 4) y.record_length (capacity_of y) (cyclic_records l (ring_in e y)))
 
-  cyclic-become : length records ≤ capacity_of entry_m → entry_m.kind ≡ 4
-      → CyclicBecomes m (cyclic_in e entry_m) records after → Records m e records after
-  cyclic-become few is becomes =
-      let count = length-newest_first entry_m.record_length (capacity_of entry_m) (chain_bytes after (cyclic_in e entry_m).chain)
-      (start_told after (told_address e)) (number_told after (told_address e)) in
-      let all = ap (λ (rs : List (List ℕ)). length rs) becomes.becomes in
+  ring-become : length records ≤ ring.capacity → Becomes m ring (entry_m.kind == 4) records after → Records m e records after
+  ring-become few made =
+      let count = length-newest_first ring.record_length ring.capacity (chain_bytes after ring.chain)
+      (start_told after ring.told_at) (number_told after ring.told_at) in
+      let all = ap (λ (rs : List (List ℕ)). length rs) made.becomes in
       let number : number_told after (told_address e) ≤ capacity_of entry_m = omega (arith, count, all, few) in
-      let within = length-table m in
-      let small = used_small m e used in
-      let body = ((words.tree.entries.each e free_entry (omega (arith, within, small))).used used).body.records (inr is) in
-      let room = body.room in
-      let some : 0 < capacity_of entry_m = omega (arith, room) in
-      let start : start_told after (told_address e) < capacity_of entry_m =
-      subst (λ (n : ℕ). n < capacity_of entry_m) (sym becomes.start)
-      (mod-lt (entry_m.start + capacity_of entry_m - 1) some) in
+      let start : start_told after (told_address e) < capacity_of entry_m = made.begins in
       let first : entry_m.kind ≡ 3 → start_told after (told_address e) ≡ 0 =
-      λ three. let z : ⊥ = omega (arith, is, three) in absurd z in
-      let stands = card-stands m after e sized words used (inr is) becomes.only number start first in
-      let own = entry-after m after e sized words used (inr is) becomes.only number start first in
-      let sized_after : length after ≡ WORDS = becomes.only.size ∙ sized in
-      let kind : (entry_in (table after) e).kind ≡ 4 = ap (λ (y : Entry). y.kind) own ∙ is in
-      let used_after : IsUsed (table after) e = λ none. let z : ⊥ = omega (arith, kind, none) in z in
+      λ three. made.straight (ap (λ (k : ℕ). k == 4) three) ∙ (rules m sized words e used of_records).linear three in
+      let stands = card-stands m after e sized words used of_records made.only number start first in
+      let own = entry-after m after e sized words used of_records made.only number start first in
+      let sized_after : length after ≡ WORDS = made.only.size ∙ sized in
+      let kind : (entry_in (table after) e).kind ≡ entry_m.kind = ap (λ (y : Entry). y.kind) own in
+      let of_after : ((entry_in (table after) e).kind ≡ 3) ⊎ ((entry_in (table after) e).kind ≡ 4) =
+      ⊎_elim (λ (three : entry_m.kind ≡ 3). inl (kind ∙ three)) (λ (four : entry_m.kind ≡ 4). inr (kind ∙ four)) of_records in
+      let used_after : IsUsed (table after) e = λ none. used (sym kind ∙ none) in
       let short = if entry_m.short == 0 then None else Some entry_m.short in
       let kind_is : (file_in after e).kind ≡ with_records (file_in m e).kind records =
-      cyclic-kind after sized_after stands e used_after kind
-      ∙ ap (λ (rs : List (List ℕ)). elementary (if (entry_in (table after) e).short == 0 then None else Some (entry_in
-      (table after) e).short) (cyclic (entry_in (table after) e).record_length (capacity_of (entry_in (table after) e)) rs))
-      (cyclic-records after sized_after stands e used_after kind)
-      ∙ ap (λ (y : Entry). elementary (if y.short == 0 then None else Some y.short)
-      (cyclic y.record_length (capacity_of y) (cyclic_records after (cyclic_in e y)))) own
-      ∙ ap (λ (rs : List (List ℕ)). elementary short (cyclic entry_m.record_length (capacity_of entry_m) rs)) becomes.becomes
-      ∙ sym (ap (λ (k : Kind). with_records k records) (cyclic-kind m sized words e used is)) in
+      kind-told after sized_after stands e used_after of_after
+      ∙ ap (kind_of after) own
+      ∙ ap (λ (rs : List (List ℕ)). elementary short (body_with (entry_m.kind == 4) entry_m.record_length (capacity_of
+      entry_m) rs)) made.becomes
+      ∙ with-body short (entry_m.kind == 4) entry_m.record_length (capacity_of entry_m) (cyclic_records m ring) records
+      ∙ sym (ap (λ (k : Kind). with_records k records) (kind-told m sized words e used of_records)) in
       record {
         stands = stands;
-        card = card-after m after e sized words used (inr is) becomes.only number start first records kind_is;
-        space = space-after m after e sized words used (inr is) becomes.only number start first;
-        session = session-after m after e sized words used (inr is) becomes.only number start first;
-        current = current-after m after e sized words used (inr is) becomes.only number start first;
+        card = card-after m after e sized words used of_records made.only number start first records kind_is;
+        space = space-after m after e sized words used of_records made.only number start first;
+        session = session-after m after e sized words used of_records made.only number start first;
+        current = current-after m after e sized words used of_records made.only number start first;
       }
 
-  abbrev by_kind : ℕ → Option RecordBody
-  by_kind k =
-      if k == 3 then Some (bodies.Linear (linear_in e entry_m)) else
-      if k == 4 then Some (bodies.Cyclic (cyclic_in e entry_m)) else None
-
-  abbrev by_tests : Bool → Bool → Option RecordBody
-  by_tests three four =
-      if three then Some (bodies.Linear (linear_in e entry_m)) else
-      if four then Some (bodies.Cyclic (cyclic_in e entry_m)) else None
-
-  pub body-become : (body : RecordBody) → body_in e entry_m ≡ Some body → length records ≤ room_in body
-      → BodyBecomes m body records after → Records m e records after
-  body-become body is few becomes = ⊎_elim
-      (λ (three : entry_m.kind ≡ 3).
-      let same : body ≡ bodies.Linear (linear_in e entry_m) =
-      ap (λ (o : Option RecordBody). unwrap_or o body) (sym is ∙ ap by_kind three) in
-      linear-become (subst (λ (b : RecordBody). length records ≤ room_in b) same few) three
-      (subst (λ (b : RecordBody). BodyBecomes m b records after) same becomes))
-      (λ (third : entry_m.kind ≢ 3). ⊎_elim
-      (λ (four : entry_m.kind ≡ 4).
-      let same : body ≡ bodies.Cyclic (cyclic_in e entry_m) =
-      ap (λ (o : Option RecordBody). unwrap_or o body) (sym is ∙ ap by_kind four) in
-      cyclic-become (subst (λ (b : RecordBody). length records ≤ room_in b) same few) four
-      (subst (λ (b : RecordBody). BodyBecomes m b records after) same becomes))
-      (λ (fourth : entry_m.kind ≢ 4).
-      let three = ne_eqb entry_m.kind 3 third in
-      let four = ne_eqb entry_m.kind 4 fourth in
-      let none : None ≡ Some body = sym (λ i. by_tests (three i) (four i)) ∙ is in
-      absurd (true≢false (sym (ap (λ (o : Option RecordBody). is_some o) none))))
-      (cases_eq entry_m.kind 4))
-      (cases_eq entry_m.kind 3)
+  pub records-become : length records ≤ ring.capacity → RingBecomes (entry_m.kind == 4) m ring records after
+      → Records m e records after
+  records-become few becomes =
+      ring-become few (of-ring m ring (entry_m.kind == 4) records after (ring-stands m sized words e used of_records) becomes)

@@ -1,16 +1,13 @@
 -- INCREASE, by the entry of the current cyclic file.
 use Rattle.std.proofs.Common.{◌≡◌, ◌||◌, ◌+◌, ◌^◌, ◌≤◌, ◌%◌, ℕ, zero, suc, Bool, true, false, not, nat_le, nat_lt, List, []}
 use Rattle.std.proofs.Common.{◌∷◌, ◌++◌, length, Option, Some, None, if◌then◌else◌, refl, ◌∙◌, ap}
-use Rattle.std.proofs.Common.{subst}
 use Rattle.std.proofs.lemmas.Bool.{ltb-false}
 use Rattle.nvm_board.specs.declared.board.TheConstants.{WORDS}
 use Rattle.card_rules.specs.declared.access_mode.AccessBit.TheVariants.{Update}
 use Rattle.card_rules.specs.declared.status.Sw.{Sw}
 use Rattle.card_rules.specs.declared.status.TheConstants.Sw.{DONE, MAXIMUM_REACHED, RECORD_NOT_FOUND, WRONG_LENGTH}
 use Rattle.apdu_core.specs.Requests.{increase}
-use Rattle.apdu_core.specs.declared.binary.Target.{Target}
 use Rattle.apdu_core.specs.declared.binary.Target.TheVariants as target
-use Rattle.ef_body.specs.declared.cyclic.Cyclic.{Cyclic}
 use Rattle.ef_body.specs.Bodies.{cyclic_records}
 use Rattle.ef_body.specs.Numbers.{spelled}
 use Rattle.ef_body.specs.Records.{front, has_record}
@@ -18,8 +15,7 @@ use Rattle.ef_body.specs.Refusals.{raised_number, unraised}
 use Rattle.file_tree.specs.Table.{table}
 use Rattle.card_core.specs.declared.current.Current.{Current}
 use Rattle.card_core.specs.declared.named.Need.{Need}
-use Rattle.card_core.specs.declared.record_body.RecordBody.{RecordBody}
-use Rattle.card_core.specs.declared.record_body.RecordBody.TheVariants as bodies
+use Rattle.card_core.specs.declared.record_file.RecordFile.{RecordFile}
 use Rattle.card_core.specs.Cards.{Card, Kind}
 use Rattle.card_core.specs.Elementary.{file_refusals, target_kind, target_path}
 use Rattle.card_core.specs.Increasing.{increased_data}
@@ -56,10 +52,6 @@ short-sent long sent is = ltb-false long sent (or-left (nat_lt long sent) (nat_l
 pub short-fits : (long sent : ℕ) → (nat_lt long sent || nat_lt 256 (long + sent)) ≡ false → long + sent ≤ 256
 short-fits long sent is = ltb-false 256 (long + sent) (or-right (nat_lt long sent) (nat_lt 256 (long + sent)) is)
 
-pub found-cyclic : (m : List ℕ) (x : Current) (to : Target) (need : Need) (e : ℕ) (one : RecordBody) (body : Cyclic)
-    → one ≡ bodies.Cyclic body → IsRecordFile m x to need e one → IsRecordFile m x to need e (bodies.Cyclic body)
-found-cyclic m x to need e one body is found = subst (λ (b : RecordBody). IsRecordFile m x to need e b) is found
-
 -- what refuses besides the file
 abbrev pub sum_limits : Card → Session → List ℕ → Option ℕ → List Refusal
 sum_limits c s sent expected =
@@ -78,8 +70,8 @@ unfolding refusals_of
 increase-barred c s status sent expected is =
     guarded-refused c s target.Current is_cyclic Update status is (sum_limits c s sent expected)
 
-module _ (m : List ℕ) (sized : length m ≡ WORDS) (words : IsCard m) (x : Current) (need : Need) (e : ℕ) (body : Cyclic)
-    (found : IsRecordFile m x target.Current need e (bodies.Cyclic body)) (sent : List ℕ) (expected : Option ℕ)
+module _ (m : List ℕ) (sized : length m ≡ WORDS) (words : IsCard m) (x : Current) (need : Need) (file : RecordFile)
+    (found : IsRecordFile m x target.Current need file) (sent : List ℕ) (expected : Option ℕ)
     (unrefused : refused_by (file_refusals (card_of m) (session_of (table m) x) target.Current is_cyclic Update) ≡ None) where
   abbrev c : Card
   c = card_of m
@@ -91,16 +83,16 @@ module _ (m : List ℕ) (sized : length m ≡ WORDS) (words : IsCard m) (x : Cur
   kind = target_kind c s target.Current
 
   abbrev records : List (List ℕ)
-  records = cyclic_records m body
+  records = cyclic_records m file.ring
 
   abbrev pub new_record : List ℕ
-  new_record = spelled body.record_length (raised_number records sent)
+  new_record = spelled file.ring.record_length (raised_number records sent)
 
   abbrev pub too_long : Bool
-  too_long = nat_lt body.record_length (length sent) || nat_lt 256 (body.record_length + length sent)
+  too_long = nat_lt file.ring.record_length (length sent) || nat_lt 256 (file.ring.record_length + length sent)
 
-  agrees : Agree m kind (bodies.Cyclic body)
-  agrees = agree m sized words x target.Current need e (bodies.Cyclic body) found
+  agrees : Agree m kind file
+  agrees = agree m sized words x target.Current need file found
 
   abbrev verdict : Bool → Bool → Bool → List ℕ → Option Sw
   verdict wrong has over answer =
@@ -128,7 +120,7 @@ module _ (m : List ℕ) (sized : length m ≡ WORDS) (words : IsCard m) (x : Cur
   has_one = has_record records 1
 
   abbrev is_over : Bool
-  is_over = nat_le (256 ^ body.record_length) (raised_number records sent)
+  is_over = nat_le (256 ^ file.ring.record_length) (raised_number records sent)
 
   increase-is : refused_by (refusals_of c s (increase sent expected))
       ≡ verdict too_long has_one is_over (new_record ++ sent)
@@ -147,11 +139,11 @@ module _ (m : List ℕ) (sized : length m ≡ WORDS) (words : IsCard m) (x : Cur
     short-is : refused_by (refusals_of c s (increase sent expected)) ≡ verdict false has_one is_over (new_record ++ sent)
     short-is = increase-is ∙ ap (λ (b : Bool). verdict b has_one is_over (new_record ++ sent)) short
 
-    pub increase-unraised : (status : Sw) → unraised body.record_length records sent ≡ Some status
+    pub increase-unraised : (status : Sw) → unraised file.ring.record_length records sent ≡ Some status
         → refused_by (refusals_of c s (increase sent expected)) ≡ Some status
     increase-unraised status is = short-is ∙ by-refusal has_one is_over status (new_record ++ sent) is
 
-    module _ (free : unraised body.record_length records sent ≡ None) where
+    module _ (free : unraised file.ring.record_length records sent ≡ None) where
       free-is : refused_by (refusals_of c s (increase sent expected))
           ≡ (if asks_less expected (new_record ++ sent) then Some (right_length (new_record ++ sent)) else None)
       free-is = short-is ∙ by-none has_one is_over (new_record ++ sent) free

@@ -17,13 +17,17 @@ use Rattle.undo_journal.specs.Calls.{OnlyReads}
 use Rattle.undo_journal.specs.Memory.{Memory, committed, IsReady}
 use Rattle.card_core.specs.Served.{Serves}
 use Rattle.card_core.specs.Working.{card_in, session_in, table_in}
+use Rattle.ef_body.specs.declared.cyclic.Cyclic.{Cyclic as Ring}
+use Rattle.ef_body.specs.declared.slot.RecordSlot.{RecordSlot}
+use Rattle.ef_body.specs.Bodies.{cyclic_records, IsCyclic}
 use Rattle.ef_body.specs.Records.{has_record, record_of}
+use Rattle.ef_body.specs.Refusals.{missing_record}
 use Rattle.ef_body.specs.Searching.{found as found_in}
 use Rattle.file_tree.specs.Table.{table, path_of, IsUsed}
 use Rattle.file_tree.specs.Trees.{file_in}
 use Rattle.card_core.specs.declared.current.Current.{Current as CurrentFiles}
 use Rattle.card_core.specs.declared.named.Need.{Need}
-use Rattle.card_core.specs.declared.record_body.RecordBody.{RecordBody}
+use Rattle.card_core.specs.declared.record_file.RecordFile.{RecordFile}
 use Rattle.card_core.specs.Cards.{Card, Kind, Path}
 use Rattle.card_core.specs.Counting.{CountsServed}
 use Rattle.card_core.specs.Elementary.{file_refusals, target_kind, target_path}
@@ -31,18 +35,24 @@ use Rattle.card_core.specs.Lengths.{asks_less, given, length_refusal, right_leng
 use Rattle.card_core.specs.Outcomes.{refused, refused_by, Refusal}
 use Rattle.card_core.specs.Records.{has_records, next_record, place_number, pointer_after, pointer_at, pointer_found}
 use Rattle.card_core.specs.Records.{matches, no_record}
-use Rattle.card_core.specs.RecordGuards.{choice_refusals}
+use Rattle.card_core.specs.RecordGuards.{choice_refusals, IsChosen}
 use Rattle.card_core.specs.Records.{pointing, previous_record, records_of, search_status, searching, target_number}
 use Rattle.card_core.specs.Sessions.{Session}
 use Rattle.card_core.specs.Standing.{card_of, IsCard}
 use Rattle.card_core.specs.Steps.{effect, refusals_of, served}
-use Rattle.card_core.specs.Working.{chosen_in, has_in, outcome, pointer_from, pointing_from, records_at, session_of}
+use Rattle.card_core.specs.Working.{chosen_in, has_in, outcome, pointer_from, pointing_from, session_of}
 use Rattle.card_core.specs.Working.{IsCurrent, IsRecordFile}
-use Rattle.card_core.proofs.RecordBodies.{body-agrees, Agree}
+use Rattle.card_core.proofs.RecordBodies.{file-agrees, has-slot, Agree}
 use Rattle.card_core.proofs.Entries.{there}
 use Rattle.card_core.proofs.Guarding.{guarded-first, guarded-free, named-kind, named-path, served-done, served-refused}
 use Rattle.card_core.proofs.Serves.{declined}
 use Rattle.card_core.proofs.Serving.{named-current, naming-entry}
+
+-- where a look finds no record, that refuses the command
+pub gone-status : (has : Bool) (status : Sw) → (if has then None else Some RECORD_NOT_FOUND) ≡ Some status
+    → (if not has then Some RECORD_NOT_FOUND else None) ≡ Some status
+gone-status true status is = is
+gone-status false status is = is
 
 -- what refuses besides the file
 abbrev other_length : Card → Session → Target → RecordChoice → ℕ → Refusal
@@ -88,7 +98,10 @@ declined-empty request old x new text empty counted card status reads ready curr
     (declined request old x new counted card status reads ready current is)
 
 module _ (m : List ℕ) (sized : length m ≡ WORDS) (words : IsCard m) (x : CurrentFiles) (target : Target) (need : Need)
-    (e : ℕ) (body : RecordBody) (found : IsRecordFile m x target need e body) where
+    (file : RecordFile) (found : IsRecordFile m x target need file) where
+  abbrev e : ℕ
+  e = file.number
+
   abbrev c : Card
   c = card_of m
 
@@ -109,11 +122,13 @@ module _ (m : List ℕ) (sized : length m ≡ WORDS) (words : IsCard m) (x : Cur
   kind-is = named-kind c s target has_records Read (path_of (table m) e) (file_in m e) found.named.place
       (there m words e used)
 
-  pub agree : Agree m kind body
-  agree = subst (λ (k : Kind). Agree m k body) (sym kind-is) (body-agrees m sized words e used body found.body_is)
+  pub agree : Agree m kind file
+  agree = subst (λ (k : Kind). Agree m k file) (sym kind-is)
+      (subst (λ (f : RecordFile). Agree m (file_in m e).kind f) (sym found.file_is)
+      (file-agrees m sized words e used found.kind))
 
   -- whether there is a record
-  pub has-is : (n : ℕ) → has_record (records_of kind) n ≡ has_in body n
+  pub has-is : (n : ℕ) → has_record (records_of kind) n ≡ has_in file.ring n
   has-is n = ap (λ (l : ℕ). nat_le 1 n && nat_le n l) agree.number
 
   -- the pointer that a command begins with
@@ -125,7 +140,7 @@ module _ (m : List ℕ) (sized : length m ≡ WORDS) (words : IsCard m) (x : Cur
       by_target (Short n) = refl
 
   -- the record that is chosen
-  pub chosen-is : (choice : RecordChoice) → target_number c s target choice ≡ chosen_in body (pointer_from x target) choice
+  pub chosen-is : (choice : RecordChoice) → target_number c s target choice ≡ chosen_in file (pointer_from x target) choice
   chosen-is Next =
       let pointer = pointer-is in
       let order = agree.order in
@@ -150,21 +165,21 @@ module _ (m : List ℕ) (sized : length m ≡ WORDS) (words : IsCard m) (x : Cur
 
   module _ (unrefused : refused_by (file_refusals c s target has_records Read) ≡ None) where
     -- there is no such record
-    pub record-gone : (choice : RecordChoice) → has_in body (chosen_in body (pointer_from x target) choice) ≡ false
-        → refused_by (choice_refusals c s target choice) ≡ Some RECORD_NOT_FOUND
-    record-gone choice gone =
-        let has : has_record (records_of kind) (target_number c s target choice) ≡ false =
-        ap (has_record (records_of kind)) (chosen-is choice) ∙ has-is _ ∙ gone in
+    pub record-gone : (choice : RecordChoice) (status : Sw)
+        → missing_record (records_of kind) (chosen_in file (pointer_from x target) choice) ≡ Some status
+        → refused_by (choice_refusals c s target choice) ≡ Some status
+    record-gone choice status gone =
         guarded-free c s target has_records Read unrefused (no_record c s target (target_number c s target choice) ∷ [])
-        ∙ (λ i. if not (has i) then Some RECORD_NOT_FOUND else None)
+        ∙ ap (λ (n : ℕ). if not (has_record (records_of kind) n) then Some RECORD_NOT_FOUND else None) (chosen-is choice)
+        ∙ gone-status (has_record (records_of kind) (chosen_in file (pointer_from x target) choice)) status gone
 
     -- READ RECORD
     module _ (choice : RecordChoice) (expected : ℕ) where
       abbrev number : ℕ
-      number = chosen_in body (pointer_from x target) choice
+      number = chosen_in file (pointer_from x target) choice
 
       abbrev text : List ℕ
-      text = record_of (records_at m body) number
+      text = record_of (cyclic_records m file.ring) number
 
       -- Le is neither 00 nor a record's length
       abbrev is_other : List ℕ → Bool
@@ -176,22 +191,22 @@ module _ (m : List ℕ) (sized : length m ≡ WORDS) (words : IsCard m) (x : Cur
       text-is : record_of (records_of kind) (target_number c s target choice) ≡ text
       text-is = let records = agree.records in let n = chosen-is choice in λ i. record_of (records i) (n i)
 
-      read-is : refused_by (refusals_of c s (read_record target choice expected)) ≡ read_verdict (has_in body number) text
+      read-is : refused_by (refusals_of c s (read_record target choice expected)) ≡ read_verdict (has_in file.ring number) text
       unfolding refusals_of
       read-is =
-          let has : has_record (records_of kind) (target_number c s target choice) ≡ has_in body number =
+          let has : has_record (records_of kind) (target_number c s target choice) ≡ has_in file.ring number =
           ap (has_record (records_of kind)) (chosen-is choice) ∙ has-is number in
           let t = text-is in
           guarded-free c s target has_records Read unrefused (read_limits c s target choice expected)
           ∙ (λ i. read_verdict (has i) (t i))
 
-      pub read-other : has_in body number ≡ true → is_other text ≡ true
+      pub read-other : has_in file.ring number ≡ true → is_other text ≡ true
           → served c s (read_record target choice expected) ≡ refused c s (right_length text)
       read-other has other = served-refused c s (read_record target choice expected) (right_length text)
           (read-is ∙ ap (λ (b : Bool). read_verdict b text) has
           ∙ ap (λ (b : Bool). if b then Some (right_length text) else None) other)
 
-      pub read-whole : has_in body number ≡ true → is_other text ≡ false
+      pub read-whole : has_in file.ring number ≡ true → is_other text ≡ false
           → served c s (read_record target choice expected)
           ≡ outcome c (session_of (table m) (pointing_from x target e (pointer_after (pointer_from x target) choice
           number))) text DONE
@@ -214,7 +229,7 @@ module _ (m : List ℕ) (sized : length m ≡ WORDS) (words : IsCard m) (x : Cur
       start = place_number first (pointer_from x target)
 
       abbrev numbers : List ℕ
-      numbers = found_in (searching direction) start sought (records_at m body)
+      numbers = found_in (searching direction) start sought (cyclic_records m file.ring)
 
       abbrev search_verdict : Bool → List ℕ → Option Sw
       search_verdict has ns =
@@ -229,24 +244,24 @@ module _ (m : List ℕ) (sized : length m ≡ WORDS) (words : IsCard m) (x : Cur
           found_in (searching direction) (n i) sought (records i)
 
       search-is : refused_by (refusals_of c s (search_record target first direction sought expected))
-          ≡ search_verdict (has_in body start) numbers
+          ≡ search_verdict (has_in file.ring start) numbers
       unfolding refusals_of
       search-is =
-          let has : has_record (records_of kind) (place_number first (pointer_at s target)) ≡ has_in body start =
+          let has : has_record (records_of kind) (place_number first (pointer_at s target)) ≡ has_in file.ring start =
           ap (has_record (records_of kind)) start-is ∙ has-is start in
           let ns = numbers-are in
           guarded-free c s target has_records Read unrefused
           (search_limits c s target first direction sought expected)
           ∙ (λ i. search_verdict (has i) (ns i))
 
-      pub search-less : has_in body start ≡ true → asks_less expected numbers ≡ true
+      pub search-less : has_in file.ring start ≡ true → asks_less expected numbers ≡ true
           → served c s (search_record target first direction sought expected) ≡ refused c s (right_length numbers)
       search-less has less =
           served-refused c s (search_record target first direction sought expected) (right_length numbers)
           (search-is ∙ ap (λ (b : Bool). search_verdict b numbers) has
           ∙ ap (λ (b : Bool). if b then Some (right_length numbers) else None) less)
 
-      pub search-whole : has_in body start ≡ true → asks_less expected numbers ≡ false
+      pub search-whole : has_in file.ring start ≡ true → asks_less expected numbers ≡ false
           → served c s (search_record target first direction sought expected)
           ≡ outcome c (session_of (table m) (pointing_from x target e (pointer_found (pointer_from x target) numbers)))
           (given expected numbers) (search_status numbers)
@@ -262,3 +277,16 @@ module _ (m : List ℕ) (sized : length m ≡ WORDS) (words : IsCard m) (x : Cur
           (search-is ∙ ap (λ (b : Bool). search_verdict b numbers) has
           ∙ ap (λ (b : Bool). if b then Some (right_length numbers) else None) enough)
           ∙ (λ i. outcome c (session i) (given expected (ns i)) (search_status (ns i)))
+
+-- what is known of a record that is chosen: its ring is that of a file, and it is there
+module _ (m : List ℕ) (sized : length m ≡ WORDS) (words : IsCard m) (x : CurrentFiles) (target : Target)
+    (choice : RecordChoice) (file : RecordFile) (slot : RecordSlot) (found : IsChosen m x target choice file slot) where
+  pub chosen-body : (l : List ℕ) → l ≡ m → IsCyclic l slot.ring
+  chosen-body l same = subst (λ (k : List ℕ). IsCyclic k slot.ring) (sym same)
+      (subst (λ (r : Ring). IsCyclic m r) (sym found.ring_is) (agree m sized words x target _ file found.named).stands)
+
+pub chosen-has : (m : List ℕ) (x : CurrentFiles) (target : Target) (choice : RecordChoice) (file : RecordFile)
+    (slot : RecordSlot) → IsChosen m x target choice file slot
+    → has_in file.ring (chosen_in file (pointer_from x target) choice) ≡ true
+chosen-has m x target choice file slot found =
+    (λ i. has_in (sym found.ring_is i) (sym found.number_is i)) ∙ has-slot slot

@@ -14,21 +14,23 @@ use Rattle.undo_journal.specs.Memory.{Memory, committed, IsReady}
 use Rattle.apdu_core.specs.Requests.{update_record}
 use Rattle.apdu_core.specs.declared.binary.Target.{Target}
 use Rattle.apdu_core.specs.declared.records.RecordChoice.{RecordChoice}
+use Rattle.ef_body.specs.declared.cyclic.Cyclic.{Cyclic as Ring}
+use Rattle.ef_body.specs.declared.slot.RecordSlot.{RecordSlot}
 use Rattle.ef_body.specs.declared.layout.TheConstants.{RECORD_WRITES}
+use Rattle.ef_body.specs.Bodies.{cyclic_records, IsCyclic}
 use Rattle.file_tree.specs.Table.{table}
 use Rattle.card_core.specs.declared.current.Current.{Current}
 use Rattle.card_core.specs.declared.named.Need.{Need}
-use Rattle.card_core.specs.declared.record_body.RecordBody.{RecordBody}
+use Rattle.card_core.specs.declared.record_file.RecordFile.{RecordFile}
 use Rattle.card_core.specs.Elementary.{file_refusals}
 use Rattle.card_core.specs.Outcomes.{refused_by}
 use Rattle.card_core.specs.RecordGuards.{IsReplaceable}
 use Rattle.card_core.specs.Records.{pointer_after, replaces}
 use Rattle.card_core.specs.Served.{Serves}
 use Rattle.card_core.specs.Standing.{card_of, IsCard}
-use Rattle.card_core.specs.Working.{has_in, looked_at, number_replaced_in}
-use Rattle.card_core.specs.Working.{pointer_from, pointing_from, replaced_in, session_of, space_in, table_in}
-use Rattle.card_core.specs.Working.{structure_replaced, wraps_in, BodyBecomes, IsBodyIn, IsCurrent}
-use Rattle.card_core.proofs.RecordBodies.{has-few, looked-replaced, replaced-fits}
+use Rattle.card_core.specs.Working.{has_in, number_replaced_in, pointer_from, pointing_from, replaced_in, session_of, space_in}
+use Rattle.card_core.specs.Working.{structure_replaced, table_in, IsCurrent, RingBecomes}
+use Rattle.card_core.proofs.RecordBodies.{has-slot, replaced-fits, slot-few}
 use Rattle.card_core.proofs.RecordWrites.{PutsRecords, records-made, records-space, records-torn}
 use Rattle.card_core.proofs.RecordWrites.{replaces-is, update-commits, update-effect, update-free}
 use Rattle.card_core.proofs.Recording.{agree}
@@ -44,73 +46,75 @@ module _ (old mid new : Memory) (ready : IsReady old) (words : IsCard (committed
   same : committed mid ≡ m
   same = reads.keeps.committed_words
 
-  module _ (target : Target) (choice : RecordChoice) (bytes : List ℕ) (e : ℕ) (body : RecordBody) (n : ℕ)
-      (found : IsReplaceable m x target choice bytes e body n) where
-    stands : IsBodyIn m body
-    stands = (agree m sized words x target _ e body found.file).stands
+  module _ (target : Target) (choice : RecordChoice) (bytes : List ℕ) (file : RecordFile) (slot : RecordSlot)
+      (found : IsReplaceable m x target choice bytes file slot) where
+    stands : IsCyclic m slot.ring
+    stands = subst (λ (r : Ring). IsCyclic m r) (sym found.ring_is)
+        (agree m sized words x target _ file found.named).stands
 
-    pub replaced-body : IsBodyIn (committed mid) body
-    replaced-body = subst (λ (l : List ℕ). IsBodyIn l body) (sym same) stands
+    pub replaced-body : IsCyclic (committed mid) slot.ring
+    replaced-body = subst (λ (l : List ℕ). IsCyclic l slot.ring) (sym same) stands
 
-    pub replaced-looked : has_in body (looked_at body n) ≡ true
-    replaced-looked =
-        ap (has_in body) (ap (looked_at body) found.number_is ∙ looked-replaced body _ ∙ sym found.number_is)
-        ∙ found.has
+    pub replaced-long : length bytes ≡ slot.ring.record_length
+    replaced-long = found.long ∙ ap (λ (r : Ring). r.record_length) (sym found.ring_is)
 
-    pub replaced-few : n ≤ 255
-    replaced-few = let few = has-few m body stands n found.has in omega (arith, few)
+    pub replaced-few : slot.number ≤ 255
+    replaced-few = let few = slot-few m slot stands in omega (arith, few)
 
     abbrev k : ℕ
-    k = number_replaced_in body (pointer_from x target) choice
+    k = number_replaced_in file (pointer_from x target) choice
 
     abbrev records : List (List ℕ)
-    records = replaced_in m body k bytes
+    records = replaced_in file.wraps (cyclic_records m file.ring) k bytes
 
     free : refused_by (file_refusals (card_of m) (session_of (table m) x) target (replaces choice) Update) ≡ None
-    free = sym (replaces-is (card_of m) (session_of (table m) x) target choice) ∙ found.file.named.unrefused
+    free = sym (replaces-is (card_of m) (session_of (table m) x) target choice) ∙ found.named.named.unrefused
 
     abbrev need : Need
     need = record { structure = structure_replaced choice; bit = Update }
 
-    puts : PutsRecords old x target need e body (update_record target choice bytes) records
+    has : has_in file.ring k ≡ true
+    has = (λ i. has_in (sym found.ring_is i) (sym found.number_is i)) ∙ has-slot slot
+
+    puts : PutsRecords old x target need file (update_record target choice bytes) records
     puts = record {
-      found = found.file;
-      none = update-free m sized words x target _ e body found.file bytes choice free
-          (sym (ap (has_in body) found.number_is) ∙ found.has) (eq-eqb _ _ found.long);
-      commits_is = update-commits m sized words x target _ e body found.file bytes choice free;
-      few = replaced-fits m body stands k bytes;
+      found = found.named;
+      none = update-free m sized words x target _ file found.named bytes choice free has (eq-eqb _ _ found.long);
+      commits_is = update-commits m sized words x target _ file found.named bytes choice free;
+      few = replaced-fits m file.ring (agree m sized words x target _ file found.named).stands file.wraps k bytes;
       most = refl;
       unshown = refl;
     }
 
     abbrev put : List (List ℕ)
-    put = replaced_in (committed mid) body n bytes
+    put = replaced_in file.wraps (cyclic_records (committed mid) slot.ring) slot.number bytes
 
     put-are : put ≡ records
-    put-are = λ i. replaced_in (same i) body (found.number_is i) bytes
+    put-are = λ i. replaced_in file.wraps (cyclic_records (same i) (found.ring_is i)) (found.number_is i) bytes
 
-    module _ (any_exit : (committed new ≡ committed mid) ⊎ BodyBecomes (committed mid) body put (committed new))
-        (by_gate : CommitsByGate mid new) (told : Option StoreErr) (changes : Changes RECORD_WRITES mid new told) where
+    module _ (any_exit : (committed new ≡ committed mid) ⊎ RingBecomes file.wraps (committed mid) slot.ring put (committed
+        new)) (by_gate : CommitsByGate mid new) (told : Option StoreErr) (changes : Changes RECORD_WRITES mid new told) where
       pub replaced-torn : (r : Result Sw StoreErr) (error : StoreErr) → IsErrAnd r (λ f. f ≡ error) → told ≡ Some error
           → Serves (update_record target choice bytes) old x new x [] r
       replaced-torn =
-          records-torn old mid new ready words x current target need e body _ records puts reads put put-are any_exit by_gate told
-          changes [] (omega arith)
+          records-torn old mid new ready words x current target need file _ records puts reads file.wraps refl slot.ring
+          found.ring_is put put-are any_exit by_gate told changes [] (omega arith)
 
-      pub replaced-done : BodyBecomes (committed mid) body put (committed new) → IsReady new → (pointer : Option ℕ)
-          → pointer ≡ (if wraps_in body then Some 1 else pointer_after (pointer_from x target) choice n)
-          → Serves (update_record target choice bytes) old x new (pointing_from x target e pointer) [] (Ok DONE)
+      pub replaced-done : RingBecomes file.wraps (committed mid) slot.ring put (committed new) → IsReady new
+          → (pointer : Option ℕ)
+          → pointer ≡ (if file.wraps then Some 1 else pointer_after (pointer_from x target) choice slot.number)
+          → Serves (update_record target choice bytes) old x new (pointing_from x target file.number pointer) [] (Ok DONE)
       replaced-done becomes ready_now pointer pointer_is =
-          let after = if wraps_in body then Some 1 else pointer_after (pointer_from x target) choice k in
-          let is : pointer ≡ after = pointer_is ∙ (λ i. if wraps_in body then Some 1 else pointer_after (pointer_from x
+          let after = if file.wraps then Some 1 else pointer_after (pointer_from x target) choice k in
+          let is : pointer ≡ after = pointer_is ∙ (λ i. if file.wraps then Some 1 else pointer_after (pointer_from x
           target) choice (found.number_is i)) in
-          subst (λ (p : Option ℕ). Serves (update_record target choice bytes) old x new (pointing_from x target e p) []
-          (Ok DONE)) (sym is)
-          (records-made old mid new ready words x current target need e body _ records puts reads put put-are any_exit by_gate told
-          changes becomes ready_now after [] (omega arith)
-          (update-effect m sized words x target _ e body found.file bytes choice free))
+          subst (λ (p : Option ℕ). Serves (update_record target choice bytes) old x new (pointing_from x target file.number
+          p) [] (Ok DONE)) (sym is)
+          (records-made old mid new ready words x current target need file _ records puts reads file.wraps refl slot.ring
+          found.ring_is put put-are any_exit by_gate told changes becomes ready_now after [] (omega arith)
+          (update-effect m sized words x target _ file found.named bytes choice free))
 
-      pub replaced-space : BodyBecomes (committed mid) body put (committed new) → space_in new ≡ space_in old
+      pub replaced-space : RingBecomes file.wraps (committed mid) slot.ring put (committed new) → space_in new ≡ space_in old
       replaced-space =
-          records-space old mid new ready words x current target need e body _ records puts reads put put-are any_exit by_gate told
-          changes
+          records-space old mid new ready words x current target need file _ records puts reads file.wraps refl slot.ring
+          found.ring_is put put-are any_exit by_gate told changes

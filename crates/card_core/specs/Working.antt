@@ -1,5 +1,5 @@
 -- What the code keeps of a session, and what it makes of a step. No public clause names these.
-use Rattle.std.specs.Prelude.{◌≡◌, ◌≢◌, ◌≤◌, ◌+◌, ◌*◌, ◌==◌, ◌&&◌, ℕ, Bool, true, false, not, nat_lt}
+use Rattle.std.specs.Prelude.{◌≡◌, ◌≢◌, ◌⊎◌, ◌≤◌, ◌+◌, ◌*◌, ◌==◌, ◌&&◌, ℕ, Bool, true, false, not, nat_lt}
 use Rattle.std.specs.Prelude.{nat_le, if◌then◌else◌}
 use Rattle.std.specs.Prelude.{◌||◌, ◌-◌, ◌++◌, ◌∷◌, slice_set, IsTrue, List, [], length, Option, Some}
 use Rattle.std.specs.Prelude.{None, option_map, unwrap_or, IfSome}
@@ -23,14 +23,12 @@ use Rattle.file_tree.specs.declared.layout.TheConstants.{FIRST_ENTRY_PAGE}
 use Rattle.nvm_board.specs.declared.board.TheConstants.{PAGE_WORDS}
 use Rattle.apdu_core.specs.declared.records.RecordChoice.{RecordChoice}
 use Rattle.apdu_core.specs.declared.records.RecordChoice.TheVariants.{Next, Previous, At}
-use Rattle.ef_body.specs.declared.linear.Linear.{Linear as LinearBody}
-use Rattle.ef_body.specs.declared.cyclic.Cyclic.{Cyclic as CyclicBody}
-use Rattle.ef_body.specs.Bodies.{cyclic_records, linear_records, IsCyclic, IsLinear}
-use Rattle.ef_body.specs.Changes.{CyclicBecomes, LinearBecomes}
+use Rattle.ef_body.specs.declared.cyclic.Cyclic.{Cyclic as Ring}
+use Rattle.ef_body.specs.Changes.{CyclicBecomes, RecordsBecome}
 use Rattle.ef_body.specs.Records.{front}
-use Rattle.ef_body.specs.Refusals.{full}
-use Rattle.card_core.specs.declared.record_body.RecordBody.{RecordBody}
-use Rattle.card_core.specs.declared.record_body.RecordBody.TheVariants as bodies
+use Rattle.card_core.specs.declared.record_file.RecordFile.{RecordFile}
+use Rattle.card_core.specs.declared.record_file.Room.{Room}
+use Rattle.card_core.specs.declared.record_file.Room.TheVariants as rooms
 use Rattle.card_core.specs.Records.{has_records, is_cyclic, is_linear, next_record, place_number, previous_record}
 use Rattle.file_tree.specs.Table.{table, entry_in, path_of, IsChild, IsFileEntry}
 use Rattle.apdu_core.specs.declared.select.Returned.{Returned}
@@ -176,18 +174,9 @@ life_of entry = unwrap_or (life_cycle_at entry.life) Activated
 abbrev pub told_address : ℕ → ℕ
 told_address e = PAGE_WORDS * (FIRST_ENTRY_PAGE + e) + 10
 
--- the body of records that an entry tells of, if it tells of one
-abbrev pub linear_in : ℕ → Entry → LinearBody
-linear_in e entry = record {
-  chain = record { first = entry.first; last = entry.last };
-  record_length = entry.record_length;
-  capacity = capacity_of entry;
-  records = entry.records;
-  told_at = told_address e;
-}
-
-abbrev pub cyclic_in : ℕ → Entry → CyclicBody
-cyclic_in e entry = record {
+-- the records that an entry tells of, as a ring: of a linear file record 1 lies in slot 0
+abbrev pub ring_in : ℕ → Entry → Ring
+ring_in e entry = record {
   chain = record { first = entry.first; last = entry.last };
   record_length = entry.record_length;
   capacity = capacity_of entry;
@@ -196,87 +185,56 @@ cyclic_in e entry = record {
   told_at = told_address e;
 }
 
-abbrev pub body_in : ℕ → Entry → Option RecordBody
-body_in e entry =
-    if entry.kind == 3 then Some (bodies.Linear (linear_in e entry)) else
-    if entry.kind == 4 then Some (bodies.Cyclic (cyclic_in e entry)) else None
+abbrev pub record_file_in : ℕ → Entry → RecordFile
+record_file_in e entry = record { number = e; ring = ring_in e entry; wraps = entry.kind == 4 }
 
--- what the code knows of a body of records
-abbrev pub count_in : RecordBody → ℕ
-count_in (bodies.Linear body) = body.records
-count_in (bodies.Cyclic body) = body.records
-
-abbrev pub length_in : RecordBody → ℕ
-length_in (bodies.Linear body) = body.record_length
-length_in (bodies.Cyclic body) = body.record_length
-
-abbrev pub wraps_in : RecordBody → Bool
-wraps_in (bodies.Linear body) = false
-wraps_in (bodies.Cyclic body) = true
-
-abbrev pub chosen_in : RecordBody → Option ℕ → RecordChoice → ℕ
-chosen_in body pointer Next = next_record (wraps_in body) (count_in body) pointer
-chosen_in body pointer Previous = previous_record (wraps_in body) (count_in body) pointer
-chosen_in body pointer (At place) = place_number place pointer
+-- what the code chooses in a file of records
+abbrev pub chosen_in : RecordFile → Option ℕ → RecordChoice → ℕ
+chosen_in file pointer Next = next_record file.wraps file.ring.records pointer
+chosen_in file pointer Previous = previous_record file.wraps file.ring.records pointer
+chosen_in file pointer (At place) = place_number place pointer
 
 -- the record whose place is taken, and the number of one that was added
-abbrev pub number_replaced_in : RecordBody → Option ℕ → RecordChoice → ℕ
-number_replaced_in body pointer choice = if wraps_in body then 1 else chosen_in body pointer choice
+abbrev pub number_replaced_in : RecordFile → Option ℕ → RecordChoice → ℕ
+number_replaced_in file pointer choice = if file.wraps then 1 else chosen_in file pointer choice
 
-abbrev pub number_added_in : RecordBody → ℕ
-number_added_in body = if wraps_in body then 1 else count_in body + 1
+abbrev pub number_added_in : RecordFile → ℕ
+number_added_in file = if file.wraps then 1 else file.ring.records + 1
 
--- there is a record of this number; how many there is room for; there is no room for one more
-abbrev pub has_in : RecordBody → ℕ → Bool
-has_in body number = nat_le 1 number && nat_le number (count_in body)
+-- there is a record of this number; there is no room for one more
+abbrev pub has_in : Ring → ℕ → Bool
+has_in ring number = nat_le 1 number && nat_le number ring.records
 
-abbrev pub room_in : RecordBody → ℕ
-room_in (bodies.Linear body) = body.capacity
-room_in (bodies.Cyclic body) = body.capacity
+abbrev pub is_full_in : RecordFile → Bool
+is_full_in file = not file.wraps && nat_le file.ring.capacity file.ring.records
 
-abbrev pub is_full_in : RecordBody → Bool
-is_full_in (bodies.Linear body) = nat_le body.capacity body.records
-is_full_in (bodies.Cyclic body) = false
+-- records with one replaced, and with one more, where the last one is followed by the first, and where it isn't
+abbrev pub replaced_in : Bool → List (List ℕ) → ℕ → List ℕ → List (List ℕ)
+replaced_in wraps records number bytes =
+    if wraps then front (length records) bytes records else slice_set records (number - 1) bytes
 
--- its records, and when the memory tells of it
-abbrev pub records_at : List ℕ → RecordBody → List (List ℕ)
-records_at m (bodies.Linear body) = linear_records m body
-records_at m (bodies.Cyclic body) = cyclic_records m body
+abbrev pub appended_in : Bool → ℕ → List (List ℕ) → List ℕ → List (List ℕ)
+appended_in wraps capacity records bytes = if wraps then front capacity bytes records else records ++ bytes ∷ []
 
-abbrev pub IsBodyIn : List ℕ → RecordBody → Type 0
-IsBodyIn m (bodies.Linear body) = IsLinear m body
-IsBodyIn m (bodies.Cyclic body) = IsCyclic m body
+-- a ring has these records, and all else stays: where the last one is followed by the first, the new one lies before it
+abbrev pub RingBecomes : Bool → List ℕ → Ring → List (List ℕ) → List ℕ → Type 0
+RingBecomes true m ring records after = CyclicBecomes m ring records after
+RingBecomes false m ring records after = RecordsBecome m ring records after
 
--- the record that must be there if one is to be replaced: of a cyclic body any, so record 1
-abbrev pub looked_at : RecordBody → ℕ → ℕ
-looked_at (bodies.Linear body) number = number
-looked_at (bodies.Cyclic body) number = 1
+-- where a record that is added goes
+abbrev pub wraps_room : Room → Bool
+wraps_room (rooms.Behind slot) = false
+wraps_room (rooms.InFront ring) = true
 
--- its records with one replaced, and with one more
-abbrev pub replaced_in : List ℕ → RecordBody → ℕ → List ℕ → List (List ℕ)
-replaced_in m (bodies.Linear body) number bytes = slice_set (linear_records m body) (number - 1) bytes
-replaced_in m (bodies.Cyclic body) number bytes =
-    front (length (cyclic_records m body)) bytes (cyclic_records m body)
+abbrev pub ring_room : Room → Ring
+ring_room (rooms.Behind slot) = slot.ring
+ring_room (rooms.InFront ring) = ring
 
-abbrev pub appended_in : List ℕ → RecordBody → List ℕ → List (List ℕ)
-appended_in m (bodies.Linear body) bytes = linear_records m body ++ bytes ∷ []
-appended_in m (bodies.Cyclic body) bytes = front body.capacity bytes (cyclic_records m body)
-
--- what refuses one more
-abbrev pub full_in : List ℕ → RecordBody → Option Sw
-full_in m (bodies.Linear body) = full body.capacity (linear_records m body)
-full_in m (bodies.Cyclic body) = None
-
--- it has these records, and all else stays
-abbrev pub BodyBecomes : List ℕ → RecordBody → List (List ℕ) → List ℕ → Type 0
-BodyBecomes m (bodies.Linear body) records after = LinearBecomes m body records after
-BodyBecomes m (bodies.Cyclic body) records after = CyclicBecomes m body records after
-
--- A file of records that a command names has an entry which tells of this body.
-pub record IsRecordFile (m : List ℕ) (x : Current) (target : Target) (need : Need) (e : ℕ) (body : RecordBody)
-    : Type 0 where
-  pub named : IsNamed m x target need e (entry_in (table m) e)
-  pub body_is : body_in e (entry_in (table m) e) ≡ Some body
+-- A file of records that a command names has an entry which tells of it so.
+pub record IsRecordFile (m : List ℕ) (x : Current) (target : Target) (need : Need) (file : RecordFile) : Type 0 where
+  pub named : IsNamed m x target need file.number (entry_in (table m) file.number)
+  pub kind : ((entry_in (table m) file.number).kind ≡ 3) ⊎ ((entry_in (table m) file.number).kind ≡ 4)
+  pub file_is : file ≡ record_file_in file.number (entry_in (table m) file.number)
 
 -- the structure that UPDATE RECORD is for, by its choice
 abbrev pub structure_replaced : RecordChoice → Structure

@@ -1,13 +1,10 @@
 //! INCREASE (ETSI TS 102 221, 11.1.8).
-ghost use Rattle.std.specs.Prelude.{◌≡◌, ◌≤◌, ◌+◌, ◌++◌, ◌||◌, ◌⊎◌, nat_lt, [], length, None, Some, IfOk, OnOk, MatchResult};
+ghost use Rattle.std.specs.Prelude.{◌≡◌, ◌≤◌, ◌+◌, ◌++◌, ◌||◌, nat_lt, [], length, Some, IfOk, OnOk, MatchResult};
 ghost use Rattle.std.specs.Result.{result_err};
-ghost use Rattle.undo_journal.specs.Commits.{CommitsByGate};
-ghost use Rattle.undo_journal.specs.Calls.{Reads, Changes};
+ghost use Rattle.undo_journal.specs.Calls.{Reads};
 ghost use Rattle.undo_journal.specs.Memory.{committed, IsReady};
 ghost use Rattle.apdu_core.specs.Requests.{increase as increasing};
-ghost use Rattle.ef_body.specs.declared.layout.TheConstants.{RECORD_WRITES};
 ghost use Rattle.ef_body.specs.Bodies.{cyclic_records, IsCyclic};
-ghost use Rattle.ef_body.specs.Changes.{Increases};
 ghost use Rattle.ef_body.specs.Numbers.{spelled};
 ghost use Rattle.ef_body.specs.Refusals.{raised_number, unraised};
 ghost use Rattle.card_core.specs.Outcomes.{refused_by};
@@ -19,12 +16,12 @@ ghost use Rattle.card_core.specs.Working.{card_in, session_in, space_in, IsKept}
 use crate::current::Current;
 use crate::lengths::{ResponseData, asks_less, give, right_length};
 use crate::named::{Need, Structure};
-use crate::record_body::unless_failed;
+use crate::record_file::FileRecord;
 use crate::records::find_records;
 use apdu_core::{Answer, Sw, Target};
 use card_rules::AccessBit;
 use card_rules::limits::MOST_ANSWER_DATA;
-use ef_body::{BodyErr, Cyclic};
+use ef_body::{BodyErr, Cyclic, RecordSlot};
 use undo_journal::{Board, Store, StoreErr};
 
 /// What INCREASE needs of its file.
@@ -48,37 +45,30 @@ pub(crate) fn increase<B: Board>(
     ensures serves { Serves (increasing amount.now expected) store.old current.old store.new current.new answer.new.items result }
     ensures space { OnOk result (space_in store.new ≡ space_in store.old) }
 {
-    let mut response = ResponseData::new();
-    let file = match find_increased(store, current, amount, expected, &mut response)? {
-        Ok(file) => file,
+    let mut sum = ResponseData::new();
+    let found = match find_increased(store, current, amount, expected, &mut sum)? {
+        Ok(found) => found,
         Err(refusal) => return Ok(refusal),
     };
-    put_sum(file.body, store, amount)?;
-    give(expected, &response, answer);
-    *current = current.pointing(Target::Current, file.number, Some(1));
+    found.slot.replace_oldest(store, &sum)?;
+    give(expected, &answer_of(&sum, amount), answer);
+    *current = current.pointing(Target::Current, found.file.number, Some(1));
     Ok(Sw::DONE)
 }
 
-/// A cyclic file: the number of its entry, and its body.
-#[derive(Clone, Copy)]
-struct CyclicFile {
-    number: u8,
-    body: Cyclic,
-}
-
-/// The file that INCREASE is for, and what it answers, put into `response`; or else the refusal: by the current file; the
-/// sent number is too long; there is no record; the sum is too long; Le asks for less than the answer.
+/// The newest record of the file that INCREASE is for, and the new one, put into `sum`; or else the refusal: by the current
+/// file; the sent number is too long; there is no record; the sum is too long; Le asks for less than the answer.
 fn find_increased<B: Board>(
     store: &mut Store<B>,
     current: &Current,
     amount: &[u8],
     expected: Option<u8>,
-    response: &mut ResponseData,
-) -> Result<Result<CyclicFile, Sw>, StoreErr>
+    sum: &mut ResponseData,
+) -> Result<Result<FileRecord, Sw>, StoreErr>
     requires kept { IsKept store.old current.now }
     requires few { length amount.now ≤ 255 }
     ensures found { IfOk result (λ answer. MatchResult answer
-        (λ file. IsIncreasable (committed store.old) current.now amount.now expected file.number file.body response.new.items)
+        (λ found. IsIncreasable (committed store.old) current.now amount.now expected found.file found.slot sum.new.items)
         (λ refusal. refused_by (refusals_of (card_in store.old) (session_in store.old current.now)
         (increasing amount.now expected)) ≡ Some refusal)) }
     ensures store { Reads store.old store.new (result_err result) }
@@ -87,60 +77,43 @@ fn find_increased<B: Board>(
         Ok(file) => file,
         Err(refusal) => return Ok(Err(refusal)),
     };
-    let body = file.body.cyclic();
-    if is_too_long(body, amount) {
+    if is_too_long(file.ring, amount) {
         return Ok(Err(Sw::WRONG_LENGTH));
     }
-    let mut sum = ResponseData::new();
-    if let Some(refusal) = raised(body, store, amount, &mut sum)? {
-        return Ok(Err(refusal));
+    let slot = match raise(file.ring, store, amount, sum)? {
+        Ok(slot) => slot,
+        Err(refusal) => return Ok(Err(refusal)),
+    };
+    let response = answer_of(sum, amount);
+    if asks_less(expected, &response) {
+        return Ok(Err(right_length(&response)));
     }
-    let found = answer_of(&sum, amount);
-    if asks_less(expected, &found) {
-        return Ok(Err(right_length(&found)));
-    }
-    *response = found;
-    let number = file.number;
-    Ok(Ok(CyclicFile { number, body }))
+    Ok(Ok(FileRecord { file, slot }))
 }
 
-/// Puts the new record into the buffer, in place of what stood there, or answers what refuses it.
-fn raised<B: Board>(
-    body: Cyclic,
+/// Looks for the newest record of a ring, and puts that record raised by the sent number into `sum`, or answers what refuses
+/// it.
+fn raise<B: Board>(
+    ring: Cyclic,
     store: &mut Store<B>,
     amount: &[u8],
     sum: &mut ResponseData,
-) -> Result<Option<Sw>, StoreErr>
+) -> Result<Result<RecordSlot, Sw>, StoreErr>
     requires ready { IsReady store.old }
-    requires body { IsCyclic (committed store.old) body }
-    requires sent { length amount.now ≤ body.record_length }
-    ensures refusal { IfOk result (λ refusal. unraised body.record_length (cyclic_records (committed store.old) body)
-        amount.now ≡ refusal) }
-    ensures bytes { IfOk result (λ refusal. refusal ≡ None → sum.new.items
-        ≡ spelled body.record_length (raised_number (cyclic_records (committed store.old) body) amount.now)) }
+    requires body { IsCyclic (committed store.old) ring }
+    requires sent { length amount.now ≤ ring.record_length }
+    ensures ring { IfOk result (λ answer. IfOk answer (λ newest. newest.ring ≡ ring)) }
+    ensures refusal { IfOk result (λ answer. unraised ring.record_length (cyclic_records (committed store.old) ring)
+        amount.now ≡ result_err answer) }
+    ensures bytes { IfOk result (λ answer. OnOk answer (sum.new.items
+        ≡ spelled ring.record_length (raised_number (cyclic_records (committed store.old) ring) amount.now))) }
     ensures store { Reads store.old store.new (result_err result) }
 {
-    match body.sum(store, amount, sum) {
-        Ok(()) => Ok(None),
-        Err(BodyErr::Refused(refusal)) => Ok(Some(refusal)),
+    match ring.raise(store, amount, sum) {
+        Ok(newest) => Ok(Ok(newest)),
+        Err(BodyErr::Refused(refusal)) => Ok(Err(refusal)),
         Err(BodyErr::Store(e)) => Err(e),
     }
-}
-
-/// Stores the new record in front, where nothing refuses it, and drops the oldest, in one transaction.
-fn put_sum<B: Board>(body: Cyclic, store: &mut Store<B>, amount: &[u8]) -> Result<(), StoreErr>
-    requires ready { IsReady store.old }
-    requires body { IsCyclic (committed store.old) body }
-    requires sent { length amount.now ≤ body.record_length }
-    requires free { unraised body.record_length (cyclic_records (committed store.old) body) amount.now ≡ None }
-    ensures any_exit { (committed store.new ≡ committed store.old)
-        ⊎ Increases (committed store.old) body amount.now (committed store.new) }
-    ensures by_gate { CommitsByGate store.old store.new }
-    ensures done { OnOk result (Increases (committed store.old) body amount.now (committed store.new)) }
-    ensures store { Changes RECORD_WRITES store.old store.new (result_err result) }
-{
-    let mut sum = ResponseData::new();
-    unless_failed(body.increase(store, amount, &mut sum))
 }
 
 /// What INCREASE answers: the new record, and then what was sent.
@@ -155,11 +128,11 @@ fn answer_of(sum: &ResponseData, amount: &[u8]) -> ResponseData
 }
 
 /// More bytes than a record has, or an answer of more than 256 bytes.
-fn is_too_long(body: Cyclic, amount: &[u8]) -> bool
+fn is_too_long(ring: Cyclic, amount: &[u8]) -> bool
     requires { length amount.now ≤ 255 }
-    ensures { result ≡ (nat_lt body.record_length (length amount.now)
-        || nat_lt 256 (body.record_length + length amount.now)) }
+    ensures { result ≡ (nat_lt ring.record_length (length amount.now)
+        || nat_lt 256 (ring.record_length + length amount.now)) }
 {
-    let long = usize::from(body.record_length);
+    let long = usize::from(ring.record_length);
     long < amount.len() || MOST_ANSWER_DATA < long + amount.len()
 }

@@ -18,7 +18,7 @@ mod life_cycles;
 mod machine;
 mod named;
 mod pins;
-mod record_body;
+mod record_file;
 mod records;
 mod select;
 mod templates;

@@ -18,7 +18,7 @@ ghost use Rattle.card_core.specs.Records.{pointer_found, search_status, searchin
 use crate::current::Current;
 use crate::lengths::{ResponseData, asks_less, give, right_length};
 use crate::named::{Need, Structure, find_file};
-use crate::record_body::{RecordBody, pointer_after};
+use crate::record_file::{FileRecord, RecordFile, Room, pointer_after};
 use apdu_core::{Answer, Direction as Way, RecordChoice, RecordPlace, Sw, Target};
 use card_rules::AccessBit;
 use ef_body::Direction;
@@ -51,18 +51,11 @@ fn replacing(choice: RecordChoice) -> Need
     }
 }
 
-/// An elementary file of records: the number of its entry, and its body.
+/// A file of records, and where a record that is added to it goes.
 #[derive(Clone, Copy)]
-pub(crate) struct RecordFile {
-    pub number: u8,
-    pub body: RecordBody,
-}
-
-/// A record of a file: the file, and the number of the record.
-#[derive(Clone, Copy)]
-struct FileRecord {
+struct Growing {
     file: RecordFile,
-    number: u16,
+    room: Room,
 }
 
 /// The way of a search, as bodies know it.
@@ -86,7 +79,7 @@ pub(crate) fn find_records<B: Board>(
     requires target { IsTarget target }
     requires records { need.structure ≢ Structure.Bytes }
     ensures found { IfOk result (λ answer. MatchResult answer
-        (λ file. IsRecordFile (committed store.old) current.now target need file.number file.body)
+        (IsRecordFile (committed store.old) current.now target need)
         (λ refusal. refused_by (file_refusals (card_in store.old) (session_in store.old current.now) target
         (fits need.structure) need.bit) ≡ Some refusal)) }
     ensures store { Reads store.old store.new (result_err result) }
@@ -95,9 +88,7 @@ pub(crate) fn find_records<B: Board>(
         Ok(file) => file,
         Err(refusal) => return Ok(Err(refusal)),
     };
-    let number = file.number;
-    let body = RecordBody::of(number, &file.entry);
-    Ok(Ok(RecordFile { number, body }))
+    Ok(Ok(RecordFile::of(file.number, &file.entry)))
 }
 
 /// The record that READ RECORD reads, or SEARCH RECORD begins with, or else the refusal: by the file; there is no such record.
@@ -110,7 +101,7 @@ fn find_record<B: Board>(
     requires kept { IsKept store.old current.now }
     requires target { IsTarget target }
     ensures found { IfOk result (λ answer. MatchResult answer
-        (λ found. IsChosen (committed store.old) current.now target choice found.file.number found.file.body found.number)
+        (λ found. IsChosen (committed store.old) current.now target choice found.file found.slot)
         (λ refusal. refused_by (choice_refusals (card_in store.old) (session_in store.old current.now) target choice)
         ≡ Some refusal)) }
     ensures store { Reads store.old store.new (result_err result) }
@@ -119,11 +110,11 @@ fn find_record<B: Board>(
         Ok(file) => file,
         Err(refusal) => return Ok(Err(refusal)),
     };
-    let number = file.body.chosen(current.pointer_at(target), choice);
-    if !file.body.has_record(number) {
-        return Ok(Err(Sw::RECORD_NOT_FOUND));
+    let number = file.chosen(current.pointer_at(target), choice);
+    match file.ring.find(number) {
+        Ok(slot) => Ok(Ok(FileRecord { file, slot })),
+        Err(refusal) => Ok(Err(refusal)),
     }
-    Ok(Ok(FileRecord { file, number }))
 }
 
 /// READ RECORD: the record goes into `answer`, and the status word is the result. Le is 00 or the length of a record.
@@ -144,15 +135,14 @@ pub(crate) fn read_record<B: Board>(
         Ok(found) => found,
         Err(refusal) => return Ok(refusal),
     };
-    let file = found.file;
     let mut bytes = ResponseData::new();
-    file.body.read(store, found.number, &mut bytes)?;
+    found.slot.read(store, &mut bytes)?;
     if is_other_length(expected, &bytes) {
         return Ok(right_length(&bytes));
     }
     give(Some(expected), &bytes, answer);
-    let pointer = pointer_after(current.pointer_at(target), choice, found.number);
-    *current = current.pointing(target, file.number, pointer);
+    let pointer = pointer_after(current.pointer_at(target), choice, found.slot.number);
+    *current = current.pointing(target, found.file.number, pointer);
     Ok(Sw::DONE)
 }
 
@@ -176,10 +166,10 @@ pub(crate) fn update_record<B: Board>(
         Ok(replaced) => replaced,
         Err(refusal) => return Ok(refusal),
     };
+    replaced.replace(store, bytes)?;
     let file = replaced.file;
-    file.body.update(store, replaced.number, bytes)?;
     let pointer = current.pointer_at(target);
-    let after = file.body.pointer_replaced(pointer, choice, replaced.number);
+    let after = file.pointer_replaced(pointer, choice, replaced.slot.number);
     *current = current.pointing(target, file.number, after);
     Ok(Sw::DONE)
 }
@@ -196,8 +186,7 @@ fn find_replaced<B: Board>(
     requires kept { IsKept store.old current.now }
     requires target { IsTarget target }
     ensures found { IfOk result (λ answer. MatchResult answer
-        (λ replaced. IsReplaceable (committed store.old) current.now target choice bytes.now replaced.file.number
-        replaced.file.body replaced.number)
+        (λ replaced. IsReplaceable (committed store.old) current.now target choice bytes.now replaced.file replaced.slot)
         (λ refusal. refused_by (refusals_of (card_in store.old) (session_in store.old current.now)
         (updating target choice bytes.now)) ≡ Some refusal)) }
     ensures store { Reads store.old store.new (result_err result) }
@@ -206,14 +195,15 @@ fn find_replaced<B: Board>(
         Ok(file) => file,
         Err(refusal) => return Ok(Err(refusal)),
     };
-    let number = file.body.replaced(current.pointer_at(target), choice);
-    if !file.body.has_record(number) {
-        return Ok(Err(Sw::RECORD_NOT_FOUND));
-    }
-    if !file.body.takes(bytes) {
+    let number = file.replaced(current.pointer_at(target), choice);
+    let slot = match file.ring.find(number) {
+        Ok(slot) => slot,
+        Err(refusal) => return Ok(Err(refusal)),
+    };
+    if !file.takes(bytes) {
         return Ok(Err(Sw::WRONG_LENGTH));
     }
-    Ok(Ok(FileRecord { file, number }))
+    Ok(Ok(FileRecord { file, slot }))
 }
 
 /// APPEND RECORD: the bytes are a new record, the last of a linear file, the first of a cyclic one, in one transaction. It
@@ -231,28 +221,28 @@ pub(crate) fn append_record<B: Board>(
     ensures serves { Serves (appending target bytes.now) store.old current.old store.new current.new [] result }
     ensures space { OnOk result (space_in store.new ≡ space_in store.old) }
 {
-    let file = match find_appended(store, current, target, bytes)? {
-        Ok(file) => file,
+    let growing = match find_appended(store, current, target, bytes)? {
+        Ok(growing) => growing,
         Err(refusal) => return Ok(refusal),
     };
-    file.body.append(store, bytes)?;
-    let number = file.body.added();
-    *current = current.pointing(target, file.number, Some(number));
+    growing.room.fill(store, bytes)?;
+    let file = growing.file;
+    *current = current.pointing(target, file.number, Some(file.added()));
     Ok(Sw::DONE)
 }
 
-/// The file that APPEND RECORD adds the bytes to, or else the refusal: by the file; it is full; the bytes aren't as many
+/// The file that APPEND RECORD adds the bytes to, and where they go, or else the refusal: by the file; it is full; the bytes aren't as many
 /// as a record has.
 fn find_appended<B: Board>(
     store: &mut Store<B>,
     current: &Current,
     target: Target,
     bytes: &[u8],
-) -> Result<Result<RecordFile, Sw>, StoreErr>
+) -> Result<Result<Growing, Sw>, StoreErr>
     requires kept { IsKept store.old current.now }
     requires target { IsTarget target }
     ensures found { IfOk result (λ answer. MatchResult answer
-        (λ file. IsAppendable (committed store.old) current.now target bytes.now file.number file.body)
+        (λ growing. IsAppendable (committed store.old) current.now target bytes.now growing.file growing.room)
         (λ refusal. refused_by (refusals_of (card_in store.old) (session_in store.old current.now)
         (appending target bytes.now)) ≡ Some refusal)) }
     ensures store { Reads store.old store.new (result_err result) }
@@ -261,13 +251,14 @@ fn find_appended<B: Board>(
         Ok(file) => file,
         Err(refusal) => return Ok(Err(refusal)),
     };
-    if file.body.is_full() {
-        return Ok(Err(Sw::NO_ROOM));
-    }
-    if !file.body.takes(bytes) {
+    let room = match file.find_room() {
+        Ok(room) => room,
+        Err(refusal) => return Ok(Err(refusal)),
+    };
+    if !file.takes(bytes) {
         return Ok(Err(Sw::WRONG_LENGTH));
     }
-    Ok(Ok(file))
+    Ok(Ok(Growing { file, room }))
 }
 
 /// SEARCH RECORD: the numbers of the records that hold the text go into `answer`, and the first of them becomes the current
@@ -292,17 +283,15 @@ pub(crate) fn search_record<B: Board>(
         Ok(found) => found,
         Err(refusal) => return Ok(refusal),
     };
-    let file = found.file;
     let way = way_of(direction);
     let mut numbers = ResponseData::new();
-    file.body
-        .search(store, way, found.number, text, &mut numbers)?;
+    found.slot.search(store, way, text, &mut numbers)?;
     if asks_less(expected, &numbers) {
         return Ok(right_length(&numbers));
     }
     give(expected, &numbers, answer);
     let pointer = first_of(&numbers, current.pointer_at(target));
-    *current = current.pointing(target, file.number, pointer);
+    *current = current.pointing(target, found.file.number, pointer);
     Ok(status_of(&numbers))
 }
 

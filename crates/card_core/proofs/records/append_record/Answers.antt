@@ -6,54 +6,52 @@ use Rattle.card_core.specs.Served.{Serves}
 use Rattle.card_core.specs.Working.{card_in, session_in}
 use Rattle.card_core.proofs.Answering.{said_ok, said_err}
 use Rattle.card_core.proofs.Guarding.{served-refused}
-use Rattle.card_core.proofs.AppendServes.{appended-body, appended-done, appended-few, appended-space, appended-torn}
+use Rattle.card_core.proofs.AppendServes.{appended-body, appended-done, appended-few, appended-long, appended-space, appended-torn}
 use Rattle.card_core.proofs.Serves.{declined, handed}
 use Rattle.card_core.proofs.SpaceKept.{space-same}
 use Rattle.card_core.proofs.records.append_record.Goals as goal
 
-pub returns-in_err-file-clause-serves : goal.returns-in_err-file-clause-serves
-returns-in_err-file-clause-serves g c =
+pub returns-in_err-growing-clause-serves : goal.returns-in_err-growing-clause-serves
+returns-in_err-growing-clause-serves g c =
     handed (append_record c.args.target c.args.bytes.now) c.args.store.now c.args.current.now c.find_appended.new.store
-    c.requires.kept.card c.args.current.now [] _ _ c.from_residual.ensures.1 c.in_err-file.ensures.store (omega arith)
+    c.requires.kept.card c.args.current.now [] _ _ c.from_residual.ensures.1 c.in_err-growing.ensures.store (omega arith)
 
 pub returns-in-Err-clause-serves : goal.returns-in-Err-clause-serves
 returns-in-Err-clause-serves g c =
     let old = c.args.store.now in
     let x = c.args.current.now in
     let request = append_record c.args.target c.args.bytes.now in
-    let refused = said_err _ _ c.in_ok-file.field-0 c.in-Err.refusal c.in-Err.is c.in_ok-file.ensures.found in
+    let refused = said_err _ _ c.in_ok-growing.field-0 c.in-Err.refusal c.in-Err.is c.in_ok-growing.ensures.found in
     declined request old x c.find_appended.new.store (λ _. tt) c.requires.kept.card c.in-Err.refusal
-    c.find_appended.ensures.store.only c.in_ok-file.ensures.store.ready c.requires.kept.current
+    c.find_appended.ensures.store.only c.in_ok-growing.ensures.store.ready c.requires.kept.current
     (served-refused (card_in old) (session_in old x) request c.in-Err.refusal refused)
 
 pub returns-in-Err-clause-space : goal.returns-in-Err-clause-space
 returns-in-Err-clause-space g c =
     space-same c.args.store.now c.find_appended.new.store c.find_appended.ensures.store.only.keeps.committed_words
 
-pub append-requires-clause-body : goal.append-requires-clause-body
-append-requires-clause-body g c =
-    let found = said_ok _ _ c.in_ok-file.field-0 c.in-Ok.file c.in-Ok.is c.in_ok-file.ensures.found in
+pub fill-requires-clause-body : goal.fill-requires-clause-body
+fill-requires-clause-body g c =
+    let found = said_ok _ _ c.in_ok-growing.field-0 c.in-Ok.growing c.in-Ok.is c.in_ok-growing.ensures.found in
     appended-body c.args.store.now c.find_appended.new.store c.find_appended.new.store c.requires.kept.ready c.requires.kept.card
     c.args.current.now c.requires.kept.current c.find_appended.ensures.store.only _ _ _ _ found
 
-pub append-requires-clause-room : goal.append-requires-clause-room
-append-requires-clause-room g c =
-    (said_ok _ _ c.in_ok-file.field-0 c.in-Ok.file c.in-Ok.is c.in_ok-file.ensures.found).room
+pub fill-requires-clause-size : goal.fill-requires-clause-size
+fill-requires-clause-size g c =
+    let found = said_ok _ _ c.in_ok-growing.field-0 c.in-Ok.growing c.in-Ok.is c.in_ok-growing.ensures.found in
+    appended-long c.args.store.now c.find_appended.new.store c.find_appended.new.store c.requires.kept.ready c.requires.kept.card
+    c.args.current.now c.requires.kept.current c.find_appended.ensures.store.only _ _ _ _ found
 
-pub append-requires-clause-size : goal.append-requires-clause-size
-append-requires-clause-size g c =
-    (said_ok _ _ c.in_ok-file.field-0 c.in-Ok.file c.in-Ok.is c.in_ok-file.ensures.found).long
+pub returns-in_err-fill-clause-serves : goal.returns-in_err-fill-clause-serves
+returns-in_err-fill-clause-serves g c =
+    let found = said_ok _ _ c.in_ok-growing.field-0 c.in-Ok.growing c.in-Ok.is c.in_ok-growing.ensures.found in
+    appended-torn c.args.store.now c.find_appended.new.store c.fill.new.store c.requires.kept.ready c.requires.kept.card
+    c.args.current.now c.requires.kept.current c.find_appended.ensures.store.only _ _ _ _ found c.fill.ensures.any_exit c.fill.ensures.by_gate _
+    c.in_err-fill.ensures.store _ _ c.from_residual-in_err-fill.ensures.1 refl
 
-pub returns-in_err-append-clause-serves : goal.returns-in_err-append-clause-serves
-returns-in_err-append-clause-serves g c =
-    let found = said_ok _ _ c.in_ok-file.field-0 c.in-Ok.file c.in-Ok.is c.in_ok-file.ensures.found in
-    appended-torn c.args.store.now c.find_appended.new.store c.append.new.store c.requires.kept.ready c.requires.kept.card
-    c.args.current.now c.requires.kept.current c.find_appended.ensures.store.only _ _ _ _ found c.append.ensures.any_exit c.append.ensures.by_gate _
-    c.in_err-append.ensures.store _ _ c.from_residual-in_err-append.ensures.1 refl
-
-pub added-number-requires : goal.added-number-requires
-added-number-requires g c =
-    let found = said_ok _ _ c.in_ok-file.field-0 c.in-Ok.file c.in-Ok.is c.in_ok-file.ensures.found in
+pub added-requires : goal.added-requires
+added-requires g c =
+    let found = said_ok _ _ c.in_ok-growing.field-0 c.in-Ok.growing c.in-Ok.is c.in_ok-growing.ensures.found in
     appended-few c.args.store.now c.find_appended.new.store c.find_appended.new.store c.requires.kept.ready c.requires.kept.card
     c.args.current.now c.requires.kept.current c.find_appended.ensures.store.only _ _ _ _ found
 
@@ -61,18 +59,18 @@ pub returns-clause-serves : goal.returns-clause-serves
 returns-clause-serves g c =
     let old = c.args.store.now in
     let x = c.args.current.now in
-    let file = c.in-Ok.file in
-    let found = said_ok _ _ c.in_ok-file.field-0 c.in-Ok.file c.in-Ok.is c.in_ok-file.ensures.found in
-    subst (λ (y : Current). Serves (append_record c.args.target c.args.bytes.now) old x c.append.new.store y []
+    let growing = c.in-Ok.growing in
+    let found = said_ok _ _ c.in_ok-growing.field-0 c.in-Ok.growing c.in-Ok.is c.in_ok-growing.ensures.found in
+    subst (λ (y : Current). Serves (append_record c.args.target c.args.bytes.now) old x c.fill.new.store y []
     (Ok DONE)) (sym c.pointing.ensures)
-    (appended-done old c.find_appended.new.store c.append.new.store c.requires.kept.ready c.requires.kept.card x
-    c.requires.kept.current c.find_appended.ensures.store.only c.args.target c.args.bytes.now file.number file.body found
-    c.append.ensures.any_exit c.append.ensures.by_gate _ c.in_ok-append.ensures.store c.in_ok-append.ensures.done
-    c.in_ok-append.ensures.store.ready c.added-number.result c.added-number.ensures)
+    (appended-done old c.find_appended.new.store c.fill.new.store c.requires.kept.ready c.requires.kept.card x
+    c.requires.kept.current c.find_appended.ensures.store.only c.args.target c.args.bytes.now growing.file growing.room found
+    c.fill.ensures.any_exit c.fill.ensures.by_gate _ c.in_ok-fill.ensures.store c.in_ok-fill.ensures.done
+    c.in_ok-fill.ensures.store.ready c.added.result c.added.ensures)
 
 pub returns-clause-space : goal.returns-clause-space
 returns-clause-space g c =
-    let found = said_ok _ _ c.in_ok-file.field-0 c.in-Ok.file c.in-Ok.is c.in_ok-file.ensures.found in
-    appended-space c.args.store.now c.find_appended.new.store c.append.new.store c.requires.kept.ready c.requires.kept.card
-    c.args.current.now c.requires.kept.current c.find_appended.ensures.store.only _ _ _ _ found c.append.ensures.any_exit c.append.ensures.by_gate _
-    c.in_ok-append.ensures.store c.in_ok-append.ensures.done
+    let found = said_ok _ _ c.in_ok-growing.field-0 c.in-Ok.growing c.in-Ok.is c.in_ok-growing.ensures.found in
+    appended-space c.args.store.now c.find_appended.new.store c.fill.new.store c.requires.kept.ready c.requires.kept.card
+    c.args.current.now c.requires.kept.current c.find_appended.ensures.store.only _ _ _ _ found c.fill.ensures.any_exit c.fill.ensures.by_gate _
+    c.in_ok-fill.ensures.store c.in_ok-fill.ensures.done

@@ -1,4 +1,12 @@
-use Rattle.std.proofs.Common.{sym, ◌∙◌, ap}
+use Rattle.std.proofs.Common.{◌≡◌, Result, IfOk, sym, ◌∙◌, ap, subst}
+use Rattle.std.specs.Result.{result_err}
+use Rattle.card_rules.specs.declared.status.Sw.{Sw}
+use Rattle.ef_body.specs.declared.slot.RecordSlot.{RecordSlot}
+use Rattle.ef_body.specs.Refusals.{missing_record}
+use Rattle.card_core.specs.Elementary.{target_kind}
+use Rattle.card_core.specs.Records.{records_of}
+use Rattle.card_core.proofs.RecordBodies.{has-slot}
+use Rattle.card_core.proofs.Recording.{agree}
 use Rattle.std.proofs.lemmas.Bool.{eqb-true}
 use Rattle.undo_journal.specs.Memory.{committed}
 use Rattle.card_core.specs.Working.{card_in, has_in, number_replaced_in, session_in}
@@ -18,44 +26,55 @@ returns-in-Err-clause-found g c =
     (sym (need-replaces (card_in old) (session_in old x) c.args.target c.args.choice c.replacing.result
     c.replacing.ensures.structure c.replacing.ensures.bit) ∙ refused)
 
-pub returns-then-not-has_record-clause-found : goal.returns-then-not-has_record-clause-found
-returns-then-not-has_record-clause-found g c =
+pub returns-in-Err-find-clause-found : goal.returns-in-Err-find-clause-found
+returns-in-Err-find-clause-found g c =
     let old = c.args.store.now in
     let x = c.args.current.now in
-    let body = c.in-Ok.file.body in
-    let file = replaced-as (committed old) x c.args.target c.args.choice c.in-Ok.file.number body c.replacing.result
+    let file = c.in-Ok.file in
+    let sized = c.requires.kept.ready.usable.committed_size in
+    let found = replaced-as (committed old) x c.args.target c.args.choice file c.replacing.result
     c.replacing.ensures.structure c.replacing.ensures.bit
-    (said_ok _ _ c.in_ok-file.field-0 c.in-Ok.file c.in-Ok.is c.in_ok-file.ensures.found) in
-    let n_is = c.replaced-number.ensures ∙ ap (λ p. number_replaced_in body p c.args.choice) c.pointer_at.ensures in
-    update-gone (committed old) c.requires.kept.ready.usable.committed_size c.requires.kept.card x c.args.target _
-    c.in-Ok.file.number body file c.args.bytes.now c.args.choice
-    (sym (replaces-is (card_in old) (session_in old x) c.args.target c.args.choice) ∙ file.named.unrefused)
-    (sym (ap (has_in body) n_is) ∙ sym c.has_record.ensures ∙ c.if-not-has_record.true)
+    (said_ok _ _ c.in_ok-file.field-0 file c.in-Ok.is c.in_ok-file.ensures.found) in
+    let n_is = c.replaced-number.ensures ∙ ap (λ p. number_replaced_in file p c.args.choice) c.pointer_at.ensures in
+    let agrees = agree (committed old) sized c.requires.kept.card x c.args.target _ file found in
+    let kind = target_kind (card_in old) (session_in old x) c.args.target in
+    update-gone (committed old) sized c.requires.kept.card x c.args.target _ file found c.args.bytes.now c.args.choice
+    (sym (replaces-is (card_in old) (session_in old x) c.args.target c.args.choice) ∙ found.named.unrefused)
+    c.in-Err-find.refusal
+    (ap (missing_record (records_of kind)) (sym n_is) ∙ c.find.ensures.refusal (records_of kind) agrees.number
+    ∙ ap result_err c.in-Err-find.is)
 
 pub returns-then-not-takes-clause-found : goal.returns-then-not-takes-clause-found
 returns-then-not-takes-clause-found g c =
     let old = c.args.store.now in
     let x = c.args.current.now in
-    let body = c.in-Ok.file.body in
-    let file = replaced-as (committed old) x c.args.target c.args.choice c.in-Ok.file.number body c.replacing.result
+    let file = c.in-Ok.file in
+    let found = replaced-as (committed old) x c.args.target c.args.choice file c.replacing.result
     c.replacing.ensures.structure c.replacing.ensures.bit
-    (said_ok _ _ c.in_ok-file.field-0 c.in-Ok.file c.in-Ok.is c.in_ok-file.ensures.found) in
-    let n_is = c.replaced-number.ensures ∙ ap (λ p. number_replaced_in body p c.args.choice) c.pointer_at.ensures in
+    (said_ok _ _ c.in_ok-file.field-0 file c.in-Ok.is c.in_ok-file.ensures.found) in
+    let slot = subst (λ (r : Result RecordSlot Sw). IfOk r (λ slot. (slot.ring ≡ file.ring) × (slot.number
+    ≡ c.replaced-number.result))) c.in-Ok-find.is c.find.ensures.found in
+    let n_is = slot.1 ∙ c.replaced-number.ensures
+    ∙ ap (λ p. number_replaced_in file p c.args.choice) c.pointer_at.ensures in
+    let ring_is = slot.0 in
     update-other (committed old) c.requires.kept.ready.usable.committed_size c.requires.kept.card x c.args.target _
-    c.in-Ok.file.number body file c.args.bytes.now c.args.choice
-    (sym (replaces-is (card_in old) (session_in old x) c.args.target c.args.choice) ∙ file.named.unrefused)
-    (sym (ap (has_in body) n_is) ∙ sym c.has_record.ensures ∙ c.if-not-has_record.false)
+    file found c.args.bytes.now c.args.choice
+    (sym (replaces-is (card_in old) (session_in old x) c.args.target c.args.choice) ∙ found.named.unrefused)
+    ((λ i. has_in (sym ring_is i) (sym n_is i)) ∙ has-slot c.in-Ok-find.slot)
     (sym c.takes.ensures ∙ c.if-not-takes.true)
 
 pub returns-clause-found : goal.returns-clause-found
 returns-clause-found g c =
     let x = c.args.current.now in
+    let file = c.in-Ok.file in
+    let slot = subst (λ (r : Result RecordSlot Sw). IfOk r (λ slot. (slot.ring ≡ file.ring) × (slot.number
+    ≡ c.replaced-number.result))) c.in-Ok-find.is c.find.ensures.found in
     record {
-      file = replaced-as (committed c.args.store.now) x c.args.target c.args.choice c.in-Ok.file.number c.in-Ok.file.body
+      named = replaced-as (committed c.args.store.now) x c.args.target c.args.choice file
           c.replacing.result c.replacing.ensures.structure c.replacing.ensures.bit
-          (said_ok _ _ c.in_ok-file.field-0 c.in-Ok.file c.in-Ok.is c.in_ok-file.ensures.found);
-      number_is = c.replaced-number.ensures
-          ∙ ap (λ p. number_replaced_in c.in-Ok.file.body p c.args.choice) c.pointer_at.ensures;
-      has = sym c.has_record.ensures ∙ c.if-not-has_record.false;
+          (said_ok _ _ c.in_ok-file.field-0 file c.in-Ok.is c.in_ok-file.ensures.found);
+      ring_is = slot.0;
+      number_is = slot.1 ∙ c.replaced-number.ensures
+          ∙ ap (λ p. number_replaced_in file p c.args.choice) c.pointer_at.ensures;
       long = eqb-true _ _ (sym c.takes.ensures ∙ c.if-not-takes.false);
     }

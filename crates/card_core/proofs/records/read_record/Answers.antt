@@ -1,21 +1,21 @@
-use Rattle.std.proofs.Common.{◌≡◌, ℕ, List, Result, length, sym, not, ◌==◌, ◌&&◌, ◌∙◌, ap, subst, arith}
+use Rattle.std.proofs.Common.{◌≡◌, ◌≤◌, lit<, ℕ, List, Result, length, refl, sym, not, ◌==◌, ◌&&◌, ◌∙◌, ap, subst, arith}
 use Rattle.card_rules.specs.declared.status.Sw.{Sw}
 use Rattle.card_rules.specs.declared.status.TheConstants.Sw.{DONE}
 use Rattle.undo_journal.specs.declared.error.StoreErr.{StoreErr}
 use Rattle.undo_journal.specs.Memory.{committed}
 use Rattle.undo_journal.specs.laws.Calls.{reads_then}
 use Rattle.apdu_core.specs.Requests.{read_record}
+use Rattle.ef_body.specs.Bodies.{cyclic_records}
 use Rattle.ef_body.specs.Records.{record_of}
 use Rattle.card_core.specs.declared.current.Current.{Current}
 use Rattle.card_core.specs.Lengths.{right_length}
 use Rattle.card_core.specs.Records.{pointer_after}
 use Rattle.card_core.specs.Served.{Serves}
-use Rattle.card_core.specs.Working.{card_in, chosen_in, has_in, outcome, pointer_from, pointing_from, records_at, session_in, table_in}
-use Rattle.card_core.specs.Working.{IsBodyIn, IsCurrent}
+use Rattle.card_core.specs.Working.{card_in, chosen_in, outcome, pointer_from, pointing_from, session_in, table_in, IsCurrent}
 use Rattle.card_core.specs.Outcomes.{refused}
 use Rattle.card_core.proofs.Answering.{said_ok, said_err}
-use Rattle.card_core.proofs.RecordBodies.{has-few}
-use Rattle.card_core.proofs.Recording.{agree, current-is, declined-empty, read-other, read-refused, read-whole}
+use Rattle.card_core.proofs.RecordBodies.{slot-few}
+use Rattle.card_core.proofs.Recording.{chosen-body, chosen-has, current-is, declined-empty, read-other, read-refused, read-whole}
 use Rattle.card_core.proofs.Serves.{answered, stopped, handed}
 use Rattle.card_core.proofs.Stopping.{err-is}
 use Rattle.card_core.proofs.records.read_record.Goals as goal
@@ -31,14 +31,14 @@ returns-in-Err g c =
     c.in_ok-found.ensures.store.ready c.requires.kept.current
     (read-refused (card_in old) (session_in old x) c.args.target c.in-Err.refusal c.args.choice refused c.args.expected)
 
-pub read-requires-clause-body : goal.read-requires-clause-body
-read-requires-clause-body g c =
-    let old = c.args.store.now in
-    let body = c.in-Ok.found.file.body in
+pub read-requires : goal.read-requires
+read-requires g c =
     let found = said_ok _ _ c.in_ok-found.field-0 c.in-Ok.found c.in-Ok.is c.in_ok-found.ensures.found in
-    subst (λ (l : List ℕ). IsBodyIn l body) (sym c.find_record.ensures.store.only.keeps.committed_words)
-    (agree (committed old) c.requires.kept.ready.usable.committed_size c.requires.kept.card c.args.current.now c.args.target _
-    c.in-Ok.found.file.number body found.file).stands
+    let stands = chosen-body (committed c.args.store.now) c.requires.kept.ready.usable.committed_size c.requires.kept.card
+    c.args.current.now c.args.target _ _ _ found _ c.find_record.ensures.store.only.keeps.committed_words in
+    let short = stands.slots.short in
+    let room : c.in-Ok.found.slot.ring.record_length ≤ 256 = omega (arith, short) in
+    (lit< tt, (c.in_ok-found.ensures.store.ready, (stands, room)))
 
 pub returns-in_err-read : goal.returns-in_err-read
 returns-in_err-read g c =
@@ -56,14 +56,14 @@ pub returns-then-is_other_length : goal.returns-then-is_other_length
 returns-then-is_other_length g c =
     let old = c.args.store.now in
     let x = c.args.current.now in
-    let body = c.in-Ok.found.file.body in
+    let file = c.in-Ok.found.file in
     let same = c.find_record.ensures.store.only.keeps.committed_words in
     let found = said_ok _ _ c.in_ok-found.field-0 c.in-Ok.found c.in-Ok.is c.in_ok-found.ensures.found in
     let number = found.number_is in
-    let has = sym (ap (has_in body) number) ∙ found.has in
-    let text : c.read.new.bytes.items ≡ record_of (records_at (committed old) body) (chosen_in body (pointer_from x
+    let has = chosen-has _ _ _ _ _ _ found in
+    let text : c.read.new.bytes.items ≡ record_of (cyclic_records (committed old) file.ring) (chosen_in file (pointer_from x
     c.args.target) c.args.choice) =
-    c.in_ok-read.ensures.bytes ∙ (λ i. record_of (records_at (same i) body) (number i)) in
+    c.in_ok-read.ensures.bytes ∙ (λ i. record_of (cyclic_records (same i) (found.ring_is i)) (number i)) in
     let other = ap (λ (l : List ℕ). not (c.args.expected == 0) && not (c.args.expected == length l)) (sym text)
     ∙ sym c.is_other_length.ensures ∙ c.if-is_other_length.true in
     let status = ap right_length (sym text) ∙ sym c.right_length.ensures in
@@ -72,44 +72,42 @@ returns-then-is_other_length g c =
     (reads_then old c.find_record.new.store c.read.new.store c.find_record.ensures.store.only c.read.ensures.store.only)
     c.in_ok-read.ensures.store.ready c.requires.kept.current
     (read-other (committed old) c.requires.kept.ready.usable.committed_size c.requires.kept.card x c.args.target _
-    c.in-Ok.found.file.number body found.file found.file.named.unrefused c.args.choice c.args.expected has other
+    file found.named found.named.named.unrefused c.args.choice c.args.expected has other
     ∙ ap (refused (card_in old) (session_in old x)) status)
 
 pub pointer_after-pointer-requires : goal.pointer_after-pointer-requires
 pointer_after-pointer-requires g c =
-    let old = c.args.store.now in
-    let body = c.in-Ok.found.file.body in
     let found = said_ok _ _ c.in_ok-found.field-0 c.in-Ok.found c.in-Ok.is c.in_ok-found.ensures.found in
-    let stands = (agree (committed old) c.requires.kept.ready.usable.committed_size c.requires.kept.card c.args.current.now
-    c.args.target _ c.in-Ok.found.file.number body found.file).stands in
-    let few = has-few (committed old) body stands c.in-Ok.found.number found.has in
+    let stands = chosen-body (committed c.args.store.now) c.requires.kept.ready.usable.committed_size c.requires.kept.card
+    c.args.current.now c.args.target _ _ _ found _ refl in
+    let few = slot-few (committed c.args.store.now) c.in-Ok.found.slot stands in
     omega (arith, few)
 
 pub returns : goal.returns
 returns g c =
     let old = c.args.store.now in
     let x = c.args.current.now in
-    let body = c.in-Ok.found.file.body in
+    let file = c.in-Ok.found.file in
     let e = c.in-Ok.found.file.number in
     let sized = c.requires.kept.ready.usable.committed_size in
     let same = c.find_record.ensures.store.only.keeps.committed_words in
     let found = said_ok _ _ c.in_ok-found.field-0 c.in-Ok.found c.in-Ok.is c.in_ok-found.ensures.found in
     let number = found.number_is in
-    let has = sym (ap (has_in body) number) ∙ found.has in
-    let text : c.read.new.bytes.items ≡ record_of (records_at (committed old) body) (chosen_in body (pointer_from x
+    let has = chosen-has _ _ _ _ _ _ found in
+    let text : c.read.new.bytes.items ≡ record_of (cyclic_records (committed old) file.ring) (chosen_in file (pointer_from x
     c.args.target) c.args.choice) =
-    c.in_ok-read.ensures.bytes ∙ (λ i. record_of (records_at (same i) body) (number i)) in
+    c.in_ok-read.ensures.bytes ∙ (λ i. record_of (cyclic_records (same i) (found.ring_is i)) (number i)) in
     let whole = ap (λ (l : List ℕ). not (c.args.expected == 0) && not (c.args.expected == length l)) (sym text)
     ∙ sym c.is_other_length.ensures ∙ c.if-is_other_length.false in
-    let pointer : c.pointer_after-pointer.result ≡ pointer_after (pointer_from x c.args.target) c.args.choice (chosen_in body
+    let pointer : c.pointer_after-pointer.result ≡ pointer_after (pointer_from x c.args.target) c.args.choice (chosen_in file
     (pointer_from x c.args.target) c.args.choice) =
     c.pointer_after-pointer.ensures ∙ (λ i. pointer_after (c.pointer_at.ensures i) c.args.choice (number i)) in
     let y_is : c.pointing.result ≡ pointing_from x c.args.target e (pointer_after (pointer_from x c.args.target)
-    c.args.choice (chosen_in body (pointer_from x c.args.target) c.args.choice)) =
+    c.args.choice (chosen_in file (pointer_from x c.args.target) c.args.choice)) =
     c.pointing.ensures ∙ ap (pointing_from x c.args.target e) pointer in
     let given_is = c.give.ensures.given ∙ text in
-    let current = current-is (committed old) sized c.requires.kept.card x c.args.target _ e body found.file c.requires.kept.current
-    (pointer_after (pointer_from x c.args.target) c.args.choice (chosen_in body (pointer_from x c.args.target)
+    let current = current-is (committed old) sized c.requires.kept.card x c.args.target _ file found.named c.requires.kept.current
+    (pointer_after (pointer_from x c.args.target) c.args.choice (chosen_in file (pointer_from x c.args.target)
     c.args.choice)) in
     answered (read_record c.args.target c.args.choice c.args.expected) old x c.read.new.store (λ _. tt) c.requires.kept.card
     c.pointing.result c.give.new.answer.items DONE
@@ -117,7 +115,7 @@ returns g c =
     c.in_ok-read.ensures.store.ready
     (subst (λ (y : Current). IsCurrent (table_in old) y) (sym y_is) current)
     c.give.ensures.room
-    (read-whole (committed old) sized c.requires.kept.card x c.args.target _ e body found.file found.file.named.unrefused
+    (read-whole (committed old) sized c.requires.kept.card x c.args.target _ file found.named found.named.named.unrefused
     c.args.choice c.args.expected has whole
     ∙ (λ i. outcome (card_in old) (session_in old (sym y_is i)) (sym given_is i) DONE))
 

@@ -1,19 +1,19 @@
-use Rattle.std.proofs.Common.{◌≡◌, ℕ, List, Result, length, sym, ◌∙◌, ap, subst, arith}
+use Rattle.std.proofs.Common.{◌≡◌, ◌≤◌, lit<, ℕ, List, Result, length, sym, ◌∙◌, ap, subst, arith}
 use Rattle.card_rules.specs.declared.status.Sw.{Sw}
 use Rattle.undo_journal.specs.declared.error.StoreErr.{StoreErr}
 use Rattle.undo_journal.specs.Memory.{committed}
 use Rattle.undo_journal.specs.laws.Calls.{reads_then}
 use Rattle.apdu_core.specs.Requests.{search_record}
+use Rattle.ef_body.specs.Bodies.{cyclic_records}
 use Rattle.ef_body.specs.Searching.{found as found_in}
 use Rattle.card_core.specs.declared.current.Current.{Current}
 use Rattle.card_core.specs.Lengths.{asks_less, given, right_length}
 use Rattle.card_core.specs.Outcomes.{refused}
 use Rattle.card_core.specs.Records.{place_number, pointer_found, search_status, searching}
 use Rattle.card_core.specs.Served.{Serves}
-use Rattle.card_core.specs.Working.{card_in, has_in, outcome, pointer_from, pointing_from, records_at, session_in, table_in}
-use Rattle.card_core.specs.Working.{IsBodyIn, IsCurrent}
+use Rattle.card_core.specs.Working.{card_in, outcome, pointer_from, pointing_from, session_in, table_in, IsCurrent}
 use Rattle.card_core.proofs.Answering.{said_ok, said_err}
-use Rattle.card_core.proofs.Recording.{agree, current-is, declined-empty, search-less, search-refused, search-whole}
+use Rattle.card_core.proofs.Recording.{chosen-body, chosen-has, current-is, declined-empty, search-less, search-refused, search-whole}
 use Rattle.card_core.proofs.Serves.{answered, stopped, handed}
 use Rattle.card_core.proofs.Stopping.{err-is}
 use Rattle.card_core.proofs.records.search_record.Goals as goal
@@ -29,14 +29,15 @@ returns-in-Err g c =
     (search-refused (card_in old) (session_in old x) c.args.target c.in-Err.refusal c.args.first refused c.args.direction
     c.args.text.now c.args.expected)
 
-pub search-requires-clause-body : goal.search-requires-clause-body
-search-requires-clause-body g c =
-    let old = c.args.store.now in
-    let body = c.in-Ok.found.file.body in
+pub search-requires : goal.search-requires
+search-requires g c =
     let found = said_ok _ _ c.in_ok-found.field-0 c.in-Ok.found c.in-Ok.is c.in_ok-found.ensures.found in
-    subst (λ (l : List ℕ). IsBodyIn l body) (sym c.find_record.ensures.store.only.keeps.committed_words)
-    (agree (committed old) c.requires.kept.ready.usable.committed_size c.requires.kept.card c.args.current.now c.args.target _
-    c.in-Ok.found.file.number body found.file).stands
+    let stands = chosen-body (committed c.args.store.now) c.requires.kept.ready.usable.committed_size c.requires.kept.card
+    c.args.current.now c.args.target _ _ _ found _ c.find_record.ensures.store.only.keeps.committed_words in
+    let few = stands.slots.few in
+    let number = stands.number in
+    let room : c.in-Ok.found.slot.ring.records ≤ 256 = omega (arith, few, number) in
+    (lit< tt, (c.in_ok-found.ensures.store.ready, (stands, room)))
 
 pub returns-in_err-search : goal.returns-in_err-search
 returns-in_err-search g c =
@@ -55,15 +56,15 @@ pub returns-then-asks_less : goal.returns-then-asks_less
 returns-then-asks_less g c =
     let old = c.args.store.now in
     let x = c.args.current.now in
-    let body = c.in-Ok.found.file.body in
+    let file = c.in-Ok.found.file in
     let same = c.find_record.ensures.store.only.keeps.committed_words in
     let found = said_ok _ _ c.in_ok-found.field-0 c.in-Ok.found c.in-Ok.is c.in_ok-found.ensures.found in
-    let number : c.in-Ok.found.number ≡ place_number c.args.first (pointer_from x c.args.target) = found.number_is in
-    let has = sym (ap (has_in body) number) ∙ found.has in
+    let number : c.in-Ok.found.slot.number ≡ place_number c.args.first (pointer_from x c.args.target) = found.number_is in
+    let has = chosen-has _ _ _ _ _ _ found in
     let way = c.way_of-way.ensures in
     let numbers : c.search.new.numbers.items ≡ found_in (searching c.args.direction) (place_number c.args.first
-    (pointer_from x c.args.target)) c.args.text.now (records_at (committed old) body) =
-    c.in_ok-search.ensures.numbers ∙ (λ i. found_in (way i) (number i) c.args.text.now (records_at (same i) body)) in
+    (pointer_from x c.args.target)) c.args.text.now (cyclic_records (committed old) file.ring) =
+    c.in_ok-search.ensures.numbers ∙ (λ i. found_in (way i) (number i) c.args.text.now (cyclic_records (same i) (found.ring_is i))) in
     let less = ap (asks_less c.args.expected) (sym numbers) ∙ sym c.asks_less.ensures
     ∙ c.if-asks_less.true in
     let status = ap right_length (sym numbers) ∙ sym c.right_length.ensures in
@@ -72,7 +73,7 @@ returns-then-asks_less g c =
     (reads_then old c.find_record.new.store c.search.new.store c.find_record.ensures.store.only c.search.ensures.store.only)
     c.in_ok-search.ensures.store.ready c.requires.kept.current
     (search-less (committed old) c.requires.kept.ready.usable.committed_size c.requires.kept.card x c.args.target _
-    c.in-Ok.found.file.number body found.file found.file.named.unrefused c.args.first c.args.direction c.args.text.now c.args.expected
+    file found.named found.named.named.unrefused c.args.first c.args.direction c.args.text.now c.args.expected
     has less
     ∙ ap (refused (card_in old) (session_in old x)) status)
 
@@ -80,18 +81,18 @@ pub returns : goal.returns
 returns g c =
     let old = c.args.store.now in
     let x = c.args.current.now in
-    let body = c.in-Ok.found.file.body in
+    let file = c.in-Ok.found.file in
     let e = c.in-Ok.found.file.number in
     let sized = c.requires.kept.ready.usable.committed_size in
     let same = c.find_record.ensures.store.only.keeps.committed_words in
     let found = said_ok _ _ c.in_ok-found.field-0 c.in-Ok.found c.in-Ok.is c.in_ok-found.ensures.found in
-    let number : c.in-Ok.found.number ≡ place_number c.args.first (pointer_from x c.args.target) = found.number_is in
-    let has = sym (ap (has_in body) number) ∙ found.has in
+    let number : c.in-Ok.found.slot.number ≡ place_number c.args.first (pointer_from x c.args.target) = found.number_is in
+    let has = chosen-has _ _ _ _ _ _ found in
     let way = c.way_of-way.ensures in
     let all : List ℕ = found_in (searching c.args.direction) (place_number c.args.first (pointer_from x c.args.target))
-    c.args.text.now (records_at (committed old) body) in
+    c.args.text.now (cyclic_records (committed old) file.ring) in
     let numbers : c.search.new.numbers.items ≡ all =
-    c.in_ok-search.ensures.numbers ∙ (λ i. found_in (way i) (number i) c.args.text.now (records_at (same i) body)) in
+    c.in_ok-search.ensures.numbers ∙ (λ i. found_in (way i) (number i) c.args.text.now (cyclic_records (same i) (found.ring_is i))) in
     let enough = ap (asks_less c.args.expected) (sym numbers) ∙ sym c.asks_less.ensures
     ∙ c.if-asks_less.false in
     let pointer : c.first_of-pointer.result ≡ pointer_found (pointer_from x c.args.target) all =
@@ -101,7 +102,7 @@ returns g c =
     let given_is : c.give.new.answer.items ≡ given c.args.expected all =
     c.give.ensures.given ∙ ap (given c.args.expected) numbers in
     let status : c.status_of.result ≡ search_status all = c.status_of.ensures ∙ ap search_status numbers in
-    let current = current-is (committed old) sized c.requires.kept.card x c.args.target _ e body found.file c.requires.kept.current
+    let current = current-is (committed old) sized c.requires.kept.card x c.args.target _ file found.named c.requires.kept.current
     (pointer_found (pointer_from x c.args.target) all) in
     answered (search_record c.args.target c.args.first c.args.direction c.args.text.now c.args.expected) old x
     c.search.new.store (λ _. tt) c.requires.kept.card c.pointing.result c.give.new.answer.items c.status_of.result
@@ -109,7 +110,7 @@ returns g c =
     c.in_ok-search.ensures.store.ready
     (subst (λ (y : Current). IsCurrent (table_in old) y) (sym y_is) current)
     c.give.ensures.room
-    (search-whole (committed old) sized c.requires.kept.card x c.args.target _ e body found.file found.file.named.unrefused
+    (search-whole (committed old) sized c.requires.kept.card x c.args.target _ file found.named found.named.named.unrefused
     c.args.first c.args.direction c.args.text.now c.args.expected has enough
     ∙ (λ i. outcome (card_in old) (session_in old (sym y_is i)) (sym given_is i) (sym status i)))
 

@@ -1,5 +1,5 @@
 use Rattle.std.proofs.Common.{rules}
-use Rattle.card_core.proofs.increasing.raised.Goals as goal
+use Rattle.card_core.proofs.increasing.raise.Goals as goal
 
 pub returns-in-Ok-clause-store : goal.returns-in-Ok-clause-store
 returns-in-Ok-clause-store g c = c.in-Ok.ensures.store
