@@ -1,6 +1,6 @@
 -- What an index tells of the file of an entry and of the one above it.
-use Rattle.std.specs.Prelude.{◌≡◌, ◌≢◌, ◌==◌, ◌<◌, ℕ, zero, suc, Bool, true, false, not, ◌&&◌, if◌then◌else◌}
-use Rattle.std.specs.Prelude.{List, [], ◌∷◌, length, slice_index_or, All, Option, None, Some}
+use Rattle.std.specs.Prelude.{◌≡◌, ◌==◌, ◌<◌, ℕ, zero, suc, Bool, true, false, if◌then◌else◌}
+use Rattle.std.specs.Prelude.{List, [], ◌∷◌, length, slice_index_or, All, None, Some}
 use Rattle.std.proofs.Common.{refl, sym, ◌∙◌, ap, arith, inl, inr}
 use Rattle.std.proofs.lemmas.Bool.Decides.{eqb_tells}
 use Rattle.std.proofs.lemmas.List.Elements.{All-head, All-tail}
@@ -10,7 +10,6 @@ use Rattle.file_tree.specs.declared.index.Place.{Place}
 use Rattle.file_tree.specs.declared.index.Index.{Index}
 use Rattle.file_tree.specs.Cards.{master_file}
 use Rattle.file_tree.specs.Table.{entry_in, IsUsed, IsTable}
-use Rattle.file_tree.specs.Parts.{TellsAbove}
 use Rattle.file_tree.specs.Indexes.{place_of, IsPlace, IsIndex, TellsChild}
 use Rattle.file_tree.specs.IndexParts.{parent_by}
 use Rattle.file_tree.specs.laws.Indexes.{differ}

@@ -1,13 +1,11 @@
 -- What an index is without the places of a file and of all files below it.
 use Rattle.std.specs.Prelude.{◌≡◌, ◌==◌, ◌<◌, ◌||◌, ℕ, zero, suc, Bool, true, false, not, cond, nat_eq}
-use Rattle.std.specs.Prelude.{if◌then◌else◌, List, [], ◌∷◌, filter, length, slice_index_or, All, Contains, Option, None, Some, is_some}
+use Rattle.std.specs.Prelude.{List, [], ◌∷◌, filter, length, slice_index_or, All, Contains, Option, None, Some, is_some}
 use Rattle.std.specs.List.{starts_with}
 use Rattle.std.specs.FinMap.{get, retain_keys, get-retain_keys, slice_cmp-IsAntisymmetric, nat_cmp-IsAntisymmetric}
-use Rattle.std.proofs.Common.{refl, sym, ◌∙◌, ap, subst, arith, inl, inr, true≢false}
-use Rattle.std.proofs.lemmas.Bool.Decides.{eqb_tells}
-use Rattle.std.proofs.lemmas.List.Elements.{All-head, All-tail, All-filter, filter_passes}
+use Rattle.std.proofs.Common.{refl, sym, ◌∙◌, ap, subst, arith, true≢false}
+use Rattle.std.proofs.lemmas.List.Elements.{All-filter, filter_passes}
 use Rattle.file_tree.specs.declared.entry.Entry.{Entry}
-use Rattle.file_tree.specs.declared.steps.Key.{Key}
 use Rattle.file_tree.specs.declared.index.Place.{Place}
 use Rattle.file_tree.specs.declared.index.Index.{Index}
 use Rattle.file_tree.specs.Cards.{Path, File, Tree}
@@ -17,7 +15,7 @@ use Rattle.file_tree.specs.Trees.{tree_of, TreeStands, file_in}
 use Rattle.file_tree.specs.Changes.{Deletes}
 use Rattle.file_tree.specs.DeletionParts.{leads_up}
 use Rattle.file_tree.specs.Indexes.{place_of, IsPlace, AreSorted, IsIndex}
-use Rattle.file_tree.specs.IndexParts.{parent_by, leads_by, is_outside}
+use Rattle.file_tree.specs.IndexParts.{leads_by, is_outside}
 use Rattle.file_tree.specs.laws.Paths.{one_path}
 use Rattle.file_tree.specs.laws.Nodes.{get-used, entry_found}
 use Rattle.file_tree.specs.laws.LookUps.{above_used}

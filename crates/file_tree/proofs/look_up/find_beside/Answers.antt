@@ -1,8 +1,8 @@
 use Rattle.undo_journal.specs.laws.Exits.{none_ok}
 use Rattle.std.specs.Bool.{then_some}
-use Rattle.std.proofs.Common.{◌≡◌, ◌==◌, ◌∙◌, ℕ, Bool, true, false, if◌then◌else◌, Option, None, Some, refl, subst}
+use Rattle.std.proofs.Common.{◌≡◌, ◌==◌, ◌∙◌, ℕ, Bool, true, false, if◌then◌else◌, None, Some, refl, subst}
 use Rattle.undo_journal.specs.Memory.{committed}
-use Rattle.file_tree.specs.Table.{table, entry_in}
+use Rattle.file_tree.specs.Table.{table}
 use Rattle.file_tree.specs.Indexes.{TellsChild}
 use Rattle.file_tree.specs.laws.Nodes.{used_small}
 use Rattle.file_tree.specs.laws.LookUps.{beside_there}

@@ -2,7 +2,6 @@ use Rattle.file_tree.specs.Table.{IsUsed}
 use Rattle.undo_journal.specs.laws.Exits.{none_ok}
 use Rattle.std.proofs.Common.{◌≡◌, Bool, List, ℕ, [], ◌∷◌, ◌++◌, length, Option, is_some, sym, ◌∙◌, ap, subst, arith}
 use Rattle.undo_journal.specs.Memory.{committed}
-use Rattle.undo_journal.specs.laws.Calls.{reads_then}
 use Rattle.fcp_template.specs.Views.{name_bytes, short_of_kind}
 use Rattle.fcp_template.specs.Ranges.{IsShort}
 use Rattle.fcp_template.specs.declared.fcp.ShortIdentifier.{ShortIdentifier}
