@@ -46,22 +46,6 @@ beside_there t df id e x found one below told is tells = elim (eqb_tells x.kind 
       other.1 (ap (λ (y : Entry). y.kind) is ∙ ap (λ (k : ℕ). (entry_in t k).kind) same ∙ dedicated))
 ]
 
--- what was told of the words as they were
-pub told_child : (m now : List ℕ) (p q id : ℕ) (o answer : Option ℕ) → now ≡ m → p ≡ q → o ≡ answer
-    → TellsChild (table now) p id o → TellsChild (table m) q id answer
-told_child m now p q id o answer same there is told =
-    let of_words : List ℕ → Type 0 = λ l. TellsChild (table l) q id answer in
-    let of_parent : ℕ → Type 0 = λ k. TellsChild (table now) k id answer in
-    let of_answer : Option ℕ → Type 0 = λ r. TellsChild (table now) p id r in
-    subst of_words same (subst of_parent there (subst of_answer is told))
-
-pub told_beside : (m now : List ℕ) (df id : ℕ) (o answer : Option ℕ) → now ≡ m → o ≡ answer
-    → TellsBeside (table now) df id o → TellsBeside (table m) df id answer
-told_beside m now df id o answer same is told =
-    let of_words : List ℕ → Type 0 = λ l. TellsBeside (table l) df id answer in
-    let of_answer : Option ℕ → Type 0 = λ r. TellsBeside (table now) df id r in
-    subst of_words same (subst of_answer is told)
-
 -- the first of some candidates leads, or what is reached is among the others
 pub picks : (leads : Bool) (path : Path) (rest : List Candidate)
     → first_reached (record { leads = leads; path = path } ∷ rest) ≡ (if leads then Some path else first_reached rest)
@@ -117,9 +101,6 @@ module _ (m : List ℕ) (rules : IsTable (table m)) (df id : ℕ) (used : IsUsed
       one_of_three false true master = used
       one_of_three false false true = master_used (table m) rules
       one_of_three false false false = tt
-
-  pub parent_small : (entry_in (table m) df).parent < 64
-  parent_small = used_small m (entry_in (table m) df).parent above_used
 
   -- the master file alone has the empty path
   pub at_root : (length (path_of (table m) df) == 0) ≡ (df == 0)
