@@ -31,6 +31,7 @@ use Rattle.pin_store.specs.Pages.{pin_at, ArePinPages, IsApart, SetsPin}
 use Rattle.pin_store.specs.Pins.{charged_pin, kept, owner, tries_left, Pin}
 use Rattle.pin_store.specs.Trials.{pin_in, Charges, ComparesOnce, EndsByOutcome, IsWrong, KeepsPinLaw, SetsByMatch}
 use Rattle.pin_store.specs.laws.Tries.{charge_keeps_law, end_keeps_law, IsEnd}
+use Rattle.file_tree.specs.laws.Indexed.{places_same}
 use Rattle.card_core.specs.declared.current.Current.{Current}
 use Rattle.card_core.specs.Cards.{Card}
 use Rattle.card_core.specs.Comparing.{attempt_of, comparisons, ComparesBy, ComparesShown, CostsATry}
@@ -420,7 +421,8 @@ module _ (request : Request) (a : Attempt) (asks : IsAttempt request a) (old : M
       exit-done end done ready charge =
           written request old x e (counts-end charge end done) (y end) [] (end_of_attempt end) stage-end
           (exit-card e (ended-size e exit) pages law-end)
-          reports ready (current-end end) (omega arith) writes went-end compares-end (step-end end done)
+          reports ready (current-end end)
+          (λ _. places_same _ _ (exit-table e (ended-size e exit) pages law-end)) (omega arith) writes went-end compares-end (step-end end done)
 
 -- The exits as the calls tell them: of so many writes after the charge.
 module _ (request : Request) (a : Attempt) (asks : IsAttempt request a) (n : ℕ) (most : most_writes request ≡ 1 + n)

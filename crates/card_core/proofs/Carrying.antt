@@ -15,6 +15,8 @@ use Rattle.undo_journal.specs.Memory.{Memory, committed, IsReady}
 use Rattle.undo_journal.specs.Spending.{KeepsBoard}
 use Rattle.nvm_board.specs.Facts.{Facts, raised}
 use Rattle.block_chain.specs.Words.{word}
+use Rattle.std.proofs.lemmas.Result.{on_ok_weaker}
+use Rattle.file_tree.specs.Indexes.{KeepsPlaces}
 use Rattle.file_tree.specs.Table.{table}
 use Rattle.apdu_core.specs.Asked.{asked}
 use Rattle.apdu_core.specs.Requests.{Request}
@@ -78,6 +80,8 @@ module _ (request : Request) (old mid new : Memory) (x y : Current) (text : List
             (reads-compared old mid reads)
             (subst (λ (l : List ℕ). ComparesBy request (card_of l) (comparisons mid.facts) (card_in new) (comparisons
             new.facts)) same serves.compares);
+        places = on_ok_weaker result (λ keeps stays. subst (λ (l : List ℕ). KeepsPlaces (table l) (table (committed new)))
+            same (keeps stays)) serves.places;
         counted = subst (λ (l : List ℕ). OnOk result (CountsServed (card_of l) (session_of (table l) x) request
             old.facts new.facts)) same
             (on_then _ _ result (λ counts unrefused. counts-after (attempt_of request) old.facts mid.facts

@@ -4,6 +4,8 @@ use Rattle.std.proofs.Common.{OnErr, refl, sym, ◌∙◌, ap, subst, inl, inr}
 use Rattle.std.specs.Result.{IsErrOf}
 use Rattle.std.proofs.Common.{arith}
 use Rattle.apdu_core.specs.Asked.{asked}
+use Rattle.file_tree.specs.Indexes.{IsIndex}
+use Rattle.file_tree.specs.declared.index.Index.{Index}
 use Rattle.card_core.specs.Comparing.{comparisons, ComparesAsked}
 use Rattle.card_core.specs.Counting.{CountsAnswered}
 use Rattle.card_core.specs.Stages.{IsStage}
@@ -129,16 +131,18 @@ module _ (old new : Memory) (x y : Current) (command text said : List ℕ) (read
   -- the card is one again, and is kept where it works
   pub ended-kept : (carried : Result Sw StoreErr) → CarriesOut command old x new y text carried
       → Ends carried was now text said result → (free : FreeSpace) → OnOk carried (free ≡ space_in new)
-      → (now ≡ Working → IsKept new y × (free ≡ space_in new)) × (now ≡ Dark → new.facts.dark ≡ true)
-  ended-kept (Ok status) carries ends free space = (
-    λ works. (carries.kept, space),
+      → (index : Index) → OnOk carried (IsIndex (table_in new) index)
+      → (now ≡ Working → IsKept new y × (free ≡ space_in new) × IsIndex (table_in new) index)
+      × (now ≡ Dark → new.facts.dark ≡ true)
+  ended-kept (Ok status) carries ends free space index indexed = (
+    λ works. (carries.kept, space, indexed),
     λ dark. let never : Dark ≡ Working = sym dark ∙ (ends.done.1 ∙ working) in cc,
   )
-  ended-kept (Err Fault) carries ends free space = (
+  ended-kept (Err Fault) carries ends free space index indexed = (
     λ works. let never : Working ≡ Failed = sym works ∙ (ends.failed refl).1 in cc,
     λ dark. let never : Dark ≡ Failed = sym dark ∙ (ends.failed refl).1 in cc,
   )
-  ended-kept (Err PowerLost) carries ends free space = (
+  ended-kept (Err PowerLost) carries ends free space index indexed = (
     λ works. let never : Working ≡ Dark = sym works ∙ (ends.lost refl).1 in cc,
     λ dark. (cut-in carries ends).power.dark,
   )

@@ -1,6 +1,6 @@
 -- What CREATE FILE leaves, where nothing refuses the template: first it only reads, then it creates the file, and then it
 -- reads the new entry.
-use Rattle.std.proofs.Common.{◌≡◌, ◌⊎◌, ◌≤◌, ◌-◌, ℕ, List, [], length, Option, Some, None, Result, Ok, refl, sym, ◌∙◌, ap, subst, arith, inr}
+use Rattle.std.proofs.Common.{◌≡◌, ◌⊎◌, ◌≤◌, ◌-◌, ℕ, List, [], length, Option, Some, None, Result, Ok, refl, sym, ◌∙◌, ap, subst, arith, inr, true≢false}
 use Rattle.std.specs.Result.{IsErrAnd}
 use Rattle.nvm_board.specs.declared.board.TheConstants.{WORDS}
 use Rattle.card_rules.specs.declared.status.Sw.{Sw}
@@ -160,7 +160,8 @@ module _ (old mid made : Memory) (ready : IsReady old) (words : IsCard (committe
           let done = created-step m sized words x template fcp found.told found.unbarred found.permitted e blocks after
           created ∙ (λ i. outcome (card_of (sym still i)) (session_of (table (sym still i)) y) [] DONE) in
           subst (λ (entry : Entry). Serves request old x new (current_at x e entry) [] (Ok DONE)) (sym entry_is)
-          (written request old x new (λ _. tt) y [] DONE stage stands all.reports ready_now at_file (omega arith)
+          (written request old x new (λ _. tt) y [] DONE stage stands all.reports ready_now at_file
+          (λ never. absurd (true≢false never)) (omega arith)
           (omega (arith, few, all.writes.writes)) went (compared-none n old.facts new.facts all.writes) done)
 
       pub created-counts : (free : FreeSpace) → free ≡ space_in old

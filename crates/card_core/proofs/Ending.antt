@@ -26,6 +26,7 @@ use Rattle.file_tree.specs.laws.Footprints.{tree_kept}
 use Rattle.file_tree.specs.declared.entry.Entry.{Entry}
 use Rattle.pin_store.specs.Pages.{pin_page, KeepsPins}
 use Rattle.pin_store.specs.laws.AllPins.{pages_kept, pins_kept}
+use Rattle.file_tree.specs.laws.Indexed.{places_same}
 use Rattle.card_core.specs.declared.current.Current.{Current}
 use Rattle.block_chain.specs.declared.layout.TheConstants.{HEADER_PAGE}
 use Rattle.file_tree.specs.declared.layout.TheConstants.{STATE_WORD}
@@ -189,7 +190,7 @@ module _ (old mid new : Memory) (ready : IsReady old) (words : IsCard (committed
     pub end-made : IsReady new → Serves terminate_card_usage old x new x [] (Ok DONE)
     end-made ready_now = written terminate_card_usage old x new (λ _. tt) x [] DONE (inr doing) stands all-reports
         ready_now
-        (subst (λ (t : List Entry). IsCurrent t x) (sym table-is) current) (omega arith)
+        (subst (λ (t : List Entry). IsCurrent t x) (sym table-is) current) (λ _. places_same _ _ table-is) (omega arith)
         (omega (arith, spends.writes, reads.board.writes)) went compares
         (end-done (committed old) x current marks are true is refl
         ∙ (λ i. outcome (sym card-is i) (session_of (sym table-is i) x) [] DONE))

@@ -19,6 +19,7 @@ use Rattle.apdu_core.specs.Requests.{Request, change_life_cycle}
 use Rattle.file_tree.specs.States.{life_at, ChangesLife}
 use Rattle.file_tree.specs.Table.{table, path_of}
 use Rattle.file_tree.specs.Trees.{tree_of}
+use Rattle.file_tree.specs.laws.Indexed.{life_places}
 use Rattle.card_core.specs.declared.current.Current.{Current}
 use Rattle.card_core.specs.declared.life_cycles.Changed.{Changed}
 use Rattle.card_core.specs.Cards.{Card}
@@ -123,7 +124,8 @@ module _ (old mid new : Memory) (ready : IsReady old) (words : IsCard (committed
       → Serves request old x new (current_at x e changed.entry) [] (Ok DONE)
   change-made changes ready_now = written request old x new (λ _. tt) (current_at x e changed.entry) [] DONE stage
       stands all-reports ready_now
-      (changed-current m sized words x current change subject changed found after (changes-it changes)) (omega arith)
+      (changed-current m sized words x current change subject changed found after (changes-it changes))
+      (λ _. life_places m after e changed.life (changes-it changes)) (omega arith)
       (omega (arith, spends.writes, reads.board.writes)) went compares
       (changed-step m sized words x current change subject changed found after (changes-it changes))
 

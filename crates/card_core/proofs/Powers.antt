@@ -12,12 +12,14 @@ use Rattle.undo_journal.specs.declared.error.OpenFault.TheVariants as opening
 use Rattle.undo_journal.specs.Memory.{committed, FailsBy as StoreFailsBy, IsReady, Memory, OpensNot, Reports}
 use Rattle.undo_journal.specs.Calls.{Reads, UnlessFailed}
 use Rattle.undo_journal.specs.Undo.{IsSound}
-use Rattle.file_tree.specs.declared.space.FreeSpace.{FreeSpace}
+use Rattle.file_tree.specs.Indexes.{IsIndex}
+use Rattle.file_tree.specs.Table.{table}
+use Rattle.card_core.specs.declared.check.Survey.{Survey}
 use Rattle.card_core.specs.declared.faults.StartFault.TheVariants.{Damaged}
 use Rattle.file_tree.specs.Spaces.{free_space}
 use Rattle.card_core.specs.Finding.{words_found, FindsAgain, HasCard}
 use Rattle.card_core.specs.Standing.{card_of, IsCard}
-use Rattle.card_core.specs.Working.{fresh_current, space_in, IsKept, TellsCard}
+use Rattle.card_core.specs.Working.{fresh_current, space_in, table_in, IsKept, TellsSurvey}
 use Rattle.card_core.specs.declared.faults.StartFault.{StartFault}
 use Rattle.card_core.specs.StartFaults.{fault_of_open, fault_of_store}
 use Rattle.card_core.specs.Running.{StartStopsBy}
@@ -81,12 +83,12 @@ stops-by Fault stop a b c is before fails = subst (λ (f : StartFault). StartSto
     before fails)
 
 -- what a start tells of what it found
-abbrev Found : Result (Option FreeSpace) StoreErr → Result FreeSpace StartFault → Type 0
+abbrev Found : Result (Option Survey) StoreErr → Result Survey StartFault → Type 0
 Found found result = MatchResult found (λ space. MatchOption space (result ≡ Err Damaged) (λ free. result ≡ Ok free))
     (λ e. result ≡ Err (fault_of_store e))
 
 -- a card
-pub found-there : (found : Result (Option FreeSpace) StoreErr) (result : Result FreeSpace StartFault) (free : FreeSpace)
+pub found-there : (found : Result (Option Survey) StoreErr) (result : Result Survey StartFault) (free : Survey)
     → Found found result → result ≡ Ok free → found ≡ Ok (Some free)
 found-there (Ok (Some space)) result free tells is = let same = sym tells ∙ is in cc
 found-there (Ok None) result free tells is = let never = sym tells ∙ is in cc
@@ -95,8 +97,8 @@ found-there (Err e) result free tells is = let never = sym tells ∙ is in cc
 -- or why there is none that starts
 pub stops-found : (first : Facts) (opened last : Memory) → Steady first opened.facts → IsSound first.words
     → committed opened ≡ words_found first.words → opened.failed ≡ None → Reports opened last
-    → (found : Result (Option FreeSpace) StoreErr) (result : Result FreeSpace StartFault) (stop : StartFault)
-    → Found found result → result ≡ Err stop → IfOk found (TellsCard (committed opened))
+    → (found : Result (Option Survey) StoreErr) (result : Result Survey StartFault) (stop : StartFault)
+    → Found found result → result ≡ Err stop → IfOk found (TellsSurvey (committed opened))
     → last.failed ≡ result_err found → StartStopsBy stop first last.facts
 stops-found first opened last light sound words works reports (Ok (Some space)) result stop tells is card failed =
     let never = sym tells ∙ is in cc
@@ -135,18 +137,20 @@ found-again first opened last kept undone sound still =
     record { words = kept ∙ undone; journal = (λ there. sound, λ there. still) }
 
 -- the card of a start is found, its store is ready, and its free space is what was told
-pub starts-kept : (opened last : Memory) (free : FreeSpace) (found : Result (Option FreeSpace) StoreErr)
-    → found ≡ Ok (Some free) → IsSound opened.facts.words → IfOk found (TellsCard (committed opened))
-    → Reads opened last (result_err found) → HasCard last.facts.words × IsKept last fresh_current × (free ≡ space_in last)
+pub starts-kept : (opened last : Memory) (free : Survey) (found : Result (Option Survey) StoreErr)
+    → found ≡ Ok (Some free) → IsSound opened.facts.words → IfOk found (TellsSurvey (committed opened))
+    → Reads opened last (result_err found) → HasCard last.facts.words × IsKept last fresh_current
+    × (free.free ≡ space_in last) × IsIndex (table_in last) free.index
 starts-kept opened last free found is sound card reads =
-    let told = subst (λ (r : Result (Option FreeSpace) StoreErr). IfOk r (TellsCard (committed opened))) is card in
+    let told = subst (λ (r : Result (Option Survey) StoreErr). IfOk r (TellsSurvey (committed opened))) is card in
     let same = sym reads.only.keeps.committed_words in
     let stands = subst IsCard same told.0 in (
       record { journal = reads.only.reports.sound sound; words = stands },
       record {
-        ready = subst (λ (r : Result (Option FreeSpace) StoreErr). UnlessFailed (result_err r) (IsReady last)) is reads.ready;
+        ready = subst (λ (r : Result (Option Survey) StoreErr). UnlessFailed (result_err r) (IsReady last)) is reads.ready;
         card = stands;
         current = record { df = stands.tree.entries.master.kind; ef = tt; marks = refl };
       },
       told.1 ∙ ap (λ (l : List ℕ). free_space (card_of l).tree) same,
+      subst (λ (l : List ℕ). IsIndex (table l) free.index) same told.2,
     )

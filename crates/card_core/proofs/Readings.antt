@@ -5,6 +5,8 @@ use Rattle.undo_journal.specs.Memory.{Memory, committed, IsReady}
 use Rattle.file_tree.specs.declared.entry.Entry.{Entry}
 use Rattle.file_tree.specs.Table.{table, entry_in, IsUsed}
 use Rattle.file_tree.specs.Trees.{TreeStands}
+use Rattle.file_tree.specs.Indexes.{IsIndex}
+use Rattle.file_tree.specs.declared.index.Index.{Index}
 use Rattle.card_core.specs.declared.current.Current.{Current}
 use Rattle.card_core.specs.Standing.{IsCard}
 use Rattle.card_core.specs.Working.{IsCurrent, IsKept}
@@ -36,3 +38,8 @@ kept_still a b x reads ready kept = record {
 -- the entry of the current dedicated file is used
 pub df_used : (t : List Entry) (x : Current) → IsCurrent t x → IsUsed t x.df
 df_used t x current = λ (unused : (entry_in t x.df).kind ≡ 0). let z : ⊥ = omega (arith, unused, current.df) in z
+
+-- an index is still that of the files
+pub index_still : (a b : Memory) (index : Index) → OnlyReads a b → IsIndex (table (committed a)) index
+    → IsIndex (table (committed b)) index
+index_still a b index reads is = subst (λ (l : List ℕ). IsIndex (table l) index) (sym reads.keeps.committed_words) is

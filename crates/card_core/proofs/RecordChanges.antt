@@ -25,6 +25,8 @@ use Rattle.file_tree.specs.Entries.{capacity_of, extent_told, file_of, free_entr
 use Rattle.file_tree.specs.Spaces.{free_space}
 use Rattle.file_tree.specs.Table.{table, entry_in, free_entries, path_of, IsEntry, IsUsed}
 use Rattle.file_tree.specs.Trees.{content, tree_of, TreeStands, file_in}
+use Rattle.file_tree.specs.Indexes.{KeepsPlaces}
+use Rattle.file_tree.specs.laws.Indexed.{places_but}
 use Rattle.file_tree.specs.laws.Changing.{tree_inserted}
 use Rattle.file_tree.specs.laws.Costs.{entry_extent, space_counted}
 use Rattle.file_tree.specs.laws.Nodes.{file_at_entry, used_small}
@@ -38,7 +40,7 @@ use Rattle.card_core.proofs.Entries.{card-tree}
 use Rattle.card_core.proofs.Keeping.{files-after, files-stand}
 use Rattle.card_core.proofs.RecordBodies.{body_with, kind-told, ring-stands, rules}
 use Rattle.card_core.proofs.RecordTables.{bytes-mid, current-mid, file-mid, free-mid, free_chain-mid, here, paths-mid}
-use Rattle.card_core.proofs.RecordTables.{session-mid, stands-mid, used-mid, was-used-mid, retold}
+use Rattle.card_core.proofs.RecordTables.{others, session-mid, stands-mid, used-mid, was-used-mid, retold}
 
 -- the file of an entry holds these records, and all else of the card stays
 pub record Records (m : List ℕ) (e : ℕ) (records : List (List ℕ)) (after : List ℕ) : Type 0 where
@@ -47,6 +49,7 @@ pub record Records (m : List ℕ) (e : ℕ) (records : List (List ℕ)) (after :
   pub space : free_space (card_of after).tree ≡ free_space (card_of m).tree
   pub session : (x : Current) → session_of (table after) x ≡ session_of (table m) x
   pub current : (x : Current) → IsCurrent (table m) x → IsCurrent (table after) x
+  pub places : KeepsPlaces (table m) (table after)
 
 -- a file depends on what its entry tells of records by its kind alone
 file-retold : (x : Entry) (number start : ℕ) (bytes old : List ℕ)
@@ -205,6 +208,13 @@ module _ (m after : List ℕ) (e : ℕ) (sized : length m ≡ WORDS) (words : Is
   current-after y current = subst (λ (t : List Entry). IsCurrent t y) (sym table-after)
       (current-mid m e w sized words.tree used entry y current)
 
+  pub places-after : KeepsPlaces (table m) (table after)
+  places-after =
+      let own = entry-after in
+      places_but (table m) (table after) e (ap (λ (y : Entry). y.kind) own) (ap (λ (y : Entry). y.parent) own)
+      (ap (λ (y : Entry). y.identifier) own)
+      (λ f differs. ap (λ (t : List Entry). entry_in t f) table-after ∙ others m e w sized words.tree used entry f differs)
+
   -- where its kind is that with these records, the card is that with them
   pub card-after : (records : List (List ℕ)) → (file_in after e).kind ≡ with_records (file_in m e).kind records
       → card_of after ≡ with_records_at (card_of m) (path_of (table m) e) records
@@ -302,6 +312,7 @@ module _ (m after : List ℕ) (e : ℕ) (sized : length m ≡ WORDS) (words : Is
         space = space-after m after e sized words used of_records made.only number start first;
         session = session-after m after e sized words used of_records made.only number start first;
         current = current-after m after e sized words used of_records made.only number start first;
+        places = places-after m after e sized words used of_records made.only number start first;
       }
 
   pub records-become : length records ≤ ring.capacity → RingBecomes (entry_m.kind == 4) m ring records after

@@ -159,7 +159,7 @@ module _ (old mid new : Memory) (ready : IsReady old) (words : IsCard (committed
       let session = session-is m sized words x target need file puts.found pointer ∙ sym (these.session y) in
       written request old x new (counts-none request c s old.facts new.facts puts.unshown) y text DONE stage stands
       all.reports ready_now
-      (these.current y (current-is m sized words x target need file puts.found current pointer)) room costs went compares
+      (these.current y (current-is m sized words x target need file puts.found current pointer)) (λ _. these.places) room costs went compares
       (served-done c s request puts.none ∙ effect_is ∙ (λ i. outcome (card i) (session i) text DONE))
 
   pub records-space : Becomes → space_in new ≡ space_in old

@@ -1,5 +1,5 @@
 -- What a call that carries out a request leaves, by the kinds of its exits.
-use Rattle.std.proofs.Common.{◌≡◌, ◌⊎◌, ◌+◌, ◌≤◌, ℕ, List, [], length, Option, Some, None, Result, Ok, Err, OnOk}
+use Rattle.std.proofs.Common.{◌≡◌, ◌⊎◌, ◌+◌, ◌≤◌, ℕ, false, List, [], length, Option, Some, None, Result, Ok, Err, OnOk}
 use Rattle.std.proofs.Common.{sym, ◌∙◌, ap, subst, arith, inl}
 use Rattle.std.specs.Result.{IsErrAnd}
 use Rattle.card_rules.specs.declared.status.Sw.{Sw}
@@ -9,6 +9,10 @@ use Rattle.undo_journal.specs.Memory.{Memory, committed, IsReady, Reports}
 use Rattle.undo_journal.specs.Spending.{WritesAtMost}
 use Rattle.nvm_board.specs.Facts.{Facts}
 use Rattle.file_tree.specs.declared.space.FreeSpace.{FreeSpace}
+use Rattle.file_tree.specs.Indexes.{IsIndex, KeepsPlaces}
+use Rattle.file_tree.specs.declared.index.Index.{Index}
+use Rattle.file_tree.specs.laws.Indexed.{index_kept, places_same}
+use Rattle.std.proofs.lemmas.Result.{on_ok_weaker}
 use Rattle.file_tree.specs.Table.{table}
 use Rattle.apdu_core.specs.Requests.{Request}
 use Rattle.card_core.specs.declared.current.Current.{Current}
@@ -18,7 +22,7 @@ use Rattle.card_core.specs.Cards.{Card}
 use Rattle.card_core.specs.Outcomes.{refused}
 use Rattle.card_core.specs.Attempts.{Attempt}
 use Rattle.card_core.specs.Sessions.{Session}
-use Rattle.card_core.specs.Served.{IsDoing, Serves}
+use Rattle.card_core.specs.Served.{moves_files, IsDoing, Serves}
 use Rattle.card_core.specs.Spending.{most_writes}
 use Rattle.card_core.specs.Standing.{IsCard, card_of}
 use Rattle.card_core.specs.Steps.{served}
@@ -69,6 +73,7 @@ module _ (request : Request) (old : Memory) (x : Current) (new : Memory) where
     advances = (went-reads request old x new reads).0;
     stands = (went-reads request old x new reads).1;
     compares = reads-nothing reads;
+    places = tt;
     counted = tt;
   }
 
@@ -103,6 +108,7 @@ module _ (request : Request) (old : Memory) (x : Current) (new : Memory) where
         advances = (went-reads request old x new reads).0;
         stands = (went-reads request old x new reads).1;
         compares = reads-nothing reads;
+        places = λ _. places_same (table_in old) (table_in new) (ap (λ (l : List ℕ). table l) reads.keeps.committed_words);
         counted = counted;
       }
 
@@ -133,6 +139,7 @@ module _ (request : Request) (old : Memory) (x : Current) (new : Memory) where
     advances = went.0;
     stands = went.1;
     compares = compares;
+    places = tt;
     counted = tt;
   }
 
@@ -140,12 +147,13 @@ module _ (request : Request) (old : Memory) (x : Current) (new : Memory) where
   pub written : CountsServed (card_in old) (session_in old x) request old.facts new.facts
       → (y : Current) (text : List ℕ) (status : Sw)
       → OnlyReads old new ⊎ IsDoing (card_in old) (session_in old x) request (card_in new) → IsCard (committed new)
-      → Reports old new → IsReady new → IsCurrent (table_in new) y → length text ≤ 256
+      → Reports old new → IsReady new → IsCurrent (table_in new) y
+      → (moves_files request ≡ false → KeepsPlaces (table_in old) (table_in new)) → length text ≤ 256
       → new.facts.writes ≤ old.facts.writes + most_writes request → Went request old x new
       → ComparesBy request (card_in old) (comparisons old.facts) (card_in new) (comparisons new.facts)
       → served (card_in old) (session_in old x) request ≡ outcome (card_in new) (session_in new y) text status
       → Serves request old x new y text (Ok status)
-  written counted y text status stage card reports ready current room writes went compares is = record {
+  written counted y text status stage card reports ready current places room writes went compares is = record {
     step = is;
     room = room;
     stage = stage;
@@ -157,6 +165,7 @@ module _ (request : Request) (old : Memory) (x : Current) (new : Memory) where
     advances = went.0;
     stands = went.1;
     compares = compares;
+    places = places;
     counted = counted;
   }
 
@@ -165,3 +174,10 @@ pub space_kept : (free before after : FreeSpace) (result : Result Sw StoreErr) �
     → OnOk result (after ≡ before) → OnOk result (free ≡ after)
 space_kept free before after (Ok status) counted same = counted ∙ sym same
 space_kept free before after (Err e) counted same = tt
+
+-- and so does the index, where each file stays in its place
+pub index_left : (request : Request) (old : Memory) (x : Current) (new : Memory) (y : Current) (text : List ℕ)
+    (result : Result Sw StoreErr) (index : Index) → Serves request old x new y text result → moves_files request ≡ false
+    → IsIndex (table_in old) index → OnOk result (IsIndex (table_in new) index)
+index_left request old x new y text result index serves stays is =
+    on_ok_weaker result (λ keeps. index_kept (table_in old) (table_in new) index (keeps stays) is) serves.places

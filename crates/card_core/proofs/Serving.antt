@@ -35,6 +35,7 @@ use Rattle.file_tree.specs.laws.Nodes.{file_at_entry, used_small}
 use Rattle.file_tree.specs.laws.Paths.{parent_path, identifier_path}
 use Rattle.file_tree.specs.laws.Rewriting.{rewritten}
 use Rattle.file_tree.specs.laws.Tables.{length-table}
+use Rattle.file_tree.specs.laws.Indexed.{places_same}
 use Rattle.card_core.specs.declared.current.Current.{Current as CurrentFiles}
 use Rattle.card_core.specs.declared.named.Need.{Need}
 use Rattle.card_core.specs.declared.named.Structure.TheVariants.{Bytes}
@@ -271,7 +272,7 @@ module _ (old mid : Memory) (ready : IsReady old) (words : IsCard (committed old
         let files = sym (rewrites becomes).table in
         written request old x new (λ _. tt) y [] DONE stage card-stands all-reports ready_now
         (subst (λ (t : List Entry). IsCurrent t y) files (named-current m x e found.file target current))
-        (omega arith) costs went compares
+        (λ _. places_same _ _ (rewrites becomes).table) (omega arith) costs went compares
         (update-within (card_in old) (session_in old x) target offset path f found.place
         (there m words e found.file.child.used) bytes found.unrefused (decides ∙ none)
         ∙ (λ i. record {

@@ -1,5 +1,5 @@
 -- What a call that carries out a request leaves, at whatever exit. No public clause names this.
-use Rattle.std.specs.Prelude.{◌≡◌, ◌≢◌, ◌⊎◌, ◌+◌, ◌≤◌, ℕ, List, [], ◌∷◌, length, Contains, None, Result}
+use Rattle.std.specs.Prelude.{◌≡◌, ◌≢◌, ◌⊎◌, ◌+◌, ◌≤◌, ℕ, Bool, true, false, List, [], ◌∷◌, length, Contains, None, Result}
 use Rattle.std.specs.Prelude.{IfOk, OnOk}
 use Rattle.std.specs.Result.{result_err}
 use Rattle.card_rules.specs.declared.status.Sw.{Sw}
@@ -9,7 +9,8 @@ use Rattle.undo_journal.specs.Spending.{Advances}
 use Rattle.undo_journal.specs.Undo.{gate}
 use Rattle.undo_journal.specs.Memory.{Memory, committed, Reports}
 use Rattle.apdu_core.specs.Asked.{asked}
-use Rattle.apdu_core.specs.Requests.{Request}
+use Rattle.apdu_core.specs.Requests.{Request, create_file, delete_file}
+use Rattle.file_tree.specs.Indexes.{KeepsPlaces}
 use Rattle.card_core.specs.declared.current.Current.{Current}
 use Rattle.card_core.specs.Cards.{Card}
 use Rattle.card_core.specs.Comparing.{comparisons, ComparesAsked, ComparesBy}
@@ -21,7 +22,7 @@ use Rattle.card_core.specs.Stages.{commits, ChangesNothing, IsStage}
 use Rattle.card_core.specs.Standing.{IsCard}
 use Rattle.card_core.specs.Steps.{carried_out, refusals_of, served}
 use Rattle.card_core.specs.Words.{StandsAsked, StandsServed}
-use Rattle.card_core.specs.Working.{card_in, outcome, session_in, IsKept}
+use Rattle.card_core.specs.Working.{card_in, outcome, session_in, table_in, IsKept}
 
 -- A request that isn't refused and changes something lasting, at whatever exit: the card is the one before it, or the one after
 -- one of its commits.
@@ -29,6 +30,12 @@ pub record IsDoing (c : Card) (s : Session) (request : Request) (d : Card) : Typ
   pub unrefused : refused_by (refusals_of c s request) ≡ None
   pub lasts : commits c s request ≢ []
   pub card : Contains (c ∷ commits c s request) d
+
+-- CREATE FILE and DELETE FILE alone change which files there are
+abbrev pub moves_files : Request → Bool
+moves_files (create_file template) = true
+moves_files (delete_file subject) = true
+moves_files request = false
 
 -- What a call left of the memory and of the current files, with its answer: where it ended, the step of a card in use; at whatever
 -- exit, the card before it or after one of its commits; and where nothing lasting changes, only reads were made.
@@ -46,6 +53,7 @@ pub record Serves (request : Request) (old : Memory) (x : Current) (new : Memory
   pub advances : Advances old.facts new.facts
   pub stands : gate old.facts.words ≡ 0 → StandsServed (card_in old) (session_in old x) request new.facts.words
   pub compares : ComparesBy request (card_in old) (comparisons old.facts) (card_in new) (comparisons new.facts)
+  pub places : OnOk result (moves_files request ≡ false → KeepsPlaces (table_in old) (table_in new))
   pub counted : OnOk result (CountsServed (card_in old) (session_in old x) request old.facts new.facts)
 
 -- The same by the bytes of a command, of a card that may be in use or not.

@@ -40,6 +40,8 @@ use Rattle.fcp_template.specs.declared.fcp.Records.{Records as RecordsTold}
 use Rattle.fcp_template.specs.declared.fcp.ShortIdentifier.{ShortIdentifier}
 use Rattle.fcp_template.specs.declared.fcp.ShortIdentifier.TheVariants as shorts
 use Rattle.fcp_template.specs.Spelling.{fcp_text}
+use Rattle.file_tree.specs.Indexes.{IsIndex}
+use Rattle.card_core.specs.declared.check.Survey.{Survey}
 use Rattle.card_core.specs.declared.card_state.CardState.{CardState}
 use Rattle.card_core.specs.declared.card_state.CardState.TheVariants.{Working, Failed, Dark}
 use Rattle.card_core.specs.declared.current.Current.{Current}
@@ -289,6 +291,12 @@ data_in Nothing entry = []
 abbrev pub TellsCard : List ℕ → Option FreeSpace → Type 0
 TellsCard m None = ¬ IsCard m
 TellsCard m (Some free) = IsCard m × (free ≡ free_space (card_of m).tree)
+
+-- and what a start finds: where its files are, too
+abbrev pub TellsSurvey : List ℕ → Option Survey → Type 0
+TellsSurvey m None = ¬ IsCard m
+TellsSurvey m (Some survey) =
+    IsCard m × (survey.free ≡ free_space (card_of m).tree) × IsIndex (table m) survey.index
 
 -- the outcome that leaves this session, and answers this data and status word
 abbrev pub outcome : Card → Session → List ℕ → Sw → Outcome

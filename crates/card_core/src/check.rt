@@ -4,13 +4,20 @@ ghost use Rattle.std.specs.Result.{result_err};
 ghost use Rattle.undo_journal.specs.Calls.{Reads};
 ghost use Rattle.undo_journal.specs.Memory.{committed, IsReady};
 ghost use Rattle.card_core.specs.Standing.{IsHeader};
-ghost use Rattle.card_core.specs.Working.{TellsCard};
+ghost use Rattle.card_core.specs.Working.{TellsCard, TellsSurvey};
 
 use crate::layout::MARK;
 use block_chain::HEADER_PAGE;
-use file_tree::{CARD_TERMINATED, FreeSpace, STATE_WORD, is_tree};
+use file_tree::{CARD_TERMINATED, FreeSpace, Index, STATE_WORD, is_tree};
 use pin_store::are_pins;
 use undo_journal::{Board, PAGE_WORDS, Store, StoreErr};
+
+/// What a start finds of a card: its free space, and where each of its files is.
+#[derive(Drop)]
+pub(crate) struct Survey {
+    pub free: FreeSpace,
+    pub index: Index,
+}
 
 /// The header: the mark, and one of the two states.
 #[tactic(auto, using(undo_journal::specs::laws::Calls::reads_then))]
@@ -26,7 +33,7 @@ fn is_header<B: Board>(store: &mut Store<B>) -> Result<bool, StoreErr>
 
 /// The free space of a card, if the words are those of one: its header, its PINs, its files and their blocks are looked at.
 #[tactic(auto, using(undo_journal::specs::laws::Calls::reads_then))]
-pub(crate) fn find_card<B: Board>(store: &mut Store<B>) -> Result<Option<FreeSpace>, StoreErr>
+fn find_card<B: Board>(store: &mut Store<B>) -> Result<Option<FreeSpace>, StoreErr>
     requires ready { IsReady store.old }
     ensures card { IfOk result (TellsCard (committed store.old)) }
     ensures store { Reads store.old store.new (result_err result) }
@@ -35,4 +42,19 @@ pub(crate) fn find_card<B: Board>(store: &mut Store<B>) -> Result<Option<FreeSpa
     let pins = are_pins(store)?;
     let tree = is_tree(store)?;
     if header && pins { Ok(tree) } else { Ok(None) }
+}
+
+/// What a start finds of the card, if the words are those of one.
+pub(crate) fn survey_card<B: Board>(store: &mut Store<B>) -> Result<Option<Survey>, StoreErr>
+    requires ready { IsReady store.old }
+    ensures card { IfOk result (TellsSurvey (committed store.old)) }
+    ensures store { Reads store.old store.new (result_err result) }
+{
+    match find_card(store)? {
+        Some(free) => {
+            let index = Index::of(store)?;
+            Ok(Some(Survey { free, index }))
+        }
+        None => Ok(None),
+    }
 }

@@ -7,7 +7,8 @@ ghost use Rattle.apdu_core.specs.Ranges.{IsInRange};
 ghost use Rattle.apdu_core.specs.Requests.{request_of};
 ghost use Rattle.card_core.specs.Served.{CarriesOut, Serves};
 ghost use Rattle.card_core.specs.Lending.{IsWhole};
-ghost use Rattle.card_core.specs.Working.{card_in, space_in};
+ghost use Rattle.card_core.specs.Working.{card_in, space_in, table_in};
+ghost use Rattle.file_tree.specs.Indexes.{IsIndex};
 
 use crate::binary::{read_file, update_file};
 use crate::files::{create_file, delete_file};
@@ -23,7 +24,7 @@ use block_chain::HEADER_PAGE;
 use file_tree::STATE_WORD;
 use undo_journal::{Board, PAGE_WORDS, Store, StoreErr};
 
-/// Carries out the bytes of a command: the data goes into `answer`, the free space is kept, and the status word is the result.
+/// Carries out the bytes of a command: the data goes into `answer`, free space and index are kept, and the status word is the result.
 /// What the form of the command calls for comes first, and then whether the use of the card has ended.
 pub(crate) fn carry_out<B: Board>(
     lent: &mut Lent<B>,
@@ -35,6 +36,7 @@ pub(crate) fn carry_out<B: Board>(
     ensures carries { CarriesOut command.now lent.old.store lent.old.current lent.new.store lent.new.current
         answer.new.items result }
     ensures space { OnOk result (lent.new.free ≡ space_in lent.new.store) }
+    ensures index { OnOk result (IsIndex (table_in lent.new.store) lent.new.index) }
 {
     let command = match Command::parse(command) {
         Ok(command) => command,
@@ -68,18 +70,20 @@ fn serve<B: Board>(
     ensures serves { Serves (request_of command.entry) lent.old.store lent.old.current lent.new.store lent.new.current
         answer.new.items result }
     ensures space { OnOk result (lent.new.free ≡ space_in lent.new.store) }
+    ensures index { OnOk result (IsIndex (table_in lent.new.store) lent.new.index) }
 {
     let Lent {
         store,
         current,
         free,
+        index,
     } = lent;
     match command {
         Command::Select {
             selector,
             returned,
             expected,
-        } => select_file(store, current, selector, returned, expected, answer),
+        } => select_file(store, index, current, selector, returned, expected, answer),
         Command::ReadBinary {
             target,
             offset,
@@ -90,8 +94,8 @@ fn serve<B: Board>(
             offset,
             bytes,
         } => update_file(store, current, target, offset, bytes),
-        Command::CreateFile { template } => create_file(store, current, free, template),
-        Command::DeleteFile { subject } => delete_file(store, current, free, subject),
+        Command::CreateFile { template } => create_file(store, current, free, index, template),
+        Command::DeleteFile { subject } => delete_file(store, current, free, index, subject),
         Command::ReadRecord {
             target,
             choice,
@@ -116,7 +120,7 @@ fn serve<B: Board>(
             store, current, amount, expected, answer,
         ),
         Command::ChangeLifeCycle { change, subject } => change_life_cycle(
-            store, current, change, subject,
+            store, index, current, change, subject,
         ),
         Command::TerminateCardUsage => terminate_card_usage(store, current),
         Command::Verify { pin, shown } => verify(store, current, pin, shown),

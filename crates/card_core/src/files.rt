@@ -5,6 +5,7 @@ ghost use Rattle.undo_journal.specs.Calls.{Reads};
 ghost use Rattle.undo_journal.specs.Memory.{committed};
 ghost use Rattle.apdu_core.specs.Requests.{create_file as creation, delete_file as deletion};
 ghost use Rattle.card_rules.specs.declared.access_mode.AccessBit.TheVariants.{DeleteChild, DeleteSelf};
+ghost use Rattle.file_tree.specs.Indexes.{IsIndex};
 ghost use Rattle.file_tree.specs.States.{is_barred as is_barred_at};
 ghost use Rattle.file_tree.specs.Table.{path_of, IsUsed};
 ghost use Rattle.card_core.specs.FileGuards.{IsDeletable, IsNewFile};
@@ -20,7 +21,9 @@ use crate::named::{Findings, Named};
 use apdu_core::{Subject, Sw};
 use card_rules::AccessBit;
 use fcp_template::{Fcp, FileKind, parse};
-use file_tree::{Creation, FreeSpace, create, delete, is_allowed, is_barred, read_entry, select};
+use file_tree::{
+    Creation, FreeSpace, Index, create, delete, is_allowed, is_barred, read_entry, select,
+};
 use undo_journal::{Board, Store, StoreErr};
 
 /// CREATE FILE: the file that the template tells stands in the current dedicated file then, and is current. Its blocks are
@@ -30,18 +33,21 @@ pub(crate) fn create_file<B: Board>(
     store: &mut Store<B>,
     current: &mut Current,
     free: &mut FreeSpace,
+    index: &mut Index,
     template: &[u8],
 ) -> Result<Sw, StoreErr>
     requires kept { IsKept store.old current.old }
     requires space { free.old ≡ space_in store.old }
+    requires index { IsIndex (table_in store.old) index.old }
     ensures serves { Serves (creation template.now) store.old current.old store.new current.new [] result }
     ensures space { OnOk result (free.new ≡ space_in store.new) }
+    ensures index { OnOk result (IsIndex (table_in store.new) index.new) }
 {
     let fcp = match find_new_file(store, current, template)? {
         Ok(fcp) => fcp,
         Err(refusal) => return Ok(refusal),
     };
-    let (number, blocks) = match create(store, current.df, &fcp)? {
+    let (number, blocks) = match create(store, index, current.df, &fcp)? {
         Creation::Created { entry, blocks } => (entry, blocks),
         Creation::Refused(refusal) => return Ok(refusal),
     };
@@ -98,18 +104,21 @@ pub(crate) fn delete_file<B: Board>(
     store: &mut Store<B>,
     current: &mut Current,
     free: &mut FreeSpace,
+    index: &mut Index,
     subject: Subject,
 ) -> Result<Sw, StoreErr>
     requires kept { IsKept store.old current.old }
     requires space { free.old ≡ space_in store.old }
+    requires index { IsIndex (table_in store.old) index.old }
     ensures serves { Serves (deletion subject) store.old current.old store.new current.new [] result }
     ensures space { OnOk result (free.new ≡ space_in store.new) }
+    ensures index { OnOk result (IsIndex (table_in store.new) index.new) }
 {
-    let file = match find_deletable(store, current, subject)? {
+    let file = match find_deletable(store, index, current, subject)? {
         Ok(file) => file,
         Err(refusal) => return Ok(refusal),
     };
-    let freed = delete(store, file.number)?;
+    let freed = delete(store, index, file.number)?;
     *free = FreeSpace {
         blocks: free.blocks + freed.blocks,
         entries: free.entries + freed.entries,
@@ -128,17 +137,19 @@ pub(crate) fn delete_file<B: Board>(
 #[tactic(auto, using(undo_journal::specs::laws::Calls::reads_then))]
 fn find_deletable<B: Board>(
     store: &mut Store<B>,
+    index: &Index,
     current: &Current,
     subject: Subject,
 ) -> Result<Result<Named, Sw>, StoreErr>
     requires kept { IsKept store.old current.now }
+    requires index { IsIndex (table_in store.old) index.now }
     ensures found { IfOk result (λ answer. MatchResult answer
         (λ file. IsDeletable (committed store.old) current.now subject file.number file.entry)
         (λ refusal. refused_by (delete_refusals (card_in store.old) (session_in store.old current.now) subject)
         ≡ Some refusal)) }
     ensures store { Reads store.old store.new (result_err result) }
 {
-    let Some(number) = find_subject(store, current, subject)? else {
+    let Some(number) = find_subject(store, index, current, subject)? else {
         return Ok(Err(Sw::FILE_NOT_FOUND));
     };
     if number == 0 {
@@ -184,10 +195,12 @@ fn deletion_refusal<B: Board>(
 #[tactic(auto, using(undo_journal::specs::laws::Calls::reads_then))]
 fn find_subject<B: Board>(
     store: &mut Store<B>,
+    index: &Index,
     current: &Current,
     subject: Subject,
 ) -> Result<Option<u8>, StoreErr>
     requires kept { IsKept store.old current.now }
+    requires index { IsIndex (table_in store.old) index.now }
     ensures found { IfOk result (λ found. subject_of (card_in store.old).tree (session_in store.old current.now) subject
         ≡ option_map (path_of (table_in store.old)) found) }
     ensures used { IfOk result (λ found. IfSome found (IsUsed (table_in store.old))) }
@@ -195,6 +208,6 @@ fn find_subject<B: Board>(
 {
     match subject {
         Subject::Current => Ok(Some(current.ef.unwrap_or(current.df))),
-        Subject::Identifier(identifier) => select(store, current.df, identifier),
+        Subject::Identifier(identifier) => select(store, index, current.df, identifier),
     }
 }

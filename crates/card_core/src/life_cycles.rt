@@ -5,6 +5,7 @@ ghost use Rattle.std.specs.Result.{result_err};
 ghost use Rattle.undo_journal.specs.Calls.{Reads};
 ghost use Rattle.undo_journal.specs.Memory.{committed, IsReady};
 ghost use Rattle.apdu_core.specs.Requests.{change_life_cycle as changing, terminate_card_usage as terminating};
+ghost use Rattle.file_tree.specs.Indexes.{IsIndex};
 ghost use Rattle.file_tree.specs.Table.{path_of, IsUsed};
 ghost use Rattle.card_core.specs.Changing.{change_at, changed_by, current_changed, is_for_kind, IsChanged};
 ghost use Rattle.card_core.specs.LifeCycles.{change_bit, change_refusals, changed_file, command_of, no_subject};
@@ -17,7 +18,8 @@ use crate::current::Current;
 use apdu_core::{LifeCycleChange, Subject, Sw};
 use card_rules::{AccessBit, LifeCycle, LifeCycleCommand};
 use file_tree::{
-    Entry, is_allowed, kinds, next_life_cycle, read_entry, select, set_life_cycle, terminate_card,
+    Entry, Index, is_allowed, kinds, next_life_cycle, read_entry, select, set_life_cycle,
+    terminate_card,
 };
 use undo_journal::{Board, Store, StoreErr};
 
@@ -34,15 +36,17 @@ pub(crate) struct Changed {
 /// result.
 pub(crate) fn change_life_cycle<B: Board>(
     store: &mut Store<B>,
+    index: &Index,
     current: &mut Current,
     change: LifeCycleChange,
     subject: Subject,
 ) -> Result<Sw, StoreErr>
     requires kept { IsKept store.old current.old }
+    requires index { IsIndex (table_in store.old) index.now }
     ensures serves { Serves (changing change subject) store.old current.old store.new current.new [] result }
     ensures space { OnOk result (space_in store.new ≡ space_in store.old) }
 {
-    let changed = match find_change(store, current, change, subject)? {
+    let changed = match find_change(store, index, current, change, subject)? {
         Ok(changed) => changed,
         Err(refusal) => return Ok(refusal),
     };
@@ -73,18 +77,20 @@ pub(crate) fn terminate_card_usage<B: Board>(
 #[tactic(auto, using(undo_journal::specs::laws::Calls::reads_then))]
 fn find_change<B: Board>(
     store: &mut Store<B>,
+    index: &Index,
     current: &Current,
     change: LifeCycleChange,
     subject: Subject,
 ) -> Result<Result<Changed, Sw>, StoreErr>
     requires kept { IsKept store.old current.now }
+    requires index { IsIndex (table_in store.old) index.now }
     ensures found { IfOk result (λ answer. MatchResult answer
         (λ changed. IsChanged (committed store.old) current.now change subject changed)
         (λ refusal. refused_by (change_refusals (card_in store.old) (session_in store.old current.now) change subject)
         ≡ Some refusal)) }
     ensures store { Reads store.old store.new (result_err result) }
 {
-    let Some(number) = find_changed(store, current, change, subject)? else {
+    let Some(number) = find_changed(store, index, current, change, subject)? else {
         return Ok(Err(no_subject(subject)));
     };
     read_change(store, current, change, number)
@@ -141,11 +147,13 @@ fn changed_by(
 #[tactic(auto, using(undo_journal::specs::laws::Calls::reads_then))]
 fn find_changed<B: Board>(
     store: &mut Store<B>,
+    index: &Index,
     current: &Current,
     change: LifeCycleChange,
     subject: Subject,
 ) -> Result<Option<u8>, StoreErr>
     requires kept { IsKept store.old current.now }
+    requires index { IsIndex (table_in store.old) index.now }
     ensures found { IfOk result (λ found. changed_file (card_in store.old).tree (session_in store.old current.now) change subject
         ≡ option_map (path_of (table_in store.old)) found) }
     ensures used { IfOk result (λ found. IfSome found (IsUsed (table_in store.old))) }
@@ -153,7 +161,7 @@ fn find_changed<B: Board>(
 {
     match subject {
         Subject::Current => Ok(current_changed(current, change)),
-        Subject::Identifier(identifier) => select(store, current.df, identifier),
+        Subject::Identifier(identifier) => select(store, index, current.df, identifier),
     }
 }
 

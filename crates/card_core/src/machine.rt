@@ -20,7 +20,7 @@ ghost use Rattle.card_core.specs.Words.{StandsAsked};
 ghost use Rattle.card_core.specs.Outcomes.{answer_bytes};
 
 use crate::card_state::CardState;
-use crate::check::find_card;
+use crate::check::{Survey, survey_card};
 use crate::commands::carry_out;
 use crate::current::Current;
 use crate::faults::{PowerLost, StartFault};
@@ -89,12 +89,13 @@ impl<B: Board> Card<B> {
             Ok(store) => store,
             Err((board, fault)) => return Err((board, StartFault::from(fault))),
         };
-        match space_of(find_card(&mut store)) {
-            Ok(free) => Ok(Card {
+        match survey_of(survey_card(&mut store)) {
+            Ok(Survey { free, index }) => Ok(Card {
                 lent: Lent {
                     store,
                     current: Current::fresh(),
                     free,
+                    index,
                 },
                 state: CardState::Working,
             }),
@@ -179,6 +180,7 @@ impl<B: Board> Card<B> {
             store,
             current: _,
             free: _,
+            index: _,
         } = lent;
         store.into_board()
     }
@@ -210,14 +212,14 @@ impl<B: Armed> Card<B> {
     }
 }
 
-/// What a start finds: the free space of the card, or why the card doesn't start.
-fn space_of(found: Result<Option<FreeSpace>, StoreErr>) -> Result<FreeSpace, StartFault>
+/// What a start finds of the card, or why the card doesn't start.
+fn survey_of(found: Result<Option<Survey>, StoreErr>) -> Result<Survey, StartFault>
     ensures { MatchResult found
-        (λ space. MatchOption space (result ≡ Err StartFault.Damaged) (λ free. result ≡ Ok free))
+        (λ card. MatchOption card (result ≡ Err StartFault.Damaged) (λ survey. result ≡ Ok survey))
         (λ e. result ≡ Err (fault_of_store e)) }
 {
     match found {
-        Ok(Some(free)) => Ok(free),
+        Ok(Some(survey)) => Ok(survey),
         Ok(None) => Err(StartFault::Damaged),
         Err(e) => Err(StartFault::from(e)),
     }

@@ -5,6 +5,7 @@ ghost use Rattle.undo_journal.specs.Calls.{Reads};
 ghost use Rattle.apdu_core.specs.Ranges.{IsFilePath, IsSelector};
 ghost use Rattle.apdu_core.specs.Requests.{select as selection};
 ghost use Rattle.apdu_core.specs.Selections.{identifiers_in, selection_of};
+ghost use Rattle.file_tree.specs.Indexes.{IsIndex};
 ghost use Rattle.file_tree.specs.Table.{path_of, IsUsed};
 ghost use Rattle.card_core.specs.Reaching.{selected_from};
 ghost use Rattle.card_core.specs.Selecting.{selection_status};
@@ -18,7 +19,7 @@ use apdu_core::{Answer, FilePath, Returned, Selector, Sw};
 use arrayvec::ArrayVec;
 use card_rules::LifeCycle;
 use file_tree::{
-    Entry, find_name, find_parent, find_path, find_path_from_master, read_entry, select,
+    Entry, Index, find_name, find_parent, find_path, find_path_from_master, read_entry, select,
 };
 use undo_journal::{Board, Store, StoreErr};
 
@@ -29,6 +30,7 @@ const PATH_ROOM: usize = 7;
 /// status word is the result. An Le that asks for less than the template is refused.
 pub(crate) fn select_file<B: Board>(
     store: &mut Store<B>,
+    index: &Index,
     current: &mut Current,
     selector: Selector<'_>,
     returned: Returned,
@@ -36,11 +38,12 @@ pub(crate) fn select_file<B: Board>(
     answer: &mut Answer,
 ) -> Result<Sw, StoreErr>
     requires kept { IsKept store.old current.old }
+    requires index { IsIndex (table_in store.old) index.now }
     requires selector { IsSelector selector }
     requires empty { answer.old.items ≡ [] }
     ensures { Serves (selection (selection_of selector.entry) returned expected) store.old current.old store.new current.new answer.new.items result }
 {
-    let Some(e) = find_selected(store, *current, selector)? else {
+    let Some(e) = find_selected(store, index, *current, selector)? else {
         return Ok(Sw::FILE_NOT_FOUND);
     };
     let entry = read_entry(store, e)?;
@@ -56,10 +59,12 @@ pub(crate) fn select_file<B: Board>(
 /// The entry of the file that SELECT names.
 fn find_selected<B: Board>(
     store: &mut Store<B>,
+    index: &Index,
     current: Current,
     selector: Selector<'_>,
 ) -> Result<Option<u8>, StoreErr>
     requires kept { IsKept store.old current }
+    requires index { IsIndex (table_in store.old) index.now }
     requires selector { IsSelector selector }
     ensures found { IfOk result (λ found. selected_from (card_in store.old).tree (session_in store.old
         current).current_df (selection_of selector.entry)
@@ -69,11 +74,15 @@ fn find_selected<B: Board>(
 {
     match selector {
         Selector::MasterFile => Ok(Some(0)),
-        Selector::Identifier(identifier) => select(store, current.df, identifier),
+        Selector::Identifier(identifier) => select(store, index, current.df, identifier),
         Selector::Parent => find_parent(store, current.df),
         Selector::Name(name) => find_name(store, name),
-        Selector::PathFromMaster(path) => find_path_from_master(store, &identifiers_of(path)),
-        Selector::PathFromCurrent(path) => find_path(store, current.df, &identifiers_of(path)),
+        Selector::PathFromMaster(path) => {
+            Ok(find_path_from_master(index, &identifiers_of(path)))
+        }
+        Selector::PathFromCurrent(path) => {
+            Ok(find_path(index, current.df, &identifiers_of(path)))
+        }
     }
 }
 

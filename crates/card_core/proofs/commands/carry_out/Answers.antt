@@ -5,7 +5,7 @@ use Rattle.card_rules.specs.declared.status.TheConstants.Sw.{CONDITIONS_NOT_SATI
 use Rattle.apdu_core.specs.Requests.{request_of}
 use Rattle.card_core.specs.Served.{CarriesOut}
 use Rattle.card_core.proofs.Carrying.{carried, failed-reading, serves-after, use-ended, refused-by-form}
-use Rattle.card_core.proofs.Readings.{kept_still}
+use Rattle.card_core.proofs.Readings.{index_still, kept_still}
 use Rattle.card_core.proofs.SpaceKept.{space-same}
 use Rattle.card_core.proofs.Stopping.{err-is, none-done}
 use Rattle.undo_journal.specs.laws.Calls.{reads_same}
@@ -65,4 +65,13 @@ serve-requires-clause-whole g c =
     record {
       kept = kept_still old new c.args.lent.now.current reads c.in_ok-is_in_use.ensures.store.ready c.requires.whole.kept;
       space = c.requires.whole.space ∙ sym (space-same old new reads.keeps.committed_words);
+      index = index_still old new c.args.lent.now.index reads c.requires.whole.index;
     }
+
+pub returns-in_err-is_in_use-clause-index : goal.returns-in_err-is_in_use-clause-index
+returns-in_err-is_in_use-clause-index g c = none-done _ _ _ c.from_residual.ensures.1
+
+pub returns-then-not-branch-clause-index : goal.returns-then-not-branch-clause-index
+returns-then-not-branch-clause-index g c =
+    index_still c.args.lent.now.store c.is_in_use.new.store c.args.lent.now.index c.is_in_use.ensures.store.only
+    c.requires.whole.index

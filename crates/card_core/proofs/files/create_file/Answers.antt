@@ -12,6 +12,7 @@ use Rattle.card_core.proofs.Answering.{said_ok, said_err}
 use Rattle.card_core.proofs.CreateServes.{created-counts, created-done, created-torn, creation-refused, creation-taken}
 use Rattle.card_core.proofs.CreateServes.{creation-taken-one, creation-torn, creation-used}
 use Rattle.card_core.proofs.FileSteps.{create-refusal}
+use Rattle.card_core.proofs.Readings.{index_still}
 use Rattle.card_core.proofs.Serves.{declined, handed}
 use Rattle.card_core.proofs.files.create_file.Goals as goal
 
@@ -101,3 +102,15 @@ returns-clause-space g c =
     c.in-Created.blocks c.in_ok-entry.field-0 c.in_ok-entry.ensures.done c.in-Created.is c.read_entry.new.store _
     c.create.ensures.by_gate _
     c.in_ok-entry.ensures.store (omega arith) c.in_ok-entry-2.ensures.store c.args.free.now c.requires.space
+
+pub create-requires-clause-index : goal.create-requires-clause-index
+create-requires-clause-index g c =
+    index_still c.args.store.now c.find_new_file.new.store _ c.find_new_file.ensures.store.only c.requires.index
+
+pub returns-in-Err-clause-index : goal.returns-in-Err-clause-index
+returns-in-Err-clause-index g c =
+    index_still c.args.store.now c.find_new_file.new.store _ c.find_new_file.ensures.store.only c.requires.index
+
+pub returns-clause-index : goal.returns-clause-index
+returns-clause-index g c =
+    index_still c.create.new.store c.read_entry.new.store _ c.in_ok-entry-2.ensures.store.only c.in_ok-entry.ensures.index

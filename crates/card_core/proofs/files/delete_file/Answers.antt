@@ -1,4 +1,4 @@
-use Rattle.std.proofs.Common.{[], Result, Ok, None, refl, sym, ◌∙◌, subst, arith, inr}
+use Rattle.std.proofs.Common.{[], Result, Ok, None, refl, sym, ◌∙◌, subst, arith, inr, true≢false}
 use Rattle.undo_journal.specs.declared.error.StoreErr.{StoreErr}
 use Rattle.undo_journal.specs.Memory.{committed}
 use Rattle.undo_journal.specs.laws.Memory.{reports_then}
@@ -11,6 +11,7 @@ use Rattle.card_core.specs.Working.{card_in, session_in}
 use Rattle.card_core.proofs.Answering.{said_ok, said_err}
 use Rattle.card_core.proofs.Deletions.{any-deleting, any-stands, deleted-space, done-current, done-step}
 use Rattle.card_core.proofs.FileSteps.{delete-refused}
+use Rattle.card_core.proofs.Readings.{index_still}
 use Rattle.card_core.proofs.Serves.{compared-none, declined, reads-compared, stopped, torn, written}
 use Rattle.card_core.proofs.Stopping.{err-is}
 use Rattle.card_core.proofs.Words.{went-after}
@@ -91,10 +92,18 @@ returns-clause-serves g c =
     subst (λ (y : Entry). Serves request old x new (record x { df = y.parent; ef = None; pointer = None }) [] (Ok DONE))
     (sym found.entry_is)
     (written request old x new (λ _. tt) _ [] DONE (inr stage) card reports c.in_ok-freed.ensures.store.ready current
-    (omega arith) (omega (arith, spends, spent)) went compares done)
+    (λ never. absurd (true≢false never)) (omega arith) (omega (arith, spends, spent)) went compares done)
 
 pub returns-clause-space : goal.returns-clause-space
 returns-clause-space g c =
     let m = committed c.args.store.now in
     deleted-space m (committed c.find_deletable.new.store) (committed c.delete.new.store) c.args.free.now
     c.in_ok-freed.freed c.requires.space c.find_deletable.ensures.store.only.keeps.committed_words c.in_ok-freed.ensures.space
+
+pub delete-requires-clause-index : goal.delete-requires-clause-index
+delete-requires-clause-index g c =
+    index_still c.args.store.now c.find_deletable.new.store _ c.find_deletable.ensures.store.only c.requires.index
+
+pub returns-in-Err-clause-index : goal.returns-in-Err-clause-index
+returns-in-Err-clause-index g c =
+    index_still c.args.store.now c.find_deletable.new.store _ c.find_deletable.ensures.store.only c.requires.index

@@ -11,6 +11,7 @@ use Rattle.card_core.specs.Reaching.{selected_from}
 use Rattle.card_core.specs.Standing.{card_of}
 use Rattle.card_core.specs.Working.{table_in}
 use Rattle.card_core.proofs.Entries.{card-tree, master-path}
+use Rattle.card_core.proofs.Readings.{df_used}
 use Rattle.card_core.proofs.select.find_selected.Goals as goal
 
 pub returns-in-MasterFile-clause-found : goal.returns-in-MasterFile-clause-found
@@ -57,17 +58,17 @@ returns-in-Name-clause-found g c =
 pub returns-in-PathFromMaster-clause-found : goal.returns-in-PathFromMaster-clause-found
 returns-in-PathFromMaster-clause-found g c =
     let m = committed c.args.store.now in
-    let t = table_in c.args.store.now in
-    let df = path_of t c.args.current.df in
+    let df = path_of (table_in c.args.store.now) c.args.current.df in
     let path = c.deref.result.now in
     let is = c.deref.ensures.0 ∙ c.identifiers_of.ensures in
-    IfOk-weaker c.find_path_from_master.result (λ (found : Option ℕ). (above : Path) → option_map (path_of t) found ≡ selected (tree_of m) above
-    (path_from_master path)) _
-    (λ found reaches. ap (λ (selector : Selector). selected_from (card_of m).tree df (selection_of selector))
-    c.in-PathFromMaster.is
+    let reaches = c.find_path_from_master.ensures.found m c.requires.kept.card.tree c.requires.index df in
+    ap (λ (selector : Selector). selected_from (card_of m).tree df (selection_of selector)) c.in-PathFromMaster.is
     ∙ ap (λ (ids : List ℕ). selected_from (card_of m).tree df (whole_path ids)) (sym is)
-    ∙ ap (λ (tree : Tree). selected tree df (path_from_master path)) (card-tree m) ∙ sym (reaches df))
-    c.find_path_from_master.ensures.found
+    ∙ ap (λ (tree : Tree). selected tree df (path_from_master path)) (card-tree m) ∙ sym reaches
+
+pub returns-in-PathFromMaster-clause-used : goal.returns-in-PathFromMaster-clause-used
+returns-in-PathFromMaster-clause-used g c =
+    c.find_path_from_master.ensures.used (committed c.args.store.now) c.requires.kept.card.tree c.requires.index
 
 pub returns-in-PathFromCurrent-clause-found : goal.returns-in-PathFromCurrent-clause-found
 returns-in-PathFromCurrent-clause-found g c =
@@ -76,9 +77,13 @@ returns-in-PathFromCurrent-clause-found g c =
     let df = path_of t c.args.current.df in
     let path = c.deref-in-PathFromCurrent.result.now in
     let is = c.deref-in-PathFromCurrent.ensures.0 ∙ c.identifiers_of-in-PathFromCurrent.ensures in
-    IfOk-weaker c.find_path.result (λ (found : Option ℕ). option_map (path_of t) found ≡ selected (tree_of m) df (path_from_current path)) _
-    (λ found reaches. ap (λ (selector : Selector). selected_from (card_of m).tree df (selection_of selector))
-    c.in-PathFromCurrent.is
+    let reaches = c.find_path.ensures.found m c.requires.kept.card.tree (df_used t c.args.current c.requires.kept.current)
+    c.requires.index in
+    ap (λ (selector : Selector). selected_from (card_of m).tree df (selection_of selector)) c.in-PathFromCurrent.is
     ∙ ap (λ (ids : List ℕ). selected_from (card_of m).tree df (path_below ids)) (sym is)
-    ∙ ap (λ (tree : Tree). selected tree df (path_from_current path)) (card-tree m) ∙ sym reaches)
-    c.find_path.ensures.found
+    ∙ ap (λ (tree : Tree). selected tree df (path_from_current path)) (card-tree m) ∙ sym reaches
+
+pub returns-in-PathFromCurrent-clause-used : goal.returns-in-PathFromCurrent-clause-used
+returns-in-PathFromCurrent-clause-used g c =
+    c.find_path.ensures.used (committed c.args.store.now) c.requires.kept.card.tree
+    (df_used (table_in c.args.store.now) c.args.current c.requires.kept.current) c.requires.index

@@ -107,8 +107,8 @@ invariant_of-self g c =
     c.args.command.now c.carry_out-carried.new.answer.items c.end_command.new.answer.items
     (c.self.invariant.1 c.in-Working.is).kept.ready inside.state c.end_command.new.state c.in-Working.is c.end_command.result
     c.carry_out-carried.result c.carry_out-carried.ensures.carries (ends g c) c.carry_out-carried.new.lent.free
-    c.carry_out-carried.ensures.space in
-    (there g c, λ works. let k = kept.0 works in record { kept = k.0; space = k.1 }, kept.1)
+    c.carry_out-carried.ensures.space c.carry_out-carried.new.lent.index c.carry_out-carried.ensures.index in
+    (there g c, λ works. let k = kept.0 works in record { kept = k.0; space = k.1; index = k.2 }, kept.1)
 
 pub returns-clause-failed : goal.returns-clause-failed
 returns-clause-failed g c = λ is.

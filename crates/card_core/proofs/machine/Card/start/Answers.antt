@@ -6,11 +6,11 @@ use Rattle.undo_journal.specs.Memory.{committed}
 use Rattle.undo_journal.specs.Spending.{start_writes, KeepsBoard, WritesAtMost}
 use Rattle.undo_journal.specs.Undo.{data_words}
 use Rattle.card_core.specs.Finding.{FindsAgain}
-use Rattle.file_tree.specs.declared.space.FreeSpace.{FreeSpace}
+use Rattle.card_core.specs.declared.check.Survey.{Survey}
 use Rattle.card_core.specs.Standing.{IsCard}
 use Rattle.card_core.specs.declared.card_state.CardState.TheVariants.{Working, Dark}
 use Rattle.card_core.specs.declared.current.Current.{Current}
-use Rattle.card_core.specs.Working.{IsKept, session_of, table_in, TellsCard}
+use Rattle.card_core.specs.Working.{IsKept, session_of, table_in, TellsSurvey}
 use Rattle.card_core.proofs.Entries.{master-path}
 use Rattle.nvm_board.specs.Facts.{Facts}
 use Rattle.card_core.specs.Running.{StartStopsBy}
@@ -18,25 +18,25 @@ use Rattle.undo_journal.specs.laws.Calls.{boards_then, spends_before}
 use Rattle.card_core.proofs.Powers.{found-again, found-there, starts-kept, stops-found, stops-opening}
 use Rattle.card_core.proofs.machine.Card.start.Goals as goal
 
-pub returns-in-Err-space_of-clause-stopped : goal.returns-in-Err-space_of-clause-stopped
-returns-in-Err-space_of-clause-stopped g c =
+pub returns-in-Err-survey_of-clause-stopped : goal.returns-in-Err-survey_of-clause-stopped
+returns-in-Err-survey_of-clause-stopped g c =
     let first = g.B.Board.facts c.args.board in
-    subst (λ (now : Facts). StartStopsBy c.in-Err-space_of.fault first now) (sym c.into_board.ensures)
-    (stops-found first c.in-Ok.store c.find_card.new.store c.in-Ok.ensures.light c.in-Ok.ensures.sound
-    c.in-Ok.ensures.found c.in-Ok.ensures.ready.usable.works c.find_card.ensures.store.only.reports c.find_card.result
-    c.space_of.result c.in-Err-space_of.fault c.space_of.ensures c.in-Err-space_of.is c.find_card.ensures.card
-    c.find_card.ensures.store.tells)
+    subst (λ (now : Facts). StartStopsBy c.in-Err-survey_of.fault first now) (sym c.into_board.ensures)
+    (stops-found first c.in-Ok.store c.survey_card.new.store c.in-Ok.ensures.light c.in-Ok.ensures.sound
+    c.in-Ok.ensures.found c.in-Ok.ensures.ready.usable.works c.survey_card.ensures.store.only.reports c.survey_card.result
+    c.survey_of.result c.in-Err-survey_of.fault c.survey_of.ensures c.in-Err-survey_of.is c.survey_card.ensures.card
+    c.survey_card.ensures.store.tells)
 
-pub returns-in-Ok-space_of-clause-started : goal.returns-in-Ok-space_of-clause-started
-returns-in-Ok-space_of-clause-started g c =
-    let there = found-there c.find_card.result c.space_of.result c.in-Ok-space_of.free c.space_of.ensures
-    c.in-Ok-space_of.is in
-    let works = c.find_card.ensures.store.tells ∙ ap (λ (r : Result (Option FreeSpace) StoreErr). result_err r) there in
-    let same = (c.find_card.ensures.store.only.reports.works works).1 in
+pub returns-in-Ok-survey_of-clause-started : goal.returns-in-Ok-survey_of-clause-started
+returns-in-Ok-survey_of-clause-started g c =
+    let there = found-there c.survey_card.result c.survey_of.result c.in-Ok-survey_of.field-0 c.survey_of.ensures
+    c.in-Ok-survey_of.is in
+    let works = c.survey_card.ensures.store.tells ∙ ap (λ (r : Result (Option Survey) StoreErr). result_err r) there in
+    let same = (c.survey_card.ensures.store.only.reports.works works).1 in
     let steady = c.in-Ok.ensures.light in
-    let told = subst (λ (r : Result (Option FreeSpace) StoreErr). IfOk r (TellsCard (committed c.in-Ok.store))) there
-    c.find_card.ensures.card in
-    let path = master-path (committed c.find_card.new.store) in
+    let told = subst (λ (r : Result (Option Survey) StoreErr). IfOk r (TellsSurvey (committed c.in-Ok.store))) there
+    c.survey_card.ensures.card in
+    let path = master-path (committed c.survey_card.new.store) in
     record {
       has_card = record { journal = c.in-Ok.ensures.sound; words = subst IsCard c.in-Ok.ensures.found told.0 };
       power = record {
@@ -46,59 +46,60 @@ returns-in-Ok-space_of-clause-started g c =
         cuts = same.cuts ∙ steady.cuts;
         due = same.due ∙ steady.due;
       };
-      session = ap (session_of (table_in c.find_card.new.store)) c.fresh.ensures
+      session = ap (session_of (table_in c.survey_card.new.store)) c.fresh.ensures
           ∙ (λ i. record { current_df = path i; current_ef = None; pointer = None; verified = marked-none i });
       state = refl;
     }
 
 pub invariant_of-result : goal.invariant_of-result
 invariant_of-result g c =
-    let there = found-there c.find_card.result c.space_of.result c.in-Ok-space_of.free c.space_of.ensures
-    c.in-Ok-space_of.is in
-    let kept = starts-kept c.in-Ok.store c.find_card.new.store c.in-Ok-space_of.free c.find_card.result there
-    c.in-Ok.ensures.defined c.find_card.ensures.card c.find_card.ensures.store in (
+    let there = found-there c.survey_card.result c.survey_of.result c.in-Ok-survey_of.field-0 c.survey_of.ensures
+    c.in-Ok-survey_of.is in
+    let kept = starts-kept c.in-Ok.store c.survey_card.new.store c.in-Ok-survey_of.field-0 c.survey_card.result there
+    c.in-Ok.ensures.defined c.survey_card.ensures.card c.survey_card.ensures.store in (
       kept.0,
       λ works. record {
-        kept = subst (λ (x : Current). IsKept c.find_card.new.store x) (sym c.fresh.ensures) kept.1;
+        kept = subst (λ (x : Current). IsKept c.survey_card.new.store x) (sym c.fresh.ensures) kept.1;
         space = kept.2;
+        index = kept.3;
       },
       λ dark. let never : Working ≡ Dark = dark in cc,
     )
 
-pub returns-in-Ok-space_of-clause-has_card : goal.returns-in-Ok-space_of-clause-has_card
-returns-in-Ok-space_of-clause-has_card g c = (invariant_of-result g c).0
+pub returns-in-Ok-survey_of-clause-has_card : goal.returns-in-Ok-survey_of-clause-has_card
+returns-in-Ok-survey_of-clause-has_card g c = (invariant_of-result g c).0
 
-pub returns-in-Ok-space_of-clause-found : goal.returns-in-Ok-space_of-clause-found
-returns-in-Ok-space_of-clause-found g c =
-    found-again (g.B.Board.facts c.args.board).words c.in-Ok.store c.find_card.new.store
-    c.find_card.ensures.store.only.keeps.committed_words c.in-Ok.ensures.found c.in-Ok.ensures.sound
-    (c.find_card.ensures.store.only.reports.sound c.in-Ok.ensures.defined)
+pub returns-in-Ok-survey_of-clause-found : goal.returns-in-Ok-survey_of-clause-found
+returns-in-Ok-survey_of-clause-found g c =
+    found-again (g.B.Board.facts c.args.board).words c.in-Ok.store c.survey_card.new.store
+    c.survey_card.ensures.store.only.keeps.committed_words c.in-Ok.ensures.found c.in-Ok.ensures.sound
+    (c.survey_card.ensures.store.only.reports.sound c.in-Ok.ensures.defined)
 
-pub returns-in-Ok-space_of-clause-shut : goal.returns-in-Ok-space_of-clause-shut
-returns-in-Ok-space_of-clause-shut g c =
-    λ shut. boards_then _ _ _ (c.in-Ok.ensures.shut shut) c.find_card.ensures.store.only.board
+pub returns-in-Ok-survey_of-clause-shut : goal.returns-in-Ok-survey_of-clause-shut
+returns-in-Ok-survey_of-clause-shut g c =
+    λ shut. boards_then _ _ _ (c.in-Ok.ensures.shut shut) c.survey_card.ensures.store.only.board
 
-pub returns-in-Ok-space_of-clause-writes : goal.returns-in-Ok-space_of-clause-writes
-returns-in-Ok-space_of-clause-writes g c =
-    spends_before _ _ _ _ c.in-Ok.ensures.writes c.find_card.ensures.store.only.board
+pub returns-in-Ok-survey_of-clause-writes : goal.returns-in-Ok-survey_of-clause-writes
+returns-in-Ok-survey_of-clause-writes g c =
+    spends_before _ _ _ _ c.in-Ok.ensures.writes c.survey_card.ensures.store.only.board
 
-pub returns-in-Err-space_of-clause-found_err : goal.returns-in-Err-space_of-clause-found_err
-returns-in-Err-space_of-clause-found_err g c =
+pub returns-in-Err-survey_of-clause-found_err : goal.returns-in-Err-survey_of-clause-found_err
+returns-in-Err-survey_of-clause-found_err g c =
     subst (λ (now : Facts). FindsAgain (g.B.Board.facts c.args.board).words now.words) (sym c.into_board.ensures)
-    (found-again (g.B.Board.facts c.args.board).words c.in-Ok.store c.find_card.new.store
-    c.find_card.ensures.store.only.keeps.committed_words c.in-Ok.ensures.found c.in-Ok.ensures.sound
-    (c.find_card.ensures.store.only.reports.sound c.in-Ok.ensures.defined))
+    (found-again (g.B.Board.facts c.args.board).words c.in-Ok.store c.survey_card.new.store
+    c.survey_card.ensures.store.only.keeps.committed_words c.in-Ok.ensures.found c.in-Ok.ensures.sound
+    (c.survey_card.ensures.store.only.reports.sound c.in-Ok.ensures.defined))
 
-pub returns-in-Err-space_of-clause-shut_err : goal.returns-in-Err-space_of-clause-shut_err
-returns-in-Err-space_of-clause-shut_err g c =
+pub returns-in-Err-survey_of-clause-shut_err : goal.returns-in-Err-survey_of-clause-shut_err
+returns-in-Err-survey_of-clause-shut_err g c =
     λ shut. subst (λ (now : Facts). KeepsBoard (g.B.Board.facts c.args.board) now) (sym c.into_board.ensures)
-    (boards_then _ _ _ (c.in-Ok.ensures.shut shut) c.find_card.ensures.store.only.board)
+    (boards_then _ _ _ (c.in-Ok.ensures.shut shut) c.survey_card.ensures.store.only.board)
 
-pub returns-in-Err-space_of-clause-writes_err : goal.returns-in-Err-space_of-clause-writes_err
-returns-in-Err-space_of-clause-writes_err g c =
+pub returns-in-Err-survey_of-clause-writes_err : goal.returns-in-Err-survey_of-clause-writes_err
+returns-in-Err-survey_of-clause-writes_err g c =
     let first = g.B.Board.facts c.args.board in
     subst (λ (now : Facts). WritesAtMost (start_writes first) first now) (sym c.into_board.ensures)
-    (spends_before _ _ _ _ c.in-Ok.ensures.writes c.find_card.ensures.store.only.board)
+    (spends_before _ _ _ _ c.in-Ok.ensures.writes c.survey_card.ensures.store.only.board)
 
 pub returns-in-Err-clause-stopped : goal.returns-in-Err-clause-stopped
 returns-in-Err-clause-stopped g c = stops-opening _ _ _ _ c.from.ensures c.in-Err.ensures.not_opened
