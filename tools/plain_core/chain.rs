@@ -46,10 +46,15 @@ pub fn read_bytes(board: &Board, first: u16, offset: usize, count: usize, answer
     let end = offset + count;
     while place.at < end {
         let word = board.read(place.address())?.to_be_bytes();
-        let from = place.at % 4;
-        let some = (4 - from).min(end - place.at);
-        answer.extend_from_slice(&word[from..from + some]);
-        place.advance(board, some)?;
+        let (from, left) = (place.at % 4, end - place.at);
+        if from == 0 && left >= 4 {
+            answer.extend_from_slice(&word);
+            place.advance(board, 4)?;
+        } else {
+            let part = &word[from..4.min(from + left)];
+            answer.extend_from_slice(part);
+            place.advance(board, part.len())?;
+        }
     }
     Ok(())
 }
@@ -59,13 +64,22 @@ pub fn set_bytes(transaction: &mut Transaction, first: u16, offset: usize, bytes
     let mut place = Place::of(transaction.board(), first, offset)?;
     let mut rest = bytes;
     while !rest.is_empty() {
-        let from = place.at % 4;
-        let (some, others) = rest.split_at((4 - from).min(rest.len()));
-        let mut word = transaction.board().read(place.address())?.to_be_bytes();
-        word[from..from + some.len()].copy_from_slice(some);
-        transaction.set(place.address(), u32::from_be_bytes(word))?;
+        let (address, from) = (place.address(), place.at % 4);
+        let (some, others) = match rest.split_first_chunk() {
+            Some((word, others)) if from == 0 => {
+                transaction.set(address, u32::from_be_bytes(*word))?;
+                (4, others)
+            }
+            _ => {
+                let (part, others) = rest.split_at(rest.len().min(4 - from));
+                let mut word = transaction.board().read(address)?.to_be_bytes();
+                word[from..from + part.len()].copy_from_slice(part);
+                transaction.set(address, u32::from_be_bytes(word))?;
+                (part.len(), others)
+            }
+        };
         rest = others;
-        place.advance(transaction.board(), some.len())?;
+        place.advance(transaction.board(), some)?;
     }
     Ok(())
 }

@@ -19,7 +19,7 @@ use card::Card;
 use link::{CardEnd, Line, Next, ReaderEnd};
 use script::{encode, Order};
 use std::fs::File;
-use std::io::{self, BufRead, Read, Write};
+use std::io::{self, BufRead, BufReader, Read, Write};
 use std::os::fd::AsFd;
 use std::process::ExitCode;
 
@@ -203,9 +203,10 @@ fn run(mut script: impl BufRead, mut output: impl Write) -> Result<(), Fault> {
 }
 
 fn main() -> ExitCode {
-    // (the output as a file, so that nothing holds a line back)
+    // (both as files, so that nothing holds a line back, or locks)
+    let Ok(script) = io::stdin().as_fd().try_clone_to_owned() else { return ExitCode::from(3) };
     let Ok(output) = io::stdout().as_fd().try_clone_to_owned() else { return ExitCode::from(4) };
-    match run(io::stdin().lock(), File::from(output)) {
+    match run(BufReader::new(File::from(script)), File::from(output)) {
         Ok(()) => ExitCode::SUCCESS,
         Err(Fault::BadLine(number)) => {
             eprintln!("error line {number}");

@@ -25,21 +25,34 @@ impl Order {
         if line.len() > LINE {
             return None;
         }
+        if line.is_empty() || line[0] == b'#' {
+            return Some(Order::Nothing);
+        }
+        if let Some(digits) = line.strip_prefix(b"apdu ") {
+            return decode(digits, COMMAND, bytes).map(|()| Order::Command);
+        }
+        if let Some(digits) = line.strip_prefix(b"block ") {
+            return decode(digits, BLOCK, bytes).map(|()| Order::Block);
+        }
         match line {
-            [] | [b'#', ..] => Some(Order::Nothing),
             b"on" => Some(Order::On),
             b"off" => Some(Order::Off),
             b"free" => Some(Order::Free),
-            [b'a', b'p', b'd', b'u', b' ', digits @ ..] => decode(digits, COMMAND, bytes).map(|()| Order::Command),
-            [b'b', b'l', b'o', b'c', b'k', b' ', digits @ ..] => decode(digits, BLOCK, bytes).map(|()| Order::Block),
-            [b'c', b'u', b't', b' ', number @ .., b' ', a, b, c, d] => {
-                decode(&[*a, *b, *c, *d], 2, bytes)?;
-                Some(Order::Cut(parse_number(number)?, u16::from_be_bytes([bytes[0], bytes[1]])))
-            }
-            [b'l', b'o', b's', b'e', b' ', number @ ..] => parse_number(number).map(Order::Lose),
-            [b'g', b'a', b'r', b'b', b'l', b'e', b' ', number @ ..] => parse_number(number).map(Order::Garble),
-            _ => None,
+            _ => Order::parse_fault(line, bytes),
         }
+    }
+
+    /// A line that sets a cut, a loss or a garbling to come.
+    fn parse_fault(line: &[u8], bytes: &mut Vec<u8>) -> Option<Order> {
+        if let Some(number) = line.strip_prefix(b"lose ") {
+            return parse_number(number).map(Order::Lose);
+        }
+        if let Some(number) = line.strip_prefix(b"garble ") {
+            return parse_number(number).map(Order::Garble);
+        }
+        let [number @ .., b' ', a, b, c, d] = line.strip_prefix(b"cut ")? else { return None };
+        decode(&[*a, *b, *c, *d], 2, bytes)?;
+        Some(Order::Cut(parse_number(number)?, u16::from_be_bytes([bytes[0], bytes[1]])))
     }
 }
 
