@@ -28,7 +28,8 @@ def make_bytes(identifier, size):
 
 def make_records(identifier, length, count):
     """The line that creates a linear file of so many records, all of which exist."""
-    return create(f"82044221{length:04X}", f"8302{identifier}", "8800", f"8002{length * count:04X}", "8A0105", "8C03030000")
+    size = f"8002{length * count:04X}"
+    return create(f"82044221{length:04X}", f"8302{identifier}", "8800", size, "8A0105", "8C03030000")
 
 
 def make_directory(identifier):

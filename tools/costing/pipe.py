@@ -7,8 +7,7 @@ import time
 from .kinds import FACTORY, READ, select
 
 # Each program is asked so many lines at a time, in turn with cat, and so often.
-LINES, ROUNDS = 2_000, 25
-KIND = "READ BINARY of 10 bytes"
+LINES, ROUNDS = 500, 60
 LINE = READ.encode() + b"\n"
 
 
@@ -38,8 +37,8 @@ class Piped:
 
 
 def shares_of_cat(paths):
-    """Of each program the kind of line, the seconds of one, and the share of cat's rate, each the median of all rounds. A round
-    asks cat and then the program, so that what else the machine does tells on both."""
+    """Of each program the seconds of a line, and the share of cat's rate, each the median of all rounds. A round asks cat
+    and then the program, so that what else the machine does tells on both."""
     cat = Piped("cat")
     asked = {name: Piped(path) for name, path in paths.items()}
     for program in asked.values():
@@ -53,4 +52,14 @@ def shares_of_cat(paths):
         program.close()
     shares = {name: statistics.median(cats / own for cats, own in rounds) for name, rounds in times.items()}
     seconds = {name: statistics.median(own for _, own in rounds) / LINES for name, rounds in times.items()}
-    return {name: (KIND, seconds[name], shares[name]) for name in asked}
+    return {name: (seconds[name], shares[name]) for name in asked}
+
+
+def on_one_processor(paths):
+    """The same with all on one processor, where nothing is done side by side."""
+    places = os.sched_getaffinity(0)
+    os.sched_setaffinity(0, {min(places)})
+    try:
+        return shares_of_cat(paths)
+    finally:
+        os.sched_setaffinity(0, places)

@@ -1,5 +1,5 @@
-//! The device below the card: a memory of pages whose words are each old or new when power fails, a comparer of secrets, and
-//! what it counts.
+//! The device below the card: a memory of pages whose words are each old or new when power fails, a comparer of
+//! secrets, and what it counts.
 
 /// Words of a page.
 pub const PAGE: usize = 16;
@@ -68,7 +68,11 @@ impl Board {
 
     /// The word at an address.
     pub fn read(&self, at: usize) -> Result<u32, PowerLost> {
-        if self.is_lit { Ok(self.words[at]) } else { Err(PowerLost) }
+        if self.is_lit {
+            Ok(self.words[at])
+        } else {
+            Err(PowerLost)
+        }
     }
 
     /// Writes a run of 1 to 16 words of one page.

@@ -22,7 +22,11 @@ impl From<PowerLost> for Refused {
 
 /// Refuses by a status word, unless something holds.
 pub fn ensure(holds: bool, status: u16) -> Result<(), Refused> {
-    if holds { Ok(()) } else { Err(Refused::Status(status)) }
+    if holds {
+        Ok(())
+    } else {
+        Err(Refused::Status(status))
+    }
 }
 
 /// A command: its parameters, and what follows them.
@@ -148,7 +152,9 @@ impl Card {
             (0, 0xDC) => self.update_record(board, command),
             (0, 0x20) => self.verify(board, command),
             (0, 0xE0) => self.create(board, command),
-            (0, 0x04 | 0x24 | 0x2C | 0x44 | 0xA2 | 0xA4 | 0xE2 | 0xE4 | 0xE6 | 0xE8 | 0xFE) | (0x80, 0x32) => Ok(0x6A81),
+            (0, 0x04 | 0x24 | 0x2C | 0x44 | 0xA2 | 0xA4 | 0xE2 | 0xE4 | 0xE6 | 0xE8 | 0xFE) | (0x80, 0x32) => {
+                Ok(0x6A81)
+            }
             _ => Ok(0x6D00),
         }
     }
@@ -172,9 +178,10 @@ impl Card {
         ensure(matches!(data.len(), 0 | 2), 0x6700)?;
         ensure_use(board)?;
         let number = match *data {
-            [high, low] => self.candidate(board, u16::from_be_bytes([high, low]))?.ok_or(Refused::Status(0x6A82))?,
-            _ => 0,
+            [high, low] => self.candidate(board, u16::from_be_bytes([high, low]))?,
+            _ => Some(0),
         };
+        let number = number.ok_or(Refused::Status(0x6A82))?;
         let entry = Entry::read(board, number)?;
         self.record = None;
         (self.df, self.ef) = match entry.kind {
@@ -208,7 +215,7 @@ impl Card {
         Ok(if own.id == id { Some(self.df) } else { (id == MASTER).then_some(0) })
     }
 
-    /// The file of a command on bytes or records: not barred, of the right structure, and allowed by the bit of its rule.
+    /// The file of a command on bytes or records: not barred, of the right structure, allowed by the bit of its rule.
     fn find(&self, board: &Board, target: Target, is_right: fn(Kind) -> bool, bit: u8) -> Result<Found, Refused> {
         ensure_use(board)?;
         let number = match target {
@@ -302,7 +309,7 @@ impl Card {
         Ok(0x9000)
     }
 
-    /// The number of the record that a command means: the next one, the one before, that of a number, or the current one.
+    /// The number of the record that a command means: the next one, the one before, the numbered or the current one.
     fn record_of(&self, target: Target, mode: u8, p1: u8, entry: &Entry) -> Result<u16, Refused> {
         let pointer = self.record.filter(|_| matches!(target, Target::Current));
         let (records, wraps) = (entry.records, entry.kind == Kind::Cyclic);
@@ -312,7 +319,13 @@ impl Card {
             (3, Some(1)) if !wraps => None,
             (3, Some(at)) if at > 1 => Some(at - 1),
             (3, _) => Some(records),
-            (_, at) => if p1 == 0 { at } else { Some(u16::from(p1)) },
+            (_, at) => {
+                if p1 == 0 {
+                    at
+                } else {
+                    Some(u16::from(p1))
+                }
+            }
         };
         number.filter(|number| (1..=records).contains(number)).ok_or(Refused::Status(0x6A83))
     }

@@ -41,7 +41,13 @@ impl Place {
 }
 
 /// Adds bytes of a body to an answer.
-pub fn read_bytes(board: &Board, first: u16, offset: usize, count: usize, answer: &mut Vec<u8>) -> Result<(), PowerLost> {
+pub fn read_bytes(
+    board: &Board,
+    first: u16,
+    offset: usize,
+    count: usize,
+    answer: &mut Vec<u8>,
+) -> Result<(), PowerLost> {
     let mut place = Place::of(board, first, offset)?;
     let end = offset + count;
     while place.at < end {

@@ -2,7 +2,8 @@
 use crate::board::{Board, PowerLost, PAGE};
 use crate::card::{ensure, Card, Refused};
 use crate::chain::BYTES;
-use crate::entry::*;
+use crate::entry::{address, child, is_barred, short_child, Entry, Kind};
+use crate::entry::{ACTIVATED, CREATION, DEACTIVATED, ENTRIES, INITIALISATION, MASTER, STEPS};
 use crate::journal::Transaction;
 
 /// What a template says of a new file.
@@ -52,20 +53,7 @@ impl<'a> Template<'a> {
 
     /// The new file, but for its place and its blocks, and the short identifier that is given.
     fn file(&self) -> Option<(Entry, Option<u8>)> {
-        let (kind, record_length, count) = match *self.descriptor? {
-            [0x38 | 0x78] | [0x38 | 0x78, _] => (Kind::Directory, 0, None),
-            [0x01 | 0x41] | [0x01 | 0x41, _] => (Kind::Transparent, 0, None),
-            [0x02 | 0x42, _, high, low, ref count @ ..] => (Kind::Linear, u16::from_be_bytes([high, low]), Some(count)),
-            [0x06 | 0x46, _, high, low, ref count @ ..] => (Kind::Cyclic, u16::from_be_bytes([high, low]), Some(count)),
-            _ => return None,
-        };
-        let id = u16::from_be_bytes(self.id?.try_into().ok()?);
-        let life = match self.life {
-            None | Some([ACTIVATED | 7]) => ACTIVATED,
-            Some([DEACTIVATED | 6]) => DEACTIVATED,
-            Some([state @ (CREATION | INITIALISATION)]) => *state,
-            Some(_) => return None,
-        };
+        let (kind, record_length, count) = self.descriptor()?;
         let size = self.size(kind)?;
         let capacity = size.checked_div(record_length).unwrap_or(0);
         let records = match count {
@@ -74,16 +62,40 @@ impl<'a> Template<'a> {
             Some([count]) => u16::from(*count),
             Some(_) => return None,
         };
-        let (name, rule) = (self.name.unwrap_or(&[]), self.rule?);
-        let has_name = self.name.is_none() || !name.is_empty();
-        let mut entry = Entry {
-            kind, life, id, parent: 0, short: 0, name_length: name.len() as u8, rule_length: rule.len() as u8, rule: [0; 8],
-            name: [0; 16], size, record_length, first: 0, last: 0, records, start: 0,
-        };
-        entry.rule.get_mut(..rule.len())?.copy_from_slice(rule);
-        entry.name.get_mut(..name.len())?.copy_from_slice(name);
+        let id = u16::from_be_bytes(self.id?.try_into().ok()?);
+        let mut entry = Entry::new(kind, self.life()?, id);
+        (entry.size, entry.record_length, entry.records) = (size, record_length, records);
+        entry.set_rule(self.rule?)?;
+        if let Some(name) = self.name {
+            entry.set_name(name).filter(|()| !name.is_empty())?;
+        }
         let short = self.short(kind)?;
-        (has_name && id != MASTER && entry.is_sound()).then_some((entry, short))
+        (id != MASTER && entry.is_sound()).then_some((entry, short))
+    }
+
+    /// The kind of the new file, and of one with records their length, and the bytes that say how many exist.
+    fn descriptor(&self) -> Option<(Kind, u16, Option<&'a [u8]>)> {
+        match *self.descriptor? {
+            [0x38 | 0x78] | [0x38 | 0x78, _] => Some((Kind::Directory, 0, None)),
+            [0x01 | 0x41] | [0x01 | 0x41, _] => Some((Kind::Transparent, 0, None)),
+            [0x02 | 0x42, _, high, low, ref count @ ..] => {
+                Some((Kind::Linear, u16::from_be_bytes([high, low]), Some(count)))
+            }
+            [0x06 | 0x46, _, high, low, ref count @ ..] => {
+                Some((Kind::Cyclic, u16::from_be_bytes([high, low]), Some(count)))
+            }
+            _ => None,
+        }
+    }
+
+    /// The life cycle that the new file has.
+    fn life(&self) -> Option<u8> {
+        match self.life {
+            None | Some([ACTIVATED | 7]) => Some(ACTIVATED),
+            Some([DEACTIVATED | 6]) => Some(DEACTIVATED),
+            Some([state @ (CREATION | INITIALISATION)]) => Some(*state),
+            Some(_) => None,
+        }
     }
 
     /// The size of the new file's body, 0 of a DF.

@@ -71,6 +71,41 @@ pub fn address(number: usize) -> usize {
 }
 
 impl Entry {
+    /// A file without a name, a rule or a body.
+    pub fn new(kind: Kind, life: u8, id: u16) -> Entry {
+        Entry {
+            kind,
+            life,
+            id,
+            parent: 0,
+            short: 0,
+            name_length: 0,
+            rule_length: 0,
+            rule: [0; 8],
+            name: [0; 16],
+            size: 0,
+            record_length: 0,
+            first: 0,
+            last: 0,
+            records: 0,
+            start: 0,
+        }
+    }
+
+    /// Sets the rule, if it isn't too long.
+    pub fn set_rule(&mut self, rule: &[u8]) -> Option<()> {
+        self.rule.get_mut(..rule.len())?.copy_from_slice(rule);
+        self.rule_length = rule.len() as u8;
+        Some(())
+    }
+
+    /// Sets the name, if it isn't too long.
+    pub fn set_name(&mut self, name: &[u8]) -> Option<()> {
+        self.name.get_mut(..name.len())?.copy_from_slice(name);
+        self.name_length = name.len() as u8;
+        Some(())
+    }
+
     /// The entry of a number.
     #[inline]
     pub fn read(board: &Board, number: usize) -> Result<Entry, PowerLost> {
@@ -88,7 +123,21 @@ impl Entry {
             [words[8], words[9], words[10]].map(|word| ((word >> 16) as u16, word as u16));
         let (kind, id) = (Kind::of(kind), u16::from_be_bytes([high, low]));
         Ok(Entry {
-            kind, life, id, parent, short, name_length, rule_length, rule, name, size, record_length, first, last, records, start,
+            kind,
+            life,
+            id,
+            parent,
+            short,
+            name_length,
+            rule_length,
+            rule,
+            name,
+            size,
+            record_length,
+            first,
+            last,
+            records,
+            start,
         })
     }
 

@@ -69,7 +69,11 @@ impl<'a> Transaction<'a> {
         }
         self.waiting[place] = Set { at, word };
         self.count += 1;
-        if self.count == BATCH { self.flush() } else { Ok(()) }
+        if self.count == BATCH {
+            self.flush()
+        } else {
+            Ok(())
+        }
     }
 
     /// Writes what waits: the earlier words, the gate that counts them, then the words run by run.
@@ -95,6 +99,10 @@ impl<'a> Transaction<'a> {
         if self.count > 0 {
             self.flush()?;
         }
-        if self.used > 0 { self.board.write(GATE, &[0]) } else { Ok(()) }
+        if self.used > 0 {
+            self.board.write(GATE, &[0])
+        } else {
+            Ok(())
+        }
     }
 }

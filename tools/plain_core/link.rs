@@ -258,7 +258,11 @@ impl ReaderEnd {
 
     /// Nothing came in time.
     pub fn wait_in_vain(&mut self, block: &mut Vec<u8>) -> Next {
-        if self.resynchs > 0 { self.ask_resynch(block) } else { self.ask(OTHER, block) }
+        if self.resynchs > 0 {
+            self.ask_resynch(block)
+        } else {
+            self.ask(OTHER, block)
+        }
     }
 
     /// A block came.

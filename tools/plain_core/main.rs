@@ -1,9 +1,11 @@
-//! A plain card core: what the card does on the lines that tools/cost measures, in good Rust without a contract or a proof.
+//! A plain card core: what the card does on the lines that tools/cost measures, in good Rust without a contract or a
+//! proof.
 //!
-//! It is what the cost of the bench is compared with, so it has all duties of the card on these lines: a start that looks
-//! through the whole memory, life cycles, access rules, commits that a cut can't tear, a PIN's tries, both ends of the link,
-//! and the script's limits. Of the commands it knows SELECT by identifier, READ and UPDATE of bytes and of records, VERIFY and
-//! CREATE FILE; the others it answers by 6A81. It needs nothing but a compiler: `rustc -O main.rs`.
+//! It is what the cost of the bench is compared with, so it has all duties of the card on these lines: a start that
+//! looks through the whole memory, life cycles, access rules, commits that a cut can't tear, a PIN's tries, both ends
+//! of the link, and the script's limits. It makes the device writes that the card makes, in the same order, so that
+//! cuts leave the same. Of the commands it knows SELECT by identifier, READ and UPDATE of bytes and of records, VERIFY
+//! and CREATE FILE; the others it answers by 6A81. It needs nothing but a compiler: `rustc -O main.rs`.
 mod board;
 mod card;
 mod chain;

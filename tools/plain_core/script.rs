@@ -62,9 +62,9 @@ fn decode(digits: &[u8], most: usize, bytes: &mut Vec<u8>) -> Option<()> {
     if digits.is_empty() || digits.len() > 2 * most || !pairs.remainder().is_empty() {
         return None;
     }
-    bytes.clear();
-    for pair in pairs {
-        bytes.push(digit(pair[0])? << 4 | digit(pair[1])?);
+    bytes.resize(pairs.len(), 0);
+    for (byte, pair) in bytes.iter_mut().zip(pairs) {
+        *byte = digit(pair[0])? << 4 | digit(pair[1])?;
     }
     Some(())
 }
@@ -85,8 +85,10 @@ fn parse_number(digits: &[u8]) -> Option<u32> {
 
 /// Spells bytes in pairs of hexadecimal digits.
 pub fn encode(bytes: &[u8], text: &mut Vec<u8>) {
-    for byte in bytes {
-        let digit = |value: u8| b"0123456789ABCDEF"[usize::from(value)];
-        text.extend_from_slice(&[digit(byte >> 4), digit(byte & 15)]);
+    let digit = |value: u8| b"0123456789ABCDEF"[usize::from(value)];
+    let from = text.len();
+    text.resize(from + 2 * bytes.len(), 0);
+    for (pair, byte) in text[from..].chunks_exact_mut(2).zip(bytes) {
+        pair.copy_from_slice(&[digit(byte >> 4), digit(byte & 15)]);
     }
 }

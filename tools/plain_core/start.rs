@@ -19,8 +19,8 @@ pub struct Free {
 /// An entry that is used, and its number.
 type Used = (usize, Entry);
 
-/// Puts back what was not committed, and gives the free space of the card that is found; `None` where the journal is bad, or
-/// the memory stands for no card.
+/// Puts back what was not committed, and gives the free space of the card that is found; `None` where the journal is
+/// bad, or the memory stands for no card.
 pub fn start(board: &mut Board) -> Result<Option<Free>, PowerLost> {
     if roll_back(board)?.is_none() || !has_sound_ends(board)? {
         return Ok(None);
