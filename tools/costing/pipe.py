@@ -36,11 +36,13 @@ class Piped:
         self.process.wait()
 
 
-def shares_of_cat(paths):
+def shares_of_cat(paths, place):
     """Of each program the seconds of a line, and the share of cat's rate, each the median of all rounds. A round asks cat
     and then the program, so that what else the machine does tells on both."""
     cat = Piped("cat")
     asked = {name: Piped(path) for name, path in paths.items()}
+    for program in [cat, *asked.values()]:
+        place(program.process.pid)
     for program in asked.values():
         for line in ("on", select(FACTORY), READ):
             program.ask(line.encode() + b"\n")
@@ -55,11 +57,14 @@ def shares_of_cat(paths):
     return {name: (seconds[name], shares[name]) for name in asked}
 
 
-def on_one_processor(paths):
-    """The same with all on one processor, where nothing is done side by side."""
-    places = os.sched_getaffinity(0)
-    os.sched_setaffinity(0, {min(places)})
+def by_place(paths):
+    """What comes where both ends are on one processor, where they are on two, and where the system places them."""
+    places = sorted(os.sched_getaffinity(0))
     try:
-        return shares_of_cat(paths)
+        os.sched_setaffinity(0, places[:1])
+        yield "on one processor", shares_of_cat(paths, lambda process: None)
+        if len(places) > 1:
+            yield "on two processors", shares_of_cat(paths, lambda process: os.sched_setaffinity(process, places[1:2]))
     finally:
         os.sched_setaffinity(0, places)
+    yield "as the system places both ends", shares_of_cat(paths, lambda process: None)
