@@ -1,5 +1,5 @@
 //! The desk: a bench, the reader's end of the link, and the line between the two ends.
-ghost use Rattle.std.specs.Prelude.{◌≡◌, ◌≤◌, None, length};
+ghost use Rattle.std.specs.Prelude.{◌≡◌, ◌≤◌, None, length, true};
 ghost use Rattle.card_bench.specs.declared.order.TheConstants.{COMMAND_LIMIT};
 ghost use Rattle.card_bench.specs.declared.printing.TheConstants.{BYTES_ROOM};
 ghost use Rattle.card_bench.specs.BenchStates.{off};
