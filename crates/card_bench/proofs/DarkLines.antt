@@ -1,16 +1,14 @@
 -- Where a line prints that power was lost, a cut was due, and is gone.
 use Rattle.std.specs.Prelude.{◌≡◌, ◌≤◌, ◌+◌, ◌*◌, ℕ, zero, suc, List, Option, None, Some, Result, Ok, Err, refl}
 use Rattle.std.proofs.Common.{arith, ap, inl, inr, ◌∙◌}
-use Rattle.t1_link.specs.ReaderFields.{next_of}
 use Rattle.t1_link.specs.ReaderTable.{Reader, reader_sends}
-use Rattle.t1_link.specs.declared.reader_end.Next.{Next}
-use Rattle.t1_link.specs.declared.reader_end.Next.TheVariants.{Send, Done, Unknown, Failed}
+use Rattle.t1_link.specs.ReaderTable.{Outcome, fails, gives, sends, unknown}
 use Rattle.card_core.specs.declared.machine.TheConstants.{COMMAND_WRITES}
 use Rattle.nvm_board.specs.declared.board.Arm.{Arm}
 use Rattle.nvm_board.specs.Aims.{due_of}
 use Rattle.card_bench.specs.Plays.{IsGood}
-use Rattle.card_bench.specs.declared.exchange.Ending.{Ending}
-use Rattle.card_bench.specs.declared.exchange.Ending.TheVariants.{Answered, SetBack, Lost, Dark}
+use Rattle.card_bench.specs.Exchanges.{Ended}
+use Rattle.card_bench.specs.Exchanges.{answered, set_back, link_lost, power_lost}
 use Rattle.card_bench.specs.declared.exchange.TheConstants.{LINE_BLOCKS}
 use Rattle.card_bench.specs.declared.order.Order.{Order}
 use Rattle.card_bench.specs.declared.order.Order.TheVariants.{Nothing, On, Off, Free, Apdu, Block, Cut, Lose, Garble}
@@ -27,19 +25,19 @@ use Rattle.card_bench.specs.Turns.{dark_of}
 use Rattle.card_bench.proofs.Wearing.{LINE_STEPS, arrives-last, block-due, due-spent, fewer}
 
 -- 1 where power was lost, else 0
-abbrev lost_in : Result NextBlock Ending → ℕ
+abbrev lost_in : Result NextBlock Ended → ℕ
 lost_in (Ok next) = 0
-lost_in (Err (Answered answer)) = 0
-lost_in (Err SetBack) = 0
-lost_in (Err Lost) = 0
-lost_in (Err Dark) = 1
+lost_in (Err (answered answer)) = 0
+lost_in (Err set_back) = 0
+lost_in (Err link_lost) = 0
+lost_in (Err power_lost) = 1
 
 -- what the reader's end says loses none
-none-lost : (next : Next) → lost_in (following next) ≡ 0
-none-lost (Send block) = refl
-none-lost (Done answer) = refl
-none-lost Unknown = refl
-none-lost (Failed failure) = refl
+none-lost : (o : Outcome) → lost_in (following o) ≡ 0
+none-lost (sends block) = refl
+none-lost (gives answer) = refl
+none-lost unknown = refl
+none-lost (fails failure) = refl
 
 -- so many cuts due are gone
 abbrev Spent : ℕ → BenchState → BenchState → Type 0
@@ -50,16 +48,16 @@ stays-due old new lost same none =
     let due : (bench_facts new).due ≡ (bench_facts old).due = ap (λ (b : BenchState). (bench_facts b).due) same in
     omega (arith, due, none)
 
-takes-due : (old new : BenchState) (got : List ℕ) (follows : Result NextBlock Ending) → CardTakes old got new follows
+takes-due : (old new : BenchState) (got : List ℕ) (follows : Result NextBlock Ended) → CardTakes old got new follows
     → HasLeft COMMAND_WRITES (bench_facts old) → Spent (lost_in follows) old new
 takes-due old new got (Ok (toward_card bytes)) takes left = absurd takes
 takes-due old new got (Ok (toward_reader bytes)) takes left = block-due old new got (item.Reply bytes) takes left
-takes-due old new got (Err (Answered answer)) takes left = absurd takes
-takes-due old new got (Err SetBack) takes left = absurd takes
-takes-due old new got (Err Lost) takes left = absurd takes
-takes-due old new got (Err Dark) takes left = block-due old new got item.Dark takes left
+takes-due old new got (Err (answered answer)) takes left = absurd takes
+takes-due old new got (Err set_back) takes left = absurd takes
+takes-due old new got (Err link_lost) takes left = absurd takes
+takes-due old new got (Err power_lost) takes left = block-due old new got item.Dark takes left
 
-arrives-due : (old new : Ends) (way : NextBlock) (came : Option (List ℕ)) (follows : Result NextBlock Ending)
+arrives-due : (old new : Ends) (way : NextBlock) (came : Option (List ℕ)) (follows : Result NextBlock Ended)
     → Arrives old way came new follows → HasLeft COMMAND_WRITES (bench_facts old.bench)
     → Spent (lost_in follows) old.bench new.bench
 arrives-due old new way None follows arrives left =
@@ -69,12 +67,12 @@ arrives-due old new (toward_card block) (Some got) follows arrives left =
 arrives-due old new (toward_reader block) (Some got) follows arrives left =
     stays-due old.bench new.bench (lost_in follows) arrives.0 (ap lost_in arrives.1.follows_so ∙ none-lost _)
 
-exchange-due : (blocks : ℕ) (old new : Ends) (way : NextBlock) (ending : Ending) → Exchanges blocks old way new ending
+exchange-due : (blocks : ℕ) (old new : Ends) (way : NextBlock) (ending : Ended) → Exchanges blocks old way new ending
     → HasLeft (COMMAND_WRITES * blocks) (bench_facts old.bench) → Spent (lost_in (Err ending)) old.bench new.bench
 unfolding Exchanges
 exchange-due zero old new way ending run left =
     stays-due old.bench new.bench (lost_in (Err ending)) (ap (λ (e : Ends). e.bench) run.0)
-    (ap (λ (e : Ending). lost_in (Err e)) run.1)
+    (ap (λ (e : Ended). lost_in (Err e)) run.1)
 exchange-due (suc blocks) old new way ending (inl passes) left =
     arrives-due old new way _ (Err ending) passes.arrives
     (fewer (COMMAND_WRITES * suc blocks) COMMAND_WRITES (bench_facts old.bench) (omega arith) left)
@@ -87,20 +85,20 @@ exchange-due (suc blocks) old new way ending (inr more) left =
     left)) in
     omega (arith, before, behind)
 
-through-due : (old new : Ends) (first : Result NextBlock Ending) (ending : Ending) → lost_in first ≡ 0
+through-due : (old new : Ends) (first : Result NextBlock Ended) (ending : Ended) → lost_in first ≡ 0
     → GoesThrough first old new ending → HasLeft LINE_STEPS (bench_facts old.bench)
     → Spent (lost_in (Err ending)) old.bench new.bench
 through-due old new (Ok way) ending none through left = exchange-due LINE_BLOCKS old new way ending through left
 through-due old new (Err ended) ending none through left =
     stays-due old.bench new.bench (lost_in (Err ending)) (ap (λ (e : Ends). e.bench) through.0)
-    (ap (λ (e : Ending). lost_in (Err e)) through.1 ∙ none)
+    (ap (λ (e : Ended). lost_in (Err e)) through.1 ∙ none)
 
 -- what an exchange prints that ended dark
-one-lost : (ending : Ending) → prints_dark ≡ printed_by ending → lost_in (Err ending) ≡ 1
-one-lost (Answered answer) printed = absurd cc
-one-lost SetBack printed = absurd cc
-one-lost Lost printed = absurd cc
-one-lost Dark printed = refl
+one-lost : (ending : Ended) → prints_dark ≡ printed_by ending → lost_in (Err ending) ≡ 1
+one-lost (answered answer) printed = absurd cc
+one-lost set_back printed = absurd cc
+one-lost link_lost printed = absurd cc
+one-lost power_lost printed = refl
 
 commands-due : (old new : Desk) (reader : Option Reader) (command : List ℕ) → Commands old reader command new prints_dark
     → HasLeft LINE_STEPS (bench_facts old.bench) → Spent 1 old.bench new.bench
@@ -108,8 +106,8 @@ commands-due old new None command commands left = absurd cc
 commands-due old new (Some reader) command commands left =
     let turned = reader_sends reader command in
     let spent = through-due (record { bench = old.bench; reader = turned.reader; line = old.line })
-    (record { bench = new.bench; reader = commands.0; line = new.line }) (following (next_of turned.outcome)) commands.1
-    (none-lost (next_of turned.outcome)) commands.2 left in
+    (record { bench = new.bench; reader = commands.0; line = new.line }) (following turned.outcome) commands.1
+    (none-lost turned.outcome) commands.2 left in
     let lost = one-lost commands.1 commands.4 in
     omega (arith, spent, lost)
 

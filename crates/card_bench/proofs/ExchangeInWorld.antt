@@ -2,11 +2,10 @@
 use Rattle.std.specs.Prelude.{◌≡◌, ◌+◌, ℕ, zero, suc, true, false, not, List, [], ◌∷◌, ◌++◌, Result, Ok, Err, refl}
 use Rattle.std.proofs.Common.{inl, inr, arith, ap, sym, subst, ◌∙◌}
 use Rattle.std.proofs.lemmas.Bool.{and_from}
-use Rattle.t1_link.specs.ReaderFields.{next_of}
 use Rattle.t1_link.specs.ReaderTable.{Reader, Turned, is_busy, reader_sends}
 use Rattle.card_core.specs.laws.AnswerLaws.{answers_are_short, step_keeps_proper}
-use Rattle.card_bench.specs.declared.exchange.Ending.{Ending}
-use Rattle.card_bench.specs.declared.exchange.Ending.TheVariants.{Answered, SetBack, Lost, Dark}
+use Rattle.card_bench.specs.Exchanges.{Ended}
+use Rattle.card_bench.specs.Exchanges.{answered, set_back, link_lost, power_lost}
 use Rattle.card_bench.specs.declared.exchange.TheConstants.{LINE_BLOCKS}
 use Rattle.card_bench.specs.declared.line.Line.{Line}
 use Rattle.card_bench.specs.BenchStates.{BenchState, off, on}
@@ -46,17 +45,17 @@ course_from limit pending w = record {
 }
 
 -- an exchange that ends with the first block from here
-one-block : (limit : ℕ) (w : World Served) (old new : Ends) (ending : Ending) → is_under_way w.line ≡ true
+one-block : (limit : ℕ) (w : World Served) (old new : Ends) (ending : Ended) → is_under_way w.line ≡ true
     → LeadsTo (Err ending) w (arrival w.line (fate old.line (bytes_of_line w.line))) new → EndsSo ending (course_from limit old.line w) 1 new
 unfolding fates world
-one-block limit w old new (Answered answer) busy leads =
-    subst (λ (x : World Served). StandIn new.bench new.reader x × ShowsIn (Err (Answered answer)) w.sent w.reports x) (sym (stepped-is w old.line)) leads
-one-block limit w old new SetBack busy leads =
-    subst (λ (x : World Served). StandIn new.bench new.reader x × ShowsIn (Err SetBack) w.sent w.reports x) (sym (stepped-is w old.line)) leads
-one-block limit w old new Lost busy leads =
-    let there = subst (λ (x : World Served). StandIn new.bench new.reader x × ShowsIn (Err Lost) w.sent w.reports x) (sym (stepped-is w old.line)) leads in
+one-block limit w old new (answered answer) busy leads =
+    subst (λ (x : World Served). StandIn new.bench new.reader x × ShowsIn (Err (answered answer)) w.sent w.reports x) (sym (stepped-is w old.line)) leads
+one-block limit w old new set_back busy leads =
+    subst (λ (x : World Served). StandIn new.bench new.reader x × ShowsIn (Err set_back) w.sent w.reports x) (sym (stepped-is w old.line)) leads
+one-block limit w old new link_lost busy leads =
+    let there = subst (λ (x : World Served). StandIn new.bench new.reader x × ShowsIn (Err link_lost) w.sent w.reports x) (sym (stepped-is w old.line)) leads in
     (there.0, inl there.1)
-one-block limit w old new Dark busy leads = (
+one-block limit w old new power_lost busy leads = (
   0,
   omega arith,
   record { reports = refl; line = busy },
@@ -76,14 +75,14 @@ abbrev longer : Course → Line → World Served → Course
 longer course pending w = record course { limit = suc course.limit; pending = pending; after = world_at pending w }
 
 -- an exchange that goes on after the first block from here
-more-blocks : (course : Course) (blocks : ℕ) (w : World Served) (pending : Line) (new : Ends) (ending : Ending)
+more-blocks : (course : Course) (blocks : ℕ) (w : World Served) (pending : Line) (new : Ends) (ending : Ended)
     → EndsSo ending (next_course course pending w) blocks new → EndsSo ending (longer course pending w) (suc blocks) new
 unfolding fates world
-more-blocks course blocks w pending new (Answered answer) ended = ended
-more-blocks course blocks w pending new SetBack ended = ended
-more-blocks course blocks w pending new Lost (there, inl failed) = (there, inl failed)
-more-blocks course blocks w pending new Lost (there, inr (all, unreported)) = (there, inr (ap suc all, unreported))
-more-blocks course blocks w pending new Dark (before, all, unreported, cut) = (
+more-blocks course blocks w pending new (answered answer) ended = ended
+more-blocks course blocks w pending new set_back ended = ended
+more-blocks course blocks w pending new link_lost (there, inl failed) = (there, inl failed)
+more-blocks course blocks w pending new link_lost (there, inr (all, unreported)) = (there, inr (ap suc all, unreported))
+more-blocks course blocks w pending new power_lost (before, all, unreported, cut) = (
   suc before,
   omega (arith, all),
   unreported,
@@ -99,18 +98,18 @@ reached-step start w event proper reached = record {
   sound = sound-step tree_machine IsProperState tree-bytes w event reached.sound;
 }
 
-goes : (start : Served) (limit : ℕ) (w : World Served) (old new : Ends) (way : NextBlock) (ending : Ending) → IsProperState start → IsReached start w
+goes : (start : Served) (limit : ℕ) (w : World Served) (old new : Ends) (way : NextBlock) (ending : Ended) → IsProperState start → IsReached start w
     → StandIn old.bench old.reader w → IsWay way w.line → Exchanges limit old way new ending → GoesAs (course_from limit old.line w) new ending
 unfolding Exchanges fates world
 goes start zero w old new way ending proper reached s is run =
-    let base : GoesAs (course_from zero old.line w) old Lost = record {
+    let base : GoesAs (course_from zero old.line w) old link_lost = record {
       blocks = 0;
       most = omega arith;
       line = sym (line_after-none old.line);
       ended = (s, inr (refl, record { reports = refl; line = is-way-under_way way w.line is }));
     } in
-    subst (λ (e : Ending). GoesAs (course_from zero old.line w) new e) (sym run.1)
-    (subst (λ (x : Ends). GoesAs (course_from zero old.line w) x Lost) (sym run.0) base)
+    subst (λ (e : Ended). GoesAs (course_from zero old.line w) new e) (sym run.1)
+    (subst (λ (x : Ends). GoesAs (course_from zero old.line w) x link_lost) (sym run.0) base)
 goes start (suc limit) w old new way ending proper reached s is (inl passes) = record {
   blocks = 1;
   most = omega arith;
@@ -149,13 +148,13 @@ course_with sent earlier pending w = record {
 }
 
 -- what follows from what the reader's end says at first
-nothing-went : (course : Course) (here new : Ends) (ending ended : Ending) → here.line ≡ course.pending → (new ≡ here) × (ending ≡ ended)
+nothing-went : (course : Course) (here new : Ends) (ending ended : Ended) → here.line ≡ course.pending → (new ≡ here) × (ending ≡ ended)
     → EndsSo ended course 0 here → GoesAs course new ending
 nothing-went course here new ending ended pending run so =
     let base : GoesAs course here ended = record { blocks = 0; most = omega arith; line = pending ∙ sym (line_after-none course.pending); ended = so } in
-    subst (λ (e : Ending). GoesAs course new e) (sym run.1) (subst (λ (x : Ends). GoesAs course x ended) (sym run.0) base)
+    subst (λ (e : Ended). GoesAs course new e) (sym run.1) (subst (λ (x : Ends). GoesAs course x ended) (sym run.0) base)
 
-through : (start : Served) (f : Result NextBlock Ending) (w : World Served) (sent : List (List ℕ)) (earlier : List Report) (here new : Ends) (ending : Ending)
+through : (start : Served) (f : Result NextBlock Ended) (w : World Served) (sent : List (List ℕ)) (earlier : List Report) (here new : Ends) (ending : Ended)
     → IsProperState start → IsReached start w → StandIn here.bench here.reader w → ShowsIn f sent earlier w → GoesThrough f here new ending
     → GoesAs (course_with sent earlier here.line w) new ending
 unfolding fates world
@@ -163,13 +162,13 @@ through start (Ok way) w sent earlier here new ending proper reached s shows run
     let same : course_from LINE_BLOCKS here.line w ≡ course_with sent earlier here.line w =
     λ i. course_with (shows.sent_is i) (shows.reports i) here.line w in
     subst (λ (course : Course). GoesAs course new ending) same (goes start LINE_BLOCKS w here new way ending proper reached s shows.way_is run)
-through start (Err (Answered answer)) w sent earlier here new ending proper reached s shows run =
-    nothing-went _ here new ending (Answered answer) refl run (s, shows)
-through start (Err SetBack) w sent earlier here new ending proper reached s shows run =
-    nothing-went _ here new ending SetBack refl run (s, shows)
-through start (Err Lost) w sent earlier here new ending proper reached s shows run =
-    nothing-went _ here new ending Lost refl run (s, inl shows)
-through start (Err Dark) w sent earlier here new ending proper reached s shows run = absurd shows
+through start (Err (answered answer)) w sent earlier here new ending proper reached s shows run =
+    nothing-went _ here new ending (answered answer) refl run (s, shows)
+through start (Err set_back) w sent earlier here new ending proper reached s shows run =
+    nothing-went _ here new ending set_back refl run (s, shows)
+through start (Err link_lost) w sent earlier here new ending proper reached s shows run =
+    nothing-went _ here new ending link_lost refl run (s, inl shows)
+through start (Err power_lost) w sent earlier here new ending proper reached s shows run = absurd shows
 
 -- worlds go on from where they are
 worlds-go_on : (w : World Served) (events more : List Event) → world tree_machine w (events ++ more) ≡ world tree_machine (world tree_machine w events) more
@@ -217,12 +216,12 @@ exchange-runs start events old new command ending proper stands calm sound excha
     given-so w command (ready-so w.reader command free sound) ∙ ap (λ (r : Reader). turning sent (reader_sends r command)) (sym same) in
     let there : StandIn old.bench turned.reader (turning sent turned) =
     stands-turned old.bench old.reader sent turned (stands-sent old.bench old.reader w command stands) in
-    let shows : ShowsIn (following (next_of turned.outcome)) (command ∷ w.sent) w.reports (turning sent turned) =
+    let shows : ShowsIn (following turned.outcome) (command ∷ w.sent) w.reports (turning sent turned) =
     shows-noted (record sent { reader = turned.reader }) turned.outcome in
-    let run = through start (following (next_of turned.outcome)) (world_step tree_machine w (send command)) (command ∷ w.sent) w.reports
+    let run = through start (following turned.outcome) (world_step tree_machine w (send command)) (command ∷ w.sent) w.reports
     (record old { reader = turned.reader }) new ending proper (reached-step start w (send command) proper (reached start events proper))
     (subst (λ (x : World Served). StandIn old.bench turned.reader x) (sym given) there)
-    (subst (λ (x : World Served). ShowsIn (following (next_of turned.outcome)) (command ∷ w.sent) w.reports x) (sym given) shows)
+    (subst (λ (x : World Served). ShowsIn (following turned.outcome) (command ∷ w.sent) w.reports x) (sym given) shows)
     exchanged in
     subst (λ (course : Course). GoesAs course new ending) (λ i. record {
       command = command;

@@ -5,8 +5,8 @@ use Rattle.t1_link.specs.ReaderTable.{Reader}
 use Rattle.card_bench.specs.BenchStates.{BenchState, off, on, IsOn}
 use Rattle.card_bench.specs.Exchanges.{Arrives, Commands, Desk, Ends, Exchanged, Exchanges, Passes, NextBlock}
 use Rattle.card_bench.specs.Exchanges.{left_by, printed_by, toward_card}
-use Rattle.card_bench.specs.declared.exchange.Ending.{Ending}
-use Rattle.card_bench.specs.declared.exchange.Ending.TheVariants.{Lost, Dark}
+use Rattle.card_bench.specs.Exchanges.{Ended}
+use Rattle.card_bench.specs.Exchanges.{link_lost, power_lost}
 use Rattle.card_bench.specs.declared.line.Line.{Line}
 use Rattle.card_bench.specs.declared.playing.Item.TheVariants as item
 use Rattle.card_bench.specs.Lines.{arriving, line_after}
@@ -16,28 +16,28 @@ use Rattle.card_bench.specs.Printouts.{Print}
 
 -- However the exchange goes on from here, with so many blocks left, so it goes from where it began.
 pub record HasPassed (limit : ℕ) (first : Ends) (way : NextBlock) (left : ℕ) (here : Ends) (next : NextBlock) : Type 0 where
-  pub continues : (new : Ends) (ending : Ending) → Exchanges left here next new ending → Exchanges limit first way new ending
+  pub continues : (new : Ends) (ending : Ended) → Exchanges left here next new ending → Exchanges limit first way new ending
 
 pub begins : (limit : ℕ) (first : Ends) (way : NextBlock) (left : ℕ) → left ≡ limit → HasPassed limit first way left first way
 begins limit first way left e = record { continues = λ new ending run. subst (λ (n : ℕ). Exchanges n first way new ending) e run }
 
 -- the exchange ends with the next block
-last : (left : ℕ) (here : Ends) (next : NextBlock) (new : Ends) (ending : Ending) → Passes here next new (Err ending)
+last : (left : ℕ) (here : Ends) (next : NextBlock) (new : Ends) (ending : Ended) → Passes here next new (Err ending)
     → Exchanges (suc left) here next new ending
 unfolding Exchanges
 last left here next new ending passes = inl passes
 
-more : (left : ℕ) (here between : Ends) (next following : NextBlock) (new : Ends) (ending : Ending) → Passes here next between (Ok following)
+more : (left : ℕ) (here between : Ends) (next following : NextBlock) (new : Ends) (ending : Ended) → Passes here next between (Ok following)
     → Exchanges left between following new ending → Exchanges (suc left) here next new ending
 unfolding Exchanges
 more left here between next following new ending passes run = inr (between, following, passes, run)
 
-none : (here : Ends) (next : NextBlock) → Exchanges zero here next here Lost
+none : (here : Ends) (next : NextBlock) → Exchanges zero here next here link_lost
 unfolding Exchanges
 none here next = (refl, refl)
 
 module _ (limit : ℕ) (first : Ends) (way : NextBlock) (left : ℕ) (here : Ends) (next : NextBlock) (past : HasPassed limit first way left here next) where
-  pub ends : (new : Ends) (ending : Ending) → 0 < left → Passes here next new (Err ending) → Exchanges limit first way new ending
+  pub ends : (new : Ends) (ending : Ended) → 0 < left → Passes here next new (Err ending) → Exchanges limit first way new ending
   ends new ending some passes =
       let one : suc (left - 1) ≡ left = omega (arith, some) in
       past.continues new ending (subst (λ (n : ℕ). Exchanges n here next new ending) one (last (left - 1) here next new ending passes))
@@ -49,11 +49,11 @@ module _ (limit : ℕ) (first : Ends) (way : NextBlock) (left : ℕ) (here : End
         (subst (λ (n : ℕ). Exchanges n here next new ending) one (more fewer here between next following new ending passes run));
   }
 
-  pub gives_up : left ≡ 0 → Exchanges limit first way here Lost
-  gives_up e = past.continues here Lost (subst (λ (n : ℕ). Exchanges n here next here Lost) (sym e) (none here next))
+  pub gives_up : left ≡ 0 → Exchanges limit first way here link_lost
+  gives_up e = past.continues here link_lost (subst (λ (n : ℕ). Exchanges n here next here link_lost) (sym e) (none here next))
 
 -- a command where the reader's end is there
-pub commands-open : (old new : Desk) (command : List ℕ) (prints : Print) (reader after : Reader) (ending : Ending) → Some reader ≡ old.reader
+pub commands-open : (old new : Desk) (command : List ℕ) (prints : Print) (reader after : Reader) (ending : Ended) → Some reader ≡ old.reader
     → Exchanged (record { bench = old.bench; reader = reader; line = old.line }) command (record { bench = new.bench; reader = after; line = new.line }) ending
     → new.reader ≡ left_by ending after → prints ≡ printed_by ending → Commands old old.reader command new prints
 commands-open old new command prints reader after ending e exchanged left printed =
@@ -69,9 +69,9 @@ powered_command (on powered) old new command prints power commands = commands
 pub cut_there : (bench after : BenchState) (reader : Reader) (old new : Line) (block got : List ℕ) → new ≡ line_after 1 old
     → arriving old 0 block ≡ Some got → GoodBlock bench got item.Dark after
     → Passes (record { bench = bench; reader = reader; line = old }) (toward_card block)
-    (record { bench = after; reader = reader; line = new }) (Err Dark)
+    (record { bench = after; reader = reader; line = new }) (Err power_lost)
 cut_there bench after reader old new block got line came turn = record {
   block = line;
   arrives = subst (λ (o : Option (List ℕ)). Arrives (record { bench = bench; reader = reader; line = old }) (toward_card block) o
-      (record { bench = after; reader = reader; line = new }) (Err Dark)) (sym came) (refl, turn);
+      (record { bench = after; reader = reader; line = new }) (Err power_lost)) (sym came) (refl, turn);
 }

@@ -7,7 +7,6 @@ use Rattle.t1_link.specs.declared.block.Fault.TheVariants.{WrongCheck}
 use Rattle.t1_link.specs.Blocks.{Block, frame}
 use Rattle.t1_link.specs.BlockLaws.{heard-frame}
 use Rattle.t1_link.specs.CardTable.{Link, Reaction, Taken, answers, reply_bytes, card_takes, link_step, replies, runs}
-use Rattle.t1_link.specs.ReaderFields.{next_of}
 use Rattle.t1_link.specs.ReaderTable.{Outcome, Reader, Turned, fails, gives, reader_step, reader_times_out, sends, unknown}
 use Rattle.card_core.specs.Cards.{Card}
 use Rattle.card_core.specs.Running.{card_found}
@@ -15,8 +14,8 @@ use Rattle.apdu_core.specs.Asked.{asked}
 use Rattle.card_core.specs.Stages.{IsStage}
 use Rattle.card_core.specs.Words.{StandsAsked}
 use Rattle.card_core.specs.Steps.{answer_bytes}
-use Rattle.card_bench.specs.declared.exchange.Ending.{Ending}
-use Rattle.card_bench.specs.declared.exchange.Ending.TheVariants.{Answered, SetBack, Lost, Dark}
+use Rattle.card_bench.specs.Exchanges.{Ended}
+use Rattle.card_bench.specs.Exchanges.{answered, set_back, link_lost, power_lost}
 use Rattle.card_bench.specs.declared.line.Line.{Line}
 use Rattle.card_bench.specs.BenchStates.{BenchState, off, on, bench_card, bench_facts}
 use Rattle.card_bench.specs.CardBlocks.{BlockStands, IsBlockStage, IsRun, Powered, Replies, answering, card_by, machine, session_by}
@@ -60,16 +59,16 @@ pub record GoesOnIn (way : NextBlock) (sent : List (List ℕ)) (earlier : List R
   pub way_is : IsWay way w.line
 
 -- what follows in the exchange shows in the world
-abbrev pub ShowsIn : Result NextBlock Ending → List (List ℕ) → List Report → World Served → Type 0
+abbrev pub ShowsIn : Result NextBlock Ended → List (List ℕ) → List Report → World Served → Type 0
 ShowsIn (Ok way) sent earlier w = GoesOnIn way sent earlier w
-ShowsIn (Err (Answered answer)) sent earlier w = IsReported (Done answer.items) earlier w
-ShowsIn (Err SetBack) sent earlier w = IsReported Unknown earlier w
-ShowsIn (Err Lost) sent earlier w = (failure : Failure) × IsReported (Failed failure) earlier w
-ShowsIn (Err Dark) sent earlier w = ⊥
+ShowsIn (Err (answered answer)) sent earlier w = IsReported (Done answer) earlier w
+ShowsIn (Err set_back) sent earlier w = IsReported Unknown earlier w
+ShowsIn (Err link_lost) sent earlier w = (failure : Failure) × IsReported (Failed failure) earlier w
+ShowsIn (Err power_lost) sent earlier w = ⊥
 
 -- what the arrival of a block led to: power was lost, or the ends stand in the world after it, where what follows shows
-abbrev pub LeadsTo : Result NextBlock Ending → World Served → Arrival → Ends → Type 0
-LeadsTo (Err Dark) w came new = ExchangeIsCut (newest w.sent) came w new.bench
+abbrev pub LeadsTo : Result NextBlock Ended → World Served → Arrival → Ends → Type 0
+LeadsTo (Err power_lost) w came new = ExchangeIsCut (newest w.sent) came w new.bench
 LeadsTo follows w came new = StandIn new.bench new.reader (after_arrival tree_machine w came)
     × ShowsIn follows w.sent w.reports (after_arrival tree_machine w came)
 
@@ -128,7 +127,7 @@ pub stepped-is : (w : World Served) (pending : Line) → stepped pending w ≡ a
 stepped-is w pending = step-fated w (is_due pending.lose 0) (is_due pending.garble 0) (last_bit_turned (bytes_of_line w.line))
 
 -- the reader's end turned
-pub shows-noted : (w : World Served) (o : Outcome) → ShowsIn (following (next_of o)) w.sent w.reports (noted w o)
+pub shows-noted : (w : World Served) (o : Outcome) → ShowsIn (following o) w.sent w.reports (noted w o)
 shows-noted w (sends b) = record { reports = refl; sent_is = refl; way_is = (b, refl, refl) }
 shows-noted w (gives answer) = record { reports = refl; line = refl }
 shows-noted w unknown = record { reports = refl; line = refl }
@@ -150,34 +149,34 @@ same-reader (on p) reader w s = s.reader_is
 
 leads-noted : (w : World Served) (came : Arrival) (bench : BenchState) (line : Line) (r : Reader) (o : Outcome)
     → after_arrival tree_machine w came ≡ noted (record w { reader = r }) o → StandIn bench r (noted (record w { reader = r }) o)
-    → LeadsTo (following (next_of o)) w came (record { bench = bench; reader = r; line = line })
+    → LeadsTo (following o) w came (record { bench = bench; reader = r; line = line })
 leads-noted w came bench line r (sends b) arrives stands =
-    subst (λ (x : World Served). StandIn bench r x × ShowsIn (following (next_of (sends b))) w.sent w.reports x) (sym arrives)
+    subst (λ (x : World Served). StandIn bench r x × ShowsIn (following (sends b)) w.sent w.reports x) (sym arrives)
     (stands, shows-noted (record w { reader = r }) (sends b))
 leads-noted w came bench line r (gives answer) arrives stands =
-    subst (λ (x : World Served). StandIn bench r x × ShowsIn (following (next_of (gives answer))) w.sent w.reports x) (sym arrives)
+    subst (λ (x : World Served). StandIn bench r x × ShowsIn (following (gives answer)) w.sent w.reports x) (sym arrives)
     (stands, shows-noted (record w { reader = r }) (gives answer))
 leads-noted w came bench line r unknown arrives stands =
-    subst (λ (x : World Served). StandIn bench r x × ShowsIn (following (next_of unknown)) w.sent w.reports x) (sym arrives)
+    subst (λ (x : World Served). StandIn bench r x × ShowsIn (following unknown) w.sent w.reports x) (sym arrives)
     (stands, shows-noted (record w { reader = r }) unknown)
 leads-noted w came bench line r (fails failure) arrives stands =
-    subst (λ (x : World Served). StandIn bench r x × ShowsIn (following (next_of (fails failure))) w.sent w.reports x) (sym arrives)
+    subst (λ (x : World Served). StandIn bench r x × ShowsIn (following (fails failure)) w.sent w.reports x) (sym arrives)
     (stands, shows-noted (record w { reader = r }) (fails failure))
 
 -- something came to the reader's end, or nothing did in time
-reader-leads : (w : World Served) (came : Arrival) (old new : Ends) (turn : Reader → Turned) (follows : Result NextBlock Ending)
+reader-leads : (w : World Served) (came : Arrival) (old new : Ends) (turn : Reader → Turned) (follows : Result NextBlock Ended)
     → StandIn old.bench old.reader w → after_arrival tree_machine w came ≡ turning w (turn w.reader) → new.bench ≡ old.bench
     → ReaderTurns (turn old.reader) new.reader follows → LeadsTo follows w came new
 reader-leads w came old new turn follows stands arrives same turns =
     let t : Turned = turn old.reader in
     let r : old.reader ≡ w.reader = same-reader old.bench old.reader w stands in
-    let base : LeadsTo (following (next_of t.outcome)) w came (record { bench = old.bench; reader = t.reader; line = new.line }) =
+    let base : LeadsTo (following t.outcome) w came (record { bench = old.bench; reader = t.reader; line = new.line }) =
     leads-noted w came old.bench new.line t.reader t.outcome (arrives ∙ ap (λ (x : Reader). turning w (turn x)) (sym r))
     (stands-turned old.bench old.reader w t stands) in
     let ends : record { bench = old.bench; reader = t.reader; line = new.line } ≡ new =
     λ i. record { bench = sym same i; reader = sym turns.reader_is i; line = new.line } in
-    subst (λ (f : Result NextBlock Ending). LeadsTo f w came new) (sym turns.follows_so)
-    (subst (λ (e : Ends). LeadsTo (following (next_of t.outcome)) w came e) ends base)
+    subst (λ (f : Result NextBlock Ended). LeadsTo f w came new) (sym turns.follows_so)
+    (subst (λ (e : Ends). LeadsTo (following t.outcome) w came e) ends base)
 
 -- the card's end replied, and where it ran a command, so did the world's machine
 card-replies : (p after : Powered) (w : World Served) (reader : Reader) (l : Link) (r : Reaction) (bytes : List ℕ)
@@ -227,7 +226,7 @@ abbrev pub IsKnown : World Served → Option (List ℕ) → Type 0
 IsKnown w None = Unit {0}
 IsKnown w (Some got) = (command : List ℕ) → (link_step w.card got).reaction ≡ runs command → command ≡ newest w.sent
 
-card-leads : (w : World Served) (bench after : BenchState) (old reader : Reader) (line : Line) (got : List ℕ) (follows : Result NextBlock Ending)
+card-leads : (w : World Served) (bench after : BenchState) (old reader : Reader) (line : Line) (got : List ℕ) (follows : Result NextBlock Ended)
     → IsKnown w (Some got) → StandIn bench old w → reader ≡ old → CardTakes bench got after follows
     → LeadsTo follows w (at_card got) (record { bench = after; reader = reader; line = line })
 card-leads w (off facts) after old reader line got follows known s same t = absurd s
@@ -235,10 +234,10 @@ card-leads w (on p) after old reader line got (Ok (ways.toward_card bytes)) know
 card-leads w (on p) (off facts) old reader line got (Ok (ways.toward_reader bytes)) known s same t = absurd t.one
 card-leads w (on p) (on after) old reader line got (Ok (ways.toward_reader bytes)) known s same t =
     replied p after old reader w got bytes s (same ∙ s.reader_is) t.one
-card-leads w (on p) after old reader line got (Err (Answered answer)) known s same t = absurd t
-card-leads w (on p) after old reader line got (Err SetBack) known s same t = absurd t
-card-leads w (on p) after old reader line got (Err Lost) known s same t = absurd t
-card-leads w (on p) after old reader line got (Err Dark) known s same t =
+card-leads w (on p) after old reader line got (Err (answered answer)) known s same t = absurd t
+card-leads w (on p) after old reader line got (Err set_back) known s same t = absurd t
+card-leads w (on p) after old reader line got (Err link_lost) known s same t = absurd t
+card-leads w (on p) after old reader line got (Err power_lost) known s same t =
     let cut = cut-so p (link_step p.link got).reaction (bench_card after) (bench_facts after).words t.one.run
     t.one.stage t.one.word in
     let ran : (link_step w.card got).reaction ≡ runs cut.0 = ap (λ (l : Link). (link_step l got).reaction) (sym s.link_is) ∙ cut.1 in
@@ -256,7 +255,7 @@ card-leads w (on p) after old reader line got (Err Dark) known s same t =
           cut.3);
     }
 
-arrived : (w : World Served) (old new : Ends) (way : NextBlock) (o : Option (List ℕ)) (follows : Result NextBlock Ending)
+arrived : (w : World Served) (old new : Ends) (way : NextBlock) (o : Option (List ℕ)) (follows : Result NextBlock Ended)
     → (goes_there way ≡ true → IsKnown w o) → StandIn old.bench old.reader w → Arrives old way o new follows → LeadsTo follows w (arrival_of way o) new
 arrived w old new (ways.toward_card block) None follows known s a = reader-leads w in_vain old new reader_times_out follows s refl a.0 a.1
 arrived w old new (ways.toward_reader block) None follows known s a = reader-leads w in_vain old new reader_times_out follows s refl a.0 a.1
@@ -288,7 +287,7 @@ known-so start w (ways.toward_card bytes) pending reached is there =
     (known-there start w is.0 (is_due pending.lose 0) (is_due pending.garble 0) reached (subst IsSoundLine is.1 reached.sound.line) is.1)
 known-so start w (ways.toward_reader bytes) pending reached is there = absurd (cc there)
 
-pub passed : (start : Served) (w : World Served) (old new : Ends) (way : NextBlock) (follows : Result NextBlock Ending) → IsReached start w
+pub passed : (start : Served) (w : World Served) (old new : Ends) (way : NextBlock) (follows : Result NextBlock Ended) → IsReached start w
     → StandIn old.bench old.reader w → IsWay way w.line → Passes old way new follows
     → LeadsTo follows w (arrival w.line (fate old.line (bytes_of_line w.line))) new
 passed start w old new way follows reached s is passes =

@@ -18,7 +18,8 @@ pub mod PlayedTurns
 pub mod PowerTurns
 pub mod ScriptLines
 pub mod ScriptInWorld
-pub mod SizedOrders
+pub mod ReaderSays
+mod SizedOrders
 pub mod SoundBlocks
 pub mod SoundWorlds
 pub mod Spelled

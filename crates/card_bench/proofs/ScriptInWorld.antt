@@ -5,8 +5,8 @@ use Rattle.std.proofs.lemmas.Bool.{and_from, le-leb}
 use Rattle.t1_link.specs.ReaderTable.{Reader, fresh_reader}
 use Rattle.apdu_core.specs.OfBytes.{AreBytes}
 use Rattle.card_core.specs.laws.FoundLaws.{found_is_proper}
-use Rattle.card_bench.specs.declared.exchange.Ending.{Ending}
-use Rattle.card_bench.specs.declared.exchange.Ending.TheVariants.{Answered, SetBack, Lost, Dark}
+use Rattle.card_bench.specs.Exchanges.{Ended}
+use Rattle.card_bench.specs.Exchanges.{answered, set_back, link_lost, power_lost}
 use Rattle.card_bench.specs.declared.line.Line.{Line}
 use Rattle.card_bench.specs.declared.order.Order.{Order}
 use Rattle.card_bench.specs.declared.order.Order.TheVariants.{Nothing, On, Off, Free, Apdu, Block, Cut, Lose, Garble}
@@ -51,20 +51,20 @@ armed-stands (on p) new reader w number mask armed s =
 
 module _ (start : Served) (events : List Event) (proper : IsProperState start) where
   -- where another command may be sent
-  goes-on : (command : List ℕ) (old new : Desk) (reader : Reader) (ending : Ending)
+  goes-on : (command : List ℕ) (old new : Desk) (reader : Reader) (ending : Ended)
       → GoesAs (course_of start events command old.line) (record { bench = new.bench; reader = reader; line = new.line }) ending
       → new.reader ≡ left_by ending reader → GoesOn ending
       → (blocks : ℕ) × IsInWorld start (events ++ exchange_events (comes_of tree_machine start events) command old.line blocks) new
-  goes-on command old new reader (Answered answer) goes left on_ = (
+  goes-on command old new reader (answered answer) goes left on_ = (
     goes.blocks,
     record { reader = reader; may_send = left; stands = goes.ended.0; calm = goes.ended.1.line },
   )
-  goes-on command old new reader SetBack goes left on_ = (
+  goes-on command old new reader set_back goes left on_ = (
     goes.blocks,
     record { reader = reader; may_send = left; stands = goes.ended.0; calm = goes.ended.1.line },
   )
-  goes-on command old new reader Lost goes left on_ = absurd on_
-  goes-on command old new reader Dark goes left on_ = absurd on_
+  goes-on command old new reader link_lost goes left on_ = absurd on_
+  goes-on command old new reader power_lost goes left on_ = absurd on_
 
   commands-in : (command : List ℕ) (old new : Desk) (prints : Print) → is_command command ≡ true → (there : IsInWorld start events old)
       → Commands old (Some there.reader) command new prints → CommandInWorld command start events old new prints

@@ -498,7 +498,8 @@ speaks kind.Atr bytes other none = some_text (codes "atr 3B808131FE458B") none
 speaks kind.Mute bytes other none = some_text (codes "mute") none
 speaks kind.Dark bytes other none = some_text (codes "dark") none
 speaks kind.Lost bytes other none = some_text (codes "lost") none
-speaks kind.Bytes bytes other none = some_text (codes "< " ++ encode_upper bytes) none
+speaks kind.Answer bytes other none = some_text (codes "< " ++ encode_upper bytes) none
+speaks kind.Block bytes other none = some_text (codes "< " ++ encode_upper bytes) none
 speaks (kind.Free free) bytes other none = some_text (codes "free " ++ decimal free.blocks ++ 32 ∷ decimal free.entries) none
 
 -- one line

@@ -17,8 +17,8 @@ use Rattle.card_core.specs.Comparing.{Comparisons, comparisons}
 use Rattle.card_core.specs.Finding.{HasCard}
 use Rattle.card_core.specs.laws.ProperLaws.{at-or, either-if}
 use Rattle.card_core.specs.laws.ShownLaws.{ComparesOrStays}
-use Rattle.card_bench.specs.declared.exchange.Ending.{Ending}
-use Rattle.card_bench.specs.declared.exchange.Ending.TheVariants.{Answered, SetBack, Lost, Dark}
+use Rattle.card_bench.specs.Exchanges.{Ended}
+use Rattle.card_bench.specs.Exchanges.{answered, set_back, link_lost, power_lost}
 use Rattle.card_bench.specs.declared.exchange.TheConstants.{LINE_BLOCKS}
 use Rattle.card_bench.specs.declared.order.Order.{Order}
 use Rattle.card_bench.specs.declared.order.Order.TheVariants.{Nothing, On, Off, Free, Apdu, Block, Cut, Lose, Garble}
@@ -184,16 +184,16 @@ runs-last n old new (t ∷ turns) (i ∷ trace) run left =
     (omega arith) left))
 
 -- a block that goes on the line
-takes-last : (n : ℕ) (old new : BenchState) (got : List ℕ) (follows : Result NextBlock Ending)
+takes-last : (n : ℕ) (old new : BenchState) (got : List ℕ) (follows : Result NextBlock Ended)
     → CardTakes old got new follows → HasLeft (n + COMMAND_WRITES) (bench_facts old) → HasLeft n (bench_facts new)
 takes-last n old new got (Ok (toward_card bytes)) takes left = absurd takes
 takes-last n old new got (Ok (toward_reader bytes)) takes left = block-lasts n old new got (item.Reply bytes) takes left
-takes-last n old new got (Err (Answered answer)) takes left = absurd takes
-takes-last n old new got (Err SetBack) takes left = absurd takes
-takes-last n old new got (Err Lost) takes left = absurd takes
-takes-last n old new got (Err Dark) takes left = block-lasts n old new got item.Dark takes left
+takes-last n old new got (Err (answered answer)) takes left = absurd takes
+takes-last n old new got (Err set_back) takes left = absurd takes
+takes-last n old new got (Err link_lost) takes left = absurd takes
+takes-last n old new got (Err power_lost) takes left = block-lasts n old new got item.Dark takes left
 
-pub arrives-last : (n : ℕ) (old new : Ends) (way : NextBlock) (came : Option (List ℕ)) (follows : Result NextBlock Ending)
+pub arrives-last : (n : ℕ) (old new : Ends) (way : NextBlock) (came : Option (List ℕ)) (follows : Result NextBlock Ended)
     → Arrives old way came new follows → HasLeft (n + COMMAND_WRITES) (bench_facts old.bench)
     → HasLeft n (bench_facts new.bench)
 arrives-last n old new way None follows arrives left = stays-last n COMMAND_WRITES old.bench new.bench arrives.0 left
@@ -202,7 +202,7 @@ arrives-last n old new (toward_card block) (Some got) follows arrives left =
 arrives-last n old new (toward_reader block) (Some got) follows arrives left =
     stays-last n COMMAND_WRITES old.bench new.bench arrives.0 left
 
-exchange-lasts : (n blocks : ℕ) (old new : Ends) (way : NextBlock) (ending : Ending) → Exchanges blocks old way new ending
+exchange-lasts : (n blocks : ℕ) (old new : Ends) (way : NextBlock) (ending : Ended) → Exchanges blocks old way new ending
     → HasLeft (n + COMMAND_WRITES * blocks) (bench_facts old.bench) → HasLeft n (bench_facts new.bench)
 unfolding Exchanges
 exchange-lasts n zero old new way ending run left =
@@ -220,7 +220,7 @@ exchange-lasts n (suc blocks) old new way ending (inr more) left =
 abbrev pub LINE_STEPS : ℕ
 LINE_STEPS = COMMAND_WRITES * LINE_BLOCKS
 
-through-lasts : (n : ℕ) (old new : Ends) (first : Result NextBlock Ending) (ending : Ending)
+through-lasts : (n : ℕ) (old new : Ends) (first : Result NextBlock Ended) (ending : Ended)
     → GoesThrough first old new ending → HasLeft (n + LINE_STEPS) (bench_facts old.bench) → HasLeft n (bench_facts new.bench)
 through-lasts n old new (Ok way) ending through left = exchange-lasts n LINE_BLOCKS old new way ending through left
 through-lasts n old new (Err ended) ending through left =

@@ -1,19 +1,36 @@
--- What the fields of an exchange stand for: blocks stand in buffers.
-use Rattle.std.specs.Prelude.{Result, Ok, Err}
+-- What the values of an exchange stand for: blocks stand in buffers, and the answer in the reader's end.
+use Rattle.std.specs.Prelude.{List, ℕ, Result, Ok, Err}
 use Rattle.core.specs.declared.ops.ControlFlow.{ControlFlow}
 use Rattle.core.specs.declared.ops.ControlFlow.TheVariants.{Continue, Break}
+use Rattle.t1_link.specs.declared.reader_end.Next.{Next}
+use Rattle.t1_link.specs.declared.reader_end.Next.TheVariants.{Send, Done, Unknown, Failed}
 use Rattle.card_bench.specs.declared.exchange.Toward.{Toward}
 use Rattle.card_bench.specs.declared.exchange.Toward.TheVariants.{Card, Reader}
 use Rattle.card_bench.specs.declared.exchange.Ending.{Ending}
+use Rattle.card_bench.specs.declared.exchange.Ending.TheVariants.{Answered, SetBack, Lost, Dark}
 use Rattle.card_bench.specs.declared.exchange.Blocks.{Blocks}
-use Rattle.card_bench.specs.Exchanges.{NextBlock, toward_card, toward_reader}
+use Rattle.card_bench.specs.Exchanges.{Ended, NextBlock, answered, link_lost, power_lost, set_back, toward_card, toward_reader}
 
 -- the block that goes on the line next
 abbrev pub next_block : Toward → Blocks → NextBlock
 next_block Card blocks = toward_card blocks.toward_card
 next_block Reader blocks = toward_reader blocks.toward_reader
 
+-- how an exchange ends, with the answer that the reader's end keeps
+abbrev pub ended_of : Ending → List ℕ → Ended
+ended_of Answered answer = answered answer
+ended_of SetBack answer = set_back
+ended_of Lost answer = link_lost
+ended_of Dark answer = power_lost
+
 -- what follows
-abbrev pub follows_of : ControlFlow Ending Toward → Blocks → Result NextBlock Ending
-follows_of (Continue toward) blocks = Ok (next_block toward blocks)
-follows_of (Break ending) blocks = Err ending
+abbrev pub follows_of : ControlFlow Ending Toward → Blocks → List ℕ → Result NextBlock Ended
+follows_of (Continue toward) blocks answer = Ok (next_block toward blocks)
+follows_of (Break ending) blocks answer = Err (ended_of ending answer)
+
+-- what the reader's end's word comes to: its block goes to the card, or the exchange ends
+abbrev pub flow_of : Next → ControlFlow Ending Toward
+flow_of Send = Continue Card
+flow_of Done = Break Answered
+flow_of Unknown = Break SetBack
+flow_of (Failed failure) = Break Lost

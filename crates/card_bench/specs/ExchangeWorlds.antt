@@ -10,8 +10,8 @@ use Rattle.card_core.specs.Running.{card_found}
 use Rattle.apdu_core.specs.Asked.{asked}
 use Rattle.card_core.specs.Stages.{IsStage}
 use Rattle.card_core.specs.Words.{StandsAsked}
-use Rattle.card_bench.specs.declared.exchange.Ending.{Ending}
-use Rattle.card_bench.specs.declared.exchange.Ending.TheVariants.{Answered, SetBack, Lost, Dark}
+use Rattle.card_bench.specs.Exchanges.{Ended}
+use Rattle.card_bench.specs.Exchanges.{answered, set_back, link_lost, power_lost}
 use Rattle.card_bench.specs.declared.exchange.TheConstants.{LINE_BLOCKS}
 use Rattle.card_bench.specs.declared.line.Line.{Line}
 use Rattle.card_bench.specs.BenchStates.{BenchState, off, on, bench_card, bench_facts, IsOff}
@@ -94,21 +94,21 @@ arrival_after course blocks =
 
 -- How an exchange ended when so many blocks had gone on the line: with a report; without one, as no more blocks may go on the
 -- line; or with the last of them, by which power was lost.
-abbrev pub EndsSo : Ending → Course → ℕ → Ends → Type 0
-EndsSo (Answered answer) course blocks new =
-    StandIn new.bench new.reader (course.after blocks) × IsReported (Done answer.items) course.earlier (course.after blocks)
-EndsSo SetBack course blocks new =
+abbrev pub EndsSo : Ended → Course → ℕ → Ends → Type 0
+EndsSo (answered answer) course blocks new =
+    StandIn new.bench new.reader (course.after blocks) × IsReported (Done answer) course.earlier (course.after blocks)
+EndsSo set_back course blocks new =
     StandIn new.bench new.reader (course.after blocks) × IsReported Unknown course.earlier (course.after blocks)
-EndsSo Lost course blocks new =
+EndsSo link_lost course blocks new =
     StandIn new.bench new.reader (course.after blocks)
     × (((failure : Failure) × IsReported (Failed failure) course.earlier (course.after blocks))
     ⊎ ((blocks ≡ course.limit) × IsUnreported course.earlier (course.after blocks)))
-EndsSo Dark course blocks new =
+EndsSo power_lost course blocks new =
     (before : ℕ) × (blocks ≡ before + 1) × IsUnreported course.earlier (course.after before)
     × ExchangeIsCut course.command (arrival_after course before) (course.after before) new.bench
 
 -- An exchange takes this course.
-pub record GoesAs (course : Course) (new : Ends) (ending : Ending) : Type 0 where
+pub record GoesAs (course : Course) (new : Ends) (ending : Ended) : Type 0 where
   pub blocks : ℕ
   pub most : blocks ≤ course.limit
   pub line : new.line ≡ line_after blocks course.pending
@@ -133,7 +133,7 @@ course_of start events command pending =
 
 -- Each exchange takes that course, where nothing was under way before.
 abbrev pub ExchangeLaw : Type 0
-ExchangeLaw = (start : Served) (events : List Event) (old new : Ends) (command : List ℕ) (ending : Ending)
+ExchangeLaw = (start : Served) (events : List Event) (old new : Ends) (command : List ℕ) (ending : Ended)
     → IsProperState start → StandIn old.bench old.reader (comes_of tree_machine start events)
     → (comes_of tree_machine start events).line ≡ quiet → is_command command ≡ true → Exchanged old command new ending
     → GoesAs (course_of start events command old.line) new ending

@@ -1,11 +1,7 @@
 -- An exchange: a command through both ends of the link, over a line that may lose or garble blocks, with a card at the bench.
 use Rattle.std.specs.Prelude.{◌≡◌, ◌⊎◌, ℕ, zero, suc, List, Option, None, Some, Result, Ok, Err}
-use Rattle.t1_link.specs.ReaderFields.{next_of}
-use Rattle.t1_link.specs.ReaderTable.{Reader, reader_step, Turned, reader_sends, reader_times_out}
-use Rattle.t1_link.specs.declared.reader_end.Next.{Next}
-use Rattle.t1_link.specs.declared.reader_end.Next.TheVariants.{Send, Done, Unknown, Failed}
-use Rattle.card_bench.specs.declared.exchange.Ending.{Ending}
-use Rattle.card_bench.specs.declared.exchange.Ending.TheVariants.{Answered, SetBack, Lost, Dark}
+use Rattle.t1_link.specs.Blocks.{frame}
+use Rattle.t1_link.specs.ReaderTable.{Outcome, Reader, Turned, fails, gives, reader_sends, reader_step, reader_times_out, sends, unknown}
 use Rattle.card_bench.specs.declared.exchange.TheConstants.{LINE_BLOCKS}
 use Rattle.card_bench.specs.declared.playing.Item.TheVariants as item
 use Rattle.card_bench.specs.declared.line.Line.{Line}
@@ -19,19 +15,27 @@ pub data NextBlock : Type 0 where
   toward_card : List ℕ → NextBlock
   toward_reader : List ℕ → NextBlock
 
+-- how an exchange ends: with this answer; the link was set back, and it isn't known whether the command was carried out; the
+-- reader's end gave the link up, or too many blocks were put on the line; or power was lost
+pub data Ended : Type 0 where
+  answered : List ℕ → Ended
+  set_back : Ended
+  link_lost : Ended
+  power_lost : Ended
+
 -- another command may be sent
-abbrev pub GoesOn : Ending → Type 0
-GoesOn (Answered answer) = Unit {0}
-GoesOn SetBack = Unit {0}
-GoesOn Lost = ⊥
-GoesOn Dark = ⊥
+abbrev pub GoesOn : Ended → Type 0
+GoesOn (answered answer) = Unit {0}
+GoesOn set_back = Unit {0}
+GoesOn link_lost = ⊥
+GoesOn power_lost = ⊥
 
 -- what follows from what the reader's end says: the block that goes on the line next, or how the exchange ends
-abbrev pub following : Next → Result NextBlock Ending
-following (Send block) = Ok (toward_card block)
-following (Done answer) = Err (Answered answer)
-following Unknown = Err SetBack
-following (Failed failure) = Err Lost
+abbrev pub following : Outcome → Result NextBlock Ended
+following (sends block) = Ok (toward_card (frame block))
+following (gives answer) = Err (answered answer)
+following unknown = Err set_back
+following (fails failure) = Err link_lost
 
 -- the bench, the reader's end, and what is pending on the line
 pub record Ends : Type 0 where
@@ -40,21 +44,21 @@ pub record Ends : Type 0 where
   pub line : Line
 
 -- the reader's end turned, and this follows
-pub record ReaderTurns (turned : Turned) (reader : Reader) (follows : Result NextBlock Ending) : Type 0 where
+pub record ReaderTurns (turned : Turned) (reader : Reader) (follows : Result NextBlock Ended) : Type 0 where
   pub reader_is : reader ≡ turned.reader
-  pub follows_so : follows ≡ following (next_of turned.outcome)
+  pub follows_so : follows ≡ following turned.outcome
 
 -- The card's end got these bytes, as a turn of the bench, and this follows.
-abbrev pub CardTakes : BenchState → List ℕ → BenchState → Result NextBlock Ending → Type 0
+abbrev pub CardTakes : BenchState → List ℕ → BenchState → Result NextBlock Ended → Type 0
 CardTakes old got new (Ok (toward_card bytes)) = ⊥
 CardTakes old got new (Ok (toward_reader bytes)) = GoodBlock old got (item.Reply bytes) new
-CardTakes old got new (Err (Answered answer)) = ⊥
-CardTakes old got new (Err SetBack) = ⊥
-CardTakes old got new (Err Lost) = ⊥
-CardTakes old got new (Err Dark) = GoodBlock old got item.Dark new
+CardTakes old got new (Err (answered answer)) = ⊥
+CardTakes old got new (Err set_back) = ⊥
+CardTakes old got new (Err link_lost) = ⊥
+CardTakes old got new (Err power_lost) = GoodBlock old got item.Dark new
 
 -- This arrives of the block that went on the line. Where nothing does, the reader's end waits in vain.
-abbrev pub Arrives : Ends → NextBlock → Option (List ℕ) → Ends → Result NextBlock Ending → Type 0
+abbrev pub Arrives : Ends → NextBlock → Option (List ℕ) → Ends → Result NextBlock Ended → Type 0
 Arrives old way None new follows = (new.bench ≡ old.bench) × ReaderTurns (reader_times_out old.reader) new.reader follows
 Arrives old (toward_card block) (Some got) new follows = (new.reader ≡ old.reader) × CardTakes old.bench got new.bench follows
 Arrives old (toward_reader block) (Some got) new follows =
@@ -66,41 +70,41 @@ bytes_under_way (toward_card block) = block
 bytes_under_way (toward_reader block) = block
 
 -- One block goes on the line, and arrives as the faults that are pending say.
-pub record Passes (old : Ends) (way : NextBlock) (new : Ends) (follows : Result NextBlock Ending) : Type 0 where
+pub record Passes (old : Ends) (way : NextBlock) (new : Ends) (follows : Result NextBlock Ended) : Type 0 where
   pub block : new.line ≡ line_after 1 old.line
   pub arrives : Arrives old way (arriving old.line 0 (bytes_under_way way)) new follows
 
 -- Blocks pass, one after another, until the exchange ends, or until so many went on the line.
-unfoldable pub Exchanges : ℕ → Ends → NextBlock → Ends → Ending → Type 0
-Exchanges zero old way new ending = (new ≡ old) × (ending ≡ Lost)
+unfoldable pub Exchanges : ℕ → Ends → NextBlock → Ends → Ended → Type 0
+Exchanges zero old way new ending = (new ≡ old) × (ending ≡ link_lost)
 Exchanges (suc blocks) old way new ending =
     Passes old way new (Err ending)
     ⊎ ((between : Ends) × (next : NextBlock) × Passes old way between (Ok next) × Exchanges blocks between next new ending)
 
 -- What follows from what the reader's end says: blocks pass, at most 1,000, or nothing goes on the line.
-abbrev pub GoesThrough : Result NextBlock Ending → Ends → Ends → Ending → Type 0
+abbrev pub GoesThrough : Result NextBlock Ended → Ends → Ends → Ended → Type 0
 GoesThrough (Ok first) old new ending = Exchanges LINE_BLOCKS old first new ending
 GoesThrough (Err ended) old new ending = (new ≡ old) × (ending ≡ ended)
 
 -- A command is given to the reader's end.
-abbrev pub Exchanged : Ends → List ℕ → Ends → Ending → Type 0
+abbrev pub Exchanged : Ends → List ℕ → Ends → Ended → Type 0
 Exchanged old command new ending =
     let turned = reader_sends old.reader command in
-    GoesThrough (following (next_of turned.outcome)) (record old { reader = turned.reader }) new ending
+    GoesThrough (following turned.outcome) (record old { reader = turned.reader }) new ending
 
 -- the reader's end, if another command may be sent
-abbrev pub left_by : Ending → Reader → Option Reader
-left_by (Answered answer) reader = Some reader
-left_by SetBack reader = Some reader
-left_by Lost reader = None
-left_by Dark reader = None
+abbrev pub left_by : Ended → Reader → Option Reader
+left_by (answered answer) reader = Some reader
+left_by set_back reader = Some reader
+left_by link_lost reader = None
+left_by power_lost reader = None
 
 -- what a command prints
-abbrev pub printed_by : Ending → Print
-printed_by (Answered answer) = prints_bytes answer.items
-printed_by SetBack = prints_lost
-printed_by Lost = prints_lost
-printed_by Dark = prints_dark
+abbrev pub printed_by : Ended → Print
+printed_by (answered answer) = prints_bytes answer
+printed_by set_back = prints_lost
+printed_by link_lost = prints_lost
+printed_by power_lost = prints_dark
 
 -- The desk: the bench, the reader's end, if a command may be sent, and the line.
 pub record Desk : Type 0 where
@@ -112,7 +116,7 @@ pub record Desk : Type 0 where
 abbrev pub Commands : Desk → Option Reader → List ℕ → Desk → Print → Type 0
 Commands old None command new prints = (new ≡ old) × (prints ≡ prints_lost)
 Commands old (Some reader) command new prints =
-    (after : Reader) × (ending : Ending)
+    (after : Reader) × (ending : Ended)
     × Exchanged (record { bench = old.bench; reader = reader; line = old.line }) command
     (record { bench = new.bench; reader = after; line = new.line }) ending
     × (new.reader ≡ left_by ending after) × (prints ≡ printed_by ending)

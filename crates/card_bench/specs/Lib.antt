@@ -10,6 +10,7 @@ pub mod Spellings
 pub mod Faults
 pub mod Scripts
 pub mod Prints
+pub mod DeskViews
 pub mod Endings
 pub mod Worlds
 pub mod WorldLaw

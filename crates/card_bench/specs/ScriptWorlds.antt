@@ -2,7 +2,7 @@
 use Rattle.std.specs.Prelude.{◌≡◌, ℕ, List, [], ◌++◌, Some}
 use Rattle.t1_link.specs.ReaderTable.{Reader}
 use Rattle.card_core.specs.Sessions.{fresh_session}
-use Rattle.card_bench.specs.declared.exchange.Ending.{Ending}
+use Rattle.card_bench.specs.Exchanges.{Ended}
 use Rattle.card_bench.specs.declared.order.Order.{Order}
 use Rattle.card_bench.specs.declared.order.Order.TheVariants.{Nothing, On, Off, Free, Apdu, Block, Cut, Lose, Garble}
 use Rattle.card_bench.specs.BenchStates.{BenchHasCard}
@@ -28,7 +28,7 @@ pub record IsInWorld (start : Served) (events : List Event) (d : Desk) : Type 0 
 -- exchange.
 pub record CommandInWorld (command : List ℕ) (start : Served) (events : List Event) (old new : Desk) (prints : Print) : Type 0 where
   pub reader : Reader
-  pub ending : Ending
+  pub ending : Ended
   pub course : GoesAs (course_of start events command old.line) (record { bench = new.bench; reader = reader; line = new.line }) ending
   pub left : new.reader ≡ left_by ending reader
   pub printed : prints ≡ printed_by ending

@@ -1,18 +1,18 @@
 //! A command through both ends of the link.
-ghost use Rattle.std.specs.Prelude.{◌≡◌, ◌≢◌, ◌≤◌, length, IfErr, IsOk, OnOk, ◌↔◌};
+ghost use Rattle.std.specs.Prelude.{◌≡◌, ◌≢◌, ◌≤◌, length, IfErr, OnOk};
 ghost use Rattle.t1_link.specs.declared.reader_end.Phase.TheVariants.{Busy};
-ghost use Rattle.t1_link.specs.ReaderFields.{IsSend};
+ghost use Rattle.t1_link.specs.ReaderTable.{reader_sends, reader_step, reader_times_out};
 ghost use Rattle.card_bench.specs.declared.order.TheConstants.{COMMAND_LIMIT};
 ghost use Rattle.card_bench.specs.BenchStates.{IsOn};
-ghost use Rattle.card_bench.specs.Exchanges.{Exchanged, Exchanges, GoesOn, Passes, following};
-ghost use Rattle.card_bench.specs.ExchangeViews.{follows_of, next_block};
+ghost use Rattle.card_bench.specs.Exchanges.{Exchanged, Exchanges, GoesOn, Passes, ReaderTurns};
+ghost use Rattle.card_bench.specs.ExchangeViews.{ended_of, flow_of, follows_of, next_block};
 ghost use Rattle.card_bench.specs.Plays.{IsGood};
 
 use crate::line::Line;
 use crate::playing::{Bench, Sent};
 use nvm_board::{Faultless, Socket};
 use std::ops::ControlFlow;
-use t1_link::{AnswerBytes, BlockBytes, Next, ReaderEnd};
+use t1_link::{BlockBytes, Next, ReaderEnd};
 
 /// The most blocks that a command puts on the line, in both directions together.
 pub(crate) const LINE_BLOCKS: u16 = 1000;
@@ -32,10 +32,10 @@ pub(crate) struct Blocks {
 }
 
 /// How an exchange ended.
-#[derive(Drop)]
+#[derive(Clone, Copy)]
 pub(crate) enum Ending {
-    /// With this answer.
-    Answered(AnswerBytes),
+    /// With the answer that the reader's end keeps.
+    Answered,
     /// The link was set back, and it isn't known whether the command was carried out.
     SetBack,
     /// The reader's end gave the link up, or too many blocks were put on the line.
@@ -59,11 +59,11 @@ pub(crate) fn exchange<B: Socket + Faultless>(
     requires power { IsOn bench.old }
     ensures exchanged { Exchanged
         (record { bench = bench.old; reader = reader.old; line = line.old }) command.now
-        (record { bench = bench.new; reader = reader.new; line = line.new }) result }
+        (record { bench = bench.new; reader = reader.new; line = line.new }) (ended_of result reader.new.answer) }
     ensures good { IsGood bench.new }
-    ensures idle { GoesOn result → reader.new.phase ≢ Busy }
+    ensures idle { GoesOn (ended_of result reader.new.answer) → reader.new.phase ≢ Busy }
 {
-    match saying(reader.send(command), blocks) {
+    match begin(reader, blocks, command) {
         ControlFlow::Continue(first) => pass_blocks(
             bench,
             reader,
@@ -90,9 +90,9 @@ fn pass_blocks<B: Socket + Faultless>(
     requires power { IsOn bench.old }
     ensures run { Exchanges limit
         (record { bench = bench.old; reader = reader.old; line = line.old }) (next_block first blocks.old)
-        (record { bench = bench.new; reader = reader.new; line = line.new }) result }
+        (record { bench = bench.new; reader = reader.new; line = line.new }) (ended_of result reader.new.answer) }
     ensures good { IsGood bench.new }
-    ensures idle { GoesOn result → reader.new.phase ≢ Busy }
+    ensures idle { GoesOn (ended_of result reader.new.answer) → reader.new.phase ≢ Busy }
 {
     let mut toward = first;
     for _ in 0..limit {
@@ -117,17 +117,17 @@ fn pass<B: Socket + Faultless>(
     requires good { IsGood bench.old }
     requires power { IsOn bench.old }
     ensures good { IsGood bench.new }
-    ensures power { OnOk (follows_of result blocks.new) (IsOn bench.new) }
-    ensures busy { OnOk (follows_of result blocks.new) (reader.new.phase ≡ Busy) }
-    ensures idle { IfErr (follows_of result blocks.new) (λ ended. GoesOn ended → reader.new.phase ≢ Busy) }
+    ensures power { OnOk (follows_of result blocks.new reader.new.answer) (IsOn bench.new) }
+    ensures busy { OnOk (follows_of result blocks.new reader.new.answer) (reader.new.phase ≡ Busy) }
+    ensures idle { IfErr (follows_of result blocks.new reader.new.answer) (λ ended. GoesOn ended → reader.new.phase ≢ Busy) }
     ensures passes { Passes
         (record { bench = bench.old; reader = reader.old; line = line.old }) (next_block toward blocks.old)
-        (record { bench = bench.new; reader = reader.new; line = line.new }) (follows_of result blocks.new) }
+        (record { bench = bench.new; reader = reader.new; line = line.new }) (follows_of result blocks.new reader.new.answer) }
 {
     match toward {
         Toward::Card => {
             if !line.put(&mut blocks.toward_card) {
-                return saying(reader.timed_out(), blocks);
+                return wait(reader, blocks);
             }
             match bench.good_send(&blocks.toward_card, &mut blocks.toward_reader) {
                 Sent::Reply => ControlFlow::Continue(Toward::Reader),
@@ -137,24 +137,53 @@ fn pass<B: Socket + Faultless>(
         }
         Toward::Reader => {
             if !line.put(&mut blocks.toward_reader) {
-                return saying(reader.timed_out(), blocks);
+                return wait(reader, blocks);
             }
-            saying(reader.got(&blocks.toward_reader), blocks)
+            hear(reader, blocks)
         }
     }
 }
 
-/// What follows from what the reader's end says. Its block goes to the buffer toward the card.
-fn saying(next: Next, blocks: &mut Blocks) -> ControlFlow<Ending, Toward>
-    ensures follows { follows_of result blocks.new ≡ following next }
-    ensures send { IsSend next ↔ IsOk (follows_of result blocks.new) }
+/// The reader's end is given a command.
+fn begin(reader: &mut ReaderEnd, blocks: &mut Blocks, command: &[u8]) -> ControlFlow<Ending, Toward>
+    requires idle { reader.old.phase ≢ Busy }
+    requires some { 1 ≤ length command.now }
+    requires size { length command.now ≤ COMMAND_LIMIT }
+    ensures turns { ReaderTurns (reader_sends reader.old command.now) reader.new (follows_of result blocks.new reader.new.answer) }
+    ensures busy { OnOk (follows_of result blocks.new reader.new.answer) (reader.new.phase ≡ Busy) }
+    ensures idle { IfErr (follows_of result blocks.new reader.new.answer) (λ ended. reader.new.phase ≢ Busy) }
+{
+    saying(reader.send(command, &mut blocks.toward_card))
+}
+
+/// The reader's end waits in vain.
+fn wait(reader: &mut ReaderEnd, blocks: &mut Blocks) -> ControlFlow<Ending, Toward>
+    requires { reader.old.phase ≡ Busy }
+    ensures turns { ReaderTurns (reader_times_out reader.old) reader.new (follows_of result blocks.new reader.new.answer) }
+    ensures busy { OnOk (follows_of result blocks.new reader.new.answer) (reader.new.phase ≡ Busy) }
+    ensures idle { IfErr (follows_of result blocks.new reader.new.answer) (λ ended. reader.new.phase ≢ Busy) }
+{
+    saying(reader.timed_out(&mut blocks.toward_card))
+}
+
+/// The reader's end hears the block that came to it.
+fn hear(reader: &mut ReaderEnd, blocks: &mut Blocks) -> ControlFlow<Ending, Toward>
+    requires { reader.old.phase ≡ Busy }
+    ensures turns { ReaderTurns (reader_step reader.old blocks.old.toward_reader) reader.new
+        (follows_of result blocks.new reader.new.answer) }
+    ensures busy { OnOk (follows_of result blocks.new reader.new.answer) (reader.new.phase ≡ Busy) }
+    ensures idle { IfErr (follows_of result blocks.new reader.new.answer) (λ ended. reader.new.phase ≢ Busy) }
+{
+    saying(reader.got(&blocks.toward_reader, &mut blocks.toward_card))
+}
+
+/// What follows from what the reader's end says.
+fn saying(next: Next) -> ControlFlow<Ending, Toward>
+    ensures { result ≡ flow_of next }
 {
     match next {
-        Next::Send(block) => {
-            blocks.toward_card = block;
-            ControlFlow::Continue(Toward::Card)
-        }
-        Next::Done(answer) => ControlFlow::Break(Ending::Answered(answer)),
+        Next::Send => ControlFlow::Continue(Toward::Card),
+        Next::Done => ControlFlow::Break(Ending::Answered),
         Next::Unknown => ControlFlow::Break(Ending::SetBack),
         Next::Failed(_) => ControlFlow::Break(Ending::Lost),
     }

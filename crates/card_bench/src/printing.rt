@@ -9,7 +9,7 @@ use arrayvec::ArrayVec;
 use card_core::FreeSpace;
 use itoa::Buffer;
 use std::io::Write;
-use t1_link::{AnswerBytes, LONGEST_ANSWER};
+use t1_link::LONGEST_ANSWER;
 
 /// The answer to reset of the card.
 const ATR: &[u8] = b"atr 3B808131FE458B\n";
@@ -17,19 +17,16 @@ const ATR: &[u8] = b"atr 3B808131FE458B\n";
 /// The hexadecimal digits.
 const DIGITS: &[u8; 16] = b"0123456789ABCDEF";
 
-/// The most bytes that the card sends at once.
+/// The most bytes that the card sends at once: an answer's, and a block has no more.
 const BYTES_ROOM: usize = LONGEST_ANSWER;
 
 /// Room for a printed line: two digits a byte, what stands before them, and the line feed.
 const PRINTED_ROOM: usize = 2 + 2 * BYTES_ROOM + 1;
 
-/// Bytes to be printed: those of an answer, or of a block, which has no more.
-pub(crate) type SentBytes = AnswerBytes;
-
 /// Room for the text of bytes. What it holds between lines tells nothing.
 pub(crate) type PrintedText = ArrayVec<u8, PRINTED_ROOM>;
 
-/// Writes what a line prints, and flushes it. The bytes of the card stand in a buffer.
+/// Writes what a line prints, and flushes it. The bytes of the card are lent.
 pub(crate) fn print<W: Write>(
     writer: &mut W,
     printed: PrintKind,
@@ -50,7 +47,7 @@ pub(crate) fn print<W: Write>(
         PrintKind::Mute => write_line(writer, b"mute\n"),
         PrintKind::Dark => write_line(writer, b"dark\n"),
         PrintKind::Lost => write_line(writer, b"lost\n"),
-        PrintKind::Bytes => print_bytes(writer, bytes, text),
+        PrintKind::Answer | PrintKind::Block => print_bytes(writer, bytes, text),
         PrintKind::Free(free) => {
             tell(free, text);
             write_line(writer, text)

@@ -53,7 +53,7 @@ fn run_lines<R: BufRead, W: Write>(
     reader: &mut R,
     writer: &mut W,
 ) -> Result<(), RunFault>
-    requires { IsFirstDesk (record { bench = desk.old.bench; reader = desk.old.reader; line = desk.old.line }) }
+    requires { IsFirstDesk desk.old.desk }
     ensures done { OnOk result (IfSome (R.remaining reader.old)
         (λ script. IsRunToEnd script (W.contents writer.old) (W.contents writer.new))) }
     ensures stopped { IfErr result (λ fault.
@@ -76,7 +76,7 @@ fn run_lines<R: BufRead, W: Write>(
             return Err(RunFault::BadLine(number));
         };
         let printed = desk.perform(&order);
-        let Ok(()) = print(writer, printed, desk.bytes(), &mut text) else {
+        let Ok(()) = print(writer, printed, desk.bytes(printed), &mut text) else {
             return Err(RunFault::Write);
         };
         match end {

@@ -429,6 +429,7 @@ fn field_of(block: &[u8]) -> &[u8] {
 #[derive(Drop)]
 struct Reader {
     end: ReaderEnd,
+    block: BlockBytes,
     table: ReaderTable,
 }
 
@@ -439,9 +440,11 @@ impl Reader {
             return None;
         }
         let mut end = ReaderEnd::new();
-        let _ = end.send(command);
+        let mut block = BlockBytes::new();
+        let _ = end.send(command, &mut block);
         Some(Reader {
             end,
+            block,
             table: ReaderTable::new(command),
         })
     }
@@ -453,9 +456,10 @@ impl Reader {
         }
         let field = field_of(block);
         let wanted = self.table.gets(block_heard(block), field.len());
-        match (self.end.got(block), wanted) {
-            (Next::Send(block), ReaderSays::Sends(wanted)) => is_block(block.as_slice(), wanted),
-            (Next::Done(answer), ReaderSays::Done(size)) => {
+        match (self.end.got(block, &mut self.block), wanted) {
+            (Next::Send, ReaderSays::Sends(wanted)) => is_block(self.block.as_slice(), wanted),
+            (Next::Done, ReaderSays::Done(size)) => {
+                let answer = self.end.answer();
                 answer.len() == size && answer.ends_with(field)
             }
             (Next::Unknown, ReaderSays::Unknown) => true,

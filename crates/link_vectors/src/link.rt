@@ -2,7 +2,7 @@
 //! stands in rows, and what both say to every kind of block in `blocks`.
 
 use std::process::Abort;
-use t1_link::{Failure, Next, ReaderEnd};
+use t1_link::{BlockBytes, Failure, Next, ReaderEnd};
 
 // What the reader's end is told.
 #[derive(Clone, Copy)]
@@ -22,32 +22,38 @@ enum Says {
     BadAnswer,
 }
 
-fn tell(rt: &impl Abort, reader: &mut ReaderEnd, event: Event, bytes: &[u8]) -> Next {
+fn tell(
+    rt: &impl Abort,
+    reader: &mut ReaderEnd,
+    event: Event,
+    bytes: &[u8],
+    out: &mut BlockBytes,
+) -> Next {
     match event {
         Event::Send => {
             assert!(rt; !reader.busy() && 1 <= bytes.len() && bytes.len() <= 261);
-            reader.send(bytes)
+            reader.send(bytes, out)
         }
         Event::Got => {
             assert!(rt; reader.busy());
-            reader.got(bytes)
+            reader.got(bytes, out)
         }
         Event::TimedOut => {
             assert!(rt; reader.busy());
-            reader.timed_out()
+            reader.timed_out(out)
         }
     }
 }
 
 /// Whether the end says this, with these bytes where it says a block or an answer, and has a command in hand exactly where
 /// it says a block.
-fn is_said(next: &Next, is_busy: bool, says: Says, bytes: &[u8]) -> bool {
+fn is_said(next: Next, reader: &ReaderEnd, block: &BlockBytes, says: Says, bytes: &[u8]) -> bool {
     match (next, says) {
-        (Next::Send(block), Says::Block) => is_busy && block.as_slice() == bytes,
-        (Next::Done(answer), Says::Answer) => !is_busy && answer.as_slice() == bytes,
+        (Next::Send, Says::Block) => reader.busy() && block.as_slice() == bytes,
+        (Next::Done, Says::Answer) => !reader.busy() && reader.answer() == bytes,
         (Next::Unknown, Says::Unknown)
         | (Next::Failed(Failure::LinkLost), Says::LinkLost)
-        | (Next::Failed(Failure::BadAnswer), Says::BadAnswer) => !is_busy,
+        | (Next::Failed(Failure::BadAnswer), Says::BadAnswer) => !reader.busy(),
         _ => false,
     }
 }
@@ -187,9 +193,10 @@ const EXCHANGES: &[&[Row]] = &[
 /// The end is told this, and says that.
 fn check(rt: &impl Abort, reader: &mut ReaderEnd, row: Row) {
     let (event, told, says, bytes) = row;
-    let next = tell(rt, reader, event, told);
+    let mut block = BlockBytes::new();
+    let next = tell(rt, reader, event, told, &mut block);
     assert!(rt;
-        is_said(&next, reader.busy(), says, bytes),
+        is_said(next, reader, &block, says, bytes),
         "when told {told:?}"
     );
 }
@@ -208,8 +215,9 @@ fn reader_end_has_its_commands_answered(rt: HostRuntime) {
 #[test]
 fn longest_command_goes_in_a_chain(rt: HostRuntime) {
     let mut reader = ReaderEnd::new();
-    let begins = match reader.send(&[0xAA; 261]) {
-        Next::Send(block) => block.as_slice().len() == 258
+    let mut block = BlockBytes::new();
+    let begins = match reader.send(&[0xAA; 261], &mut block) {
+        Next::Send => block.as_slice().len() == 258
             && block.as_slice().starts_with(&[0x00, 0x20, 0xFE]),
         _ => false,
     };

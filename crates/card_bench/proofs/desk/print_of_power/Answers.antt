@@ -5,4 +5,4 @@ use Rattle.card_bench.specs.Plays.{powered_item}
 use Rattle.card_bench.proofs.desk.print_of_power.Goals as goal
 
 pub returns-in-Started : goal.returns-in-Started
-returns-in-Started c = λ bytes. sym (ap (λ (p : PowerOn). shown (powered_item p)) c.in-Started.is)
+returns-in-Started c = λ held. sym (ap (λ (p : PowerOn). shown (powered_item p)) c.in-Started.is)

@@ -1,6 +1,7 @@
 use Rattle.std.proofs.Common.{◌≡◌, ◌+◌, ◌-◌, ℕ, List, Some, None, IfSome, Err, take, subst, sym, ◌∙◌, ap, arith}
 use Rattle.std.specs.Io.KnownBytes.{Appends}
 use Rattle.card_bench.specs.declared.reading.LineFault.TheVariants.{Read, TooLong, TooMuch}
+use Rattle.card_bench.specs.DeskViews.{bytes_of}
 use Rattle.card_bench.specs.Endings.{IsRunToLine}
 use Rattle.card_bench.specs.Orders.{order_of}
 use Rattle.card_bench.specs.Printouts.{print_of, text_of}
@@ -59,7 +60,7 @@ returns-in_default-print-clause-stopped g c =
     let printed = c.perform-printed.result in
     let before = g.W.Write.contents c.loop-number.writer in
     let after = g.W.Write.contents c.print.new.writer in
-    let bytes = c.perform-printed.new.self.bytes.items in
+    let bytes = bytes_of printed c.perform-printed.new.self in
     let began : (size : ℕ) × Appends before after (take size (text_of (print_of printed bytes))) =
     subst (λ (l : List ℕ). (size : ℕ) × Appends before after (take size (text_of (print_of printed l))))
     c.bytes.ensures.bytes c.in_default-print.ensures.began in
@@ -81,7 +82,7 @@ returns-in-EndOfScript-clause-done g c =
     let printed = c.perform-printed.result in
     let before = g.W.Write.contents c.loop-number.writer in
     let after = g.W.Write.contents c.print.new.writer in
-    let bytes = c.perform-printed.new.self.bytes.items in
+    let bytes = bytes_of printed c.perform-printed.new.self in
     let wrote : Appends before after (text_of (print_of printed bytes)) =
     subst (λ (l : List ℕ). Appends before after (text_of (print_of printed l))) c.bytes.ensures.bytes c.in-Ok-print.ensures.wrote in
     is_done _ old new _ _ _ _ _ _ _ _ _ _ _ c.loop-number.invariant.so_far
@@ -102,11 +103,11 @@ loop-number-preserved g c =
     let printed = c.perform-printed.result in
     let before = g.W.Write.contents c.loop-number.writer in
     let after = g.W.Write.contents c.print.new.writer in
-    let bytes = c.perform-printed.new.self.bytes.items in
+    let bytes = bytes_of printed c.perform-printed.new.self in
     let wrote : Appends before after (text_of (print_of printed bytes)) =
     subst (λ (l : List ℕ). Appends before after (text_of (print_of printed l))) c.bytes.ensures.bytes c.in-Ok-print.ensures.wrote in
     let held = g.W.Write.contents c.args.writer.now in
-    let desk = c.perform-printed.new.self in
+    let desk = c.perform-printed.new.self.desk in
     record {
       taken = c.read_line.ensures.taken;
       turns =
@@ -115,7 +116,7 @@ loop-number-preserved g c =
           omega (arith, fed, turns);
       good = c.perform-printed.ensures.good;
       so_far = subst (λ (n : ℕ). HasRun first new n c.read_line.new.taken
-          (record { bench = desk.bench; reader = desk.reader; line = desk.line }) held after) number
+          desk held after) number
           (goes_on first old new _ _ _ _ _ _ _ _ _ _ _ c.loop-number.invariant.so_far
           (subst (TakesLine old new c.read_line.new.line.items) c.in-LineFeed.is c.in-Ok.ensures.line)
           c.in-Ok.ensures.counted good c.perform-printed.ensures.performs c.perform-printed.ensures.good wrote);

@@ -8,8 +8,7 @@ abbrev pub invariant-loop-number : goal.invariant-loop-number
 invariant-loop-number g l = record {
   taken : l.taken ≤ SCRIPT_LIMIT;
   turns : l.number ≤ l.taken + 1;
-  good : IsGood l.desk.bench;
+  good : IsGood l.desk.desk.bench;
   so_far : HasRun (g.R.Read.remaining l.initial.reader) (g.R.Read.remaining l.reader) (l.number - 1) l.taken
-      (record { bench = l.desk.bench; reader = l.desk.reader; line = l.desk.line })
-      (g.W.Write.contents l.initial.writer) (g.W.Write.contents l.writer);
+      l.desk.desk (g.W.Write.contents l.initial.writer) (g.W.Write.contents l.writer);
 }
