@@ -74,7 +74,8 @@ module _ (old mid new : Memory) (ready : IsReady old) (words : IsCard (committed
     }
 
     abbrev put : List (List ℕ)
-    put = appended_in (wraps_room room) (ring_room room).capacity (cyclic_records (committed mid) (ring_room room)) bytes
+    put = appended_in (wraps_room room) (ring_room room).capacity (cyclic_records (committed mid) (ring_room room))
+        bytes
 
     put-are : put ≡ records
     put-are =
@@ -83,20 +84,25 @@ module _ (old mid new : Memory) (ready : IsReady old) (words : IsCard (committed
         let words_same = same in
         λ i. appended_in (wraps i) (ring i).capacity (cyclic_records (words_same i) (ring i)) bytes
 
-    module _ (any_exit : (committed new ≡ committed mid) ⊎ RingBecomes (wraps_room room) (committed mid) (ring_room room)
+    module _ (any_exit : (committed new ≡ committed mid) ⊎ RingBecomes (wraps_room room) (committed mid) (ring_room
+        room)
         put (committed new)) (by_gate : CommitsByGate mid new) (told : Option StoreErr)
         (changes : Changes RECORD_WRITES mid new told) where
       pub appended-torn : (r : Result Sw StoreErr) (error : StoreErr) → IsErrAnd r (λ f. f ≡ error) → told ≡ Some error
           → Serves (append_record target bytes) old x new x [] r
       appended-torn =
-          records-torn old mid new ready words x current target need file _ records puts reads (wraps_room room) found.wraps_is
+          records-torn old mid new ready words x current target need file _ records puts reads (wraps_room room)
+          found.wraps_is
           (ring_room room) found.ring_is put put-are any_exit by_gate told changes [] (omega arith)
 
-      pub appended-done : RingBecomes (wraps_room room) (committed mid) (ring_room room) put (committed new) → IsReady new
+      pub appended-done : RingBecomes (wraps_room room) (committed mid) (ring_room room) put (committed new) →
+          IsReady new
           → (number : ℕ) → number ≡ number_added_in file
-          → Serves (append_record target bytes) old x new (pointing_from x target file.number (Some number)) [] (Ok DONE)
+          → Serves (append_record target bytes) old x new (pointing_from x target file.number (Some number)) [] (Ok
+          DONE)
       appended-done becomes ready_now number number_is =
-          subst (λ (k : ℕ). Serves (append_record target bytes) old x new (pointing_from x target file.number (Some k)) []
+          subst (λ (k : ℕ). Serves (append_record target bytes) old x new (pointing_from x target file.number (Some
+          k)) []
           (Ok DONE)) (sym number_is)
           (records-made old mid new ready words x current target need file _ records puts reads (wraps_room room)
           found.wraps_is (ring_room room) found.ring_is put put-are any_exit by_gate told changes becomes ready_now

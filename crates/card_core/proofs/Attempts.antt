@@ -422,7 +422,8 @@ module _ (request : Request) (a : Attempt) (asks : IsAttempt request a) (old : M
           written request old x e (counts-end charge end done) (y end) [] (end_of_attempt end) stage-end
           (exit-card e (ended-size e exit) pages law-end)
           reports ready (current-end end)
-          (λ _. places_same _ _ (exit-table e (ended-size e exit) pages law-end)) (omega arith) writes went-end compares-end (step-end end done)
+          (λ _. places_same _ _ (exit-table e (ended-size e exit) pages law-end)) (omega arith) writes went-end
+          compares-end (step-end end done)
 
 -- The exits as the calls tell them: of so many writes after the charge.
 module _ (request : Request) (a : Attempt) (asks : IsAttempt request a) (n : ℕ) (most : most_writes request ≡ 1 + n)

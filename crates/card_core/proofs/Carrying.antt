@@ -80,7 +80,8 @@ module _ (request : Request) (old mid new : Memory) (x y : Current) (text : List
             (reads-compared old mid reads)
             (subst (λ (l : List ℕ). ComparesBy request (card_of l) (comparisons mid.facts) (card_in new) (comparisons
             new.facts)) same serves.compares);
-        places = on_ok_weaker result (λ keeps stays. subst (λ (l : List ℕ). KeepsPlaces (table l) (table (committed new)))
+        places = on_ok_weaker result (λ keeps stays. subst (λ (l : List ℕ). KeepsPlaces (table l) (table (committed
+            new)))
             same (keeps stays)) serves.places;
         counted = subst (λ (l : List ℕ). OnOk result (CountsServed (card_of l) (session_of (table l) x) request
             old.facts new.facts)) same

@@ -110,27 +110,32 @@ module _ (old mid new : Memory) (ready : IsReady old) (words : IsCard (committed
         let new_is = bytes_are ∙ found.sum_is in
         λ i. front (length (cyclic_records (words_same i) (ring i))) (new_is i) (cyclic_records (words_same i) (ring i))
 
-    module _ (any_exit : (committed new ≡ committed mid) ⊎ CyclicBecomes (committed mid) newest.ring put (committed new))
+    module _ (any_exit : (committed new ≡ committed mid) ⊎ CyclicBecomes (committed mid) newest.ring put (committed
+        new))
         (by_gate : CommitsByGate mid new) (told : Option StoreErr) (changes : Changes RECORD_WRITES mid new told) where
       pub increased-torn : (text : List ℕ) → text ≡ [] → (r : Result Sw StoreErr) (error : StoreErr)
           → IsErrAnd r (λ f. f ≡ error) → told ≡ Some error → Serves (increase sent expected) old x new x text r
       increased-torn text empty =
           let none_yet : length text ≡ 0 = ap (λ (l : List ℕ). length l) empty in
-          records-torn old mid new ready words x current target.Current need file _ records puts reads true wraps newest.ring
+          records-torn old mid new ready words x current target.Current need file _ records puts reads true wraps
+          newest.ring
           found.ring_is put put-are any_exit by_gate told changes text (omega (arith, none_yet))
 
       pub increased-done : CyclicBecomes (committed mid) newest.ring put (committed new) → IsReady new → (text : List ℕ)
           → text ≡ given expected (sum ++ sent) → length text ≤ 256
-          → Serves (increase sent expected) old x new (pointing_from x target.Current file.number (Some 1)) text (Ok DONE)
+          → Serves (increase sent expected) old x new (pointing_from x target.Current file.number (Some 1)) text (Ok
+          DONE)
       increased-done becomes ready_now text text_is room =
           let effect_is = increase-effect m sized words x _ file found.named sent expected found.named.named.unrefused
           ∙ ap (λ (t : List ℕ). outcome (with_records_at (card_in old) (target_path (card_in old) (session_in old x)
           target.Current) records) (pointing (session_in old x) target.Current (target_path (card_in old)
           (session_in old x) target.Current) (Some 1)) t DONE) (sym (text_is ∙ ap (given expected) answer-is)) in
-          records-made old mid new ready words x current target.Current need file _ records puts reads true wraps newest.ring
+          records-made old mid new ready words x current target.Current need file _ records puts reads true wraps
+          newest.ring
           found.ring_is put put-are any_exit by_gate told changes becomes ready_now (Some 1) text room effect_is
 
       pub increased-space : CyclicBecomes (committed mid) newest.ring put (committed new) → space_in new ≡ space_in old
       increased-space =
-          records-space old mid new ready words x current target.Current need file _ records puts reads true wraps newest.ring
+          records-space old mid new ready words x current target.Current need file _ records puts reads true wraps
+          newest.ring
           found.ring_is put put-are any_exit by_gate told changes

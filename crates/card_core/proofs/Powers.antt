@@ -147,7 +147,8 @@ starts-kept opened last free found is sound card reads =
     let stands = subst IsCard same told.0 in (
       record { journal = reads.only.reports.sound sound; words = stands },
       record {
-        ready = subst (λ (r : Result (Option Survey) StoreErr). UnlessFailed (result_err r) (IsReady last)) is reads.ready;
+        ready = subst (λ (r : Result (Option Survey) StoreErr). UnlessFailed (result_err r) (IsReady last)) is
+            reads.ready;
         card = stands;
         current = record { df = stands.tree.entries.master.kind; ef = tt; marks = refl };
       },

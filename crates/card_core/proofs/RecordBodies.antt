@@ -81,7 +81,11 @@ module _ (m : List ℕ) (sized : length m ≡ WORDS) (words : IsCard m) (e : ℕ
 
   module _ (of_records : (x.kind ≡ 3) ⊎ (x.kind ≡ 4)) where
     pub rules : IsRecordBody x
-    rules = ((words.tree.entries.each e free_entry (let l = length-table m in let lt = below in omega (arith, l, lt))).used
+    rules = ((words.tree.entries.each e free_entry (let l = length-table m in let lt = below in omega (
+      arith,
+      l,
+      lt,
+    ))).used
         used).body.records of_records
 
     pub high : 2 ≤ x.kind
@@ -143,7 +147,8 @@ module _ (m : List ℕ) (sized : length m ≡ WORDS) (words : IsCard m) (e : ℕ
         let most = rules.records in
         let few : number_told m ring.told_at ≤ ring.capacity = omega (arith, number, most) in
         (λ i. in_order x.record_length (bytes i) (number i))
-        ∙ sym (in_order-ring ring.record_length ring.capacity (chain_bytes m ring.chain) (number_told m ring.told_at) few)
+        ∙ sym (in_order-ring ring.record_length ring.capacity (chain_bytes m ring.chain) (number_told m ring.told_at)
+        few)
         ∙ ap (λ (s : ℕ). newest_first ring.record_length ring.capacity (chain_bytes m ring.chain) s (number_told m
         ring.told_at)) (sym zero)
 
@@ -159,10 +164,12 @@ module _ (m : List ℕ) (sized : length m ≡ WORDS) (words : IsCard m) (e : ℕ
         (body_with (x.kind == 4) x.record_length (capacity_of x) records)
     kind-told = ⊎_elim
         (λ (three : x.kind ≡ 3).
-        by-entry 3 three ∙ ap (λ (rs : List (List ℕ)). kind_by 3 (linear x.record_length (capacity_of x) rs)) (linear-records three)
+        by-entry 3 three ∙ ap (λ (rs : List (List ℕ)). kind_by 3 (linear x.record_length (capacity_of x) rs))
+        (linear-records three)
         ∙ ap (λ (k : ℕ). kind_by 3 (body_with (k == 4) x.record_length (capacity_of x) records)) (sym three))
         (λ (four : x.kind ≡ 4).
-        by-entry 4 four ∙ ap (λ (rs : List (List ℕ)). kind_by 4 (cyclic x.record_length (capacity_of x) rs)) ring-records
+        by-entry 4 four ∙ ap (λ (rs : List (List ℕ)). kind_by 4 (cyclic x.record_length (capacity_of x) rs))
+        ring-records
         ∙ ap (λ (k : ℕ). kind_by 4 (body_with (k == 4) x.record_length (capacity_of x) records)) (sym four))
         of_records
 

@@ -213,7 +213,8 @@ module _ (m after : List ℕ) (e : ℕ) (sized : length m ≡ WORDS) (words : Is
       let own = entry-after in
       places_but (table m) (table after) e (ap (λ (y : Entry). y.kind) own) (ap (λ (y : Entry). y.parent) own)
       (ap (λ (y : Entry). y.identifier) own)
-      (λ f differs. ap (λ (t : List Entry). entry_in t f) table-after ∙ others m e w sized words.tree used entry f differs)
+      (λ f differs. ap (λ (t : List Entry). entry_in t f) table-after ∙ others m e w sized words.tree used entry f
+      differs)
 
   -- where its kind is that with these records, the card is that with them
   pub card-after : (records : List (List ℕ)) → (file_in after e).kind ≡ with_records (file_in m e).kind records
@@ -282,7 +283,8 @@ module _ (m after : List ℕ) (e : ℕ) (sized : length m ≡ WORDS) (words : Is
   kind_of l y = elementary (if y.short == 0 then None else Some y.short)
       (body_with (y.kind == 4) y.record_length (capacity_of y) (cyclic_records l (ring_in e y)))
 
-  ring-become : length records ≤ ring.capacity → Becomes m ring (entry_m.kind == 4) records after → Records m e records after
+  ring-become : length records ≤ ring.capacity → Becomes m ring (entry_m.kind == 4) records after → Records m e
+      records after
   ring-become few made =
       let count = length-newest_first ring.record_length ring.capacity (chain_bytes after ring.chain)
       (start_told after ring.told_at) (number_told after ring.told_at) in
@@ -296,7 +298,8 @@ module _ (m after : List ℕ) (e : ℕ) (sized : length m ≡ WORDS) (words : Is
       let sized_after : length after ≡ WORDS = made.only.size ∙ sized in
       let kind : (entry_in (table after) e).kind ≡ entry_m.kind = ap (λ (y : Entry). y.kind) own in
       let of_after : ((entry_in (table after) e).kind ≡ 3) ⊎ ((entry_in (table after) e).kind ≡ 4) =
-      ⊎_elim (λ (three : entry_m.kind ≡ 3). inl (kind ∙ three)) (λ (four : entry_m.kind ≡ 4). inr (kind ∙ four)) of_records in
+      ⊎_elim (λ (three : entry_m.kind ≡ 3). inl (kind ∙ three)) (λ (four : entry_m.kind ≡ 4). inr (kind ∙ four))
+      of_records in
       let used_after : IsUsed (table after) e = λ none. used (sym kind ∙ none) in
       let short = if entry_m.short == 0 then None else Some entry_m.short in
       let kind_is : (file_in after e).kind ≡ with_records (file_in m e).kind records =
@@ -318,4 +321,5 @@ module _ (m after : List ℕ) (e : ℕ) (sized : length m ≡ WORDS) (words : Is
   pub records-become : length records ≤ ring.capacity → RingBecomes (entry_m.kind == 4) m ring records after
       → Records m e records after
   records-become few becomes =
-      ring-become few (of-ring m ring (entry_m.kind == 4) records after (ring-stands m sized words e used of_records) becomes)
+      ring-become few (of-ring m ring (entry_m.kind == 4) records after (ring-stands m sized words e used of_records)
+      becomes)

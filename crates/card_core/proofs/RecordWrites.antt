@@ -70,7 +70,8 @@ pub record PutsRecords (old : Memory) (x : Current) (target : Target) (need : Ne
 module _ (old mid new : Memory) (ready : IsReady old) (words : IsCard (committed old)) (x : Current)
     (current : IsCurrent (table_in old) x) (target : Target) (need : Need) (file : RecordFile)
     (request : Request) (records : List (List ℕ)) (puts : PutsRecords old x target need file request records)
-    (reads : OnlyReads old mid) (wraps : Bool) (wraps_is : wraps ≡ file.wraps) (ring : Ring) (ring_is : ring ≡ file.ring)
+    (reads : OnlyReads old mid) (wraps : Bool) (wraps_is : wraps ≡ file.wraps) (ring : Ring) (ring_is : ring ≡
+    file.ring)
     (put : List (List ℕ)) (put_are : put ≡ records)
     (any_exit : (committed new ≡ committed mid) ⊎ RingBecomes wraps (committed mid) ring put (committed new))
     (by_gate : CommitsByGate mid new) (told : Option StoreErr) (changes : Changes RECORD_WRITES mid new told) where
@@ -159,7 +160,8 @@ module _ (old mid new : Memory) (ready : IsReady old) (words : IsCard (committed
       let session = session-is m sized words x target need file puts.found pointer ∙ sym (these.session y) in
       written request old x new (counts-none request c s old.facts new.facts puts.unshown) y text DONE stage stands
       all.reports ready_now
-      (these.current y (current-is m sized words x target need file puts.found current pointer)) (λ _. these.places) room costs went compares
+      (these.current y (current-is m sized words x target need file puts.found current pointer)) (λ _. these.places)
+      room costs went compares
       (served-done c s request puts.none ∙ effect_is ∙ (λ i. outcome (card i) (session i) text DONE))
 
   pub records-space : Becomes → space_in new ≡ space_in old
@@ -298,7 +300,8 @@ module _ (m : List ℕ) (sized : length m ≡ WORDS) (words : IsCard m) (x : Cur
         → refused_by (refusals_of cm sm (update_record target choice bytes)) ≡ None
     update-free has long = update-is ∙ (λ i. update_verdict (has i) (long i))
 
-    records-are : updated_records kind (target_number cm sm target choice) bytes ≡ replaced_in file.wraps held replaced bytes
+    records-are : updated_records kind (target_number cm sm target choice) bytes ≡ replaced_in file.wraps held
+        replaced bytes
     records-are =
         let order = agrees.order in
         let records = agrees.records in
@@ -322,7 +325,8 @@ module _ (m : List ℕ) (sized : length m ≡ WORDS) (words : IsCard m) (x : Cur
         let rs = records-are in
         (λ i. outcome (with_records_at cm (target_path cm sm target) (rs i))
         (pointing sm target (target_path cm sm target) (if order i then Some 1 else pointer_after (p i) choice (n i))) [] DONE)
-        ∙ ap (λ (o : Option ℕ). outcome (with_records_at cm (target_path cm sm target) (replaced_in file.wraps held replaced bytes))
+        ∙ ap (λ (o : Option ℕ). outcome (with_records_at cm (target_path cm sm target) (replaced_in file.wraps held
+        replaced bytes))
         (pointing sm target (target_path cm sm target) o) [] DONE)
         (pointer-by (file.wraps) (pointer_from x target) choice _)
 

@@ -140,7 +140,8 @@ module _ (m : List ℕ) (sized : length m ≡ WORDS) (words : IsCard m) (x : Cur
       by_target (Short n) = refl
 
   -- the record that is chosen
-  pub chosen-is : (choice : RecordChoice) → target_number c s target choice ≡ chosen_in file (pointer_from x target) choice
+  pub chosen-is : (choice : RecordChoice) → target_number c s target choice ≡ chosen_in file (pointer_from x target)
+      choice
   chosen-is Next =
       let pointer = pointer-is in
       let order = agree.order in
@@ -170,7 +171,8 @@ module _ (m : List ℕ) (sized : length m ≡ WORDS) (words : IsCard m) (x : Cur
         → refused_by (choice_refusals c s target choice) ≡ Some status
     record-gone choice status gone =
         guarded-free c s target has_records Read unrefused (no_record c s target (target_number c s target choice) ∷ [])
-        ∙ ap (λ (n : ℕ). if not (has_record (records_of kind) n) then Some RECORD_NOT_FOUND else None) (chosen-is choice)
+        ∙ ap (λ (n : ℕ). if not (has_record (records_of kind) n) then Some RECORD_NOT_FOUND else None) (chosen-is
+        choice)
         ∙ gone-status (has_record (records_of kind) (chosen_in file (pointer_from x target) choice)) status gone
 
     -- READ RECORD
@@ -191,7 +193,8 @@ module _ (m : List ℕ) (sized : length m ≡ WORDS) (words : IsCard m) (x : Cur
       text-is : record_of (records_of kind) (target_number c s target choice) ≡ text
       text-is = let records = agree.records in let n = chosen-is choice in λ i. record_of (records i) (n i)
 
-      read-is : refused_by (refusals_of c s (read_record target choice expected)) ≡ read_verdict (has_in file.ring number) text
+      read-is : refused_by (refusals_of c s (read_record target choice expected)) ≡ read_verdict (has_in file.ring
+          number) text
       unfolding refusals_of
       read-is =
           let has : has_record (records_of kind) (target_number c s target choice) ≡ has_in file.ring number =

@@ -108,7 +108,8 @@ module _ (request : Request) (old : Memory) (x : Current) (new : Memory) where
         advances = (went-reads request old x new reads).0;
         stands = (went-reads request old x new reads).1;
         compares = reads-nothing reads;
-        places = λ _. places_same (table_in old) (table_in new) (ap (λ (l : List ℕ). table l) reads.keeps.committed_words);
+        places = λ _. places_same (table_in old) (table_in new) (ap (λ (l : List ℕ). table l)
+            reads.keeps.committed_words);
         counted = counted;
       }
 

@@ -92,8 +92,10 @@ module _ (old mid new : Memory) (ready : IsReady old) (words : IsCard (committed
     put-are : put ≡ records
     put-are = λ i. replaced_in file.wraps (cyclic_records (same i) (found.ring_is i)) (found.number_is i) bytes
 
-    module _ (any_exit : (committed new ≡ committed mid) ⊎ RingBecomes file.wraps (committed mid) slot.ring put (committed
-        new)) (by_gate : CommitsByGate mid new) (told : Option StoreErr) (changes : Changes RECORD_WRITES mid new told) where
+    module _ (any_exit : (committed new ≡ committed mid) ⊎ RingBecomes file.wraps (committed mid) slot.ring put
+        (committed
+        new)) (by_gate : CommitsByGate mid new) (told : Option StoreErr) (changes : Changes RECORD_WRITES mid new
+        told) where
       pub replaced-torn : (r : Result Sw StoreErr) (error : StoreErr) → IsErrAnd r (λ f. f ≡ error) → told ≡ Some error
           → Serves (update_record target choice bytes) old x new x [] r
       replaced-torn =
@@ -103,18 +105,23 @@ module _ (old mid new : Memory) (ready : IsReady old) (words : IsCard (committed
       pub replaced-done : RingBecomes file.wraps (committed mid) slot.ring put (committed new) → IsReady new
           → (pointer : Option ℕ)
           → pointer ≡ (if file.wraps then Some 1 else pointer_after (pointer_from x target) choice slot.number)
-          → Serves (update_record target choice bytes) old x new (pointing_from x target file.number pointer) [] (Ok DONE)
+          → Serves (update_record target choice bytes) old x new (pointing_from x target file.number pointer) [] (Ok
+          DONE)
       replaced-done becomes ready_now pointer pointer_is =
           let after = if file.wraps then Some 1 else pointer_after (pointer_from x target) choice k in
           let is : pointer ≡ after = pointer_is ∙ (λ i. if file.wraps then Some 1 else pointer_after (pointer_from x
           target) choice (found.number_is i)) in
-          subst (λ (p : Option ℕ). Serves (update_record target choice bytes) old x new (pointing_from x target file.number
+          subst (λ (p : Option ℕ). Serves (update_record target choice bytes) old x new (pointing_from x target
+          file.number
           p) [] (Ok DONE)) (sym is)
-          (records-made old mid new ready words x current target need file _ records puts reads file.wraps refl slot.ring
+          (records-made old mid new ready words x current target need file _ records puts reads file.wraps refl
+          slot.ring
           found.ring_is put put-are any_exit by_gate told changes becomes ready_now after [] (omega arith)
           (update-effect m sized words x target _ file found.named bytes choice free))
 
-      pub replaced-space : RingBecomes file.wraps (committed mid) slot.ring put (committed new) → space_in new ≡ space_in old
+      pub replaced-space : RingBecomes file.wraps (committed mid) slot.ring put (committed new) → space_in new ≡
+          space_in old
       replaced-space =
-          records-space old mid new ready words x current target need file _ records puts reads file.wraps refl slot.ring
+          records-space old mid new ready words x current target need file _ records puts reads file.wraps refl
+          slot.ring
           found.ring_is put put-are any_exit by_gate told changes

@@ -4,7 +4,8 @@ use Rattle.file_tree.specs.Indexes.{IsIndex}
 use Rattle.card_core.specs.declared.lent.Lent.{Lent}
 use Rattle.card_core.specs.Working.{space_in, table_in, IsKept}
 
--- Its memory and its current files are kept, its counts are those of its free space, and its index is that of its files.
+-- Its memory and its current files are kept, its counts are those of its free space, and its index is that of its
+-- files.
 pub record IsWhole {B : Type 0} (lent : Lent B) : Type 0 where
   pub kept : IsKept lent.store lent.current
   pub space : lent.free ≡ space_in lent.store

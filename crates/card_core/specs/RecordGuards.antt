@@ -50,12 +50,14 @@ pub record IsAppendable (m : List ℕ) (x : Current) (target : Target) (bytes : 
   pub unfilled : is_full_in file ≡ false
   pub long : length bytes ≡ file.ring.record_length
 
--- a file that INCREASE adds the sent number to: the number isn't too long, there is a sum, which is this, and it answers enough
+-- a file that INCREASE adds the sent number to: the number isn't too long, there is a sum, which is this, and it
+-- answers enough
 pub record IsIncreasable (m : List ℕ) (x : Current) (sent : List ℕ) (expected : Option ℕ) (file : RecordFile)
     (newest : RecordSlot) (sum : List ℕ) : Type 0 where
   pub named : IsRecordFile m x target.Current (record { structure = Cyclic; bit = Update }) file
   pub ring_is : newest.ring ≡ file.ring
-  pub short : (nat_lt file.ring.record_length (length sent) || nat_lt 256 (file.ring.record_length + length sent)) ≡ false
+  pub short : (nat_lt file.ring.record_length (length sent) || nat_lt 256 (file.ring.record_length + length sent)) ≡
+      false
   pub raises : unraised file.ring.record_length (cyclic_records m file.ring) sent ≡ None
   pub sum_is : sum ≡ spelled file.ring.record_length (raised_number (cyclic_records m file.ring) sent)
   pub enough : asks_less expected (sum ++ sent) ≡ false

@@ -24,8 +24,8 @@ use block_chain::HEADER_PAGE;
 use file_tree::STATE_WORD;
 use undo_journal::{Board, PAGE_WORDS, Store, StoreErr};
 
-/// Carries out the bytes of a command: the data goes into `answer`, free space and index are kept, and the status word is the result.
-/// What the form of the command calls for comes first, and then whether the use of the card has ended.
+/// Carries out the bytes of a command: the data goes into `answer`, free space and index are kept, and the status word
+/// is the result. What the form of the command calls for comes first, and then whether the use of the card has ended.
 pub(crate) fn carry_out<B: Board>(
     lent: &mut Lent<B>,
     command: &[u8],

@@ -30,8 +30,8 @@ const INCREASING: Need = Need {
     bit: AccessBit::Update,
 };
 
-/// INCREASE: the sum of the newest record of the current cyclic file and the sent number is the new record 1, which is the
-/// current one then. The new record, and then what was sent, go into `answer`, and the status word is the result.
+/// INCREASE: the sum of the newest record of the current cyclic file and the sent number is the new record 1, which is
+/// the current one then. The new record, and then what was sent, go into `answer`, and the status word is the result.
 pub(crate) fn increase<B: Board>(
     store: &mut Store<B>,
     current: &mut Current,
@@ -56,8 +56,9 @@ pub(crate) fn increase<B: Board>(
     Ok(Sw::DONE)
 }
 
-/// The newest record of the file that INCREASE is for, and the new one, put into `sum`; or else the refusal: by the current
-/// file; the sent number is too long; there is no record; the sum is too long; Le asks for less than the answer.
+/// The newest record of the file that INCREASE is for, and the new one, put into `sum`; or else the refusal: by the
+/// current file; the sent number is too long; there is no record; the sum is too long; Le asks for less than the
+/// answer.
 fn find_increased<B: Board>(
     store: &mut Store<B>,
     current: &Current,
@@ -68,7 +69,8 @@ fn find_increased<B: Board>(
     requires kept { IsKept store.old current.now }
     requires few { length amount.now ≤ 255 }
     ensures found { IfOk result (λ answer. MatchResult answer
-        (λ found. IsIncreasable (committed store.old) current.now amount.now expected found.file found.slot sum.new.items)
+        (λ found. IsIncreasable (committed store.old) current.now amount.now expected found.file found.slot
+        sum.new.items)
         (λ refusal. refused_by (refusals_of (card_in store.old) (session_in store.old current.now)
         (increasing amount.now expected)) ≡ Some refusal)) }
     ensures store { Reads store.old store.new (result_err result) }
@@ -91,8 +93,8 @@ fn find_increased<B: Board>(
     Ok(Ok(FileRecord { file, slot }))
 }
 
-/// Looks for the newest record of a ring, and puts that record raised by the sent number into `sum`, or answers what refuses
-/// it.
+/// Looks for the newest record of a ring, and puts that record raised by the sent number into `sum`, or answers what
+/// refuses it.
 fn raise<B: Board>(
     ring: Cyclic,
     store: &mut Store<B>,

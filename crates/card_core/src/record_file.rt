@@ -19,8 +19,8 @@ use ef_body::{Cyclic, FreeSlot, Linear, RecordSlot};
 use file_tree::{Entry, FIRST_ENTRY_PAGE, RECORDS_WORD, kinds};
 use undo_journal::{Board, PAGE_WORDS, Store, StoreErr};
 
-/// An elementary file of records: the number of its entry, its records as they lie in a ring, and whether the last one is
-/// followed by the first, as in a cyclic file. In a linear one record 1 lies in slot 0.
+/// An elementary file of records: the number of its entry, its records as they lie in a ring, and whether the last one
+/// is followed by the first, as in a cyclic file. In a linear one record 1 lies in slot 0.
 #[derive(Clone, Copy)]
 pub(crate) struct RecordFile {
     pub number: u8,
@@ -81,7 +81,8 @@ impl RecordFile {
         }
     }
 
-    /// The number of the record whose place is taken: of a cyclic file 1, the record in front of which the new one comes.
+    /// The number of the record whose place is taken: of a cyclic file 1, the record in front of which the new one
+    /// comes.
     pub fn replaced(self, pointer: Option<u8>, choice: RecordChoice) -> u16
         ensures { result ≡ number_replaced_in self pointer choice }
     {
@@ -222,7 +223,8 @@ fn next_record(wraps: bool, last: u16, pointer: Option<u8>) -> u16
     }
 }
 
-/// The record before the pointer, where it is unset the last; before the first one of a cyclic file the last. 0 is none.
+/// The record before the pointer, where it is unset the last; before the first one of a cyclic file the last. 0 is
+/// none.
 fn previous_record(wraps: bool, last: u16, pointer: Option<u8>) -> u16
     ensures { result ≡ previous_record wraps last pointer }
 {

@@ -91,7 +91,8 @@ pub(crate) fn find_records<B: Board>(
     Ok(Ok(RecordFile::of(file.number, &file.entry)))
 }
 
-/// The record that READ RECORD reads, or SEARCH RECORD begins with, or else the refusal: by the file; there is no such record.
+/// The record that READ RECORD reads, or SEARCH RECORD begins with, or else the refusal: by the file; there is no such
+/// record.
 fn find_record<B: Board>(
     store: &mut Store<B>,
     current: &Current,
@@ -146,8 +147,8 @@ pub(crate) fn read_record<B: Board>(
     Ok(Sw::DONE)
 }
 
-/// UPDATE RECORD: the bytes take the place of a record, in one transaction. Of a cyclic file the oldest record alone can be
-/// replaced (mode previous), and the new one becomes record 1 and the current one.
+/// UPDATE RECORD: the bytes take the place of a record, in one transaction. Of a cyclic file the oldest record alone
+/// can be replaced (mode previous), and the new one becomes record 1 and the current one.
 pub(crate) fn update_record<B: Board>(
     store: &mut Store<B>,
     current: &mut Current,
@@ -186,7 +187,8 @@ fn find_replaced<B: Board>(
     requires kept { IsKept store.old current.now }
     requires target { IsTarget target }
     ensures found { IfOk result (λ answer. MatchResult answer
-        (λ replaced. IsReplaceable (committed store.old) current.now target choice bytes.now replaced.file replaced.slot)
+        (λ replaced. IsReplaceable (committed store.old) current.now target choice bytes.now replaced.file
+        replaced.slot)
         (λ refusal. refused_by (refusals_of (card_in store.old) (session_in store.old current.now)
         (updating target choice bytes.now)) ≡ Some refusal)) }
     ensures store { Reads store.old store.new (result_err result) }
@@ -206,8 +208,8 @@ fn find_replaced<B: Board>(
     Ok(Ok(FileRecord { file, slot }))
 }
 
-/// APPEND RECORD: the bytes are a new record, the last of a linear file, the first of a cyclic one, in one transaction. It
-/// becomes the current record.
+/// APPEND RECORD: the bytes are a new record, the last of a linear file, the first of a cyclic one, in one transaction.
+/// It becomes the current record.
 pub(crate) fn append_record<B: Board>(
     store: &mut Store<B>,
     current: &mut Current,
@@ -231,8 +233,8 @@ pub(crate) fn append_record<B: Board>(
     Ok(Sw::DONE)
 }
 
-/// The file that APPEND RECORD adds the bytes to, and where they go, or else the refusal: by the file; it is full; the bytes aren't as many
-/// as a record has.
+/// The file that APPEND RECORD adds the bytes to, and where they go, or else the refusal: by the file; it is full; the
+/// bytes aren't as many as a record has.
 fn find_appended<B: Board>(
     store: &mut Store<B>,
     current: &Current,
@@ -261,8 +263,8 @@ fn find_appended<B: Board>(
     Ok(Ok(Growing { file, room }))
 }
 
-/// SEARCH RECORD: the numbers of the records that hold the text go into `answer`, and the first of them becomes the current
-/// record. The status word is the result.
+/// SEARCH RECORD: the numbers of the records that hold the text go into `answer`, and the first of them becomes the
+/// current record. The status word is the result.
 pub(crate) fn search_record<B: Board>(
     store: &mut Store<B>,
     current: &mut Current,

@@ -10,7 +10,8 @@ use Rattle.card_core.proofs.check.survey_card.Goals as goal
 
 pub of-requires-clause-tree : goal.of-requires-clause-tree
 of-requires-clause-tree g c =
-    let told = subst (λ (o : Option FreeSpace). TellsCard (committed c.args.store.now) o) c.in-Some.is c.in_ok-free.ensures.card in
+    let told = subst (λ (o : Option FreeSpace). TellsCard (committed c.args.store.now) o) c.in-Some.is
+    c.in_ok-free.ensures.card in
     subst (λ (l : List ℕ). TreeStands l) (sym c.find_card.ensures.store.only.keeps.committed_words) told.0.tree
 
 pub returns-in_err-index-in-Some-clause-store : goal.returns-in_err-index-in-Some-clause-store
@@ -20,7 +21,8 @@ returns-in_err-index-in-Some-clause-store g c =
 
 pub returns-in_ok-index-in-Some-clause-card : goal.returns-in_ok-index-in-Some-clause-card
 returns-in_ok-index-in-Some-clause-card g c =
-    let told = subst (λ (o : Option FreeSpace). TellsCard (committed c.args.store.now) o) c.in-Some.is c.in_ok-free.ensures.card in (
+    let told = subst (λ (o : Option FreeSpace). TellsCard (committed c.args.store.now) o) c.in-Some.is
+    c.in_ok-free.ensures.card in (
       told.0,
       told.1,
       subst (λ (l : List ℕ). IsIndex (table l) c.in_ok-index-in-Some.index)
@@ -28,7 +30,8 @@ returns-in_ok-index-in-Some-clause-card g c =
     )
 
 pub returns-in_ok-index-in-Some-clause-store : goal.returns-in_ok-index-in-Some-clause-store
-returns-in_ok-index-in-Some-clause-store g c = reads_on _ _ _ _ c.find_card.ensures.store.only c.in_ok-index-in-Some.ensures.store
+returns-in_ok-index-in-Some-clause-store g c = reads_on _ _ _ _ c.find_card.ensures.store.only
+    c.in_ok-index-in-Some.ensures.store
 
 pub returns-in-None-clause-card : goal.returns-in-None-clause-card
 returns-in-None-clause-card g c =

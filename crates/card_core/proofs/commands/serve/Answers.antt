@@ -197,34 +197,42 @@ pub returns-in-ReadBinary-clause-index : goal.returns-in-ReadBinary-clause-index
 returns-in-ReadBinary-clause-index g c = index_left _ _ _ _ _ _ _ _ c.read_file.ensures refl c.requires.whole.index
 
 pub returns-in-UpdateBinary-clause-index : goal.returns-in-UpdateBinary-clause-index
-returns-in-UpdateBinary-clause-index g c = index_left _ _ _ _ _ _ _ _ c.update_file.ensures.serves refl c.requires.whole.index
+returns-in-UpdateBinary-clause-index g c = index_left _ _ _ _ _ _ _ _ c.update_file.ensures.serves refl
+    c.requires.whole.index
 
 pub returns-in-ReadRecord-clause-index : goal.returns-in-ReadRecord-clause-index
 returns-in-ReadRecord-clause-index g c = index_left _ _ _ _ _ _ _ _ c.read_record.ensures refl c.requires.whole.index
 
 pub returns-in-UpdateRecord-clause-index : goal.returns-in-UpdateRecord-clause-index
-returns-in-UpdateRecord-clause-index g c = index_left _ _ _ _ _ _ _ _ c.update_record.ensures.serves refl c.requires.whole.index
+returns-in-UpdateRecord-clause-index g c = index_left _ _ _ _ _ _ _ _ c.update_record.ensures.serves refl
+    c.requires.whole.index
 
 pub returns-in-AppendRecord-clause-index : goal.returns-in-AppendRecord-clause-index
-returns-in-AppendRecord-clause-index g c = index_left _ _ _ _ _ _ _ _ c.append_record.ensures.serves refl c.requires.whole.index
+returns-in-AppendRecord-clause-index g c = index_left _ _ _ _ _ _ _ _ c.append_record.ensures.serves refl
+    c.requires.whole.index
 
 pub returns-in-SearchRecord-clause-index : goal.returns-in-SearchRecord-clause-index
-returns-in-SearchRecord-clause-index g c = index_left _ _ _ _ _ _ _ _ c.search_record.ensures refl c.requires.whole.index
+returns-in-SearchRecord-clause-index g c = index_left _ _ _ _ _ _ _ _ c.search_record.ensures refl
+    c.requires.whole.index
 
 pub returns-in-Increase-clause-index : goal.returns-in-Increase-clause-index
 returns-in-Increase-clause-index g c = index_left _ _ _ _ _ _ _ _ c.increase.ensures.serves refl c.requires.whole.index
 
 pub returns-in-ChangeLifeCycle-clause-index : goal.returns-in-ChangeLifeCycle-clause-index
-returns-in-ChangeLifeCycle-clause-index g c = index_left _ _ _ _ _ _ _ _ c.change_life_cycle.ensures.serves refl c.requires.whole.index
+returns-in-ChangeLifeCycle-clause-index g c = index_left _ _ _ _ _ _ _ _ c.change_life_cycle.ensures.serves refl
+    c.requires.whole.index
 
 pub returns-in-TerminateCardUsage-clause-index : goal.returns-in-TerminateCardUsage-clause-index
-returns-in-TerminateCardUsage-clause-index g c = index_left _ _ _ _ _ _ _ _ c.terminate_card_usage.ensures refl c.requires.whole.index
+returns-in-TerminateCardUsage-clause-index g c = index_left _ _ _ _ _ _ _ _ c.terminate_card_usage.ensures refl
+    c.requires.whole.index
 
 pub returns-in-Verify-clause-index : goal.returns-in-Verify-clause-index
 returns-in-Verify-clause-index g c = index_left _ _ _ _ _ _ _ _ c.verify.ensures refl c.requires.whole.index
 
 pub returns-in-ChangeReferenceData-clause-index : goal.returns-in-ChangeReferenceData-clause-index
-returns-in-ChangeReferenceData-clause-index g c = index_left _ _ _ _ _ _ _ _ c.change_reference_data.ensures refl c.requires.whole.index
+returns-in-ChangeReferenceData-clause-index g c = index_left _ _ _ _ _ _ _ _ c.change_reference_data.ensures refl
+    c.requires.whole.index
 
 pub returns-in-ResetRetryCounter-clause-index : goal.returns-in-ResetRetryCounter-clause-index
-returns-in-ResetRetryCounter-clause-index g c = index_left _ _ _ _ _ _ _ _ c.reset_retry_counter.ensures refl c.requires.whole.index
+returns-in-ResetRetryCounter-clause-index g c = index_left _ _ _ _ _ _ _ _ c.reset_retry_counter.ensures refl
+    c.requires.whole.index

@@ -113,4 +113,5 @@ returns-in-Err-clause-index g c =
 
 pub returns-clause-index : goal.returns-clause-index
 returns-clause-index g c =
-    index_still c.create.new.store c.read_entry.new.store _ c.in_ok-entry-2.ensures.store.only c.in_ok-entry.ensures.index
+    index_still c.create.new.store c.read_entry.new.store _ c.in_ok-entry-2.ensures.store.only
+    c.in_ok-entry.ensures.index

@@ -33,7 +33,8 @@ pub raise-requires-clause-body : goal.raise-requires-clause-body
 raise-requires-clause-body g c =
     let found = said_ok _ _ c.in_ok-file.field-0 c.in-Ok.file c.in-Ok.is c.in_ok-file.ensures.found in
     subst (λ (l : List ℕ). IsCyclic l c.in-Ok.file.ring) (sym c.find_records.ensures.store.only.keeps.committed_words)
-    (agree (committed c.args.store.now) c.requires.kept.ready.usable.committed_size c.requires.kept.card c.args.current.now
+    (agree (committed c.args.store.now) c.requires.kept.ready.usable.committed_size c.requires.kept.card
+    c.args.current.now
     target.Current _ c.in-Ok.file found).stands
 
 pub raise-requires-clause-sent : goal.raise-requires-clause-sent
@@ -53,7 +54,8 @@ returns-in-Err-2-clause-found g c =
     c.args.current.now _ c.in-Ok.file found sent c.args.expected found.named.unrefused
     (sym c.is_too_long.ensures ∙ c.if-is_too_long.false) c.in-Err-2.refusal
     (ap (λ (l : List ℕ). unraised ring.record_length (cyclic_records l ring) sent)
-    (sym c.find_records.ensures.store.only.keeps.committed_words) ∙ c.in_ok-slot.ensures.refusal ∙ ap result_err c.in-Err-2.is)
+    (sym c.find_records.ensures.store.only.keeps.committed_words) ∙ c.in_ok-slot.ensures.refusal ∙ ap result_err
+    c.in-Err-2.is)
 
 pub returns-in-Err-2-clause-store : goal.returns-in-Err-2-clause-store
 returns-in-Err-2-clause-store g c =

@@ -14,7 +14,8 @@ use Rattle.card_core.proofs.records.append_record.Goals as goal
 pub returns-in_err-growing-clause-serves : goal.returns-in_err-growing-clause-serves
 returns-in_err-growing-clause-serves g c =
     handed (append_record c.args.target c.args.bytes.now) c.args.store.now c.args.current.now c.find_appended.new.store
-    c.requires.kept.card c.args.current.now [] _ _ c.from_residual.ensures.1 c.in_err-growing.ensures.store (omega arith)
+    c.requires.kept.card c.args.current.now [] _ _ c.from_residual.ensures.1 c.in_err-growing.ensures.store (omega
+    arith)
 
 pub returns-in-Err-clause-serves : goal.returns-in-Err-clause-serves
 returns-in-Err-clause-serves g c =
@@ -39,14 +40,16 @@ fill-requires-clause-body g c =
 pub fill-requires-clause-size : goal.fill-requires-clause-size
 fill-requires-clause-size g c =
     let found = said_ok _ _ c.in_ok-growing.field-0 c.in-Ok.growing c.in-Ok.is c.in_ok-growing.ensures.found in
-    appended-long c.args.store.now c.find_appended.new.store c.find_appended.new.store c.requires.kept.ready c.requires.kept.card
+    appended-long c.args.store.now c.find_appended.new.store c.find_appended.new.store c.requires.kept.ready
+    c.requires.kept.card
     c.args.current.now c.requires.kept.current c.find_appended.ensures.store.only _ _ _ _ found
 
 pub returns-in_err-fill-clause-serves : goal.returns-in_err-fill-clause-serves
 returns-in_err-fill-clause-serves g c =
     let found = said_ok _ _ c.in_ok-growing.field-0 c.in-Ok.growing c.in-Ok.is c.in_ok-growing.ensures.found in
     appended-torn c.args.store.now c.find_appended.new.store c.fill.new.store c.requires.kept.ready c.requires.kept.card
-    c.args.current.now c.requires.kept.current c.find_appended.ensures.store.only _ _ _ _ found c.fill.ensures.any_exit c.fill.ensures.by_gate _
+    c.args.current.now c.requires.kept.current c.find_appended.ensures.store.only _ _ _ _ found
+    c.fill.ensures.any_exit c.fill.ensures.by_gate _
     c.in_err-fill.ensures.store _ _ c.from_residual-in_err-fill.ensures.1 refl
 
 pub added-requires : goal.added-requires
@@ -64,13 +67,16 @@ returns-clause-serves g c =
     subst (λ (y : Current). Serves (append_record c.args.target c.args.bytes.now) old x c.fill.new.store y []
     (Ok DONE)) (sym c.pointing.ensures)
     (appended-done old c.find_appended.new.store c.fill.new.store c.requires.kept.ready c.requires.kept.card x
-    c.requires.kept.current c.find_appended.ensures.store.only c.args.target c.args.bytes.now growing.file growing.room found
+    c.requires.kept.current c.find_appended.ensures.store.only c.args.target c.args.bytes.now growing.file
+    growing.room found
     c.fill.ensures.any_exit c.fill.ensures.by_gate _ c.in_ok-fill.ensures.store c.in_ok-fill.ensures.done
     c.in_ok-fill.ensures.store.ready c.added.result c.added.ensures)
 
 pub returns-clause-space : goal.returns-clause-space
 returns-clause-space g c =
     let found = said_ok _ _ c.in_ok-growing.field-0 c.in-Ok.growing c.in-Ok.is c.in_ok-growing.ensures.found in
-    appended-space c.args.store.now c.find_appended.new.store c.fill.new.store c.requires.kept.ready c.requires.kept.card
-    c.args.current.now c.requires.kept.current c.find_appended.ensures.store.only _ _ _ _ found c.fill.ensures.any_exit c.fill.ensures.by_gate _
+    appended-space c.args.store.now c.find_appended.new.store c.fill.new.store c.requires.kept.ready
+    c.requires.kept.card
+    c.args.current.now c.requires.kept.current c.find_appended.ensures.store.only _ _ _ _ found
+    c.fill.ensures.any_exit c.fill.ensures.by_gate _
     c.in_ok-fill.ensures.store c.in_ok-fill.ensures.done

@@ -19,7 +19,8 @@ returns-in-Err-clause-found g c =
 pub find_room-requires : goal.find_room-requires
 find_room-requires g c =
     let found = said_ok _ _ c.in_ok-file.field-0 c.in-Ok.file c.in-Ok.is c.in_ok-file.ensures.found in
-    (agree (committed c.args.store.now) c.requires.kept.ready.usable.committed_size c.requires.kept.card c.args.current.now
+    (agree (committed c.args.store.now) c.requires.kept.ready.usable.committed_size c.requires.kept.card
+    c.args.current.now
     c.args.target _ c.in-Ok.file found).straight
 
 pub returns-in-Err-find_room-clause-found : goal.returns-in-Err-find_room-clause-found
@@ -34,7 +35,8 @@ returns-then-not-takes-clause-found g c =
     let found = said_ok _ _ c.in_ok-file.field-0 c.in-Ok.file c.in-Ok.is c.in_ok-file.ensures.found in
     append-other (committed c.args.store.now) c.requires.kept.ready.usable.committed_size c.requires.kept.card c.args.current.now
     c.args.target _ c.in-Ok.file found c.args.bytes.now found.named.unrefused
-    (not-full _ (sym c.find_room.ensures.refusal ∙ ap result_err c.in-Ok-find_room.is)) (sym c.takes.ensures ∙ c.if-not-takes.true)
+    (not-full _ (sym c.find_room.ensures.refusal ∙ ap result_err c.in-Ok-find_room.is)) (sym c.takes.ensures ∙
+    c.if-not-takes.true)
 
 pub returns-clause-found : goal.returns-clause-found
 returns-clause-found g c = record {

@@ -30,7 +30,8 @@ returns-in-Err-find-clause-found g c =
     let agrees = agree m sized c.requires.kept.card c.args.current.now c.args.target _ file found in
     let number = c.chosen-number.ensures ∙ ap (λ p. chosen_in file p c.args.choice) c.pointer_at.ensures in
     let kind = target_kind (card_in c.args.store.now) (session_in c.args.store.now c.args.current.now) c.args.target in
-    record-gone m sized c.requires.kept.card c.args.current.now c.args.target _ file found found.named.unrefused c.args.choice
+    record-gone m sized c.requires.kept.card c.args.current.now c.args.target _ file found found.named.unrefused
+    c.args.choice
     c.in-Err-find.refusal
     (ap (missing_record (records_of kind)) (sym number) ∙ c.find.ensures.refusal (records_of kind) agrees.number
     ∙ ap result_err c.in-Err-find.is)

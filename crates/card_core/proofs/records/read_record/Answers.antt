@@ -34,7 +34,8 @@ returns-in-Err g c =
 pub read-requires : goal.read-requires
 read-requires g c =
     let found = said_ok _ _ c.in_ok-found.field-0 c.in-Ok.found c.in-Ok.is c.in_ok-found.ensures.found in
-    let stands = chosen-body (committed c.args.store.now) c.requires.kept.ready.usable.committed_size c.requires.kept.card
+    let stands = chosen-body (committed c.args.store.now) c.requires.kept.ready.usable.committed_size
+    c.requires.kept.card
     c.args.current.now c.args.target _ _ _ found _ c.find_record.ensures.store.only.keeps.committed_words in
     let short = stands.slots.short in
     let room : c.in-Ok.found.slot.ring.record_length ≤ 256 = omega (arith, short) in
@@ -61,7 +62,8 @@ returns-then-is_other_length g c =
     let found = said_ok _ _ c.in_ok-found.field-0 c.in-Ok.found c.in-Ok.is c.in_ok-found.ensures.found in
     let number = found.number_is in
     let has = chosen-has _ _ _ _ _ _ found in
-    let text : c.read.new.bytes.items ≡ record_of (cyclic_records (committed old) file.ring) (chosen_in file (pointer_from x
+    let text : c.read.new.bytes.items ≡ record_of (cyclic_records (committed old) file.ring) (chosen_in file
+    (pointer_from x
     c.args.target) c.args.choice) =
     c.in_ok-read.ensures.bytes ∙ (λ i. record_of (cyclic_records (same i) (found.ring_is i)) (number i)) in
     let other = ap (λ (l : List ℕ). not (c.args.expected == 0) && not (c.args.expected == length l)) (sym text)
@@ -78,7 +80,8 @@ returns-then-is_other_length g c =
 pub pointer_after-pointer-requires : goal.pointer_after-pointer-requires
 pointer_after-pointer-requires g c =
     let found = said_ok _ _ c.in_ok-found.field-0 c.in-Ok.found c.in-Ok.is c.in_ok-found.ensures.found in
-    let stands = chosen-body (committed c.args.store.now) c.requires.kept.ready.usable.committed_size c.requires.kept.card
+    let stands = chosen-body (committed c.args.store.now) c.requires.kept.ready.usable.committed_size
+    c.requires.kept.card
     c.args.current.now c.args.target _ _ _ found _ refl in
     let few = slot-few (committed c.args.store.now) c.in-Ok.found.slot stands in
     omega (arith, few)
@@ -94,19 +97,22 @@ returns g c =
     let found = said_ok _ _ c.in_ok-found.field-0 c.in-Ok.found c.in-Ok.is c.in_ok-found.ensures.found in
     let number = found.number_is in
     let has = chosen-has _ _ _ _ _ _ found in
-    let text : c.read.new.bytes.items ≡ record_of (cyclic_records (committed old) file.ring) (chosen_in file (pointer_from x
+    let text : c.read.new.bytes.items ≡ record_of (cyclic_records (committed old) file.ring) (chosen_in file
+    (pointer_from x
     c.args.target) c.args.choice) =
     c.in_ok-read.ensures.bytes ∙ (λ i. record_of (cyclic_records (same i) (found.ring_is i)) (number i)) in
     let whole = ap (λ (l : List ℕ). not (c.args.expected == 0) && not (c.args.expected == length l)) (sym text)
     ∙ sym c.is_other_length.ensures ∙ c.if-is_other_length.false in
-    let pointer : c.pointer_after-pointer.result ≡ pointer_after (pointer_from x c.args.target) c.args.choice (chosen_in file
+    let pointer : c.pointer_after-pointer.result ≡ pointer_after (pointer_from x c.args.target) c.args.choice
+    (chosen_in file
     (pointer_from x c.args.target) c.args.choice) =
     c.pointer_after-pointer.ensures ∙ (λ i. pointer_after (c.pointer_at.ensures i) c.args.choice (number i)) in
     let y_is : c.pointing.result ≡ pointing_from x c.args.target e (pointer_after (pointer_from x c.args.target)
     c.args.choice (chosen_in file (pointer_from x c.args.target) c.args.choice)) =
     c.pointing.ensures ∙ ap (pointing_from x c.args.target e) pointer in
     let given_is = c.give.ensures.given ∙ text in
-    let current = current-is (committed old) sized c.requires.kept.card x c.args.target _ file found.named c.requires.kept.current
+    let current = current-is (committed old) sized c.requires.kept.card x c.args.target _ file found.named
+    c.requires.kept.current
     (pointer_after (pointer_from x c.args.target) c.args.choice (chosen_in file (pointer_from x c.args.target)
     c.args.choice)) in
     answered (read_record c.args.target c.args.choice c.args.expected) old x c.read.new.store (λ _. tt) c.requires.kept.card
@@ -115,7 +121,8 @@ returns g c =
     c.in_ok-read.ensures.store.ready
     (subst (λ (y : Current). IsCurrent (table_in old) y) (sym y_is) current)
     c.give.ensures.room
-    (read-whole (committed old) sized c.requires.kept.card x c.args.target _ file found.named found.named.named.unrefused
+    (read-whole (committed old) sized c.requires.kept.card x c.args.target _ file found.named
+    found.named.named.unrefused
     c.args.choice c.args.expected has whole
     ∙ (λ i. outcome (card_in old) (session_in old (sym y_is i)) (sym given_is i) DONE))
 

@@ -32,7 +32,8 @@ returns-in-Err g c =
 pub search-requires : goal.search-requires
 search-requires g c =
     let found = said_ok _ _ c.in_ok-found.field-0 c.in-Ok.found c.in-Ok.is c.in_ok-found.ensures.found in
-    let stands = chosen-body (committed c.args.store.now) c.requires.kept.ready.usable.committed_size c.requires.kept.card
+    let stands = chosen-body (committed c.args.store.now) c.requires.kept.ready.usable.committed_size
+    c.requires.kept.card
     c.args.current.now c.args.target _ _ _ found _ c.find_record.ensures.store.only.keeps.committed_words in
     let few = stands.slots.few in
     let number = stands.number in
@@ -59,12 +60,14 @@ returns-then-asks_less g c =
     let file = c.in-Ok.found.file in
     let same = c.find_record.ensures.store.only.keeps.committed_words in
     let found = said_ok _ _ c.in_ok-found.field-0 c.in-Ok.found c.in-Ok.is c.in_ok-found.ensures.found in
-    let number : c.in-Ok.found.slot.number ≡ place_number c.args.first (pointer_from x c.args.target) = found.number_is in
+    let number : c.in-Ok.found.slot.number ≡ place_number c.args.first (pointer_from x c.args.target) =
+    found.number_is in
     let has = chosen-has _ _ _ _ _ _ found in
     let way = c.way_of-way.ensures in
     let numbers : c.search.new.numbers.items ≡ found_in (searching c.args.direction) (place_number c.args.first
     (pointer_from x c.args.target)) c.args.text.now (cyclic_records (committed old) file.ring) =
-    c.in_ok-search.ensures.numbers ∙ (λ i. found_in (way i) (number i) c.args.text.now (cyclic_records (same i) (found.ring_is i))) in
+    c.in_ok-search.ensures.numbers ∙ (λ i. found_in (way i) (number i) c.args.text.now (cyclic_records (same i)
+    (found.ring_is i))) in
     let less = ap (asks_less c.args.expected) (sym numbers) ∙ sym c.asks_less.ensures
     ∙ c.if-asks_less.true in
     let status = ap right_length (sym numbers) ∙ sym c.right_length.ensures in
@@ -86,13 +89,15 @@ returns g c =
     let sized = c.requires.kept.ready.usable.committed_size in
     let same = c.find_record.ensures.store.only.keeps.committed_words in
     let found = said_ok _ _ c.in_ok-found.field-0 c.in-Ok.found c.in-Ok.is c.in_ok-found.ensures.found in
-    let number : c.in-Ok.found.slot.number ≡ place_number c.args.first (pointer_from x c.args.target) = found.number_is in
+    let number : c.in-Ok.found.slot.number ≡ place_number c.args.first (pointer_from x c.args.target) =
+    found.number_is in
     let has = chosen-has _ _ _ _ _ _ found in
     let way = c.way_of-way.ensures in
     let all : List ℕ = found_in (searching c.args.direction) (place_number c.args.first (pointer_from x c.args.target))
     c.args.text.now (cyclic_records (committed old) file.ring) in
     let numbers : c.search.new.numbers.items ≡ all =
-    c.in_ok-search.ensures.numbers ∙ (λ i. found_in (way i) (number i) c.args.text.now (cyclic_records (same i) (found.ring_is i))) in
+    c.in_ok-search.ensures.numbers ∙ (λ i. found_in (way i) (number i) c.args.text.now (cyclic_records (same i)
+    (found.ring_is i))) in
     let enough = ap (asks_less c.args.expected) (sym numbers) ∙ sym c.asks_less.ensures
     ∙ c.if-asks_less.false in
     let pointer : c.first_of-pointer.result ≡ pointer_found (pointer_from x c.args.target) all =
@@ -102,7 +107,8 @@ returns g c =
     let given_is : c.give.new.answer.items ≡ given c.args.expected all =
     c.give.ensures.given ∙ ap (given c.args.expected) numbers in
     let status : c.status_of.result ≡ search_status all = c.status_of.ensures ∙ ap search_status numbers in
-    let current = current-is (committed old) sized c.requires.kept.card x c.args.target _ file found.named c.requires.kept.current
+    let current = current-is (committed old) sized c.requires.kept.card x c.args.target _ file found.named
+    c.requires.kept.current
     (pointer_found (pointer_from x c.args.target) all) in
     answered (search_record c.args.target c.args.first c.args.direction c.args.text.now c.args.expected) old x
     c.search.new.store (λ _. tt) c.requires.kept.card c.pointing.result c.give.new.answer.items c.status_of.result
@@ -110,7 +116,8 @@ returns g c =
     c.in_ok-search.ensures.store.ready
     (subst (λ (y : Current). IsCurrent (table_in old) y) (sym y_is) current)
     c.give.ensures.room
-    (search-whole (committed old) sized c.requires.kept.card x c.args.target _ file found.named found.named.named.unrefused
+    (search-whole (committed old) sized c.requires.kept.card x c.args.target _ file found.named
+    found.named.named.unrefused
     c.args.first c.args.direction c.args.text.now c.args.expected has enough
     ∙ (λ i. outcome (card_in old) (session_in old (sym y_is i)) (sym given_is i) (sym status i)))
 

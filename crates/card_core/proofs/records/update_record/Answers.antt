@@ -41,15 +41,18 @@ replace-requires-clause-body g c =
 pub replace-requires-clause-size : goal.replace-requires-clause-size
 replace-requires-clause-size g c =
     let found = said_ok _ _ c.in_ok-replaced.field-0 c.in-Ok.replaced c.in-Ok.is c.in_ok-replaced.ensures.found in
-    replaced-long c.args.store.now c.find_replaced.new.store c.find_replaced.new.store c.requires.kept.ready c.requires.kept.card
+    replaced-long c.args.store.now c.find_replaced.new.store c.find_replaced.new.store c.requires.kept.ready
+    c.requires.kept.card
     c.args.current.now c.requires.kept.current c.find_replaced.ensures.store.only _ _ _ _ _ found
 
 pub returns-in_err-replace-clause-serves : goal.returns-in_err-replace-clause-serves
 returns-in_err-replace-clause-serves g c =
     let found = said_ok _ _ c.in_ok-replaced.field-0 c.in-Ok.replaced c.in-Ok.is c.in_ok-replaced.ensures.found in
-    replaced-torn c.args.store.now c.find_replaced.new.store c.replace.new.store c.requires.kept.ready c.requires.kept.card
+    replaced-torn c.args.store.now c.find_replaced.new.store c.replace.new.store c.requires.kept.ready
+    c.requires.kept.card
     c.args.current.now c.requires.kept.current c.find_replaced.ensures.store.only _ _ _ _ _ found
-    c.replace.ensures.any_exit c.replace.ensures.by_gate _ c.in_err-replace.ensures.store _ _ c.from_residual-in_err-replace.ensures.1 refl
+    c.replace.ensures.any_exit c.replace.ensures.by_gate _ c.in_err-replace.ensures.store _ _
+    c.from_residual-in_err-replace.ensures.1 refl
 
 pub pointer_replaced-after-requires : goal.pointer_replaced-after-requires
 pointer_replaced-after-requires g c =
@@ -68,7 +71,8 @@ returns-clause-serves g c =
     subst (λ (y : Current). Serves (update_record c.args.target choice c.args.bytes.now) old x c.replace.new.store y []
     (Ok DONE)) (sym c.pointing.ensures)
     (replaced-done old c.find_replaced.new.store c.replace.new.store c.requires.kept.ready c.requires.kept.card x
-    c.requires.kept.current c.find_replaced.ensures.store.only c.args.target choice c.args.bytes.now file slot found c.replace.ensures.any_exit c.replace.ensures.by_gate _ c.in_ok-replace.ensures.store c.in_ok-replace.ensures.done
+    c.requires.kept.current c.find_replaced.ensures.store.only c.args.target choice c.args.bytes.now file slot found
+    c.replace.ensures.any_exit c.replace.ensures.by_gate _ c.in_ok-replace.ensures.store c.in_ok-replace.ensures.done
     c.in_ok-replace.ensures.store.ready c.pointer_replaced-after.result (c.pointer_replaced-after.ensures
     ∙ ap (λ (p : Option ℕ). if file.wraps then Some 1 else pointer_after p choice slot.number)
     c.pointer_at-pointer.ensures))
@@ -76,6 +80,7 @@ returns-clause-serves g c =
 pub returns-clause-space : goal.returns-clause-space
 returns-clause-space g c =
     let found = said_ok _ _ c.in_ok-replaced.field-0 c.in-Ok.replaced c.in-Ok.is c.in_ok-replaced.ensures.found in
-    replaced-space c.args.store.now c.find_replaced.new.store c.replace.new.store c.requires.kept.ready c.requires.kept.card
+    replaced-space c.args.store.now c.find_replaced.new.store c.replace.new.store c.requires.kept.ready
+    c.requires.kept.card
     c.args.current.now c.requires.kept.current c.find_replaced.ensures.store.only _ _ _ _ _ found
     c.replace.ensures.any_exit c.replace.ensures.by_gate _ c.in_ok-replace.ensures.store c.in_ok-replace.ensures.done

@@ -77,7 +77,8 @@ returns-in-PathFromCurrent-clause-found g c =
     let df = path_of t c.args.current.df in
     let path = c.deref-in-PathFromCurrent.result.now in
     let is = c.deref-in-PathFromCurrent.ensures.0 ∙ c.identifiers_of-in-PathFromCurrent.ensures in
-    let reaches = c.find_path.ensures.found m c.requires.kept.card.tree (df_used t c.args.current c.requires.kept.current)
+    let reaches = c.find_path.ensures.found m c.requires.kept.card.tree (df_used t c.args.current
+    c.requires.kept.current)
     c.requires.index in
     ap (λ (selector : Selector). selected_from (card_of m).tree df (selection_of selector)) c.in-PathFromCurrent.is
     ∙ ap (λ (ids : List ℕ). selected_from (card_of m).tree df (path_below ids)) (sym is)

@@ -23,7 +23,8 @@ returns-in-Err-survey_of-clause-stopped g c =
     let first = g.B.Board.facts c.args.board in
     subst (λ (now : Facts). StartStopsBy c.in-Err-survey_of.fault first now) (sym c.into_board.ensures)
     (stops-found first c.in-Ok.store c.survey_card.new.store c.in-Ok.ensures.light c.in-Ok.ensures.sound
-    c.in-Ok.ensures.found c.in-Ok.ensures.ready.usable.works c.survey_card.ensures.store.only.reports c.survey_card.result
+    c.in-Ok.ensures.found c.in-Ok.ensures.ready.usable.works c.survey_card.ensures.store.only.reports
+    c.survey_card.result
     c.survey_of.result c.in-Err-survey_of.fault c.survey_of.ensures c.in-Err-survey_of.is c.survey_card.ensures.card
     c.survey_card.ensures.store.tells)
 

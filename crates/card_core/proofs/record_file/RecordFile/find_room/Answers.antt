@@ -21,4 +21,5 @@ returns-in_err-slot-clause-refusal c =
     (count ∙ ap (λ (l : Linear). l.records) (sym c.linear.ensures)) in
     told _ _ c.from_residual.ensures.1 ∙ sym refusal
     ∙ (λ i. if nat_le (capacity i) (count i) then Some NO_ROOM else None)
-    ∙ sym (ap (λ (wraps : Bool). if not wraps && nat_le ring.capacity ring.records then Some NO_ROOM else None) c.if-self.false)
+    ∙ sym (ap (λ (wraps : Bool). if not wraps && nat_le ring.capacity ring.records then Some NO_ROOM else None)
+    c.if-self.false)
