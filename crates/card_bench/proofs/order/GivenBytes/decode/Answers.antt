@@ -1,0 +1,8 @@
+use Rattle.std.proofs.Common.{◌≡◌, ◌≤◌, ◌/◌, ℕ, List, length, sym, subst, arith, rules, inl, inr, ⊎_elim}
+use Rattle.hex.specs.Hex.{decode_sized}
+use Rattle.card_bench.proofs.HexLimits.{Decoded, bytes_in-decoded, bytes_in-outside}
+use Rattle.card_bench.proofs.order.GivenBytes.decode.Goals as goal
+
+pub returns-then-size-eq0 : goal.returns-then-size-eq0
+returns-then-size-eq0 c =
+    sym (bytes_in-outside _ _ (⊎_elim (λ none. inl (omega (arith, none))) (λ many. inr many.1) c.then-size-eq0.either))
