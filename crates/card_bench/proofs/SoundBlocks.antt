@@ -188,7 +188,7 @@ sound-answer r more bytes s =
       reader = record { size = s.size; field = s.field; rest = s.rest };
       outcome = sound-ready (other_number r.nr) ErrorFree;
     } in
-    let done : Turned = record { reader = record r { nr = other_number r.nr; answer = []; phase = Idle }; outcome = gives bytes } in
+    let done : Turned = record { reader = record r { nr = other_number r.nr; answer = bytes; phase = Idle }; outcome = gives bytes } in
     let done-sound : IsSoundTurned done = record { reader = record { size = s.size; field = s.field; rest = s.rest }; outcome = tt } in
     let whole : Turned = if nat_lt (length bytes) 2 then bad else done in
     either-if IsSoundTurned (nat_lt 258 (length bytes)) bad (if more then joins else whole) (sound-failing r BadAnswer s)
