@@ -1,6 +1,5 @@
-use Rattle.std.proofs.Common.{◌≡◌, ◌≤◌, ◌/◌, ℕ, List, length, sym, subst, arith, rules, inl, inr, ⊎_elim}
-use Rattle.hex.specs.Hex.{decode_sized}
-use Rattle.card_bench.proofs.HexLimits.{Decoded, bytes_in-decoded, bytes_in-outside}
+use Rattle.std.proofs.Common.{sym, arith, inl, inr, ⊎_elim}
+use Rattle.card_bench.proofs.HexLimits.{bytes_in-outside}
 use Rattle.card_bench.proofs.order.GivenBytes.decode.Goals as goal
 
 pub returns-then-size-eq0 : goal.returns-then-size-eq0
