@@ -10,8 +10,8 @@ use Rattle.card_bench.specs.Plays.{IsGood}
 use Rattle.card_bench.specs.Exchanges.{Ended}
 use Rattle.card_bench.specs.Exchanges.{answered, set_back, link_lost, power_lost}
 use Rattle.card_bench.specs.declared.exchange.TheConstants.{LINE_BLOCKS}
-use Rattle.card_bench.specs.declared.order.Order.{Order}
-use Rattle.card_bench.specs.declared.order.Order.TheVariants.{Nothing, On, Off, Free, Apdu, Block, Cut, Lose, Garble}
+use Rattle.card_bench.specs.Orders.{Order}
+use Rattle.card_bench.specs.Orders.{Nothing, On, Off, Free, Apdu, Block, Cut, Lose, Garble}
 use Rattle.card_bench.specs.declared.playing.Item.{Item}
 use Rattle.card_bench.specs.declared.playing.Item.TheVariants as item
 use Rattle.card_bench.specs.declared.playing.Turn.TheVariants as turn
@@ -140,9 +140,9 @@ dark-spends On old new performs left =
     omega (arith, spent, lost)
 dark-spends Off old new performs left = let printed = performs.printed in absurd cc
 dark-spends Free old new performs left = absurd (free-lit old.bench performs.1)
-dark-spends (Apdu command) old new performs left = command-due old.bench old new command.items performs left
+dark-spends (Apdu command) old new performs left = command-due old.bench old new command performs left
 dark-spends (Block block) old new performs left =
-    let spent = block-due old.bench new.bench block.items performs.came performs.turn (turn-left old.bench left) in
+    let spent = block-due old.bench new.bench block performs.came performs.turn (turn-left old.bench left) in
     let lost = one-dark performs.came performs.printed in
     omega (arith, spent, lost)
 dark-spends (Cut number mask) old new performs left = let printed = performs.printed in absurd cc

@@ -1,29 +1,26 @@
 -- What hexadecimal digits spell, and within which limit.
 use Rattle.std.proofs.Common.{◌≡◌, ◌<◌, ◌≤◌, ◌*◌, ◌/◌, ◌%◌, ◌==◌, ◌&&◌, ◌⊎◌, ℕ, Bool, true, false, cond, nat_le, List, length}
 use Rattle.std.proofs.Common.{Option, Some, None, Result, Ok, Err, refl, sym, ◌∙◌, ap, arith, inl, inr, ⊎_elim}
-use Rattle.std.specs.List.{refill}
 use Rattle.std.specs.Prelude.{MatchResult}
 use Rattle.std.proofs.lemmas.Bool.{eq-eqb, le-leb, lt-leb}
-use Rattle.std.proofs.Math.Seq.{take-append_seam}
 use Rattle.hex.specs.Hex.{decode_of, decode_pairs, decode_sized}
 use Rattle.hex.specs.declared.error.FromHexError.{FromHexError}
 use Rattle.hex.specs.declared.error.FromHexError.TheVariants.{InvalidStringLength, OddLength}
 use Rattle.hex.proofs.HexLemmas.{decode_of-ok}
-use Rattle.arrayvec.specs.ArrayVec.{ArrayVec, array_vec_len, with_items}
 use Rattle.card_bench.specs.Orders.{bytes_in, within_limit}
 
-abbrev nothing : Option (ArrayVec ℕ)
+abbrev nothing : Option (List ℕ)
 nothing = None
 
 -- bytes outside the limit
 outside : (limit : ℕ) (bytes : List ℕ) → (length bytes < 1) ⊎ (limit < length bytes) → within_limit limit (Ok bytes) ≡ None
 outside limit bytes (inl none) =
-    ap (λ (b : Bool). cond (b && nat_le (length bytes) limit) (Some (record { items = bytes })) None) (lt-leb 1 (length bytes) none)
+    ap (λ (b : Bool). cond (b && nat_le (length bytes) limit) (Some bytes) None) (lt-leb 1 (length bytes) none)
 outside limit bytes (inr many) =
     let over : nat_le (length bytes) limit ≡ false = lt-leb (length bytes) limit many in
-    ap (λ (b : Bool). cond (nat_le 1 (length bytes) && b) (Some (record { items = bytes })) None) over ∙ never (nat_le 1 (length bytes))
+    ap (λ (b : Bool). cond (nat_le 1 (length bytes) && b) (Some bytes) None) over ∙ never (nat_le 1 (length bytes))
   where
-    never : (b : Bool) → cond (b && false) (Some (record { items = bytes })) None ≡ nothing
+    never : (b : Bool) → cond (b && false) (Some bytes) None ≡ nothing
     never true = refl
     never false = refl
 
@@ -55,15 +52,17 @@ decoded (Ok bytes) new told = ap Ok (sym told.1)
 decoded (Err error) new told = absurd cc
 
 -- digits whose bytes are within the limit, decoded into room for so many
-pub bytes_in-decoded : (digits : List ℕ) (room : ArrayVec ℕ) (new : List ℕ) (limit : ℕ) → array_vec_len room ≡ length digits / 2
-    → 1 ≤ array_vec_len room → array_vec_len room ≤ limit → Decoded (decode_sized digits (array_vec_len room)) new
-    → Some (with_items room new) ≡ bytes_in digits limit
-bytes_in-decoded digits room new limit half some most told =
-    let size = array_vec_len room in
+pub bytes_in-decoded : (digits new : List ℕ) (size limit : ℕ) → size ≡ length digits / 2 → 1 ≤ size → size ≤ limit
+    → Decoded (decode_sized digits size) new → Some new ≡ bytes_in digits limit
+bytes_in-decoded digits new size limit half some most told =
     let reads : decode_of digits ≡ Ok new = sym (sized-half digits size half) ∙ decoded (decode_sized digits size) new told in
     let twice : length digits ≡ 2 * length new = (decode_of-ok digits new reads).2 in
-    let whole : size ≡ length new = omega arith in
     let low : nat_le 1 (length new) ≡ true = le-leb 1 (length new) (omega arith) in
     let high : nat_le (length new) limit ≡ true = le-leb (length new) limit (omega arith) in
-    let filled : refill size room.items new ≡ new = ap (λ (n : ℕ). refill n room.items new) whole ∙ take-append_seam new _ in
-    sym (ap (within_limit limit) reads ∙ (λ i. cond (low i && high i) (Some (record { items = sym filled i })) None))
+    sym (ap (within_limit limit) reads ∙ (λ i. cond (low i && high i) (Some new) None))
+
+-- digits that aren't decoded
+pub bytes_in-undecoded : (digits : List ℕ) (size limit : ℕ) (error : FromHexError) → size ≡ length digits / 2
+    → decode_sized digits size ≡ Err error → bytes_in digits limit ≡ None
+bytes_in-undecoded digits size limit error half refused =
+    ap (within_limit limit) (sym (sized-half digits size half) ∙ refused)

@@ -1,7 +1,6 @@
 -- What the exchange makes of what the reader's end says: its block stands in the buffer, and its answer in itself.
-use Rattle.std.specs.Prelude.{◌≡◌, ◌≢◌, ◌+◌, ◌==◌, ℕ, Bool, true, false, nat_lt, List, [], ◌∷◌, ◌↔◌, Ok, Err, IfErr, OnOk, if◌then◌else◌}
-use Rattle.std.proofs.Common.{◌∙◌, ap, subst, sym}
-use Rattle.t1_link.specs.Blocks.{frame, resynch_request}
+use Rattle.std.specs.Prelude.{◌≡◌, ◌≢◌, ◌==◌, ℕ, Bool, true, false, nat_lt, List, [], ◌↔◌, Ok, IfErr, OnOk, if◌then◌else◌}
+use Rattle.std.proofs.Common.{◌∙◌, ap}
 use Rattle.t1_link.specs.declared.block.ErrorKind.TheVariants.{OtherError}
 use Rattle.t1_link.specs.declared.reader_end.Next.{Next}
 use Rattle.t1_link.specs.declared.reader_end.Next.TheVariants.{Send, Done, Unknown, Failed}
@@ -12,7 +11,7 @@ use Rattle.t1_link.specs.ReaderFields.{HasAnswer, IsSend, left_in, next_of}
 use Rattle.t1_link.specs.ReaderTable.{Outcome, Reader, Turned, advancing, asking, failing, fails, gives, is_dead, reader_sends}
 use Rattle.t1_link.specs.ReaderTable.{reader_times_out, requesting, requesting_again, sends, unknown}
 use Rattle.card_bench.specs.declared.exchange.Blocks.{Blocks}
-use Rattle.card_bench.specs.Exchanges.{NextBlock, following, toward_card}
+use Rattle.card_bench.specs.Exchanges.{following, toward_card}
 use Rattle.card_bench.specs.ExchangeViews.{flow_of, follows_of}
 
 pub follows-so : (o : Outcome) (next : Next) (blocks : Blocks) (held : List ℕ) (reader : Reader) → next ≡ next_of o

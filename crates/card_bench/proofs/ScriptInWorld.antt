@@ -8,8 +8,8 @@ use Rattle.card_core.specs.laws.FoundLaws.{found_is_proper}
 use Rattle.card_bench.specs.Exchanges.{Ended}
 use Rattle.card_bench.specs.Exchanges.{answered, set_back, link_lost, power_lost}
 use Rattle.card_bench.specs.declared.line.Line.{Line}
-use Rattle.card_bench.specs.declared.order.Order.{Order}
-use Rattle.card_bench.specs.declared.order.Order.TheVariants.{Nothing, On, Off, Free, Apdu, Block, Cut, Lose, Garble}
+use Rattle.card_bench.specs.Orders.{Order}
+use Rattle.card_bench.specs.Orders.{Nothing, On, Off, Free, Apdu, Block, Cut, Lose, Garble}
 use Rattle.card_bench.specs.declared.playing.Item.{Item}
 use Rattle.card_bench.specs.declared.playing.Item.TheVariants as item
 use Rattle.card_bench.specs.declared.playing.Turn.TheVariants as turn
@@ -94,7 +94,7 @@ module _ (start : Served) (events : List Event) (proper : IsProperState start) w
   line-in Off old new prints there sized bytes performs = tt
   line-in Free old new prints there sized bytes performs = same-desk start events old new performs.0 there
   line-in (Apdu command) old new prints there sized bytes performs =
-      performs-in old.bench command.items old new prints (command-so command.items sized.0 sized.1 bytes) there there.stands performs
+      performs-in old.bench command old new prints (command-so command sized.0 sized.1 bytes) there there.stands performs
   line-in (Block block) old new prints there sized bytes performs = tt
   line-in (Cut number mask) old new prints there sized bytes performs = record {
     reader = there.reader;

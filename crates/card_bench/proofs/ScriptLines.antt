@@ -15,8 +15,8 @@ use Rattle.std.proofs.lemmas.List.Folds.{list_all-append}
 use Rattle.std.proofs.lemmas.Bool.{lt-ltb, ne_eqb}
 use Rattle.hex.specs.Hex.{encode_upper}
 use Rattle.card_bench.specs.declared.order.TheConstants.{LINE_LIMIT}
-use Rattle.card_bench.specs.declared.order.Order.{Order}
-use Rattle.card_bench.specs.declared.order.Order.TheVariants.{Nothing}
+use Rattle.card_bench.specs.Orders.{Order}
+use Rattle.card_bench.specs.Orders.{Nothing}
 use Rattle.card_bench.specs.declared.reading.TheConstants.{SCRIPT_LIMIT}
 use Rattle.card_bench.specs.declared.reading.LineEnd.{LineEnd}
 use Rattle.card_bench.specs.declared.reading.LineEnd.TheVariants.{LineFeed, EndOfScript}

@@ -11,10 +11,9 @@ use Rattle.apdu_core.specs.OfBytes.{AreBytes}
 use Rattle.hex.specs.Hex.{IsBytes, decode_of}
 use Rattle.hex.specs.declared.error.FromHexError.{FromHexError}
 use Rattle.hex.proofs.HexLemmas.{decode_of-ok}
-use Rattle.arrayvec.specs.ArrayVec.{ArrayVec}
 use Rattle.card_bench.specs.declared.order.TheConstants.{COMMAND_LIMIT, BLOCK_LIMIT, NUMBER_DIGITS}
-use Rattle.card_bench.specs.declared.order.Order.{Order}
-use Rattle.card_bench.specs.declared.order.Order.TheVariants.{Nothing, On, Off, Free, Apdu, Block, Cut, Lose, Garble}
+use Rattle.card_bench.specs.Orders.{Order}
+use Rattle.card_bench.specs.Orders.{Nothing, On, Off, Free, Apdu, Block, Cut, Lose, Garble}
 use Rattle.card_bench.specs.Orders.{IsSized, bytes_in, cut_by, cut_in, mask_by, number_in, order_of, within_limit}
 use Rattle.card_bench.specs.Spellings.{IsOfBytes}
 use Rattle.card_bench.proofs.Numbers.{digits-bound}
@@ -43,22 +42,22 @@ spelled-bytes digits bytes is k d lt =
     subst (λ (b : ℕ). b < 256) (get_or_default bytes k 0 d lt) ((decode_of-ok digits bytes is).3 k)
 
 -- bytes within a limit
-bytes : (make : ArrayVec ℕ → Order) (digits : List ℕ) (limit : ℕ)
-    → ((given : ArrayVec ℕ) → 1 ≤ length given.items → length given.items ≤ limit → AreBytes given.items
+bytes : (make : List ℕ → Order) (digits : List ℕ) (limit : ℕ)
+    → ((given : List ℕ) → 1 ≤ length given → length given ≤ limit → AreBytes given
     → InRange (make given))
     → Sized (option_map make (bytes_in digits limit))
 bytes make digits limit sized = cases (decode_of digits) refl
   where
-    tested : (test : Bool) (given : ArrayVec ℕ) → (test ≡ true → InRange (make given))
+    tested : (test : Bool) (given : List ℕ) → (test ≡ true → InRange (make given))
         → Sized (option_map make (cond test (Some given) None))
     tested true given so = one (make given) (so refl)
     tested false given so = none
 
     cases : (r : Result (List ℕ) FromHexError) → decode_of digits ≡ r → Sized (option_map make (within_limit limit r))
-    cases (Ok given) is = tested (nat_le 1 (length given) && nat_le (length given) limit) (record { items = given })
+    cases (Ok given) is = tested (nat_le 1 (length given) && nat_le (length given) limit) given
         (λ within.
         let parts = and_parts (nat_le 1 (length given)) (nat_le (length given) limit) within in
-        sized (record { items = given }) (leb-true 1 (length given) parts.0) (leb-true (length given) limit parts.1)
+        sized given (leb-true 1 (length given) parts.0) (leb-true (length given) limit parts.1)
         (spelled-bytes digits given is))
     cases (Err error) is = none
 

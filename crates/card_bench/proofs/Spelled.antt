@@ -15,8 +15,7 @@ use Rattle.apdu_core.specs.OfBytes.{AreBytes}
 use Rattle.apdu_core.specs.laws.ByteLaws.{byte-at}
 use Rattle.hex.specs.Hex.{decode_of, encode_with, lower_digits, upper_digits}
 use Rattle.hex.proofs.HexLemmas.{IsDigits, IsDigits-lower_digits, IsDigits-upper_digits, decode_of-even, decode_pairs-encode_with, length-encode_with}
-use Rattle.arrayvec.specs.ArrayVec.{ArrayVec}
-use Rattle.card_bench.specs.declared.order.Order.TheVariants.{Nothing, On, Off, Free, Apdu, Block, Cut, Lose, Garble}
+use Rattle.card_bench.specs.Orders.{Nothing, On, Off, Free, Apdu, Block, Cut, Lose, Garble}
 use Rattle.card_bench.specs.Orders.{bytes_in, cut_by, cut_in, mask_by, number_in, order_of}
 use Rattle.card_bench.specs.Spellings.{SpellingLaw}
 
@@ -27,10 +26,10 @@ read_back digits bytes table all =
     let even : length (encode_with digits bytes) % 2 ≡ 0 = omega (arith, twice) in
     decode_of-even (encode_with digits bytes) even ∙ decode_pairs-encode_with digits table 0 bytes (λ i. byte-at bytes i all)
 
-bytes-spelled : (digits : List ℕ) (bytes : ArrayVec ℕ) (limit : ℕ) → IsDigits digits → AreBytes bytes.items → 1 ≤ length bytes.items
-    → length bytes.items ≤ limit → bytes_in (encode_with digits bytes.items) limit ≡ Some bytes
+bytes-spelled : (digits : List ℕ) (bytes : List ℕ) (limit : ℕ) → IsDigits digits → AreBytes bytes → 1 ≤ length bytes
+    → length bytes ≤ limit → bytes_in (encode_with digits bytes) limit ≡ Some bytes
 bytes-spelled digits bytes limit table all some most =
-    simp (read_back digits bytes.items table all, le-leb 1 (length bytes.items) some, le-leb (length bytes.items) limit most) refl
+    simp (read_back digits bytes table all, le-leb 1 (length bytes) some, le-leb (length bytes) limit most) refl
 
 -- numbers
 own : IsNumeralModel (λ digits. list_all is_ascii_digit digits ≡ true) (digits_value 10)
@@ -123,13 +122,13 @@ spelled digits table On sized bytes = refl
 spelled digits table Off sized bytes = refl
 spelled digits table Free sized bytes = refl
 spelled digits table (Apdu command) sized bytes =
-    let size = hex-size digits command.items 261 sized.1 in
-    let fits = line-fits (codes "apdu ") (encode_with digits command.items) (omega arith) (omega (arith, size)) in
-    rw (fits.0, fits.1) (ap (λ (o : Option (ArrayVec ℕ)). option_map Apdu o) (bytes-spelled digits command 261 table bytes sized.0 sized.1))
+    let size = hex-size digits command 261 sized.1 in
+    let fits = line-fits (codes "apdu ") (encode_with digits command) (omega arith) (omega (arith, size)) in
+    rw (fits.0, fits.1) (ap (λ (o : Option (List ℕ)). option_map Apdu o) (bytes-spelled digits command 261 table bytes sized.0 sized.1))
 spelled digits table (Block block) sized bytes =
-    let size = hex-size digits block.items 300 sized.1 in
-    let fits = line-fits (codes "block ") (encode_with digits block.items) (omega arith) (omega (arith, size)) in
-    rw (fits.0, fits.1) (ap (λ (o : Option (ArrayVec ℕ)). option_map Block o) (bytes-spelled digits block 300 table bytes sized.0 sized.1))
+    let size = hex-size digits block 300 sized.1 in
+    let fits = line-fits (codes "block ") (encode_with digits block) (omega arith) (omega (arith, size)) in
+    rw (fits.0, fits.1) (ap (λ (o : Option (List ℕ)). option_map Block o) (bytes-spelled digits block 300 table bytes sized.0 sized.1))
 spelled digits table (Cut number mask) sized bytes =
     let size = cut-size digits number (mask / 256) (mask % 256) sized.1 in
     let fits = line-fits (codes "cut ") (decimal number ++ 32 ∷ encode_with digits (mask / 256 ∷ mask % 256 ∷ [])) (omega arith) (omega (arith, size)) in

@@ -20,8 +20,8 @@ use Rattle.card_core.specs.laws.ShownLaws.{ComparesOrStays}
 use Rattle.card_bench.specs.Exchanges.{Ended}
 use Rattle.card_bench.specs.Exchanges.{answered, set_back, link_lost, power_lost}
 use Rattle.card_bench.specs.declared.exchange.TheConstants.{LINE_BLOCKS}
-use Rattle.card_bench.specs.declared.order.Order.{Order}
-use Rattle.card_bench.specs.declared.order.Order.TheVariants.{Nothing, On, Off, Free, Apdu, Block, Cut, Lose, Garble}
+use Rattle.card_bench.specs.Orders.{Order}
+use Rattle.card_bench.specs.Orders.{Nothing, On, Off, Free, Apdu, Block, Cut, Lose, Garble}
 use Rattle.card_bench.specs.declared.playing.Item.{Item}
 use Rattle.card_bench.specs.declared.playing.Item.TheVariants as item
 use Rattle.card_bench.specs.declared.playing.Turn.{Turn}
@@ -275,9 +275,9 @@ line-lasts n Off old new prints performs left =
 line-lasts n Free old new prints performs left =
     stays-last n LINE_STEPS old.bench new.bench (ap (λ (d : Desk). d.bench) performs.0) left
 line-lasts n (Apdu command) old new prints performs left =
-    command-lasts n old.bench old new command.items prints performs left
+    command-lasts n old.bench old new command prints performs left
 line-lasts n (Block block) old new prints performs left =
-    block-lasts n old.bench new.bench block.items performs.came performs.turn (turn-left n (bench_facts old.bench) left)
+    block-lasts n old.bench new.bench block performs.came performs.turn (turn-left n (bench_facts old.bench) left)
 line-lasts n (Cut number mask) old new prints performs left =
     let nearer = fewer (n + LINE_STEPS) n (bench_facts old.bench) (omega arith) left in
     subst (λ (b : BenchState). HasLeft n (bench_facts b)) (sym performs.armed.same) (armed-lasts n old.bench _ _ nearer)

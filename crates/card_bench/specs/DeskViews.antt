@@ -2,7 +2,7 @@
 use Rattle.std.specs.Prelude.{ℕ, Bool, true, false, List, Option, None, Some}
 use Rattle.t1_link.specs.ReaderTable.{Reader}
 use Rattle.card_bench.specs.declared.desk.PrintKind.{PrintKind}
-use Rattle.card_bench.specs.declared.desk.PrintKind.TheVariants.{Nothing, Atr, Mute, Dark, Lost, Answer, Block, Free}
+use Rattle.card_bench.specs.declared.desk.PrintKind.TheVariants.{Block}
 use Rattle.card_bench.specs.Exchanges.{Desk}
 use Rattle.card_bench.specs.Printouts.{Print, print_of}
 

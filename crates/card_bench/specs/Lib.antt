@@ -5,6 +5,7 @@ pub mod Turns
 pub mod Lasting
 pub mod Guessing
 pub mod Plays
+pub mod OrderViews
 pub mod Orders
 pub mod Spellings
 pub mod Faults

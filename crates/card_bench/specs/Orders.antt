@@ -7,18 +7,28 @@ use Rattle.std.specs.List.{list_all}
 use Rattle.std.specs.Str.Parse.{digits_value}
 use Rattle.hex.specs.Hex.{decode_of}
 use Rattle.hex.specs.declared.error.FromHexError.{FromHexError}
-use Rattle.arrayvec.specs.ArrayVec.{ArrayVec}
 use Rattle.card_bench.specs.declared.order.TheConstants.{LINE_LIMIT, COMMAND_LIMIT, BLOCK_LIMIT, NUMBER_DIGITS}
-use Rattle.card_bench.specs.declared.order.Order.{Order}
-use Rattle.card_bench.specs.declared.order.Order.TheVariants.{Nothing, On, Off, Free, Apdu, Block, Cut, Lose, Garble}
+
+-- What a line asks for: nothing; power on; power off; what is free; a command; a block; that a device write is cut, with these
+-- words of it new; or that a block is lost, or garbled.
+pub data Order : Type 0 where
+  Nothing : Order
+  On : Order
+  Off : Order
+  Free : Order
+  Apdu : List ℕ → Order
+  Block : List ℕ → Order
+  Cut : ℕ → ℕ → Order
+  Lose : ℕ → Order
+  Garble : ℕ → Order
 
 -- some bytes, where they are 1 to a limit
-abbrev pub within_limit : ℕ → Result (List ℕ) FromHexError → Option (ArrayVec ℕ)
-within_limit limit (Ok bytes) = if nat_le 1 (length bytes) && nat_le (length bytes) limit then Some (record { items = bytes }) else None
+abbrev pub within_limit : ℕ → Result (List ℕ) FromHexError → Option (List ℕ)
+within_limit limit (Ok bytes) = if nat_le 1 (length bytes) && nat_le (length bytes) limit then Some bytes else None
 within_limit limit (Err error) = None
 
 -- the bytes that hexadecimal digits of either case spell, where these are 1 to a limit
-abbrev pub bytes_in : List ℕ → ℕ → Option (ArrayVec ℕ)
+abbrev pub bytes_in : List ℕ → ℕ → Option (List ℕ)
 bytes_in digits limit = within_limit limit (decode_of digits)
 
 -- whether digits are 1 to 6 decimal ones
@@ -72,8 +82,8 @@ IsSized Nothing = Unit {0}
 IsSized On = Unit {0}
 IsSized Off = Unit {0}
 IsSized Free = Unit {0}
-IsSized (Apdu bytes) = (1 ≤ length bytes.items) × (length bytes.items ≤ COMMAND_LIMIT)
-IsSized (Block bytes) = (1 ≤ length bytes.items) × (length bytes.items ≤ BLOCK_LIMIT)
+IsSized (Apdu bytes) = (1 ≤ length bytes) × (length bytes ≤ COMMAND_LIMIT)
+IsSized (Block bytes) = (1 ≤ length bytes) × (length bytes ≤ BLOCK_LIMIT)
 IsSized (Cut number mask) = (1 ≤ number) × (number ≤ 999999)
 IsSized (Lose number) = (1 ≤ number) × (number ≤ 999999)
 IsSized (Garble number) = (1 ≤ number) × (number ≤ 999999)

@@ -2,8 +2,8 @@
 use Rattle.std.specs.Prelude.{◌≡◌, ◌≤◌, ◌-◌, ℕ, List, Option, None, Some}
 use Rattle.nvm_board.specs.Facts.{Facts}
 use Rattle.t1_link.specs.ReaderTable.{Reader, fresh_reader}
-use Rattle.card_bench.specs.declared.order.Order.{Order}
-use Rattle.card_bench.specs.declared.order.Order.TheVariants.{Nothing, On, Off, Free, Apdu, Block, Cut, Lose, Garble}
+use Rattle.card_bench.specs.Orders.{Order}
+use Rattle.card_bench.specs.Orders.{Nothing, On, Off, Free, Apdu, Block, Cut, Lose, Garble}
 use Rattle.card_bench.specs.declared.playing.Turn.TheVariants as turn
 use Rattle.card_bench.specs.declared.playing.Item.{Item}
 use Rattle.card_bench.specs.declared.playing.Item.TheVariants as item
@@ -91,8 +91,8 @@ Performs Nothing old new prints = (new ≡ old) × (prints ≡ prints_nothing)
 Performs On old new prints = PerformsOn old new prints
 Performs Off old new prints = PerformsOff old new prints
 Performs Free old new prints = (new ≡ old) × (prints ≡ free_shown old.bench)
-Performs (Apdu command) old new prints = PerformsCommand old.bench old command.items new prints
-Performs (Block block) old new prints = PerformsBlock old block.items new prints
+Performs (Apdu command) old new prints = PerformsCommand old.bench old command new prints
+Performs (Block block) old new prints = PerformsBlock old block new prints
 Performs (Cut number mask) old new prints = PerformsCut number mask old new prints
 Performs (Lose number) old new prints =
     (new ≡ record old { line = record old.line { lose = Some (number - 1) } }) × (prints ≡ prints_nothing)

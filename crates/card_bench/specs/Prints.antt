@@ -3,7 +3,7 @@ use Rattle.std.specs.Prelude.{◌≡◌, ◌≤◌, ℕ, List, [], ◌∷◌, �
 use Rattle.nvm_board.specs.declared.board.TheConstants.{PAGES, SECRETS}
 use Rattle.nvm_board.specs.Facts.{Facts}
 use Rattle.card_core.specs.Factory.{factory_card}
-use Rattle.card_bench.specs.declared.order.Order.{Order}
+use Rattle.card_bench.specs.Orders.{Order}
 use Rattle.card_bench.specs.BenchStates.{bench_card, bench_facts, IsOff}
 use Rattle.card_bench.specs.Exchanges.{Desk}
 use Rattle.card_bench.specs.Orders.{order_of}

@@ -3,8 +3,8 @@ use Rattle.std.specs.Prelude.{◌≡◌, ℕ, List, [], ◌++◌, Some}
 use Rattle.t1_link.specs.ReaderTable.{Reader}
 use Rattle.card_core.specs.Sessions.{fresh_session}
 use Rattle.card_bench.specs.Exchanges.{Ended}
-use Rattle.card_bench.specs.declared.order.Order.{Order}
-use Rattle.card_bench.specs.declared.order.Order.TheVariants.{Nothing, On, Off, Free, Apdu, Block, Cut, Lose, Garble}
+use Rattle.card_bench.specs.Orders.{Order}
+use Rattle.card_bench.specs.Orders.{Nothing, On, Off, Free, Apdu, Block, Cut, Lose, Garble}
 use Rattle.card_bench.specs.BenchStates.{BenchHasCard}
 use Rattle.card_bench.specs.Exchanges.{Desk, GoesOn, left_by, printed_by}
 use Rattle.card_bench.specs.ExchangeWorlds.{GoesAs, StandIn, course_of, exchange_events}
@@ -41,7 +41,7 @@ LineInWorld Nothing start events old new prints = IsInWorld start events new
 LineInWorld On start events old new prints = Unit {0}
 LineInWorld Off start events old new prints = Unit {0}
 LineInWorld Free start events old new prints = IsInWorld start events new
-LineInWorld (Apdu command) start events old new prints = CommandInWorld command.items start events old new prints
+LineInWorld (Apdu command) start events old new prints = CommandInWorld command start events old new prints
 LineInWorld (Block block) start events old new prints = Unit {0}
 LineInWorld (Cut number mask) start events old new prints = IsInWorld start events new
 LineInWorld (Lose number) start events old new prints = IsInWorld start events new

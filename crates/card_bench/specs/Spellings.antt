@@ -3,8 +3,8 @@ use Rattle.std.specs.Prelude.{◌<◌, ◌/◌, ◌%◌, ◌≡◌, ℕ, List, [
 use Rattle.std.specs.Fmt.{decimal}
 use Rattle.apdu_core.specs.OfBytes.{AreBytes}
 use Rattle.hex.specs.Hex.{encode_with}
-use Rattle.card_bench.specs.declared.order.Order.{Order}
-use Rattle.card_bench.specs.declared.order.Order.TheVariants.{Nothing, On, Off, Free, Apdu, Block, Cut, Lose, Garble}
+use Rattle.card_bench.specs.Orders.{Order}
+use Rattle.card_bench.specs.Orders.{Nothing, On, Off, Free, Apdu, Block, Cut, Lose, Garble}
 use Rattle.card_bench.specs.Orders.{IsSized, order_of}
 
 -- The line that asks for it, with these sixteen digits. Two digits spell a byte, and four the 16 bits of a mask; a number stands
@@ -14,8 +14,8 @@ spelling digits Nothing = []
 spelling digits On = codes "on"
 spelling digits Off = codes "off"
 spelling digits Free = codes "free"
-spelling digits (Apdu command) = codes "apdu " ++ encode_with digits command.items
-spelling digits (Block block) = codes "block " ++ encode_with digits block.items
+spelling digits (Apdu command) = codes "apdu " ++ encode_with digits command
+spelling digits (Block block) = codes "block " ++ encode_with digits block
 spelling digits (Cut number mask) = codes "cut " ++ decimal number ++ 32 ∷ encode_with digits (mask / 256 ∷ mask % 256 ∷ [])
 spelling digits (Lose number) = codes "lose " ++ decimal number
 spelling digits (Garble number) = codes "garble " ++ decimal number
@@ -26,8 +26,8 @@ IsOfBytes Nothing = Unit {0}
 IsOfBytes On = Unit {0}
 IsOfBytes Off = Unit {0}
 IsOfBytes Free = Unit {0}
-IsOfBytes (Apdu command) = AreBytes command.items
-IsOfBytes (Block block) = AreBytes block.items
+IsOfBytes (Apdu command) = AreBytes command
+IsOfBytes (Block block) = AreBytes block
 IsOfBytes (Cut number mask) = mask < 65536
 IsOfBytes (Lose number) = Unit {0}
 IsOfBytes (Garble number) = Unit {0}

@@ -3,6 +3,7 @@ ghost use Rattle.std.specs.Prelude.{◌≡◌, ◌≤◌, None, length, true};
 ghost use Rattle.card_bench.specs.declared.order.TheConstants.{COMMAND_LIMIT};
 ghost use Rattle.card_bench.specs.declared.printing.TheConstants.{BYTES_ROOM};
 ghost use Rattle.card_bench.specs.BenchStates.{off};
+ghost use Rattle.card_bench.specs.OrderViews.{order_with};
 ghost use Rattle.card_bench.specs.Orders.{IsSized};
 ghost use Rattle.card_bench.specs.Performing.{Performs, PerformsBlock, PerformsCommand, PerformsOn, free_shown, shown};
 ghost use Rattle.card_bench.specs.Plays.{IsGood, powered_item, sent_item};
@@ -104,12 +105,12 @@ impl<B: Socket> Desk<B> {
 }
 
 impl<B: Armed + Faultless> Desk<B> {
-    /// Does what a line asks for, and tells what it prints.
-    pub(crate) fn perform(&mut self, order: &Order) -> PrintKind
-        requires sized { IsSized order.now }
+    /// Does what a line asks for, with the bytes that it gave, and tells what it prints.
+    pub(crate) fn perform(&mut self, order: Order, given: &[u8]) -> PrintKind
+        requires sized { IsSized (order_with order given.now) }
         requires good { IsGood self.old.desk.bench }
         ensures good { IsGood self.new.desk.bench }
-        ensures performs { Performs order.now self.old.desk self.new.desk (printed_of result self.new) }
+        ensures performs { Performs (order_with order given.now) self.old.desk self.new.desk (printed_of result self.new) }
     {
         match order {
             Order::Nothing => PrintKind::Nothing,
@@ -120,18 +121,18 @@ impl<B: Armed + Faultless> Desk<B> {
                 PrintKind::Nothing
             }
             Order::Free => self.tell_free(),
-            Order::Apdu(command) => self.command(command),
-            Order::Block(block) => self.perform_block(block),
+            Order::Apdu => self.command(given),
+            Order::Block => self.perform_block(given),
             Order::Cut { number, mask } => {
-                self.bench.good_arm(*number, *mask);
+                self.bench.good_arm(number, mask);
                 PrintKind::Nothing
             }
             Order::Lose(number) => {
-                self.line.lose(*number);
+                self.line.lose(number);
                 PrintKind::Nothing
             }
             Order::Garble(number) => {
-                self.line.garble(*number);
+                self.line.garble(number);
                 PrintKind::Nothing
             }
         }

@@ -9,7 +9,7 @@ ghost use Rattle.t1_link.specs.declared.block.Fault.TheVariants.{WrongCheck};
 ghost use Rattle.card_bench.specs.declared.exchange.TheConstants.{LINE_BLOCKS};
 ghost use Rattle.card_bench.specs.declared.line.Line.{Line};
 ghost use Rattle.card_bench.specs.declared.order.TheConstants.{BLOCK_LIMIT, COMMAND_LIMIT, LINE_LIMIT, NUMBER_DIGITS};
-ghost use Rattle.card_bench.specs.declared.order.Order.{Order};
+ghost use Rattle.card_bench.specs.Orders.{Order};
 ghost use Rattle.card_bench.specs.declared.playing.Item.{Item};
 ghost use Rattle.card_bench.specs.declared.playing.Item.TheVariants.{Mute};
 ghost use Rattle.card_bench.specs.declared.playing.Turn.{Turn};

@@ -1,12 +1,13 @@
 //! What a line of a script asks for.
-ghost use Rattle.std.specs.Prelude.{◌≡◌, ◌≤◌, length, true};
+ghost use Rattle.std.specs.Prelude.{◌≡◌, ◌≤◌, ℕ, List, [], length, true};
 ghost use Rattle.std.specs.List.{list_all};
 ghost use Rattle.std.specs.Str.Parse.{digits_value};
 ghost use Rattle.std.specs.Char.{is_ascii_digit};
 ghost use Rattle.hex.specs.Hex.{decode_of};
+ghost use Rattle.card_bench.specs.OrderViews.{asked_with, given_if};
 ghost use Rattle.card_bench.specs.Orders.{bytes_in, cut_in, mask_by, number_in};
 
-use arrayvec::ArrayVec;
+use std::marker::Model;
 use t1_link::LONGEST_COMMAND;
 
 /// The most bytes of a line, without its end.
@@ -21,11 +22,62 @@ const BLOCK_LIMIT: usize = 300;
 /// The most digits of a number.
 const NUMBER_DIGITS: usize = 6;
 
-/// The bytes that a line gives.
-pub(crate) type GivenBytes = ArrayVec<u8, BLOCK_LIMIT>;
-
-/// What a line of a script asks for.
+/// The bytes that a line gives. What stands behind them tells nothing.
 #[derive(Drop)]
+pub(crate) struct GivenBytes {
+    bytes: [u8; BLOCK_LIMIT],
+    size: usize,
+}
+
+impl Model for GivenBytes {
+    ghost use Rattle.std.specs.Prelude.{◌≤◌, ℕ, List, take};
+    ghost use Rattle.card_bench.specs.declared.order.TheConstants.{BLOCK_LIMIT};
+
+    ghost Value = { List ℕ };
+
+    ghost view = { λ given. take given.size given.bytes };
+
+    ghost invariant = { λ given. given.size ≤ BLOCK_LIMIT };
+}
+
+impl GivenBytes {
+    /// No bytes.
+    pub(crate) fn new() -> GivenBytes
+        ensures { result ≡ [] }
+    {
+        GivenBytes {
+            bytes: [0; BLOCK_LIMIT],
+            size: 0,
+        }
+    }
+
+    /// The bytes.
+    pub(crate) fn as_slice(&self) -> &[u8]
+        ensures { result.now ≡ self.now }
+    {
+        &self.bytes[..self.size]
+    }
+
+    /// Takes the bytes that hexadecimal digits spell, where they are 1 to `limit`.
+    fn decode(&mut self, digits: &[u8], limit: usize) -> bool
+        requires { limit ≤ BLOCK_LIMIT }
+        ensures { given_if result self.new ≡ bytes_in digits.now limit }
+    {
+        let size = digits.len() / 2;
+        // Two comparisons, since what `contains` tells of a range has to be proved end by end.
+        if size == 0 || size > limit {
+            return false;
+        }
+        self.size = size;
+        match hex::decode_to_slice(digits, &mut self.bytes[..size]) {
+            Ok(()) => true,
+            Err(_) => false,
+        }
+    }
+}
+
+/// What a line of a script asks for. The bytes that it gives aren't in it: they stand in a buffer.
+#[derive(Clone, Copy)]
 pub(crate) enum Order {
     /// Nothing: an empty line or a comment.
     Nothing,
@@ -36,9 +88,9 @@ pub(crate) enum Order {
     /// What is free.
     Free,
     /// A command, 1 to 261 bytes, through both ends of the link.
-    Apdu(GivenBytes),
+    Apdu,
     /// A block, 1 to 300 bytes, straight to the card's end.
-    Block(GivenBytes),
+    Block,
     /// The device write with this number from now, 1 to 999,999, is cut, with these words of it new.
     Cut { number: u32, mask: u16 },
     /// The block with this number from now, 1 to 999,999, is lost.
@@ -50,10 +102,10 @@ pub(crate) enum Order {
 impl Order {
     ghost use Rattle.card_bench.specs.Orders.{order_of};
 
-    /// What a line asks for, if it is a line of a script.
+    /// What a line asks for, if it is a line of a script. Bytes that it gives go to the buffer.
     #[tactic(auto, unfolding(crate::specs::Orders::order_of))]
-    pub fn parse(line: &[u8]) -> Option<Order>
-        ensures { result ≡ order_of line.now }
+    pub(crate) fn parse(line: &[u8], given: &mut GivenBytes) -> Option<Order>
+        ensures { asked_with result given.new ≡ order_of line.now }
     {
         if line.len() > LINE_LIMIT {
             None
@@ -66,9 +118,9 @@ impl Order {
         } else if line == b"free".as_slice() {
             Some(Order::Free)
         } else if let Some(digits) = line.strip_prefix(b"apdu ") {
-            bytes_in(digits, COMMAND_LIMIT).map(Order::Apdu)
+            given.decode(digits, COMMAND_LIMIT).then_some(Order::Apdu)
         } else if let Some(digits) = line.strip_prefix(b"block ") {
-            bytes_in(digits, BLOCK_LIMIT).map(Order::Block)
+            given.decode(digits, BLOCK_LIMIT).then_some(Order::Block)
         } else if let Some(words) = line.strip_prefix(b"cut ") {
             cut_of(words)
         } else if let Some(digits) = line.strip_prefix(b"lose ") {
@@ -78,24 +130,6 @@ impl Order {
         } else {
             None
         }
-    }
-}
-
-/// The bytes that hexadecimal digits spell, where they are 1 to `limit`.
-fn bytes_in(digits: &[u8], limit: usize) -> Option<GivenBytes>
-    requires { limit ≤ BLOCK_LIMIT }
-    ensures { result ≡ bytes_in digits.now limit }
-{
-    let size = digits.len() / 2;
-    // Two comparisons, since what `contains` tells of a range has to be proved end by end.
-    if size == 0 || size > limit {
-        return None;
-    }
-    let mut bytes = GivenBytes::from([0; BLOCK_LIMIT]);
-    bytes.truncate(size);
-    match hex::decode_to_slice(digits, &mut bytes) {
-        Ok(()) => Some(bytes),
-        Err(_) => None,
     }
 }
 
@@ -112,7 +146,7 @@ fn number_of(digits: &[u8]) -> Option<u32>
 
 /// A cut: a number, a space, and four hexadecimal digits.
 fn cut_of(words: &[u8]) -> Option<Order>
-    ensures { result ≡ cut_in words.now }
+    ensures { (given : List ℕ) → asked_with result given ≡ cut_in words.now }
 {
     let [number @ .., b' ', first, second, third, fourth] = words else {
         return None;

@@ -95,11 +95,10 @@ fn size_in_line(bytes: &[u8]) -> usize
     ensures before { IsInLine (take result bytes.now) }
     ensures at { result < length bytes.now → slice_index bytes.now result ≡ 10 }
 {
-    let mut size = 0;
-    while size < bytes.len() && bytes[size] != b'\n' {
-        size += 1;
+    match memchr::memchr(b'\n', bytes) {
+        Some(size) => size,
+        None => bytes.len(),
     }
-    size
 }
 
 /// Reads the next line into the buffer, and counts the bytes that were taken. A line of too many bytes is told before

@@ -6,7 +6,7 @@ ghost use Rattle.card_bench.specs.Prints.{IsFirstDesk};
 use crate::desk::Desk;
 use crate::factory::factory_board;
 use crate::fault::RunFault;
-use crate::order::Order;
+use crate::order::{GivenBytes, Order};
 use crate::printing::{PrintedText, print};
 use crate::reading::{LineBytes, LineEnd, LineFault, SCRIPT_LIMIT, read_line};
 use nvm_board::CutBoard;
@@ -62,6 +62,7 @@ fn run_lines<R: BufRead, W: Write>(
     ensures memory { result ≢ Err RunFault.Memory }
 {
     let mut line = LineBytes::new();
+    let mut given = GivenBytes::new();
     let mut text = PrintedText::new();
     let mut taken = 0;
     // A script of so many bytes has no more lines, and one without a line feed at its end.
@@ -72,10 +73,10 @@ fn run_lines<R: BufRead, W: Write>(
             Err(LineFault::TooMuch) => return Err(RunFault::Read),
             Err(LineFault::TooLong) => return Err(RunFault::BadLine(number)),
         };
-        let Some(order) = Order::parse(&line) else {
+        let Some(order) = Order::parse(&line, &mut given) else {
             return Err(RunFault::BadLine(number));
         };
-        let printed = desk.perform(&order);
+        let printed = desk.perform(order, given.as_slice());
         let Ok(()) = print(writer, printed, desk.bytes(printed), &mut text) else {
             return Err(RunFault::Write);
         };

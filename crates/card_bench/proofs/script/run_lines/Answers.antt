@@ -3,6 +3,7 @@ use Rattle.std.specs.Io.KnownBytes.{Appends}
 use Rattle.card_bench.specs.declared.reading.LineFault.TheVariants.{Read, TooLong, TooMuch}
 use Rattle.card_bench.specs.DeskViews.{bytes_of}
 use Rattle.card_bench.specs.Endings.{IsRunToLine}
+use Rattle.card_bench.specs.OrderViews.{order_with}
 use Rattle.card_bench.specs.Orders.{order_of}
 use Rattle.card_bench.specs.Printouts.{print_of, text_of}
 use Rattle.card_bench.specs.Scripts.{TakesLine}
@@ -56,7 +57,10 @@ returns-in_default-clause-stopped g c =
 
 pub returns-in_default-print-clause-stopped : goal.returns-in_default-print-clause-stopped
 returns-in_default-print-clause-stopped g c =
-    let good : order_of c.read_line.new.line.items ≡ Some c.in-Some.order = ap order_of (sym c.deref.ensures.0) ∙ sym c.in-Some.ensures in
+    let order = order_with c.in-Some.order c.as_slice.result.now in
+    let good : order_of c.read_line.new.line.items ≡ Some order =
+    ap order_of (sym c.deref.ensures.0) ∙ sym c.in-Some.ensures
+    ∙ ap (λ (l : List ℕ). Some (order_with c.in-Some.order l)) (sym c.as_slice.ensures) in
     let printed = c.perform-printed.result in
     let before = g.W.Write.contents c.loop-number.writer in
     let after = g.W.Write.contents c.print.new.writer in
@@ -71,12 +75,18 @@ returns-in_default-print-clause-stopped g c =
 
 pub perform-printed-requires-clause-sized : goal.perform-printed-requires-clause-sized
 perform-printed-requires-clause-sized g c =
-    let good : order_of c.read_line.new.line.items ≡ Some c.in-Some.order = ap order_of (sym c.deref.ensures.0) ∙ sym c.in-Some.ensures in
+    let order = order_with c.in-Some.order c.as_slice.result.now in
+    let good : order_of c.read_line.new.line.items ≡ Some order =
+    ap order_of (sym c.deref.ensures.0) ∙ sym c.in-Some.ensures
+    ∙ ap (λ (l : List ℕ). Some (order_with c.in-Some.order l)) (sym c.as_slice.ensures) in
     (order_of-in_range _ _ good).0
 
 pub returns-in-EndOfScript-clause-done : goal.returns-in-EndOfScript-clause-done
 returns-in-EndOfScript-clause-done g c =
-    let good : order_of c.read_line.new.line.items ≡ Some c.in-Some.order = ap order_of (sym c.deref.ensures.0) ∙ sym c.in-Some.ensures in
+    let order = order_with c.in-Some.order c.as_slice.result.now in
+    let good : order_of c.read_line.new.line.items ≡ Some order =
+    ap order_of (sym c.deref.ensures.0) ∙ sym c.in-Some.ensures
+    ∙ ap (λ (l : List ℕ). Some (order_with c.in-Some.order l)) (sym c.as_slice.ensures) in
     let old = g.R.Read.remaining c.loop-number.reader in
     let new = g.R.Read.remaining c.read_line.new.reader in
     let printed = c.perform-printed.result in
@@ -95,7 +105,10 @@ loop-number-init g c =
 
 pub loop-number-preserved : goal.loop-number-preserved
 loop-number-preserved g c =
-    let good : order_of c.read_line.new.line.items ≡ Some c.in-Some.order = ap order_of (sym c.deref.ensures.0) ∙ sym c.in-Some.ensures in
+    let order = order_with c.in-Some.order c.as_slice.result.now in
+    let good : order_of c.read_line.new.line.items ≡ Some order =
+    ap order_of (sym c.deref.ensures.0) ∙ sym c.in-Some.ensures
+    ∙ ap (λ (l : List ℕ). Some (order_with c.in-Some.order l)) (sym c.as_slice.ensures) in
     let first = g.R.Read.remaining c.args.reader.now in
     let old = g.R.Read.remaining c.loop-number.reader in
     let new = g.R.Read.remaining c.read_line.new.reader in
