@@ -241,8 +241,8 @@ fn find_place<B: Board>(
 /// refused nothing is changed, and nothing is written. The index follows once all is done.
 ///
 /// # Errors
-/// What the store answers: power was lost, or the device failed. The tree is then as it was, or as after the creation; the
-/// index is as it was.
+/// What the store answers: power was lost, or the device failed. The tree is then as it was, or as after the creation; and
+/// the index as it was.
 pub fn create<B: Board>(
     store: &mut Store<B>,
     index: &mut Index,
@@ -262,7 +262,8 @@ pub fn create<B: Board>(
         → creation_refusal (block_count (committed store.old)) (tree_of (committed store.old)) (path_of (table (committed store.old)) df) fcp.now ≡ Some status
         → OnlyReads store.old store.new }
     ensures done { IfOk result (λ creation. TellsCreation (committed store.old) df fcp.now creation (committed store.new)) }
-    ensures index { MatchResult result (λ creation. IsIndex (table (committed store.new)) index.new) (λ error. index.new ≡ index.old) }
+    ensures index { MatchResult result (λ creation. IsIndex (table (committed store.new)) index.new)
+        (λ error. index.new ≡ index.old) }
 {
     let entry = match find_place(store, index, df, fcp)? {
         Place::At(entry) => entry,

@@ -181,8 +181,8 @@ fn removal_of<B: Board>(store: &mut Store<B>, e: u8) -> Result<Removal, StoreErr
 /// blocks. The answer is how many of both. The master file (entry 0) is not deleted. The index follows once all is done.
 ///
 /// # Errors
-/// What the store answers: power was lost, or the device failed. The tree is then as it was, or as after the deletion; the
-/// index is as it was.
+/// What the store answers: power was lost, or the device failed. The tree is then as it was, or as after the deletion; and
+/// the index as it was.
 pub fn delete<B: Board>(
     store: &mut Store<B>,
     index: &mut Index,
@@ -200,7 +200,8 @@ pub fn delete<B: Board>(
             ≡ with_freed (free_space (block_count (committed store.old)) (tree_of (committed store.old))) freed) }
     ensures by_gate { CommitsByGate store.old store.new }
     ensures store { Changes DELETE_WRITES store.old store.new (result_err result) }
-    ensures index { MatchResult result (λ freed. IsIndex (table (committed store.new)) index.new) (λ error. index.new ≡ index.old) }
+    ensures index { MatchResult result (λ freed. IsIndex (table (committed store.new)) index.new)
+        (λ error. index.new ≡ index.old) }
 {
     let removal = removal_of(store, e)?;
     remove(store, removal.part.as_slice(), removal.chains.as_slice())?;

@@ -79,7 +79,8 @@ pub fn find_parent<B: Board>(store: &mut Store<B>, df: u8) -> Result<Reached, St
 /// path leads to the file itself, and no path leads through an elementary file.
 pub fn find_path(index: &Index, df: u8, path: &[u16]) -> Reached
     ensures found { (m : List ℕ) → TreeStands m → IsUsed (table m) df → IsIndex (table m) index.now
-        → option_map (path_of (table m)) result ≡ selected (tree_of m) (path_of (table m) df) (path_from_current path.now) }
+        → option_map (path_of (table m)) result
+        ≡ selected (tree_of m) (path_of (table m) df) (path_from_current path.now) }
     ensures used { (m : List ℕ) → TreeStands m → IsUsed (table m) df → IsIndex (table m) index.now
         → IfSome result (IsUsed (table m)) }
 {

@@ -8,7 +8,8 @@ use Rattle.std.proofs.Common.{refl, sym, ◌∙◌, ap, ap₂, subst, arith, inl
 use Rattle.std.proofs.lemmas.Bool.{cases_lt}
 use Rattle.std.proofs.lemmas.Bool.Decides.{eqb_tells}
 use Rattle.std.proofs.lemmas.List.{take-append-drop, get_or_default, length-append, length-map, nil_from_length}
-use Rattle.std.proofs.lemmas.List.Elements.{All-nil, All-cons, All-head, All-tail, All-append, All-map, recursion_from_All, Contains-append_cases, Contains-append_left, Contains-append_right}
+use Rattle.std.proofs.lemmas.List.Elements.{All-nil, All-cons, All-head, All-tail, All-append, All-map, recursion_from_All}
+use Rattle.std.proofs.lemmas.List.Elements.{Contains-append_cases, Contains-append_left, Contains-append_right}
 use Rattle.std.proofs.lemmas.Map.Steps.{length-le_from_distinct_below}
 use Rattle.file_tree.specs.declared.layout.TheConstants.{ENTRIES}
 use Rattle.file_tree.specs.declared.entry.Entry.{Entry}
@@ -326,7 +327,8 @@ room index e is =
     (λ k d lt. let below = (each k d lt).below in differ 0 (slice_index_or items k d).entry (λ zero_is. let z : ⊥ = omega (arith, zero_is, below) in z)) in
     let other : All (λ y. (e == y) ≡ false) numbers = All-map (λ y. (e == y) ≡ false) (λ (p : Place). p.entry) items
     (λ k d lt. differ e (slice_index_or items k d).entry (λ same. (each k d lt).used (ap (λ (f : ℕ). (entry_in t f).kind) (sym same) ∙ is.free))) in
-    let small : All (λ y. y < 64) numbers = All-map (λ y. y < 64) (λ (p : Place). p.entry) items (λ k d lt. in_table t is.size (slice_index_or items k d).entry (each k d lt).used) in
+    let small : All (λ y. y < 64) numbers = All-map (λ y. y < 64) (λ (p : Place). p.entry) items
+    (λ k d lt. in_table t is.size (slice_index_or items k d).entry (each k d lt).used) in
     let all_small : All (λ y. y < 64) (0 ∷ e ∷ numbers) =
     All-cons (λ y. y < 64) 0 (e ∷ numbers) (omega arith) (All-cons (λ y. y < 64) e numbers (let within = is.within in omega (arith, within)) small) in
     let first : (0 == e) ≡ false = differ 0 e (λ zero_is. let below = is.below in let z : ⊥ = omega (arith, zero_is, below) in z) in

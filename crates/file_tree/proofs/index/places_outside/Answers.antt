@@ -59,7 +59,8 @@ loop-place-preserved c =
 
 pub returns : goal.returns
 returns c =
-    let all : c.loop-place.place-index ≡ length c.args.places.now = (let end = c.loop-place.auto.place-index-end in let test = c.loop-place-test.false in omega (arith, end, test)) in
+    let all : c.loop-place.place-index ≡ length c.args.places.now =
+    (let end = c.loop-place.auto.place-index-end in let test = c.loop-place-test.false in omega (arith, end, test)) in
     c.loop-place.invariant.so_far
     ∙ ap (λ (n : ℕ). filter (is_outside c.args.places.now c.args.top) (take n c.args.places.now)) all
     ∙ ap (filter (is_outside c.args.places.now c.args.top)) (take-length c.args.places.now)
