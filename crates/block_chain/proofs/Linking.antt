@@ -1,12 +1,11 @@
 -- Pages that are linked one by one.
-use Rattle.std.specs.Prelude.{◌≡◌, ◌≢◌, ◌⊎◌, ◌==◌, ◌<◌, ◌≤◌, ◌+◌, ℕ, Bool, if◌then◌else◌, List, slice_set, length}
+use Rattle.std.specs.Prelude.{◌≡◌, ◌≢◌, ◌⊎◌, ◌==◌, ◌<◌, ◌≤◌, ◌+◌, ℕ, if◌then◌else◌, List, slice_set, length}
 use Rattle.std.proofs.Common.{refl, sym, ◌∙◌, ap, subst, arith, inl, inr, ⊎_elim}
 use Rattle.std.proofs.Math.ListN.{length-set}
 use Rattle.std.proofs.lemmas.Bool.{cases_lt}
 use Rattle.nvm_board.specs.Facts.{address, IsMemory, pages_of}
-use Rattle.nvm_board.specs.declared.board.TheConstants.{PAGE_WORDS}
-use Rattle.nvm_board.specs.laws.Sizes.{page_within, pages_same, memory_same}
-use Rattle.block_chain.specs.Words.{word, link}
+use Rattle.nvm_board.specs.laws.Sizes.{page_within}
+use Rattle.block_chain.specs.Words.{link}
 use Rattle.block_chain.specs.Changes.{LinksAlone}
 use Rattle.block_chain.specs.laws.Words.{word-set_other, word-set_same}
 

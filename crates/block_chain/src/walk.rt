@@ -12,7 +12,7 @@ ghost use Rattle.nvm_board.specs.Facts.{pages_of};
 ghost use Rattle.block_chain.specs.declared.layout.TheConstants.{FIRST_BLOCK_PAGE};
 
 use crate::chain::Extent;
-use crate::layout::{MOST_BLOCKS, FIRST_BLOCK_PAGE, FREE_HEAD};
+use crate::layout::{FIRST_BLOCK_PAGE, FREE_HEAD, MOST_BLOCKS};
 use undo_journal::{Board, PAGE_WORDS, Store, StoreErr};
 
 /// How long a chain is, and its last block, or 0.

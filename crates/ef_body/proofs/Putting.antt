@@ -9,7 +9,7 @@ use Rattle.nvm_board.specs.declared.board.TheConstants.{PAGE_WORDS}
 use Rattle.undo_journal.specs.declared.layout.TheConstants.{GATE}
 use Rattle.block_chain.specs.declared.chain.Chain.{Chain}
 use Rattle.block_chain.specs.declared.layout.TheConstants.{FIRST_BLOCK_PAGE, MOST_BLOCKS, BLOCK_WORDS}
-use Rattle.block_chain.specs.Words.{word, IsBlock}
+use Rattle.block_chain.specs.Words.{word}
 use Rattle.block_chain.specs.Counts.{count, IsNotIn}
 use Rattle.block_chain.specs.Chains.{chain_of, bytes_of, IsChain}
 use Rattle.undo_journal.specs.Spending.{transaction_writes}

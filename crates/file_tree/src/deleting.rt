@@ -197,7 +197,7 @@ pub fn delete<B: Board>(
     ensures done { OnOk result (Deletes (committed store.old) e (committed store.new)) }
     ensures space { IfOk result (λ freed.
         free_space (block_count (committed store.new)) (tree_of (committed store.new))
-            ≡ with_freed (free_space (block_count (committed store.old)) (tree_of (committed store.old))) freed) }
+        ≡ with_freed (free_space (block_count (committed store.old)) (tree_of (committed store.old))) freed) }
     ensures by_gate { CommitsByGate store.old store.new }
     ensures store { Changes DELETE_WRITES store.old store.new (result_err result) }
     ensures index { MatchResult result (λ freed. IsIndex (table (committed store.new)) index.new)

@@ -1,11 +1,11 @@
 -- The device writes of the migration's transaction, set by set.
-use Rattle.std.specs.Prelude.{◌≡◌, ◌≢◌, ◌==◌, ◌⊎◌, ◌<◌, ◌≤◌, ◌+◌, ◌*◌, ℕ, zero, suc, Bool, false, List, [], ◌∷◌, ◌++◌, length, if◌then◌else◌}
-use Rattle.std.proofs.Common.{refl, sym, ◌∙◌, ap, arith, inl, inr, length-append}
+use Rattle.std.specs.Prelude.{◌≡◌, ◌==◌, ◌<◌, ◌≤◌, ◌+◌, ℕ, zero, suc, Bool, false, List, [], ◌∷◌, ◌++◌, length, if◌then◌else◌}
+use Rattle.std.proofs.Common.{refl, ◌∙◌, ap, arith, inl, inr, length-append}
 use Rattle.nvm_board.specs.Facts.{Facts, address}
 use Rattle.undo_journal.specs.declared.batch.TheConstants.{BATCH}
 use Rattle.undo_journal.specs.declared.batch.Waiting.{Waiting}
 use Rattle.undo_journal.specs.Batches.{joined, batch_writes}
-use Rattle.undo_journal.specs.Memory.{Memory, Joins, IsIdle, commit_writes, set_writes, taken}
+use Rattle.undo_journal.specs.Memory.{Memory, Joins, IsIdle, commit_writes, set_writes}
 use Rattle.undo_journal.specs.Spending.{WritesAtMost}
 use Rattle.undo_journal.specs.laws.Joining.{commit_of_some}
 use Rattle.undo_journal.specs.laws.Told.{idle_waits}

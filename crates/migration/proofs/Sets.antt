@@ -1,5 +1,5 @@
 -- The words that the migration's transaction sets, one by one, and what they make of the card.
-use Rattle.std.specs.Prelude.{◌≡◌, ◌≢◌, ◌==◌, ◌⊎◌, ◌<◌, ◌≤◌, ◌+◌, ◌-◌, ◌*◌, ◌/◌, ℕ, Bool, List, length, slice_index, slice_set, if◌then◌else◌}
+use Rattle.std.specs.Prelude.{◌≡◌, ◌≢◌, ◌==◌, ◌⊎◌, ◌<◌, ◌≤◌, ◌+◌, ℕ, Bool, List, length, slice_set, if◌then◌else◌}
 use Rattle.std.proofs.Common.{refl, sym, ◌∙◌, ap, subst, arith, inl, inr, ⊎_elim}
 use Rattle.std.proofs.Math.ListN.{length-set}
 use Rattle.std.proofs.lemmas.Bool.Decides.{eqb_tells}
@@ -11,14 +11,12 @@ use Rattle.block_chain.specs.Changes.{LinksAlone, AreLinked}
 use Rattle.block_chain.specs.declared.layout.TheConstants.{HEADER_PAGE, FREE_HEAD_WORD}
 use Rattle.block_chain.specs.laws.Words.{word-set_other, word-set_same}
 use Rattle.file_tree.specs.declared.layout.TheConstants.{MARK_WORD, PAGES_WORD, MARK, OLD_END_PAGE, STATE_WORD}
-use Rattle.file_tree.specs.Trees.{tree_of, TreeStands}
-use Rattle.file_tree.specs.Migration.{Renames}
+use Rattle.file_tree.specs.Trees.{TreeStands}
 use Rattle.file_tree.specs.laws.Footprints.{tree_kept}
 use Rattle.file_tree.specs.laws.Migrating.{links_keep, migrated_tree}
 use Rattle.pin_store.specs.declared.layout.TheConstants.{FIRST_PIN_PAGE}
-use Rattle.pin_store.specs.Pages.{KeepsPins}
 use Rattle.migration.specs.declared.migrating.TheConstants.{PIN_MARK_WORD}
-use Rattle.migration.specs.Migrating.{MarksPins, RenamesHeader, IsRenamed, KeepsCard, IsNew, IsMigrated, Migrates}
+use Rattle.migration.specs.Migrating.{MarksPins, RenamesHeader, IsRenamed, IsMigrated, Migrates}
 
 pub marks_none : (m : List ℕ) → MarksPins 0 m m
 marks_none m = record { size = refl; marked = λ pin lt. absurd (omega (arith, lt)); others = λ page place small apart. refl }
@@ -144,8 +142,10 @@ links_migrate end m after sized stands old only =
         size = only.size;
         stands = kept.0;
         tree = kept.2;
-        pins = record { words = λ pin place lt small. only.others (FIRST_PIN_PAGE + pin) place (omega (arith, small))
-            (inr (inl (omega (arith, lt)))) };
+        pins = record {
+          words = λ pin place lt small. only.others (FIRST_PIN_PAGE + pin) place (omega (arith, small))
+              (inr (inl (omega (arith, lt))));
+        };
         state = only.others HEADER_PAGE STATE_WORD (omega arith) (inr (inl (omega arith)));
       };
       format = inl (only.others HEADER_PAGE MARK_WORD (omega arith) (inr (inl (omega arith))));
@@ -163,8 +163,10 @@ all_migrated end m mid after sized stands old least is only linked renamed =
         size = size;
         stands = tree.0;
         tree = tree.1;
-        pins = record { words = λ pin place lt small. renamed.pins.words pin place lt small
-            ∙ only.others (FIRST_PIN_PAGE + pin) place (omega (arith, small)) (inr (inl (omega (arith, lt)))) };
+        pins = record {
+          words = λ pin place lt small. renamed.pins.words pin place lt small
+              ∙ only.others (FIRST_PIN_PAGE + pin) place (omega (arith, small)) (inr (inl (omega (arith, lt))));
+        };
         state = renamed.renames.state ∙ only.others HEADER_PAGE STATE_WORD (omega arith) (inr (inl (omega arith)));
       };
       new = record {

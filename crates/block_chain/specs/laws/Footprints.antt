@@ -21,7 +21,7 @@ use Rattle.block_chain.specs.laws.Counts.{count-nil, count-other, count-append, 
 use Rattle.block_chain.specs.laws.Chains.{leads_same, pages_are}
 use Rattle.block_chain.specs.laws.Bytes.{blocks_same, AreBlocks, leads_blocks, block_in, content_word, index-bytes_of}
 use Rattle.block_chain.specs.laws.Bytes.{length-bytes_of}
-use Rattle.block_chain.specs.laws.Laying.{laid_of, pages_most, leads_count, laid_count, laid_out-nil, laid_out-cons}
+use Rattle.block_chain.specs.laws.Laying.{laid_of, pages_most, laid_out-nil, laid_out-cons}
 use Rattle.block_chain.specs.laws.Extents.{count_extent}
 
 -- The words of a page depend on themselves alone.

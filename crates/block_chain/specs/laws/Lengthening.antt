@@ -1,6 +1,6 @@
 -- Pages behind the blocks that become blocks: they are linked in order, before the blocks that were free.
-use Rattle.std.specs.Prelude.{◌≡◌, ◌≢◌, ◌⊎◌, ◌==◌, ◌<◌, ◌≤◌, ◌+◌, ◌-◌, ◌*◌, ◌/◌, ◌%◌, ℕ, zero, suc, Bool, if◌then◌else◌}
-use Rattle.std.specs.Prelude.{List, [], ◌∷◌, ◌++◌, length, slice_index, slice_index_or, All}
+use Rattle.std.specs.Prelude.{◌≡◌, ◌<◌, ◌≤◌, ◌+◌, ◌/◌, ◌%◌, ℕ, zero, suc, Bool, if◌then◌else◌}
+use Rattle.std.specs.Prelude.{List, ◌∷◌, ◌++◌, length, slice_index, slice_index_or, All}
 use Rattle.std.specs.List.{range_with_len}
 use Rattle.std.proofs.Common.{refl, sym, ◌∙◌, ap, subst, arith, inl, inr, ⊎_elim}
 use Rattle.std.proofs.lemmas.Bool.{cases_lt}
@@ -9,14 +9,14 @@ use Rattle.std.proofs.lemmas.List.{length-append}
 use Rattle.nvm_board.specs.Facts.{IsMemory, pages_of}
 use Rattle.nvm_board.specs.laws.Sizes.{pages_same}
 use Rattle.nvm_board.specs.declared.board.TheConstants.{PAGE_WORDS}
-use Rattle.block_chain.specs.Words.{link, word, IsBlock}
+use Rattle.block_chain.specs.Words.{link, word}
 use Rattle.block_chain.specs.Counts.{count}
-use Rattle.block_chain.specs.Chains.{Leads, chain, free_chain}
+use Rattle.block_chain.specs.Chains.{Leads, free_chain}
 use Rattle.block_chain.specs.Changes.{AreLinked}
 use Rattle.block_chain.specs.Layout.{IsOf, IsExtent, AreLaid, SameBytes, blocks_of, laid_out}
 use Rattle.block_chain.specs.declared.chain.Extent.{Extent}
 use Rattle.block_chain.specs.declared.layout.TheConstants.{FREE_HEAD, FIRST_BLOCK_PAGE, MOST_BLOCKS, BLOCK_WORDS}
-use Rattle.block_chain.specs.laws.Chains.{leads_same, leads_then, pages_are, block_same}
+use Rattle.block_chain.specs.laws.Chains.{leads_same, leads_then, pages_are}
 use Rattle.block_chain.specs.laws.Counts.{count-index, count-append, count-here, count-other, count-nil}
 use Rattle.block_chain.specs.laws.Footprints.{extent_kept, extents_kept, bytes_same}
 use Rattle.block_chain.specs.laws.Bytes.{leads_blocks}
@@ -69,9 +69,12 @@ row-leads m first a (suc k) end rest linked low from all inside =
       | inl same ↦ absurd (let is = same.1 in omega (arith, is, all))
       | inr other ↦ ap (λ (b : Bool). if b then rest else a + 1) other.0
     ]) in
-    let family : ℕ → Type 0 = λ p. Leads m p (range_with_len (a + 1) (suc k)) rest in
-    (refl, (omega (arith, low, from), omega (arith, all, inside)), subst family (sym next)
-        (row-leads m first (a + 1) k end rest linked low (omega (arith, from)) (omega (arith, all)) inside))
+    let family : ℕ → Type 0 = λ p. Leads m p (range_with_len (a + 1) (suc k)) rest in (
+      refl,
+      (omega (arith, low, from), omega (arith, all, inside)),
+      subst family (sym next)
+          (row-leads m first (a + 1) k end rest linked low (omega (arith, from)) (omega (arith, all)) inside),
+    )
 
 -- More blocks: the pages behind the n blocks are linked in order, the last to the block that was free first, and the header
 -- names the first of them; the links of the n blocks stay.

@@ -1,7 +1,7 @@
 -- What an entry more makes of the tree, once its blocks are laid out: one file more, and all others stay.
 use Rattle.nvm_board.specs.laws.Sizes.{memory_same}
 use Rattle.file_tree.specs.declared.layout.TheConstants.{MARK_WORD, PAGES_WORD}
-use Rattle.file_tree.specs.laws.Formats.{count_same, format_same, format_then, laid_as}
+use Rattle.file_tree.specs.laws.Formats.{laid_as}
 use Rattle.file_tree.specs.Formats.{block_count, SameFormat}
 use Rattle.nvm_board.specs.Facts.{IsMemory}
 use Rattle.std.specs.Prelude.{◌≡◌, ◌≢◌, ◌⊎◌, ◌<◌, ◌≤◌, ◌+◌, ◌-◌, ℕ, zero, suc, List, [], ◌∷◌, ◌++◌, map, length, take, drop}
@@ -15,7 +15,7 @@ use Rattle.std.proofs.lemmas.List.Elements.{filter_map-append}
 use Rattle.nvm_board.specs.declared.board.TheConstants.{PAGE_WORDS}
 use Rattle.block_chain.specs.declared.layout.TheConstants.{HEADER_PAGE, FREE_HEAD_WORD, FIRST_BLOCK_PAGE}
 use Rattle.block_chain.specs.declared.chain.Extent.{Extent}
-use Rattle.block_chain.specs.Words.{word, page_words, IsBlock}
+use Rattle.block_chain.specs.Words.{word, page_words}
 use Rattle.block_chain.specs.Chains.{bytes_of, free_chain}
 use Rattle.block_chain.specs.Changes.{KeepsBlocks, Takes}
 use Rattle.block_chain.specs.Layout.{blocks_of, laid_out, AreLaid, SameBytes}

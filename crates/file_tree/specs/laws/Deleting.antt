@@ -1,7 +1,7 @@
 -- What freeing the entries of a file and of all below it, and giving their blocks back, makes of the tree.
 use Rattle.nvm_board.specs.laws.Sizes.{memory_same}
 use Rattle.file_tree.specs.declared.layout.TheConstants.{MARK_WORD, PAGES_WORD}
-use Rattle.file_tree.specs.laws.Formats.{count_same, format_same, format_then, laid_as}
+use Rattle.file_tree.specs.laws.Formats.{laid_as}
 use Rattle.file_tree.specs.Formats.{block_count, SameFormat}
 use Rattle.std.specs.Prelude.{◌≡◌, ◌≢◌, ◌==◌, ◌⊎◌, ◌<◌, ◌≤◌, ◌+◌, ◌-◌, ◌&&◌, ℕ, zero, suc, Bool, true, false, not, cond}
 use Rattle.std.specs.Prelude.{if◌then◌else◌, List, [], ◌∷◌, ◌++◌, map, length, slice_set, nat_eq, Option, None, Some, is_some, All}
@@ -17,7 +17,7 @@ use Rattle.nvm_board.specs.declared.board.TheConstants.{PAGE_WORDS}
 use Rattle.block_chain.specs.declared.layout.TheConstants.{HEADER_PAGE, FREE_HEAD_WORD, FIRST_BLOCK_PAGE}
 use Rattle.block_chain.specs.declared.chain.Extent.{Extent}
 use Rattle.block_chain.specs.Counts.{count}
-use Rattle.block_chain.specs.Words.{word, page_words, IsBlock}
+use Rattle.block_chain.specs.Words.{word, page_words}
 use Rattle.block_chain.specs.Chains.{bytes_of, free_chain, laid, HasFree, AreApart}
 use Rattle.block_chain.specs.Changes.{GivesBack, KeepsBlocks}
 use Rattle.block_chain.specs.Layout.{blocks_of, laid_out, chains_of, IsExtent, AreLaid, AreSplit, SameBytes}

@@ -1,8 +1,6 @@
 -- Which words the tree depends on: those of the entries' pages, those of blocks, and the header's of the free chain.
-use Rattle.nvm_board.specs.laws.Sizes.{memory_same}
-use Rattle.file_tree.specs.declared.layout.TheConstants.{MARK_WORD, PAGES_WORD}
-use Rattle.file_tree.specs.laws.Formats.{count_same, format_same, format_then, laid_as}
-use Rattle.file_tree.specs.Formats.{block_count, SameFormat}
+use Rattle.file_tree.specs.laws.Formats.{laid_as}
+use Rattle.file_tree.specs.Formats.{block_count}
 use Rattle.nvm_board.specs.Facts.{IsMemory}
 use Rattle.std.specs.Prelude.{◌≡◌, ◌==◌, ◌<◌, ◌≤◌, ◌+◌, ℕ, zero, suc, if◌then◌else◌, List, [], length, Option, None}
 use Rattle.std.specs.Prelude.{Some, All}

@@ -1,9 +1,8 @@
 -- What another state in the entry of a file makes of the tree: its file in this state, and all others stay.
 use Rattle.nvm_board.specs.declared.board.TheConstants.{PAGE_WORDS}
 use Rattle.block_chain.specs.Words.{word}
-use Rattle.nvm_board.specs.laws.Sizes.{memory_same}
 use Rattle.file_tree.specs.declared.layout.TheConstants.{MARK_WORD, PAGES_WORD}
-use Rattle.file_tree.specs.laws.Formats.{count_same, format_same, format_then, laid_as}
+use Rattle.file_tree.specs.laws.Formats.{laid_as}
 use Rattle.file_tree.specs.Formats.{block_count, SameFormat}
 use Rattle.std.specs.Prelude.{◌≡◌, ◌≢◌, ◌==◌, ◌<◌, ◌≤◌, ◌+◌, ◌-◌, ℕ, zero, suc, Bool, if◌then◌else◌, List, [], ◌∷◌, ◌++◌}
 use Rattle.std.specs.Prelude.{length, slice_index, slice_set, Option, None, Some, IsSome, is_some, unwrap_or, All}

@@ -1,8 +1,6 @@
 -- What a creation makes of the tree, from its steps.
 use Rattle.nvm_board.specs.laws.Sizes.{memory_same}
-use Rattle.file_tree.specs.declared.layout.TheConstants.{MARK_WORD, PAGES_WORD}
-use Rattle.file_tree.specs.laws.Formats.{count_same, format_same, format_then, laid_as}
-use Rattle.file_tree.specs.Formats.{block_count, SameFormat}
+use Rattle.file_tree.specs.Formats.{block_count}
 use Rattle.nvm_board.specs.Facts.{IsMemory}
 use Rattle.std.specs.Prelude.{◌≡◌, ◌≤◌, ◌+◌, ◌*◌, ℕ, List, [], ◌∷◌, ◌++◌, length, take, replicate, Option, None}
 use Rattle.std.specs.FinMap.{insert}

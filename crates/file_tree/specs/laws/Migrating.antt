@@ -1,21 +1,20 @@
 -- Laws of the way from format 1 to format 2: the tree stays, whole or cut.
-use Rattle.std.specs.Prelude.{◌≡◌, ◌≢◌, ◌==◌, ◌<◌, ◌≤◌, ◌+◌, ◌-◌, ℕ, zero, suc, Bool, if◌then◌else◌, List, length, slice_index, All}
-use Rattle.std.proofs.Common.{refl, sym, ◌∙◌, ap, subst, arith, inl, inr, ⊎_elim}
+use Rattle.std.specs.Prelude.{◌≡◌, ◌≢◌, ◌<◌, ◌≤◌, ◌+◌, ◌-◌, ℕ, suc, Bool, if◌then◌else◌, List, length, slice_index}
+use Rattle.std.proofs.Common.{sym, ◌∙◌, ap, subst, arith, inl, inr}
 use Rattle.std.proofs.lemmas.Bool.Decides.{eqb_tells}
 use Rattle.nvm_board.specs.Facts.{IsMemory, pages_of}
 use Rattle.nvm_board.specs.declared.board.TheConstants.{PAGE_WORDS}
 use Rattle.nvm_board.specs.laws.Sizes.{least_words}
-use Rattle.block_chain.specs.Words.{word, link}
+use Rattle.block_chain.specs.Words.{word}
 use Rattle.block_chain.specs.Changes.{LinksAlone, AreLinked}
-use Rattle.block_chain.specs.Layout.{IsOf, AreLaid, SameBytes}
-use Rattle.block_chain.specs.declared.chain.Extent.{Extent}
+use Rattle.block_chain.specs.Layout.{IsOf, AreLaid}
 use Rattle.block_chain.specs.declared.layout.TheConstants.{HEADER_PAGE, FREE_HEAD_WORD, FREE_HEAD, FIRST_BLOCK_PAGE}
 use Rattle.block_chain.specs.laws.Footprints.{laid_same, page_words_same}
 use Rattle.block_chain.specs.laws.Lengthening.{longer_laid, bytes_stay}
 use Rattle.file_tree.specs.declared.entry.Entry.{Entry}
 use Rattle.file_tree.specs.declared.layout.TheConstants.{MARK, MARK_WORD, PAGES_WORD, OLD_END_PAGE}
 use Rattle.file_tree.specs.Table.{table, extents, IsTable}
-use Rattle.file_tree.specs.Formats.{end_page, block_count}
+use Rattle.file_tree.specs.Formats.{block_count}
 use Rattle.file_tree.specs.Trees.{tree_of, TreeStands}
 use Rattle.file_tree.specs.Changes.{KeepsTree}
 use Rattle.file_tree.specs.Migration.{Renames}

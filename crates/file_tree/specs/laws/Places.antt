@@ -1,8 +1,5 @@
 -- Whether there is a place for a new file, and which.
-use Rattle.nvm_board.specs.laws.Sizes.{memory_same}
-use Rattle.file_tree.specs.declared.layout.TheConstants.{MARK_WORD, PAGES_WORD}
-use Rattle.file_tree.specs.laws.Formats.{count_same, format_same, format_then, laid_as}
-use Rattle.file_tree.specs.Formats.{block_count, SameFormat}
+use Rattle.file_tree.specs.Formats.{block_count}
 use Rattle.nvm_board.specs.Facts.{IsMemory}
 use Rattle.std.specs.Prelude.{◌≡◌, ◌≢◌, ◌==◌, ◌<◌, ◌≤◌, ◌||◌, ℕ, Bool, true, false, if◌then◌else◌, nat_lt}
 use Rattle.std.specs.Prelude.{List, length, None, Some}

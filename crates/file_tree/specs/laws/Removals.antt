@@ -1,10 +1,7 @@
 -- What a deletion frees, as it is found before it, and what it makes of the tree.
-use Rattle.nvm_board.specs.laws.Sizes.{memory_same}
-use Rattle.file_tree.specs.declared.layout.TheConstants.{MARK_WORD, PAGES_WORD}
-use Rattle.file_tree.specs.laws.Formats.{count_same, format_same, format_then, laid_as}
-use Rattle.file_tree.specs.Formats.{block_count, SameFormat}
+use Rattle.file_tree.specs.Formats.{block_count}
 use Rattle.nvm_board.specs.Facts.{IsMemory}
-use Rattle.std.specs.Prelude.{◌≡◌, ◌&&◌, ◌<◌, ◌≤◌, ◌+◌, ◌-◌, ℕ, Bool, true, false, not, if◌then◌else◌, List, map, length}
+use Rattle.std.specs.Prelude.{◌≡◌, ◌&&◌, ◌<◌, ◌≤◌, ◌+◌, ◌-◌, ℕ, Bool, true, false, not, if◌then◌else◌, List, map}
 use Rattle.std.specs.Prelude.{All}
 use Rattle.std.specs.List.{range_with_len, sum_by}
 use Rattle.std.proofs.Common.{refl, sym, ◌∙◌, ap, subst, arith, inl, inr, true≢false}

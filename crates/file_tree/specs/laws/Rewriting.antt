@@ -1,11 +1,10 @@
 -- What writing bytes of blocks makes of the tree: bytes of one file, and of free blocks.
 use Rattle.block_chain.specs.declared.layout.TheConstants.{HEADER_PAGE, FIRST_BLOCK_PAGE}
-use Rattle.nvm_board.specs.laws.Sizes.{memory_same}
 use Rattle.file_tree.specs.declared.layout.TheConstants.{MARK_WORD, PAGES_WORD}
-use Rattle.file_tree.specs.laws.Formats.{count_same, format_same, format_then, laid_as}
+use Rattle.file_tree.specs.laws.Formats.{laid_as}
 use Rattle.file_tree.specs.Formats.{block_count, SameFormat}
 use Rattle.nvm_board.specs.Facts.{IsMemory}
-use Rattle.std.specs.Prelude.{◌≡◌, ◌≢◌, ◌<◌, ◌≤◌, ◌==◌, ℕ, if◌then◌else◌, List, length, take}
+use Rattle.std.specs.Prelude.{◌≡◌, ◌≢◌, ◌<◌, ◌≤◌, ◌==◌, ℕ, if◌then◌else◌, List, take}
 use Rattle.std.specs.Prelude.{None, Some, unwrap_or}
 use Rattle.std.proofs.Common.{refl, sym, ◌∙◌, ap, ap₂, subst, arith, inl, inr, ⊎_elim}
 use Rattle.std.proofs.lemmas.Bool.{cases_lt}
@@ -15,7 +14,7 @@ use Rattle.card_rules.specs.LifeCycle.{life_cycle_at}
 use Rattle.card_rules.specs.declared.life_cycle.LifeCycle.TheVariants.{Activated}
 use Rattle.block_chain.specs.declared.chain.Extent.{Extent}
 use Rattle.block_chain.specs.Counts.{count, IsNotIn}
-use Rattle.block_chain.specs.Words.{word, IsBlock}
+use Rattle.block_chain.specs.Words.{word}
 use Rattle.block_chain.specs.Chains.{free_chain, bytes_of}
 use Rattle.block_chain.specs.Changes.{OnlyContent, overwrite}
 use Rattle.block_chain.specs.Layout.{blocks_of, laid_out, IsExtent, AreLaid}

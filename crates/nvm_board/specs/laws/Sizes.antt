@@ -1,6 +1,6 @@
 -- Laws of the size of a memory.
 use Rattle.std.specs.Prelude.{◌≡◌, ◌<◌, ◌≤◌, ◌+◌, ◌*◌, ◌/◌, ℕ, List, length}
-use Rattle.std.proofs.Common.{arith, ap, ◌∙◌, sym}
+use Rattle.std.proofs.Common.{arith, ap}
 use Rattle.nvm_board.specs.declared.board.TheConstants.{PAGE_WORDS, LEAST_PAGES, MOST_PAGES}
 use Rattle.nvm_board.specs.Facts.{IsMemory, address, pages_of}
 

@@ -1,7 +1,7 @@
 -- What a set costs that stands alone, by what it makes of those that wait: none of its address waits yet, nor of the one behind it.
 -- It is the first of a batch, or it goes on with the run of the word before it, or it begins a run.
 use Rattle.std.proofs.Common.{◌≡◌, ◌≢◌, ◌⊎◌, ◌≤◌, ◌+◌, ◌-◌, ◌%◌, List, [], ◌∷◌, length, refl, ap, inl, inr, arith}
-use Rattle.std.proofs.Common.{IsSome, None, Bool, ◌==◌}
+use Rattle.std.proofs.Common.{IsSome, None, Bool}
 use Rattle.std.specs.Prelude.{if◌then◌else◌}
 use Rattle.std.proofs.lemmas.Bool.Decides.{eqb_tells}
 use Rattle.nvm_board.specs.declared.board.TheConstants.{PAGE_WORDS}

@@ -1,6 +1,5 @@
-use Rattle.std.specs.Prelude.{◌≡◌, ◌==◌, ◌<◌, ◌≤◌, ◌+◌, ◌-◌, ℕ, List, if◌then◌else◌}
-use Rattle.std.proofs.Common.{refl, sym, ◌∙◌, ap, subst, arith, inr}
-use Rattle.nvm_board.specs.Facts.{pages_of}
+use Rattle.std.specs.Prelude.{◌<◌}
+use Rattle.std.proofs.Common.{◌∙◌, arith, inr}
 use Rattle.nvm_board.specs.laws.Sizes.{page_within, pages_same}
 use Rattle.undo_journal.specs.Memory.{committed}
 use Rattle.undo_journal.specs.laws.Memory.{current_size}

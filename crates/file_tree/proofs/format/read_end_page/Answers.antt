@@ -5,9 +5,8 @@ use Rattle.undo_journal.specs.Memory.{committed}
 use Rattle.undo_journal.specs.laws.Told.{reads_on}
 use Rattle.block_chain.specs.Words.{word}
 use Rattle.block_chain.specs.declared.layout.TheConstants.{HEADER_PAGE}
-use Rattle.file_tree.specs.declared.layout.TheConstants.{MARK, MARK_WORD, PAGES_WORD}
+use Rattle.file_tree.specs.declared.layout.TheConstants.{MARK, MARK_WORD}
 use Rattle.file_tree.specs.laws.Formats.{end_new, end_old}
-use Rattle.file_tree.proofs.format.read_end_page.Given.{Over}
 use Rattle.file_tree.proofs.format.read_end_page.Goals as goal
 
 pub returns-then-mark-eq-MARK-clause-end : goal.returns-then-mark-eq-MARK-clause-end

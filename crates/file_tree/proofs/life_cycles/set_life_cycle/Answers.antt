@@ -5,7 +5,6 @@ use Rattle.nvm_board.specs.Facts.{address, IsMemory}
 use Rattle.undo_journal.specs.Memory.{committed}
 use Rattle.card_rules.specs.LifeCycle.{life_cycle_byte}
 use Rattle.card_rules.specs.declared.life_cycle.LifeCycle.{LifeCycle}
-use Rattle.std.proofs.Common.{length}
 use Rattle.file_tree.specs.declared.entry.Entry.{Entry}
 use Rattle.file_tree.specs.declared.layout.TheConstants.{FIRST_ENTRY_PAGE}
 use Rattle.file_tree.specs.States.{ChangesLife, life_at}

@@ -1,8 +1,8 @@
-use Rattle.std.specs.Prelude.{◌≡◌, ◌≤◌, ◌+◌, ℕ, List, IsOk, OnOk, Result, Ok, Err}
+use Rattle.std.specs.Prelude.{◌≤◌, ◌+◌, IsOk, OnOk, Result, Ok, Err}
 use Rattle.std.proofs.Common.{sym, ◌∙◌, ap, subst, inl, inr, arith, ⊎_elim, true≢false}
 use Rattle.std.proofs.lemmas.Result.{on_ok_weaker}
 use Rattle.undo_journal.specs.Lent.{memory_of}
-use Rattle.undo_journal.specs.Memory.{Memory, committed, commit_writes, IsIdle, IsOpen}
+use Rattle.undo_journal.specs.Memory.{Memory, commit_writes, IsIdle, IsOpen}
 use Rattle.undo_journal.specs.laws.Endings.{ends, ends_counted, ends_done, ends_within}
 use Rattle.undo_journal.specs.laws.Transactions.{stays}
 use Rattle.migration.specs.declared.migrating.TheConstants.{RENAME_WRITES}

@@ -1,11 +1,10 @@
-use Rattle.std.specs.Prelude.{◌+◌}
-use Rattle.std.proofs.Common.{arith, refl, ◌∙◌}
+use Rattle.std.proofs.Common.{arith, refl}
 use Rattle.undo_journal.specs.laws.Calls.{sets_then}
 use Rattle.undo_journal.specs.laws.Told.{sets_in_on, sets_in_handed}
-use Rattle.migration.proofs.Sets.{marks_none, marks_more}
+use Rattle.migration.proofs.Sets.{marks_more}
 use Rattle.std.specs.Prelude.{◌<◌}
 use Rattle.undo_journal.specs.Lent.{memory_of}
-use Rattle.migration.proofs.Costs.{marked_none, marked_more, marks_spend}
+use Rattle.migration.proofs.Costs.{marked_more, marks_spend}
 use Rattle.migration.proofs.migrating.mark_pins.Goals as goal
 
 pub returns-in_err-set-clause-store : goal.returns-in_err-set-clause-store

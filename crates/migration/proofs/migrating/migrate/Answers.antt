@@ -1,7 +1,6 @@
-use Rattle.std.specs.Prelude.{◌≡◌, ◌<◌, ◌≤◌, ◌+◌, ◌-◌, ℕ, List, slice_index, OnOk}
+use Rattle.std.specs.Prelude.{◌≡◌, ◌-◌, ℕ, List, slice_index}
 use Rattle.std.proofs.Common.{sym, ◌∙◌, ap, subst, inl, inr, ⊎_elim, arith}
 use Rattle.std.proofs.lemmas.Result.{on_ok_weaker}
-use Rattle.nvm_board.specs.Facts.{IsMemory, pages_of}
 use Rattle.undo_journal.specs.Memory.{committed}
 use Rattle.undo_journal.specs.laws.Told.{changes_after, changes_on, changes_handed, changes_within}
 use Rattle.block_chain.specs.Chains.{free_chain}
@@ -10,7 +9,7 @@ use Rattle.block_chain.specs.Changes.{LinksAlone, AreLinked}
 use Rattle.block_chain.specs.declared.layout.TheConstants.{HEADER_PAGE, FREE_HEAD_WORD}
 use Rattle.block_chain.specs.laws.Chains.{head_small}
 use Rattle.file_tree.specs.declared.layout.TheConstants.{MARK_WORD, OLD_END_PAGE}
-use Rattle.migration.specs.Migrating.{Migrates, IsMigrated}
+use Rattle.migration.specs.Migrating.{Migrates}
 use Rattle.migration.proofs.Sets.{links_migrate, all_migrated}
 use Rattle.migration.proofs.migrating.migrate.Goals as goal
 

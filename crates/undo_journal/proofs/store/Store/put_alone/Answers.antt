@@ -1,4 +1,4 @@
-use Rattle.std.proofs.Common.{◌+◌, refl, sym, ap, ◌∙◌, arith}
+use Rattle.std.proofs.Common.{◌+◌, refl, sym, ap, ◌∙◌}
 use Rattle.undo_journal.specs.Undo.{gate, IsDataAddress}
 use Rattle.undo_journal.specs.Memory.{Memory}
 use Rattle.undo_journal.proofs.Lasting.{unused-within, place-within, one-gate, one-sound, one-torn, one-written}

@@ -1,4 +1,4 @@
-use Rattle.std.proofs.Common.{◌+◌, length, refl, sym, ap, ◌∙◌, arith}
+use Rattle.std.proofs.Common.{◌+◌, length, refl, sym, ap, ◌∙◌}
 use Rattle.nvm_board.specs.Facts.{address}
 use Rattle.nvm_board.specs.laws.Torn.{Torn-none}
 use Rattle.nvm_board.specs.laws.Sizes.{page_of_run}
