@@ -1,5 +1,6 @@
 -- What follows from the definitions, for the proofs of this crate and of those above it.
 pub mod Tables
+pub mod Formats
 pub mod Alikes
 pub mod Levels
 pub mod Paths
@@ -33,3 +34,4 @@ pub mod Indexes
 pub mod Above
 pub mod Pruning
 pub mod Indexed
+pub mod Migrating

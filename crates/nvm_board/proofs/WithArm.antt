@@ -1,6 +1,6 @@
 -- A board of which a cut may be set to come, over one of which none can.
-use Rattle.std.specs.Prelude.{ℕ, zero, suc, ◌≡◌, ◌⊎◌, ◌+◌, Bool, true, false, if◌then◌else◌, is_some, List, Option, Some, None}
-use Rattle.std.specs.Prelude.{option_map, IfSome, Result, Ok, Err, IsErrAnd}
+use Rattle.std.specs.Prelude.{ℕ, zero, suc, ◌≡◌, ◌+◌, Bool, true, false, if◌then◌else◌, is_some, List, Option, Some, None}
+use Rattle.std.specs.Prelude.{option_map, Result, Ok, Err, IsErrAnd}
 use Rattle.std.proofs.Common.{refl, sym, ◌∙◌, ap, inl, inr, subst, arith}
 use Rattle.std.proofs.Math.Logic.{⊎_map, ⊎_elim}
 use Rattle.nvm_board.specs.declared.board.Arm.{Arm}

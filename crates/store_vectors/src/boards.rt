@@ -1,6 +1,6 @@
 //! Boards: an armed write is torn by its mask, an arm outlives power, secrets are compared.
 
-use nvm_board::{Armed, Board, CutBoard, DeviceErr, RamBoard, Socket};
+use nvm_board::{Armed, Board, CutBoard, DeviceErr, FaultBoard, RamBoard, Socket};
 use std::alloc::Global;
 use std::test::Fail;
 
@@ -104,5 +104,17 @@ fn needs_power(board: &mut RamBoard) -> bool {
 fn compares_secrets(rt: HostRuntime) -> Result<(), Fail> {
     let mut board = RamBoard::new(rt.alloc())?;
     assert!(rt; is_written(&mut board) && compares_all(&mut board) && needs_power(&mut board));
+    Ok(())
+}
+
+#[test]
+fn has_as_many_pages_as_it_is_made_with(rt: HostRuntime) -> Result<(), Fail> {
+    assert!(rt; CutBoard::new(rt.alloc())?.pages() == 1024);
+    assert!(rt; FaultBoard::on_calls(rt.alloc())?.pages() == 1024);
+    for pages in [1024u16, 1030, 4096] {
+        let mut board = CutBoard::with_pages(rt.alloc(), pages)?;
+        board.write(pages - 1, 15, &[7])?;
+        assert!(rt; board.pages() == pages && board.read(16 * (pages - 1) + 15) == Ok(7), "{pages}");
+    }
     Ok(())
 }

@@ -6,11 +6,12 @@ use nvm_board::Board;
 use std::test::Fail;
 use undo_journal::Store;
 
-/// A board with words at these addresses. It has 16,384.
+/// A board with words at these addresses, those of them that it has.
 pub fn with_words<B: Board + Drop>(mut board: B, words: &[(u16, u32)]) -> Result<B, Fail> {
     for &(at, word) in words {
-        if at < 16_384 {
-            board.write(at / 16, (at % 16) as u8, &[word])?;
+        let page = at / 16;
+        if page < board.pages() {
+            board.write(page, (at % 16) as u8, &[word])?;
         }
     }
     Ok(board)

@@ -8,7 +8,7 @@ use nvm_board::{Armed, Board, CutBoard, DeviceErr, Socket};
 use std::alloc::Global;
 use std::process::Abort;
 use std::test::Fail;
-use undo_journal::{Store, StoreErr, Txn};
+use undo_journal::{OpenFault, Store, StoreErr, Txn};
 
 // Words 5, 2048 and 2049, one before the journal and two after it: before the change, and after it.
 const BEFORE: [u32; 3] = [50, 60, 61];
@@ -243,5 +243,35 @@ fn pairs_come_back_from_the_last(rt: HostRuntime) -> Result<(), Fail> {
         };
         assert!(rt; standing(&mut board)? == *want, "at {}", i + 1);
     }
+    Ok(())
+}
+
+/// How many pages the store of a board has whose journal has a pair of a word on page 1,024, if it opens.
+fn opens_with_a_pair_past_1024_pages(alloc: Global, pages: u16) -> Result<Option<u16>, Fail> {
+    if !(1024..=4096).contains(&pages) {
+        return Err(Fail::from("no board"));
+    }
+    let board = with_words(
+        CutBoard::with_pages(alloc, pages)?,
+        &[(1168, 1), (1184, 16_384), (1185, 9)],
+    )?;
+    match Store::open(board) {
+        Ok(mut store) => {
+            let pages = store.pages();
+            if pages > 1024 && store.read(16_384) != Ok(9) {
+                return Err(Fail::from("not put back"));
+            }
+            Ok(Some(pages))
+        }
+        Err((_, OpenFault::BadJournal)) => Ok(None),
+        Err(_) => Err(Fail::from("not opened")),
+    }
+}
+
+#[test]
+fn a_pair_past_the_pages_is_bad(rt: HostRuntime) -> Result<(), Fail> {
+    assert!(rt; opens_with_a_pair_past_1024_pages(rt.alloc(), 1024)? == None);
+    assert!(rt; opens_with_a_pair_past_1024_pages(rt.alloc(), 1030)? == Some(1030));
+    assert!(rt; opens_with_a_pair_past_1024_pages(rt.alloc(), 4096)? == Some(4096));
     Ok(())
 }

@@ -2,7 +2,7 @@
 use Rattle.std.proofs.Common.{Bool, ◌≡◌, ◌≢◌, ◌⊎◌, ◌<◌, ◌≤◌, ◌+◌, ◌-◌, ◌%◌, ℕ, List, [], ◌∷◌, length, ◌∙◌, ap}
 use Rattle.std.proofs.Common.{inl, inr, arith, IsSome, is_some, slice_set, suc, true, false, ◌==◌}
 use Rattle.std.specs.Prelude.{if◌then◌else◌}
-use Rattle.std.proofs.lemmas.Bool.Decides.{eqb_tells, nat_tests}
+use Rattle.std.proofs.lemmas.Bool.Decides.{nat_tests}
 use Rattle.std.proofs.lemmas.List.{nil_from_length}
 use Rattle.nvm_board.specs.declared.board.TheConstants.{PAGE_WORDS}
 use Rattle.undo_journal.specs.declared.batch.TheConstants.{BATCH}
@@ -12,15 +12,15 @@ use Rattle.undo_journal.specs.laws.Undo.{data_words-set}
 use Rattle.undo_journal.specs.laws.Memory.{length-overlay}
 use Rattle.undo_journal.specs.Batches.{overlay, look_up, batch_writes, AreSets, joined}
 use Rattle.undo_journal.specs.Memory.{Memory, commit_writes, run_writes, taken}
-use Rattle.undo_journal.specs.laws.Joining.{writes-some}
+use Rattle.undo_journal.specs.laws.Joining.{commit_of_some, writes-some}
 use Rattle.undo_journal.specs.laws.Runs.{begins-one}
 use Rattle.undo_journal.specs.laws.Waits.{look_up-joined}
 use Rattle.undo_journal.proofs.Waits.{overlay-joined, length-joined, joined-length}
 use Rattle.undo_journal.proofs.RunLaws.{runs-joined, runs-goes_on}
 
 -- One more set among those that wait, as the first of a batch or not.
-module _ (new : Waiting) (used : ℕ) (whole : used % BATCH ≡ 0) where
-  pub join-costs : (ps : List Waiting) → AreSets 0 ps → length ps < BATCH
+module _ (size : ℕ) (new : Waiting) (used : ℕ) (whole : used % BATCH ≡ 0) where
+  pub join-costs : (ps : List Waiting) → AreSets size 0 ps → length ps < BATCH
       → batch_writes (joined new ps) + run_writes (used + length ps)
       ≤ batch_writes ps + run_writes (used + length (joined new ps)) + 1
   join-costs [] h few = omega (arith, whole, begins-one 0 new.at)
@@ -29,11 +29,11 @@ module _ (new : Waiting) (used : ℕ) (whole : used % BATCH ≡ 0) where
       let more = length-joined new ps in
       let fewer = joined-length new ps in
       let some : 1 ≤ length (joined new ps) = omega (arith, more) in
-      let runs = runs-joined new ps 0 0 h (omega arith) in
+      let runs = runs-joined size new ps 0 0 h (omega arith) in
       omega (arith, whole, writes-some (joined new ps) some, runs, more, fewer, few)
 
   -- it goes on with a run
-  pub join-goes_on : (ps : List Waiting) → AreSets 0 ps → length ps < BATCH → new.at % PAGE_WORDS ≢ 0
+  pub join-goes_on : (ps : List Waiting) → AreSets size 0 ps → length ps < BATCH → new.at % PAGE_WORDS ≢ 0
       → ((ps ≡ []) × (0 < used)) ⊎ IsSome (look_up (new.at - 1) ps)
       → batch_writes (joined new ps) + run_writes (used + length ps)
       ≤ batch_writes ps + run_writes (used + length (joined new ps))
@@ -45,15 +45,15 @@ module _ (new : Waiting) (used : ℕ) (whole : used % BATCH ≡ 0) where
       let more = length-joined new ps in
       let fewer = joined-length new ps in
       let some : 1 ≤ length (joined new ps) = omega (arith, more) in
-      let runs = runs-goes_on new ps 0 0 h (omega arith) inside waits in
+      let runs = runs-goes_on size new ps 0 0 h (omega arith) inside waits in
       omega (arith, whole, writes-some (joined new ps) some, runs, more, fewer, few)
 
   -- its word is the one that is read
-  pub join-current : (ps : List Waiting) (m : List ℕ) → AreSets 0 ps → IsDataAddress m new.at
+  pub join-current : (ps : List Waiting) (m : List ℕ) → AreSets size 0 ps → IsDataAddress m new.at
       → data_words (overlay (joined new ps) m) ≡ slice_set (data_words (overlay ps m)) new.at new.word
   join-current ps m h place =
       let within : new.at < length (overlay ps m) = omega (arith, length-overlay ps m, place.1) in
-      ap data_words (overlay-joined new ps m 0 h) ∙ data_words-set (overlay ps m) new.at new.word (place.0, within)
+      ap data_words (overlay-joined size new ps m 0 h) ∙ data_words-set (overlay ps m) new.at new.word (place.0, within)
 
 pub join-waits : (new : Waiting) (ps : List Waiting) → IsSome (look_up new.at (joined new ps))
 join-waits new ps = ap (λ o. is_some o) (look_up-joined new ps)
@@ -78,10 +78,4 @@ commit-none m used after all none flushed =
 
 pub commit-some : (m : Memory) (used after : ℕ) → used ≡ taken m → used ≢ 0
     → after ≡ m.facts.writes + batch_writes m.waiting + 1 → after ≡ m.facts.writes + commit_writes m
-commit-some m used after all some written = elim (eqb_tells (taken m) 0) [
-  | inl none ↦ absurd (some (all ∙ none.1))
-  | inr other ↦
-      let cost : commit_writes m ≡ batch_writes m.waiting + 1 =
-      ap (λ (b : Bool). if b then 0 else batch_writes m.waiting + 1) other.0 in
-      omega (arith, written, cost)
-]
+commit-some m used after all some written = omega (arith, written, commit_of_some m (let s : 1 ≤ taken m = omega (arith, all, some) in s))

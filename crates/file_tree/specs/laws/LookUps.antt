@@ -14,7 +14,7 @@ use Rattle.file_tree.specs.Indexes.{TellsChild}
 use Rattle.file_tree.specs.Parts.{IsShortChild, TellsShort, TellsBeside, TellsAbove}
 use Rattle.file_tree.specs.laws.Paths.{path-zero, path_of-empty, parent_path, identifier_path, parent_used}
 use Rattle.file_tree.specs.laws.Paths.{master_used, child_of_path, path_of_child}
-use Rattle.file_tree.specs.laws.Nodes.{used_small, entry_found, exists-used, exists-none, file_at_entry}
+use Rattle.file_tree.specs.laws.Nodes.{entry_found, exists-used, exists-none, file_at_entry}
 use Rattle.file_tree.specs.laws.Nodes.{dedicated_entry}
 
 -- the entry of a number is that of the child that is looked for, or it is not

@@ -1,9 +1,9 @@
 -- Laws of a cut that is set, over calls in a row.
-use Rattle.std.proofs.Common.{◌≡◌, ◌⊎◌, ◌+◌, ℕ, true, false, refl, sym, ◌∙◌, ap, subst, inl, inr, arith}
+use Rattle.std.proofs.Common.{◌≡◌, ◌⊎◌, ◌+◌, refl, sym, ◌∙◌, ap, subst, inl, inr, arith}
 use Rattle.std.proofs.Math.Logic.{⊎_map}
-use Rattle.std.specs.Prelude.{Option, None, Some, IfSome}
+use Rattle.std.specs.Prelude.{Option, IfSome}
 use Rattle.nvm_board.specs.Facts.{Facts}
-use Rattle.nvm_board.specs.Aims.{Aim, aim, AimStays, AimsAtWrite, AimsOn, FallsNext, HasFallen}
+use Rattle.nvm_board.specs.Aims.{Aim, aim, AimStays, AimsAtWrite, AimsOn, HasFallen}
 
 -- no call at all
 pub aims_same : (f : Facts) → AimsOn f f
