@@ -2,7 +2,7 @@
 -- reads the new entry.
 use Rattle.std.proofs.Common.{◌≡◌, ◌⊎◌, ◌≤◌, ◌-◌, ℕ, List, [], length, Option, Some, None, Result, Ok, refl, sym, ◌∙◌, ap, subst, arith, inr}
 use Rattle.std.specs.Result.{IsErrAnd}
-use Rattle.nvm_board.specs.declared.board.TheConstants.{WORDS}
+use Rattle.nvm_board.specs.Facts.{IsMemory}
 use Rattle.card_rules.specs.declared.status.Sw.{Sw}
 use Rattle.card_rules.specs.declared.status.TheConstants.Sw.{DONE}
 use Rattle.fcp_template.specs.declared.fcp.Fcp.{Fcp}
@@ -50,7 +50,7 @@ module _ (old mid made : Memory) (ready : IsReady old) (words : IsCard (committe
   abbrev request : Request
   request = create_file template
 
-  sized : length m ≡ WORDS
+  sized : IsMemory m
   sized = ready.usable.committed_size
 
   same : committed mid ≡ m

@@ -4,7 +4,7 @@ use Rattle.std.proofs.Common.{Option, Some, None, unwrap_or, Result, Ok, Err, re
 use Rattle.std.specs.Prelude.{cond}
 use Rattle.std.specs.Cmp.Lexicographic.{nat_list_cmp_total}
 use Rattle.std.specs.FinMap.{get, get-insert}
-use Rattle.nvm_board.specs.declared.board.TheConstants.{WORDS}
+use Rattle.nvm_board.specs.Facts.{IsMemory}
 use Rattle.card_rules.specs.declared.access_mode.AccessBit.{AccessBit}
 use Rattle.card_rules.specs.declared.status.Sw.{Sw}
 use Rattle.card_rules.specs.declared.status.TheConstants.Sw.{DONE, WRONG_DATA}
@@ -101,7 +101,7 @@ module _ (m now after : List ℕ) (old taken : FreeSpace) (is : old ≡ free_spa
       let entries : old.entries - taken.entries ≡ left.entries = omega (arith, entries_sum) in
       λ i. record { blocks = blocks i; entries = entries i }
 
-module _ (m : List ℕ) (sized : length m ≡ WORDS) (words : IsCard m) (x : CurrentFiles) (template : List ℕ)
+module _ (m : List ℕ) (sized : IsMemory m) (words : IsCard m) (x : CurrentFiles) (template : List ℕ)
     (fcp : Fcp) (is : fcp_read template ≡ Ok fcp) (unbarred : is_barred (card_of m).tree (path_of (table m) x.df) ≡ false)
     (permitted : allowed (card_of m) (session_of (table m) x) (path_of (table m) x.df) (creation_bit fcp.kind) ≡ true) where
   abbrev c : Card

@@ -4,7 +4,7 @@ use Rattle.std.proofs.Common.{Option, Some, None, option_map, unwrap_or, refl, s
 use Rattle.std.proofs.lemmas.Bool.{ne_eqb}
 use Rattle.std.proofs.lemmas.List.{length-append}
 use Rattle.std.specs.List.{starts_with}
-use Rattle.nvm_board.specs.declared.board.TheConstants.{WORDS}
+use Rattle.nvm_board.specs.Facts.{IsMemory}
 use Rattle.card_rules.specs.declared.status.Sw.{Sw}
 use Rattle.card_rules.specs.declared.status.TheConstants.Sw.{DONE}
 use Rattle.apdu_core.specs.declared.files.Subject.{Subject}
@@ -77,7 +77,7 @@ deletion_verdict m x e up =
     file_refusal (is_barred c.tree (path_of (table m) up)) true
     (allowed c s (path_of (table m) e) DeleteSelf || allowed c s (path_of (table m) up) DeleteChild)
 
-module _ (m : List ℕ) (sized : length m ≡ WORDS) (words : IsCard m) (x : CurrentFiles) (subject : Subject) (e : ℕ)
+module _ (m : List ℕ) (sized : IsMemory m) (words : IsCard m) (x : CurrentFiles) (subject : Subject) (e : ℕ)
     (above : 0 < e) (used : IsUsed (table m) e)
     (place : subject_of (card_of m).tree (session_of (table m) x) subject ≡ Some (path_of (table m) e)) where
   abbrev c : Card

@@ -4,7 +4,7 @@ use Rattle.std.proofs.Common.{Result, Ok, Err, if◌then◌else◌, sym, ◌∙�
 use Rattle.std.proofs.lemmas.List.{get_or-set_other, get_or-set_same, length-set}
 use Rattle.std.specs.Result.{result_err, IsErr}
 use Rattle.nvm_board.specs.Facts.{address}
-use Rattle.nvm_board.specs.declared.board.TheConstants.{WORDS}
+use Rattle.nvm_board.specs.Facts.{IsMemory}
 use Rattle.card_rules.specs.declared.access_mode.AccessBit.TheVariants.{Terminate}
 use Rattle.card_rules.specs.declared.status.Sw.{Sw}
 use Rattle.card_rules.specs.declared.status.TheConstants.Sw.{ACCESS_DENIED, DONE}
@@ -47,7 +47,7 @@ use Rattle.card_core.proofs.Serves.{compared-none, reads-compared, torn, written
 use Rattle.card_core.proofs.Verified.{marks-are}
 use Rattle.card_core.proofs.Words.{Went, went-after}
 
-module _ (m : List ℕ) (sized : length m ≡ WORDS) (words : IsCard m) where
+module _ (m : List ℕ) (sized : IsMemory m) (words : IsCard m) where
   abbrev ended : List ℕ
   ended = with_card_terminated m
 
@@ -142,7 +142,7 @@ module _ (old mid new : Memory) (ready : IsReady old) (words : IsCard (committed
   abbrev at_end : List ℕ
   at_end = with_card_terminated (committed old)
 
-  size : length (committed old) ≡ WORDS
+  size : IsMemory (committed old)
   size = ready.usable.committed_size
 
   same : committed mid ≡ committed old

@@ -2,7 +2,7 @@
 use Rattle.std.proofs.Common.{◌≡◌, ◌≢◌, ◌==◌, ◌<◌, ℕ, Bool, true, false, List, [], ◌∷◌, ◌++◌, length, Option, Some, None}
 use Rattle.std.proofs.Common.{IfSome, option_map, refl, sym, ◌∙◌, ap, arith, ⊎_elim, if◌then◌else◌}
 use Rattle.std.proofs.lemmas.Bool.{cases_eq}
-use Rattle.nvm_board.specs.declared.board.TheConstants.{WORDS}
+use Rattle.nvm_board.specs.Facts.{IsMemory}
 use Rattle.std.specs.FinMap.{get}
 use Rattle.std.specs.Option.{option_map_or}
 use Rattle.apdu_core.specs.declared.select.Returned.{Returned}
@@ -105,7 +105,7 @@ module _ (m : List ℕ) (words : IsCard m) (e : ℕ) (used : IsUsed (table m) e)
               (cases_eq e 0)
 
   -- what SELECT finds of the file
-  data-entry : length m ≡ WORDS → (returned : Returned)
+  data-entry : IsMemory m → (returned : Returned)
       → selection_data returned (card_of m).tree (path_of (table m) e) ≡ data_in returned entry
   unfolding template_of template_in
   data-entry sized Template =
@@ -114,7 +114,7 @@ module _ (m : List ℕ) (words : IsCard m) (e : ℕ) (used : IsUsed (table m) e)
   data-entry sized Nothing = refl
 
   -- SELECT of the file
-  module _ (sized : length m ≡ WORDS) (x : Current) (selection : Selection) (returned : Returned) (expected : Option ℕ)
+  module _ (sized : IsMemory m) (x : Current) (selection : Selection) (returned : Returned) (expected : Option ℕ)
       (place : selected_from (card_of m).tree (session_of (table m) x).current_df selection
       ≡ Some (path_of (table m) e)) where
     abbrev told : List ℕ

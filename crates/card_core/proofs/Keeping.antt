@@ -1,7 +1,7 @@
 -- A change of the files leaves the header and the PINs of a card.
 use Rattle.std.proofs.Common.{◌≡◌, ◌≢◌, ◌<◌, ◌==◌, ℕ, List, length}
 use Rattle.std.proofs.Common.{◌∙◌, arith, inl, inr, lit<}
-use Rattle.nvm_board.specs.declared.board.TheConstants.{WORDS}
+use Rattle.nvm_board.specs.Facts.{IsMemory}
 use Rattle.block_chain.specs.Words.{word, IsBlock}
 use Rattle.file_tree.specs.Changes.{KeepsRest, IsEntryPage}
 use Rattle.file_tree.specs.Trees.{tree_of, TreeStands}
@@ -35,7 +35,7 @@ module _ (m after : List ℕ) (mark : word after HEADER_PAGE 0 ≡ word m HEADER
   card-after = λ i. record { tree = tree_of after; pins = pins_kept m after pins i; in_use = state i == 0 }
 
 -- a change of files alone
-module _ (m after : List ℕ) (sized : length m ≡ WORDS) (rest : KeepsRest m after) where
+module _ (m after : List ℕ) (sized : IsMemory m) (rest : KeepsRest m after) where
   header-kept : (place : ℕ) → place < 16 → place ≢ 1 → word after HEADER_PAGE place ≡ word m HEADER_PAGE place
   header-kept place small other =
       rest.words HEADER_PAGE place small (λ (is : IsEntryPage HEADER_PAGE). let low = is.0 in let z : ⊥ = omega

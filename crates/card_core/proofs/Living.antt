@@ -6,7 +6,8 @@ use Rattle.std.proofs.lemmas.Bool.{cases_eq, ne_eqb}
 use Rattle.std.proofs.lemmas.List.Sums.{sum_by-cons}
 use Rattle.std.specs.List.{count_by}
 use Rattle.std.specs.Result.{result_err}
-use Rattle.nvm_board.specs.declared.board.TheConstants.{WORDS}
+use Rattle.nvm_board.specs.Facts.{IsMemory}
+use Rattle.nvm_board.specs.laws.Sizes.{memory_same}
 use Rattle.card_rules.specs.LifeCycle.{life_cycle_at, life_cycle_byte}
 use Rattle.card_rules.specs.declared.life_cycle.LifeCycle.{LifeCycle}
 use Rattle.card_rules.specs.declared.status.Sw.{Sw}
@@ -235,7 +236,7 @@ same-state one other same =
     ap (λ (o : Option LifeCycle). unwrap_or o one) (sym (life_again one) ∙ ap life_cycle_at same ∙ life_again other)
 
 -- A change that nothing refuses: what it does to the card and to the session.
-module _ (m : List ℕ) (sized : length m ≡ WORDS) (words : IsCard m) (x : Current) (current : IsCurrent (table m) x)
+module _ (m : List ℕ) (sized : IsMemory m) (words : IsCard m) (x : Current) (current : IsCurrent (table m) x)
     (change : LifeCycleChange) (subject : Subject) (changed : Changed) (found : IsChanged m x change subject changed) where
   abbrev before : Card
   before = card_of m
@@ -352,7 +353,7 @@ module _ (m : List ℕ) (sized : length m ≡ WORDS) (words : IsCard m) (x : Cur
     -- what is free stays
     pub changed-space : free_space (card_of after).tree ≡ free_space before.tree
     changed-space =
-        let sized_after : length after ≡ WORDS = changes.rest.size ∙ sized in
+        let sized_after : IsMemory after = memory_same _ _ changes.rest.size sized in
         let long : length (table after) ≡ length (table m) = length-table after ∙ sym (length-table m) in
         let entries : free_entries (table after) ≡ free_entries (table m) =
         count-alike (λ (y : Entry). y.kind == 0) free_entry (table after) (table m) long

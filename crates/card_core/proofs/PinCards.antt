@@ -3,7 +3,7 @@ use Rattle.std.proofs.Common.{◌≡◌, ◌⊎◌, ◌<◌, ◌≤◌, ◌+◌,
 use Rattle.std.proofs.Common.{slice_index_or}
 use Rattle.std.proofs.lemmas.List.FromFn.{get_or-map-range_with_len}
 use Rattle.nvm_board.specs.Facts.{address}
-use Rattle.nvm_board.specs.declared.board.TheConstants.{WORDS}
+use Rattle.nvm_board.specs.Facts.{IsMemory}
 use Rattle.block_chain.specs.Words.{word}
 use Rattle.file_tree.specs.Table.{table}
 use Rattle.file_tree.specs.Changes.{KeepsTree}
@@ -28,7 +28,7 @@ pin-is m n number =
     let last = number.last in
     pin-placed m (n - 1) (omega (arith, first, last))
 
-module _ (m after : List ℕ) (sized : length m ≡ WORDS) (words : IsCard m) (n : ℕ) (number : IsPinNumber n) (now : Pin)
+module _ (m after : List ℕ) (sized : IsMemory m) (words : IsCard m) (n : ℕ) (number : IsPinNumber n) (now : Pin)
     (sets : SetsPin m (n - 1) now after) where
   small : n - 1 < PINS
   small =
