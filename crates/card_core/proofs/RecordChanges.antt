@@ -22,7 +22,8 @@ use Rattle.file_tree.specs.declared.entry.Entry.{Entry}
 use Rattle.file_tree.specs.Cards.{Kind, File, Tree, linear, cyclic, elementary, file_at}
 use Rattle.file_tree.specs.Changes.{KeepsRest}
 use Rattle.file_tree.specs.Entries.{capacity_of, extent_told, file_of, free_entry, high, low}
-use Rattle.file_tree.specs.Spaces.{free_space}
+use Rattle.card_core.specs.Cards.{card_space}
+use Rattle.card_core.specs.laws.CardLaws.{card_space_is}
 use Rattle.file_tree.specs.Table.{table, entry_in, free_entries, path_of, IsEntry, IsUsed}
 use Rattle.file_tree.specs.Trees.{content, tree_of, TreeStands, file_in}
 use Rattle.file_tree.specs.laws.Changing.{tree_inserted}
@@ -46,7 +47,7 @@ use Rattle.card_core.proofs.RecordTables.{session-mid, stands-mid, used-mid, was
 pub record Records (m : List ℕ) (e : ℕ) (records : List (List ℕ)) (after : List ℕ) : Type 0 where
   pub stands : IsCard after
   pub card : card_of after ≡ with_records_at (card_of m) (path_of (table m) e) records
-  pub space : free_space (card_of after).tree ≡ free_space (card_of m).tree
+  pub space : card_space (card_of after) ≡ card_space (card_of m)
   pub session : (x : Current) → session_of (table after) x ≡ session_of (table m) x
   pub current : (x : Current) → IsCurrent (table m) x → IsCurrent (table after) x
 
@@ -190,14 +191,14 @@ module _ (m after : List ℕ) (e : ℕ) (sized : IsMemory m) (words : IsCard m) 
   pub card-stands : IsCard after
   card-stands = files-stand m after sized rest words tree-stands
 
-  pub space-after : free_space (card_of after).tree ≡ free_space (card_of m).tree
+  pub space-after : card_space (card_of after) ≡ card_space (card_of m)
   space-after =
       let free = content_free mid after ps sized-mid blocks bytes-change tree-mid
       ∙ free_chain-mid m e w sized words.tree used entry in
       let entries = ap free_entries table-after ∙ free-mid m e w sized words.tree used entry in
-      ap free_space (card-tree after) ∙ space_counted after sized-after tree-stands
+      card_space_is after card-stands ∙ space_counted after sized-after tree-stands
       ∙ (λ i. record { blocks = length (free i); entries = entries i })
-      ∙ sym (ap free_space (card-tree m) ∙ space_counted m sized words.tree)
+      ∙ sym (card_space_is m words ∙ space_counted m sized words.tree)
 
   pub session-after : (y : Current) → session_of (table after) y ≡ session_of (table m) y
   session-after y = ap (λ (t : List Entry). session_of t y) table-after

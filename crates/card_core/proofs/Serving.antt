@@ -28,7 +28,8 @@ use Rattle.file_tree.specs.Cards.{Kind, Tree, File, file_at, overwrite, with_byt
 use Rattle.file_tree.specs.Cards.{bytes_of as bytes_in}
 use Rattle.file_tree.specs.Changes.{Rewrites}
 use Rattle.file_tree.specs.Entries.{free_entry}
-use Rattle.file_tree.specs.Spaces.{free_space}
+use Rattle.card_core.specs.Cards.{card_space}
+use Rattle.card_core.specs.laws.CardLaws.{card_space_is}
 use Rattle.file_tree.specs.Table.{table, entry_in, path_of, free_entries}
 use Rattle.file_tree.specs.Trees.{tree_of, file_in}
 use Rattle.file_tree.specs.laws.Costs.{space_counted}
@@ -286,10 +287,10 @@ module _ (old mid : Memory) (ready : IsReady old) (words : IsCard (committed old
     found-space becomes =
         let change = rewrites becomes in
         let sized_after : IsMemory after = memory_same _ _ change.rest.size sized in
-        ap free_space (card-tree after) ∙ space_counted after sized_after change.stands
+        card_space_is after card-stands ∙ space_counted after sized_after change.stands
         ∙ ap₂ (λ (free : List ℕ) (t : List Entry). record { blocks = length free; entries = free_entries t })
         change.free change.table
-        ∙ sym (ap free_space (card-tree m) ∙ space_counted m sized words.tree)
+        ∙ sym (card_space_is m words ∙ space_counted m sized words.tree)
 
 -- an Le byte asks for at most 256 bytes
 pub asked-most : (expected : ℕ) → expected < 256 → (if expected == 0 then 256 else expected) ≤ 256
