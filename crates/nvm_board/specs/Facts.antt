@@ -1,10 +1,10 @@
 -- What contracts know of a board, and what its calls do to it.
-use Rattle.std.specs.Prelude.{◌≡◌, ◌⊎◌, ℕ, ◌≤◌, ◌<◌, ◌+◌, ◌*◌, ◌^◌, Bool, true, false, List, replicate, slice_index}
-use Rattle.std.specs.Prelude.{slice_set, All, Contains, Option, None, Result, IsOk, IsErrOf}
+use Rattle.std.specs.Prelude.{◌≡◌, ◌⊎◌, ℕ, ◌≤◌, ◌<◌, ◌+◌, ◌*◌, ◌/◌, ◌^◌, Bool, true, false, List, replicate, slice_index}
+use Rattle.std.specs.Prelude.{slice_set, length, All, Contains, Option, None, Result, IsOk, IsErrOf}
 use Rattle.nvm_board.specs.declared.board.Arm.{Arm}
 use Rattle.nvm_board.specs.declared.board.DeviceErr.{DeviceErr}
 use Rattle.nvm_board.specs.declared.board.DeviceErr.TheVariants.{PowerLost, Fault}
-use Rattle.nvm_board.specs.declared.board.TheConstants.{COUNT_END, PAGE_WORDS, WORDS, SECRETS}
+use Rattle.nvm_board.specs.declared.board.TheConstants.{COUNT_END, PAGE_WORDS, LEAST_PAGES, MOST_PAGES, SECRETS}
 
 -- All that contracts know of a board: its words, whether its power is off, how many cuts may still come, which cut or
 -- fault is set to come at a later write, and what it has counted; the comparisons and matches for each secret.
@@ -23,10 +23,20 @@ pub record Facts : Type 0 where
 abbrev pub address : ℕ → ℕ → ℕ
 address page first = PAGE_WORDS * page + first
 
--- a new board: lit, all words and counts 0, and no cut to come
-abbrev pub new_board : Facts
-new_board = record {
-  words = replicate WORDS 0;
+-- the pages of a memory
+abbrev pub pages_of : List ℕ → ℕ
+pages_of words = length words / PAGE_WORDS
+
+-- a memory is 1,024 to 4,096 whole pages
+pub record IsMemory (words : List ℕ) : Type 0 where
+  pub whole : length words ≡ PAGE_WORDS * pages_of words
+  pub least : LEAST_PAGES ≤ pages_of words
+  pub most : pages_of words ≤ MOST_PAGES
+
+-- a new board of so many pages: lit, all words and counts 0, and no cut to come
+abbrev pub new_board : ℕ → Facts
+new_board pages = record {
+  words = replicate (PAGE_WORDS * pages) 0;
   dark = false;
   due = 0;
   pending = None;

@@ -1,20 +1,20 @@
 //! What a board is: its calls, and what each does to its words, its light and its counts.
 ghost use Rattle.std.specs.Prelude.{◌≡◌, ◌⊎◌, ◌+◌, ◌-◌, ◌<◌, ◌≤◌, ◌↔◌, if◌then◌else◌, true, false, length, Some};
 ghost use Rattle.std.specs.Prelude.{IsTrue, IsErr, IfOk, OnOk, OnErr, slice_index};
-ghost use Rattle.nvm_board.specs.declared.board.TheConstants.{PAGES, PAGE_WORDS, WORDS, SECRETS, COUNT_END};
+ghost use Rattle.nvm_board.specs.declared.board.TheConstants.{PAGE_WORDS, SECRETS, COUNT_END};
 ghost use Rattle.nvm_board.specs.Facts.{Facts, AreWords, CountsFit, Answered, IsLostRightly, RisesAt, IsWornOut};
-ghost use Rattle.nvm_board.specs.Facts.{address, raised};
+ghost use Rattle.nvm_board.specs.Facts.{address, raised, pages_of, IsMemory};
 ghost use Rattle.nvm_board.specs.Aims.{AimStays, AimsAtWrite, due_of};
 ghost use Rattle.nvm_board.specs.Torn.{Torn, written};
 
-/// Pages of a board.
-pub const PAGES: u16 = 1024;
+/// Pages of a board at least.
+pub const LEAST_PAGES: u16 = 1024;
 
-/// Words of a page, each of 32 bits.
+/// Pages of a board at most.
+pub const MOST_PAGES: u16 = 4096;
+
+/// Words of a page, each of 32 bits. A word's address is its page times `PAGE_WORDS`, plus its place in the page.
 pub const PAGE_WORDS: u16 = 16;
-
-/// Words of a board. A word's address is its page times `PAGE_WORDS`, plus its place in the page.
-pub const WORDS: u16 = PAGES * PAGE_WORDS;
 
 /// Secrets that a board compares: 0 to 7 are PIN 1 to 8, 8 to 15 their unblocking values.
 pub const SECRETS: u8 = 16;
@@ -50,9 +50,13 @@ pub trait Board {
     /// What contracts know of the board.
     ghost facts: { Self → Facts };
 
+    /// How many pages the board has. No call changes it, since none changes the number of words.
+    fn pages(&self) -> u16
+        ensures { result ≡ pages_of (facts self.now).words };
+
     /// The word at an address.
     fn read(&mut self, at: u16) -> Result<u32, DeviceErr>
-        requires { at < WORDS }
+        requires { at < length (facts self.old).words }
         ensures word { IfOk result (λ w. w ≡ slice_index (facts self.old).words at) }
         ensures light { Answered (facts self.old) (facts self.new) result }
         ensures worn { IsLostRightly (facts self.old) (facts self.new) result }
@@ -65,7 +69,7 @@ pub trait Board {
     /// Writes 1 to 16 words of one page, from its word `first` on. After an error each of them is old or
     /// new by itself.
     fn write(&mut self, page: u16, first: u8, words: &[u32]) -> Result<(), DeviceErr>
-        requires page { page < PAGES }
+        requires page { page < pages_of (facts self.old).words }
         requires some { 0 < length words.now }
         requires run { first + length words.now ≤ PAGE_WORDS }
         ensures done { OnOk result ((facts self.new).words ≡ written (facts self.old).words (address page first)
@@ -99,8 +103,8 @@ pub trait Board {
             ≡ (if e then raised (facts self.old).matches secret else (facts self.old).matches)) }
         ensures matched_err { OnErr result (RisesAt (facts self.old).matches secret (facts self.new).matches) };
 
-    /// Each board has all its words.
-    ghost sized: { (board : Self) → length (facts board).words ≡ WORDS };
+    /// Each board has whole pages, 1,024 to 4,096.
+    ghost sized: { (board : Self) → IsMemory (facts board).words };
 
     /// Each of them has 32 bits.
     ghost words_fit: { (board : Self) → AreWords (facts board).words };

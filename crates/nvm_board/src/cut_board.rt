@@ -1,10 +1,10 @@
 //! A board in working memory that loses power at a write of one's choice.
 ghost use Rattle.std.specs.Prelude.{◌≡◌, ◌≤◌, IfOk};
-ghost use Rattle.nvm_board.specs.declared.board.TheConstants.{PAGE_WORDS};
+ghost use Rattle.nvm_board.specs.declared.board.TheConstants.{LEAST_PAGES, MOST_PAGES, PAGE_WORDS};
 ghost use Rattle.nvm_board.specs.Facts.{new_board};
 
 use crate::arming::{firing, nearer};
-use crate::board::{Arm, Armed, Board, DeviceErr, Faultless, Socket, WornOut};
+use crate::board::{Arm, Armed, Board, DeviceErr, Faultless, LEAST_PAGES, Socket, WornOut};
 use crate::ram_board::RamBoard;
 use std::alloc::{AllocError, Global};
 
@@ -23,16 +23,29 @@ impl CutBoard {
     ghost use Rattle.std.specs.Prelude.{is_some};
     ghost use Rattle.nvm_board.specs.Cut.{cut_facts, last_torn};
 
-    /// A lit board whose words and counts are 0, with no cut to come.
+    /// A lit board of 1,024 pages whose words and counts are 0, with no cut to come.
     ///
     /// # Errors
     /// There is too little memory for the words.
     pub fn new(alloc: Global) -> Result<CutBoard, AllocError>
-        ensures facts { IfOk result (λ b. cut_facts b ≡ new_board) }
+        ensures facts { IfOk result (λ b. cut_facts b ≡ new_board LEAST_PAGES) }
+        ensures torn { IfOk result (λ b. last_torn b ≡ 0) }
+    {
+        CutBoard::with_pages(alloc, LEAST_PAGES)
+    }
+
+    /// The same of so many pages.
+    ///
+    /// # Errors
+    /// There is too little memory for the words.
+    pub fn with_pages(alloc: Global, pages: u16) -> Result<CutBoard, AllocError>
+        requires least { LEAST_PAGES ≤ pages }
+        requires most { pages ≤ MOST_PAGES }
+        ensures facts { IfOk result (λ b. cut_facts b ≡ new_board pages) }
         ensures torn { IfOk result (λ b. last_torn b ≡ 0) }
     {
         Ok(CutBoard {
-            ram: RamBoard::new(alloc)?,
+            ram: RamBoard::with_pages(alloc, pages)?,
             arm: None,
             torn_words: 0,
         })
@@ -72,18 +85,22 @@ impl CutBoard {
 impl Board for CutBoard {
     ghost use Rattle.std.specs.Prelude.{◌≡◌, ◌⊎◌, ◌+◌, ◌<◌, ◌≤◌, ◌↔◌, if◌then◌else◌, length, IsTrue, IfOk, OnOk, OnErr};
     ghost use Rattle.std.specs.Prelude.{slice_index};
-    ghost use Rattle.nvm_board.specs.declared.board.TheConstants.{PAGES, PAGE_WORDS, WORDS, SECRETS};
-    ghost use Rattle.nvm_board.specs.Facts.{Answered, IsLostRightly, RisesAt, address, raised};
+    ghost use Rattle.nvm_board.specs.declared.board.TheConstants.{PAGE_WORDS, SECRETS};
+    ghost use Rattle.nvm_board.specs.Facts.{Answered, IsLostRightly, RisesAt, address, raised, pages_of};
     ghost use Rattle.nvm_board.specs.Aims.{AimStays, AimsAtWrite};
     ghost use Rattle.nvm_board.specs.Torn.{Torn, written};
     ghost use Rattle.nvm_board.specs.Cut.{cut_facts, last_torn, ArmAfter, TornAfter};
-    ghost use Rattle.nvm_board.specs.laws.Counts.{cut_counts_fit};
+    ghost use Rattle.nvm_board.specs.laws.Counts.{cut_counts_fit, ram_memory};
 
     ghost facts = { cut_facts };
 
+    fn pages(&self) -> u16 {
+        self.ram.pages()
+    }
+
     #[tactic(auto, unfolding(crate::specs::Facts::IsLostRightly))]
     fn read(&mut self, at: u16) -> Result<u32, DeviceErr>
-        requires { at < WORDS }
+        requires { at < length (cut_facts self.old).words }
         ensures word { IfOk result (λ w. w ≡ slice_index (cut_facts self.old).words at) }
         ensures light { Answered (cut_facts self.old) (cut_facts self.new) result }
         ensures worn { IsLostRightly (cut_facts self.old) (cut_facts self.new) result }
@@ -101,7 +118,7 @@ impl Board for CutBoard {
 
     #[tactic(auto, unfolding(crate::specs::Facts::IsLostRightly))]
     fn write(&mut self, page: u16, first: u8, words: &[u32]) -> Result<(), DeviceErr>
-        requires page { page < PAGES }
+        requires page { page < pages_of (cut_facts self.old).words }
         requires some { 0 < length words.now }
         requires run { first + length words.now ≤ PAGE_WORDS }
         ensures done { OnOk result ((cut_facts self.new).words ≡ written (cut_facts self.old).words (address page first)
@@ -150,7 +167,7 @@ impl Board for CutBoard {
         self.ram.compare(secret, kept, shown)
     }
 
-    ghost sized = { λ b. b.ram.sized };
+    ghost sized = { λ b. ram_memory b.ram };
 
     ghost words_fit = { λ b. b.ram.words_fit };
 

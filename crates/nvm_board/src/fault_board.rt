@@ -1,10 +1,10 @@
 //! A board in working memory that fails once, at a call or at a write of one's choice.
 ghost use Rattle.std.specs.Prelude.{◌≡◌, ◌<◌, ◌≤◌, false, IfOk};
-ghost use Rattle.nvm_board.specs.declared.board.TheConstants.{COUNT_END};
+ghost use Rattle.nvm_board.specs.declared.board.TheConstants.{COUNT_END, LEAST_PAGES, MOST_PAGES};
 ghost use Rattle.nvm_board.specs.Facts.{new_board};
 
 use crate::arming::{firing, nearer};
-use crate::board::{Arm, Armed, Board, COUNT_END, DeviceErr, Socket, WornOut};
+use crate::board::{Arm, Armed, Board, COUNT_END, DeviceErr, LEAST_PAGES, Socket, WornOut};
 use crate::ram_board::RamBoard;
 use std::alloc::{AllocError, Global};
 
@@ -33,27 +33,21 @@ pub struct FaultBoard {
 
 impl FaultBoard {
     ghost use Rattle.std.specs.Prelude.{◌-◌, ◌+◌, ℕ, length, Some, None, is_some};
-    ghost use Rattle.nvm_board.specs.declared.board.TheConstants.{PAGES, PAGE_WORDS};
+    ghost use Rattle.nvm_board.specs.declared.board.TheConstants.{PAGE_WORDS};
     ghost use Rattle.nvm_board.specs.declared.fault_board.Counted.TheVariants.{Calls, Writes};
-    ghost use Rattle.nvm_board.specs.Facts.{address};
+    ghost use Rattle.nvm_board.specs.Facts.{address, pages_of};
     ghost use Rattle.nvm_board.specs.Faulty.{fault_facts, counting, IsFaulty, LeavesRun};
 
-    /// A lit board whose words and counts are 0, with no fault to come. `Armed::arm` sets one at a call, whatever
-    /// the mask.
+    /// A lit board of 1,024 pages whose words and counts are 0, with no fault to come. `Armed::arm` sets one at a call,
+    /// whatever the mask.
     ///
     /// # Errors
     /// There is too little memory for the words.
     pub fn on_calls(alloc: Global) -> Result<FaultBoard, AllocError>
-        ensures facts { IfOk result (λ b. fault_facts b ≡ new_board) }
+        ensures facts { IfOk result (λ b. fault_facts b ≡ new_board LEAST_PAGES) }
         ensures counts { IfOk result (λ b. counting b ≡ record { counted = Calls; armed_by = Calls }) }
     {
-        Ok(FaultBoard {
-            ram: RamBoard::new(alloc)?,
-            arm: None,
-            counted: Counted::Calls,
-            armed_by: Counted::Calls,
-            faults: 0,
-        })
+        FaultBoard::with_pages(alloc, LEAST_PAGES, Counted::Calls)
     }
 
     /// The same, but that `Armed::arm` sets a fault at a write, which is torn by the mask.
@@ -61,14 +55,27 @@ impl FaultBoard {
     /// # Errors
     /// There is too little memory for the words.
     pub fn on_writes(alloc: Global) -> Result<FaultBoard, AllocError>
-        ensures facts { IfOk result (λ b. fault_facts b ≡ new_board) }
+        ensures facts { IfOk result (λ b. fault_facts b ≡ new_board LEAST_PAGES) }
         ensures counts { IfOk result (λ b. counting b ≡ record { counted = Writes; armed_by = Writes }) }
     {
+        FaultBoard::with_pages(alloc, LEAST_PAGES, Counted::Writes)
+    }
+
+    /// The one or the other, of so many pages.
+    ///
+    /// # Errors
+    /// There is too little memory for the words.
+    pub fn with_pages(alloc: Global, pages: u16, counted: Counted) -> Result<FaultBoard, AllocError>
+        requires least { LEAST_PAGES ≤ pages }
+        requires most { pages ≤ MOST_PAGES }
+        ensures facts { IfOk result (λ b. fault_facts b ≡ new_board pages) }
+        ensures counts { IfOk result (λ b. counting b ≡ record { counted = counted; armed_by = counted }) }
+    {
         Ok(FaultBoard {
-            ram: RamBoard::new(alloc)?,
+            ram: RamBoard::with_pages(alloc, pages)?,
             arm: None,
-            counted: Counted::Writes,
-            armed_by: Counted::Writes,
+            counted,
+            armed_by: counted,
             faults: 0,
         })
     }
@@ -161,7 +168,7 @@ impl FaultBoard {
 
     /// Leaves the run of a write that fails: old, or torn by the mask.
     fn leave(&mut self, page: u16, first: u8, words: &[u32], mask: u16)
-        requires page { page < PAGES }
+        requires page { page < pages_of (fault_facts self.old).words }
         requires run { first + length words.now ≤ PAGE_WORDS }
         ensures left { LeavesRun self.old.counted mask (address page first) words.now (fault_facts self.old).words
             (fault_facts self.new).words }
@@ -194,19 +201,23 @@ impl FaultBoard {
 impl Board for FaultBoard {
     ghost use Rattle.std.specs.Prelude.{◌⊎◌, ◌+◌, ◌↔◌, if◌then◌else◌, length, IsTrue, IsErrOf, OnOk, OnErr, Err};
     ghost use Rattle.std.specs.Prelude.{slice_index};
-    ghost use Rattle.nvm_board.specs.declared.board.TheConstants.{PAGES, PAGE_WORDS, WORDS, SECRETS};
+    ghost use Rattle.nvm_board.specs.declared.board.TheConstants.{PAGE_WORDS, SECRETS};
     ghost use Rattle.nvm_board.specs.declared.board.DeviceErr.TheVariants.{Fault};
     ghost use Rattle.nvm_board.specs.Aims.{AimStays, AimsAtWrite};
-    ghost use Rattle.nvm_board.specs.Facts.{Answered, IsLostRightly, RisesAt, address, raised};
+    ghost use Rattle.nvm_board.specs.Facts.{Answered, IsLostRightly, RisesAt, address, raised, pages_of};
     ghost use Rattle.nvm_board.specs.Torn.{Torn, written};
     ghost use Rattle.nvm_board.specs.Faulty.{fault_facts, counting, AfterCall, AfterWrite};
-    ghost use Rattle.nvm_board.specs.laws.Counts.{fault_counts_fit};
+    ghost use Rattle.nvm_board.specs.laws.Counts.{fault_counts_fit, ram_memory};
 
     ghost facts = { fault_facts };
 
+    fn pages(&self) -> u16 {
+        self.ram.pages()
+    }
+
     #[tactic(auto, unfolding(crate::specs::Facts::IsLostRightly))]
     fn read(&mut self, at: u16) -> Result<u32, DeviceErr>
-        requires { at < WORDS }
+        requires { at < length (fault_facts self.old).words }
         ensures word { IfOk result (λ w. w ≡ slice_index (fault_facts self.old).words at) }
         ensures light { Answered (fault_facts self.old) (fault_facts self.new) result }
         ensures worn { IsLostRightly (fault_facts self.old) (fault_facts self.new) result }
@@ -228,7 +239,7 @@ impl Board for FaultBoard {
 
     #[tactic(auto, unfolding(crate::specs::Facts::IsLostRightly))]
     fn write(&mut self, page: u16, first: u8, words: &[u32]) -> Result<(), DeviceErr>
-        requires page { page < PAGES }
+        requires page { page < pages_of (fault_facts self.old).words }
         requires some { 0 < length words.now }
         requires run { first + length words.now ≤ PAGE_WORDS }
         ensures done { OnOk result ((fault_facts self.new).words
@@ -284,7 +295,7 @@ impl Board for FaultBoard {
         Ok(equal)
     }
 
-    ghost sized = { λ b. b.ram.sized };
+    ghost sized = { λ b. ram_memory b.ram };
 
     ghost words_fit = { λ b. b.ram.words_fit };
 

@@ -1,13 +1,13 @@
 //! Laws of the definitions, as contracts of functions that do nothing.
 ghost use Rattle.std.specs.Prelude.{◌≡◌, ◌+◌, ◌≤◌, ◌↔◌, ℕ, List, length};
-ghost use Rattle.nvm_board.specs.declared.board.TheConstants.{PAGES, PAGE_WORDS, WORDS, SECRETS, COUNT_END};
+ghost use Rattle.nvm_board.specs.declared.board.TheConstants.{LEAST_PAGES, MOST_PAGES, PAGE_WORDS, SECRETS, COUNT_END};
 ghost use Rattle.nvm_board.specs.Torn.{Torn, IsMixture};
 
-/// The numbers of a board: its pages, the words of a page, its words, its secrets, and where a count ends.
+/// The numbers of a board: its pages at least and at most, the words of a page, its secrets, and where a count ends.
 pub fn layout()
-    ensures pages { PAGES ≡ 1024 }
+    ensures least { LEAST_PAGES ≡ 1024 }
+    ensures most { MOST_PAGES ≡ 4096 }
     ensures page_words { PAGE_WORDS ≡ 16 }
-    ensures words { WORDS ≡ 16384 }
     ensures secrets { SECRETS ≡ 16 }
     ensures count_end { COUNT_END ≡ 18446744073709551615 }
 {}

@@ -11,8 +11,8 @@ mod ram_board;
 mod runs;
 
 pub use board::{
-    Arm, Armed, Board, COUNT_END, DeviceErr, Faultless, PAGE_WORDS, PAGES, SECRETS, Socket, WORDS,
-    WornOut, has_no_fault,
+    Arm, Armed, Board, COUNT_END, DeviceErr, Faultless, LEAST_PAGES, MOST_PAGES, PAGE_WORDS,
+    SECRETS, Socket, WornOut, has_no_fault,
 };
 pub use cut_board::CutBoard;
 pub use fault_board::{Counted, FaultBoard};

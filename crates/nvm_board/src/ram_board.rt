@@ -1,11 +1,11 @@
 //! A board in working memory, which never fails and loses power only by call or at the end of a count.
-ghost use Rattle.std.specs.Prelude.{◌≡◌, ◌+◌, ◌<◌, ◌≤◌, ◌↔◌, if◌then◌else◌, true, false, length, IsTrue, All};
+ghost use Rattle.std.specs.Prelude.{◌≡◌, ◌+◌, ◌*◌, ◌<◌, ◌≤◌, ◌↔◌, if◌then◌else◌, true, false, length, IsTrue, All};
 ghost use Rattle.std.specs.Prelude.{Contains, IfOk, slice_index};
-ghost use Rattle.nvm_board.specs.declared.board.TheConstants.{WORDS, SECRETS, COUNT_END, PAGES, PAGE_WORDS};
-ghost use Rattle.nvm_board.specs.Facts.{AreWords, address};
+ghost use Rattle.nvm_board.specs.declared.board.TheConstants.{SECRETS, COUNT_END, LEAST_PAGES, MOST_PAGES, PAGE_WORDS};
+ghost use Rattle.nvm_board.specs.Facts.{AreWords, address, pages_of};
 
 use crate::board::{
-    Board, COUNT_END, DeviceErr, Faultless, PAGE_WORDS, PAGES, SECRETS, Socket, WORDS, WornOut,
+    Board, COUNT_END, DeviceErr, Faultless, LEAST_PAGES, PAGE_WORDS, SECRETS, Socket, WornOut,
 };
 use crate::runs::{put_masked, put_run};
 use std::alloc::{AllocError, Global};
@@ -13,13 +13,16 @@ use std::alloc::{AllocError, Global};
 /// A board in working memory. Its words are gone with it.
 #[derive(Drop)]
 pub struct RamBoard {
+    pages: u16,
     words: Vec<u32>,
     dark: bool,
     cuts: u64,
     writes: u64,
     compares: [u64; SECRETS as usize],
     matches: [u64; SECRETS as usize],
-    ghost sized: { length words.items ≡ WORDS },
+    ghost sized: { length words.items ≡ PAGE_WORDS * pages },
+    ghost least: { LEAST_PAGES ≤ pages },
+    ghost most: { pages ≤ MOST_PAGES },
     ghost words_fit: { AreWords words.items },
     ghost compares_counted: { length compares ≡ SECRETS },
     ghost matches_counted: { length matches ≡ SECRETS },
@@ -35,15 +38,28 @@ impl RamBoard {
     ghost use Rattle.nvm_board.specs.Ram.{ram_facts};
     ghost use Rattle.nvm_board.specs.Torn.{IsTornBy};
 
-    /// A lit board whose words and counts are 0.
+    /// A lit board of 1,024 pages whose words and counts are 0.
     ///
     /// # Errors
     /// There is too little memory for the words.
     pub fn new(alloc: Global) -> Result<RamBoard, AllocError>
-        ensures { IfOk result (λ b. ram_facts b ≡ new_board) }
+        ensures { IfOk result (λ b. ram_facts b ≡ new_board LEAST_PAGES) }
+    {
+        RamBoard::with_pages(alloc, LEAST_PAGES)
+    }
+
+    /// The same of so many pages.
+    ///
+    /// # Errors
+    /// There is too little memory for the words.
+    pub fn with_pages(alloc: Global, pages: u16) -> Result<RamBoard, AllocError>
+        requires least { LEAST_PAGES ≤ pages }
+        requires most { pages ≤ MOST_PAGES }
+        ensures { IfOk result (λ b. ram_facts b ≡ new_board pages) }
     {
         Ok(RamBoard {
-            words: vec![in alloc; 0u32; WORDS as usize]?,
+            pages,
+            words: vec![in alloc; 0u32; usize::from(PAGE_WORDS) * usize::from(pages)]?,
             dark: false,
             cuts: 0,
             writes: 0,
@@ -62,6 +78,7 @@ impl RamBoard {
         let mut words = Vec::new(alloc);
         words.extend_from_slice(&self.words)?;
         Ok(RamBoard {
+            pages: self.pages,
             words,
             dark: self.dark,
             cuts: self.cuts,
@@ -126,7 +143,7 @@ impl RamBoard {
 
     /// Writes those words of the run whose bit of the mask is set.
     pub(crate) fn put_torn(&mut self, page: u16, first: u8, words: &[u32], mask: u16)
-        requires page { page < PAGES }
+        requires page { page < pages_of (ram_facts self.old).words }
         requires run { first + length words.now ≤ PAGE_WORDS }
         ensures torn { IsTornBy mask (ram_facts self.old).words (address page first) words.now
             (ram_facts self.new).words }
@@ -138,7 +155,7 @@ impl RamBoard {
     /// Tears a write by the mask, and loses power in it.
     pub(crate) fn tear(&mut self, page: u16, first: u8, words: &[u32], mask: u16)
         requires lit { self.old.dark ≡ false }
-        requires page { page < PAGES }
+        requires page { page < pages_of (ram_facts self.old).words }
         requires run { first + length words.now ≤ PAGE_WORDS }
         ensures torn { IsTornBy mask (ram_facts self.old).words (address page first) words.now
             (ram_facts self.new).words }
@@ -152,14 +169,18 @@ impl RamBoard {
 
 impl Board for RamBoard {
     ghost use Rattle.std.specs.Prelude.{◌≡◌, ◌+◌, ◌<◌, ◌≤◌, length, OnOk, OnErr};
-    ghost use Rattle.nvm_board.specs.declared.board.TheConstants.{PAGES, PAGE_WORDS};
+    ghost use Rattle.nvm_board.specs.declared.board.TheConstants.{PAGE_WORDS};
     ghost use Rattle.nvm_board.specs.Aims.{AimsAtWrite};
-    ghost use Rattle.nvm_board.specs.Facts.{Answered, IsLostRightly, address};
+    ghost use Rattle.nvm_board.specs.Facts.{Answered, IsLostRightly, address, pages_of};
     ghost use Rattle.nvm_board.specs.Ram.{ram_facts};
     ghost use Rattle.nvm_board.specs.Torn.{Torn, written};
-    ghost use Rattle.nvm_board.specs.laws.Counts.{ram_counts_fit};
+    ghost use Rattle.nvm_board.specs.laws.Counts.{ram_counts_fit, ram_memory};
 
     ghost facts = { ram_facts };
+
+    fn pages(&self) -> u16 {
+        self.pages
+    }
 
     #[tactic(auto, unfolding(crate::specs::Facts::IsLostRightly))]
     fn read(&mut self, at: u16) -> Result<u32, DeviceErr> {
@@ -171,7 +192,7 @@ impl Board for RamBoard {
 
     #[tactic(auto, unfolding(crate::specs::Facts::IsLostRightly))]
     fn write(&mut self, page: u16, first: u8, words: &[u32]) -> Result<(), DeviceErr>
-        requires page { page < PAGES }
+        requires page { page < pages_of (ram_facts self.old).words }
         requires some { 0 < length words.now }
         requires run { first + length words.now ≤ PAGE_WORDS }
         ensures done { OnOk result ((ram_facts self.new).words ≡ written (ram_facts self.old).words (address page first)
@@ -214,7 +235,7 @@ impl Board for RamBoard {
         Ok(equal)
     }
 
-    ghost sized = { λ b. b.sized };
+    ghost sized = { ram_memory };
 
     ghost words_fit = { λ b. b.words_fit };
 
@@ -249,8 +270,6 @@ impl Faultless for RamBoard {
 
 /// A word's place among all words.
 fn place(page: u16, first: u8) -> usize
-    requires page { page < PAGES }
-    requires first { first ≤ PAGE_WORDS }
     ensures { result ≡ address page first }
 {
     usize::from(PAGE_WORDS) * usize::from(page) + usize::from(first)

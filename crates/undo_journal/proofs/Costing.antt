@@ -19,8 +19,8 @@ use Rattle.undo_journal.proofs.Waits.{overlay-joined, length-joined, joined-leng
 use Rattle.undo_journal.proofs.RunLaws.{runs-joined, runs-goes_on}
 
 -- One more set among those that wait, as the first of a batch or not.
-module _ (new : Waiting) (used : ℕ) (whole : used % BATCH ≡ 0) where
-  pub join-costs : (ps : List Waiting) → AreSets 0 ps → length ps < BATCH
+module _ (size : ℕ) (new : Waiting) (used : ℕ) (whole : used % BATCH ≡ 0) where
+  pub join-costs : (ps : List Waiting) → AreSets size 0 ps → length ps < BATCH
       → batch_writes (joined new ps) + run_writes (used + length ps)
       ≤ batch_writes ps + run_writes (used + length (joined new ps)) + 1
   join-costs [] h few = omega (arith, whole, begins-one 0 new.at)
@@ -29,11 +29,11 @@ module _ (new : Waiting) (used : ℕ) (whole : used % BATCH ≡ 0) where
       let more = length-joined new ps in
       let fewer = joined-length new ps in
       let some : 1 ≤ length (joined new ps) = omega (arith, more) in
-      let runs = runs-joined new ps 0 0 h (omega arith) in
+      let runs = runs-joined size new ps 0 0 h (omega arith) in
       omega (arith, whole, writes-some (joined new ps) some, runs, more, fewer, few)
 
   -- it goes on with a run
-  pub join-goes_on : (ps : List Waiting) → AreSets 0 ps → length ps < BATCH → new.at % PAGE_WORDS ≢ 0
+  pub join-goes_on : (ps : List Waiting) → AreSets size 0 ps → length ps < BATCH → new.at % PAGE_WORDS ≢ 0
       → ((ps ≡ []) × (0 < used)) ⊎ IsSome (look_up (new.at - 1) ps)
       → batch_writes (joined new ps) + run_writes (used + length ps)
       ≤ batch_writes ps + run_writes (used + length (joined new ps))
@@ -45,15 +45,15 @@ module _ (new : Waiting) (used : ℕ) (whole : used % BATCH ≡ 0) where
       let more = length-joined new ps in
       let fewer = joined-length new ps in
       let some : 1 ≤ length (joined new ps) = omega (arith, more) in
-      let runs = runs-goes_on new ps 0 0 h (omega arith) inside waits in
+      let runs = runs-goes_on size new ps 0 0 h (omega arith) inside waits in
       omega (arith, whole, writes-some (joined new ps) some, runs, more, fewer, few)
 
   -- its word is the one that is read
-  pub join-current : (ps : List Waiting) (m : List ℕ) → AreSets 0 ps → IsDataAddress m new.at
+  pub join-current : (ps : List Waiting) (m : List ℕ) → AreSets size 0 ps → IsDataAddress m new.at
       → data_words (overlay (joined new ps) m) ≡ slice_set (data_words (overlay ps m)) new.at new.word
   join-current ps m h place =
       let within : new.at < length (overlay ps m) = omega (arith, length-overlay ps m, place.1) in
-      ap data_words (overlay-joined new ps m 0 h) ∙ data_words-set (overlay ps m) new.at new.word (place.0, within)
+      ap data_words (overlay-joined size new ps m 0 h) ∙ data_words-set (overlay ps m) new.at new.word (place.0, within)
 
 pub join-waits : (new : Waiting) (ps : List Waiting) → IsSome (look_up new.at (joined new ps))
 join-waits new ps = ap (λ o. is_some o) (look_up-joined new ps)

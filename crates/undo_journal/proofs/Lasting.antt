@@ -151,8 +151,8 @@ module _ (inside m : Memory) (seen : inside ≡ m) (held : IsTrueToBoard inside)
   pub idle-within : inside.used + length inside.waiting ≡ 0
   idle-within = ap taken seen ∙ idle
 
-  pub fits-within : Fits inside.used inside.waiting
-  fits-within = subst (λ (x : Memory). Fits x.used x.waiting) (sym seen) (idle-fits m idle)
+  pub fits-within : (size : ℕ) → Fits size inside.used inside.waiting
+  fits-within size = subst (λ (x : Memory). Fits size x.used x.waiting) (sym seen) (idle-fits size m idle)
 
   shut-within : gate inside.facts.words ≡ 0
   shut-within = (held.works (ap (λ (x : Memory). x.failed) seen ∙ works)).counts ∙ unused-within

@@ -6,8 +6,7 @@ use Rattle.std.proofs.Common.{◌≡◌, ◌+◌, ℕ, true, List, length, refl,
 use Rattle.undo_journal.specs.declared.batch.Waiting.{Waiting}
 use Rattle.undo_journal.specs.Batches.{overlay}
 use Rattle.nvm_board.specs.declared.board.DeviceErr.{DeviceErr}
-use Rattle.nvm_board.specs.declared.board.TheConstants.{WORDS}
-use Rattle.nvm_board.specs.Facts.{Facts, AreWords, Answered}
+use Rattle.nvm_board.specs.Facts.{Facts, AreWords, IsMemory, Answered}
 use Rattle.undo_journal.specs.declared.error.StoreErr.{StoreErr}
 use Rattle.undo_journal.specs.declared.error.StoreErr.TheVariants.{PowerLost}
 use Rattle.undo_journal.specs.Undo.{gate, undo, data_words, IsSound}
@@ -115,7 +114,7 @@ module _ (inside m new : Memory) (seen : inside ≡ m) (held : IsTrueToBoard ins
 
   true-as : {T : Type 0} (a : Result T DeviceErr) → new.failed ≡ result_err (store_result_of a)
       → Answered inside.facts new.facts a → IsSound new.facts.words → OnOk a (gate new.facts.words ≡ new.used)
-      → OnOk a (Fits new.used new.waiting) → IsTrueToBoard new
+      → OnOk a (Fits (length new.facts.words) new.used new.waiting) → IsTrueToBoard new
   true-as (Ok v) told light sound counts batch = record {
     works = λ h. record {
       sound = sound;
@@ -134,13 +133,13 @@ module _ (inside m new : Memory) (seen : inside ≡ m) (held : IsTrueToBoard ins
   }
 
   open-as : {T : Type 0} (a : Result T DeviceErr) → new.failed ≡ result_err (store_result_of a)
-      → Answered inside.facts new.facts a → length new.facts.words ≡ WORDS → AreWords new.facts.words
-      → OnOk a (Fits new.used new.waiting) → OnOk (store_result_of a) (IsOpen new)
+      → Answered inside.facts new.facts a → IsMemory new.facts.words → AreWords new.facts.words
+      → OnOk a (Fits (length new.facts.words) new.used new.waiting) → OnOk (store_result_of a) (IsOpen new)
   open-as (Ok v) told light size fit batch = open-from new told (light.ok refl).lit size fit batch
   open-as (Err e) told light size fit batch = tt
 
   ready-as : {T : Type 0} (a : Result T DeviceErr) → new.failed ≡ result_err (store_result_of a)
-      → Answered inside.facts new.facts a → length new.facts.words ≡ WORDS → AreWords new.facts.words
+      → Answered inside.facts new.facts a → IsMemory new.facts.words → AreWords new.facts.words
       → OnOk a (gate new.facts.words ≡ 0) → IsIdle new → UnlessFailed (result_err (store_result_of a)) (IsReady new)
   ready-as (Ok v) told light size fit shut idle = ready-from new told (light.ok refl).lit size fit shut idle
   ready-as (Err e) told light size fit shut idle = tt
@@ -160,22 +159,22 @@ module _ (inside m new : Memory) (seen : inside ≡ m) (held : IsTrueToBoard ins
         subst (λ (x : Memory). Reports x new) seen (reports-as answer told light sound)
 
     pub noted-true : IsSound new.facts.words → OnOk answer (gate new.facts.words ≡ new.used)
-        → OnOk answer (Fits new.used new.waiting) → IsTrueToBoard new
+        → OnOk answer (Fits (length new.facts.words) new.used new.waiting) → IsTrueToBoard new
     noted-true sound counts batch = true-as answer told light sound counts batch
 
-    pub noted-open : length new.facts.words ≡ WORDS → AreWords new.facts.words → OnOk answer (Fits new.used new.waiting)
+    pub noted-open : IsMemory new.facts.words → AreWords new.facts.words → OnOk answer (Fits (length new.facts.words) new.used new.waiting)
         → OnOk result (IsOpen new)
     noted-open size fit batch =
         subst (λ (r : Result T StoreErr). OnOk r (IsOpen new)) (sym is) (open-as answer told light size fit batch)
 
-    pub noted-ready : length new.facts.words ≡ WORDS → AreWords new.facts.words
+    pub noted-ready : IsMemory new.facts.words → AreWords new.facts.words
         → OnOk answer (gate new.facts.words ≡ 0) → IsIdle new → UnlessFailed (result_err result) (IsReady new)
     noted-ready size fit shut idle =
         subst (λ (r : Result T StoreErr). UnlessFailed (result_err r) (IsReady new)) (sym is)
         (ready-as answer told light size fit shut idle)
 
     -- calls that may write, and end with no transaction
-    pub noted-changes : (n : ℕ) → length new.facts.words ≡ WORDS → AreWords new.facts.words → IsSound new.facts.words
+    pub noted-changes : (n : ℕ) → IsMemory new.facts.words → AreWords new.facts.words → IsSound new.facts.words
         → OnOk answer (gate new.facts.words ≡ 0) → IsIdle new → WritesAtMost n inside.facts new.facts
         → Changes n m new (result_err result)
     noted-changes n size fit sound shut idle costs = record {

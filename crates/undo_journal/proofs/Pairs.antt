@@ -5,7 +5,6 @@ use Rattle.std.proofs.Common.{get_or-set_same, get_or-set_other}
 use Rattle.std.specs.Prelude.{if◌then◌else◌, All}
 use Rattle.std.proofs.Math.ListN.{length-set}
 use Rattle.std.proofs.lemmas.List.Elements.{All-nil, All-cons}
-use Rattle.nvm_board.specs.declared.board.TheConstants.{WORDS}
 use Rattle.nvm_board.specs.Torn.{written}
 use Rattle.nvm_board.specs.laws.Torn.{written-elsewhere}
 use Rattle.undo_journal.specs.declared.batch.Waiting.{Waiting}
@@ -115,13 +114,13 @@ all_named-after qs m sets =
     all_named-more (pairs_of m sets) (qs ++ pairs_of m sets) sets (names-after qs (pairs_of m sets)) (all_named-pairs_of m sets)
 
 -- of data words
-pub pairs_of-places : (m l : List ℕ) (sets : List Waiting) (least : ℕ) → length l ≡ WORDS → AreSets least sets
+pub pairs_of-places : (m l : List ℕ) (sets : List Waiting) (least : ℕ) → AreSets (length l) least sets
     → All (λ p. IsDataAddress l p.address) (pairs_of m sets)
-pairs_of-places m l [] least size h = All-nil (λ p. IsDataAddress l p.address)
-pairs_of-places m l (s ∷ rest) least size h =
+pairs_of-places m l [] least h = All-nil (λ p. IsDataAddress l p.address)
+pairs_of-places m l (s ∷ rest) least h =
     All-cons (λ p. IsDataAddress l p.address) (record { address = s.at; earlier = slice_index m s.at }) (pairs_of m rest)
-    (h.0.outside, (let within : s.at < length l = omega (arith, h.0.within, size) in within))
-    (pairs_of-places m l rest (s.at + 1) size h.1)
+    (h.0.outside, h.0.within)
+    (pairs_of-places m l rest (s.at + 1) h.1)
 
 -- as words of the journal
 pub length-pair_words : (m : List ℕ) (sets : List Waiting) → length (pair_words m sets) ≡ 2 * length sets

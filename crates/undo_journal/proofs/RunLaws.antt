@@ -4,7 +4,7 @@ use Rattle.std.proofs.Common.{[], ◌∷◌, length, drop, get_or, slice_set, re
 use Rattle.std.proofs.Common.{Some, None, is_some, IsSome, true≢false}
 use Rattle.std.specs.Prelude.{if◌then◌else◌}
 use Rattle.std.proofs.lemmas.Bool.Decides.{eqb_tells}
-use Rattle.nvm_board.specs.declared.board.TheConstants.{PAGE_WORDS, WORDS}
+use Rattle.nvm_board.specs.declared.board.TheConstants.{PAGE_WORDS}
 use Rattle.nvm_board.specs.Torn.{written}
 use Rattle.undo_journal.specs.declared.batch.Waiting.{Waiting}
 use Rattle.undo_journal.specs.Undo.{Pair, IsDataAddress}
@@ -15,13 +15,13 @@ use Rattle.undo_journal.specs.laws.Waits.{below, same, above, order, joined-belo
 use Rattle.undo_journal.proofs.Waits.{look_up-below, sets-lower}
 
 -- One more set.
-module _ (new : Waiting) where
+module _ (size : ℕ) (new : Waiting) where
   runs-equal : (s : Waiting) (rest : List Waiting) (next : ℕ) → s.at ≡ new.at
       → runs_from next (new ∷ rest) ≡ runs_from next (s ∷ rest)
   runs-equal s rest next is = ap (λ (a : ℕ). begins next a + runs_from (a + 1) rest) (sym is)
 
   -- it makes one run more, at most
-  pub runs-joined : (ps : List Waiting) (least next : ℕ) → AreSets least ps → next ≤ new.at
+  pub runs-joined : (ps : List Waiting) (least next : ℕ) → AreSets size least ps → next ≤ new.at
       → runs_from next (joined new ps) ≤ runs_from next ps + 1
   runs-joined [] least next h le = omega (arith, begins-one next new.at)
   runs-joined (s ∷ rest) least next h le = elim (order s.at new.at) [
@@ -43,7 +43,7 @@ module _ (new : Waiting) where
   ]
 
   -- none, where it goes on with a run that ends before it
-  runs-first : (ps : List Waiting) → AreSets new.at ps → new.at % PAGE_WORDS ≢ 0
+  runs-first : (ps : List Waiting) → AreSets size new.at ps → new.at % PAGE_WORDS ≢ 0
       → runs_from new.at (joined new ps) ≤ runs_from new.at ps
   runs-first [] h inside = elim (going new.at new.at) [
     | goes t e p is ↦ omega (arith, is)
@@ -64,7 +64,7 @@ module _ (new : Waiting) where
         ]
   ]
 
-  pub runs-goes_on : (ps : List Waiting) (least next : ℕ) → AreSets least ps → next ≤ new.at
+  pub runs-goes_on : (ps : List Waiting) (least next : ℕ) → AreSets size least ps → next ≤ new.at
       → new.at % PAGE_WORDS ≢ 0 → IsSome (look_up (new.at - 1) ps)
       → runs_from next (joined new ps) ≤ runs_from next ps
   runs-goes_on [] least next h le inside waits = absurd cc
@@ -75,7 +75,7 @@ module _ (new : Waiting) where
           | inl e ↦
               let follows : s.at + 1 ≡ new.at = omega (arith, e.1, lt) in
               let family : ℕ → Type 0 = λ k. runs_from k (joined new rest) ≤ runs_from k rest in
-              let moved : AreSets new.at rest = subst (λ (k : ℕ). AreSets k rest) follows h.1 in
+              let moved : AreSets size new.at rest = subst (λ (k : ℕ). AreSets size k rest) follows h.1 in
               let after : runs_from (s.at + 1) (joined new rest) ≤ runs_from (s.at + 1) rest =
               subst family (sym follows) (runs-first rest moved inside) in
               omega (arith, made, after)
@@ -90,7 +90,7 @@ module _ (new : Waiting) where
         omega (arith, ap (λ (l : List Waiting). runs_from next l) (joined-same new s rest b e), runs-equal s rest next is)
     | above b e lt ↦
         let low : new.at - 1 < s.at = omega (arith, lt) in
-        let here : AreSets s.at (s ∷ rest) = (
+        let here : AreSets size s.at (s ∷ rest) = (
           record {
             from = (let le : s.at ≤ s.at = omega arith in le);
             outside = h.0.outside;
@@ -99,7 +99,7 @@ module _ (new : Waiting) where
           },
           h.1,
         ) in
-        let none : look_up (new.at - 1) (s ∷ rest) ≡ None = look_up-below (new.at - 1) s.at (s ∷ rest) here low in
+        let none : look_up (new.at - 1) (s ∷ rest) ≡ None = look_up-below size (new.at - 1) s.at (s ∷ rest) here low in
         absurd (true≢false (sym waits ∙ ap (λ o. is_some o) none))
   ]
 
@@ -150,10 +150,10 @@ run-runs (s ∷ rest) next = elim (going next s.at) [
 ]
 
 -- what is left of sets
-pub sets-drop : (n : ℕ) (ps : List Waiting) (least : ℕ) → AreSets least ps → AreSets 0 (drop n ps)
-sets-drop zero ps least h = sets-lower 0 least ps (let le : 0 ≤ least = omega arith in le) h
-sets-drop (suc n) [] least h = tt
-sets-drop (suc n) (s ∷ rest) least h = sets-drop n rest (s.at + 1) h.1
+pub sets-drop : (size : ℕ) (n : ℕ) (ps : List Waiting) (least : ℕ) → AreSets size least ps → AreSets size 0 (drop n ps)
+sets-drop size zero ps least h = sets-lower size 0 least ps (let le : 0 ≤ least = omega arith in le) h
+sets-drop size (suc n) [] least h = tt
+sets-drop size (suc n) (s ∷ rest) least h = sets-drop size n rest (s.at + 1) h.1
 
 pub named-drop : (n : ℕ) (ps : List Waiting) (pairs : List Pair) → AllNamed pairs ps → AllNamed pairs (drop n ps)
 named-drop zero ps pairs h = h
@@ -178,23 +178,23 @@ saved-turn next n m pairs here rest (suc k) lt =
     subst family place (rest k low)
 
 -- the first of the sets
-set-saved : (s : Waiting) (rest : List Waiting) (least : ℕ) (m : List ℕ) (pairs : List Pair) → length m ≡ WORDS
-    → AreSets least (s ∷ rest) → AllNamed pairs (s ∷ rest) → IsSaved m pairs s.at
-set-saved s rest least m pairs size h named = record {
-  place = (h.0.outside, (let within : s.at < length m = omega (arith, h.0.within, size) in within));
+set-saved : (s : Waiting) (rest : List Waiting) (least : ℕ) (m : List ℕ) (pairs : List Pair)
+    → AreSets (length m) least (s ∷ rest) → AllNamed pairs (s ∷ rest) → IsSaved m pairs s.at
+set-saved s rest least m pairs h named = record {
+  place = (h.0.outside, h.0.within);
   named = named.0;
 }
 
-pub run-saved : (ps : List Waiting) (next least : ℕ) (m : List ℕ) (pairs : List Pair) → length m ≡ WORDS → AreSets least ps
+pub run-saved : (ps : List Waiting) (next least : ℕ) (m : List ℕ) (pairs : List Pair) → AreSets (length m) least ps
     → AllNamed pairs ps → (k : ℕ) → k < length (run_words next ps) → IsSaved m pairs (next + k)
-run-saved [] next least m pairs size h named k lt = absurd (omega arith)
-run-saved (s ∷ rest) next least m pairs size h named k lt = elim (going next s.at) [
+run-saved [] next least m pairs h named k lt = absurd (omega arith)
+run-saved (s ∷ rest) next least m pairs h named k lt = elim (going next s.at) [
   | goes t e p is ↦
       let run = ap (λ (b : Bool). length (if b then s.word ∷ run_words (s.at + 1) rest else [])) t in
       let family : ℕ → Type 0 = λ a. IsSaved m pairs (a + k) in
       subst family e
-      (saved-turn s.at (length (run_words (s.at + 1) rest)) m pairs (set-saved s rest least m pairs size h named)
-      (run-saved rest (s.at + 1) (s.at + 1) m pairs size h.1 named.1) k
+      (saved-turn s.at (length (run_words (s.at + 1) rest)) m pairs (set-saved s rest least m pairs h named)
+      (run-saved rest (s.at + 1) (s.at + 1) m pairs h.1 named.1) k
       (let l : k < suc (length (run_words (s.at + 1) rest)) = omega (arith, run, lt) in l))
   | stops t o is ↦
       let run = ap (λ (b : Bool). length (if b then s.word ∷ run_words (s.at + 1) rest else [])) t in
@@ -202,12 +202,12 @@ run-saved (s ∷ rest) next least m pairs size h named k lt = elim (going next s
 ]
 
 -- the same of the first run
-pub first-saved : (s : Waiting) (rest : List Waiting) (least : ℕ) (m : List ℕ) (pairs : List Pair) → length m ≡ WORDS
-    → AreSets least (s ∷ rest) → AllNamed pairs (s ∷ rest) → (k : ℕ) → k < length (first_words (s ∷ rest))
+pub first-saved : (s : Waiting) (rest : List Waiting) (least : ℕ) (m : List ℕ) (pairs : List Pair)
+    → AreSets (length m) least (s ∷ rest) → AllNamed pairs (s ∷ rest) → (k : ℕ) → k < length (first_words (s ∷ rest))
     → IsSaved m pairs (s.at + k)
-first-saved s rest least m pairs size h named k lt =
-    saved-turn s.at (length (run_words (s.at + 1) rest)) m pairs (set-saved s rest least m pairs size h named)
-    (run-saved rest (s.at + 1) (s.at + 1) m pairs size h.1 named.1) k lt
+first-saved s rest least m pairs h named k lt =
+    saved-turn s.at (length (run_words (s.at + 1) rest)) m pairs (set-saved s rest least m pairs h named)
+    (run-saved rest (s.at + 1) (s.at + 1) m pairs h.1 named.1) k lt
 
 -- The first run of sets that are not none, whose first address is a.
 run-short : (ps : List Waiting) (next : ℕ) → length (run_words next ps) ≤ length ps
@@ -244,7 +244,7 @@ turn-runs [] some = absurd (omega arith)
 turn-runs (s ∷ rest) some = omega (arith, run-runs rest (s.at + 1), begins-first s.at)
 
 pub turn-saved : (ps : List Waiting) (d : Waiting) (least : ℕ) (m : List ℕ) (pairs : List Pair) → 0 < length ps
-    → length m ≡ WORDS → AreSets least ps → AllNamed pairs ps → (k : ℕ) → k < length (first_words ps)
+    → AreSets (length m) least ps → AllNamed pairs ps → (k : ℕ) → k < length (first_words ps)
     → IsSaved m pairs ((get_or ps 0 d).at + k)
-turn-saved [] d least m pairs some size h named = absurd (omega arith)
-turn-saved (s ∷ rest) d least m pairs some size h named = first-saved s rest least m pairs size h named
+turn-saved [] d least m pairs some h named = absurd (omega arith)
+turn-saved (s ∷ rest) d least m pairs some h named = first-saved s rest least m pairs h named

@@ -6,7 +6,6 @@ use Rattle.std.proofs.Math.ListN.{length-set}
 use Rattle.std.proofs.lemmas.Bool.Decides.{eqb_tells}
 use Rattle.std.specs.Prelude.{All}
 use Rattle.std.proofs.Math.Logic.{⊎_elim}
-use Rattle.nvm_board.specs.declared.board.TheConstants.{WORDS}
 use Rattle.nvm_board.specs.Torn.{Torn, written, IsMixture}
 use Rattle.nvm_board.specs.laws.Torn.{Torn-all, IsMixture-Torn}
 use Rattle.undo_journal.specs.declared.layout.TheConstants.{GATE, JOURNAL, JOURNAL_END, PAIRS}
@@ -215,21 +214,22 @@ saved-torn m (w ∷ run) n a sound saved (inr new) =
     saved-stays m (slice_set m a w) (a + 1 + k) first (subst family place (saved (suc k) next))) new)
 
 -- sets make the same of the same data words
-pub overlay-current : (sets : List Waiting) (least : ℕ) (m n : List ℕ) → AreSets least sets → length m ≡ WORDS
-    → length n ≡ WORDS → data_words m ≡ data_words n → data_words (overlay sets m) ≡ data_words (overlay sets n)
-overlay-current [] least m n h size size_n same = same
-overlay-current (s ∷ rest) least m n h size size_n same =
-    let place : IsDataAddress m s.at = (h.0.outside, (let w : s.at < length m = omega (arith, h.0.within, size) in w)) in
-    let place_n : IsDataAddress n s.at = (h.0.outside, (let w : s.at < length n = omega (arith, h.0.within, size_n) in w)) in
-    overlay-current rest (s.at + 1) (slice_set m s.at s.word) (slice_set n s.at s.word) h.1
-    (length-set m s.at s.word ∙ size) (length-set n s.at s.word ∙ size_n)
+pub overlay-current : (sets : List Waiting) (least : ℕ) (m n : List ℕ) → AreSets (length m) least sets → length n ≡ length m
+    → data_words m ≡ data_words n → data_words (overlay sets m) ≡ data_words (overlay sets n)
+overlay-current [] least m n h size same = same
+overlay-current (s ∷ rest) least m n h size same =
+    let place : IsDataAddress m s.at = (h.0.outside, h.0.within) in
+    let place_n : IsDataAddress n s.at = (h.0.outside, (let w : s.at < length n = omega (arith, h.0.within, size) in w)) in
+    overlay-current rest (s.at + 1) (slice_set m s.at s.word) (slice_set n s.at s.word)
+    (subst (λ (k : ℕ). AreSets k (s.at + 1) rest) (sym (length-set m s.at s.word)) h.1)
+    (length-set n s.at s.word ∙ size ∙ sym (length-set m s.at s.word))
     (data_words-set m s.at s.word place ∙ ap (λ (l : List ℕ). slice_set l s.at s.word) same
     ∙ sym (data_words-set n s.at s.word place_n))
 
 -- A batch: from the words m, read as r, behind the pairs of the sets.
 module _ (m r run : List ℕ) (sets : List Waiting) (g : ℕ) (read : r ≡ m) (saved : run ≡ pair_words m sets)
-    (sound : IsSound m) (counts : gate m ≡ g) (room : g + length sets ≤ PAIRS) (are : AreSets 0 sets)
-    (size : length m ≡ WORDS) where
+    (sound : IsSound m) (counts : gate m ≡ g) (room : g + length sets ≤ PAIRS) (are : AreSets (length m) 0 sets)
+    (size : JOURNAL_END ≤ length m) where
   length-run : length run ≡ 2 * length sets
   length-run = ap (λ (l : List ℕ). length l) saved ∙ length-pair_words m sets
 
@@ -312,7 +312,7 @@ module _ (m r run : List ℕ) (sets : List Waiting) (g : ℕ) (read : r ≡ m) (
               (All-append (λ p. IsDataAddress q p.address) (pairs m) (pairs_of m sets)
               (All-weaker (λ p. IsDataAddress m p.address) (λ p. IsDataAddress q p.address) (λ x place.
               (place.0, (let lt : x.address < length q = omega (arith, place.1, sizes) in lt))) (pairs m) sound.places)
-              (pairs_of-places m q sets 0 (sizes ∙ size) are));
+              (pairs_of-places m q sets 0 (subst (λ (k : ℕ). AreSets k 0 sets) (sym sizes) are)));
         }
 
     -- the gate, raised or not
@@ -338,10 +338,10 @@ module _ (m r run : List ℕ) (sets : List Waiting) (g : ℕ) (read : r ≡ m) (
 
       pub current-raised : (n : List ℕ) → n ≡ overlay sets q → data_words n ≡ data_words (overlay sets m)
       current-raised n done =
-          let size_q : length q ≡ WORDS = ap (λ (l : List ℕ). length l) raised ∙ length-set p GATE (g + length sets)
-          ∙ sym same_pairs.size ∙ size in
+          let size_q : length q ≡ length m = ap (λ (l : List ℕ). length l) raised ∙ length-set p GATE (g + length sets)
+          ∙ sym same_pairs.size in
           ap data_words done
-          ∙ overlay-current sets 0 q m are size_q size
+          ∙ overlay-current sets 0 q m (subst (λ (k : ℕ). AreSets k 0 sets) (sym size_q) are) (sym size_q)
           (ap data_words raised ∙ current-gate p (g + length sets) ∙ sym same_pairs.current)
 
       pub gate-counts : gate q ≡ g + length sets

@@ -1,6 +1,5 @@
 -- A turn of the loop that writes the words of sets: their first run is written, and the others are left.
 use Rattle.std.proofs.Common.{◌≡◌, ◌<◌, ◌+◌, ℕ, List, length, drop, get_or, sym, ◌∙◌, ap, ap₂, subst, arith}
-use Rattle.nvm_board.specs.declared.board.TheConstants.{WORDS}
 use Rattle.nvm_board.specs.Torn.{Torn, written}
 use Rattle.nvm_board.specs.laws.Torn.{Torn-all}
 use Rattle.undo_journal.specs.declared.batch.Waiting.{Waiting}
@@ -11,14 +10,15 @@ use Rattle.undo_journal.proofs.RunLaws.{IsSaved, turn-saved, turn-written, named
 use Rattle.undo_journal.proofs.Saving.{SameUndo, saved-torn, same-then}
 
 module _ (first now : List ℕ) (ps : List Waiting) (d : Waiting) (run : List ℕ) (a : ℕ) (some : 0 < length ps)
-    (size : length first ≡ WORDS) (are : AreSets 0 ps) (named : AllNamed (pairs now) ps) (same : SameUndo first now)
+    (are : AreSets (length first) 0 ps) (named : AllNamed (pairs now) ps) (same : SameUndo first now)
     (is : run ≡ first_words ps) (at : a ≡ (get_or ps 0 d).at) where
   turn-step : (n : List ℕ) → Torn now a run n → SameUndo now n
   turn-step n torn =
+      let there : AreSets (length now) 0 ps = subst (λ (n : ℕ). AreSets n 0 ps) (sym same.size) are in
       saved-torn now run n a same.sound (λ k lt.
       let low : k < length (first_words ps) = omega (arith, lt, ap (λ (l : List ℕ). length l) is) in
       let family : ℕ → Type 0 = λ x. IsSaved now (pairs now) (x + k) in
-      subst family (sym at) (turn-saved ps d 0 now (pairs now) some (same.size ∙ size) are named k low)) torn
+      subst family (sym at) (turn-saved ps d 0 now (pairs now) some there named k low)) torn
 
   pub turn-torn : (n : List ℕ) → Torn now a run n → SameUndo first n
   turn-torn n torn = same-then first now n same (turn-step n torn)

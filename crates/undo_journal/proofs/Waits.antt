@@ -31,9 +31,9 @@ set-set_same (x ∷ m) zero v w = refl
 set-set_same (x ∷ m) (suc a) v w = ap (λ (l : List ℕ). x ∷ l) (set-set_same m a v w)
 
 -- sets of addresses from this one on are of addresses from a smaller one on
-pub sets-lower : (k l : ℕ) (ps : List Waiting) → k ≤ l → AreSets l ps → AreSets k ps
-sets-lower k l [] le h = tt
-sets-lower k l (s ∷ rest) le h = (
+pub sets-lower : (size : ℕ) (k l : ℕ) (ps : List Waiting) → k ≤ l → AreSets size l ps → AreSets size k ps
+sets-lower size k l [] le h = tt
+sets-lower size k l (s ∷ rest) le h = (
   record {
     from = (let f : k ≤ s.at = omega (arith, le, h.0.from) in f);
     outside = h.0.outside;
@@ -44,49 +44,49 @@ sets-lower k l (s ∷ rest) le h = (
 )
 
 -- a word below those that wait
-pub overlay-below : (ps : List Waiting) (m : List ℕ) (least a : ℕ) → AreSets least ps → a < least
+pub overlay-below : (size : ℕ) (ps : List Waiting) (m : List ℕ) (least a : ℕ) → AreSets size least ps → a < least
     → slice_index (overlay ps m) a ≡ slice_index m a
-overlay-below [] m least a h lt = refl
-overlay-below (s ∷ rest) m least a h lt =
+overlay-below size [] m least a h lt = refl
+overlay-below size (s ∷ rest) m least a h lt =
     let far : a < s.at + 1 = omega (arith, lt, h.0.from) in
     let other : a ≢ s.at = omega (arith, lt, h.0.from) in
-    overlay-below rest (slice_set m s.at s.word) (s.at + 1) a h.1 far ∙ get_or-set_other m s.at a s.word 0 other
+    overlay-below size rest (slice_set m s.at s.word) (s.at + 1) a h.1 far ∙ get_or-set_other m s.at a s.word 0 other
 
 -- a word set below them
-pub overlay-set : (ps : List Waiting) (m : List ℕ) (a w : ℕ) → AreSets (a + 1) ps
+pub overlay-set : (size : ℕ) (ps : List Waiting) (m : List ℕ) (a w : ℕ) → AreSets size (a + 1) ps
     → overlay ps (slice_set m a w) ≡ slice_set (overlay ps m) a w
-overlay-set [] m a w h = refl
-overlay-set (s ∷ rest) m a w h =
+overlay-set size [] m a w h = refl
+overlay-set size (s ∷ rest) m a w h =
     let other : a ≢ s.at = omega (arith, h.0.from) in
     let le : a + 1 ≤ s.at + 1 = omega (arith, h.0.from) in
     ap (λ (l : List ℕ). overlay rest l) (set-set_other m a s.at w s.word other)
-    ∙ overlay-set rest (slice_set m s.at s.word) a w (sets-lower (a + 1) (s.at + 1) rest le h.1)
+    ∙ overlay-set size rest (slice_set m s.at s.word) a w (sets-lower size (a + 1) (s.at + 1) rest le h.1)
 
 -- words of 32 bits
-pub overlay-fits : (ps : List Waiting) (m : List ℕ) (least : ℕ) → AreSets least ps → AreWords m → AreWords (overlay ps m)
-overlay-fits [] m least h fit = fit
-overlay-fits (s ∷ rest) m least h fit =
-    overlay-fits rest (slice_set m s.at s.word) (s.at + 1) h.1 (All-set (λ w. w < 2 ^ 32) m s.at s.word h.0.fits fit)
+pub overlay-fits : (size : ℕ) (ps : List Waiting) (m : List ℕ) (least : ℕ) → AreSets size least ps → AreWords m → AreWords (overlay ps m)
+overlay-fits size [] m least h fit = fit
+overlay-fits size (s ∷ rest) m least h fit =
+    overlay-fits size rest (slice_set m s.at s.word) (s.at + 1) h.1 (All-set (λ w. w < 2 ^ 32) m s.at s.word h.0.fits fit)
 
 -- the word that waits is the one that is read
-pub look_up-found : (a w : ℕ) (ps : List Waiting) (m : List ℕ) (least : ℕ) → AreSets least ps → a < length m
+pub look_up-found : (size : ℕ) (a w : ℕ) (ps : List Waiting) (m : List ℕ) (least : ℕ) → AreSets size least ps → a < length m
     → look_up a ps ≡ Some w → slice_index (overlay ps m) a ≡ w
-look_up-found a w [] m least h lt found = absurd cc
-look_up-found a w (s ∷ rest) m least h lt found = elim (eqb_tells s.at a) [
+look_up-found size a w [] m least h lt found = absurd cc
+look_up-found size a w (s ∷ rest) m least h lt found = elim (eqb_tells s.at a) [
   | inl e ↦
       let some : Some s.word ≡ Some w =
       sym (ap (λ (b : Bool). if b then Some s.word else look_up a rest) e.0) ∙ found in
       let word : s.word ≡ w = cc in
       let low : a < s.at + 1 = omega (arith, e.1) in
       let within : s.at < length m = omega (arith, e.1, lt) in
-      overlay-below rest (slice_set m s.at s.word) (s.at + 1) a h.1 low
+      overlay-below size rest (slice_set m s.at s.word) (s.at + 1) a h.1 low
       ∙ ap (λ (j : ℕ). slice_index (slice_set m s.at s.word) j) (sym e.1)
       ∙ get_or-set_same m s.at s.word 0 within ∙ word
   | inr other ↦
       let next : look_up a rest ≡ Some w =
       sym (ap (λ (b : Bool). if b then Some s.word else look_up a rest) other.0) ∙ found in
       let within : a < length (slice_set m s.at s.word) = omega (arith, lt, length-set m s.at s.word) in
-      look_up-found a w rest (slice_set m s.at s.word) (s.at + 1) h.1 within next
+      look_up-found size a w rest (slice_set m s.at s.word) (s.at + 1) h.1 within next
 ]
 
 pub look_up-none : (a : ℕ) (ps : List Waiting) (m : List ℕ) → look_up a ps ≡ None
@@ -105,36 +105,36 @@ look_up-none a (s ∷ rest) m none = elim (eqb_tells s.at a) [
 ]
 
 -- nothing waits below the least address
-pub look_up-below : (a least : ℕ) (ps : List Waiting) → AreSets least ps → a < least → look_up a ps ≡ None
-look_up-below a least [] h lt = refl
-look_up-below a least (s ∷ rest) h lt =
+pub look_up-below : (size : ℕ) (a least : ℕ) (ps : List Waiting) → AreSets size least ps → a < least → look_up a ps ≡ None
+look_up-below size a least [] h lt = refl
+look_up-below size a least (s ∷ rest) h lt =
     let other : s.at ≢ a = omega (arith, lt, h.0.from) in
     let low : a < s.at + 1 = omega (arith, lt, h.0.from) in
     elim (eqb_tells s.at a) [
       | inl e ↦ absurd (other e.1)
       | inr differs ↦ ap (λ (b : Bool). if b then Some s.word else look_up a rest) differs.0
-          ∙ look_up-below a (s.at + 1) rest h.1 low
+          ∙ look_up-below size a (s.at + 1) rest h.1 low
     ]
 
 -- One more set among those that wait.
-module _ (new : Waiting) where
+module _ (size : ℕ) (new : Waiting) where
   -- its word is the one that is read
-  pub overlay-joined : (ps : List Waiting) (m : List ℕ) (least : ℕ) → AreSets least ps
+  pub overlay-joined : (ps : List Waiting) (m : List ℕ) (least : ℕ) → AreSets size least ps
       → overlay (joined new ps) m ≡ slice_set (overlay ps m) new.at new.word
   overlay-joined [] m least h = refl
   overlay-joined (s ∷ rest) m least h = elim (order s.at new.at) [
     | below b lt ↦ ap (λ (l : List Waiting). overlay l m) (joined-below new s rest b)
         ∙ overlay-joined rest (slice_set m s.at s.word) (s.at + 1) h.1
     | same b e is ↦
-        let moved : AreSets (new.at + 1) rest = let family : ℕ → Type 0 = λ k. AreSets (k + 1) rest in subst family is h.1 in
+        let moved : AreSets size (new.at + 1) rest = let family : ℕ → Type 0 = λ k. AreSets size (k + 1) rest in subst family is h.1 in
         ap (λ (l : List Waiting). overlay l m) (joined-same new s rest b e)
         ∙ ap (λ (l : List ℕ). overlay rest l) (sym (ap (λ (j : ℕ). slice_set (slice_set m j s.word) new.at new.word) is
         ∙ set-set_same m new.at s.word new.word))
-        ∙ overlay-set rest (slice_set m s.at s.word) new.at new.word moved
+        ∙ overlay-set size rest (slice_set m s.at s.word) new.at new.word moved
     | above b e lt ↦
         let le : new.at + 1 ≤ s.at = omega (arith, lt) in
         ap (λ (l : List Waiting). overlay l m) (joined-above new s rest b e)
-        ∙ overlay-set (s ∷ rest) m new.at new.word (
+        ∙ overlay-set size (s ∷ rest) m new.at new.word (
           record {
             from = le;
             outside = h.0.outside;
@@ -145,22 +145,22 @@ module _ (new : Waiting) where
         )
   ]
 
-  pub sets-joined : (ps : List Waiting) (least : ℕ) → AreSets least ps → IsSet least new → AreSets least (joined new ps)
+  pub sets-joined : (ps : List Waiting) (least : ℕ) → AreSets size least ps → IsSet size least new → AreSets size least (joined new ps)
   sets-joined [] least h is_set = (is_set, tt)
   sets-joined (s ∷ rest) least h is_set = elim (order s.at new.at) [
     | below b lt ↦
         let from : s.at + 1 ≤ new.at = omega (arith, lt) in
-        subst (λ (l : List Waiting). AreSets least l) (sym (joined-below new s rest b)) (
+        subst (λ (l : List Waiting). AreSets size least l) (sym (joined-below new s rest b)) (
           h.0,
           sets-joined rest (s.at + 1) h.1
               (record { from = from; outside = is_set.outside; within = is_set.within; fits = is_set.fits }),
         )
     | same b e is ↦
-        let moved : AreSets (new.at + 1) rest = let family : ℕ → Type 0 = λ k. AreSets (k + 1) rest in subst family is h.1 in
-        subst (λ (l : List Waiting). AreSets least l) (sym (joined-same new s rest b e)) (is_set, moved)
+        let moved : AreSets size (new.at + 1) rest = let family : ℕ → Type 0 = λ k. AreSets size (k + 1) rest in subst family is h.1 in
+        subst (λ (l : List Waiting). AreSets size least l) (sym (joined-same new s rest b e)) (is_set, moved)
     | above b e lt ↦
         let from : new.at + 1 ≤ s.at = omega (arith, lt) in
-        subst (λ (l : List Waiting). AreSets least l) (sym (joined-above new s rest b e)) (
+        subst (λ (l : List Waiting). AreSets size least l) (sym (joined-above new s rest b e)) (
           is_set,
           (
             record {
@@ -174,6 +174,8 @@ module _ (new : Waiting) where
         )
   ]
 
+-- How many they are then.
+module _ (new : Waiting) where
   -- it takes one place, or none
   pub length-joined : (ps : List Waiting) → length ps ≤ length (joined new ps)
   length-joined [] = omega arith

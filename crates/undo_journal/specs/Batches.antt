@@ -1,7 +1,7 @@
 -- The sets of a transaction that wait: what they make of the words, and how many device writes they take.
 use Rattle.std.specs.Prelude.{◌==◌, ◌<◌, ◌≤◌, ◌+◌, ◌-◌, ◌/◌, ◌%◌, ◌^◌, ◌&&◌, ℕ, not, if◌then◌else◌, List, [], ◌∷◌, slice_set}
 use Rattle.std.specs.Prelude.{zero, suc, nat_lt, Option, Some, None}
-use Rattle.nvm_board.specs.declared.board.TheConstants.{PAGE_WORDS, WORDS}
+use Rattle.nvm_board.specs.declared.board.TheConstants.{PAGE_WORDS}
 use Rattle.undo_journal.specs.declared.batch.Waiting.{Waiting}
 use Rattle.undo_journal.specs.Undo.{IsOutside}
 
@@ -25,17 +25,17 @@ abbrev pub joined_run : ℕ → List ℕ → List Waiting → List Waiting
 joined_run at [] sets = sets
 joined_run at (w ∷ words) sets = joined_run (at + 1) words (joined (record { at = at; word = w }) sets)
 
--- a set of a data word, not below this address
-pub record IsSet (least : ℕ) (s : Waiting) : Type 0 where
+-- a set of a data word of so many words, not below this address
+pub record IsSet (size least : ℕ) (s : Waiting) : Type 0 where
   pub from : least ≤ s.at
   pub outside : IsOutside s.at
-  pub within : s.at < WORDS
+  pub within : s.at < size
   pub fits : s.word < 2 ^ 32
 
--- sets of data words, each address above the one before it, from this one on
-abbrev pub AreSets : ℕ → List Waiting → Type 0
-AreSets least [] = Unit {0}
-AreSets least (s ∷ rest) = IsSet least s × AreSets (s.at + 1) rest
+-- sets of data words of so many words, each address above the one before it, from this one on
+abbrev pub AreSets : ℕ → ℕ → List Waiting → Type 0
+AreSets size least [] = Unit {0}
+AreSets size least (s ∷ rest) = IsSet size least s × AreSets size (s.at + 1) rest
 
 -- 0 where a word goes on with a run that would end before `next`, else 1: a run is of successive addresses of one page
 abbrev pub begins : ℕ → ℕ → ℕ

@@ -2,11 +2,11 @@
 use Rattle.std.specs.Prelude.{◌≡◌, ◌≢◌, ◌⊎◌, ◌<◌, ◌≤◌, ◌+◌, ◌-◌, ◌*◌, ◌/◌, ◌%◌, ◌==◌, ℕ, true, false, List}
 use Rattle.std.specs.Prelude.{if◌then◌else◌, [], length, IsSome, Option, Some, None, Result}
 use Rattle.std.specs.Result.{result_map_both}
-use Rattle.nvm_board.specs.declared.board.TheConstants.{PAGE_WORDS, WORDS}
+use Rattle.nvm_board.specs.declared.board.TheConstants.{PAGE_WORDS}
 use Rattle.nvm_board.specs.declared.board.DeviceErr.{DeviceErr}
 use Rattle.nvm_board.specs.declared.board.DeviceErr.TheVariants as device
 use Rattle.nvm_board.specs.Aims.{AimsOn}
-use Rattle.nvm_board.specs.Facts.{Facts, AreWords, Steady, GoesDark, Fails}
+use Rattle.nvm_board.specs.Facts.{Facts, AreWords, IsMemory, Steady, GoesDark, Fails}
 use Rattle.undo_journal.specs.declared.error.StoreErr.{StoreErr}
 use Rattle.undo_journal.specs.declared.error.StoreErr.TheVariants.{PowerLost, Fault}
 use Rattle.undo_journal.specs.declared.error.OpenFault.{OpenFault}
@@ -96,8 +96,8 @@ set_writes set m = if length (joined set m.waiting) == BATCH then batch_writes (
 pub record IsOpen (m : Memory) : Type 0 where
   pub works : m.failed ≡ None
   pub lit : m.facts.dark ≡ false
-  pub committed_size : length (committed m) ≡ WORDS
-  pub current_size : length (current m) ≡ WORDS
+  pub committed_size : IsMemory (committed m)
+  pub current_size : IsMemory (current m)
   pub committed_fit : AreWords (committed m)
   pub current_fit : AreWords (current m)
 
@@ -132,7 +132,7 @@ pub record IsHeld (facts : Facts) (used : ℕ) (waiting : List Waiting) : Type 0
   pub whole : used % BATCH ≡ 0
   pub few : length waiting < BATCH
   pub fits : used + length waiting ≤ PAIRS
-  pub sets : AreSets 0 waiting
+  pub sets : AreSets (length facts.words) 0 waiting
 
 -- the invariant of a store: while it has not failed, it is held; where it failed for lost power, its board is dark
 pub record IsTrueToBoard (m : Memory) : Type 0 where

@@ -2,7 +2,6 @@
 ghost use Rattle.std.specs.Prelude.{◌≡◌, ◌⊎◌, ◌↔◌, ◌+◌, ◌-◌, ◌*◌, ◌<◌, ◌≤◌, ◌%◌, ◌==◌, ◌&&◌, not, ℕ, [], length, take, drop, false, IsTrue};
 ghost use Rattle.std.specs.Prelude.{IfOk, OnOk, slice_set};
 ghost use Rattle.arrayvec.specs.ArrayVec.{array_vec_len};
-ghost use Rattle.nvm_board.specs.declared.board.TheConstants.{WORDS};
 ghost use Rattle.nvm_board.specs.Facts.{Answered};
 ghost use Rattle.nvm_board.specs.Torn.{Torn, written};
 ghost use Rattle.undo_journal.specs.declared.batch.TheConstants.{BATCH};
@@ -96,24 +95,24 @@ fn join(sets: &mut Sets, new: Waiting)
 fn first_run(sets: &[Waiting]) -> ArrayVec<u32, BATCH_SETS>
     requires some { 0 < length sets.now }
     requires few { length sets.now ≤ BATCH }
-    requires sets { AreSets 0 sets.now }
     ensures { result.items ≡ first_words sets.now }
 {
     let first = sets[0];
     let mut words = ArrayVec::new();
     words.push(first.word);
-    while words.len() < sets.len() && goes_on(first.at + words.len() as u16, sets[words.len()].at) {
+    while words.len() < sets.len() && goes_on(first.at, words.len() as u32, sets[words.len()].at) {
         let word = sets[words.len()].word;
         words.push(word);
     }
     words
 }
 
-/// Whether a word goes on with a run that would end before `next`.
-fn goes_on(next: u16, at: u16) -> bool
-    ensures { result ≡ ((at == next) && not (at % PAGE_WORDS == 0)) }
+/// Whether a word goes on with a run of so many words from `first` on. The address after the last one fits no `u16`.
+fn goes_on(first: u16, run: u32, at: u16) -> bool
+    requires { run ≤ BATCH }
+    ensures { result ≡ ((at == first + run) && not (at % PAGE_WORDS == 0)) }
 {
-    at == next && at % PAGE_WORDS != 0
+    u32::from(at) == u32::from(first) + run && at % PAGE_WORDS != 0
 }
 
 /// The pairs of sets as words of the journal: each address, and the word that is there.
@@ -123,7 +122,7 @@ fn saved_pairs<B: Board>(
 ) -> Result<ArrayVec<u32, BATCH_PAIR_WORDS>, DeviceErr>
     requires lit { (B.facts board.old).dark ≡ false }
     requires few { length sets.now ≤ BATCH }
-    requires sets { AreSets 0 sets.now }
+    requires sets { AreSets (length (B.facts board.old).words) 0 sets.now }
     ensures words { IfOk result (λ v. v.items ≡ pair_words (B.facts board.old).words sets.now) }
     ensures light { Answered (B.facts board.old) (B.facts board.new) result }
     ensures reads { KeepsBoard (B.facts board.old) (B.facts board.new) }
@@ -141,7 +140,7 @@ fn saved_pairs<B: Board>(
 fn write_words<B: Board>(board: &mut B, sets: &[Waiting]) -> Result<(), DeviceErr>
     requires lit { (B.facts board.old).dark ≡ false }
     requires few { length sets.now ≤ BATCH }
-    requires sets { AreSets 0 sets.now }
+    requires sets { AreSets (length (B.facts board.old).words) 0 sets.now }
     requires sound { IsSound (B.facts board.old).words }
     requires named { AllNamed (pairs (B.facts board.old).words) sets.now }
     ensures kept { data_words (undo (B.facts board.new).words) ≡ data_words (undo (B.facts board.old).words) }
@@ -173,7 +172,7 @@ fn save_and_write<B: Board>(board: &mut B, used: u16, sets: &[Waiting]) -> Resul
     requires some { 0 < length sets.now }
     requires few { length sets.now ≤ BATCH }
     requires room { used + length sets.now ≤ PAIRS }
-    requires sets { AreSets 0 sets.now }
+    requires sets { AreSets (length (B.facts board.old).words) 0 sets.now }
     ensures kept { data_words (undo (B.facts board.new).words) ≡ data_words (undo (B.facts board.old).words) }
     ensures done { OnOk result (data_words (B.facts board.new).words
         ≡ data_words (overlay sets.now (B.facts board.old).words)) }
@@ -198,7 +197,7 @@ fn flush<B: Board>(board: &mut B, batch: &mut Batch) -> Result<(), DeviceErr>
     requires whole { batch.old.used % BATCH ≡ 0 }
     requires few { array_vec_len batch.old.waiting ≤ BATCH }
     requires room { batch.old.used + array_vec_len batch.old.waiting ≤ PAIRS }
-    requires sets { AreSets 0 batch.old.waiting.items }
+    requires sets { AreSets (length (B.facts board.old).words) 0 batch.old.waiting.items }
     ensures kept { data_words (undo (B.facts board.new).words) ≡ data_words (undo (B.facts board.old).words) }
     ensures done { OnOk result (data_words (B.facts board.new).words
         ≡ data_words (overlay batch.old.waiting.items (B.facts board.old).words)) }

@@ -3,7 +3,6 @@ ghost use Rattle.std.specs.Prelude.{◌≡◌, ◌⊎◌, ◌↔◌, ◌+◌, �
 ghost use Rattle.std.specs.Prelude.{◌%◌, length, slice_set};
 ghost use Rattle.nvm_board.specs.Torn.{Torn, written};
 ghost use Rattle.undo_journal.specs.declared.batch.TheConstants.{BATCH};
-ghost use Rattle.nvm_board.specs.declared.board.TheConstants.{WORDS};
 ghost use Rattle.nvm_board.specs.Facts.{Answered};
 ghost use Rattle.undo_journal.specs.declared.layout.TheConstants.{GATE, JOURNAL, PAIRS};
 ghost use Rattle.undo_journal.specs.Undo.{gate, pair_at, undo, IsOutside, IsDataAddress, IsSound};
@@ -12,11 +11,11 @@ ghost use Rattle.undo_journal.specs.Spending.{WritesAtMost, KeepsBoard, rollback
 
 use crate::address::Address;
 use crate::layout::{GATE, JOURNAL, JOURNAL_END, PAIRS};
-use nvm_board::{Board, DeviceErr, WORDS};
+use nvm_board::{Board, DeviceErr, PAGE_WORDS};
 
 /// Writes one word.
 pub(crate) fn write_word<B: Board>(board: &mut B, at: Address, word: u32) -> Result<(), DeviceErr>
-    requires { at.number < WORDS }
+    requires { at.number < length (B.facts board.old).words }
     ensures done { OnOk result ((B.facts board.new).words ≡ slice_set (B.facts board.old).words at.number word) }
     ensures torn { ((B.facts board.new).words ≡ (B.facts board.old).words)
         ⊎ ((B.facts board.new).words ≡ slice_set (B.facts board.old).words at.number word) }
@@ -67,11 +66,19 @@ pub(crate) fn write_pairs<B: Board>(board: &mut B, i: u16, words: &[u32]) -> Res
     board.write(page, place, words)
 }
 
-/// Whether an address is that of a data word.
-fn is_data_address(at: u32) -> bool
-    ensures { IsTrue result ↔ (IsOutside at × (at < WORDS)) }
+/// Whether an address is that of a data word, in a memory of so many words.
+fn is_data_address(at: u32, words: u32) -> bool
+    requires { GATE ≤ words }
+    ensures { IsTrue result ↔ (IsOutside at × (at < words)) }
 {
-    at < u32::from(GATE) || (u32::from(JOURNAL_END)..u32::from(WORDS)).contains(&at)
+    at < u32::from(GATE) || (u32::from(JOURNAL_END)..words).contains(&at)
+}
+
+/// How many words a board has: up to 65,536, so that their number fits no address.
+fn word_count<B: Board>(board: &B) -> u32
+    ensures { result ≡ length (B.facts board.now).words }
+{
+    u32::from(PAGE_WORDS) * u32::from(board.pages())
 }
 
 /// Whether each of the first pairs names a data word.
@@ -83,9 +90,10 @@ fn names_data_words<B: Board>(board: &mut B, count: u16) -> Result<bool, DeviceE
     ensures light { Answered (B.facts board.old) (B.facts board.new) result }
     ensures reads { KeepsBoard (B.facts board.old) (B.facts board.new) }
 {
+    let words = word_count(board);
     for i in 0..count {
         let at = board.read(pair_address(i).number)?;
-        if !is_data_address(at) {
+        if !is_data_address(at, words) {
             return Ok(false);
         }
     }

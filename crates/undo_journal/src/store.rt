@@ -5,7 +5,7 @@ ghost use Rattle.std.specs.Option.{option_or};
 ghost use Rattle.std.specs.Result.{result_err};
 ghost use Rattle.nvm_board.specs.declared.board.TheConstants.{PAGE_WORDS, SECRETS};
 ghost use Rattle.nvm_board.specs.Aims.{AimStays, due_of};
-ghost use Rattle.nvm_board.specs.Facts.{Steady, RisesAt, address, raised};
+ghost use Rattle.nvm_board.specs.Facts.{Steady, RisesAt, address, raised, pages_of};
 ghost use Rattle.nvm_board.specs.Torn.{Torn, written};
 ghost use Rattle.undo_journal.specs.declared.layout.TheConstants.{PAIRS};
 ghost use Rattle.undo_journal.specs.declared.error.StoreErr.TheVariants.{PowerLost};
@@ -95,6 +95,14 @@ impl<B: Board> Store<B> {
             }),
             Err(e) => Err((board, OpenFault::from(e))),
         }
+    }
+
+    /// How many pages the memory has. No call changes it.
+    pub fn pages(&self) -> u16
+        ensures committed { result ≡ pages_of (committed self.now) }
+        ensures current { result ≡ pages_of (current self.now) }
+    {
+        self.board.pages()
     }
 
     /// The current word at an address.

@@ -1,9 +1,11 @@
 -- What the boards in working memory are known to be.
+use Rattle.std.specs.Prelude.{◌≡◌, ◌*◌, ◌/◌, ℕ, length}
 use Rattle.std.proofs.Common.{arith}
+use Rattle.nvm_board.specs.declared.board.TheConstants.{PAGE_WORDS}
 use Rattle.nvm_board.specs.declared.ram_board.RamBoard.{RamBoard}
 use Rattle.nvm_board.specs.declared.cut_board.CutBoard.{CutBoard}
 use Rattle.nvm_board.specs.declared.fault_board.FaultBoard.{FaultBoard}
-use Rattle.nvm_board.specs.Facts.{CountsFit}
+use Rattle.nvm_board.specs.Facts.{CountsFit, IsMemory, pages_of}
 use Rattle.nvm_board.specs.Ram.{ram_facts}
 use Rattle.nvm_board.specs.Cut.{cut_facts}
 use Rattle.nvm_board.specs.Faulty.{fault_facts}
@@ -37,3 +39,17 @@ fault_counts_fit b = record {
   compares = b.ram.compares_fit;
   matches = b.ram.matches_fit;
 }
+
+-- it has as many pages as it says
+pub ram_pages : (b : RamBoard) → pages_of (ram_facts b).words ≡ b.pages
+ram_pages b = omega (arith, b.sized)
+
+-- its words are a memory
+pub ram_memory : (b : RamBoard) → IsMemory (ram_facts b).words
+ram_memory b =
+    let same = ram_pages b in
+    record {
+      whole = omega (arith, b.sized, same);
+      least = omega (arith, b.least, same);
+      most = omega (arith, b.most, same);
+    }

@@ -17,11 +17,11 @@ use Rattle.undo_journal.proofs.batch.add.Goals as goal
 
 pub flush-requires-clause-sets : goal.flush-requires-clause-sets
 flush-requires-clause-sets g c =
-    let within = g.met.B.Board.sized c.args.board.now in
-    subst (λ (l : List Waiting). AreSets 0 l) (sym c.join.ensures) (sets-joined c.args.new _ 0 c.requires.held.sets (record {
+    let size = length (g.B.Board.facts c.args.board.now).words in
+    subst (λ (l : List Waiting). AreSets size 0 l) (sym c.join.ensures) (sets-joined size c.args.new _ 0 c.requires.held.sets (record {
       from = omega arith;
       outside = c.requires.place.0;
-      within = omega (arith, c.requires.place.1, within);
+      within = c.requires.place.1;
       fits = omega arith;
     }))
 
@@ -31,7 +31,7 @@ returns-then-is_full-clause-done g c =
     on_ok_weaker c.flush.result (λ done.
     ap (λ (l : List Waiting). data_words (overlay l after)) c.flush.ensures.empty ∙ done
     ∙ ap (λ (l : List Waiting). data_words (overlay l (g.B.Board.facts c.args.board.now).words)) c.join.ensures
-    ∙ join-current c.args.new c.args.batch.now.used c.requires.held.whole _ _ c.requires.held.sets c.requires.place)
+    ∙ join-current _ c.args.new c.args.batch.now.used c.requires.held.whole _ _ c.requires.held.sets c.requires.place)
     c.flush.ensures.done
 
 pub returns-then-is_full-clause-taken : goal.returns-then-is_full-clause-taken
@@ -47,7 +47,7 @@ returns-then-is_full-clause-taken g c =
 
 pub returns-then-is_full-clause-runs : goal.returns-then-is_full-clause-runs
 returns-then-is_full-clause-runs g c =
-    let costs = join-costs c.args.new c.args.batch.now.used c.requires.held.whole _ c.requires.held.sets c.requires.held.few in
+    let costs = join-costs _ c.args.new c.args.batch.now.used c.requires.held.whole _ c.requires.held.sets c.requires.held.few in
     let wrote = c.flush.ensures.writes in
     let used = c.flush.ensures.used ∙ ap (λ (l : List Waiting). c.args.batch.now.used + length l) c.join.ensures in
     let none = ap (λ (l : List Waiting). length l) c.flush.ensures.empty in
@@ -63,7 +63,7 @@ returns-then-is_full-clause-runs g c =
 
 pub returns-then-is_full-clause-goes_on : goal.returns-then-is_full-clause-goes_on
 returns-then-is_full-clause-goes_on g c = λ goes.
-    let costs = join-goes_on c.args.new c.args.batch.now.used c.requires.held.whole _ c.requires.held.sets c.requires.held.few
+    let costs = join-goes_on _ c.args.new c.args.batch.now.used c.requires.held.whole _ c.requires.held.sets c.requires.held.few
     goes.0 goes.1 in
     let wrote = c.flush.ensures.writes in
     let used = c.flush.ensures.used ∙ ap (λ (l : List Waiting). c.args.batch.now.used + length l) c.join.ensures in
@@ -81,12 +81,12 @@ returns-then-is_full-clause-goes_on g c = λ goes.
 pub returns-clause-done : goal.returns-clause-done
 returns-clause-done g c =
     ap (λ (l : List Waiting). data_words (overlay l (g.B.Board.facts c.args.board.now).words)) c.join.ensures
-    ∙ join-current c.args.new c.args.batch.now.used c.requires.held.whole _ _ c.requires.held.sets c.requires.place
+    ∙ join-current _ c.args.new c.args.batch.now.used c.requires.held.whole _ _ c.requires.held.sets c.requires.place
 
 pub returns-clause-held : goal.returns-clause-held
 returns-clause-held g c =
     let held = c.requires.held in
-    let within = g.met.B.Board.sized c.args.board.now in
+    let words = length (g.B.Board.facts c.args.board.now).words in
     let size = ap (λ (l : List Waiting). length l) c.join.ensures in
     let more = joined-length c.args.new c.args.batch.now.waiting.items in
     record {
@@ -96,10 +96,10 @@ returns-clause-held g c =
       whole = held.whole;
       few = below-full (length c.join.new.sets.items) (sym c.is_full.ensures.value ∙ c.if-is_full.false) (omega (arith, size, more, held.few));
       fits = omega (arith, size, more, c.requires.room);
-      sets = subst (λ (l : List Waiting). AreSets 0 l) (sym c.join.ensures) (sets-joined c.args.new _ 0 held.sets (record {
+      sets = subst (λ (l : List Waiting). AreSets words 0 l) (sym c.join.ensures) (sets-joined words c.args.new _ 0 held.sets (record {
         from = omega arith;
         outside = c.requires.place.0;
-        within = omega (arith, c.requires.place.1, within);
+        within = c.requires.place.1;
         fits = omega arith;
       }));
     }
@@ -111,7 +111,7 @@ returns-clause-taken g c =
 
 pub returns-clause-runs : goal.returns-clause-runs
 returns-clause-runs g c =
-    let costs = join-costs c.args.new c.args.batch.now.used c.requires.held.whole _ c.requires.held.sets c.requires.held.few in
+    let costs = join-costs _ c.args.new c.args.batch.now.used c.requires.held.whole _ c.requires.held.sets c.requires.held.few in
     let size = ap (λ (l : List Waiting). length l) c.join.ensures in
     let batch = ap batch_writes c.join.ensures in
     record {
@@ -124,7 +124,7 @@ returns-clause-runs g c =
 
 pub returns-clause-goes_on : goal.returns-clause-goes_on
 returns-clause-goes_on g c = λ goes.
-    let costs = join-goes_on c.args.new c.args.batch.now.used c.requires.held.whole _ c.requires.held.sets c.requires.held.few
+    let costs = join-goes_on _ c.args.new c.args.batch.now.used c.requires.held.whole _ c.requires.held.sets c.requires.held.few
     goes.0 goes.1 in
     let size = ap (λ (l : List Waiting). length l) c.join.ensures in
     let batch = ap batch_writes c.join.ensures in

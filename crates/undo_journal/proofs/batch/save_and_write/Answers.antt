@@ -1,9 +1,20 @@
-use Rattle.std.proofs.Common.{ℕ, List, length, inr, sym, ◌∙◌, ap, arith}
+use Rattle.std.proofs.Common.{◌≡◌, ◌+◌, ◌*◌, ℕ, List, length, inr, sym, ◌∙◌, ap, arith, subst}
+use Rattle.std.proofs.Math.ListN.{length-set}
+use Rattle.nvm_board.specs.laws.Torn.{length-written}
+use Rattle.undo_journal.specs.Batches.{AreSets}
 use Rattle.std.proofs.lemmas.Result.{on_ok_weaker}
 use Rattle.undo_journal.proofs.Pairs.{length-pair_words}
 use Rattle.undo_journal.proofs.Saving.{pairs-torn, pairs-sound, gate-torn, gate-sound, named-raised, current-raised}
 use Rattle.undo_journal.specs.laws.Joining.{writes-some}
+use Rattle.std.specs.Prelude.{◌≤◌}
+use Rattle.nvm_board.specs.Facts.{IsMemory}
+use Rattle.nvm_board.specs.laws.Sizes.{least_words}
+use Rattle.undo_journal.specs.declared.layout.TheConstants.{GATE, JOURNAL, JOURNAL_END}
 use Rattle.undo_journal.proofs.batch.save_and_write.Goals as goal
+
+-- the journal lies in the memory
+journal_within : (m : List ℕ) → IsMemory m → JOURNAL_END ≤ length m
+journal_within m memory = omega (arith, least_words m memory)
 
 pub write_pairs-requires-clause-some : goal.write_pairs-requires-clause-some
 write_pairs-requires-clause-some g c =
@@ -15,45 +26,45 @@ pub returns-in_err-write_pairs-clause-kept : goal.returns-in_err-write_pairs-cla
 returns-in_err-write_pairs-clause-kept g c =
     let r = c.requires in
     sym (pairs-torn _ _ _ c.args.sets.now _ c.in_ok-pairs.ensures.reads.words (c.deref.ensures.0 ∙ c.in_ok-pairs.ensures.words)
-    r.sound r.counts r.room r.sets (g.met.B.Board.sized _) _ c.in_err-write_pairs.ensures.torn).committed
+    r.sound r.counts r.room r.sets (journal_within _ (g.met.B.Board.sized _)) _ c.in_err-write_pairs.ensures.torn).committed
 
 pub returns-in_err-write_pairs-clause-sound : goal.returns-in_err-write_pairs-clause-sound
 returns-in_err-write_pairs-clause-sound g c =
     let r = c.requires in
     pairs-sound _ _ _ c.args.sets.now _ c.in_ok-pairs.ensures.reads.words (c.deref.ensures.0 ∙ c.in_ok-pairs.ensures.words)
-    r.sound r.counts r.room r.sets (g.met.B.Board.sized _) _ c.in_err-write_pairs.ensures.torn
+    r.sound r.counts r.room r.sets (journal_within _ (g.met.B.Board.sized _)) _ c.in_err-write_pairs.ensures.torn
 
 pub returns-in_err-write_gate-clause-kept : goal.returns-in_err-write_gate-clause-kept
 returns-in_err-write_gate-clause-kept g c =
     let r = c.requires in
     gate-torn _ _ _ c.args.sets.now _ c.in_ok-pairs.ensures.reads.words (c.deref.ensures.0 ∙ c.in_ok-pairs.ensures.words)
-    r.sound r.counts r.room r.sets (g.met.B.Board.sized _) _ c.in_ok-write_pairs.ensures.done _ c.in_err-write_gate.ensures.torn
+    r.sound r.counts r.room r.sets (journal_within _ (g.met.B.Board.sized _)) _ c.in_ok-write_pairs.ensures.done _ c.in_err-write_gate.ensures.torn
 
 pub returns-in_err-write_gate-clause-sound : goal.returns-in_err-write_gate-clause-sound
 returns-in_err-write_gate-clause-sound g c =
     let r = c.requires in
     gate-sound _ _ _ c.args.sets.now _ c.in_ok-pairs.ensures.reads.words (c.deref.ensures.0 ∙ c.in_ok-pairs.ensures.words)
-    r.sound r.counts r.room r.sets (g.met.B.Board.sized _) _ c.in_ok-write_pairs.ensures.done _ c.in_err-write_gate.ensures.torn
+    r.sound r.counts r.room r.sets (journal_within _ (g.met.B.Board.sized _)) _ c.in_ok-write_pairs.ensures.done _ c.in_err-write_gate.ensures.torn
 
 pub write_words-requires-clause-sound : goal.write_words-requires-clause-sound
 write_words-requires-clause-sound g c =
     let r = c.requires in
     gate-sound _ _ _ c.args.sets.now _ c.in_ok-pairs.ensures.reads.words (c.deref.ensures.0 ∙ c.in_ok-pairs.ensures.words)
-    r.sound r.counts r.room r.sets (g.met.B.Board.sized _) _ c.in_ok-write_pairs.ensures.done _
+    r.sound r.counts r.room r.sets (journal_within _ (g.met.B.Board.sized _)) _ c.in_ok-write_pairs.ensures.done _
     (inr c.in_ok-write_gate.ensures.done)
 
 pub write_words-requires-clause-named : goal.write_words-requires-clause-named
 write_words-requires-clause-named g c =
     let r = c.requires in
     named-raised _ _ _ c.args.sets.now _ c.in_ok-pairs.ensures.reads.words (c.deref.ensures.0 ∙ c.in_ok-pairs.ensures.words)
-    r.sound r.counts r.room r.sets (g.met.B.Board.sized _) _ c.in_ok-write_pairs.ensures.done _ c.in_ok-write_gate.ensures.done
+    r.sound r.counts r.room r.sets (journal_within _ (g.met.B.Board.sized _)) _ c.in_ok-write_pairs.ensures.done _ c.in_ok-write_gate.ensures.done
 
 pub returns-clause-kept : goal.returns-clause-kept
 returns-clause-kept g c =
     let r = c.requires in
     c.write_words.ensures.kept
     ∙ gate-torn _ _ _ c.args.sets.now _ c.in_ok-pairs.ensures.reads.words (c.deref.ensures.0 ∙ c.in_ok-pairs.ensures.words)
-    r.sound r.counts r.room r.sets (g.met.B.Board.sized _) _ c.in_ok-write_pairs.ensures.done _
+    r.sound r.counts r.room r.sets (journal_within _ (g.met.B.Board.sized _)) _ c.in_ok-write_pairs.ensures.done _
     (inr c.in_ok-write_gate.ensures.done)
 
 pub returns-clause-done : goal.returns-clause-done
@@ -61,7 +72,7 @@ returns-clause-done g c =
     let r = c.requires in
     on_ok_weaker c.write_words.result
     (λ done. current-raised _ _ _ c.args.sets.now _ c.in_ok-pairs.ensures.reads.words
-    (c.deref.ensures.0 ∙ c.in_ok-pairs.ensures.words) r.sound r.counts r.room r.sets (g.met.B.Board.sized _) _
+    (c.deref.ensures.0 ∙ c.in_ok-pairs.ensures.words) r.sound r.counts r.room r.sets (journal_within _ (g.met.B.Board.sized _)) _
     c.in_ok-write_pairs.ensures.done _ c.in_ok-write_gate.ensures.done _ done) c.write_words.ensures.done
 
 pub returns-clause-counted : goal.returns-clause-counted
@@ -76,3 +87,14 @@ returns-clause-counted g c =
       c.in_ok-write_pairs.ensures.counted,
       c.in_ok-pairs.ensures.reads.writes,
     )) c.write_words.ensures.counted
+
+pub write_words-requires-clause-sets : goal.write_words-requires-clause-sets
+write_words-requires-clause-sets g c =
+    let m = (g.B.Board.facts c.args.board.now).words in
+    let count : List ℕ → ℕ = λ l. length l in
+    let read = (g.B.Board.facts c.saved_pairs.new.board).words in
+    let paired = (g.B.Board.facts c.write_pairs.new.board).words in
+    let size : length (g.B.Board.facts c.write_gate.new.board).words ≡ length m =
+    ap count c.in_ok-write_gate.ensures.done ∙ length-set paired GATE _ ∙ ap count c.in_ok-write_pairs.ensures.done
+    ∙ length-written read c.deref.result.now (JOURNAL + 2 * c.args.used) ∙ ap count c.in_ok-pairs.ensures.reads.words in
+    subst (λ (n : ℕ). AreSets n 0 c.args.sets.now) (sym size) c.requires.sets

@@ -8,10 +8,10 @@ use Rattle.undo_journal.proofs.Telling.{steady_then}
 use Rattle.undo_journal.proofs.Waits.{sets-lower}
 use Rattle.undo_journal.proofs.batch.saved_pairs.Goals as goal
 
-sets-next : (s : Waiting) (rest ps : List Waiting) → ps ≡ s ∷ rest → AreSets 0 ps → AreSets 0 rest
-sets-next s rest ps e h =
-    let there : AreSets 0 (s ∷ rest) = subst (λ (l : List Waiting). AreSets 0 l) e h in
-    sets-lower 0 (s.at + 1) rest (omega arith) there.1
+sets-next : (size : ℕ) (s : Waiting) (rest ps : List Waiting) → ps ≡ s ∷ rest → AreSets size 0 ps → AreSets size 0 rest
+sets-next size s rest ps e h =
+    let there : AreSets size 0 (s ∷ rest) = subst (λ (l : List Waiting). AreSets size 0 l) e h in
+    sets-lower size 0 (s.at + 1) rest (omega arith) there.1
 
 pub loop-set-preserved : goal.loop-set-preserved
 loop-set-preserved g c =
@@ -39,7 +39,7 @@ loop-set-preserved g c =
         compares = read.compares ∙ kept.reads.compares;
         matches = read.matches ∙ kept.reads.matches;
       };
-      sets = sets-next s (drop (i + 1) ps) (drop i ps) next kept.sets;
+      sets = sets-next (length m) s (drop (i + 1) ps) (drop i ps) next kept.sets;
       count = omega (arith, c.push-in-loop-set.ensures.len, c.push.ensures.len, kept.count);
       so_far = ap (λ (l : List ℕ). l ++ pair_words m (drop (i + 1) ps)) pushed
           ∙ append_assoc c.loop-set.words.items (s.at ∷ slice_index m s.at ∷ []) (pair_words m (drop (i + 1) ps))

@@ -9,7 +9,7 @@ abbrev pub invariant-loop-set : goal.invariant-loop-set
 invariant-loop-set g l = let first = g.B.Board.facts l.initial.board in let now = g.B.Board.facts l.board in record {
   steady : Steady first now;
   reads : KeepsBoard first now;
-  sets : AreSets 0 (drop l.set-index l.sets);
+  sets : AreSets (length first.words) 0 (drop l.set-index l.sets);
   count : length l.words.items ≡ 2 * l.set-index;
   so_far : l.words.items ++ pair_words first.words (drop l.set-index l.sets) ≡ pair_words first.words l.sets;
 }

@@ -12,7 +12,7 @@ abbrev pub invariant-loop-rest : goal.invariant-loop-rest
 invariant-loop-rest g l = let first = g.B.Board.facts l.initial.board in let now = g.B.Board.facts l.board in record {
   steady : Steady first now;
   few : length l.rest ≤ BATCH;
-  sets : AreSets 0 l.rest;
+  sets : AreSets (length first.words) 0 l.rest;
   named : AllNamed (pairs now.words) l.rest;
   same : SameUndo first.words now.words;
   left : overlay l.rest now.words ≡ overlay l.sets first.words;

@@ -22,7 +22,7 @@ invariant_of-self-2 g c =
     c.noted.ensures.failed undone.light undone.sound
     (on_ok_weaker c.roll_back-answer.result
     (λ done. ap gate done ∙ gate_undone words ∙ sym fresh.used) undone.done)
-    (always _ _ (new-fits _ _ fresh.used fresh.waiting))
+    (always _ _ (new-fits _ _ _ fresh.used fresh.waiting))
 
 pub returns-clause-store : goal.returns-clause-store
 returns-clause-store g c =

@@ -20,7 +20,7 @@ invariant_of-self g c =
     let fresh = c.new-self-inside.ensures in
     noted-true _ _ _ c.self.view_is c.self.invariant works _ _ c.noted.ensures.answer c.noted.ensures.failed done.light
     done.sound (on_ok_weaker c.finish-answer.result (λ shut. shut ∙ sym fresh.used) done.shut)
-    (always _ _ (new-fits _ _ fresh.used fresh.waiting))
+    (always _ _ (new-fits _ _ _ fresh.used fresh.waiting))
 
 pub returns-in-Ok-clause-any_exit : goal.returns-in-Ok-clause-any_exit
 returns-in-Ok-clause-any_exit g c =

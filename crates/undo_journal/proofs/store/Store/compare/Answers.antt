@@ -5,7 +5,7 @@ use Rattle.undo_journal.specs.Undo.{gate, IsSound}
 use Rattle.undo_journal.specs.Memory.{Memory, taken}
 use Rattle.undo_journal.specs.laws.Exits.{error_tells}
 use Rattle.undo_journal.specs.laws.Memory.{reports_same}
-use Rattle.undo_journal.proofs.Standing.{held-fits, ready-from}
+use Rattle.undo_journal.proofs.Standing.{held-kept, ready-from}
 use Rattle.std.proofs.lemmas.Result.{on_ok_weaker}
 use Rattle.undo_journal.proofs.Noted.{always, if_ok, on_ok, on_err, on_dark, noted_tells, noted-true, noted-open}
 use Rattle.undo_journal.proofs.Noted.{noted-reports}
@@ -23,7 +23,8 @@ invariant_of-self g c =
     let works = c.in_ok-check.ensures.ready.works in
     let held = c.self.invariant.works (ap (λ (m : Memory). m.failed) c.self.view_is ∙ works) in
     noted-true _ _ _ c.self.view_is c.self.invariant works _ _ c.noted.ensures.answer c.noted.ensures.failed kept.light
-    (subst (λ (l : List ℕ). IsSound l) (sym kept.words) held.sound) (always _ _ (ap gate kept.words ∙ held.counts)) (always _ _ (held-fits _ _ _ held))
+    (subst (λ (l : List ℕ). IsSound l) (sym kept.words) held.sound) (always _ _ (ap gate kept.words ∙ held.counts))
+    (always _ _ (held-kept _ _ _ _ kept.words held))
 
 pub returns-clause-equal : goal.returns-clause-equal
 returns-clause-equal g c = if_ok _ _ c.noted.ensures.answer _ _ (λ e h. h) c.compare-answer.ensures.equal
@@ -34,7 +35,7 @@ returns-clause-usable g c =
     let held = c.self.invariant.works (ap (λ (m : Memory). m.failed) c.self.view_is ∙ works) in
     noted-open _ _ _ c.self.view_is c.self.invariant works _ _ c.noted.ensures.answer
     c.noted.ensures.failed c.compare-answer.ensures.light (g.met.B.Board.sized _) (g.met.B.Board.words_fit _)
-    (always _ _ (held-fits _ _ _ held))
+    (always _ _ (held-kept _ _ _ _ c.compare-answer.ensures.words held))
 
 pub returns-clause-ready : goal.returns-clause-ready
 returns-clause-ready g c =

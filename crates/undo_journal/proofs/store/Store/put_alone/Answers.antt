@@ -13,7 +13,7 @@ write_word-answer-requires g c =
     let works = c.in_ok-check.ensures.ready.works in
     let place : IsDataAddress (g.B.Board.facts c.self.inside.board).words c.args.at =
     place-within _ _ c.self.view_is c.self.invariant works c.requires.idle c.args.at c.args.word c.requires.place in
-    omega (arith, place.1, g.met.B.Board.sized c.self.inside.board)
+    place.1
 
 pub returns-in_err-check-clause-store : goal.returns-in_err-check-clause-store
 returns-in_err-check-clause-store g c =
@@ -30,7 +30,7 @@ invariant_of-self g c =
     (on_ok_weaker c.write_word-answer.result
     (λ done. one-gate _ _ c.self.view_is
     c.self.invariant works c.requires.idle c.args.at c.args.word c.requires.place _ done ∙ sym unused) c.write_word-answer.ensures.done)
-    (always _ _ (fits-within _ _ c.self.view_is c.self.invariant works c.requires.idle))
+    (always _ _ (fits-within _ _ c.self.view_is c.self.invariant works c.requires.idle _))
 
 pub returns-clause-any_exit : goal.returns-clause-any_exit
 returns-clause-any_exit g c =

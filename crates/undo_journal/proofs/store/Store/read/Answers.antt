@@ -5,7 +5,7 @@ use Rattle.undo_journal.specs.laws.Told.{none_ready}
 use Rattle.undo_journal.specs.laws.Calls.{reads_same}
 use Rattle.undo_journal.specs.laws.Undo.{data_words-outside}
 use Rattle.undo_journal.specs.Memory.{Memory, current, taken}
-use Rattle.undo_journal.proofs.Standing.{board-place, held-fits}
+use Rattle.undo_journal.proofs.Standing.{board-place, held-kept}
 use Rattle.undo_journal.specs.declared.batch.Waiting.{Waiting}
 use Rattle.undo_journal.specs.Batches.{overlay, look_up}
 use Rattle.undo_journal.specs.laws.Memory.{length-overlay}
@@ -18,7 +18,7 @@ read-answer-requires g c =
     let words = (g.B.Board.facts c.self.inside.board).words in
     let place : IsDataAddress words c.args.at =
     board-place c.args.self.now words c.args.at (ap (λ (m : Memory). m.facts.words) c.self.view_is) c.requires in
-    omega (arith, place.1, g.met.B.Board.sized c.self.inside.board)
+    place.1
 
 pub returns-in_err-check-clause-reads : goal.returns-in_err-check-clause-reads
 returns-in_err-check-clause-reads g c = reads_same _
@@ -40,7 +40,7 @@ invariant_of-self g c =
     let held = c.self.invariant.works (ap (λ (m : Memory). m.failed) c.self.view_is ∙ works) in
     noted-true _ _ _ c.self.view_is c.self.invariant works _ _ c.noted.ensures.answer c.noted.ensures.failed kept.light
     (subst (λ (l : List ℕ). IsSound l) (sym kept.words) held.sound) (always _ _ (ap gate kept.words ∙ held.counts))
-    (always _ _ (held-fits _ _ _ held))
+    (always _ _ (held-kept _ _ _ _ c.read-answer.ensures.words held))
 
 pub returns-clause-word : goal.returns-clause-word
 returns-clause-word g c =
@@ -86,7 +86,7 @@ returns-clause-usable g c =
     let held = c.self.invariant.works (ap (λ (m : Memory). m.failed) c.self.view_is ∙ works) in
     noted-open _ _ _ c.self.view_is c.self.invariant works _ _ c.noted.ensures.answer
     c.noted.ensures.failed c.read-answer.ensures.light (g.met.B.Board.sized _) (g.met.B.Board.words_fit _)
-    (always _ _ (held-fits _ _ _ held))
+    (always _ _ (held-kept _ _ _ _ c.read-answer.ensures.words held))
 
 pub returns-clause-store : goal.returns-clause-store
 returns-clause-store g c = λ idle.
@@ -115,5 +115,5 @@ returns-in-Some-clause-word g c =
     sym (c.waiting_word.ensures ∙ ap (λ (l : List Waiting). look_up c.args.at l) c.deref.ensures.0) ∙ c.in-Some.is in
     let within : c.args.at < length (overlay sets words) = omega (arith, length-overlay sets words, place.1) in
     sym (data_words-outside (overlay sets words) c.args.at within place.0
-    ∙ look_up-found c.args.at c.in-Some.word sets words 0 held.sets place.1 found)
+    ∙ look_up-found _ c.args.at c.in-Some.word sets words 0 held.sets place.1 found)
     ∙ ap (λ (m : Memory). slice_index (current m) c.args.at) c.self.view_is

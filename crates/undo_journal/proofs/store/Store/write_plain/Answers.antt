@@ -1,6 +1,7 @@
 use Rattle.std.proofs.Common.{◌+◌, length, refl, sym, ap, ◌∙◌, arith}
 use Rattle.nvm_board.specs.Facts.{address}
 use Rattle.nvm_board.specs.laws.Torn.{Torn-none}
+use Rattle.nvm_board.specs.laws.Sizes.{page_of_run}
 use Rattle.undo_journal.specs.Memory.{Memory}
 use Rattle.undo_journal.proofs.Standing.{board-run}
 use Rattle.undo_journal.proofs.Lasting.{unused-within, idle-within, fits-within, run-gate, run-sound, run-torn, run-written}
@@ -13,7 +14,7 @@ write-answer-requires-clause-page g c =
     let at = address c.args.page c.args.first in
     let place = board-run c.args.self.now _ at (length c.args.words.now)
     (ap (λ (m : Memory). m.facts.words) c.self.view_is) c.requires.place in
-    omega (arith, place.1, g.met.B.Board.sized c.self.inside.board)
+    page_of_run _ c.args.page c.args.first (length c.args.words.now) (g.met.B.Board.sized _) c.requires.some place.1
 
 pub returns-in_err-check-clause-any_exit : goal.returns-in_err-check-clause-any_exit
 returns-in_err-check-clause-any_exit g c = Torn-none _ _ _
@@ -33,7 +34,7 @@ invariant_of-self g c =
     c.write-answer.ensures.torn)
     (always _ _ (run-gate _ _ c.self.view_is c.self.invariant works c.requires.idle at c.args.words.now c.requires.place
     _ c.write-answer.ensures.torn ∙ sym unused))
-    (always _ _ (fits-within _ _ c.self.view_is c.self.invariant works c.requires.idle))
+    (always _ _ (fits-within _ _ c.self.view_is c.self.invariant works c.requires.idle _))
 
 pub returns-clause-any_exit : goal.returns-clause-any_exit
 returns-clause-any_exit g c =

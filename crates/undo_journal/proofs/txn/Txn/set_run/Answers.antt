@@ -3,11 +3,23 @@ use Rattle.undo_journal.specs.declared.batch.TheConstants.{BATCH}
 use Rattle.undo_journal.specs.declared.batch.Waiting.{Waiting}
 use Rattle.undo_journal.specs.Batches.{joined}
 use Rattle.undo_journal.specs.Lent.{memory_of}
-use Rattle.nvm_board.specs.laws.Torn.{written-more}
+use Rattle.std.specs.Prelude.{◌≡◌, take}
+use Rattle.std.proofs.Math.Logic.{⊎_map}
+use Rattle.undo_journal.specs.Memory.{current}
+use Rattle.nvm_board.specs.laws.Torn.{length-written, written-more}
 use Rattle.undo_journal.specs.laws.Calls.{reads_runs, reads_same, reads_sets, sets_then, sets_weaker}
 use Rattle.undo_journal.specs.laws.Told.{sets_in_on, sets_in_handed}
 use Rattle.undo_journal.proofs.SetRuns.{fills-none, joined_run-more, none_yet, pages_all, pages_more, pages_next}
 use Rattle.undo_journal.proofs.txn.Txn.set_run.Goals as goal
+
+pub set-requires-clause-place : goal.set-requires-clause-place
+set-requires-clause-place g c =
+    let first = current (memory_of c.args.self.now) in
+    let size : length (current (memory_of c.loop-i.self)) ≡ length first =
+    ap (λ (l : List ℕ). length l) c.loop-i.invariant.done
+    ∙ length-written first (take c.loop-i.i c.args.words.now) c.args.at in
+    let place = c.requires.place in
+    (⊎_map (λ h. omega (arith, h)) (λ h. omega (arith, h)) place.0, omega (arith, size, place.1))
 
 pub returns-in_err-check-clause-store : goal.returns-in_err-check-clause-store
 returns-in_err-check-clause-store g c =
