@@ -59,7 +59,7 @@ unfolding file_of entry_of
 file_is rest = refl
 
 -- the words of the header of either format
-header-mark : (format : MemoryFormat) → ℕ
+abbrev header-mark : MemoryFormat → ℕ
 header-mark One = OLD_MARK
 header-mark Two = MARK
 
@@ -148,7 +148,7 @@ module _ (format : MemoryFormat) (m : List ℕ) (sized : IsMemory m) (factory : 
       ∙ blank_page format end page low (omega (arith, high)) (inl high))))
 
   -- the header tells where the blocks end
-  pub Counted : Type 0
+  abbrev pub Counted : Type 0
   Counted = block_count m ≡ free + 1
 
   laid : Counted → AreLaid (block_count m) m (extents (table m))

@@ -66,14 +66,25 @@ fn find_format<B: Board>(store: &mut Store<B>) -> Result<Option<MemoryFormat>, S
     Ok(format_of(mark, end, state))
 }
 
-/// Whether each PIN has the mark that it has in format 2.
+/// Whether a PIN has the mark that it has in format 2.
+fn is_marked<B: Board>(store: &mut Store<B>, pin: u8) -> Result<bool, StoreErr>
+    requires ready { IsReady store.old }
+    requires pin { pin < PINS }
+    ensures mark { IfOk result (λ marked. IsTrue marked ↔ (pin_word (committed store.old) pin PIN_MARK_WORD ≡ 1)) }
+    ensures store { Reads store.old store.new (result_err result) }
+{
+    let mark = store.read(PAGE_WORDS * (FIRST_PIN_PAGE + u16::from(pin)) + PIN_MARK_WORD)?;
+    Ok(mark == 1)
+}
+
+/// Whether each PIN has its mark.
 fn are_marked<B: Board>(store: &mut Store<B>) -> Result<bool, StoreErr>
     requires ready { IsReady store.old }
     ensures marks { IfOk result (λ marked. IsTrue marked ↔ AreMarked (committed store.old)) }
     ensures store { Reads store.old store.new (result_err result) }
 {
-    for pin in 0..u16::from(PINS) {
-        if store.read(PAGE_WORDS * (FIRST_PIN_PAGE + pin) + PIN_MARK_WORD)? != 1 {
+    for pin in 0..PINS {
+        if !is_marked(store, pin)? {
             return Ok(false);
         }
     }
@@ -109,6 +120,8 @@ pub(crate) fn find_card<B: Board>(store: &mut Store<B>) -> Result<Option<Checked
     if !has_pins(store, format)? {
         return Ok(None);
     }
-    let free = is_tree(store)?;
-    Ok(free.map(|free| Checked { format, free }))
+    let Some(free) = is_tree(store)? else {
+        return Ok(None);
+    };
+    Ok(Some(Checked { format, free }))
 }
