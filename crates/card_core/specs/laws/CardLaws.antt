@@ -17,7 +17,7 @@ use Rattle.pin_store.specs.declared.layout.TheConstants.{PINS}
 use Rattle.pin_store.specs.laws.AllPins.{pages_kept, pins_kept}
 use Rattle.migration.specs.declared.migrating.TheConstants.{PIN_MARK_WORD}
 use Rattle.card_core.specs.Cards.{card_space}
-use Rattle.card_core.specs.Standing.{card_blocks, card_of, IsAnyCard, IsCard, IsOldCard}
+use Rattle.card_core.specs.Standing.{board_blocks, card_blocks, card_of, IsAnyCard, IsCard, IsOldCard}
 
 -- in either format the files make a tree, and the PINs have no more tries than they may have
 pub any_tree : (m : List ℕ) → IsAnyCard m → TreeStands m
@@ -53,11 +53,11 @@ old_format m old = marked_old m (old_mark m old)
 -- and by it the card has its blocks
 pub blocks_new : (m : List ℕ) → is_format_2 m ≡ true → card_blocks m ≡ block_count m
 unfolding card_blocks
-blocks_new m is = ap (λ (b : Bool). if b then block_count m else pages_of m - FIRST_BLOCK_PAGE) is
+blocks_new m is = ap (λ (b : Bool). if b then block_count m else board_blocks m) is
 
-pub blocks_old : (m : List ℕ) → is_format_2 m ≡ false → card_blocks m ≡ pages_of m - FIRST_BLOCK_PAGE
+pub blocks_old : (m : List ℕ) → is_format_2 m ≡ false → card_blocks m ≡ board_blocks m
 unfolding card_blocks
-blocks_old m is = ap (λ (b : Bool). if b then block_count m else pages_of m - FIRST_BLOCK_PAGE) is
+blocks_old m is = ap (λ (b : Bool). if b then block_count m else board_blocks m) is
 
 pub card_count : (m : List ℕ) → IsCard m → (card_of m).blocks ≡ block_count m
 unfolding card_of
