@@ -4,7 +4,7 @@ use Rattle.std.proofs.Common.{arith, inl, inr, subst, sym, ap, ◌∙◌, true�
 use Rattle.nvm_board.specs.declared.board.Arm.{Arm}
 use Rattle.nvm_board.specs.declared.board.DeviceErr.{DeviceErr}
 use Rattle.nvm_board.specs.declared.board.DeviceErr.TheVariants.{PowerLost, Fault}
-use Rattle.nvm_board.specs.declared.board.TheConstants.{COUNT_END, PAGES}
+use Rattle.nvm_board.specs.declared.board.TheConstants.{COUNT_END, LEAST_PAGES}
 use Rattle.nvm_board.specs.Aims.{due_of}
 use Rattle.nvm_board.specs.Facts.{Answered, Facts, GoesDark, Steady, new_board}
 use Rattle.undo_journal.specs.Spending.{WritesAtMost}
@@ -29,7 +29,7 @@ new_count counts none at_end =
     omega (arith, same)
 
 -- power isn't lost
-stays_lit : (old new : Facts) → old ≡ new_board → new.faults ≡ 0 → WritesAtMost PAGES old new → GoesDark old new → ⊥
+stays_lit : (old new : Facts) → old ≡ new_board LEAST_PAGES → new.faults ≡ 0 → WritesAtMost LEAST_PAGES old new → GoesDark old new → ⊥
 stays_lit old new is none counts dark = elim dark.due [
   | inl spent ↦ let due : old.due ≡ 0 = ap (λ (f : Facts). f.due) is in omega (arith, spent, due)
   | inr worn ↦ elim worn.0 [
@@ -43,7 +43,7 @@ stays_lit old new is none counts dark = elim dark.due [
   ]
 ]
 
-pub format_succeeds : (old new : Facts) (e : DeviceErr) → old ≡ new_board → new.faults ≡ 0 → WritesAtMost PAGES old new
+pub format_succeeds : (old new : Facts) (e : DeviceErr) → old ≡ new_board LEAST_PAGES → new.faults ≡ 0 → WritesAtMost LEAST_PAGES old new
     → Answered {T = Unit {0}} old new (Err e) → ⊥
 format_succeeds old new Fault is none counts answered = let rises = (answered.fault refl).faults in omega (arith, none, rises)
 format_succeeds old new PowerLost is none counts answered = elim (answered.lost refl) [
@@ -54,7 +54,7 @@ format_succeeds old new PowerLost is none counts answered = elim (answered.lost 
 ]
 
 -- a new board on which the factory's card was written
-pub just_written : (old new : Facts) → old ≡ new_board → Steady old new → WritesAtMost PAGES old new → IsJustWritten new
+pub just_written : (old new : Facts) → old ≡ new_board LEAST_PAGES → Steady old new → WritesAtMost LEAST_PAGES old new → IsJustWritten new
 just_written old new is steady spent =
     let due : old.due ≡ 0 = ap (λ (f : Facts). f.due) is in
     let cuts : old.cuts ≡ 0 = ap (λ (f : Facts). f.cuts) is in
@@ -75,11 +75,11 @@ none_due (Some arm) due = absurd (omega (arith, due))
 
 -- the desk with the factory's board
 pub first_desk : (d : Desk) (f : Facts) → d.bench ≡ off (record f { dark = true }) → d.reader ≡ None → d.line ≡ record { lose = None; garble = None }
-    → Finds f.words factory_card → IsJustWritten f → f.faults ≡ 0 → f.due ≡ due_of f.pending → IsFirstDesk d
+    → Finds f.words (factory_card 896) → IsJustWritten f → f.faults ≡ 0 → f.due ≡ due_of f.pending → IsFirstDesk d
 first_desk d f bench reader line finds counts faults due = record {
   power = subst IsOff (sym bench) refl;
   good = subst IsGood (sym bench) (record { has_card = finds.has_card; faults = faults; due = due; well = tt });
-  card = subst (λ (b : BenchState). bench_card b ≡ factory_card) (sym bench) finds.card;
+  card = subst (λ (b : BenchState). bench_card b ≡ factory_card 896) (sym bench) finds.card;
   counts = subst (λ (b : BenchState). IsJustWritten (bench_facts b)) (sym bench) (record {
     due = counts.due;
     cuts = counts.cuts;

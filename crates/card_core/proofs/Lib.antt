@@ -28,6 +28,7 @@ pub mod Attempts
 pub mod Carrying
 pub mod Serving
 pub mod Powers
+pub mod Migrated
 pub mod Commanding
 pub mod SpaceKept
 pub mod FactoryPages
@@ -44,6 +45,5 @@ pub mod UpdateServes
 pub mod AppendServes
 pub mod IncreaseServes
 pub mod Readings
-pub mod Headers
 pub mod Missing
 pub mod RecordKinds

@@ -3,7 +3,7 @@ use Rattle.std.proofs.Common.{◌≡◌, ◌≢◌, ◌⊎◌, ◌<◌, ◌≤�
 use Rattle.std.proofs.Common.{List, [], ◌∷◌, ◌-◌, length, length-append, length-set, length-take, take, slice_index}
 use Rattle.std.proofs.Common.{Some, None, if◌then◌else◌, sym, ◌∙◌, ap, arith, ⊎_elim, true≢false}
 use Rattle.std.proofs.lemmas.Bool.{le-leb, leb-false}
-use Rattle.nvm_board.specs.declared.board.TheConstants.{WORDS}
+use Rattle.nvm_board.specs.Facts.{IsMemory}
 use Rattle.block_chain.specs.Words.{page_words}
 use Rattle.block_chain.specs.laws.Words.{index-page_words}
 use Rattle.block_chain.specs.Chains.{chain_bytes}
@@ -57,7 +57,7 @@ abbrev pub body_with : Bool → ℕ → ℕ → List (List ℕ) → Body
 body_with true long capacity records = cyclic long capacity records
 body_with false long capacity records = linear long capacity records
 
-module _ (m : List ℕ) (sized : length m ≡ WORDS) (words : IsCard m) (e : ℕ) (used : IsUsed (table m) e) where
+module _ (m : List ℕ) (sized : IsMemory m) (words : IsCard m) (e : ℕ) (used : IsUsed (table m) e) where
   abbrev x : Entry
   x = entry_in (table m) e
 

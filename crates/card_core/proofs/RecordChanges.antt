@@ -7,12 +7,13 @@ use Rattle.std.proofs.lemmas.Bool.{cases_eq}
 use Rattle.std.specs.FinMap.{insert}
 use Rattle.std.proofs.Math.Nat.{mod-lt}
 use Rattle.nvm_board.specs.Facts.{address}
-use Rattle.nvm_board.specs.declared.board.TheConstants.{WORDS}
+use Rattle.nvm_board.specs.Facts.{IsMemory}
 use Rattle.block_chain.specs.Chains.{chain, chain_bytes, chain_of}
+use Rattle.nvm_board.specs.laws.Sizes.{memory_same}
 use Rattle.block_chain.specs.Changes.{OnlyContent}
 use Rattle.block_chain.specs.Counts.{count, IsNotIn}
 use Rattle.block_chain.specs.Layout.{blocks_of}
-use Rattle.block_chain.specs.laws.Bytes.{AreBlocks, leads_blocks}
+use Rattle.block_chain.specs.laws.Bytes.{blocks_same, AreBlocks, leads_blocks}
 use Rattle.block_chain.specs.laws.Footprints.{not_among}
 use Rattle.ef_body.specs.declared.cyclic.Cyclic.{Cyclic as Ring}
 use Rattle.ef_body.specs.Bodies.{cyclic_records, number_told, start_told, IsCyclic}
@@ -22,7 +23,8 @@ use Rattle.file_tree.specs.declared.entry.Entry.{Entry}
 use Rattle.file_tree.specs.Cards.{Kind, File, Tree, elementary, file_at}
 use Rattle.file_tree.specs.Changes.{KeepsRest}
 use Rattle.file_tree.specs.Entries.{capacity_of, extent_told, file_of, free_entry, high, low}
-use Rattle.file_tree.specs.Spaces.{free_space}
+use Rattle.card_core.specs.Cards.{card_space}
+use Rattle.card_core.specs.laws.CardLaws.{card_space_is}
 use Rattle.file_tree.specs.Table.{table, entry_in, free_entries, path_of, IsEntry, IsUsed}
 use Rattle.file_tree.specs.Trees.{content, tree_of, TreeStands, file_in}
 use Rattle.file_tree.specs.Indexes.{KeepsPlaces}
@@ -46,7 +48,7 @@ use Rattle.card_core.proofs.RecordTables.{others, session-mid, stands-mid, used-
 pub record Records (m : List ℕ) (e : ℕ) (records : List (List ℕ)) (after : List ℕ) : Type 0 where
   pub stands : IsCard after
   pub card : card_of after ≡ with_records_at (card_of m) (path_of (table m) e) records
-  pub space : free_space (card_of after).tree ≡ free_space (card_of m).tree
+  pub space : card_space (card_of after) ≡ card_space (card_of m)
   pub session : (x : Current) → session_of (table after) x ≡ session_of (table m) x
   pub current : (x : Current) → IsCurrent (table m) x → IsCurrent (table after) x
   pub places : KeepsPlaces (table m) (table after)
@@ -59,7 +61,7 @@ unfolding file_of
 file-retold x number start bytes old = refl
 
 -- Bytes of a file of records, and the word of its entry that tells of them, are other ones.
-module _ (m after : List ℕ) (e : ℕ) (sized : length m ≡ WORDS) (words : IsCard m) (used : IsUsed (table m) e)
+module _ (m after : List ℕ) (e : ℕ) (sized : IsMemory m) (words : IsCard m) (used : IsUsed (table m) e)
     (of_records : ((entry_in (table m) e).kind ≡ 3) ⊎ ((entry_in (table m) e).kind ≡ 4))
     (only : OnlyBody m (chain m (entry_in (table m) e).first) (told_address e) after)
     (number : number_told after (told_address e) ≤ capacity_of (entry_in (table m) e))
@@ -116,19 +118,25 @@ module _ (m after : List ℕ) (e : ℕ) (sized : length m ≡ WORDS) (words : Is
         };
       }
 
-  sized-mid : length mid ≡ WORDS
-  sized-mid = length-set m (told_address e) w ∙ sized
+  sized-mid : IsMemory mid
+  sized-mid = memory_same _ _ (length-set m (told_address e) w) sized
 
-  sized-after : length after ≡ WORDS
-  sized-after = only.size ∙ sized
+  sized-after : IsMemory after
+  sized-after = memory_same _ _ only.size sized
 
-  blocks : AreBlocks ps
-  blocks = leads_blocks m _ 0 ps (entry_extent m sized words.tree e few high_kind).leads
+  size-mid : length mid ≡ length m
+  size-mid = length-set m (told_address e) w
+
+  blocks-before : AreBlocks m ps
+  blocks-before = leads_blocks m _ 0 ps (entry_extent m sized words.tree e few high_kind).leads
+
+  blocks : AreBlocks mid ps
+  blocks = blocks_same m mid ps size-mid blocks-before
 
   -- then the bytes
   bytes-change : OnlyContent mid ps after
   bytes-change = record {
-    size = sized-after ∙ sym sized-mid;
+    size = only.size ∙ sym size-mid;
     others = λ page place small outside. ⊎_elim
         (λ (is : address page place ≡ told_address e).
         let lt = few in
@@ -184,21 +192,22 @@ module _ (m after : List ℕ) (e : ℕ) (sized : length m ≡ WORDS) (words : Is
   rest : KeepsRest m after
   rest = record {
     size = only.size;
-    words = λ page place small outside no_block head. only.others page place small (inr (not_among page no_block ps blocks))
+    words = λ page place small outside low head. only.others page place small
+        (inr (not_among m page (λ block. let from = block.0 in let z : ⊥ = omega (arith, from, low) in z) ps blocks-before))
         (λ is. let lt = few in outside (omega (arith, is, small), omega (arith, is, small, lt)));
   }
 
   pub card-stands : IsCard after
   card-stands = files-stand m after sized rest words tree-stands
 
-  pub space-after : free_space (card_of after).tree ≡ free_space (card_of m).tree
+  pub space-after : card_space (card_of after) ≡ card_space (card_of m)
   space-after =
       let free = content_free mid after ps sized-mid blocks bytes-change tree-mid
       ∙ free_chain-mid m e w sized words.tree used entry in
       let entries = ap free_entries table-after ∙ free-mid m e w sized words.tree used entry in
-      ap free_space (card-tree after) ∙ space_counted after sized-after tree-stands
+      card_space_is after card-stands ∙ space_counted after sized-after tree-stands
       ∙ (λ i. record { blocks = length (free i); entries = entries i })
-      ∙ sym (ap free_space (card-tree m) ∙ space_counted m sized words.tree)
+      ∙ sym (card_space_is m words ∙ space_counted m sized words.tree)
 
   pub session-after : (y : Current) → session_of (table after) y ≡ session_of (table m) y
   session-after y = ap (λ (t : List Entry). session_of t y) table-after
@@ -271,7 +280,7 @@ with-body short true long capacity old new = refl
 with-body short false long capacity old new = refl
 
 -- The ring that the entry of a file tells of has these records then.
-module _ (m after : List ℕ) (e : ℕ) (sized : length m ≡ WORDS) (words : IsCard m) (used : IsUsed (table m) e)
+module _ (m after : List ℕ) (e : ℕ) (sized : IsMemory m) (words : IsCard m) (used : IsUsed (table m) e)
     (of_records : ((entry_in (table m) e).kind ≡ 3) ⊎ ((entry_in (table m) e).kind ≡ 4)) (records : List (List ℕ)) where
   abbrev entry_m : Entry
   entry_m = entry_in (table m) e
@@ -295,7 +304,7 @@ module _ (m after : List ℕ) (e : ℕ) (sized : length m ≡ WORDS) (words : Is
       λ three. made.straight (ap (λ (k : ℕ). k == 4) three) ∙ (rules m sized words e used of_records).linear three in
       let stands = card-stands m after e sized words used of_records made.only number start first in
       let own = entry-after m after e sized words used of_records made.only number start first in
-      let sized_after : length after ≡ WORDS = made.only.size ∙ sized in
+      let sized_after : IsMemory after = memory_same _ _ made.only.size sized in
       let kind : (entry_in (table after) e).kind ≡ entry_m.kind = ap (λ (y : Entry). y.kind) own in
       let of_after : ((entry_in (table after) e).kind ≡ 3) ⊎ ((entry_in (table after) e).kind ≡ 4) =
       ⊎_elim (λ (three : entry_m.kind ≡ 3). inl (kind ∙ three)) (λ (four : entry_m.kind ≡ 4). inr (kind ∙ four))

@@ -2,7 +2,7 @@
 use Rattle.std.proofs.Common.{◌≡◌, ◌==◌, ◌&&◌, ℕ, Bool, true, false, not, nat_le, List, [], ◌∷◌, length, Option, Some, None, Ok}
 use Rattle.std.proofs.Common.{if◌then◌else◌, refl, sym, ◌∙◌, ap, subst}
 use Rattle.std.specs.FinSet.{empty}
-use Rattle.nvm_board.specs.declared.board.TheConstants.{WORDS}
+use Rattle.nvm_board.specs.Facts.{IsMemory}
 use Rattle.card_rules.specs.declared.access_mode.AccessBit.TheVariants.{Read}
 use Rattle.card_rules.specs.declared.status.Sw.{Sw}
 use Rattle.card_rules.specs.declared.status.TheConstants.Sw.{DONE, RECORD_NOT_FOUND}
@@ -97,7 +97,7 @@ declined-empty request old x new text empty counted card status reads ready curr
     subst (λ (l : List ℕ). Serves request old x new x l (Ok status)) (sym empty)
     (declined request old x new counted card status reads ready current is)
 
-module _ (m : List ℕ) (sized : length m ≡ WORDS) (words : IsCard m) (x : CurrentFiles) (target : Target) (need : Need)
+module _ (m : List ℕ) (sized : IsMemory m) (words : IsCard m) (x : CurrentFiles) (target : Target) (need : Need)
     (file : RecordFile) (found : IsRecordFile m x target need file) where
   abbrev e : ℕ
   e = file.number
@@ -282,7 +282,7 @@ module _ (m : List ℕ) (sized : length m ≡ WORDS) (words : IsCard m) (x : Cur
           ∙ (λ i. outcome c (session i) (given expected (ns i)) (search_status (ns i)))
 
 -- what is known of a record that is chosen: its ring is that of a file, and it is there
-module _ (m : List ℕ) (sized : length m ≡ WORDS) (words : IsCard m) (x : CurrentFiles) (target : Target)
+module _ (m : List ℕ) (sized : IsMemory m) (words : IsCard m) (x : CurrentFiles) (target : Target)
     (choice : RecordChoice) (file : RecordFile) (slot : RecordSlot) (found : IsChosen m x target choice file slot) where
   pub chosen-body : (l : List ℕ) → l ≡ m → IsCyclic l slot.ring
   chosen-body l same = subst (λ (k : List ℕ). IsCyclic k slot.ring) (sym same)

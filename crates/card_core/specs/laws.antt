@@ -1,4 +1,5 @@
 -- Laws of the definitions, with their proofs.
+pub mod CardLaws
 pub mod StageLaws
 pub mod TemplateLaws
 pub mod TextLaws
@@ -18,3 +19,4 @@ pub mod AnswerLaws
 pub mod FoundLaws
 pub mod ShownLaws
 pub mod WordLaws
+pub mod BlockLaws
