@@ -1,12 +1,15 @@
 -- Formatting a new board succeeds: no cut is due, and no count stands at its end.
-use Rattle.std.specs.Prelude.{◌≡◌, ◌<◌, ℕ, zero, suc, true, false, List, Option, None, Some, Err, Contains, replicate, slice_index_or, refl}
+use Rattle.std.specs.Prelude.{◌≡◌, ◌<◌, ◌*◌, ℕ, zero, suc, true, false, List, Option, None, Some, Err, Contains, length, replicate, slice_index_or, refl}
 use Rattle.std.proofs.Common.{arith, inl, inr, subst, sym, ap, ◌∙◌, true≢false}
 use Rattle.nvm_board.specs.declared.board.Arm.{Arm}
 use Rattle.nvm_board.specs.declared.board.DeviceErr.{DeviceErr}
 use Rattle.nvm_board.specs.declared.board.DeviceErr.TheVariants.{PowerLost, Fault}
-use Rattle.nvm_board.specs.declared.board.TheConstants.{COUNT_END, LEAST_PAGES}
+use Rattle.nvm_board.specs.declared.board.TheConstants.{COUNT_END, LEAST_PAGES, PAGE_WORDS}
 use Rattle.nvm_board.specs.Aims.{due_of}
-use Rattle.nvm_board.specs.Facts.{Answered, Facts, GoesDark, Steady, new_board}
+use Rattle.nvm_board.specs.Facts.{Answered, Facts, GoesDark, Steady, new_board, pages_of}
+use Rattle.std.proofs.lemmas.List.{length-replicate}
+use Rattle.nvm_board.specs.laws.Sizes.{pages_same}
+use Rattle.card_core.specs.Standing.{board_blocks}
 use Rattle.undo_journal.specs.Spending.{WritesAtMost}
 use Rattle.card_core.specs.Factory.{factory_card}
 use Rattle.card_core.specs.Finding.{Finds}
@@ -14,6 +17,20 @@ use Rattle.card_bench.specs.BenchStates.{BenchState, off, bench_card, bench_fact
 use Rattle.card_bench.specs.Exchanges.{Desk}
 use Rattle.card_bench.specs.Plays.{IsGood}
 use Rattle.card_bench.specs.Prints.{IsFirstDesk, IsJustWritten}
+
+-- a new board of 1,024 pages has room for 896 blocks
+pub new_pages : (old : Facts) → old ≡ new_board LEAST_PAGES → pages_of old.words ≡ LEAST_PAGES
+new_pages old is =
+    let size : length old.words ≡ PAGE_WORDS * LEAST_PAGES =
+    ap (λ (f : Facts). length f.words) is ∙ length-replicate (PAGE_WORDS * LEAST_PAGES) 0 in
+    omega (arith, size)
+
+pub new_blocks : (old new : Facts) → old ≡ new_board LEAST_PAGES → length new.words ≡ length old.words
+    → board_blocks new.words ≡ 896
+new_blocks old new is size =
+    let pages = new_pages old is in
+    let same = pages_same old.words new.words size in
+    omega (arith, pages, same)
 
 zero_at : (n k x : ℕ) → k < n → slice_index_or (replicate n 0) k x ≡ 0
 zero_at zero k x lt = absurd (omega arith)
