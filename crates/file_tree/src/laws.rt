@@ -1,13 +1,14 @@
 //! Laws of the tree that a memory stands for.
 
 ghost use Rattle.nvm_board.specs.Facts.{IsMemory};
-ghost use Rattle.std.specs.Prelude.{◌≡◌, ◌&&◌, ℕ, List, ◌∷◌, ◌++◌, length, take, Some, None, false, IsTrue};
+ghost use Rattle.std.specs.Prelude.{◌≡◌, ◌≢◌, ◌-◌, ◌&&◌, ℕ, List, ◌∷◌, ◌++◌, length, take, Some, None, false, IsTrue};
 ghost use Rattle.std.specs.FinMap.{get};
 ghost use Rattle.card_rules.specs.declared.identifiers.TheConstants.{MASTER_FILE};
 ghost use Rattle.block_chain.specs.Chains.{free_chain};
 ghost use Rattle.block_chain.specs.Changes.{OnlyContent};
 ghost use Rattle.file_tree.specs.declared.layout.TheConstants.{FIRST_ENTRY_PAGE, ENTRIES, DEEPEST, MOST_FILE_BLOCKS, CREATE_WRITES, DELETE_WRITES};
-ghost use Rattle.file_tree.specs.declared.layout.TheConstants.{STATE_WORD, CARD_TERMINATED};
+ghost use Rattle.file_tree.specs.declared.layout.TheConstants.{STATE_WORD, CARD_TERMINATED, MARK, OLD_MARK, MARK_WORD, PAGES_WORD};
+ghost use Rattle.block_chain.specs.Words.{word};
 ghost use Rattle.file_tree.specs.Cards.{Path, IsTree, master_file, exists, file_at, is_dedicated};
 ghost use Rattle.file_tree.specs.Reaching.{IsReserved};
 ghost use Rattle.file_tree.specs.Formats.{block_count};
@@ -26,6 +27,16 @@ pub fn layout()
     ensures master { (MASTER_FILE ≡ 0x3F00) × (master_file ≡ 0x3F00) }
     ensures writes { (MOST_FILE_BLOCKS ≡ 547) × (CREATE_WRITES ≡ 556) × (DELETE_WRITES ≡ 180) }
     ensures state { (STATE_WORD ≡ 2) × (CARD_TERMINATED ≡ 1) }
+{}
+
+/// Word 0 of the header is the mark, 54534332 in format 2 and 54534331 in format 1. In format 2 word 3 is the page where the blocks
+/// end; in any other the memory has the 896 blocks of format 1.
+#[tactic(auto, using(crate::specs::laws::Formats::count_new, crate::specs::laws::Formats::count_old))]
+pub fn formats()
+    ensures marks { (MARK ≡ 0x54534332) × (OLD_MARK ≡ 0x54534331) }
+    ensures words { (MARK_WORD ≡ 0) × (PAGES_WORD ≡ 3) }
+    ensures new { (m : List ℕ) → word m 0 0 ≡ 0x54534332 → block_count m ≡ word m 0 3 - 128 }
+    ensures old { (m : List ℕ) → word m 0 0 ≢ 0x54534332 → block_count m ≡ 896 }
 {}
 
 /// The tree has each used entry's file at its path.

@@ -46,3 +46,10 @@ end_old m other_mark = elim (eqb_tells (word m HEADER_PAGE MARK_WORD) MARK) [
 pub count_is : (m : List ℕ) → block_count m ≡ end_page m - FIRST_BLOCK_PAGE
 unfolding block_count
 count_is m = refl
+
+-- so many blocks there are by the mark
+pub count_new : (m : List ℕ) → word m HEADER_PAGE MARK_WORD ≡ MARK → block_count m ≡ word m HEADER_PAGE PAGES_WORD - FIRST_BLOCK_PAGE
+count_new m is = count_is m ∙ ap (λ (end : ℕ). end - FIRST_BLOCK_PAGE) (end_new m is)
+
+pub count_old : (m : List ℕ) → word m HEADER_PAGE MARK_WORD ≢ MARK → block_count m ≡ OLD_END_PAGE - FIRST_BLOCK_PAGE
+count_old m other = count_is m ∙ ap (λ (end : ℕ). end - FIRST_BLOCK_PAGE) (end_old m other)

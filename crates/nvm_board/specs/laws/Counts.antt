@@ -5,6 +5,7 @@ use Rattle.nvm_board.specs.declared.ram_board.RamBoard.{RamBoard}
 use Rattle.nvm_board.specs.declared.cut_board.CutBoard.{CutBoard}
 use Rattle.nvm_board.specs.declared.fault_board.FaultBoard.{FaultBoard}
 use Rattle.nvm_board.specs.Facts.{CountsFit, IsMemory, pages_of}
+use Rattle.nvm_board.specs.laws.Sizes.{memory_of_pages}
 use Rattle.nvm_board.specs.Ram.{ram_facts}
 use Rattle.nvm_board.specs.Cut.{cut_facts}
 use Rattle.nvm_board.specs.Faulty.{fault_facts}
@@ -41,14 +42,8 @@ fault_counts_fit b = record {
 
 -- it has as many pages as it says
 pub ram_pages : (b : RamBoard) → pages_of (ram_facts b).words ≡ b.pages
-ram_pages b = omega (arith, b.sized)
+ram_pages b = (memory_of_pages (ram_facts b).words b.pages b.least b.most b.sized).1
 
 -- its words are a memory
 pub ram_memory : (b : RamBoard) → IsMemory (ram_facts b).words
-ram_memory b =
-    let same = ram_pages b in
-    record {
-      whole = omega (arith, b.sized, same);
-      least = omega (arith, b.least, same);
-      most = omega (arith, b.most, same);
-    }
+ram_memory b = (memory_of_pages (ram_facts b).words b.pages b.least b.most b.sized).0

@@ -34,3 +34,16 @@ page_within m page memory below = omega (arith, memory.whole, below)
 pub page_of_run : (m : List ℕ) (page first some : ℕ) → IsMemory m → 0 < some
     → address page first + some ≤ length m → page < pages_of m
 page_of_run m page first some memory any inside = omega (arith, memory.whole, any, inside)
+
+-- as many words as so many pages have are a memory
+pub memory_of_pages : (words : List ℕ) (pages : ℕ) → LEAST_PAGES ≤ pages → pages ≤ MOST_PAGES → length words ≡ PAGE_WORDS * pages
+    → IsMemory words × (pages_of words ≡ pages)
+memory_of_pages words pages least most size =
+    let same : pages_of words ≡ pages = omega (arith, size) in (
+      record {
+        whole = omega (arith, size, same);
+        least = omega (arith, least, same);
+        most = omega (arith, most, same);
+      },
+      same,
+    )
