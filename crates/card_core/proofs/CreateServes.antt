@@ -1,6 +1,6 @@
 -- What CREATE FILE leaves, where nothing refuses the template: first it only reads, then it creates the file, and then it
 -- reads the new entry.
-use Rattle.std.proofs.Common.{◌≡◌, ◌⊎◌, ◌≤◌, ◌-◌, ℕ, List, [], length, Option, Some, None, Result, Ok, refl, sym, ◌∙◌, ap, subst, arith, inr, true≢false}
+use Rattle.std.proofs.Common.{◌≡◌, ◌⊎◌, ◌≤◌, ◌-◌, ℕ, List, [], Option, Some, None, Result, Ok, refl, sym, ◌∙◌, ap, subst, arith, inr, true≢false}
 use Rattle.std.specs.Result.{IsErrAnd}
 use Rattle.nvm_board.specs.Facts.{IsMemory}
 use Rattle.card_rules.specs.declared.status.Sw.{Sw}

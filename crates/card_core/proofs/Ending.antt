@@ -1,5 +1,5 @@
 -- The end of the use of a card: what it does to the memory, and what a call that ends it leaves.
-use Rattle.std.proofs.Common.{◌≡◌, ◌≢◌, ◌⊎◌, ◌==◌, ℕ, Bool, true, false, not, List, [], length, Some, None, refl}
+use Rattle.std.proofs.Common.{◌≡◌, ◌≢◌, ◌⊎◌, ◌==◌, ℕ, Bool, true, false, not, List, [], Some, None, refl}
 use Rattle.std.proofs.Common.{Result, Ok, Err, if◌then◌else◌, sym, ◌∙◌, ap, subst, arith, inl, inr, ⊎_elim, true≢false}
 use Rattle.std.proofs.lemmas.List.{get_or-set_other, get_or-set_same, length-set}
 use Rattle.std.specs.Result.{result_err, IsErr}

@@ -23,7 +23,6 @@ use Rattle.card_core.specs.Reaching.{selected_from, target_of}
 use Rattle.card_core.specs.Lengths.{asks_less, given, right_length}
 use Rattle.card_core.specs.laws.FoundLaws.{same-of, other-of}
 use Rattle.card_core.specs.Selecting.{selecting, selection_data, selection_status}
-use Rattle.pin_store.specs.Pages.{ArePinPages}
 use Rattle.card_core.specs.Sessions.{marked}
 use Rattle.card_core.specs.Standing.{card_of, IsAnyCard, IsCard, IsOldCard}
 use Rattle.card_core.specs.declared.memory_format.MemoryFormat.{MemoryFormat}

@@ -1,5 +1,5 @@
 -- The factory's memory stands for the factory's card.
-use Rattle.std.proofs.Common.{◌≡◌, ◌≢◌, ◌<◌, ◌≤◌, ◌+◌, ◌-◌, ◌==◌, ℕ, false, true, List, [], ◌∷◌, ◌++◌, zero, suc, length, drop, map}
+use Rattle.std.proofs.Common.{◌≡◌, ◌≢◌, ◌<◌, ◌≤◌, ◌+◌, ◌-◌, ◌==◌, ℕ, true, List, [], ◌∷◌, ◌++◌, zero, suc, length, drop, map}
 use Rattle.std.proofs.Common.{slice_index}
 use Rattle.std.proofs.Common.{refl, sym, ◌∙◌, ap, ap₂, subst, arith, inl, inr, lit≤, lit<, replicate, Option}
 use Rattle.std.proofs.Common.{Some}
@@ -18,11 +18,11 @@ use Rattle.block_chain.specs.Layout.{AreLaid}
 use Rattle.block_chain.specs.laws.Words.{index-page_words}
 use Rattle.file_tree.specs.declared.entry.Entry.{Entry}
 use Rattle.file_tree.specs.declared.space.FreeSpace.{FreeSpace}
-use Rattle.file_tree.specs.Formats.{block_count, is_format_2}
+use Rattle.file_tree.specs.Formats.{block_count}
 use Rattle.file_tree.specs.Spaces.{free_space}
-use Rattle.file_tree.specs.declared.layout.TheConstants.{MARK, MARK_WORD, OLD_END_PAGE, OLD_MARK, PAGES_WORD, STATE_WORD}
+use Rattle.file_tree.specs.declared.layout.TheConstants.{MARK, MARK_WORD, OLD_MARK, PAGES_WORD, STATE_WORD}
 use Rattle.file_tree.specs.laws.Formats.{count_is, end_new, end_old}
-use Rattle.block_chain.specs.declared.layout.TheConstants.{FIRST_BLOCK_PAGE, FREE_HEAD_WORD, HEADER_PAGE}
+use Rattle.block_chain.specs.declared.layout.TheConstants.{FREE_HEAD_WORD, HEADER_PAGE}
 use Rattle.file_tree.specs.Entries.{entry_of, file_of}
 use Rattle.file_tree.specs.Table.{table, entry_in, path_of, extents, free_entries, IsTable}
 use Rattle.file_tree.specs.Trees.{content, node, tree_of, TreeStands, file_in}

@@ -1,5 +1,5 @@
 -- What a call that changes a life cycle leaves, where nothing refuses it: first it only reads, and then it writes, or not.
-use Rattle.std.proofs.Common.{refl, ◌≡◌, ◌⊎◌, ℕ, List, [], length, Some, Result, Ok, Err, sym, ◌∙◌, ap, subst, arith, inl, inr, ⊎_elim, true≢false}
+use Rattle.std.proofs.Common.{refl, ◌≡◌, ◌⊎◌, ℕ, List, [], Some, Result, Ok, Err, sym, ◌∙◌, ap, subst, arith, inl, inr, ⊎_elim, true≢false}
 use Rattle.std.proofs.lemmas.Bool.{cases_eq}
 use Rattle.std.specs.Result.{result_err, IsErr}
 use Rattle.nvm_board.specs.Facts.{IsMemory}

@@ -1,6 +1,6 @@
 -- A request whose commits leave the files alone takes no space, and gives none back.
 use Rattle.std.proofs.Common.{◌≡◌, Bool, true, false, List, [], ℕ, ◌∷◌, Option, None, Some, Result, OnOk, if◌then◌else◌, refl, sym}
-use Rattle.std.proofs.Common.{◌∙◌, ap, ⊎_elim}
+use Rattle.std.proofs.Common.{◌∙◌, ⊎_elim}
 use Rattle.std.proofs.lemmas.List.Elements.{All-contains, All-from_recursion}
 use Rattle.std.specs.List.{AllByRecursion}
 use Rattle.card_rules.specs.declared.status.Sw.{Sw}

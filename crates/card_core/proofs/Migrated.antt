@@ -1,7 +1,7 @@
 -- A card of format 1 that becomes one of format 2, at whatever exit, and what a start finds then.
 use Rattle.std.specs.Prelude.{◌↔◌}
-use Rattle.std.proofs.Common.{◌≡◌, ◌≢◌, ◌⊎◌, ◌+◌, ◌-◌, ◌<◌, ◌≤◌, ◌==◌, ℕ, Bool, true, false, true≢false, List, length, if◌then◌else◌}
-use Rattle.std.proofs.Common.{Option, Some, None, refl, sym, ◌∙◌, ap, subst, arith, inl, inr, ⊎_elim}
+use Rattle.std.proofs.Common.{◌≡◌, ◌⊎◌, ◌+◌, ◌-◌, ◌==◌, ℕ, Bool, true≢false, List, length, if◌then◌else◌}
+use Rattle.std.proofs.Common.{Option, Some, sym, ◌∙◌, ap, subst, arith, inl, inr, ⊎_elim}
 use Rattle.nvm_board.specs.Facts.{Facts, IsMemory, pages_of}
 use Rattle.nvm_board.specs.laws.Sizes.{pages_same}
 use Rattle.undo_journal.specs.Memory.{committed, Memory}
@@ -10,9 +10,9 @@ use Rattle.undo_journal.specs.Undo.{undo, IsSound}
 use Rattle.undo_journal.specs.UndoLaws.{length-undo, length-data_words}
 use Rattle.undo_journal.specs.laws.Memory.{writes_then}
 use Rattle.block_chain.specs.Words.{word}
-use Rattle.block_chain.specs.declared.layout.TheConstants.{FIRST_BLOCK_PAGE, HEADER_PAGE}
-use Rattle.file_tree.specs.Formats.{block_count, end_page, is_format_2}
-use Rattle.file_tree.specs.declared.layout.TheConstants.{MARK, MARK_WORD, OLD_END_PAGE, PAGES_WORD}
+use Rattle.block_chain.specs.declared.layout.TheConstants.{HEADER_PAGE}
+use Rattle.file_tree.specs.Formats.{block_count, is_format_2}
+use Rattle.file_tree.specs.declared.layout.TheConstants.{MARK_WORD, OLD_END_PAGE}
 use Rattle.file_tree.specs.Spaces.{free_space}
 use Rattle.file_tree.specs.Trees.{tree_of}
 use Rattle.file_tree.specs.declared.space.FreeSpace.{FreeSpace}
@@ -28,8 +28,8 @@ use Rattle.card_core.specs.Working.{IsCardIn, TellsCard}
 use Rattle.card_core.specs.declared.check.Checked.{Checked}
 use Rattle.card_core.specs.declared.memory_format.MemoryFormat.{MemoryFormat}
 use Rattle.card_core.specs.declared.memory_format.MemoryFormat.TheVariants.{One, Two}
-use Rattle.card_core.specs.Starting.{IsNewFound, KeepsFormat, TakesAllPages, power_on_writes}
-use Rattle.card_core.specs.laws.CardLaws.{blocks_new, blocks_old, card_format, card_space_is, marked_new, marked_old, old_format, old_mark}
+use Rattle.card_core.specs.Starting.{KeepsFormat, TakesAllPages, power_on_writes}
+use Rattle.card_core.specs.laws.CardLaws.{blocks_new, blocks_old, card_format, card_space_is, marked_new, old_format, old_mark}
 
 -- the memory is as it was, or that of a card of format 1 which is still one, or is one of format 2
 abbrev pub IsRenewed : List ℕ → List ℕ → Type 0

@@ -1,5 +1,5 @@
 -- What calls say of power and device, one after another.
-use Rattle.std.proofs.Common.{◌≡◌, ◌+◌, ℕ, List, true, true≢false, Option, Some, None, Result, Ok, Err, IfOk, refl, sym, ◌∙◌, ap, subst, inl, inr, ⊎_elim}
+use Rattle.std.proofs.Common.{◌≡◌, ◌+◌, ℕ, true, true≢false, Option, Some, None, Result, Ok, Err, IfOk, refl, sym, ◌∙◌, ap, subst, inl, inr, ⊎_elim}
 use Rattle.std.specs.Prelude.{MatchOption, MatchResult}
 use Rattle.std.specs.Result.{result_err, IsErrAnd, IsErrOf}
 use Rattle.nvm_board.specs.declared.board.DeviceErr.{DeviceErr}
@@ -13,7 +13,6 @@ use Rattle.undo_journal.specs.Memory.{committed, FailsBy as StoreFailsBy, IsRead
 use Rattle.undo_journal.specs.Calls.{Changes, UnlessFailed}
 use Rattle.undo_journal.specs.Undo.{IsSound}
 use Rattle.file_tree.specs.Indexes.{IsIndex}
-use Rattle.file_tree.specs.Table.{table}
 use Rattle.card_core.specs.declared.surveying.Survey.{Survey}
 use Rattle.card_core.specs.declared.faults.StartFault.TheVariants.{Damaged}
 use Rattle.card_core.specs.Finding.{words_found, HasCard}

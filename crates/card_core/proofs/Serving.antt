@@ -28,7 +28,6 @@ use Rattle.file_tree.specs.Cards.{Kind, Tree, File, file_at, overwrite, with_byt
 use Rattle.file_tree.specs.Cards.{bytes_of as bytes_in}
 use Rattle.file_tree.specs.Changes.{Rewrites}
 use Rattle.file_tree.specs.Entries.{free_entry}
-use Rattle.card_core.specs.Cards.{card_space}
 use Rattle.card_core.specs.laws.CardLaws.{card_space_is}
 use Rattle.file_tree.specs.Table.{table, entry_in, path_of, free_entries}
 use Rattle.file_tree.specs.Trees.{tree_of, file_in}

@@ -1,8 +1,8 @@
 -- Laws of the words of a card, in either format: what they have in common, and what a change of some of them leaves.
-use Rattle.std.specs.Prelude.{◌≡◌, ◌≢◌, ◌⊎◌, ◌<◌, ◌≤◌, ◌-◌, ◌==◌, ℕ, Bool, true, false, if◌then◌else◌, List, length}
-use Rattle.std.proofs.Common.{refl, sym, ◌∙◌, ap, arith, inl, inr, ⊎_elim}
+use Rattle.std.specs.Prelude.{◌≡◌, ◌≢◌, ◌<◌, ◌≤◌, ◌-◌, ◌==◌, ℕ, Bool, true, false, if◌then◌else◌, List, length}
+use Rattle.std.proofs.Common.{◌∙◌, ap, arith, inl, inr, ⊎_elim}
 use Rattle.std.proofs.lemmas.Bool.Decides.{eqb_tells}
-use Rattle.nvm_board.specs.Facts.{pages_of, IsMemory}
+use Rattle.nvm_board.specs.Facts.{IsMemory}
 use Rattle.nvm_board.specs.laws.Sizes.{pages_same}
 use Rattle.block_chain.specs.Words.{word}
 use Rattle.block_chain.specs.declared.layout.TheConstants.{FIRST_BLOCK_PAGE, HEADER_PAGE, MOST_BLOCKS}

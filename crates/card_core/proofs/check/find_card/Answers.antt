@@ -1,4 +1,4 @@
-use Rattle.std.proofs.Common.{◌≡◌, ℕ, List, Option, Some, subst, ◌∙◌}
+use Rattle.std.proofs.Common.{ℕ, List, Option, subst, ◌∙◌}
 use Rattle.undo_journal.specs.Memory.{committed}
 use Rattle.file_tree.specs.Trees.{TellsSpace}
 use Rattle.file_tree.specs.declared.space.FreeSpace.{FreeSpace}

@@ -1,4 +1,4 @@
-use Rattle.std.proofs.Common.{refl, ◌∙◌, ap}
+use Rattle.std.proofs.Common.{◌∙◌, ap}
 use Rattle.card_core.specs.declared.memory_format.MemoryFormat.TheVariants.{Two}
 use Rattle.card_core.specs.Cards.{Card, card_space}
 use Rattle.card_core.specs.Factory.{factory_card}

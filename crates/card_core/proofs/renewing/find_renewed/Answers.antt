@@ -1,5 +1,4 @@
-use Rattle.std.proofs.Common.{ℕ, List, Option, Some, None, sym, ◌∙◌, ap, subst, inl}
-use Rattle.std.specs.Result.{result_err}
+use Rattle.std.proofs.Common.{ℕ, List, Some, None, sym, ◌∙◌, ap, subst, inl}
 use Rattle.undo_journal.specs.Calls.{Changes}
 use Rattle.undo_journal.specs.Memory.{committed}
 use Rattle.undo_journal.specs.laws.Told.{changes_after, changes_handed}
