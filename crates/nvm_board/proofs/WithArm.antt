@@ -111,6 +111,18 @@ spared_ok at run a b old new x was_lit unarmed nearer never = record {
   fires = λ mask lit some. absurd (never mask lit some);
 }
 
+-- a write of a board of which no cut is set to come leaves it so
+pub unarmed_after : {T : Type 0} (at : ℕ) (run : List ℕ) (a : Option Arm) (old new : Facts) (result : Result T DeviceErr)
+    → a ≡ None → old.due ≡ 0 → new.faults ≡ 0 → Answered old new result → IsLostRightly old new result
+    → ArmAfter at run (with_arm a old) (with_arm a new) result
+unarmed_after at run a old new (Ok x) unarmed none fine told rightly =
+    spared_ok at run a a old new x (told.ok refl).was_lit (λ same. same)
+    (λ left mask some. absurd (let other : None ≡ Some _ = sym unarmed ∙ some in cc))
+    (λ mask lit some. absurd (let other : None ≡ fires_by mask = sym unarmed ∙ some in cc))
+unarmed_after at run a old new (Err e) unarmed none fine told rightly =
+    spared_err at run a old new e none fine told rightly
+    (λ mask lit some. absurd (let other : None ≡ fires_by mask = sym unarmed ∙ some in cc))
+
 -- what is told of a torn write
 pub answered_torn : {T : Type 0} (a : Option Arm) (old new : Facts) (mask : ℕ) → a ≡ fires_by mask → old.dark ≡ false
     → new.dark ≡ true → new.faults ≡ old.faults → new.cuts ≡ old.cuts + 1
@@ -192,6 +204,14 @@ aims_nearer a b old new lit counted none before never =
       cut = inl (aim-armed b new ∙ ap (λ (n : ℕ). aimed n b) counted
           ∙ nearer-aimed a b old.writes none before (λ mask. never mask lit) ∙ sym (aim-armed a old));
     }
+
+-- with no cut set to come there is none before a write, and none behind it
+pub aims_unarmed : (a : Option Arm) (old new : Facts) → a ≡ None → AimsAtWrite old new
+    → AimsAtWrite (with_arm a old) (with_arm a new)
+aims_unarmed a old new none aims = record {
+  off = λ off. ap (with_arm a) (aims.off off);
+  cut = inl (aim-armed a new ∙ ap (aimed new.writes) none ∙ sym (aim-armed a old ∙ ap (aimed old.writes) none));
+}
 
 -- a torn write spends it
 pub aims_torn : (a : Option Arm) (old new : Facts) (mask : ℕ) → a ≡ fires_by mask → old.dark ≡ false → new.dark ≡ true

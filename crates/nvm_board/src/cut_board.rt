@@ -20,8 +20,11 @@ pub struct CutBoard {
 }
 
 impl CutBoard {
-    ghost use Rattle.std.specs.Prelude.{is_some};
-    ghost use Rattle.nvm_board.specs.Cut.{cut_facts, last_torn};
+    ghost use Rattle.std.specs.Prelude.{◌≡◌, ◌⊎◌, ◌+◌, ◌<◌, ◌≤◌, length, is_some, IfOk, OnOk, OnErr};
+    ghost use Rattle.nvm_board.specs.Aims.{AimsAtWrite};
+    ghost use Rattle.nvm_board.specs.Cut.{cut_facts, last_torn, ArmAfter, TornAfter};
+    ghost use Rattle.nvm_board.specs.Facts.{Answered, IsLostRightly, address, pages_of};
+    ghost use Rattle.nvm_board.specs.Torn.{Torn, written};
 
     /// A lit board of 1,024 pages whose words and counts are 0, with no cut to come.
     ///
@@ -80,6 +83,39 @@ impl CutBoard {
     {
         self.torn_words
     }
+
+    /// A write on a board of which a cut is set to come: the cut falls into it, or comes nearer by one. It stands apart, and
+    /// is called: so a write with no cut to come, as nearly all are, pays for none of this.
+    #[inline(never)]
+    #[tactic(auto, unfolding(crate::specs::Facts::IsLostRightly))]
+    fn write_armed(&mut self, page: u16, first: u8, words: &[u32]) -> Result<(), DeviceErr>
+        requires page { page < pages_of (cut_facts self.old).words }
+        requires some { 0 < length words.now }
+        requires run { first + length words.now ≤ PAGE_WORDS }
+        ensures done { OnOk result ((cut_facts self.new).words ≡ written (cut_facts self.old).words (address page first)
+            words.now) }
+        ensures torn { Torn (cut_facts self.old).words (address page first) words.now (cut_facts self.new).words }
+        ensures light { Answered (cut_facts self.old) (cut_facts self.new) result }
+        ensures worn { IsLostRightly (cut_facts self.old) (cut_facts self.new) result }
+        ensures cut { AimsAtWrite (cut_facts self.old) (cut_facts self.new) }
+        ensures counted { OnOk result ((cut_facts self.new).writes ≡ (cut_facts self.old).writes + 1) }
+        ensures counted_err { OnErr result (((cut_facts self.new).writes ≡ (cut_facts self.old).writes)
+            ⊎ ((cut_facts self.new).writes ≡ (cut_facts self.old).writes + 1)) }
+        ensures compares { (cut_facts self.new).compares ≡ (cut_facts self.old).compares }
+        ensures matches { (cut_facts self.new).matches ≡ (cut_facts self.old).matches }
+        ensures arm { ArmAfter (address page first) words.now (cut_facts self.old) (cut_facts self.new) result }
+        ensures torn_words { TornAfter (length words.now) (cut_facts self.old) (last_torn self.old) (last_torn self.new) }
+    {
+        if let Some(mask) = firing(self.arm, self.ram.is_dark()) {
+            self.arm = None;
+            self.torn_words = words.len() as u8;
+            self.ram.tear(page, first, words, mask);
+            return Err(DeviceErr::PowerLost);
+        }
+        self.ram.write(page, first, words)?;
+        self.arm = nearer(self.arm);
+        Ok(())
+    }
 }
 
 impl Board for CutBoard {
@@ -135,15 +171,10 @@ impl Board for CutBoard {
         ensures arm { ArmAfter (address page first) words.now (cut_facts self.old) (cut_facts self.new) result }
         ensures torn_words { TornAfter (length words.now) (cut_facts self.old) (last_torn self.old) (last_torn self.new) }
     {
-        if let Some(mask) = firing(self.arm, self.ram.is_dark()) {
-            self.arm = None;
-            self.torn_words = words.len() as u8;
-            self.ram.tear(page, first, words, mask);
-            return Err(DeviceErr::PowerLost);
+        match self.arm {
+            None => self.ram.write(page, first, words),
+            Some(_) => self.write_armed(page, first, words),
         }
-        self.ram.write(page, first, words)?;
-        self.arm = nearer(self.arm);
-        Ok(())
     }
 
     #[tactic(auto, unfolding(crate::specs::Facts::IsLostRightly))]

@@ -215,7 +215,7 @@ impl Board for RamBoard {
             self.go_dark();
             return Err(DeviceErr::PowerLost);
         }
-        put_run(&mut self.words, place(page, first), words);
+        put_run(self.words.as_mut_slice(), place(page, first), words);
         self.writes += 1;
         Ok(())
     }

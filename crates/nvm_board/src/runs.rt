@@ -7,11 +7,11 @@ ghost use Rattle.nvm_board.specs.declared.board.TheConstants.{PAGE_WORDS};
 use crate::board::PAGE_WORDS;
 
 /// Writes the run into the words, from the place `start` on.
-pub(crate) fn put_run(words: &mut Vec<u32>, start: usize, run: &[u32])
-    requires { start + length run.now ≤ length words.old.items }
-    ensures put { words.new.items ≡ written words.old.items start run.now }
-    ensures size { length words.new.items ≡ length words.old.items }
-    ensures fits { AreWords words.old.items → AreWords words.new.items }
+pub(crate) fn put_run(words: &mut [u32], start: usize, run: &[u32])
+    requires { start + length run.now ≤ length words.old }
+    ensures put { words.new ≡ written words.old start run.now }
+    ensures size { length words.new ≡ length words.old }
+    ensures fits { AreWords words.old → AreWords words.new }
 {
     for (i, word) in run.iter().enumerate() {
         words[start + i] = *word;

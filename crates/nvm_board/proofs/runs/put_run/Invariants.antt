@@ -5,7 +5,7 @@ use Rattle.nvm_board.proofs.runs.put_run.Given as goal
 
 abbrev pub invariant-loop-i : goal.invariant-loop-i
 invariant-loop-i l = record {
-  all : length l.words.items ≡ length l.initial.words.items;
-  so_far : l.words.items ≡ written l.initial.words.items l.start (take l.i l.run);
-  fits : AreWords l.initial.words.items → AreWords l.words.items;
+  all : length l.words ≡ length l.initial.words;
+  so_far : l.words ≡ written l.initial.words l.start (take l.i l.run);
+  fits : AreWords l.initial.words → AreWords l.words;
 }

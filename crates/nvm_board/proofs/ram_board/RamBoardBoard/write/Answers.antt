@@ -1,4 +1,5 @@
-use Rattle.std.proofs.Common.{ℕ, List, refl, ap, sym, ◌∙◌, subst, inl, inr}
+use Rattle.std.proofs.Common.{◌++◌, ℕ, List, length, take, drop, refl, ap, ap₂, sym, ◌∙◌, subst, inl, inr}
+use Rattle.std.proofs.Math.Seq.{take-append_seam}
 use Rattle.nvm_board.specs.Facts.{Facts, address}
 use Rattle.nvm_board.specs.Torn.{Torn, written}
 use Rattle.nvm_board.specs.laws.Torn.{Torn-none, Torn-all}
@@ -19,8 +20,13 @@ returns-clause-torn c =
     let at = address c.args.page c.args.first in
     let old = c.args.self.now.words.items in
     let torn : List ℕ → Type 0 = Torn old at c.args.words.now in
-    let put = c.put_run.ensures.put ∙ ap (λ (a : ℕ). written old a c.args.words.now) c.place.ensures in
-    subst torn (sym put) (Torn-all _ _ _)
+    let run = λ (l : List ℕ) (a : ℕ). written l a c.args.words.now in
+    let put = c.put_run.ensures.put ∙ ap₂ run c.as_mut_slice.ensures.value c.place.ensures in
+    let all = c.put_run.new.words in
+    let size = sym (c.put_run.ensures.size ∙ c.as_mut_slice.ensures.len) in
+    let rest = drop (length all) old in
+    let back = ap (λ (n : ℕ). take n (all ++ rest)) size ∙ take-append_seam all rest in
+    subst torn (sym (back ∙ put)) (Torn-all _ _ _)
 
 pub returns-then-self-clause-light : goal.returns-then-self-clause-light
 returns-then-self-clause-light c = off_tells _ c.if-self.true
