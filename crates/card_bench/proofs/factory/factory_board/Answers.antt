@@ -1,6 +1,5 @@
 use Rattle.std.proofs.Common.{ℕ, refl, subst}
 use Rattle.nvm_board.specs.Cut.{cut_facts}
-use Rattle.nvm_board.specs.declared.board.TheConstants.{LEAST_PAGES}
 use Rattle.undo_journal.specs.Spending.{WritesAtMost}
 use Rattle.card_core.specs.Factory.{factory_card}
 use Rattle.card_core.specs.Finding.{Finds}
