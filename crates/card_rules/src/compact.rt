@@ -90,28 +90,34 @@ impl Compact {
     pub fn allows(&self, bit: AccessBit, state: LifeCycle, verified: &Verified) -> bool
         ensures { result ≡ allows self.now bit state verified.now }
     {
-        match state {
-            LifeCycle::Creation | LifeCycle::Initialisation => true,
-            LifeCycle::Deactivated | LifeCycle::Activated | LifeCycle::Terminated => {
-                match self.condition(bit) {
-                    Some(condition) => condition.is_met(verified),
-                    None => false,
-                }
+        allows(self.as_bytes(), bit, state, verified)
+    }
+}
+
+/// Whether the bytes of a rule, of a file in `state`, allow what the bit stands for, where these PINs are verified.
+pub fn allows(bytes: &[u8], bit: AccessBit, state: LifeCycle, verified: &Verified) -> bool
+    ensures { result ≡ allows bytes.now bit state verified.now }
+{
+    match state {
+        LifeCycle::Creation | LifeCycle::Initialisation => true,
+        LifeCycle::Deactivated | LifeCycle::Activated | LifeCycle::Terminated => {
+            match condition_at(bytes, bit) {
+                Some(condition) => condition.is_met(verified),
+                None => false,
             }
         }
     }
+}
 
-    /// The condition of the bit, where it is set.
-    fn condition(&self, bit: AccessBit) -> Option<Condition>
-        ensures { result ≡ condition_at self.now bit }
-    {
-        let bytes = self.as_bytes();
-        let mode = AccessMode::from_bits_retain(*bytes.first()?);
-        if !mode.has(bit) {
-            return None;
-        }
-        Condition::from_byte(*bytes.get(mode.set_down_to(bit))?)
+/// The condition of the bit, where it is set.
+fn condition_at(bytes: &[u8], bit: AccessBit) -> Option<Condition>
+    ensures { result ≡ condition_at bytes.now bit }
+{
+    let mode = AccessMode::from_bits_retain(*bytes.first()?);
+    if !mode.has(bit) {
+        return None;
     }
+    Condition::from_byte(*bytes.get(mode.set_down_to(bit))?)
 }
 
 /// Whether the bytes are a rule.

@@ -113,8 +113,8 @@ turns_answer r more bytes = first_of (
     -- 9. an answer has at least 2 bytes
     ∷ (nat_lt (length bytes) 2, failing r BadAnswer)
     ∷ [])
-    -- 9. else this is the answer
-    (record { reader = record r { nr = other_number r.nr; answer = []; phase = Idle }; outcome = gives bytes })
+    -- 9. else this is the answer, which is kept until the next command
+    (record { reader = record r { nr = other_number r.nr; answer = bytes; phase = Idle }; outcome = gives bytes })
 
 -- An I-block came.
 abbrev pub turns_information : Reader → SequenceNumber → Bool → List ℕ → Turned

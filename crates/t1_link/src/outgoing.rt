@@ -40,6 +40,15 @@ impl Outgoing {
         }
     }
 
+    /// Drops all bytes.
+    pub(crate) fn clear(&mut self)
+        ensures { self.new ≡ record { field = []; rest = [] } }
+    {
+        self.start = 0;
+        self.end = 0;
+        self.bytes.clear();
+    }
+
     /// Bytes of which nothing is sent yet.
     pub(crate) fn load(&mut self, bytes: &[u8])
         requires { length bytes.now ≤ LONGEST_COMMAND }

@@ -7,16 +7,15 @@ ghost use Rattle.t1_link.specs.ReaderTable.{reader_step, advancing, asking, fail
 ghost use Rattle.t1_link.specs.ReaderTable.{reader_sends, reader_times_out};
 ghost use Rattle.t1_link.specs.ReaderTable.{requesting, requesting_again, sends, trying, turns_answer, turns_block};
 ghost use Rattle.t1_link.specs.ReaderTable.{turns_information, turns_receive_ready, turns_resynch};
-ghost use Rattle.t1_link.specs.ReaderFields.{IsSend, next_of};
+ghost use Rattle.t1_link.specs.ReaderFields.{HasAnswer, IsSend, left_in, next_of};
 ghost use Rattle.t1_link.specs.Spoken.{block_of, spoken};
 
 use crate::block::{Block, BlockBytes, ErrorKind, FIELD_LIMIT, Fault};
-use crate::card_end::AnswerBytes;
+use crate::card_end::{AnswerBytes, LONGEST_ANSWER};
 use crate::outgoing::{LONGEST_COMMAND, Outgoing};
 use crate::sequence_number::SequenceNumber;
 use arrayvec::ArrayVec;
 use std::marker::Model;
-use std::mem;
 
 /// How often a block is asked for or sent again before RESYNCH is requested.
 const TRIES: u8 = 3;
@@ -47,13 +46,13 @@ pub enum Failure {
     BadAnswer,
 }
 
-/// What is to be done next.
-#[derive(Drop)]
+/// What is to be done next. A block or an answer goes with it, in the buffer of blocks or in the reader's end.
+#[derive(Clone, Copy)]
 pub enum Next {
-    /// This block is to be sent.
-    Send(BlockBytes),
-    /// The command was run, and this is its answer.
-    Done(AnswerBytes),
+    /// The block in the buffer is to be sent.
+    Send,
+    /// The command was run, and its answer has come: `ReaderEnd::answer` lends it.
+    Done,
     /// The link was set back, and it isn't known whether the command was run.
     Unknown,
     /// There will be no answer.
@@ -110,13 +109,35 @@ impl ReaderEnd {
         }
     }
 
-    /// Sends a command of 1 to 261 bytes.
-    pub fn send(&mut self, command: &[u8]) -> Next
+    /// Begins anew, as after power-on.
+    pub fn reset(&mut self)
+        ensures { self.new ≡ fresh_reader }
+    {
+        self.number = SequenceNumber::Zero;
+        self.expected = SequenceNumber::Zero;
+        self.tries = 0;
+        self.resynchs = 0;
+        self.command.clear();
+        self.answer.clear();
+        self.phase = Phase::Idle;
+    }
+
+    /// The bytes of the answer that have come: after `Done` the answer, until a command is sent or the reader's end is reset.
+    pub fn answer(&self) -> &[u8]
+        ensures bytes { result.now ≡ self.now.answer }
+        ensures fits { length result.now ≤ LONGEST_ANSWER }
+    {
+        self.answer.as_slice()
+    }
+
+    /// Sends a command of 1 to 261 bytes. Its first block goes to the buffer.
+    pub fn send(&mut self, command: &[u8], out: &mut BlockBytes) -> Next
         requires idle { self.old.phase ≢ Phase.Busy }
         requires some { 1 ≤ length command.now }
         requires size { length command.now ≤ LONGEST_COMMAND }
         ensures state { self.new ≡ (reader_sends self.old command.now).reader }
         ensures next { result ≡ next_of (reader_sends self.old command.now).outcome }
+        ensures out { out.new ≡ left_in (reader_sends self.old command.now).outcome out.old }
 
         // The command is in hand exactly where a block is to be sent.
         ensures busy { IsSend result ↔ (self.new.phase ≡ Phase.Busy) }
@@ -127,106 +148,122 @@ impl ReaderEnd {
         self.phase = Phase::Busy;
         self.answer.clear();
         self.command.load(command);
-        self.advance()
+        self.advance(out)
     }
 
-    /// Takes a block, of whatever bytes.
+    /// Takes a block, of whatever bytes. A block to be sent goes to the buffer; with nothing to be sent that stays as it is.
     #[tactic(auto, unfolding(crate::specs::ReaderTable::turns_block))]
-    pub fn got(&mut self, got: &[u8]) -> Next
+    pub fn got(&mut self, got: &[u8], out: &mut BlockBytes) -> Next
         requires { self.old.phase ≡ Phase.Busy }
         ensures state { self.new ≡ (reader_step self.old got.now).reader }
         ensures next { result ≡ next_of (reader_step self.old got.now).outcome }
+        ensures out { out.new ≡ left_in (reader_step self.old got.now).outcome out.old }
+
+        // After `Done` the answer that was told stands in the reader's end.
+        ensures answer { HasAnswer (reader_step self.old got.now).outcome self.new }
 
         // The command stays in hand exactly where a block is to be sent.
         ensures busy { IsSend result ↔ (self.new.phase ≡ Phase.Busy) }
     {
         let heard = Block::parse(got);
         if self.resynchs > 0 {
-            return self.take_resynch(heard);
+            return self.take_resynch(heard, out);
         }
         match heard {
-            Err(fault) => self.ask(fault.error_kind()),
-            Ok(block) => self.take_block(block),
+            Err(fault) => self.ask(fault.error_kind(), out),
+            Ok(block) => self.take_block(block, out),
         }
     }
 
-    /// No block came in time.
-    pub fn timed_out(&mut self) -> Next
+    /// No block came in time. A block to be sent goes to the buffer; with nothing to be sent that stays as it is.
+    pub fn timed_out(&mut self, out: &mut BlockBytes) -> Next
         requires { self.old.phase ≡ Phase.Busy }
         ensures state { self.new ≡ (reader_times_out self.old).reader }
         ensures next { result ≡ next_of (reader_times_out self.old).outcome }
+        ensures out { out.new ≡ left_in (reader_times_out self.old).outcome out.old }
 
         // The command stays in hand exactly where a block is to be sent.
         ensures busy { IsSend result ↔ (self.new.phase ≡ Phase.Busy) }
     {
         if self.resynchs > 0 {
-            return self.request_again();
+            return self.request_again(out);
         }
-        self.ask(ErrorKind::OtherError)
+        self.ask(ErrorKind::OtherError, out)
     }
 
     /// What follows from a block while the answer is awaited.
     #[tactic(auto, unfolding(crate::specs::ReaderTable::turns_block))]
-    fn take_block(&mut self, block: Block<'_>) -> Next
+    fn take_block(&mut self, block: Block<'_>, out: &mut BlockBytes) -> Next
         requires { self.old.resynchs ≡ 0 }
         ensures state { self.new ≡ (turns_block self.old (Ok (block_of block.entry))).reader }
         ensures next { result ≡ next_of (turns_block self.old (Ok (block_of block.entry))).outcome }
+        ensures out { out.new ≡ left_in (turns_block self.old (Ok (block_of block.entry))).outcome out.old }
     {
         match block {
-            Block::ReceiveReady { number, .. } => self.take_receive_ready(number),
+            Block::ReceiveReady { number, .. } => self.take_receive_ready(number, out),
             Block::Information {
                 number,
                 more,
                 field,
-            } => self.take_information(number, more, field),
-            _ => self.ask(ErrorKind::OtherError),
+            } => self.take_information(number, more, field, out),
+            _ => self.ask(ErrorKind::OtherError, out),
         }
     }
 
     /// What follows from what was heard after a request for RESYNCH.
     #[tactic(auto, unfolding(crate::specs::ReaderTable::turns_resynch))]
-    fn take_resynch(&mut self, heard: Result<Block<'_>, Fault>) -> Next
+    fn take_resynch(&mut self, heard: Result<Block<'_>, Fault>, out: &mut BlockBytes) -> Next
         ensures state { self.new ≡ (turns_resynch self.old (spoken heard.entry)).reader }
         ensures next { result ≡ next_of (turns_resynch self.old (spoken heard.entry)).outcome }
+        ensures out { out.new ≡ left_in (turns_resynch self.old (spoken heard.entry)).outcome out.old }
     {
         if let Ok(Block::ResynchResponse) = heard {
-            *self = ReaderEnd::new();
+            self.reset();
             return Next::Unknown;
         }
-        self.request_again()
+        self.request_again(out)
     }
 
     /// An R-block came.
-    fn take_receive_ready(&mut self, number: SequenceNumber) -> Next
+    fn take_receive_ready(&mut self, number: SequenceNumber, out: &mut BlockBytes) -> Next
         requires { self.old.resynchs ≡ 0 }
         ensures state { self.new ≡ (turns_receive_ready self.old number).reader }
         ensures next { result ≡ next_of (turns_receive_ready self.old number).outcome }
+        ensures out { out.new ≡ left_in (turns_receive_ready self.old number).outcome out.old }
     {
         if number != self.number {
-            self.send_again()
+            self.send_again(out)
         } else if self.command.has_more() {
-            self.advance()
+            self.advance(out)
         } else {
-            self.ask(ErrorKind::OtherError)
+            self.ask(ErrorKind::OtherError, out)
         }
     }
 
     /// An I-block came.
-    fn take_information(&mut self, number: SequenceNumber, more: bool, field: &[u8]) -> Next
+    fn take_information(
+        &mut self,
+        number: SequenceNumber,
+        more: bool,
+        field: &[u8],
+        out: &mut BlockBytes,
+    ) -> Next
         requires { self.old.resynchs ≡ 0 }
         ensures state { self.new ≡ (turns_information self.old number more field.now).reader }
         ensures next { result ≡ next_of (turns_information self.old number more field.now).outcome }
+        ensures out { out.new ≡ left_in (turns_information self.old number more field.now).outcome out.old }
     {
         if self.command.has_more() || number != self.expected {
-            return self.ask(ErrorKind::OtherError);
+            return self.ask(ErrorKind::OtherError, out);
         }
-        self.take_answer(more, field)
+        self.take_answer(more, field, out)
     }
 
     /// The bytes of an I-block join the answer.
-    fn take_answer(&mut self, more: bool, field: &[u8]) -> Next
+    fn take_answer(&mut self, more: bool, field: &[u8], out: &mut BlockBytes) -> Next
         ensures state { self.new ≡ (turns_answer self.old more (self.old.answer ++ field.now)).reader }
         ensures next { result ≡ next_of (turns_answer self.old more (self.old.answer ++ field.now)).outcome }
+        ensures out { out.new ≡ left_in (turns_answer self.old more (self.old.answer ++ field.now)).outcome out.old }
     {
         let size = self.answer.len() + field.len();
         if is_too_short(size, more) || size > self.answer.capacity() {
@@ -236,65 +273,78 @@ impl ReaderEnd {
         self.expected = self.expected.other();
         if more {
             self.tries = 0;
-            return sent(Block::ReceiveReady {
-                number: self.expected,
-                error: ErrorKind::ErrorFree,
-            });
+            return sent(
+                Block::ReceiveReady {
+                    number: self.expected,
+                    error: ErrorKind::ErrorFree,
+                },
+                out,
+            );
         }
         self.phase = Phase::Idle;
-        Next::Done(mem::replace(&mut self.answer, ArrayVec::new()))
+        Next::Done
     }
 
     /// The next I-block of the command.
-    fn advance(&mut self) -> Next
+    fn advance(&mut self, out: &mut BlockBytes) -> Next
         ensures state { self.new ≡ (advancing self.old self.old.rest).reader }
         ensures next { result ≡ next_of (advancing self.old self.old.rest).outcome }
+        ensures out { out.new ≡ left_in (advancing self.old self.old.rest).outcome out.old }
     {
         self.command.cut(FIELD_LIMIT);
         self.number = self.number.other();
         self.tries = 0;
-        self.last_block()
+        self.last_block(out)
     }
 
     /// The last I-block.
-    fn last_block(&self) -> Next
-        ensures { result ≡ next_of (sends (last_block self.now)) }
+    fn last_block(&self, out: &mut BlockBytes) -> Next
+        ensures next { result ≡ next_of (sends (last_block self.now)) }
+        ensures out { out.new ≡ left_in (sends (last_block self.now)) out.old }
     {
         let number = self.number.other();
         let more = self.command.has_more();
-        sent(Block::Information {
-            number,
-            more,
-            field: self.command.field(),
-        })
+        sent(
+            Block::Information {
+                number,
+                more,
+                field: self.command.field(),
+            },
+            out,
+        )
     }
 
     /// A try: the last I-block again.
-    fn send_again(&mut self) -> Next
+    fn send_again(&mut self, out: &mut BlockBytes) -> Next
         requires { self.old.resynchs ≡ 0 }
         ensures state { self.new ≡ (trying self.old (last_block self.old)).reader }
         ensures next { result ≡ next_of (trying self.old (last_block self.old)).outcome }
+        ensures out { out.new ≡ left_in (trying self.old (last_block self.old)).outcome out.old }
     {
         if self.counts_try() {
-            self.last_block()
+            self.last_block(out)
         } else {
-            self.request()
+            self.request(out)
         }
     }
 
     /// A try: an R-block with the number that is expected.
-    fn ask(&mut self, error: ErrorKind) -> Next
+    fn ask(&mut self, error: ErrorKind, out: &mut BlockBytes) -> Next
         requires { self.old.resynchs ≡ 0 }
         ensures state { self.new ≡ (asking self.old error).reader }
         ensures next { result ≡ next_of (asking self.old error).outcome }
+        ensures out { out.new ≡ left_in (asking self.old error).outcome out.old }
     {
         if self.counts_try() {
-            sent(Block::ReceiveReady {
-                number: self.expected,
-                error,
-            })
+            sent(
+                Block::ReceiveReady {
+                    number: self.expected,
+                    error,
+                },
+                out,
+            )
         } else {
-            self.request()
+            self.request(out)
         }
     }
 
@@ -312,22 +362,24 @@ impl ReaderEnd {
     }
 
     /// A request for RESYNCH.
-    fn request(&mut self) -> Next
+    fn request(&mut self, out: &mut BlockBytes) -> Next
         requires { self.old.resynchs < 3 }
         ensures state { self.new ≡ (requesting self.old).reader }
         ensures next { result ≡ next_of (requesting self.old).outcome }
+        ensures out { out.new ≡ left_in (requesting self.old).outcome out.old }
     {
         self.resynchs += 1;
-        sent(Block::ResynchRequest)
+        sent(Block::ResynchRequest, out)
     }
 
     /// A request for RESYNCH was not answered.
-    fn request_again(&mut self) -> Next
+    fn request_again(&mut self, out: &mut BlockBytes) -> Next
         ensures state { self.new ≡ (requesting_again self.old).reader }
         ensures next { result ≡ next_of (requesting_again self.old).outcome }
+        ensures out { out.new ≡ left_in (requesting_again self.old).outcome out.old }
     {
         if self.resynchs < RESYNCHS {
-            self.request()
+            self.request(out)
         } else {
             self.fail(Failure::LinkLost)
         }
@@ -350,12 +402,12 @@ fn is_too_short(size: usize, more: bool) -> bool
     !more && size < SHORTEST_ANSWER
 }
 
-/// A block that is to be sent.
-fn sent(block: Block<'_>) -> Next
+/// Puts a block that is to be sent into the buffer.
+fn sent(block: Block<'_>, out: &mut BlockBytes) -> Next
     requires { length (field_of (block_of block)) ≤ 254 }
-    ensures { result ≡ next_of (sends (block_of block.entry)) }
+    ensures next { result ≡ next_of (sends (block_of block.entry)) }
+    ensures out { out.new ≡ left_in (sends (block_of block.entry)) out.old }
 {
-    let mut out = BlockBytes::new();
-    block.write(&mut out);
-    Next::Send(out)
+    block.write(out);
+    Next::Send
 }

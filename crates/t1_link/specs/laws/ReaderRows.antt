@@ -132,7 +132,7 @@ turns_answer-short r bytes short = let fits : length bytes ≤ 258 = omega arith
 
 pub turns_answer-done : (r : Reader) (bytes : List ℕ) → 2 ≤ length bytes → length bytes ≤ 258
     → turns_answer r false bytes ≡ record
-    { reader = record r { nr = other_number r.nr; answer = []; phase = Idle }; outcome = gives bytes }
+    { reader = record r { nr = other_number r.nr; answer = bytes; phase = Idle }; outcome = gives bytes }
 turns_answer-done r bytes long fits = simp (le-ltb 258 (length bytes) fits, le-ltb (length bytes) 2 long) refl
 
 -- after a request for RESYNCH
