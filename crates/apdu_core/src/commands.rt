@@ -177,7 +177,9 @@ impl Instruction {
             Instruction::Verify => parse_verify(p1, p2, rest),
             Instruction::ChangeReferenceData => parse_change_reference_data(p1, p2, rest),
             Instruction::ResetRetryCounter => parse_reset_retry_counter(p1, p2, rest),
-            Instruction::ChangeRequirement(change) => parse_requirement_change(change, p1, p2, rest),
+            Instruction::ChangeRequirement(change) => parse_requirement_change(
+                change, p1, p2, rest,
+            ),
         }
     }
 
