@@ -1,8 +1,7 @@
 use Rattle.std.proofs.Common.{◌≡◌, ◌<◌, ℕ, List, ◌++◌, [], ◌∷◌, refl, length, slice_index, slice_set, sym, ◌∙◌}
 use Rattle.std.proofs.Common.{subst, arith, inr}
 use Rattle.std.proofs.Math.ListN.{length-set}
-use Rattle.nvm_board.specs.Facts.{address}
-use Rattle.nvm_board.specs.declared.board.TheConstants.{WORDS}
+use Rattle.nvm_board.specs.Facts.{address, IsMemory}
 use Rattle.block_chain.specs.Chains.{IsChain, Leads, free_chain, HasFree, AreApart, laid}
 use Rattle.block_chain.specs.Changes.{GivesBack}
 use Rattle.block_chain.specs.Parts.{first_of, joined}
@@ -15,7 +14,7 @@ use Rattle.block_chain.specs.declared.layout.TheConstants.{FREE_HEAD_WORD}
 
 -- Chains whose blocks are free again.
 
-pub gives_back : (m : List ℕ) (cs : List Chain) → length m ≡ WORDS → HasFree m → AreApart m cs
+pub gives_back : (m : List ℕ) (cs : List Chain) → IsMemory m → HasFree m → AreApart m cs
     → GivesBack m cs (slice_set (joined m cs) (address HEADER_PAGE FREE_HEAD_WORD) (first_of m cs))
 gives_back m cs sized free apart =
     let n = joined m cs in
@@ -23,11 +22,12 @@ gives_back m cs sized free apart =
     let all = laid m cs ++ free_chain m in
     let leads : Leads n (first_of m cs) all 0 = joined-leads m cs sized free apart.each apart.once in
     let inside : address HEADER_PAGE FREE_HEAD_WORD < length n = let l = length-joined m cs in
-    omega (arith, l, sized) in
+    omega (arith, l, sized.whole, sized.least) in
     let head : slice_index after FREE_HEAD ≡ first_of m cs =
     word-set_same n HEADER_PAGE FREE_HEAD_WORD (first_of m cs) inside in
     let links : Leads after (first_of m cs) all 0 =
-    leads_same n after (first_of m cs) 0 all (λ q some. word-set_other n HEADER_PAGE FREE_HEAD_WORD q 0
+    leads_same n after (first_of m cs) 0 all
+    (length-set n (address HEADER_PAGE FREE_HEAD_WORD) (first_of m cs)) (λ q some. word-set_other n HEADER_PAGE FREE_HEAD_WORD q 0
     (first_of m cs) (omega arith) (omega arith) (inr (omega arith))) leads in
     let from : ℕ → Type 0 = λ p. Leads after p all 0 in
     record {

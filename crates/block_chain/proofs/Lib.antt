@@ -6,3 +6,4 @@ pub mod Puts
 pub mod RunCosts
 pub mod Places
 pub mod Counting
+pub mod Linking

@@ -2,14 +2,16 @@
 use Rattle.std.proofs.Common.{◌≡◌, ◌+◌, ◌-◌, ◌*◌, ◌/◌, ◌%◌, ◌<◌, ◌≤◌, ℕ, List, length, slice_index, refl, sym, ◌∙◌, ap}
 use Rattle.std.specs.Prelude.{◌==◌, if◌then◌else◌}
 use Rattle.std.proofs.Common.{subst, inl, arith}
-use Rattle.nvm_board.specs.declared.board.TheConstants.{WORDS, PAGES}
-use Rattle.block_chain.specs.declared.layout.TheConstants.{BLOCK_BYTES, BLOCK_WORDS}
+use Rattle.nvm_board.specs.declared.board.TheConstants.{MOST_PAGES}
+use Rattle.std.proofs.Math.ListN.{length-set}
+use Rattle.nvm_board.specs.Facts.{address, IsMemory}
+use Rattle.block_chain.specs.declared.layout.TheConstants.{BLOCK_BYTES, BLOCK_WORDS, FILE_BYTES}
 use Rattle.block_chain.specs.Words.{link, IsBlock}
 use Rattle.block_chain.specs.Chains.{IsChain}
 use Rattle.block_chain.specs.Changes.{touched_words, Overwrites}
 use Rattle.block_chain.specs.Parts.{PutsWord}
 use Rattle.block_chain.specs.laws.Bytes.{leads_blocks}
-use Rattle.block_chain.specs.laws.Chains.{leads_block, leads_next, leads_small}
+use Rattle.block_chain.specs.laws.Chains.{block_same, leads_block, leads_next, leads_small}
 use Rattle.block_chain.specs.laws.Overwriting.{IsPut, put_all, put_none, put_step, touched}
 use Rattle.block_chain.proofs.Runs.{next_block}
 
@@ -21,7 +23,8 @@ pub record IsPutSoFar (m ps : List ℕ) (offset : ℕ) (bytes : List ℕ) (k pag
   pub put : IsPut m ps offset bytes k now
 
 module _ (m ps : List ℕ) (from offset : ℕ) (bytes : List ℕ) (chain : IsChain m from ps)
-    (within : offset + length bytes ≤ BLOCK_BYTES * length ps) (sized : length m ≡ WORDS) where
+    (within : offset + length bytes ≤ BLOCK_BYTES * length ps) (small : offset + length bytes ≤ FILE_BYTES)
+    (sized : IsMemory m) where
   -- no word is put yet
   pub put_first : (page : ℕ) (now : List ℕ) → 1 ≤ length bytes → page ≡ slice_index ps (offset / BLOCK_BYTES) → now ≡ m
       → IsPutSoFar m ps offset bytes (offset / 4) page now
@@ -58,15 +61,16 @@ module _ (m ps : List ℕ) (from offset : ℕ) (bytes : List ℕ) (chain : IsCha
     place_in : k / BLOCK_WORDS < length ps
     place_in = omega (arith, word_within)
 
-    -- it lies in a block
-    pub word_block : IsBlock page
+    -- the word lies in a block
+    pub word_block : IsBlock now page
     word_block =
-        let family : ℕ → Type 0 = λ q. IsBlock q in
-        subst family (sym so_far.block) (leads_block m from 0 ps (k / BLOCK_WORDS) chain.leads place_in)
+        let family : ℕ → Type 0 = λ q. IsBlock m q in
+        block_same m now page so_far.put.only.size
+        (subst family (sym so_far.block) (leads_block m from 0 ps (k / BLOCK_WORDS) chain.leads place_in))
 
     -- and its bytes have offsets of 16 bits
     pub word_small : 4 * k + 3 < 65536
-    word_small = omega (arith, word_within, chain.size)
+    word_small = omega (arith, lt, small)
 
     -- there is room for it, while each word before it took one place
     pub word_fits : k - offset / 4 + 1 ≤ touched_words offset (length bytes)
@@ -79,16 +83,23 @@ module _ (m ps : List ℕ) (from offset : ℕ) (bytes : List ℕ) (chain : IsCha
       word_put = put_step m ps offset bytes sized (leads_blocks m from 0 ps chain.leads) chain.once k page now after
           so_far.put word_within so_far.block puts
 
+      -- it still lies in a block
+      pub put_block : IsBlock after page
+      put_block =
+          let size : length after ≡ length now = ap (λ (l : List ℕ). length l) puts.done
+          ∙ length-set now (address page (1 + k % BLOCK_WORDS)) puts.put in
+          block_same now after page size word_block
+
       -- the block's link is as it was
       link_put : link after page ≡ slice_index ps (k / BLOCK_WORDS + 1)
       link_put =
           word_put.only.others page 0 (omega arith) (inl refl) ∙ ap (link m) so_far.block
           ∙ leads_next m from ps (k / BLOCK_WORDS) chain.leads place_in
 
-      pub link_small : link after page < PAGES
+      pub link_small : link after page < MOST_PAGES
       link_small =
           let next = link_put in
-          let small = leads_small m from ps (k / BLOCK_WORDS + 1) chain.leads in
+          let small = leads_small m from ps (k / BLOCK_WORDS + 1) sized chain.leads in
           omega (arith, next, small)
 
       -- and the block of the word after it is found

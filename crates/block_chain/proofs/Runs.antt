@@ -5,7 +5,7 @@ use Rattle.std.proofs.lemmas.Bool.Decides.{eqb_tells}
 use Rattle.std.proofs.Common.{sym, ◌∙◌, ap, arith, inl, inr, append_assoc, get_or-take}
 use Rattle.std.proofs.lemmas.List.{append-nil, length-take-le, length-drop}
 use Rattle.std.proofs.lemmas.Grind.{same_number_lists}
-use Rattle.nvm_board.specs.declared.board.TheConstants.{WORDS}
+use Rattle.nvm_board.specs.Facts.{IsMemory}
 use Rattle.block_chain.specs.declared.layout.TheConstants.{BLOCK_BYTES, BLOCK_WORDS}
 use Rattle.block_chain.specs.Words.{link, word, word_bytes}
 use Rattle.block_chain.specs.Chains.{Leads, bytes_of}
@@ -69,7 +69,7 @@ next_block ps i j left page after next ends goes is is_after told = elim (eqb_te
       ∙ ap (slice_index ps) (sym (goes some.1))
 ]
 
-module _ (m ps : List ℕ) (from offset count : ℕ) (sized : length m ≡ WORDS) (leads : Leads m from ps 0)
+module _ (m ps : List ℕ) (from offset count : ℕ) (sized : IsMemory m) (leads : Leads m from ps 0)
     (within : offset + count ≤ BLOCK_BYTES * length ps) where
   abbrev pub rest : List ℕ
   rest = drop offset (bytes_of m ps)
@@ -80,7 +80,7 @@ module _ (m ps : List ℕ) (from offset count : ℕ) (sized : length m ≡ WORDS
       → IsAt now ps (at / BLOCK_BYTES) page
   block_here now at page same is lt =
       let inside : at / BLOCK_BYTES < length ps = omega (arith, lt, within) in
-      at_block m now from ps (at / BLOCK_BYTES) page same leads is inside
+      at_block m now from ps (at / BLOCK_BYTES) page same sized leads is inside
 
   -- some bytes, as an error leaves the buffer
   pub some_bytes : (init out : List ℕ) (at : ℕ) → at ≤ offset + count → out ≡ init ++ take (at - offset) rest

@@ -3,8 +3,7 @@ use Rattle.std.proofs.Common.{slice_set, take, drop, sym, ◌∙◌, ap, subst, 
 use Rattle.std.proofs.Common.{length-drop}
 use Rattle.std.proofs.lemmas.List.{take_more}
 use Rattle.std.proofs.Math.ListN.{length-set}
-use Rattle.nvm_board.specs.Facts.{address}
-use Rattle.nvm_board.specs.declared.board.TheConstants.{WORDS}
+use Rattle.nvm_board.specs.Facts.{address, IsMemory}
 use Rattle.block_chain.specs.Chains.{Leads, free_chain, HasFree}
 use Rattle.block_chain.specs.Changes.{Takes}
 use Rattle.block_chain.specs.Counts.{count, NoneTwice, IsNotIn}
@@ -18,7 +17,7 @@ use Rattle.block_chain.specs.declared.layout.TheConstants.{FREE_HEAD_WORD}
 
 -- The first free blocks become a chain.
 
-module _ (m : List ℕ) (n last rest : ℕ) (sized : length m ≡ WORDS) (free : HasFree m) (some : 1 ≤ n)
+module _ (m : List ℕ) (n last rest : ℕ) (sized : IsMemory m) (free : HasFree m) (some : 1 ≤ n)
     (enough : n ≤ length (free_chain m))
     (is_last : last ≡ slice_index (free_chain m) (n - 1)) (is_rest : rest ≡ link m last) where
   abbrev pub ps : List ℕ
@@ -30,9 +29,9 @@ module _ (m : List ℕ) (n last rest : ℕ) (sized : length m ≡ WORDS) (free :
   within : n - 1 < length ps
   within = omega arith
 
-  block : IsBlock last
+  block : IsBlock m last
   block = let family : ℕ
-      → Type 0 = λ q. IsBlock q in subst family (sym is_last) (leads_block m _ 0 ps (n - 1) free.leads within)
+      → Type 0 = λ q. IsBlock m q in subst family (sym is_last) (leads_block m _ 0 ps (n - 1) free.leads within)
 
   split : ps ≡ take (n - 1) ps ++ last ∷ drop n ps
   split =
@@ -48,7 +47,7 @@ module _ (m : List ℕ) (n last rest : ℕ) (sized : length m ≡ WORDS) (free :
 
   end : link after last ≡ 0
   end =
-      let inside : address last 0 < length m = omega (arith, block.1, sized) in
+      let inside : address last 0 < length m = omega (arith, block.1, sized.whole, sized.least) in
       let differs : last ≢ HEADER_PAGE = omega (arith, block.0) in
       word-set_other (slice_set m (address last 0) 0) HEADER_PAGE FREE_HEAD_WORD last 0 rest (omega arith)
       (omega arith) (inl differs) ∙ word-set_same m last 0 0 inside
@@ -62,7 +61,7 @@ module _ (m : List ℕ) (n last rest : ℕ) (sized : length m ≡ WORDS) (free :
   head : slice_index after FREE_HEAD ≡ link m last
   head =
       let inside : address HEADER_PAGE FREE_HEAD_WORD < length (slice_set m (address last 0) 0) =
-      let l = length-set m (address last 0) 0 in omega (arith, l, sized) in
+      let l = length-set m (address last 0) 0 in omega (arith, l, sized.whole, sized.least) in
       word-set_same (slice_set m (address last 0) 0) HEADER_PAGE FREE_HEAD_WORD rest inside ∙ is_rest
 
   cut : Leads after (slice_index m FREE_HEAD) (take (n - 1) ps ++ last ∷ []) 0 × Leads after (link m last) (drop n ps) 0
@@ -70,7 +69,9 @@ module _ (m : List ℕ) (n last rest : ℕ) (sized : length m ≡ WORDS) (free :
       let family : List ℕ → Type 0 = λ qs. Leads m (slice_index m FREE_HEAD) qs 0 in
       let leads = subst family split free.leads in
       let once = subst NoneTwice split free.once in
-      leads_cut m after _ last (take (n - 1) ps) (drop n ps) leads once end others
+      leads_cut m after _ last (take (n - 1) ps) (drop n ps)
+      (length-set (slice_set m (address last 0) 0) (address HEADER_PAGE FREE_HEAD_WORD) rest
+      ∙ length-set m (address last 0) 0) leads once end others
 
   pub takes : (c : Chain) → c.first ≡ slice_index m FREE_HEAD → c.last ≡ last → Takes m n c after
   takes c first at_last = record {

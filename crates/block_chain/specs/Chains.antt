@@ -2,7 +2,7 @@
 use Rattle.std.specs.Prelude.{◌≡◌, ◌==◌, ◌≤◌, ◌-◌, ℕ, zero, suc, if◌then◌else◌}
 use Rattle.std.specs.Prelude.{List, [], ◌∷◌, ◌++◌, length, slice_index, All}
 use Rattle.std.specs.List.{flat_map}
-use Rattle.block_chain.specs.declared.layout.TheConstants.{FREE_HEAD, BLOCKS}
+use Rattle.block_chain.specs.declared.layout.TheConstants.{FREE_HEAD, MOST_BLOCKS}
 use Rattle.block_chain.specs.declared.chain.Chain.{Chain}
 use Rattle.block_chain.specs.Words.{link, block_bytes, IsBlock}
 use Rattle.block_chain.specs.Counts.{NoneTwice}
@@ -10,16 +10,16 @@ use Rattle.block_chain.specs.Counts.{NoneTwice}
 -- the links lead from a page over these blocks to this page
 abbrev pub Leads : List ℕ → ℕ → List ℕ → ℕ → Type 0
 Leads m from [] to = from ≡ to
-Leads m from (p ∷ ps) to = (from ≡ p) × IsBlock p × Leads m (link m p) ps to
+Leads m from (p ∷ ps) to = (from ≡ p) × IsBlock m p × Leads m (link m p) ps to
 
 -- the pages that the links lead over from a page on, at most so many, up to the link 0
 unfoldable pub pages_from : List ℕ → ℕ → ℕ → List ℕ
 pages_from m zero page = []
 pages_from m (suc n) page = if page == 0 then [] else page ∷ pages_from m n (link m page)
 
--- the chain from a page on, with at most as many links as there are blocks
+-- the chain from a page on, with at most as many links as a memory can have blocks
 abbrev pub chain : List ℕ → ℕ → List ℕ
-chain m page = pages_from m BLOCKS page
+chain m page = pages_from m MOST_BLOCKS page
 
 -- the chain of the free blocks, which the header begins
 abbrev pub free_chain : List ℕ → List ℕ
@@ -35,7 +35,7 @@ bytes_of m ps = flat_map (block_bytes m) ps
 pub record IsChain (m : List ℕ) (from : ℕ) (ps : List ℕ) : Type 0 where
   pub leads : Leads m from ps 0
   pub once : NoneTwice ps
-  pub size : length ps ≤ BLOCKS
+  pub size : length ps ≤ MOST_BLOCKS
 
 -- the free blocks are a chain
 abbrev pub HasFree : List ℕ → Type 0
@@ -63,4 +63,4 @@ laid m cs = flat_map (chain_of m) cs
 pub record AreApart (m : List ℕ) (cs : List Chain) : Type 0 where
   pub each : All (IsWhole m) cs
   pub once : NoneTwice (laid m cs ++ free_chain m)
-  pub size : length (laid m cs ++ free_chain m) ≤ BLOCKS
+  pub size : length (laid m cs ++ free_chain m) ≤ MOST_BLOCKS

@@ -1,11 +1,12 @@
 -- What the calls on chains make of the words of a memory.
-use Rattle.std.specs.Prelude.{◌≡◌, ◌≢◌, ◌⊎◌, ◌<◌, ◌+◌, ◌-◌, ◌/◌, ℕ, zero, suc}
+use Rattle.std.specs.Prelude.{◌≡◌, ◌≢◌, ◌⊎◌, ◌==◌, ◌<◌, ◌≤◌, ◌+◌, ◌-◌, ◌/◌, ℕ, zero, suc, if◌then◌else◌}
 use Rattle.std.specs.Prelude.{List, ◌++◌, length, slice_index, take, drop}
 use Rattle.std.specs.List.{splice}
 use Rattle.nvm_board.specs.declared.board.TheConstants.{PAGE_WORDS}
 use Rattle.block_chain.specs.declared.layout.TheConstants.{BLOCK_BYTES, FREE_HEAD, HEADER_PAGE, FREE_HEAD_WORD}
 use Rattle.block_chain.specs.declared.chain.Chain.{Chain}
-use Rattle.block_chain.specs.Words.{word, IsBlock}
+use Rattle.block_chain.specs.Words.{word, link}
+use Rattle.block_chain.specs.Layout.{IsOf}
 use Rattle.block_chain.specs.Counts.{IsNotIn}
 use Rattle.block_chain.specs.Chains.{free_chain, bytes_of, IsChain, laid}
 
@@ -52,13 +53,24 @@ abbrev pub touched_blocks : ℕ → ℕ → ℕ
 touched_blocks offset zero = 0
 touched_blocks offset (suc n) = (offset + n) / BLOCK_BYTES + 1 - offset / BLOCK_BYTES
 
--- all words of blocks stay, and the header's that names the first free one
-pub record KeepsBlocks (m after : List ℕ) : Type 0 where
+-- all words of these n blocks stay, and the header's that names the first free one
+pub record KeepsBlocks (n : ℕ) (m after : List ℕ) : Type 0 where
   pub size : length after ≡ length m
-  pub words : (page place : ℕ) → IsBlock page → place < PAGE_WORDS → word after page place ≡ word m page place
+  pub words : (page place : ℕ) → IsOf n page → place < PAGE_WORDS → word after page place ≡ word m page place
   pub head : slice_index after FREE_HEAD ≡ slice_index m FREE_HEAD
 
 -- some of these bytes, from the first on, are appended
 pub record AppendsSome (old bytes new : List ℕ) : Type 0 where
   pub some : ℕ
   pub is : new ≡ old ++ take some bytes
+
+-- Only the links of the pages from one page up to another may be other.
+pub record LinksAlone (first end : ℕ) (m after : List ℕ) : Type 0 where
+  pub size : length after ≡ length m
+  pub others : (page place : ℕ) → place < PAGE_WORDS → (place ≢ 0) ⊎ (page < first) ⊎ (end ≤ page)
+      → word after page place ≡ word m page place
+
+-- Each of the pages from one page up to another links to the next, and the last to this page.
+abbrev pub AreLinked : ℕ → ℕ → ℕ → List ℕ → Type 0
+AreLinked first end rest m = (page : ℕ) → first ≤ page → page < end
+    → link m page ≡ (if page + 1 == end then rest else page + 1)

@@ -1,10 +1,11 @@
 -- The blocks of a memory laid out: the free chain and others, which hold each block once.
-use Rattle.std.specs.Prelude.{◌≡◌, ◌+◌, ◌-◌, ℕ, List, ◌++◌, length, slice_index, map, All, Option, Some, None}
+use Rattle.std.specs.Prelude.{◌≡◌, ◌+◌, ◌-◌, ℕ, ◌≤◌, ◌<◌, List, ◌++◌, length, slice_index, map, All, Option, Some, None}
 use Rattle.std.specs.List.{flat_map}
-use Rattle.block_chain.specs.declared.layout.TheConstants.{FREE_HEAD, BLOCKS}
+use Rattle.nvm_board.specs.Facts.{pages_of}
+use Rattle.block_chain.specs.declared.layout.TheConstants.{FREE_HEAD, FIRST_BLOCK_PAGE}
 use Rattle.block_chain.specs.declared.chain.Chain.{Chain}
 use Rattle.block_chain.specs.declared.chain.Extent.{Extent}
-use Rattle.block_chain.specs.Counts.{count, NoneTwice}
+use Rattle.block_chain.specs.Counts.{count, NoneTwice, IsNotIn}
 use Rattle.block_chain.specs.Chains.{Leads, chain, free_chain, bytes_of}
 
 -- the blocks of an extent
@@ -22,18 +23,24 @@ pub record IsExtent (m : List ℕ) (e : Extent) : Type 0 where
   pub blocks : length (blocks_of m e) ≡ e.blocks
   pub last : e.chain.last ≡ slice_index (blocks_of m e) (e.blocks - 1)
 
--- The free chain ends with 0, and it and the extents, laid end to end, hold pages of blocks alone, as many as there are
--- blocks, and none twice.
-pub record AreLaid (m : List ℕ) (es : List Extent) : Type 0 where
+-- the page of one of n blocks: they are the pages from page 128 on
+abbrev pub IsOf : ℕ → ℕ → Type 0
+IsOf n page = (FIRST_BLOCK_PAGE ≤ page) × (page < FIRST_BLOCK_PAGE + n)
+
+-- A memory has n blocks, all in its pages. The free chain ends with 0, and it and the extents, laid end to end, hold pages
+-- of these blocks alone, as many as there are blocks, and none twice.
+pub record AreLaid (n : ℕ) (m : List ℕ) (es : List Extent) : Type 0 where
+  pub inside : FIRST_BLOCK_PAGE + n ≤ pages_of m
   pub free : Leads m (slice_index m FREE_HEAD) (free_chain m) 0
   pub each : All (IsExtent m) es
+  pub below : (q : ℕ) → FIRST_BLOCK_PAGE + n ≤ q → IsNotIn q (free_chain m ++ laid_out m es)
   pub once : NoneTwice (free_chain m ++ laid_out m es)
-  pub whole : length (free_chain m ++ laid_out m es) ≡ BLOCKS
+  pub whole : length (free_chain m ++ laid_out m es) ≡ n
 
 -- what a check of the layout answers: how many blocks are free, or None exactly where they are not laid out so
-abbrev pub TellsFree : List ℕ → List Extent → Option ℕ → Type 0
-TellsFree m es None = AreLaid m es → ⊥
-TellsFree m es (Some n) = AreLaid m es × (n ≡ length (free_chain m))
+abbrev pub TellsFree : ℕ → List ℕ → List Extent → Option ℕ → Type 0
+TellsFree n m es None = AreLaid n m es → ⊥
+TellsFree n m es (Some free) = AreLaid n m es × (free ≡ length (free_chain m))
 
 -- the chains of extents
 abbrev pub chains_of : List Extent → List Chain

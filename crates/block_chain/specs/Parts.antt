@@ -2,14 +2,14 @@
 use Rattle.std.specs.Prelude.{◌≡◌, ◌<◌, ◌≤◌, ◌+◌, ◌-◌, ◌&&◌, ℕ, List, length, slice_index, nat_le, nat_lt}
 use Rattle.std.specs.Prelude.{if◌then◌else◌, ◌*◌, ◌%◌, [], ◌∷◌, slice_set}
 use Rattle.nvm_board.specs.Facts.{address}
-use Rattle.nvm_board.specs.declared.board.TheConstants.{PAGES}
 use Rattle.undo_journal.specs.Calls.{OnlyReads}
 use Rattle.undo_journal.specs.Memory.{Memory, Joins}
+use Rattle.nvm_board.specs.declared.board.TheConstants.{MOST_PAGES}
 use Rattle.block_chain.specs.Chains.{Leads, chain, free_chain}
-use Rattle.block_chain.specs.Counts.{count}
+use Rattle.block_chain.specs.Counts.{count, IsNotIn}
 use Rattle.block_chain.specs.Words.{word, link, IsBlock, word_bytes}
 use Rattle.block_chain.specs.declared.chain.Chain.{Chain}
-use Rattle.block_chain.specs.declared.layout.TheConstants.{FREE_HEAD, BLOCKS, FIRST_BLOCK_PAGE, BLOCK_WORDS}
+use Rattle.block_chain.specs.declared.layout.TheConstants.{FREE_HEAD, MOST_BLOCKS, FIRST_BLOCK_PAGE, BLOCK_WORDS}
 use Rattle.block_chain.specs.declared.walk.Walked.{Walked}
 
 -- the byte at a place, where bytes are put from an offset on
@@ -21,9 +21,9 @@ byte_over offset bytes at byte =
 pub record IsFirstFree (m : List ℕ) (n : ℕ) (c : Chain) (rest : ℕ) : Type 0 where
   pub first : c.first ≡ slice_index m FREE_HEAD
   pub last : c.last ≡ slice_index (free_chain m) (n - 1)
-  pub block : IsBlock c.last
+  pub block : IsBlock m c.last
   pub after : rest ≡ link m c.last
-  pub small : rest < PAGES
+  pub small : rest < MOST_PAGES
 
 -- One content word of a block takes over its bytes of those that are put from an offset on.
 pub record PutsWord (m : List ℕ) (page k offset : ℕ) (bytes after : List ℕ) : Type 0 where
@@ -54,27 +54,32 @@ joined m (c ∷ cs) = slice_set (joined m cs) (address c.last 0) (first_of m cs)
 abbrev pub filled_word : ℕ → ℕ
 filled_word byte = byte * 0x1000000 + byte * 0x10000 + byte * 0x100 + byte
 
+-- a page that may be a block's in some memory
+abbrev pub IsPlace : ℕ → Type 0
+IsPlace page = (FIRST_BLOCK_PAGE ≤ page) × (page < MOST_PAGES)
+
 -- how often a block was marked
 abbrev pub marked : List ℕ → ℕ → ℕ
 marked seen page = slice_index seen (page - FIRST_BLOCK_PAGE)
 
--- a mark for each block, 0 or 1
+-- a mark for each page that may be a block's, 0 or 1
 pub record AreMarks (seen : List ℕ) : Type 0 where
-  pub size : length seen ≡ BLOCKS
-  pub each : (page : ℕ) → IsBlock page → marked seen page ≤ 1
+  pub size : length seen ≡ MOST_BLOCKS
+  pub each : (page : ℕ) → IsPlace page → marked seen page ≤ 1
 
--- the chain from a page on ends, all of it are blocks, and none was marked or stands in it twice
-pub record IsFresh (m : List ℕ) (seen : List ℕ) (from : ℕ) : Type 0 where
+-- the chain from a page on ends, all of it are blocks before the page `end`, and none was marked or stands in it twice
+pub record IsFresh (end : ℕ) (m : List ℕ) (seen : List ℕ) (from : ℕ) : Type 0 where
   pub leads : Leads m from (chain m from) 0
-  pub once : (page : ℕ) → IsBlock page → marked seen page + count page (chain m from) ≤ 1
+  pub below : (q : ℕ) → end ≤ q → IsNotIn q (chain m from)
+  pub once : (page : ℕ) → IsPlace page → marked seen page + count page (chain m from) ≤ 1
 
 -- these blocks were marked
 abbrev pub Marks : List ℕ → List ℕ → List ℕ → Type 0
-Marks old ps new = (page : ℕ) → IsBlock page → marked new page ≡ marked old page + count page ps
+Marks old ps new = (page : ℕ) → IsPlace page → marked new page ≡ marked old page + count page ps
 
 -- the chain from a page on was fresh, and is marked now
-pub record IsWalked (m : List ℕ) (from : ℕ) (old : List ℕ) (w : Walked) (new : List ℕ) : Type 0 where
-  pub fresh : IsFresh m old from
+pub record IsWalked (end : ℕ) (m : List ℕ) (from : ℕ) (old : List ℕ) (w : Walked) (new : List ℕ) : Type 0 where
+  pub fresh : IsFresh end m old from
   pub blocks : w.blocks ≡ length (chain m from)
   pub last : w.last ≡ slice_index (chain m from) (w.blocks - 1)
   pub marks : Marks old (chain m from) new

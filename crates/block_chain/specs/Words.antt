@@ -1,8 +1,8 @@
 -- The words of a memory by page and place, and the bytes of a block. Within a word the most significant byte is first.
 use Rattle.std.specs.Prelude.{ℕ, ◌<◌, ◌≤◌, ◌/◌, ◌%◌, List, [], ◌∷◌, drop, take, slice_index}
 use Rattle.std.specs.List.{flat_map}
-use Rattle.nvm_board.specs.Facts.{address}
-use Rattle.nvm_board.specs.declared.board.TheConstants.{PAGES, PAGE_WORDS}
+use Rattle.nvm_board.specs.Facts.{address, pages_of}
+use Rattle.nvm_board.specs.declared.board.TheConstants.{PAGE_WORDS}
 use Rattle.block_chain.specs.declared.layout.TheConstants.{FIRST_BLOCK_PAGE}
 
 -- a word, by its page and its place in the page
@@ -17,9 +17,9 @@ page_words m page = take PAGE_WORDS (drop (address page 0) m)
 abbrev pub word_bytes : ℕ → List ℕ
 word_bytes w = w / 0x1000000 % 0x100 ∷ w / 0x10000 % 0x100 ∷ w / 0x100 % 0x100 ∷ w % 0x100 ∷ []
 
--- the page of a block
-abbrev pub IsBlock : ℕ → Type 0
-IsBlock page = (FIRST_BLOCK_PAGE ≤ page) × (page < PAGES)
+-- a page of the memory that may be a block's
+abbrev pub IsBlock : List ℕ → ℕ → Type 0
+IsBlock m page = (FIRST_BLOCK_PAGE ≤ page) × (page < pages_of m)
 
 -- the page of the block after this one, or 0
 abbrev pub link : List ℕ → ℕ → ℕ

@@ -12,3 +12,4 @@ pub mod Extents
 pub mod Footprints
 pub mod Relaying
 pub mod Writes
+pub mod Lengthening

@@ -2,9 +2,9 @@
 ghost use Rattle.std.specs.Prelude.{◌≡◌, ◌+◌, ◌-◌, ◌*◌, ◌/◌, ◌<◌, ◌≤◌, ℕ, length, take, replicate, IfOk, OnOk};
 ghost use Rattle.std.specs.Prelude.{slice_index, ◌%◌, ◌==◌, if◌then◌else◌};
 ghost use Rattle.std.specs.Result.{result_err};
-ghost use Rattle.block_chain.specs.declared.layout.TheConstants.{BLOCK_BYTES, BLOCK_WORDS};
 ghost use Rattle.block_chain.specs.Changes.{touched_blocks, touched_words};
 ghost use Rattle.undo_journal.specs.Memory.{committed, current, room, CountsCommit, EndsAt, GoesOn, InRuns, IsOpen, IsReady};
+ghost use Rattle.block_chain.specs.declared.layout.TheConstants.{BLOCK_BYTES, BLOCK_WORDS, FILE_BYTES};
 ghost use Rattle.undo_journal.specs.Calls.{Changes, ReadsIn, SetsIn};
 ghost use Rattle.block_chain.specs.Chains.{free_chain, bytes_of, IsChain, chain_of, HasFree};
 ghost use Rattle.block_chain.specs.Changes.{OnlyContent, Overwrites};
@@ -12,7 +12,7 @@ ghost use Rattle.block_chain.specs.Parts.{byte_over, JoinsAt, PutsWord};
 ghost use Rattle.block_chain.specs.Words.{link, word_bytes, IsBlock};
 ghost use Rattle.block_chain.specs.Writes.{put_writes};
 ghost use Rattle.nvm_board.specs.Facts.{address};
-ghost use Rattle.nvm_board.specs.declared.board.TheConstants.{PAGES};
+ghost use Rattle.nvm_board.specs.declared.board.TheConstants.{MOST_PAGES};
 ghost use Rattle.nvm_board.specs.Torn.{Torn, written};
 ghost use Rattle.undo_journal.specs.Lent.{memory_of};
 
@@ -56,7 +56,7 @@ fn put_word<B: Board>(
     bytes: &[u8],
 ) -> Result<(), StoreErr>
     requires ready { IsOpen (memory_of txn.old) }
-    requires block { IsBlock page }
+    requires block { IsBlock (current (memory_of txn.old)) page }
     requires small { 4 * k + 3 < 65536 }
     requires room { 0 < room (memory_of txn.old) }
     ensures done { OnOk result (PutsWord (current (memory_of txn.old)) page k offset bytes.now
@@ -77,8 +77,8 @@ fn put_word<B: Board>(
 /// next one.
 fn block_of_word<B: Board>(txn: &mut Txn<'_, B>, page: u16, k: u16) -> Result<u16, StoreErr>
     requires ready { IsOpen (memory_of txn.old) }
-    requires block { IsBlock page }
-    requires small { link (current (memory_of txn.old)) page < PAGES }
+    requires block { IsBlock (current (memory_of txn.old)) page }
+    requires small { link (current (memory_of txn.old)) page < MOST_PAGES }
     ensures page { IfOk result (λ after. after
         ≡ (if k % BLOCK_WORDS == 0 then link (current (memory_of txn.old)) page else page)) }
     ensures store { ReadsIn txn.old txn.new (result_err result) }
@@ -104,6 +104,7 @@ pub fn set_bytes<B: Board>(
     requires ready { IsOpen (memory_of txn.old) }
     requires chain { IsChain (current (memory_of txn.old)) chain.first (chain_of (current (memory_of txn.old)) chain) }
     requires within { offset + length bytes.now ≤ BLOCK_BYTES * length (chain_of (current (memory_of txn.old)) chain) }
+    requires small { offset + length bytes.now ≤ FILE_BYTES }
     requires room { touched_words offset (length bytes.now) ≤ room (memory_of txn.old) }
     ensures done { OnOk result (Overwrites (current (memory_of txn.old))
         (chain_of (current (memory_of txn.old)) chain) offset bytes.now (current (memory_of txn.new))) }
@@ -131,7 +132,7 @@ pub fn set_bytes<B: Board>(
 /// Fills the content words of a block with a word.
 fn fill_block<B: Board>(store: &mut Store<B>, page: u16, word: u32) -> Result<(), StoreErr>
     requires ready { IsReady store.old }
-    requires block { IsBlock page }
+    requires block { IsBlock (committed store.old) page }
     ensures any_exit { Torn (committed store.old) (address page 1) (replicate BLOCK_WORDS word) (committed store.new) }
     ensures done { OnOk result (committed store.new
         ≡ written (committed store.old) (address page 1) (replicate BLOCK_WORDS word)) }

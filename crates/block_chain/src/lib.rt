@@ -7,6 +7,7 @@ mod chain;
 mod free;
 pub mod laws;
 mod layout;
+mod lengthening;
 mod reading;
 mod walk;
 mod words;
@@ -15,8 +16,9 @@ pub use bytes::{fill, set_bytes};
 pub use chain::{Chain, Extent};
 pub use free::{free_count, give_back, take};
 pub use layout::{
-    BLOCK_BYTES, BLOCK_WORDS, BLOCKS, FIRST_BLOCK_PAGE, FREE_HEAD, FREE_HEAD_WORD, HEADER_PAGE,
-    WORD_BYTES,
+    BLOCK_BYTES, BLOCK_WORDS, FILE_BYTES, FIRST_BLOCK_PAGE, FREE_HEAD, FREE_HEAD_WORD, HEADER_PAGE,
+    MOST_BLOCKS, WORD_BYTES,
 };
+pub use lengthening::link_pages;
 pub use reading::{byte_at, read_bytes};
 pub use walk::lay;

@@ -3,10 +3,10 @@ ghost use Rattle.std.specs.Prelude.{◌≡◌, ◌+◌, ◌*◌, ◌/◌, ◌%�
 ghost use Rattle.std.specs.Prelude.{slice_index, ◌==◌, if◌then◌else◌};
 ghost use Rattle.std.specs.Result.{result_err};
 ghost use Rattle.arrayvec.specs.ArrayVec.{array_vec_len};
-ghost use Rattle.nvm_board.specs.declared.board.TheConstants.{PAGES};
+ghost use Rattle.nvm_board.specs.declared.board.TheConstants.{MOST_PAGES};
 ghost use Rattle.undo_journal.specs.Memory.{committed, IsReady};
 ghost use Rattle.undo_journal.specs.Calls.{Reads};
-ghost use Rattle.block_chain.specs.declared.layout.TheConstants.{BLOCK_BYTES, BLOCK_WORDS};
+ghost use Rattle.block_chain.specs.declared.layout.TheConstants.{BLOCK_BYTES, BLOCK_WORDS, FILE_BYTES};
 ghost use Rattle.block_chain.specs.Words.{link, word, word_bytes, IsBlock};
 ghost use Rattle.block_chain.specs.Chains.{Leads, chain, chain_bytes, chain_of};
 ghost use Rattle.block_chain.specs.Changes.{AppendsSome};
@@ -43,7 +43,7 @@ fn block_at<B: Board>(store: &mut Store<B>, first: u16, k: u16) -> Result<u16, S
 /// The word of a block in which the byte of its chain at an offset lies.
 fn read_word<B: Board>(store: &mut Store<B>, page: u16, offset: u16) -> Result<u32, StoreErr>
     requires ready { IsReady store.old }
-    requires block { IsBlock page }
+    requires block { IsBlock (committed store.old) page }
     ensures word { IfOk result (λ read. read ≡ word (committed store.old) page (1 + offset / 4 % BLOCK_WORDS)) }
     ensures store { Reads store.old store.new (result_err result) }
 {
@@ -91,8 +91,8 @@ fn bytes_in_word(at: u16, end: u16) -> u16
 /// between them, the next one.
 fn block_of_byte<B: Board>(store: &mut Store<B>, page: u16, at: u16) -> Result<u16, StoreErr>
     requires ready { IsReady store.old }
-    requires block { IsBlock page }
-    requires small { link (committed store.old) page < PAGES }
+    requires block { IsBlock (committed store.old) page }
+    requires small { link (committed store.old) page < MOST_PAGES }
     ensures page { IfOk result (λ next. next
         ≡ (if at % BLOCK_BYTES == 0 then link (committed store.old) page else page)) }
     ensures store { Reads store.old store.new (result_err result) }
@@ -119,6 +119,7 @@ pub fn read_bytes<B: Board, const N: usize>(
     requires ready { IsReady store.old }
     requires leads { Leads (committed store.old) chain.first (chain_of (committed store.old) chain) 0 }
     requires within { offset + count ≤ BLOCK_BYTES * length (chain_of (committed store.old) chain) }
+    requires small { offset + count ≤ FILE_BYTES }
     requires room { array_vec_len out.old + count ≤ N }
     ensures done { OnOk result (out.new.items
         ≡ out.old.items ++ take count (drop offset (chain_bytes (committed store.old) chain))) }

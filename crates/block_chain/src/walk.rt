@@ -1,19 +1,19 @@
 //! The check of the layout: a walk over each chain that marks its blocks.
-ghost use Rattle.std.specs.Prelude.{◌≡◌, ◌+◌, ◌-◌, ◌↔◌, IfOk, IsTrue, IfSome, Some, None};
+ghost use Rattle.std.specs.Prelude.{◌≡◌, ◌+◌, ◌-◌, ◌<◌, ◌≤◌, ◌↔◌, IfOk, IsTrue, IfSome, Some, None};
 ghost use Rattle.std.specs.Prelude.{slice_set};
 ghost use Rattle.std.specs.Result.{result_err};
-ghost use Rattle.nvm_board.specs.declared.board.TheConstants.{PAGES};
+ghost use Rattle.nvm_board.specs.declared.board.TheConstants.{MOST_PAGES};
 ghost use Rattle.undo_journal.specs.Memory.{committed, IsReady};
 ghost use Rattle.undo_journal.specs.Calls.{Reads};
 ghost use Rattle.block_chain.specs.Chains.{chain};
 ghost use Rattle.block_chain.specs.Layout.{TellsFree};
 ghost use Rattle.block_chain.specs.Parts.{marked, AreMarks, IsFresh, IsWalked};
-ghost use Rattle.block_chain.specs.Words.{IsBlock};
+ghost use Rattle.nvm_board.specs.Facts.{pages_of};
 ghost use Rattle.block_chain.specs.declared.layout.TheConstants.{FIRST_BLOCK_PAGE};
 
 use crate::chain::Extent;
-use crate::layout::{BLOCKS, FIRST_BLOCK_PAGE, FREE_HEAD};
-use undo_journal::{Board, PAGE_WORDS, PAGES, Store, StoreErr};
+use crate::layout::{MOST_BLOCKS, FIRST_BLOCK_PAGE, FREE_HEAD};
+use undo_journal::{Board, PAGE_WORDS, Store, StoreErr};
 
 /// How long a chain is, and its last block, or 0.
 #[derive(Clone, Copy)]
@@ -22,13 +22,14 @@ pub(crate) struct Walked {
     pub last: u16,
 }
 
-/// Marks a block, if it is one that was not marked before.
-fn mark(page: u32, seen: &mut [u8; BLOCKS as usize]) -> bool
-    requires { AreMarks seen.old }
-    ensures new { IsTrue result ↔ (IsBlock page × (marked seen.old page ≡ 0)) }
+/// Marks a block before the page `end`, if it is one that was not marked before.
+fn mark(page: u32, end: u16, seen: &mut [u8; MOST_BLOCKS as usize]) -> bool
+    requires most { end ≤ MOST_PAGES }
+    requires marks { AreMarks seen.old }
+    ensures new { IsTrue result ↔ (((FIRST_BLOCK_PAGE ≤ page) × (page < end)) × (marked seen.old page ≡ 0)) }
     ensures marks { IsTrue result → seen.new ≡ slice_set seen.old (page - FIRST_BLOCK_PAGE) 1 }
 {
-    if !(u32::from(FIRST_BLOCK_PAGE)..u32::from(PAGES)).contains(&page) {
+    if !(u32::from(FIRST_BLOCK_PAGE)..u32::from(end)).contains(&page) {
         return false;
     }
     let place = (page - u32::from(FIRST_BLOCK_PAGE)) as usize;
@@ -40,24 +41,26 @@ fn mark(page: u32, seen: &mut [u8; BLOCKS as usize]) -> bool
 }
 
 /// Walks over the chain from a page on, and marks its blocks. The answer is None where it does not end, leads out of the
-/// blocks, or comes to one that was marked.
+/// blocks before the page `end`, or comes to one that was marked.
 fn walk_over<B: Board>(
     store: &mut Store<B>,
     first: u32,
-    seen: &mut [u8; BLOCKS as usize],
+    end: u16,
+    seen: &mut [u8; MOST_BLOCKS as usize],
 ) -> Result<Option<Walked>, StoreErr>
     requires ready { IsReady store.old }
+    requires inside { end ≤ pages_of (committed store.old) }
     requires marks { AreMarks seen.old }
     ensures walked { IfOk result (λ walked. IfSome walked (λ w. IsWalked
-        (committed store.old) first seen.old w seen.new)) }
-    ensures stale { IfOk result (λ walked. walked ≡ None → ¬ IsFresh (committed store.old) seen.old first) }
+        end (committed store.old) first seen.old w seen.new)) }
+    ensures stale { IfOk result (λ walked. walked ≡ None → ¬ IsFresh end (committed store.old) seen.old first) }
     ensures store { Reads store.old store.new (result_err result) }
 {
     let mut page = first;
     let mut blocks = 0;
     let mut last = 0;
-    while blocks < BLOCKS && page != 0 {
-        if !mark(page, seen) {
+    while blocks < MOST_BLOCKS && page != 0 {
+        if !mark(page, end, seen) {
             return Ok(None);
         }
         last = page as u16;
@@ -71,36 +74,42 @@ fn walk_over<B: Board>(
 }
 
 /// The check of the layout at a start: whether the free chain and these extents are laid out as they should be, each
-/// block in exactly one of them, once. Then the answer is how many blocks are free, else None.
+/// of so many blocks in exactly one of them, once. Then the answer is how many blocks are free, else None.
 ///
 /// Each block is marked when the walk first comes to it, and no marked one is gone over again. So a ring ends the walk, and
 /// there are never more device reads than blocks and one, whatever the words are.
 ///
 /// # Errors
 /// What the store answers: power was lost, or the device failed.
-pub fn lay<B: Board>(store: &mut Store<B>, extents: &[Extent]) -> Result<Option<u16>, StoreErr>
+pub fn lay<B: Board>(
+    store: &mut Store<B>,
+    extents: &[Extent],
+    count: u16,
+) -> Result<Option<u16>, StoreErr>
     requires ready { IsReady store.old }
-    ensures found { IfOk result (λ free. TellsFree (committed store.old) extents.now free) }
+    requires inside { FIRST_BLOCK_PAGE + count ≤ pages_of (committed store.old) }
+    ensures found { IfOk result (λ free. TellsFree count (committed store.old) extents.now free) }
     ensures store { Reads store.old store.new (result_err result) }
 {
-    let mut seen = [0; BLOCKS as usize];
+    let mut seen = [0; MOST_BLOCKS as usize];
+    let end = FIRST_BLOCK_PAGE + count;
     let head = store.read(FREE_HEAD)?;
-    let free = match walk_over(store, head, &mut seen)? {
+    let free = match walk_over(store, head, end, &mut seen)? {
         Some(walked) => walked.blocks,
         None => return Ok(None),
     };
     let mut blocks = free;
     for (_i, extent) in extents.iter().enumerate() {
-        let walked = match walk_over(store, u32::from(extent.chain.first), &mut seen)? {
+        let walked = match walk_over(store, u32::from(extent.chain.first), end, &mut seen)? {
             Some(walked) => walked,
             None => return Ok(None),
         };
-        if !is_extent(walked, extent) || walked.blocks > BLOCKS - blocks {
+        if !is_extent(walked, extent) || walked.blocks > MOST_BLOCKS - blocks {
             return Ok(None);
         }
         blocks += walked.blocks;
     }
-    if blocks != BLOCKS {
+    if blocks != count {
         return Ok(None);
     }
     Ok(Some(free))

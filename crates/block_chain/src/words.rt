@@ -1,7 +1,7 @@
 //! Links of blocks, read from a store or within a transaction.
 ghost use Rattle.std.specs.Prelude.{◌≡◌, ◌*◌, ◌<◌, length, IfOk, slice_index};
 ghost use Rattle.std.specs.Result.{result_err};
-ghost use Rattle.nvm_board.specs.declared.board.TheConstants.{PAGES};
+ghost use Rattle.nvm_board.specs.declared.board.TheConstants.{MOST_PAGES};
 ghost use Rattle.undo_journal.specs.Memory.{committed, current, IsReady, IsOpen};
 ghost use Rattle.undo_journal.specs.Lent.{memory_of};
 ghost use Rattle.undo_journal.specs.Calls.{Reads, ReadsIn};
@@ -15,7 +15,7 @@ use undo_journal::{Board, PAGE_WORDS, Store, StoreErr, Txn};
 /// The page of the first free block, or 0.
 pub(crate) fn read_head<B: Board>(store: &mut Store<B>) -> Result<u16, StoreErr>
     requires ready { IsReady store.old }
-    requires small { slice_index (committed store.old) FREE_HEAD < PAGES }
+    requires small { slice_index (committed store.old) FREE_HEAD < MOST_PAGES }
     ensures page { IfOk result (λ page. page ≡ slice_index (committed store.old) FREE_HEAD) }
     ensures store { Reads store.old store.new (result_err result) }
 {
@@ -26,8 +26,8 @@ pub(crate) fn read_head<B: Board>(store: &mut Store<B>) -> Result<u16, StoreErr>
 /// The page of the block after a block, or 0.
 pub(crate) fn read_link<B: Board>(store: &mut Store<B>, page: u16) -> Result<u16, StoreErr>
     requires ready { IsReady store.old }
-    requires block { IsBlock page }
-    requires small { link (committed store.old) page < PAGES }
+    requires block { IsBlock (committed store.old) page }
+    requires small { link (committed store.old) page < MOST_PAGES }
     ensures page { IfOk result (λ next. next ≡ link (committed store.old) page) }
     ensures store { Reads store.old store.new (result_err result) }
 {
@@ -38,7 +38,7 @@ pub(crate) fn read_link<B: Board>(store: &mut Store<B>, page: u16) -> Result<u16
 /// The page of the first free block, or 0.
 pub(crate) fn head<B: Board>(txn: &mut Txn<'_, B>) -> Result<u16, StoreErr>
     requires ready { IsOpen (memory_of txn.old) }
-    requires small { slice_index (current (memory_of txn.old)) FREE_HEAD < PAGES }
+    requires small { slice_index (current (memory_of txn.old)) FREE_HEAD < MOST_PAGES }
     ensures page { IfOk result (λ page. page ≡ slice_index (current (memory_of txn.old)) FREE_HEAD) }
     ensures store { ReadsIn txn.old txn.new (result_err result) }
 {
@@ -49,8 +49,8 @@ pub(crate) fn head<B: Board>(txn: &mut Txn<'_, B>) -> Result<u16, StoreErr>
 /// The page of the block after a block, or 0.
 pub(crate) fn next<B: Board>(txn: &mut Txn<'_, B>, page: u16) -> Result<u16, StoreErr>
     requires ready { IsOpen (memory_of txn.old) }
-    requires block { IsBlock page }
-    requires small { link (current (memory_of txn.old)) page < PAGES }
+    requires block { IsBlock (current (memory_of txn.old)) page }
+    requires small { link (current (memory_of txn.old)) page < MOST_PAGES }
     ensures page { IfOk result (λ next. next ≡ link (current (memory_of txn.old)) page) }
     ensures store { ReadsIn txn.old txn.new (result_err result) }
 {

@@ -3,7 +3,7 @@ use Rattle.std.proofs.Common.{sym, ◌∙◌, ap, ap₂, arith, subst, length-ap
 use Rattle.std.proofs.Math.ListN.{length-set}
 use Rattle.std.specs.Prelude.{◌≡◌, ◌<◌, ◌≤◌, ◌+◌, ◌-◌, ◌*◌, ◌%◌, ℕ, List, [], ◌∷◌, ◌++◌, length, slice_index}
 use Rattle.std.specs.Prelude.{slice_set, take, drop}
-use Rattle.nvm_board.specs.declared.board.TheConstants.{WORDS}
+use Rattle.nvm_board.specs.Facts.{IsMemory}
 use Rattle.block_chain.specs.Chains.{chain_of, chain_bytes, bytes_of}
 use Rattle.block_chain.specs.Changes.{Overwrites, overwrite}
 use Rattle.block_chain.specs.laws.Bytes.{leads_blocks, length-bytes_of}
@@ -29,7 +29,7 @@ pub told_start : (m : List ℕ) (at n s : ℕ) → slice_index m at ≡ counts_w
 told_start m at n s is small = omega (arith, is, small)
 
 -- as many bytes as the blocks have
-pub ring_fits : (m : List ℕ) (c : Cyclic) → length m ≡ WORDS → IsCyclic m c
+pub ring_fits : (m : List ℕ) (c : Cyclic) → IsMemory m → IsCyclic m c
     → c.capacity * c.record_length ≤ length (chain_bytes m c.chain)
 ring_fits m c sized is =
     let long = length-bytes_of m (chain_of m c.chain) sized
@@ -138,7 +138,7 @@ module _ (m : List ℕ) (body : Linear) (ring : Cyclic) (same : ring ≡ ring_of
       (subst (λ (l : List (List ℕ)). RecordsBecome m ring (l ++ bytes ∷ []) after) taken_records becomes)
 
 -- a record in place of another
-pub ring_put : (m after : List ℕ) (ring : Cyclic) (number : ℕ) (bytes : List ℕ) → length m ≡ WORDS → IsCyclic m ring
+pub ring_put : (m after : List ℕ) (ring : Cyclic) (number : ℕ) (bytes : List ℕ) → IsMemory m → IsCyclic m ring
     → length bytes ≡ ring.record_length → 1 ≤ number → number ≤ ring.records
     → (slot offset : ℕ) → slot ≡ (ring.start + number - 1) % ring.capacity → offset ≡ slot * ring.record_length
     → Overwrites m (chain_of m ring.chain) offset bytes after
@@ -176,7 +176,7 @@ ring_put m after ring number bytes sized is long some most slot offset lies at o
     }
 
 -- a record behind the last one
-pub ring_added : (m after : List ℕ) (ring : Cyclic) (bytes : List ℕ) → length m ≡ WORDS → IsCyclic m ring
+pub ring_added : (m after : List ℕ) (ring : Cyclic) (bytes : List ℕ) → IsMemory m → IsCyclic m ring
     → length bytes ≡ ring.record_length → ring.records < ring.capacity
     → (slot offset told : ℕ) → slot ≡ (ring.start + (ring.records + 1) - 1) % ring.capacity
     → offset ≡ slot * ring.record_length → told ≡ counts_word (ring.records + 1) ring.start
@@ -206,7 +206,7 @@ ring_added m after ring bytes sized is long room slot offset told lies at tells 
     }
 
 -- a record before the others
-pub cyclic_front : (m after : List ℕ) (body : Cyclic) (bytes : List ℕ) (n : ℕ) → length m ≡ WORDS → IsCyclic m body
+pub cyclic_front : (m after : List ℕ) (body : Cyclic) (bytes : List ℕ) (n : ℕ) → IsMemory m → IsCyclic m body
     → length bytes ≡ body.record_length → 1 ≤ n → n ≤ body.capacity → n ≤ body.records + 1
     → (slot offset told : ℕ) → slot ≡ slot_before body.start body.capacity → offset ≡ slot * body.record_length
     → told ≡ counts_word n slot → PutsRecord m body.chain offset bytes body.told_at told after
@@ -275,7 +275,7 @@ module _ (body : Cyclic) (number : ℕ) (slot : RecordSlot) (at : (slot.ring ≡
   received_record m = ap₂ (λ (r : Cyclic) (n : ℕ). record_of (cyclic_records m r) n) at.0 at.1
 
 -- a record has the length of a slot
-pub length-record : (m : List ℕ) (body : Cyclic) (number : ℕ) → length m ≡ WORDS → IsCyclic m body → 1 ≤ number
+pub length-record : (m : List ℕ) (body : Cyclic) (number : ℕ) → IsMemory m → IsCyclic m body → 1 ≤ number
     → number ≤ body.records → length (record_of (cyclic_records m body) number) ≡ body.record_length
 length-record m body number sized is some most =
     let size = body.record_length in

@@ -1,4 +1,5 @@
 -- The bytes of a transparent body.
+use Rattle.nvm_board.specs.Facts.{IsMemory}
 use Rattle.std.proofs.Common.{refl, sym, ◌∙◌, ap, ap₂, arith, ⊎_elim, get_or-take}
 use Rattle.std.proofs.lemmas.Bool.{cases_lt, le-leb, lt-leb, lt-ltb, le-ltb}
 use Rattle.std.proofs.lemmas.List.{length-take-le, take_min, drop-take, length-drop}
@@ -8,7 +9,6 @@ use Rattle.std.specs.Prelude.{take, drop, min}
 use Rattle.std.specs.Prelude.{Option, Some, None, IsTrue, if◌then◌else◌, nat_le, nat_lt}
 use Rattle.card_rules.specs.declared.status.Sw.{Sw}
 use Rattle.card_rules.specs.declared.status.TheConstants.Sw.{WRONG_OFFSET, NO_ROOM}
-use Rattle.nvm_board.specs.declared.board.TheConstants.{WORDS}
 use Rattle.block_chain.specs.Chains.{chain_of, chain_bytes, bytes_of}
 use Rattle.block_chain.specs.Changes.{Overwrites, overwrite}
 use Rattle.block_chain.specs.Parts.{byte_over}
@@ -29,7 +29,7 @@ take-first (suc k) (suc n) [] few = refl
 take-first (suc k) (suc n) (x ∷ xs) few = ap (λ (l : List ℕ). x ∷ l) (take-first k n xs (omega (arith, few)))
 
 -- the chain of a body has room for its bytes
-pub chain_whole : (m : List ℕ) (body : Transparent) → length m ≡ WORDS → IsTransparent m body
+pub chain_whole : (m : List ℕ) (body : Transparent) → IsMemory m → IsTransparent m body
     → body.size ≤ length (chain_bytes m body.chain)
 chain_whole m body sized is =
     let all = length-bytes_of m (chain_of m body.chain) sized (leads_blocks m body.chain.first 0 (chain_of m
@@ -38,7 +38,7 @@ chain_whole m body sized is =
     omega (arith, all, fits)
 
 -- as many bytes of a body as are asked for, or all that are left
-pub taken : (m : List ℕ) (body : Transparent) → length m ≡ WORDS → IsTransparent m body → (offset most count : ℕ)
+pub taken : (m : List ℕ) (body : Transparent) → IsMemory m → IsTransparent m body → (offset most count : ℕ)
     → offset < body.size → count ≡ min most (body.size - offset)
     → take count (drop offset (chain_bytes m body.chain)) ≡ take most (drop offset (transparent_bytes m body))
 taken m body sized is_body offset most count inside is =
@@ -60,7 +60,7 @@ taken m body sized is_body offset most count inside is =
     ∙ ap (take most) (sym back)
 
 -- how many bytes a body has
-pub length-transparent : (m : List ℕ) (body : Transparent) → length m ≡ WORDS → IsTransparent m body
+pub length-transparent : (m : List ℕ) (body : Transparent) → IsMemory m → IsTransparent m body
     → length (transparent_bytes m body) ≡ body.size
 length-transparent m body sized is = length-take-le body.size (chain_bytes m body.chain) (chain_whole m body sized is)
 
@@ -82,7 +82,7 @@ take-overwrite bytes new size offset whole within =
     ∙ sym (index-overwrite (take size bytes) new offset first_fits k))
 
 -- a body with bytes put in place of its own
-pub bytes_put : (m after : List ℕ) (body : Transparent) (offset : ℕ) (bytes : List ℕ) → length m ≡ WORDS
+pub bytes_put : (m after : List ℕ) (body : Transparent) (offset : ℕ) (bytes : List ℕ) → IsMemory m
     → IsTransparent m body → offset + length bytes ≤ body.size
     → Overwrites m (chain_of m body.chain) offset bytes after
     → TransparentBecomes m body (overwrite (transparent_bytes m body) offset bytes) after

@@ -1,20 +1,21 @@
 -- The words of a body and of its entry, as they are after bytes of its chain were set.
+use Rattle.nvm_board.specs.laws.Sizes.{memory_same}
 use Rattle.std.proofs.Common.{refl, sym, ◌∙◌, ap, arith, inl, inr, subst, get_or-set_same, get_or-set_other}
 use Rattle.std.proofs.Math.ListN.{length-set}
 use Rattle.std.specs.Prelude.{◌≡◌, ◌≢◌, ◌<◌, ◌≤◌, ◌+◌, ◌/◌, ◌%◌, ℕ, zero, suc, List, length, slice_index}
 use Rattle.std.specs.Prelude.{slice_set}
-use Rattle.nvm_board.specs.Facts.{address}
-use Rattle.nvm_board.specs.declared.board.TheConstants.{WORDS, PAGE_WORDS}
+use Rattle.nvm_board.specs.Facts.{address, IsMemory}
+use Rattle.nvm_board.specs.declared.board.TheConstants.{PAGE_WORDS}
 use Rattle.undo_journal.specs.declared.layout.TheConstants.{GATE}
 use Rattle.block_chain.specs.declared.chain.Chain.{Chain}
-use Rattle.block_chain.specs.declared.layout.TheConstants.{BLOCKS, BLOCK_WORDS}
+use Rattle.block_chain.specs.declared.layout.TheConstants.{FIRST_BLOCK_PAGE, MOST_BLOCKS, BLOCK_WORDS}
 use Rattle.block_chain.specs.Words.{word, IsBlock}
 use Rattle.block_chain.specs.Counts.{count, IsNotIn}
 use Rattle.block_chain.specs.Chains.{chain_of, bytes_of, IsChain}
 use Rattle.undo_journal.specs.Spending.{transaction_writes}
 use Rattle.ef_body.specs.declared.layout.TheConstants.{UPDATE_WRITES}
 use Rattle.block_chain.specs.Changes.{Overwrites, touched_words, touched_blocks}
-use Rattle.block_chain.specs.laws.Bytes.{leads_blocks, block_in}
+use Rattle.block_chain.specs.laws.Bytes.{blocks_same, leads_blocks, block_in}
 use Rattle.block_chain.specs.laws.Chains.{leads_same, pages_are}
 use Rattle.block_chain.specs.laws.Footprints.{bytes_same, not_among}
 use Rattle.block_chain.specs.laws.Laying.{leads_count, pages_most}
@@ -22,24 +23,25 @@ use Rattle.block_chain.specs.Writes.{put_writes}
 use Rattle.block_chain.specs.laws.Writes.{put_writes_most}
 use Rattle.ef_body.specs.Changes.{PutsRecord, update_writes}
 
-module _ (m mid : List ℕ) (c : Chain) (offset : ℕ) (bytes : List ℕ) (sized : length m ≡ WORDS)
+module _ (m mid : List ℕ) (c : Chain) (offset : ℕ) (bytes : List ℕ) (sized : IsMemory m)
     (is : IsChain m c.first (chain_of m c)) (over : Overwrites m (chain_of m c) offset bytes mid) where
-  mid_sized : length mid ≡ WORDS
-  mid_sized = over.only.size ∙ sized
+  mid_sized : IsMemory mid
+  mid_sized = memory_same m mid over.only.size sized
 
   -- the chain stays
   pub chain_kept : chain_of mid c ≡ chain_of m c
   chain_kept =
-      pages_are mid BLOCKS c.first (chain_of m c)
-      (leads_same m mid c.first 0 (chain_of m c) (λ q some. over.only.others q 0 (omega arith) (inl refl)) is.leads)
-      (pages_most m BLOCKS c.first)
+      pages_are mid MOST_BLOCKS c.first (chain_of m c)
+      (leads_same m mid c.first 0 (chain_of m c) over.only.size
+      (λ q some. over.only.others q 0 (omega arith) (inl refl)) is.leads)
+      (pages_most m MOST_BLOCKS c.first)
 
   -- and so does each word before the gate
   pub before_kept : (at : ℕ) → at < GATE → slice_index mid at ≡ slice_index m at
   before_kept at low =
       let place : address (at / PAGE_WORDS) (at % PAGE_WORDS) ≡ at = omega arith in
       let away : IsNotIn (at / PAGE_WORDS) (chain_of m c) =
-      not_among (at / PAGE_WORDS) (λ block. let from = block.0 in let z : ⊥ = omega (arith, from, low) in z)
+      not_among m (at / PAGE_WORDS) (λ block. let from = block.0 in let z : ⊥ = omega (arith, from, low) in z)
       (chain_of m c) (leads_blocks m c.first 0 (chain_of m c) is.leads) in
       ap (slice_index mid) (sym place)
       ∙ over.only.others (at / PAGE_WORDS) (at % PAGE_WORDS) (omega arith) (inr away)
@@ -52,25 +54,25 @@ module _ (m mid : List ℕ) (c : Chain) (offset : ℕ) (bytes : List ℕ) (sized
     elsewhere : (page place : ℕ) → address page place ≢ told_at → word after page place ≡ word mid page place
     elsewhere page place other = get_or-set_other mid told_at (address page place) told 0 other
 
-    in_block : (page place : ℕ) → IsBlock page → word after page place ≡ word mid page place
-    in_block page place block =
-        elsewhere page place (λ same. let from = block.0 in let z : ⊥ = omega (arith, from, low, same) in z)
+    in_block : (page place : ℕ) → FIRST_BLOCK_PAGE ≤ page → word after page place ≡ word mid page place
+    in_block page place from =
+        elsewhere page place (λ same. let z : ⊥ = omega (arith, from, low, same) in z)
 
     blocks_kept : chain_of after c ≡ chain_of m c
     blocks_kept =
-        pages_are after BLOCKS c.first (chain_of m c)
-        (leads_same m after c.first 0 (chain_of m c)
-        (λ q some. in_block q 0 (leads_count m c.first 0 q (chain_of m c) is.leads some)
+        pages_are after MOST_BLOCKS c.first (chain_of m c)
+        (leads_same m after c.first 0 (chain_of m c) (length-set mid told_at told ∙ over.only.size)
+        (λ q some. in_block q 0 (leads_count m c.first 0 q (chain_of m c) is.leads some).0
         ∙ over.only.others q 0 (omega arith) (inl refl)) is.leads)
-        (pages_most m BLOCKS c.first)
+        (pages_most m MOST_BLOCKS c.first)
 
     bytes_kept : bytes_of after (chain_of m c) ≡ bytes_of mid (chain_of m c)
     bytes_kept =
-        let blocks = leads_blocks m c.first 0 (chain_of m c) is.leads in
-        bytes_same mid after (chain_of m c) mid_sized (length-set mid told_at told ∙ mid_sized) blocks (λ j lt.
+        let blocks = blocks_same m mid (chain_of m c) over.only.size (leads_blocks m c.first 0 (chain_of m c) is.leads) in
+        bytes_same mid after (chain_of m c) mid_sized (length-set mid told_at told) blocks (λ j lt.
         let within : j / BLOCK_WORDS < length (chain_of m c) = omega (arith, lt) in
         in_block (slice_index (chain_of m c) (j / BLOCK_WORDS)) (1 + j % BLOCK_WORDS)
-        (block_in (chain_of m c) (j / BLOCK_WORDS) blocks within))
+        (block_in mid (chain_of m c) (j / BLOCK_WORDS) blocks within).0)
 
     pub puts_record : PutsRecord m c offset bytes told_at told after
     puts_record = record {
@@ -85,7 +87,7 @@ module _ (m mid : List ℕ) (c : Chain) (offset : ℕ) (bytes : List ℕ) (sized
     }
 
 -- the same of the words that a set leaves
-pub puts : (m mid new : List ℕ) (c : Chain) (offset : ℕ) (bytes : List ℕ) (told_at told : ℕ) → length m ≡ WORDS
+pub puts : (m mid new : List ℕ) (c : Chain) (offset : ℕ) (bytes : List ℕ) (told_at told : ℕ) → IsMemory m
     → IsChain m c.first (chain_of m c) → told_at < GATE → Overwrites m (chain_of m c) offset bytes mid
     → new ≡ slice_set mid told_at told → PutsRecord m c offset bytes told_at told new
 puts m mid new c offset bytes told_at told sized is low over set =

@@ -5,7 +5,7 @@ ghost use Rattle.undo_journal.specs.Memory.{committed, IsReady};
 ghost use Rattle.undo_journal.specs.Calls.{Reads};
 ghost use Rattle.block_chain.specs.Chains.{Leads, chain_of, chain_bytes};
 ghost use Rattle.block_chain.specs.Changes.{AppendsSome};
-ghost use Rattle.block_chain.specs.declared.layout.TheConstants.{BLOCK_BYTES};
+ghost use Rattle.block_chain.specs.declared.layout.TheConstants.{BLOCK_BYTES, FILE_BYTES};
 ghost use Rattle.ef_body.specs.Records.{record_of};
 ghost use Rattle.ef_body.specs.Bodies.{cyclic_records, IsCyclic};
 
@@ -25,6 +25,7 @@ pub(crate) fn read_anew<B: Board, const N: usize>(
     requires ready { IsReady store.old }
     requires leads { Leads (committed store.old) chain.first (chain_of (committed store.old) chain) 0 }
     requires within { offset + count ≤ BLOCK_BYTES * length (chain_of (committed store.old) chain) }
+    requires small { offset + count ≤ FILE_BYTES }
     requires room { count ≤ N }
     requires empty { bytes.old.items ≡ [] }
     ensures bytes { OnOk result (bytes.new.items ≡ take count (drop offset (chain_bytes (committed store.old)

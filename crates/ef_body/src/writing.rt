@@ -9,7 +9,7 @@ ghost use Rattle.undo_journal.specs.declared.layout.TheConstants.{GATE};
 ghost use Rattle.block_chain.specs.Chains.{chain_of as blocks_of_chain, IsChain};
 ghost use Rattle.block_chain.specs.Changes.{Overwrites, touched_blocks, touched_words};
 ghost use Rattle.block_chain.specs.Writes.{put_writes};
-ghost use Rattle.block_chain.specs.declared.layout.TheConstants.{BLOCK_BYTES};
+ghost use Rattle.block_chain.specs.declared.layout.TheConstants.{BLOCK_BYTES, FILE_BYTES};
 ghost use Rattle.ef_body.specs.declared.layout.TheConstants.{RECORD_WRITES, UPDATE_WRITES};
 ghost use Rattle.ef_body.specs.Records.{front};
 ghost use Rattle.ef_body.specs.Bodies.{counts_word, cyclic_records, IsCyclic};
@@ -38,6 +38,7 @@ pub(crate) fn put_bytes<B: Board>(
     requires ready { IsReady store.old }
     requires chain { IsChain (committed store.old) chain.first (blocks_of_chain (committed store.old) chain) }
     requires within { offset + length bytes.now ≤ BLOCK_BYTES * length (blocks_of_chain (committed store.old) chain) }
+    requires small { offset + length bytes.now ≤ FILE_BYTES }
     requires few { length bytes.now ≤ 255 }
     ensures any_exit { (committed store.new ≡ committed store.old)
         ⊎ Overwrites (committed store.old) (blocks_of_chain (committed store.old) chain) offset bytes.now (committed
@@ -68,6 +69,7 @@ fn put_record<B: Board>(
     requires ready { IsReady store.old }
     requires chain { IsChain (committed store.old) chain.first (blocks_of_chain (committed store.old) chain) }
     requires within { offset + length bytes.now ≤ BLOCK_BYTES * length (blocks_of_chain (committed store.old) chain) }
+    requires small { offset + length bytes.now ≤ FILE_BYTES }
     requires few { length bytes.now ≤ 255 }
     requires entry { told_at < GATE }
     ensures any_exit { (committed store.new ≡ committed store.old)
@@ -96,6 +98,7 @@ fn set_record<B: Board>(
         chain) }
     requires within { offset + length bytes.now ≤ BLOCK_BYTES * length (blocks_of_chain (current (memory_of txn.old))
         chain) }
+    requires small { offset + length bytes.now ≤ FILE_BYTES }
     requires entry { told_at < GATE }
     requires room { touched_words offset (length bytes.now) + 1 ≤ room (memory_of txn.old) }
     ensures done { OnOk result (PutsRecord (current (memory_of txn.old)) chain offset bytes.now told_at told (current

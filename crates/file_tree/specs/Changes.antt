@@ -3,13 +3,14 @@ use Rattle.std.specs.Prelude.{◌≡◌, ◌≢◌, ◌⊎◌, ◌<◌, ◌≤�
 use Rattle.std.specs.List.{starts_with}
 use Rattle.std.specs.FinMap.{insert, retain_keys}
 use Rattle.nvm_board.specs.declared.board.TheConstants.{PAGE_WORDS}
-use Rattle.block_chain.specs.declared.layout.TheConstants.{HEADER_PAGE, FREE_HEAD_WORD}
-use Rattle.block_chain.specs.Words.{word, IsBlock}
+use Rattle.block_chain.specs.declared.layout.TheConstants.{HEADER_PAGE, FREE_HEAD_WORD, FIRST_BLOCK_PAGE}
+use Rattle.block_chain.specs.Words.{word}
 use Rattle.block_chain.specs.Chains.{free_chain}
 use Rattle.block_chain.specs.Changes.{KeepsBlocks}
 use Rattle.file_tree.specs.declared.layout.TheConstants.{FIRST_ENTRY_PAGE, ENTRIES}
 use Rattle.file_tree.specs.declared.space.FreeSpace.{FreeSpace}
 use Rattle.file_tree.specs.Cards.{File, file_at, bytes_of, with_bytes, overwrite}
+use Rattle.file_tree.specs.Formats.{block_count, SameFormat}
 use Rattle.file_tree.specs.Table.{table, entry_in, path_of, IsUsed}
 use Rattle.file_tree.specs.Trees.{tree_of, TreeStands}
 
@@ -17,17 +18,19 @@ use Rattle.file_tree.specs.Trees.{tree_of, TreeStands}
 abbrev pub IsEntryPage : ℕ → Type 0
 IsEntryPage page = (FIRST_ENTRY_PAGE ≤ page) × (page < FIRST_ENTRY_PAGE + ENTRIES)
 
--- Every word stays but those of file entries and of blocks, and the header's that names the first free block.
+-- Every word before the blocks stays but those of file entries, and the header's that names the first free block.
 pub record KeepsRest (m after : List ℕ) : Type 0 where
   pub size : length after ≡ length m
-  pub words : (page place : ℕ) → place < PAGE_WORDS → (IsEntryPage page → ⊥) → (IsBlock page → ⊥)
+  pub words : (page place : ℕ) → place < PAGE_WORDS → (IsEntryPage page → ⊥) → page < FIRST_BLOCK_PAGE
       → (page ≢ HEADER_PAGE) ⊎ (place ≢ FREE_HEAD_WORD) → word after page place ≡ word m page place
 
--- The words that the tree depends on stay: those of file entries and of blocks, and the one that names the first free block.
+-- The words that the tree depends on stay: those of file entries and of blocks, the one that names the first free block,
+-- and those that tell the format.
 pub record KeepsTree (m after : List ℕ) : Type 0 where
   pub entries : (page place : ℕ) → 1 ≤ page → page < 65 → place < PAGE_WORDS
       → word after page place ≡ word m page place
-  pub blocks : KeepsBlocks m after
+  pub blocks : KeepsBlocks (block_count m) m after
+  pub format : SameFormat m after
 
 -- a file with bytes put in place of its own from an offset on
 abbrev pub with_overwritten : File → ℕ → List ℕ → File

@@ -12,6 +12,7 @@ use Rattle.block_chain.specs.declared.chain.Chain.{Chain}
 use Rattle.block_chain.specs.Words.{word, page_words}
 use Rattle.block_chain.specs.Chains.{free_chain, bytes_of}
 use Rattle.block_chain.specs.Changes.{OnlyContent, Takes}
+use Rattle.file_tree.specs.Formats.{block_count}
 use Rattle.file_tree.specs.declared.layout.TheConstants.{FIRST_ENTRY_PAGE}
 use Rattle.file_tree.specs.declared.entry.Entry.{Entry}
 use Rattle.file_tree.specs.declared.placing.Place.{Place}
@@ -36,14 +37,14 @@ pub record IsPlace (m : List ℕ) (df : ℕ) (kind : FileKind) (e : ℕ) : Type 
 
 -- a place, where there is one, or why not
 abbrev pub TellsPlace : List ℕ → ℕ → FileKind → Place → Type 0
-TellsPlace m df kind (Refused status) = place_refusal (tree_of m) (path_of (table m) df) kind ≡ Some status
-TellsPlace m df kind (At e) = (place_refusal (tree_of m) (path_of (table m) df) kind ≡ None) × IsPlace m df kind e
+TellsPlace m df kind (Refused status) = place_refusal (block_count m) (tree_of m) (path_of (table m) df) kind ≡ Some status
+TellsPlace m df kind (At e) = (place_refusal (block_count m) (tree_of m) (path_of (table m) df) kind ≡ None) × IsPlace m df kind e
 
 -- a place for a new file, or the first reason why it is refused
 abbrev pub FindsPlace : List ℕ → ℕ → Fcp → Place → Type 0
-FindsPlace m df fcp (Refused status) = creation_refusal (tree_of m) (path_of (table m) df) fcp ≡ Some status
+FindsPlace m df fcp (Refused status) = creation_refusal (block_count m) (tree_of m) (path_of (table m) df) fcp ≡ Some status
 FindsPlace m df fcp (At e) = (taken_refusal (tree_of m) (path_of (table m) df) fcp ≡ None)
-    × (place_refusal (tree_of m) (path_of (table m) df) fcp.kind ≡ None) × IsPlace m df fcp.kind e
+    × (place_refusal (block_count m) (tree_of m) (path_of (table m) df) fcp.kind ≡ None) × IsPlace m df fcp.kind e
 
 -- so many bytes, with zeros behind those that are there
 abbrev pub padded : ℕ → List ℕ → List ℕ

@@ -6,6 +6,8 @@ pub mod Spaces
 pub mod States
 pub mod Entries
 pub mod Table
+pub mod Formats
+pub mod Migration
 pub mod Trees
 pub mod Changes
 pub mod Adding

@@ -61,10 +61,10 @@ has_short_given tree df Absent = false
 has_short_given tree df Empty = false
 has_short_given tree df (Given n) = is_some (child_by_short tree df n)
 
--- whether there is no entry for it, or too few blocks
-abbrev pub has_no_room : Tree → FileKind → Bool
-has_no_room tree kind =
-    ((free_space tree).entries == 0) || nat_lt (free_space tree).blocks (blocks_for (size_of_kind kind))
+-- whether there is no entry for it, or too few of n blocks
+abbrev pub has_no_room : ℕ → Tree → FileKind → Bool
+has_no_room n tree kind =
+    ((free_space n tree).entries == 0) || nat_lt (free_space n tree).blocks (blocks_for (size_of_kind kind))
 
 -- why a name of the file is taken: its identifier is a child's, its name a file's, or the short identifier that is given
 -- a child's
@@ -75,19 +75,19 @@ taken_refusal tree df fcp =
     if has_short_given tree df (short_of_kind fcp.kind) then Some WRONG_DATA else None
 
 -- why there is no place for it: it would stand at level 9, or there is no room
-abbrev pub place_refusal : Tree → Path → FileKind → Option Sw
-place_refusal tree df kind =
+abbrev pub place_refusal : ℕ → Tree → Path → FileKind → Option Sw
+place_refusal n tree df kind =
     if length df == 7 then Some CONDITIONS_NOT_SATISFIED else
-    if has_no_room tree kind then Some NO_ROOM else None
+    if has_no_room n tree kind then Some NO_ROOM else None
 
 -- the first of two reasons
 abbrev pub first_reason : Option Sw → Option Sw → Option Sw
 first_reason (Some status) other = Some status
 first_reason None other = other
 
--- the first reason why a dedicated file takes no such file
-abbrev pub creation_refusal : Tree → Path → Fcp → Option Sw
-creation_refusal tree df fcp = first_reason (taken_refusal tree df fcp) (place_refusal tree df fcp.kind)
+-- the first reason why a dedicated file takes no such file, in a memory of n blocks
+abbrev pub creation_refusal : ℕ → Tree → Path → Fcp → Option Sw
+creation_refusal n tree df fcp = first_reason (taken_refusal tree df fcp) (place_refusal n tree df fcp.kind)
 
 -- the short identifier of a new file; a dedicated file has none
 abbrev pub short_of_new : Tree → Path → Fcp → Option ℕ

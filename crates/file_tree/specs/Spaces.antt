@@ -2,7 +2,6 @@
 use Rattle.std.specs.Prelude.{ℕ, ◌+◌, ◌-◌, ◌*◌, ◌/◌, length}
 use Rattle.std.specs.List.{sum_by}
 use Rattle.std.specs.FinMap.{entries}
-use Rattle.block_chain.specs.declared.layout.TheConstants.{BLOCKS}
 use Rattle.file_tree.specs.declared.layout.TheConstants.{ENTRIES}
 use Rattle.file_tree.specs.declared.space.FreeSpace.{FreeSpace}
 use Rattle.file_tree.specs.Cards.{transparent, linear, cyclic, dedicated, elementary, Body, Kind, File, Tree}
@@ -25,9 +24,9 @@ cost_of (elementary short body) = blocks_for (reserved body)
 abbrev pub cost : File → ℕ
 cost file = cost_of file.kind
 
--- Free are, of 896 blocks, those that no file costs, and of 64 file entries, all but one for each file.
-abbrev pub free_space : Tree → FreeSpace
-free_space tree = record {
-  blocks = BLOCKS - sum_by (λ node. cost node.1) (entries tree);
+-- Free are, of n blocks, those that no file costs, and of 64 file entries, all but one for each file.
+abbrev pub free_space : ℕ → Tree → FreeSpace
+free_space n tree = record {
+  blocks = n - sum_by (λ node. cost node.1) (entries tree);
   entries = ENTRIES - length (entries tree);
 }

@@ -8,6 +8,7 @@ use Rattle.block_chain.specs.Layout.{AreLaid, blocks_of}
 use Rattle.file_tree.specs.declared.entry.Entry.{Entry}
 use Rattle.file_tree.specs.declared.space.FreeSpace.{FreeSpace}
 use Rattle.file_tree.specs.Cards.{Path, File, Tree}
+use Rattle.file_tree.specs.Formats.{block_count}
 use Rattle.file_tree.specs.Spaces.{free_space}
 use Rattle.file_tree.specs.Entries.{file_of, extent_of}
 use Rattle.file_tree.specs.Table.{table, entry_in, path_of, extents, IsTable}
@@ -32,9 +33,9 @@ tree_of m = from_entries (filter_map (node m) (range_with_len 0 64))
 -- once, each file as many as its size takes.
 pub record TreeStands (m : List ℕ) : Type 0 where
   pub entries : IsTable (table m)
-  pub blocks : AreLaid m (extents (table m))
+  pub blocks : AreLaid (block_count m) m (extents (table m))
 
 -- what a check of the words answers: the free space of the tree, or None exactly where they stand for none
 abbrev pub TellsSpace : List ℕ → Option FreeSpace → Type 0
 TellsSpace m None = TreeStands m → ⊥
-TellsSpace m (Some free) = TreeStands m × (free ≡ free_space (tree_of m))
+TellsSpace m (Some free) = TreeStands m × (free ≡ free_space (block_count m) (tree_of m))

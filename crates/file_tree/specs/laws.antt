@@ -1,5 +1,6 @@
 -- What follows from the definitions, for the proofs of this crate and of those above it.
 pub mod Tables
+pub mod Formats
 pub mod Alikes
 pub mod Levels
 pub mod Paths
@@ -32,3 +33,4 @@ pub mod Indexes
 pub mod Pruning
 pub mod Indexed
 pub mod Entering
+pub mod Migrating

@@ -10,6 +10,7 @@ ghost use Rattle.fcp_template.specs.declared.fcp.ShortIdentifier.TheVariants.{Ab
 ghost use Rattle.fcp_template.specs.Ranges.{IsCreatable};
 ghost use Rattle.block_chain.specs.Chains.{HasFree, free_chain};
 ghost use Rattle.file_tree.specs.Adding.{AddsByGate};
+ghost use Rattle.file_tree.specs.Formats.{block_count};
 ghost use Rattle.file_tree.specs.declared.layout.TheConstants.{CREATE_WRITES, MOST_FILE_BLOCKS};
 ghost use Rattle.file_tree.specs.Table.{table, entry_in, path_of, IsUsed};
 ghost use Rattle.file_tree.specs.Trees.{tree_of, TreeStands};
@@ -243,7 +244,7 @@ pub fn create<B: Board>(store: &mut Store<B>, df: u8, fcp: &Fcp<'_>) -> Result<C
     ensures by_gate { AddsByGate store.old store.new }
     ensures store { Changes CREATE_WRITES store.old store.new (result_err result) }
     ensures idle { (status : Sw)
-        → creation_refusal (tree_of (committed store.old)) (path_of (table (committed store.old)) df) fcp.now ≡ Some status
+        → creation_refusal (block_count (committed store.old)) (tree_of (committed store.old)) (path_of (table (committed store.old)) df) fcp.now ≡ Some status
         → OnlyReads store.old store.new }
     ensures done { IfOk result (λ creation. TellsCreation (committed store.old) df fcp.now creation (committed store.new)) }
 {

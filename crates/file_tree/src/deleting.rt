@@ -7,9 +7,10 @@ ghost use Rattle.undo_journal.specs.Commits.{CommitsByGate};
 ghost use Rattle.undo_journal.specs.Memory.{committed, current, room, IsOpen, IsReady};
 ghost use Rattle.undo_journal.specs.Lent.{memory_of};
 ghost use Rattle.undo_journal.specs.Calls.{Reads, Changes, SetsIn};
-ghost use Rattle.block_chain.specs.declared.layout.TheConstants.{BLOCKS};
+ghost use Rattle.block_chain.specs.declared.layout.TheConstants.{MOST_BLOCKS};
 ghost use Rattle.block_chain.specs.Layout.{chains_of};
 ghost use Rattle.file_tree.specs.declared.layout.TheConstants.{DELETE_WRITES};
+ghost use Rattle.file_tree.specs.Formats.{block_count};
 ghost use Rattle.file_tree.specs.Spaces.{free_space};
 ghost use Rattle.file_tree.specs.Table.{extents, table, IsUsed};
 ghost use Rattle.file_tree.specs.Trees.{tree_of, TreeStands};
@@ -82,7 +83,7 @@ fn chains_in(extents: &[Extent]) -> ChainList
 
 /// How many blocks extents have together.
 fn blocks_in(extents: &[Extent]) -> u16
-    requires { sum_by (λ x. x.blocks) extents.now ≤ BLOCKS }
+    requires { sum_by (λ x. x.blocks) extents.now ≤ MOST_BLOCKS }
     ensures { result ≡ sum_by (λ x. x.blocks) extents.now }
 {
     let mut blocks = 0;
@@ -187,7 +188,8 @@ pub fn delete<B: Board>(store: &mut Store<B>, e: u8) -> Result<FreeSpace, StoreE
     ensures any_exit { (committed store.new ≡ committed store.old) ⊎ Deletes (committed store.old) e (committed store.new) }
     ensures done { OnOk result (Deletes (committed store.old) e (committed store.new)) }
     ensures space { IfOk result (λ freed.
-        free_space (tree_of (committed store.new)) ≡ with_freed (free_space (tree_of (committed store.old))) freed) }
+        free_space (block_count (committed store.new)) (tree_of (committed store.new))
+            ≡ with_freed (free_space (block_count (committed store.old)) (tree_of (committed store.old))) freed) }
     ensures by_gate { CommitsByGate store.old store.new }
     ensures store { Changes DELETE_WRITES store.old store.new (result_err result) }
 {

@@ -1,8 +1,8 @@
 //! Laws of the tree that a memory stands for.
 
+ghost use Rattle.nvm_board.specs.Facts.{IsMemory};
 ghost use Rattle.std.specs.Prelude.{◌≡◌, ◌&&◌, ℕ, List, ◌∷◌, ◌++◌, length, take, Some, None, false, IsTrue};
 ghost use Rattle.std.specs.FinMap.{get};
-ghost use Rattle.nvm_board.specs.declared.board.TheConstants.{WORDS};
 ghost use Rattle.card_rules.specs.declared.identifiers.TheConstants.{MASTER_FILE};
 ghost use Rattle.block_chain.specs.Chains.{free_chain};
 ghost use Rattle.block_chain.specs.Changes.{OnlyContent};
@@ -10,6 +10,7 @@ ghost use Rattle.file_tree.specs.declared.layout.TheConstants.{FIRST_ENTRY_PAGE,
 ghost use Rattle.file_tree.specs.declared.layout.TheConstants.{STATE_WORD, CARD_TERMINATED};
 ghost use Rattle.file_tree.specs.Cards.{Path, IsTree, master_file, exists, file_at, is_dedicated};
 ghost use Rattle.file_tree.specs.Reaching.{IsReserved};
+ghost use Rattle.file_tree.specs.Formats.{block_count};
 ghost use Rattle.file_tree.specs.Spaces.{free_space};
 ghost use Rattle.file_tree.specs.Table.{free_entries, table, path_of, IsUsed};
 ghost use Rattle.file_tree.specs.Trees.{file_in, tree_of, TreeStands};
@@ -57,13 +58,13 @@ pub fn files_of_a_card()
 /// Free are the blocks of the free chain, and the entries that no file has.
 #[tactic(auto, using(crate::specs::laws::Costs::space_counted))]
 pub fn free_space_is_counted()
-    ensures { (m : List ℕ) → length m ≡ WORDS → TreeStands m
-        → free_space (tree_of m) ≡ record { blocks = length (free_chain m); entries = free_entries (table m) } }
+    ensures { (m : List ℕ) → IsMemory m → TreeStands m
+        → free_space (block_count m) (tree_of m) ≡ record { blocks = length (free_chain m); entries = free_entries (table m) } }
 {}
 
-/// The tree depends on the pages of entries, on blocks, and on the header's word of free blocks alone.
+/// The tree depends on the pages of entries, on blocks, and on the header's words of free blocks and of the format alone.
 pub fn words_elsewhere_keep_the_tree()
-    ensures { (m after : List ℕ) → length m ≡ WORDS → KeepsTree m after → TreeStands m
+    ensures { (m after : List ℕ) → IsMemory m → KeepsTree m after → TreeStands m
         → TreeStands after × (table after ≡ table m) × (tree_of after ≡ tree_of m) × (free_chain after ≡ free_chain m) }
 {}
 
@@ -83,6 +84,6 @@ pub fn no_path_has_a_reserved_identifier()
 
 /// Whatever the contents of the first free blocks become, by `block_chain::fill` cut at any word, each file stands as it was.
 pub fn filled_blocks_leave_the_tree()
-    ensures { (m after : List ℕ) (n : ℕ) → length m ≡ WORDS → TreeStands m
+    ensures { (m after : List ℕ) (n : ℕ) → IsMemory m → TreeStands m
         → OnlyContent m (take n (free_chain m)) after → SameTree m after }
 {}

@@ -43,6 +43,21 @@ pub(crate) const CREATE_SETS: u16 = ENTRY_WORDS as u16 + 2;
 /// one for each of their three runs.
 pub(crate) const CREATE_WRITES: u16 = MOST_FILE_BLOCKS + 3 * ((CREATE_SETS + 7) / 8) + 3;
 
+/// The header's word that holds the mark of the memory's format.
+pub const MARK_WORD: u16 = 0;
+
+/// The mark of format 2: "TSC2".
+pub const MARK: u32 = 0x5453_4332;
+
+/// The mark of format 1: "TSC1".
+pub const OLD_MARK: u32 = 0x5453_4331;
+
+/// The header's word that names, in format 2, the page where the blocks end.
+pub const PAGES_WORD: u16 = 3;
+
+/// The page where the blocks of format 1 end.
+pub const OLD_END_PAGE: u16 = 1024;
+
 /// The header's word that holds the state of the card: 0 in use, 1 terminated.
 pub const STATE_WORD: u16 = 2;
 

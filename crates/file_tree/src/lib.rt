@@ -4,6 +4,7 @@
 mod creating;
 mod deleting;
 mod entry;
+mod format;
 mod index;
 pub mod index_laws;
 pub mod kinds;
@@ -26,7 +27,10 @@ pub use creating::{Creation, create};
 pub use deleting::delete;
 pub use entry::Entry;
 pub use index::Index;
-pub use layout::{CARD_TERMINATED, DEEPEST, ENTRIES, FIRST_ENTRY_PAGE, RECORDS_WORD, STATE_WORD};
+pub use layout::{
+    CARD_TERMINATED, DEEPEST, ENTRIES, FIRST_ENTRY_PAGE, MARK, MARK_WORD, OLD_END_PAGE, OLD_MARK,
+    PAGES_WORD, RECORDS_WORD, STATE_WORD,
+};
 pub use life_cycles::{is_allowed, is_barred, next_life_cycle, set_life_cycle, terminate_card};
 pub use look_up::{Reached, find_short, select};
 pub use naming::{find_name, find_parent, find_path, find_path_from_master};

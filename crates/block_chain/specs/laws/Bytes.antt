@@ -10,53 +10,60 @@ use Rattle.std.proofs.lemmas.Bool.{cases_lt}
 use Rattle.std.proofs.lemmas.List.{length-append, get_or-append_right}
 use Rattle.std.specs.Prelude.{◌≡◌, ◌<◌, ◌≤◌, ◌+◌, ◌-◌, ◌*◌, ◌/◌, ◌%◌, ℕ, zero, suc, List, [], ◌∷◌, length}
 use Rattle.std.specs.Prelude.{slice_index}
-use Rattle.nvm_board.specs.Facts.{address}
-use Rattle.nvm_board.specs.declared.board.TheConstants.{WORDS, PAGE_WORDS}
+use Rattle.nvm_board.specs.Facts.{address, IsMemory}
+use Rattle.nvm_board.specs.declared.board.TheConstants.{PAGE_WORDS}
 use Rattle.block_chain.specs.Chains.{Leads, bytes_of}
 use Rattle.block_chain.specs.Words.{word, link, word_bytes, block_bytes, IsBlock}
 use Rattle.block_chain.specs.declared.layout.TheConstants.{BLOCK_BYTES, BLOCK_WORDS}
+use Rattle.nvm_board.specs.laws.Sizes.{page_within}
+use Rattle.block_chain.specs.laws.Chains.{block_same}
 use Rattle.block_chain.specs.laws.Words.{index-block_bytes, length-block_bytes}
 
 -- these are pages of blocks
-abbrev pub AreBlocks : List ℕ → Type 0
-AreBlocks [] = Unit {0}
-AreBlocks (p ∷ ps) = IsBlock p × AreBlocks ps
+abbrev pub AreBlocks : List ℕ → List ℕ → Type 0
+AreBlocks m [] = Unit {0}
+AreBlocks m (p ∷ ps) = IsBlock m p × AreBlocks m ps
 
-pub leads_blocks : (m : List ℕ) (from to : ℕ) (ps : List ℕ) → Leads m from ps to → AreBlocks ps
+-- also in each memory of that size
+pub blocks_same : (m after ps : List ℕ) → length after ≡ length m → AreBlocks m ps → AreBlocks after ps
+blocks_same m after [] size blocks = tt
+blocks_same m after (p ∷ ps) size blocks = (block_same m after p size blocks.0, blocks_same m after ps size blocks.1)
+
+pub leads_blocks : (m : List ℕ) (from to : ℕ) (ps : List ℕ) → Leads m from ps to → AreBlocks m ps
 leads_blocks m from to [] leads = tt
 leads_blocks m from to (p ∷ ps) leads = (leads.1, leads_blocks m (link m p) to ps leads.2)
 
-pub block_in : (ps : List ℕ) (k : ℕ) → AreBlocks ps → k < length ps → IsBlock (slice_index ps k)
-block_in [] k blocks lt = absurd (omega (arith, lt))
-block_in (p ∷ ps) zero blocks lt = blocks.0
-block_in (p ∷ ps) (suc k) blocks lt = block_in ps k blocks.1 (omega (arith, lt))
+pub block_in : (m ps : List ℕ) (k : ℕ) → AreBlocks m ps → k < length ps → IsBlock m (slice_index ps k)
+block_in m [] k blocks lt = absurd (omega (arith, lt))
+block_in m (p ∷ ps) zero blocks lt = blocks.0
+block_in m (p ∷ ps) (suc k) blocks lt = block_in m ps k blocks.1 (omega (arith, lt))
 
-pub blocks_take : (n : ℕ) (ps : List ℕ) → AreBlocks ps → AreBlocks (take n ps)
-blocks_take zero ps blocks = tt
-blocks_take (suc n) [] blocks = tt
-blocks_take (suc n) (p ∷ ps) blocks = (blocks.0, blocks_take n ps blocks.1)
+pub blocks_take : (m : List ℕ) (n : ℕ) (ps : List ℕ) → AreBlocks m ps → AreBlocks m (take n ps)
+blocks_take m zero ps blocks = tt
+blocks_take m (suc n) [] blocks = tt
+blocks_take m (suc n) (p ∷ ps) blocks = (blocks.0, blocks_take m n ps blocks.1)
 
 -- content word k of a chain's blocks
 abbrev pub content_word : List ℕ → List ℕ → ℕ → ℕ
 content_word m ps k = word m (slice_index ps (k / BLOCK_WORDS)) (1 + k % BLOCK_WORDS)
 
-pub length-bytes_of : (m ps : List ℕ) → length m ≡ WORDS → AreBlocks ps
+pub length-bytes_of : (m ps : List ℕ) → IsMemory m → AreBlocks m ps
     → length (bytes_of m ps) ≡ BLOCK_BYTES * length ps
 unfolding bytes_of
 length-bytes_of m [] sized blocks = refl
 length-bytes_of m (p ∷ ps) sized blocks =
     let a = length-append (block_bytes m p) (bytes_of m ps) in
-    let within : address p PAGE_WORDS ≤ length m = omega (arith, sized, blocks.0.1) in
+    let within : address p PAGE_WORDS ≤ length m = page_within m p sized blocks.0.1 in
     let b = length-block_bytes m p within in
     let c = length-bytes_of m ps sized blocks.1 in omega (arith, a, b, c)
 
 -- a byte of a chain is a byte of one of its content words
-pub index-bytes_of : (m ps : List ℕ) (i : ℕ) → length m ≡ WORDS → AreBlocks ps → i < BLOCK_BYTES * length ps
+pub index-bytes_of : (m ps : List ℕ) (i : ℕ) → IsMemory m → AreBlocks m ps → i < BLOCK_BYTES * length ps
     → slice_index (bytes_of m ps) i ≡ slice_index (word_bytes (content_word m ps (i / 4))) (i % 4)
 unfolding bytes_of
 index-bytes_of m [] i sized blocks lt = absurd (omega (arith, lt))
 index-bytes_of m (p ∷ ps) i sized blocks lt =
-    let within : address p PAGE_WORDS ≤ length m = omega (arith, sized, blocks.0.1) in
+    let within : address p PAGE_WORDS ≤ length m = page_within m p sized blocks.0.1 in
     let size = length-block_bytes m p within in
     ⊎_elim
     (λ (here : i < BLOCK_BYTES).
@@ -77,7 +84,7 @@ index-bytes_of m (p ∷ ps) i sized blocks lt =
     (cases_lt i BLOCK_BYTES)
 
 -- some bytes of a word are bytes of its chain in a row
-pub bytes_run : (m ps : List ℕ) (at some : ℕ) → length m ≡ WORDS → AreBlocks ps → at + some ≤ BLOCK_BYTES * length ps
+pub bytes_run : (m ps : List ℕ) (at some : ℕ) → IsMemory m → AreBlocks m ps → at + some ≤ BLOCK_BYTES * length ps
     → at % 4 + some ≤ 4
     → take some (drop (at % 4) (word_bytes (content_word m ps (at / 4)))) ≡ take some (drop at (bytes_of m ps))
 bytes_run m ps at some sized blocks within fits =

@@ -5,11 +5,13 @@ use Rattle.std.proofs.lemmas.Bool.Decides.{eqb_tells}
 use Rattle.std.proofs.lemmas.List.{get_or_past}
 use Rattle.std.specs.Prelude.{◌≡◌, ◌≢◌, ◌<◌, ◌≤◌, ◌+◌, ℕ, zero, suc, Bool, if◌then◌else◌, List, [], ◌∷◌, ◌++◌}
 use Rattle.std.specs.Prelude.{length, slice_index}
-use Rattle.nvm_board.specs.declared.board.TheConstants.{PAGES}
+use Rattle.nvm_board.specs.declared.board.TheConstants.{MOST_PAGES}
+use Rattle.nvm_board.specs.Facts.{IsMemory}
+use Rattle.nvm_board.specs.laws.Sizes.{pages_same}
 use Rattle.block_chain.specs.Chains.{Leads, pages_from, chain, IsChain}
 use Rattle.block_chain.specs.Counts.{count, NoneTwice}
 use Rattle.block_chain.specs.Words.{link, IsBlock}
-use Rattle.block_chain.specs.declared.layout.TheConstants.{BLOCKS}
+use Rattle.block_chain.specs.declared.layout.TheConstants.{MOST_BLOCKS}
 use Rattle.block_chain.specs.laws.Counts.{count-cons, count-here, count-append}
 
 -- what the links lead over is the chain
@@ -32,7 +34,7 @@ pages_are m (suc n) from (p ∷ ps) leads fits =
     ]
 
 pub chain_is : (m : List ℕ) (from : ℕ) (ps : List ℕ) → IsChain m from ps → chain m from ≡ ps
-chain_is m from ps is = pages_are m BLOCKS from ps is.leads is.size
+chain_is m from ps is = pages_are m MOST_BLOCKS from ps is.leads is.size
 
 -- one way after another
 pub leads_then : (m : List ℕ) (from between to : ℕ) (ps qs : List ℕ) → Leads m from ps between → Leads m between qs to
@@ -49,7 +51,7 @@ leads_to m from to p [] qs leads = leads.0
 leads_to m from to p (q ∷ ps) qs leads = (leads.0, leads.1, leads_to m (link m q) to p ps qs leads.2)
 
 -- the rest of a way, from a block on
-pub leads_on : (m : List ℕ) (from to p : ℕ) (ps qs : List ℕ) → Leads m from (ps ++ p ∷ qs) to → IsBlock p
+pub leads_on : (m : List ℕ) (from to p : ℕ) (ps qs : List ℕ) → Leads m from (ps ++ p ∷ qs) to → IsBlock m p
     × Leads m (link m p) qs to
 leads_on m from to p [] qs leads = (leads.1, leads.2)
 leads_on m from to p (q ∷ ps) qs leads = leads_on m (link m q) to p ps qs leads.2
@@ -69,34 +71,40 @@ leads_next m from (p ∷ ps) (suc k) leads lt =
     leads_next m (link m p) ps k leads.2 below ∙ ap (λ (i : ℕ). slice_index (p ∷ ps) i) (sym place)
 
 pub leads_block : (m : List ℕ) (from to : ℕ) (ps : List ℕ) (k : ℕ) → Leads m from ps to → k < length ps
-    → IsBlock (slice_index ps k)
+    → IsBlock m (slice_index ps k)
 leads_block m from to [] k leads lt = absurd (omega arith)
 leads_block m from to (p ∷ ps) zero leads lt = leads.1
 leads_block m from to (p ∷ ps) (suc k) leads lt =
     let below : k < length ps = omega arith in leads_block m (link m p) to ps k leads.2 below
 
+-- a page of a memory is one of each memory of that size
+pub block_same : (m n : List ℕ) (page : ℕ) → length n ≡ length m → IsBlock m page → IsBlock n page
+block_same m n page size block = (block.0, (let same = pages_same m n size in omega (arith, same, block.1)))
+
 -- a way depends on the links of its blocks alone
-pub leads_same : (m n : List ℕ) (from to : ℕ) (ps : List ℕ) → ((q : ℕ) → 1 ≤ count q ps → link n q ≡ link m q)
-    → Leads m from ps to → Leads n from ps to
-leads_same m n from to [] same leads = leads
-leads_same m n from to (p ∷ ps) same leads =
+pub leads_same : (m n : List ℕ) (from to : ℕ) (ps : List ℕ) → length n ≡ length m
+    → ((q : ℕ) → 1 ≤ count q ps → link n q ≡ link m q) → Leads m from ps to → Leads n from ps to
+leads_same m n from to [] size same leads = leads
+leads_same m n from to (p ∷ ps) size same leads =
     let here : link n p ≡ link m p = same p (let e = count-here p ps in omega (arith, e)) in
     let later : (q : ℕ) → 1 ≤ count q ps → link n q ≡ link m q =
     λ q some. same q (let e = count-cons q p ps in omega (arith, e, some)) in
     let family : ℕ → Type 0 = λ q. Leads n q ps to in
-    (leads.0, leads.1, subst family (sym here) (leads_same m n (link m p) to ps later leads.2))
+    (leads.0, block_same m n p size leads.1, subst family (sym here) (leads_same m n (link m p) to ps size later leads.2))
 
 -- each number of a chain, and that past its end, is that of a page
-pub leads_small : (m : List ℕ) (from : ℕ) (ps : List ℕ) (k : ℕ) → Leads m from ps 0 → slice_index ps k < PAGES
-leads_small m from ps k leads = ⊎_elim
-    (λ (within : k < length ps). (leads_block m from 0 ps k leads within).1)
+pub leads_small : (m : List ℕ) (from : ℕ) (ps : List ℕ) (k : ℕ) → IsMemory m → Leads m from ps 0
+    → slice_index ps k < MOST_PAGES
+leads_small m from ps k sized leads = ⊎_elim
+    (λ (within : k < length ps). let below = (leads_block m from 0 ps k leads within).1 in
+    let most = sized.most in let small : slice_index ps k < MOST_PAGES = omega (arith, below, most) in small)
     (λ (past : length ps ≤ k). let none =
-    get_or_past ps k 0 past in let small : slice_index ps k < PAGES = omega (arith, none) in small)
+    get_or_past ps k 0 past in let small : slice_index ps k < MOST_PAGES = omega (arith, none) in small)
     (cases_lt k (length ps))
 
 -- where a chain has a block, there is a page
 pub leads_some : (m : List ℕ) (from : ℕ) (ps : List ℕ) (k : ℕ) → Leads m from ps 0 → slice_index ps k ≢ 0
-    → IsBlock (slice_index ps k) × (k < length ps)
+    → IsBlock m (slice_index ps k) × (k < length ps)
 leads_some m from ps k leads some = ⊎_elim
     (λ (within : k < length ps). (leads_block m from 0 ps k leads within, within))
     (λ (past : length ps ≤ k). absurd (some (get_or_past ps k 0 past)))
@@ -114,59 +122,60 @@ leads_ended m from ps k leads none = ⊎_elim
 -- What is known at a block of a chain, by its place, in a memory whose words are those of the chain.
 pub record IsAt (n : List ℕ) (ps : List ℕ) (k page : ℕ) : Type 0 where
   pub within : k < length ps
-  pub block : IsBlock page
+  pub block : IsBlock n page
   pub next : link n page ≡ slice_index ps (k + 1)
-  pub small : link n page < PAGES
+  pub small : link n page < MOST_PAGES
 
-pub at_block : (m n : List ℕ) (from : ℕ) (ps : List ℕ) (k page : ℕ) → n ≡ m → Leads m from ps 0
+pub at_block : (m n : List ℕ) (from : ℕ) (ps : List ℕ) (k page : ℕ) → n ≡ m → IsMemory m → Leads m from ps 0
     → page ≡ slice_index ps k → k < length ps → IsAt n ps k page
-at_block m n from ps k page same leads place within =
+at_block m n from ps k page same sized leads place within =
     let next : link n page ≡ slice_index ps (k + 1) =
     ap₂ (λ (l : List ℕ) (p : ℕ). link l p) same place ∙ leads_next m from ps k leads within in
-    let small = leads_small m from ps (k + 1) leads in
+    let small = leads_small m from ps (k + 1) sized leads in
     record {
       within = within;
-      block = (let family : ℕ
-          → Type 0 = λ q. IsBlock q in subst family (sym place) (leads_block m from 0 ps k leads within));
+      block = (let family : ℕ → Type 0 = λ q. IsBlock n q in
+          let in_n : List ℕ → Type 0 = λ l. IsBlock l (slice_index ps k) in
+          subst family (sym place) (subst in_n (sym same) (leads_block m from 0 ps k leads within)));
       next = next;
-      small = (let z : link n page < PAGES = omega (arith, next, small) in z);
+      small = (let z : link n page < MOST_PAGES = omega (arith, next, small) in z);
     }
 
-pub at_some : (m n : List ℕ) (from : ℕ) (ps : List ℕ) (k page : ℕ) → n ≡ m → Leads m from ps 0
+pub at_some : (m n : List ℕ) (from : ℕ) (ps : List ℕ) (k page : ℕ) → n ≡ m → IsMemory m → Leads m from ps 0
     → page ≡ slice_index ps k → page ≢ 0 → IsAt n ps k page
-at_some m n from ps k page same leads place some =
-    at_block m n from ps k page same leads place (leads_some m from ps k leads (λ none. some (place ∙ none))).1
+at_some m n from ps k page same sized leads place some =
+    at_block m n from ps k page same sized leads place (leads_some m from ps k leads (λ none. some (place ∙ none))).1
 
-pub head_small : (m : List ℕ) (from : ℕ) (ps : List ℕ) → Leads m from ps 0 → from < PAGES
-head_small m from ps leads =
-    let first = leads_first m from ps leads in let small = leads_small m from ps 0 leads in omega (arith, first, small)
+pub head_small : (m : List ℕ) (from : ℕ) (ps : List ℕ) → IsMemory m → Leads m from ps 0 → from < MOST_PAGES
+head_small m from ps sized leads =
+    let first = leads_first m from ps leads in let small = leads_small m from ps 0 sized leads in omega (arith, first, small)
 
 -- A chain is cut behind a block: its link is 0, and no other link is other.
-pub leads_cut : (m n : List ℕ) (from p : ℕ) (ps qs : List ℕ) → Leads m from (ps ++ p ∷ qs) 0 → NoneTwice (ps ++ p ∷ qs)
-    → link n p ≡ 0 → ((q : ℕ) → q ≢ p → link n q ≡ link m q) → Leads n from (ps ++ p ∷ []) 0 × Leads n (link m p) qs 0
-leads_cut m n from p ps qs leads once end others =
+pub leads_cut : (m n : List ℕ) (from p : ℕ) (ps qs : List ℕ) → length n ≡ length m → Leads m from (ps ++ p ∷ qs) 0
+    → NoneTwice (ps ++ p ∷ qs) → link n p ≡ 0 → ((q : ℕ) → q ≢ p → link n q ≡ link m q) → Leads n from (ps ++ p ∷ []) 0 × Leads n (link m p) qs 0
+leads_cut m n from p ps qs size leads once end others =
     let most = once p in
     let whole = count-append p ps (p ∷ qs) in
     let here = count-here p qs in
     let none_before : count p ps ≡ 0 = omega (arith, most, whole, here) in
     let none_after : count p qs ≡ 0 = omega (arith, most, whole, here) in
     let before : Leads n from ps p =
-    leads_same m n from p ps (λ q some. others q
+    leads_same m n from p ps size (λ q some. others q
     (λ is. let e : count q ps ≡ count p ps =
     ap (λ (r : ℕ). count r ps) is in omega (arith, e, none_before, some)))
     (leads_to m from 0 p ps qs leads) in
     let on = leads_on m from 0 p ps qs leads in
     let after : Leads n (link m p) qs 0 =
-    leads_same m n (link m p) 0 qs (λ q some. others q
+    leads_same m n (link m p) 0 qs size (λ q some. others q
     (λ is. let e : count q qs ≡ count p qs =
     ap (λ (r : ℕ). count r qs) is in omega (arith, e, none_after, some))) on.1 in
-    (leads_then n from p 0 ps (p ∷ []) before (refl, on.0, end), after)
+    (leads_then n from p 0 ps (p ∷ []) before (refl, block_same m n p size on.0, end), after)
 
 -- Two chains are joined: the last block of the first links to the other, and no other link is other.
-pub leads_joined : (m n : List ℕ) (from p head : ℕ) (ps qs : List ℕ) → Leads m from (ps ++ p ∷ []) 0
-    → Leads m head qs 0 → NoneTwice ((ps ++ p ∷ []) ++ qs)
+pub leads_joined : (m n : List ℕ) (from p head : ℕ) (ps qs : List ℕ) → length n ≡ length m
+    → Leads m from (ps ++ p ∷ []) 0 → Leads m head qs 0 → NoneTwice ((ps ++ p ∷ []) ++ qs)
     → link n p ≡ head → ((q : ℕ) → q ≢ p → link n q ≡ link m q) → Leads n from ((ps ++ p ∷ []) ++ qs) 0
-leads_joined m n from p head ps qs first rest once joins others =
+leads_joined m n from p head ps qs size first rest once joins others =
     let most = once p in
     let whole = count-append p (ps ++ p ∷ []) qs in
     let part = count-append p ps (p ∷ []) in
@@ -174,13 +183,13 @@ leads_joined m n from p head ps qs first rest once joins others =
     let none_before : count p ps ≡ 0 = omega (arith, most, whole, part, here) in
     let none_after : count p qs ≡ 0 = omega (arith, most, whole, part, here) in
     let before : Leads n from ps p =
-    leads_same m n from p ps (λ q some. others q
+    leads_same m n from p ps size (λ q some. others q
     (λ is. let e : count q ps ≡ count p ps =
     ap (λ (r : ℕ). count r ps) is in omega (arith, e, none_before, some)))
     (leads_to m from 0 p ps [] first) in
     let on = leads_on m from 0 p ps [] first in
     let after : Leads n head qs 0 =
-    leads_same m n head 0 qs (λ q some. others q
+    leads_same m n head 0 qs size (λ q some. others q
     (λ is. let e : count q qs ≡ count p qs =
     ap (λ (r : ℕ). count r qs) is in omega (arith, e, none_after, some))) rest in
-    leads_then n from head 0 (ps ++ p ∷ []) qs (leads_then n from p head ps (p ∷ []) before (refl, on.0, joins)) after
+    leads_then n from head 0 (ps ++ p ∷ []) qs (leads_then n from p head ps (p ∷ []) before (refl, block_same m n p size on.0, joins)) after

@@ -4,7 +4,7 @@ use Rattle.std.specs.Prelude.{slice_index_or, All}
 use Rattle.std.proofs.Common.{sym, ◌∙◌, ap, arith}
 use Rattle.std.proofs.lemmas.List.{length-append}
 use Rattle.std.proofs.lemmas.List.Elements.{All-append}
-use Rattle.block_chain.specs.declared.layout.TheConstants.{FREE_HEAD, BLOCKS}
+use Rattle.block_chain.specs.declared.layout.TheConstants.{FREE_HEAD, MOST_BLOCKS}
 use Rattle.block_chain.specs.declared.chain.Extent.{Extent}
 use Rattle.block_chain.specs.Counts.{count}
 use Rattle.block_chain.specs.Chains.{free_chain, laid, IsChain, HasFree, IsWhole, AreApart}
@@ -14,12 +14,12 @@ use Rattle.block_chain.specs.laws.Joining.{laid-nil, laid-cons}
 use Rattle.block_chain.specs.laws.Laying.{pages_most, laid_out-nil, laid_out-cons, laid_out-append}
 
 -- the free blocks of a layout are a chain
-pub laid_has_free : (m : List ℕ) (es : List Extent) → AreLaid m es → HasFree m
-laid_has_free m es laid = record {
+pub laid_has_free : (n : ℕ) (m : List ℕ) (es : List Extent) → AreLaid n m es → HasFree m
+laid_has_free n m es laid = record {
   leads = laid.free;
   once = λ q. let most =
       laid.once q in let parts = count-append q (free_chain m) (laid_out m es) in omega (arith, most, parts);
-  size = pages_most m BLOCKS (slice_index m FREE_HEAD);
+  size = pages_most m MOST_BLOCKS (slice_index m FREE_HEAD);
 }
 
 -- what holds of each of two lists, laid end to end
@@ -75,15 +75,15 @@ count_extent m q (e ∷ es) (suc i) d lt =
     omega (arith, parts, rest)
 
 -- each extent of a layout is a chain
-pub laid_chains : (m : List ℕ) (es : List Extent) → AreLaid m es → All (λ e. IsChain m e.chain.first (blocks_of m e)) es
-laid_chains m es laid i d lt = record {
+pub laid_chains : (n : ℕ) (m : List ℕ) (es : List Extent) → AreLaid n m es → All (λ e. IsChain m e.chain.first (blocks_of m e)) es
+laid_chains n m es laid i d lt = record {
   leads = (laid.each i d lt).leads;
   once = λ q.
       let own = count_extent m q es i d lt in
       let most = laid.once q in
       let parts = count-append q (free_chain m) (laid_out m es) in
       omega (arith, own, most, parts);
-  size = pages_most m BLOCKS (slice_index_or es i d).chain.first;
+  size = pages_most m MOST_BLOCKS (slice_index_or es i d).chain.first;
 }
 
 -- an extent that has blocks is a whole chain
@@ -111,9 +111,9 @@ laid_chains_of m (e ∷ es) =
     ∙ sym (laid_out-cons m e es)
 
 -- Some of the extents of a layout, each with blocks, are chains apart.
-pub laid_apart : (m : List ℕ) (es given kept : List Extent) → AreLaid m es → AreSplit m es given kept
+pub laid_apart : (n : ℕ) (m : List ℕ) (es given kept : List Extent) → n ≤ MOST_BLOCKS → AreLaid n m es → AreSplit m es given kept
     → All (IsExtent m) given → All (λ e. 1 ≤ e.blocks) given → AreApart m (chains_of given)
-laid_apart m es given kept laid_before split each some = record {
+laid_apart n m es given kept fits laid_before split each some = record {
   each = extents_whole m given each some;
   once = λ q.
       let one = ap (count q) (laid_chains_of m given) in
@@ -128,7 +128,7 @@ laid_apart m es given kept laid_before split each some = record {
       let whole = laid_before.whole in
       let parts = length-append (free_chain m) (laid_out m es) in
       let cut = split.size in
-      omega (arith, one, all, whole, parts, cut);
+      omega (arith, one, all, whole, parts, cut, fits);
 }
 
 -- No extents are split into none, and an extent more is one of either part.

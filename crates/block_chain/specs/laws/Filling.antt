@@ -7,10 +7,10 @@ use Rattle.std.proofs.lemmas.Bool.Decides.{eqb_tells}
 use Rattle.std.proofs.lemmas.List.{length-take-le, get_or-replicate, length-replicate}
 use Rattle.std.specs.Prelude.{◌≡◌, ◌≢◌, ◌⊎◌, ◌<◌, ◌≤◌, ◌+◌, ◌-◌, ◌*◌, ◌/◌, ◌%◌, ℕ, zero, suc, List, length}
 use Rattle.std.specs.Prelude.{slice_index, take, replicate}
-use Rattle.nvm_board.specs.Facts.{address}
+use Rattle.nvm_board.specs.Facts.{address, IsMemory}
 use Rattle.nvm_board.specs.Torn.{IsMixture, written}
 use Rattle.nvm_board.specs.laws.Torn.{written-inside, written-elsewhere}
-use Rattle.nvm_board.specs.declared.board.TheConstants.{WORDS, PAGE_WORDS}
+use Rattle.nvm_board.specs.declared.board.TheConstants.{PAGE_WORDS}
 use Rattle.block_chain.specs.Chains.{bytes_of}
 use Rattle.block_chain.specs.Changes.{OnlyContent}
 use Rattle.block_chain.specs.Counts.{count, NoneTwice, IsNotIn}
@@ -57,7 +57,7 @@ fill_more m now after ps k page run only within is long mixture = record {
     cases_le a b = ⊎_elim (λ (lt : b < a). inr lt) (λ (le : a ≤ b). inl le) (cases_lt b a)
 
 -- blocks that are filled hold that byte alone
-pub filled_bytes : (m ps : List ℕ) (byte : ℕ) → length m ≡ WORDS → AreBlocks ps → byte < 256
+pub filled_bytes : (m ps : List ℕ) (byte : ℕ) → IsMemory m → AreBlocks m ps → byte < 256
     → AreFilled m ps (filled_word byte) → (i : ℕ) → i < BLOCK_BYTES * length ps → slice_index (bytes_of m ps) i ≡ byte
 filled_bytes m ps byte sized blocks small filled i lt =
     let k_in : i / 4 / BLOCK_WORDS < length ps = omega (arith, lt) in
@@ -75,7 +75,7 @@ filled_bytes m ps byte sized blocks small filled i lt =
 
 -- One block more is filled.
 pub filled_more : (now after ps : List ℕ) (n i page w : ℕ) → NoneTwice ps → i < n → n ≤ length ps
-    → page ≡ slice_index ps i → IsBlock page → length now ≡ WORDS
+    → page ≡ slice_index ps i → IsBlock now page → IsMemory now
     → after ≡ written now (address page 1) (replicate BLOCK_WORDS w) → AreFilled now (take i ps) w
     → AreFilled after (take (i + 1) ps) w
 filled_more now after ps n i page w once lt enough is block sized done filled k place below low high =
@@ -90,7 +90,7 @@ filled_more now after ps n i page w once lt enough is block sized done filled k 
           let at : address (slice_index ps k) place ≡ address page 1 + (place - 1) =
           let e : slice_index ps k ≡ page = ap (slice_index ps) here.1 ∙ sym is in omega (arith, e, low) in
           let fits : address page 1 + length (replicate BLOCK_WORDS w) ≤ length now =
-          omega (arith, long, sized, block.1) in
+          omega (arith, long, sized.whole, sized.least, block.1) in
           let inside : place - 1 < length (replicate BLOCK_WORDS w) = omega (arith, long, low, high) in
           ap (slice_index (written now (address page 1) (replicate BLOCK_WORDS w))) at
           ∙ written-inside now (replicate BLOCK_WORDS w) (address page 1) (place - 1) fits inside
@@ -115,7 +115,7 @@ filled_more now after ps n i page w once lt enough is block sized done filled k 
     ]
 
 -- so all their bytes are this one
-pub all_filled : (m ps : List ℕ) (byte : ℕ) → length m ≡ WORDS → AreBlocks ps → byte < 256
+pub all_filled : (m ps : List ℕ) (byte : ℕ) → IsMemory m → AreBlocks m ps → byte < 256
     → AreFilled m ps (filled_word byte)
     → bytes_of m ps ≡ replicate (BLOCK_BYTES * length ps) byte
 all_filled m ps byte sized blocks small filled =
@@ -126,8 +126,8 @@ all_filled m ps byte sized blocks small filled =
     ∙ sym (get_or-replicate (BLOCK_BYTES * length ps) i byte 0 inside))
 
 -- the first n of these blocks are filled: n times as many bytes
-pub first_filled : (m ps : List ℕ) (n byte : ℕ) → length m ≡ WORDS → AreBlocks ps → n ≤ length ps → byte < 256
+pub first_filled : (m ps : List ℕ) (n byte : ℕ) → IsMemory m → AreBlocks m ps → n ≤ length ps → byte < 256
     → AreFilled m (take n ps) (filled_word byte) → bytes_of m (take n ps) ≡ replicate (BLOCK_BYTES * n) byte
 first_filled m ps n byte sized blocks enough small filled =
-    all_filled m (take n ps) byte sized (blocks_take n ps blocks) small filled
+    all_filled m (take n ps) byte sized (blocks_take m n ps blocks) small filled
     ∙ ap (λ (k : ℕ). replicate (BLOCK_BYTES * k) byte) (length-take-le n ps enough)

@@ -3,8 +3,8 @@ use Rattle.std.proofs.Common.{refl, sym, ◌∙◌, ap, subst, arith, inl, inr, 
 use Rattle.std.proofs.Math.ListN.{length-set}
 use Rattle.std.specs.Prelude.{◌≡◌, ◌≢◌, ◌⊎◌, ◌<◌, ◌≤◌, ◌+◌, ◌-◌, ℕ, suc, List, [], ◌∷◌, ◌++◌, length, slice_index}
 use Rattle.std.specs.Prelude.{slice_set, take, drop, All}
-use Rattle.nvm_board.specs.Facts.{address}
-use Rattle.nvm_board.specs.declared.board.TheConstants.{WORDS, PAGE_WORDS}
+use Rattle.nvm_board.specs.Facts.{address, IsMemory}
+use Rattle.nvm_board.specs.declared.board.TheConstants.{PAGE_WORDS}
 use Rattle.block_chain.specs.Chains.{Leads, free_chain, HasFree, IsWhole, chain_of, laid}
 use Rattle.block_chain.specs.Counts.{count, NoneTwice, IsNotIn}
 use Rattle.block_chain.specs.Parts.{first_of, joined}
@@ -53,11 +53,11 @@ whole_split m c whole =
     drop_all [] = refl
     drop_all (x ∷ xs) = drop_all xs
 
-pub whole_block : (m : List ℕ) (c : Chain) → IsWhole m c → IsBlock c.last
+pub whole_block : (m : List ℕ) (c : Chain) → IsWhole m c → IsBlock m c.last
 whole_block m c whole =
     let some = whole.some in
     let within : length (chain_of m c) - 1 < length (chain_of m c) = omega arith in
-    let family : ℕ → Type 0 = λ q. IsBlock q in
+    let family : ℕ → Type 0 = λ q. IsBlock m q in
     subst family (sym whole.last) (leads_block m c.first 0 (chain_of m c)
     (length (chain_of m c) - 1) whole.leads within)
 
@@ -92,7 +92,7 @@ joined-other m (c ∷ cs) each page place small differs =
     ∙ joined-other m cs (tail_whole m c cs each) page place small rest
 
 -- the joined chain
-pub joined-leads : (m : List ℕ) (cs : List Chain) → length m ≡ WORDS → HasFree m → All (IsWhole m) cs
+pub joined-leads : (m : List ℕ) (cs : List Chain) → IsMemory m → HasFree m → All (IsWhole m) cs
     → NoneTwice (laid m cs ++ free_chain m)
     → Leads (joined m cs) (first_of m cs) (laid m cs ++ free_chain m) 0
 unfolding laid
@@ -112,7 +112,7 @@ joined-leads m (c ∷ cs) sized free each once =
     let rest : Leads (joined m cs) (first_of m cs) qs 0 =
     joined-leads m cs sized free (tail_whole m c cs each) once_rest in
     let kept : Leads (joined m cs) c.first ps 0 =
-    leads_same m (joined m cs) c.first 0 ps (λ q some. joined-other m cs (tail_whole m c cs each) q 0 (omega arith)
+    leads_same m (joined m cs) c.first 0 ps (length-joined m cs) (λ q some. joined-other m cs (tail_whole m c cs each) q 0 (omega arith)
     (inr (let most =
     once_all q in let parts =
     count-append q ps qs in let more =
@@ -120,12 +120,13 @@ joined-leads m (c ∷ cs) sized free each once =
     omega (arith, most, parts, more, some) in z))) whole.leads in
     let block = whole_block m c whole in
     let inside : address c.last 0 < length (joined m cs) = let l = length-joined m cs in
-    omega (arith, l, block.1, sized) in
+    omega (arith, l, block.1, sized.whole, sized.least) in
     let family : List ℕ → Type 0 = λ l. Leads (joined m cs) c.first l 0 in
     let once_split : NoneTwice ((front ++ c.last ∷ []) ++ qs) =
     subst NoneTwice (ap (λ (l : List ℕ). l ++ qs) split) once_all in
     let all : Leads n c.first ((front ++ c.last ∷ []) ++ qs) 0 =
-    leads_joined (joined m cs) n c.first c.last (first_of m cs) front qs (subst family split kept) rest once_split
+    leads_joined (joined m cs) n c.first c.last (first_of m cs) front qs
+    (length-set (joined m cs) (address c.last 0) (first_of m cs)) (subst family split kept) rest once_split
     (word-set_same (joined m cs) c.last 0 (first_of m cs) inside)
     (λ q differs. word-set_other (joined m cs) c.last 0 q 0 (first_of m cs) (omega arith) (omega arith)
     (inl differs)) in

@@ -10,18 +10,19 @@ use Rattle.std.specs.Prelude.{◌≡◌, ◌≢◌, ◌<◌, ◌≤◌, ◌+◌,
 use Rattle.std.specs.Prelude.{length, slice_index, slice_index_or, take, drop, All}
 use Rattle.block_chain.specs.Chains.{Leads, pages_from, free_chain}
 use Rattle.block_chain.specs.Counts.{count}
-use Rattle.block_chain.specs.Layout.{blocks_of, laid_out, IsExtent, AreLaid}
-use Rattle.block_chain.specs.Parts.{marked, AreMarks, Marks, IsFresh}
+use Rattle.nvm_board.specs.Facts.{IsMemory, pages_of}
+use Rattle.block_chain.specs.Layout.{IsOf, blocks_of, laid_out, IsExtent, AreLaid}
+use Rattle.block_chain.specs.Parts.{IsPlace, marked, AreMarks, Marks, IsFresh}
 use Rattle.block_chain.specs.Words.{link, IsBlock}
 use Rattle.block_chain.specs.declared.chain.Extent.{Extent}
-use Rattle.block_chain.specs.declared.layout.TheConstants.{FREE_HEAD, BLOCKS}
+use Rattle.block_chain.specs.declared.layout.TheConstants.{FREE_HEAD, FIRST_BLOCK_PAGE}
 use Rattle.block_chain.specs.laws.Counts.{count-append, count-nil, count-other}
 
 -- what stands on a way is a block
-pub leads_count : (m : List ℕ) (from to q : ℕ) (ps : List ℕ) → Leads m from ps to → 1 ≤ count q ps → IsBlock q
+pub leads_count : (m : List ℕ) (from to q : ℕ) (ps : List ℕ) → Leads m from ps to → 1 ≤ count q ps → IsBlock m q
 leads_count m from to q [] leads some = absurd (let none = count-nil q in omega (arith, none, some))
 leads_count m from to q (p ∷ ps) leads some = elim (eqb_tells q p) [
-  | inl same ↦ let family : ℕ → Type 0 = λ r. IsBlock r in subst family (sym same.1) leads.1
+  | inl same ↦ let family : ℕ → Type 0 = λ r. IsBlock m r in subst family (sym same.1) leads.1
   | inr other ↦ leads_count m (link m p) to q ps leads.2 (let e = count-other q p ps other.1 in omega (arith, e, some))
 ]
 
@@ -51,7 +52,8 @@ unfolding laid_out
 laid_out-cons m e es = refl
 
 -- what stands in extents is a block
-pub laid_count : (m : List ℕ) (q : ℕ) (es : List Extent) → All (IsExtent m) es → 1 ≤ count q (laid_out m es) → IsBlock q
+pub laid_count : (m : List ℕ) (q : ℕ) (es : List Extent) → All (IsExtent m) es → 1 ≤ count q (laid_out m es)
+    → IsBlock m q
 laid_count m q [] each some =
     absurd (let none : count q (laid_out m []) ≡ 0 = ap (count q) (laid_out-nil m)
     ∙ count-nil q in omega (arith, none, some))
@@ -65,25 +67,47 @@ laid_count m q (e ∷ es) each some =
     (omega (arith, none, parts, some)))
     (cases_lt 0 (count q (blocks_of m e)))
 
--- the first i extents are laid, and their blocks are marked
-pub record AreLaidSoFar (m : List ℕ) (es : List Extent) (i : ℕ) (seen : List ℕ) (blocks : ℕ) : Type 0 where
+-- what is laid is one of the n blocks
+pub laid_of : (n : ℕ) (m : List ℕ) (es : List Extent) → AreLaid n m es → (q : ℕ)
+    → 1 ≤ count q (free_chain m ++ laid_out m es) → IsOf n q
+laid_of n m es laid q some =
+    let parts = count-append q (free_chain m) (laid_out m es) in (
+      ⊎_elim
+          (λ (here : 0 < count q (free_chain m)). (leads_count m _ 0 q (free_chain m) laid.free (omega (arith, here))).0)
+          (λ (none : count q (free_chain m) ≤ 0). (laid_count m q es laid.each (omega (arith, none, parts, some))).0)
+          (cases_lt 0 (count q (free_chain m))),
+      ⊎_elim
+          (λ (lt : q < FIRST_BLOCK_PAGE + n). lt)
+          (λ (past : FIRST_BLOCK_PAGE + n ≤ q). absurd (let none = laid.below q past in omega (arith, none, some)))
+          (cases_lt q (FIRST_BLOCK_PAGE + n)),
+    )
+
+-- the first i extents are laid, with blocks before the page `end`, and their blocks are marked
+pub record AreLaidSoFar (end : ℕ) (m : List ℕ) (es : List Extent) (i : ℕ) (seen : List ℕ) (blocks : ℕ) : Type 0 where
   pub free : Leads m (slice_index m FREE_HEAD) (free_chain m) 0
   pub each : All (IsExtent m) (take i es)
-  pub marks : (q : ℕ) → IsBlock q → marked seen q ≡ count q (free_chain m ++ laid_out m (take i es))
+  pub below : (q : ℕ) → end ≤ q → count q (free_chain m ++ laid_out m (take i es)) ≡ 0
+  pub marks : (q : ℕ) → IsPlace q → marked seen q ≡ count q (free_chain m ++ laid_out m (take i es))
   pub fine : AreMarks seen
   pub blocks_are : blocks ≡ length (free_chain m ++ laid_out m (take i es))
 
-module _ (m : List ℕ) (es : List Extent) where
+module _ (n : ℕ) (m : List ℕ) (es : List Extent) where
+  abbrev end : ℕ
+  end = FIRST_BLOCK_PAGE + n
+
   -- the free chain alone
-  pub laid_free : (none seen : List ℕ) (blocks : ℕ) → IsFresh m none (slice_index m FREE_HEAD)
-      → ((q : ℕ) → IsBlock q → marked none q ≡ 0) → Marks none (free_chain m) seen → AreMarks seen
-      → blocks ≡ length (free_chain m) → AreLaidSoFar m es 0 seen blocks
+  pub laid_free : (none seen : List ℕ) (blocks : ℕ) → IsFresh end m none (slice_index m FREE_HEAD)
+      → ((q : ℕ) → IsPlace q → marked none q ≡ 0) → Marks none (free_chain m) seen → AreMarks seen
+      → blocks ≡ length (free_chain m) → AreLaidSoFar end m es 0 seen blocks
   laid_free none seen blocks fresh blank marks fine long =
       let all : free_chain m ++ laid_out m [] ≡ free_chain m ++ [] =
       ap (λ (ps : List ℕ). free_chain m ++ ps) (laid_out-nil m) in
       record {
         free = fresh.leads;
         each = λ i d lt. absurd (omega (arith, lt));
+        below = λ q past.
+            let a = ap (count q) all in let b = count-append q (free_chain m) [] in let c = count-nil q in
+            let none = fresh.below q past in omega (arith, a, b, c, none);
         marks = λ q is.
             let a = ap (count q) all in let b = count-append q (free_chain m) [] in let c = count-nil q in
             let marked_now = marks q is in let was = blank q is in
@@ -95,7 +119,7 @@ module _ (m : List ℕ) (es : List Extent) where
       }
 
   module _ (i : ℕ) (seen : List ℕ) (blocks : ℕ) (e d : Extent) (lt : i < length es) (is : slice_index_or es i d ≡ e)
-      (so_far : AreLaidSoFar m es i seen blocks) where
+      (so_far : AreLaidSoFar end m es i seen blocks) where
     next_is : take (i + 1) es ≡ take i es ++ e ∷ []
     next_is = take_more es i d lt ∙ ap (λ (x : Extent). take i es ++ x ∷ []) is
 
@@ -119,12 +143,14 @@ module _ (m : List ℕ) (es : List Extent) where
         omega (arith, a, b, c)
 
     -- one extent more
-    pub laid_more : (new : List ℕ) → IsExtent m e → Marks seen (blocks_of m e) new → AreMarks new
-        → AreLaidSoFar m es (i + 1) new (blocks + e.blocks)
-    laid_more new extent marks fine = record {
+    pub laid_more : (new : List ℕ) → IsExtent m e → IsFresh end m seen e.chain.first → Marks seen (blocks_of m e) new → AreMarks new
+        → AreLaidSoFar end m es (i + 1) new (blocks + e.blocks)
+    laid_more new extent fresh marks fine = record {
       free = so_far.free;
       each = λ k d below. each_next k d (let l = ap (λ (xs : List Extent). length xs) next_is in let a = length-append
           (take i es) (e ∷ []) in let z : k < length (take i es) + 1 = omega (arith, below, l, a) in z);
+      below = λ q past. let a = so_far.below q past in let b = fresh.below q past in let c = next_count q in
+          omega (arith, a, b, c);
       marks = λ q block. let a =
           so_far.marks q block in let b = marks q block in let c = next_count q in omega (arith, a, b, c);
       fine = fine;
@@ -152,12 +178,23 @@ module _ (m : List ℕ) (es : List Extent) where
             (cases_lt k (length (take i es))))
 
     -- where the memory is laid out, the next extent is fresh
-    pub laid_fresh : AreLaid m es → IsFresh m seen e.chain.first × IsExtent m e
+    pub laid_fresh : AreLaid n m es → IsFresh end m seen e.chain.first × IsExtent m e
     laid_fresh laid =
         let one : Extent → Type 0 = λ x. IsExtent m x in
         let extent : IsExtent m e = subst one is (laid.each i d lt) in (
           record {
             leads = extent.leads;
+            below = λ q past.
+                let b = next_count q in
+                let none = laid.below q past in
+                let c = count-append q (free_chain m) (laid_out m es) in
+                let d = count-append q (free_chain m) (laid_out m (take (i + 1) es)) in
+                let split : count q (laid_out m es) ≡ count q (laid_out m (take (i + 1) es)) + count q
+                (laid_out m (drop (i + 1) es)) =
+                ap (λ (xs : List Extent). count q (laid_out m xs)) (sym (take-append-drop (i + 1) es))
+                ∙ ap (count q) (laid_out-append m (take (i + 1) es) (drop (i + 1) es))
+                ∙ count-append q (laid_out m (take (i + 1) es)) (laid_out m (drop (i + 1) es)) in
+                omega (arith, b, none, c, d, split);
             once = λ q block.
                 let a = so_far.marks q block in
                 let b = next_count q in
@@ -175,7 +212,7 @@ module _ (m : List ℕ) (es : List Extent) where
         )
 
     -- then the blocks so far and its own are not more than there are
-    pub laid_fits : AreLaid m es → blocks + e.blocks ≤ BLOCKS
+    pub laid_fits : AreLaid n m es → blocks + e.blocks ≤ n
     laid_fits laid =
         let extent = (laid_fresh laid).1.blocks in
         let a = so_far.blocks_are in
@@ -189,26 +226,30 @@ module _ (m : List ℕ) (es : List Extent) where
         omega (arith, extent, a, b, c, whole, more, split)
 
   -- all extents, and as many blocks as there are
-  pub laid_all : (seen : List ℕ) (blocks : ℕ) → AreLaidSoFar m es (length es) seen blocks → blocks ≡ BLOCKS
-      → AreLaid m es
-  laid_all seen blocks so_far all =
+  pub laid_all : (seen : List ℕ) (blocks : ℕ) → IsMemory m → end ≤ pages_of m
+      → AreLaidSoFar end m es (length es) seen blocks → blocks ≡ n → AreLaid n m es
+  laid_all seen blocks sized inside so_far all =
       let every : take (length es) es ≡ es = take-length es in
       let family : List Extent → Type 0 = λ xs. All (IsExtent m) xs in
       let each : All (IsExtent m) es = subst family every so_far.each in
       record {
+        inside = inside;
         free = so_far.free;
         each = each;
+        below = λ q past. ap (λ (xs : List Extent). count q (free_chain m ++ laid_out m xs)) (sym every)
+            ∙ so_far.below q past;
         once = λ q.
             let parts = count-append q (free_chain m) (laid_out m es) in
             ⊎_elim
             (λ (some : 0 < count q (free_chain m ++ laid_out m es)).
-            let block : IsBlock q = ⊎_elim
+            let block : IsBlock m q = ⊎_elim
             (λ (here : 0 < count q (free_chain m)). leads_count m _ 0 q (free_chain m) so_far.free
             (omega (arith, here)))
             (λ (none : count q (free_chain m) ≤ 0). laid_count m q es each (omega (arith, none, parts, some)))
             (cases_lt 0 (count q (free_chain m))) in
-            let marks = so_far.marks q block in
-            let most = so_far.fine.each q block in
+            let place : IsPlace q = (block.0, omega (arith, block.1, sized.most)) in
+            let marks = so_far.marks q place in
+            let most = so_far.fine.each q place in
             let same = ap (λ (xs : List Extent). count q (free_chain m ++ laid_out m xs)) every in
             omega (arith, marks, most, same))
             (λ (none : count q (free_chain m ++ laid_out m es) ≤ 0). omega (arith, none))
@@ -218,9 +259,9 @@ module _ (m : List ℕ) (es : List Extent) where
             ap (λ (xs : List Extent). length (free_chain m ++ laid_out m xs)) every in omega (arith, a, same, all));
       }
 
-  pub laid_short : (seen : List ℕ) (blocks : ℕ) → AreLaidSoFar m es (length es) seen blocks → blocks ≢ BLOCKS
-      → (AreLaid m es → ⊥)
+  pub laid_short : (seen : List ℕ) (blocks : ℕ) → AreLaidSoFar end m es (length es) seen blocks → blocks ≢ n
+      → (AreLaid n m es → ⊥)
   laid_short seen blocks so_far short laid =
       let same = ap (λ (xs : List Extent). length (free_chain m ++ laid_out m xs)) (take-length es) in
       let a = so_far.blocks_are in let whole = laid.whole in
-      short (let z : blocks ≡ BLOCKS = omega (arith, a, same, whole) in z)
+      short (let z : blocks ≡ n = omega (arith, a, same, whole) in z)

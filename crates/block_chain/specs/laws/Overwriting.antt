@@ -11,15 +11,15 @@ use Rattle.std.proofs.lemmas.Grind.{same_number_lists}
 use Rattle.std.proofs.lemmas.List.{length-append, get_or-append_right}
 use Rattle.std.specs.Prelude.{◌≡◌, ◌⊎◌, ◌<◌, ◌≤◌, ◌+◌, ◌-◌, ◌&&◌, ℕ, Bool, true, false, List, ◌++◌, length, take}
 use Rattle.std.specs.Prelude.{drop, slice_index, nat_le, nat_lt, if◌then◌else◌, ◌≢◌, ◌*◌, ◌/◌, ◌%◌, slice_set}
-use Rattle.nvm_board.specs.Facts.{address}
-use Rattle.nvm_board.specs.declared.board.TheConstants.{WORDS}
+use Rattle.nvm_board.specs.Facts.{address, IsMemory}
 use Rattle.block_chain.specs.Chains.{bytes_of}
 use Rattle.block_chain.specs.Changes.{overwrite, OnlyContent, Overwrites}
 use Rattle.block_chain.specs.Counts.{count, NoneTwice, IsNotIn}
 use Rattle.block_chain.specs.Parts.{byte_over, PutsWord}
 use Rattle.block_chain.specs.Words.{word, word_bytes, IsBlock}
 use Rattle.block_chain.specs.declared.layout.TheConstants.{BLOCK_BYTES, BLOCK_WORDS}
-use Rattle.block_chain.specs.laws.Bytes.{AreBlocks, block_in, content_word, length-bytes_of, index-bytes_of}
+use Rattle.nvm_board.specs.laws.Sizes.{memory_same}
+use Rattle.block_chain.specs.laws.Bytes.{blocks_same, AreBlocks, block_in, content_word, length-bytes_of, index-bytes_of}
 use Rattle.block_chain.specs.laws.Counts.{apart, count-index}
 use Rattle.block_chain.specs.laws.Words.{word-set_other, word-set_same}
 
@@ -90,7 +90,7 @@ pub record IsPut (m ps : List ℕ) (offset : ℕ) (bytes : List ℕ) (k : ℕ) (
   pub old : (i : ℕ) → i < BLOCK_BYTES * length ps → k ≤ i / 4
       → slice_index (bytes_of now ps) i ≡ slice_index (bytes_of m ps) i
 
-module _ (m ps : List ℕ) (offset : ℕ) (bytes : List ℕ) (sized : length m ≡ WORDS) (blocks : AreBlocks ps) where
+module _ (m ps : List ℕ) (offset : ℕ) (bytes : List ℕ) (sized : IsMemory m) (blocks : AreBlocks m ps) where
   pub put_none : IsPut m ps offset bytes (offset / 4) m
   put_none = record {
     only = record { size = refl; others = λ page place small apart. refl };
@@ -102,9 +102,9 @@ module _ (m ps : List ℕ) (offset : ℕ) (bytes : List ℕ) (sized : length m �
   pub put_all : (k : ℕ) (now : List ℕ) → IsPut m ps offset bytes k now → offset + length bytes ≤ 4 * k
       → offset + length bytes ≤ BLOCK_BYTES * length ps → Overwrites m ps offset bytes now
   put_all k now put far inside =
-      let now_sized : length now ≡ WORDS = put.only.size ∙ sized in
+      let now_sized : IsMemory now = memory_same m now put.only.size sized in
       let size = length-bytes_of m ps sized blocks in
-      let new_size = length-bytes_of now ps now_sized blocks in
+      let new_size = length-bytes_of now ps now_sized (blocks_same m now ps put.only.size blocks) in
       let fits : offset + length bytes ≤ length (bytes_of m ps) = omega (arith, size, inside) in
       let same_size = length-overwrite (bytes_of m ps) bytes offset fits in
       record {
@@ -127,22 +127,28 @@ module _ (m ps : List ℕ) (offset : ℕ) (bytes : List ℕ) (sized : length m �
     abbrev pub after : List ℕ
     after = slice_set now (address page (1 + k % BLOCK_WORDS)) w
 
-    now_sized : length now ≡ WORDS
-    now_sized = put.only.size ∙ sized
+    now_sized : IsMemory now
+    now_sized = memory_same m now put.only.size sized
 
-    after_sized : length after ≡ WORDS
-    after_sized = length-set now (address page (1 + k % BLOCK_WORDS)) w ∙ now_sized
+    now_blocks : AreBlocks now ps
+    now_blocks = blocks_same m now ps put.only.size blocks
+
+    after_sized : IsMemory after
+    after_sized = memory_same now after (length-set now (address page (1 + k % BLOCK_WORDS)) w) now_sized
+
+    after_blocks : AreBlocks after ps
+    after_blocks = blocks_same now after ps (length-set now (address page (1 + k % BLOCK_WORDS)) w) now_blocks
 
     place_in : k / BLOCK_WORDS < length ps
     place_in = omega (arith, within)
 
-    block : IsBlock page
-    block = let family : ℕ
-        → Type 0 = λ q. IsBlock q in subst family (sym is) (block_in ps (k / BLOCK_WORDS) blocks place_in)
+    block : IsBlock now page
+    block = let family : ℕ → Type 0 = λ q. IsBlock now q in
+        subst family (sym is) (block_in now ps (k / BLOCK_WORDS) now_blocks place_in)
 
     here : content_word after ps k ≡ w
     here =
-        let inside : address page (1 + k % BLOCK_WORDS) < length now = omega (arith, now_sized, block.1) in
+        let inside : address page (1 + k % BLOCK_WORDS) < length now = omega (arith, now_sized.whole, now_sized.least, block.1) in
         ap (λ (q : ℕ). word after q (1 + k % BLOCK_WORDS)) (sym is)
         ∙ word-set_same now page (1 + k % BLOCK_WORDS) w inside
 
@@ -164,9 +170,9 @@ module _ (m ps : List ℕ) (offset : ℕ) (bytes : List ℕ) (sized : length m �
     kept : (i : ℕ) → i < BLOCK_BYTES * length ps → i / 4 ≢ k
         → slice_index (bytes_of after ps) i ≡ slice_index (bytes_of now ps) i
     kept i lt other =
-        index-bytes_of after ps i after_sized blocks lt
+        index-bytes_of after ps i after_sized after_blocks lt
         ∙ ap (λ (v : ℕ). slice_index (word_bytes v) (i % 4)) (elsewhere (i / 4) (omega (arith, lt)) other)
-        ∙ sym (index-bytes_of now ps i now_sized blocks lt)
+        ∙ sym (index-bytes_of now ps i now_sized now_blocks lt)
 
     pub put_more : IsPut m ps offset bytes (k + 1) after
     put_more = record {
@@ -187,20 +193,20 @@ module _ (m ps : List ℕ) (offset : ℕ) (bytes : List ℕ) (sized : length m �
             let at : 4 * k + i % 4 ≡ i = omega (arith, s) in
             let small : i % 4 < 4 = omega arith in
             let from : k ≤ i / 4 = omega (arith, s) in
-            index-bytes_of after ps i after_sized blocks lt
+            index-bytes_of after ps i after_sized after_blocks lt
             ∙ ap (λ (j : ℕ). slice_index (word_bytes (content_word after ps j)) (i % 4)) s
             ∙ ap (λ (v : ℕ). slice_index (word_bytes v) (i % 4)) here
             ∙ over (i % 4) small
             ∙ ap₂ (λ (b j : ℕ). byte_over offset bytes b (slice_index (word_bytes (content_word now ps j)) (i % 4))) at
             (sym s)
-            ∙ ap (byte_over offset bytes i) (sym (index-bytes_of now ps i now_sized blocks lt) ∙ put.old i lt from)
+            ∙ ap (byte_over offset bytes i) (sym (index-bytes_of now ps i now_sized now_blocks lt) ∙ put.old i lt from)
         | inr other ↦ kept i lt other.1 ∙ put.new i lt (let d = other.1 in omega (arith, before, d))
       ];
       old = λ i lt from. kept i lt (λ e. let z : ⊥ = omega (arith, e, from) in z) ∙ put.old i lt (omega (arith, from));
     }
 
 -- one content word more, as the code sets it
-pub put_step : (m ps : List ℕ) (offset : ℕ) (bytes : List ℕ) → length m ≡ WORDS → AreBlocks ps → NoneTwice ps
+pub put_step : (m ps : List ℕ) (offset : ℕ) (bytes : List ℕ) → IsMemory m → AreBlocks m ps → NoneTwice ps
     → (k page : ℕ) (now after : List ℕ) → IsPut m ps offset bytes k now → k < BLOCK_WORDS * length ps
     → page ≡ slice_index ps (k / BLOCK_WORDS)
     → PutsWord now page k offset bytes after → IsPut m ps offset bytes (k + 1) after

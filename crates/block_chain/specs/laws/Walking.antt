@@ -1,22 +1,25 @@
 -- Laws of a walk over a chain that marks its blocks, to find whether it ends and comes to no marked one.
-use Rattle.std.proofs.Common.{refl, sym, ◌∙◌, ap, ap₂, subst, arith, inl, inr, get_or-set_same, get_or-set_other}
+use Rattle.std.proofs.Common.{refl, sym, ◌∙◌, ap, ap₂, subst, arith, inl, inr, ⊎_elim, get_or-set_same, get_or-set_other}
 use Rattle.std.proofs.Math.ListN.{length-set}
+use Rattle.std.proofs.lemmas.Bool.{cases_lt}
 use Rattle.std.proofs.lemmas.Bool.Decides.{eqb_tells}
 use Rattle.std.proofs.lemmas.List.{length-append, get_or_push}
 use Rattle.std.specs.Prelude.{◌≡◌, ◌≢◌, ◌<◌, ◌≤◌, ◌+◌, ◌-◌, ℕ, zero, suc, Bool, if◌then◌else◌, List, [], ◌∷◌, ◌++◌}
 use Rattle.std.specs.Prelude.{length, slice_index, slice_set}
 use Rattle.block_chain.specs.Chains.{Leads, pages_from, chain}
 use Rattle.block_chain.specs.Counts.{count}
-use Rattle.block_chain.specs.Parts.{marked, AreMarks, IsFresh, Marks}
+use Rattle.nvm_board.specs.Facts.{IsMemory, pages_of}
+use Rattle.block_chain.specs.Parts.{IsPlace, marked, AreMarks, IsFresh, Marks}
 use Rattle.block_chain.specs.Words.{link, IsBlock}
-use Rattle.block_chain.specs.declared.layout.TheConstants.{FIRST_BLOCK_PAGE, BLOCKS}
+use Rattle.block_chain.specs.declared.layout.TheConstants.{FIRST_BLOCK_PAGE, MOST_BLOCKS}
 use Rattle.block_chain.specs.laws.Chains.{leads_then, leads_on}
 use Rattle.block_chain.specs.laws.Counts.{count-append, count-here, count-other, count-nil}
 
--- n blocks were walked over and marked, up to this page
-pub record HasWalked (m : List ℕ) (from n page : ℕ) (old new : List ℕ) : Type 0 where
+-- n blocks before the page `end` were walked over and marked, up to this page
+pub record HasWalked (end : ℕ) (m : List ℕ) (from n page : ℕ) (old new : List ℕ) : Type 0 where
   pub leads : Leads m from (pages_from m n from) page
   pub long : length (pages_from m n from) ≡ n
+  pub below : (q : ℕ) → end ≤ q → count q (pages_from m n from) ≡ 0
   pub marks : Marks old (pages_from m n from) new
   pub fine : AreMarks new
 
@@ -71,37 +74,41 @@ leads_one m from [] to end a b = sym a ∙ b
 leads_one m from (p ∷ ps) to end a b = leads_one m (link m p) ps to end a.2 b.2
 
 -- no block yet
-pub walked_none : (m : List ℕ) (from : ℕ) (seen : List ℕ) → AreMarks seen → HasWalked m from 0 from seen seen
-walked_none m from seen fine = record {
+pub walked_none : (end : ℕ) (m : List ℕ) (from : ℕ) (seen : List ℕ) → AreMarks seen
+    → HasWalked end m from 0 from seen seen
+walked_none end m from seen fine = record {
   leads = (let family : List ℕ → Type 0 = λ ps. Leads m from ps from in subst family (sym (pages_zero m from)) refl);
   long = ap (λ (ps : List ℕ). length ps) (pages_zero m from);
+  below = λ q past. ap (count q) (pages_zero m from) ∙ count-nil q;
   marks = λ page block. let none : count page (pages_from m 0 from) ≡ 0 = ap (count page) (pages_zero m from)
       ∙ count-nil page in omega (arith, none);
   fine = fine;
 }
 
-module _ (m : List ℕ) (from n page : ℕ) (old new : List ℕ) (walked : HasWalked m from n page old new) where
+module _ (end : ℕ) (m : List ℕ) (from n page : ℕ) (old new : List ℕ) (walked : HasWalked end m from n page old new)
+    where
   -- the chain is what was walked over, and the rest
-  rest_of : n ≤ BLOCKS → chain m from ≡ pages_from m n from ++ pages_from m (BLOCKS - n) page
-  rest_of fits = let all : BLOCKS ≡ n + (BLOCKS - n) = omega arith in ap (λ (k : ℕ). pages_from m k from) all
-      ∙ pages_on m n (BLOCKS - n) from page walked.leads walked.long
+  rest_of : n ≤ MOST_BLOCKS → chain m from ≡ pages_from m n from ++ pages_from m (MOST_BLOCKS - n) page
+  rest_of fits = let all : MOST_BLOCKS ≡ n + (MOST_BLOCKS - n) = omega arith in ap (λ (k : ℕ). pages_from m k from) all
+      ∙ pages_on m n (MOST_BLOCKS - n) from page walked.leads walked.long
 
   -- at the end
-  pub walked_all : n ≤ BLOCKS → page ≡ 0 → chain m from ≡ pages_from m n from
+  pub walked_all : n ≤ MOST_BLOCKS → page ≡ 0 → chain m from ≡ pages_from m n from
   walked_all fits none = rest_of fits
-      ∙ ap (λ (ps : List ℕ). pages_from m n from ++ ps) (pages_end m (BLOCKS - n) page none)
+      ∙ ap (λ (ps : List ℕ). pages_from m n from ++ ps) (pages_end m (MOST_BLOCKS - n) page none)
       ∙ append_nil (pages_from m n from)
     where
       append_nil : (ps : List ℕ) → ps ++ [] ≡ ps
       append_nil [] = refl
       append_nil (p ∷ ps) = ap (λ (qs : List ℕ). p ∷ qs) (append_nil ps)
 
-  pub walked_fresh : n ≤ BLOCKS → page ≡ 0 → IsFresh m old from
+  pub walked_fresh : n ≤ MOST_BLOCKS → page ≡ 0 → IsFresh end m old from
   walked_fresh fits none = record {
     leads = (
         let family : List ℕ → Type 0 = λ ps. Leads m from ps 0 in
         let to : ℕ → Type 0 = λ p. Leads m from (pages_from m n from) p in
         subst family (sym (walked_all fits none)) (subst to none walked.leads));
+    below = λ q past. ap (count q) (walked_all fits none) ∙ walked.below q past;
     once = λ q block.
         let same : count q (chain m from) ≡ count q (pages_from m n from) = ap (count q) (walked_all fits none) in
         let marks = walked.marks q block in
@@ -110,42 +117,45 @@ module _ (m : List ℕ) (from n page : ℕ) (old new : List ℕ) (walked : HasWa
   }
 
   -- a chain that goes on where all blocks were walked over does not end
-  pub stale_long : n ≡ BLOCKS → page ≢ 0 → (IsFresh m old from → ⊥)
+  pub stale_long : n ≡ MOST_BLOCKS → page ≢ 0 → (IsFresh end m old from → ⊥)
   stale_long all some fresh =
       let family : ℕ → Type 0 = λ k. Leads m from (pages_from m k from) 0 in
       some (leads_one m from (pages_from m n from) page 0 walked.leads (subst family (sym all) fresh.leads))
 
   -- the next block
-  next_of : n < BLOCKS → page ≢ 0
-      → chain m from ≡ pages_from m n from ++ page ∷ pages_from m (BLOCKS - n - 1) (link m page)
+  next_of : n < MOST_BLOCKS → page ≢ 0
+      → chain m from ≡ pages_from m n from ++ page ∷ pages_from m (MOST_BLOCKS - n - 1) (link m page)
   next_of fits some =
-      let less : n ≤ BLOCKS = omega arith in
-      let one : BLOCKS - n ≡ suc (BLOCKS - n - 1) = omega arith in
+      let less : n ≤ MOST_BLOCKS = omega arith in
+      let one : MOST_BLOCKS - n ≡ suc (MOST_BLOCKS - n - 1) = omega arith in
       rest_of less ∙ ap (λ (k : ℕ). pages_from m n from ++ pages_from m k page) one
-      ∙ ap (λ (ps : List ℕ). pages_from m n from ++ ps) (pages_some m (BLOCKS - n - 1) page some)
+      ∙ ap (λ (ps : List ℕ). pages_from m n from ++ ps) (pages_some m (MOST_BLOCKS - n - 1) page some)
 
-  pub stale_mark : n < BLOCKS → page ≢ 0 → IsBlock page → marked new page ≢ 0 → (IsFresh m old from → ⊥)
+  pub stale_mark : n < MOST_BLOCKS → page ≢ 0 → IsPlace page → marked new page ≢ 0 → (IsFresh end m old from → ⊥)
   stale_mark fits some block mark fresh =
-      let whole : count page (chain m from) ≡ count page (pages_from m n from ++ page ∷ pages_from m (BLOCKS - n - 1)
+      let whole : count page (chain m from) ≡ count page (pages_from m n from ++ page ∷ pages_from m (MOST_BLOCKS - n - 1)
       (link m page)) = ap (count page) (next_of fits some) in
-      let parts = count-append page (pages_from m n from) (page ∷ pages_from m (BLOCKS - n - 1) (link m page)) in
-      let here = count-here page (pages_from m (BLOCKS - n - 1) (link m page)) in
+      let parts = count-append page (pages_from m n from) (page ∷ pages_from m (MOST_BLOCKS - n - 1) (link m page)) in
+      let here = count-here page (pages_from m (MOST_BLOCKS - n - 1) (link m page)) in
       let marks = walked.marks page block in
       let most = fresh.once page block in
       omega (arith, whole, parts, here, marks, most, mark)
 
   -- one block more
-  pub walked_more : n < BLOCKS → page ≢ 0 → IsBlock page → marked new page ≡ 0
-      → HasWalked m from (n + 1) (link m page) old (slice_set new (page - FIRST_BLOCK_PAGE) 1)
-  walked_more fits some block free =
+  pub walked_more : IsMemory m → end ≤ pages_of m → n < MOST_BLOCKS → page ≢ 0
+      → (FIRST_BLOCK_PAGE ≤ page) × (page < end) → marked new page ≡ 0
+      → HasWalked end m from (n + 1) (link m page) old (slice_set new (page - FIRST_BLOCK_PAGE) 1)
+  walked_more sized inner fits some fit free =
+      let block : IsBlock m page = (fit.0, omega (arith, fit.1, inner)) in
+      let place : IsPlace page = (fit.0, omega (arith, fit.1, inner, sized.most)) in
       let one : pages_from m 1 page ≡ page ∷ [] =
       pages_some m 0 page some ∙ ap (λ (ps : List ℕ). page ∷ ps) (pages_zero m (link m page)) in
       let more : pages_from m (n + 1) from ≡ pages_from m n from ++ page ∷ [] =
       pages_on m n 1 from page walked.leads walked.long ∙ ap (λ (ps : List ℕ). pages_from m n from ++ ps) one in
       let family : List ℕ → Type 0 = λ ps. Leads m from ps (link m page) in
       let size = walked.fine.size in
-      let inside : page - FIRST_BLOCK_PAGE < length new = omega (arith, size, block.0, block.1) in
-      let each : (q : ℕ) → IsBlock q
+      let inside : page - FIRST_BLOCK_PAGE < length new = omega (arith, size, place.0, place.1) in
+      let each : (q : ℕ) → IsPlace q
       → marked (slice_set new (page - FIRST_BLOCK_PAGE) 1) q ≡ marked old q + count q (pages_from m (n + 1) from) =
       λ q is.
       let whole : count q (pages_from m (n + 1) from) ≡ count q (pages_from m n from) + count q (page ∷ []) =
@@ -175,6 +185,13 @@ module _ (m : List ℕ) (from n page : ℕ) (old new : List ℕ) (walked : HasWa
         long = (let l =
             ap (λ (ps : List ℕ). length ps) more in let a =
             length-append (pages_from m n from) (page ∷ []) in let w = walked.long in omega (arith, l, a, w));
+        below = λ q past.
+            let whole : count q (pages_from m (n + 1) from) ≡ count q (pages_from m n from) + count q (page ∷ []) =
+            ap (count q) more ∙ count-append q (pages_from m n from) (page ∷ []) in
+            let before = walked.below q past in
+            let other : q ≢ page = λ e. let z : ⊥ = omega (arith, e, past, fit.1) in z in
+            let none : count q (page ∷ []) ≡ 0 = count-other q page [] other ∙ count-nil q in
+            omega (arith, whole, before, none);
         marks = each;
         fine = record {
           size = length-set new (page - FIRST_BLOCK_PAGE) 1 ∙ size;
@@ -196,15 +213,26 @@ module _ (m : List ℕ) (from n page : ℕ) (old new : List ℕ) (walked : HasWa
       }
 
   -- the next is no block, or one that was marked
-  pub stale_next : n < BLOCKS → page ≢ 0 → (IsBlock page × (marked new page ≡ 0) → ⊥) → (IsFresh m old from → ⊥)
-  stale_next fits some unfit fresh =
+  pub stale_next : IsMemory m → n < MOST_BLOCKS → page ≢ 0
+      → (((FIRST_BLOCK_PAGE ≤ page) × (page < end)) × (marked new page ≡ 0) → ⊥) → (IsFresh end m old from → ⊥)
+  stale_next sized fits some unfit fresh =
       let family : List ℕ → Type 0 = λ ps. Leads m from ps 0 in
-      let block : IsBlock page =
+      let block : IsBlock m page =
       (leads_on m from 0 page (pages_from m n from) _ (subst family (next_of fits some) fresh.leads)).0 in
-      stale_mark fits some block (λ free. unfit (block, free)) fresh
+      let place : IsPlace page = (block.0, omega (arith, block.1, sized.most)) in
+      let inner : page < end = ⊎_elim
+      (λ (lt : page < end). lt)
+      (λ (past : end ≤ page). absurd (
+      let none = fresh.below page past in
+      let whole = ap (count page) (next_of fits some) in
+      let parts = count-append page (pages_from m n from) (page ∷ pages_from m (MOST_BLOCKS - n - 1) (link m page)) in
+      let here = count-here page (pages_from m (MOST_BLOCKS - n - 1) (link m page)) in
+      omega (arith, none, whole, parts, here)))
+      (cases_lt page end) in
+      stale_mark fits some place (λ free. unfit ((block.0, inner), free)) fresh
 
   -- the last block that was walked over, and one more
-  pub last_more : n < BLOCKS → page ≢ 0 → page ≡ slice_index (pages_from m (n + 1) from) (n + 1 - 1)
+  pub last_more : n < MOST_BLOCKS → page ≢ 0 → page ≡ slice_index (pages_from m (n + 1) from) (n + 1 - 1)
   last_more fits some =
       let one : pages_from m 1 page ≡ page ∷ [] =
       pages_some m 0 page some ∙ ap (λ (ps : List ℕ). page ∷ ps) (pages_zero m (link m page)) in

@@ -1,4 +1,9 @@
 -- Free space, counted: the blocks of the free chain, and the entries that no file has.
+use Rattle.nvm_board.specs.laws.Sizes.{memory_same}
+use Rattle.file_tree.specs.declared.layout.TheConstants.{MARK_WORD, PAGES_WORD}
+use Rattle.file_tree.specs.laws.Formats.{count_same, format_same, format_then, laid_as}
+use Rattle.file_tree.specs.Formats.{block_count, SameFormat}
+use Rattle.nvm_board.specs.Facts.{IsMemory}
 use Rattle.std.specs.Prelude.{◌≡◌, ◌≢◌, ◌==◌, ◌<◌, ◌≤◌, ◌+◌, ◌-◌, ◌*◌, ℕ, zero, suc, Bool, true, false, cond}
 use Rattle.std.specs.Prelude.{if◌then◌else◌}
 use Rattle.std.specs.Prelude.{List, [], ◌∷◌, length, map, take, nat_le, Option, None, Some, is_some, unwrap_or, All}
@@ -13,8 +18,7 @@ use Rattle.std.proofs.Common.{refl, sym, ◌∙◌, ap, ap₂, subst, arith, inl
 use Rattle.std.proofs.Common.{Greater, length-append, length-take}
 use Rattle.std.proofs.lemmas.List.Sums.{sum_by-append}
 use Rattle.std.proofs.lemmas.Bool.Decides.{eqb_tells, leb_tells}
-use Rattle.nvm_board.specs.declared.board.TheConstants.{WORDS}
-use Rattle.block_chain.specs.declared.layout.TheConstants.{BLOCKS}
+use Rattle.block_chain.specs.declared.layout.TheConstants.{MOST_BLOCKS}
 use Rattle.block_chain.specs.declared.chain.Extent.{Extent}
 use Rattle.block_chain.specs.Words.{page_words}
 use Rattle.block_chain.specs.Chains.{bytes_of, free_chain}
@@ -245,7 +249,7 @@ all_extents P (y ∷ t) all (suc e) lt x is =
     all_extents P t (all_first P (extent_of y) (extents t) all).1 e below x is
 
 -- The rules, in a memory of the right length.
-module _ (m : List ℕ) (sized : length m ≡ WORDS) (stands : TreeStands m) where
+module _ (m : List ℕ) (sized : IsMemory m) (stands : TreeStands m) where
   -- the blocks that a used entry of an elementary file names are an extent
   pub entry_extent : (e : ℕ) → e < 64 → 2 ≤ (entry_in (table m) e).kind
       → IsExtent m (extent_told (entry_in (table m) e))
@@ -331,7 +335,7 @@ module _ (m : List ℕ) (sized : length m ≡ WORDS) (stands : TreeStands m) whe
       omega (arith, one, same, rest, left, right)
 
   -- Free are the blocks of the free chain, and the free entries.
-  pub space_counted : free_space (tree_of m) ≡ record {
+  pub space_counted : free_space (block_count m) (tree_of m) ≡ record {
     blocks = length (free_chain m);
     entries =
         free_entries (table m);
@@ -343,7 +347,7 @@ module _ (m : List ℕ) (sized : length m ≡ WORDS) (stands : TreeStands m) whe
       let costs : sum_by (λ (n : Node). cost n.1) (entries (tree_of m)) ≡ length (laid_out m (extents (table m))) =
       sum-nodes (λ (n : Node). cost n.1) ns distinct ∙ costs_from 0 64 (omega arith)
       ∙ laid_blocks m (extents (table m)) stands.blocks.each in
-      let blocks : BLOCKS - sum_by (λ (n : Node). cost n.1) (entries (tree_of m)) ≡ length (free_chain m) =
+      let blocks : block_count m - sum_by (λ (n : Node). cost n.1) (entries (tree_of m)) ≡ length (free_chain m) =
       (let whole = stands.blocks.whole in
       let parts = length-append (free_chain m) (laid_out m (extents (table m))) in
       omega (arith, costs, whole, parts)) in

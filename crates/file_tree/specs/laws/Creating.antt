@@ -1,4 +1,9 @@
 -- What an entry more makes of the tree, once its blocks are laid out: one file more, and all others stay.
+use Rattle.nvm_board.specs.laws.Sizes.{memory_same}
+use Rattle.file_tree.specs.declared.layout.TheConstants.{MARK_WORD, PAGES_WORD}
+use Rattle.file_tree.specs.laws.Formats.{count_same, format_same, format_then, laid_as}
+use Rattle.file_tree.specs.Formats.{block_count, SameFormat}
+use Rattle.nvm_board.specs.Facts.{IsMemory}
 use Rattle.std.specs.Prelude.{◌≡◌, ◌≢◌, ◌⊎◌, ◌<◌, ◌≤◌, ◌+◌, ◌-◌, ℕ, zero, suc, List, [], ◌∷◌, ◌++◌, map, length, take, drop}
 use Rattle.std.specs.Prelude.{Option, None, Some, All, Bool, ◌==◌, if◌then◌else◌}
 use Rattle.std.specs.List.{range_with_len, cons_option}
@@ -7,8 +12,8 @@ use Rattle.std.proofs.Common.{refl, sym, ◌∙◌, ap, subst, arith, inl, inr, 
 use Rattle.std.proofs.lemmas.Bool.{cases_lt}
 use Rattle.std.proofs.lemmas.Bool.Decides.{eqb_tells}
 use Rattle.std.proofs.lemmas.List.Elements.{filter_map-append}
-use Rattle.nvm_board.specs.declared.board.TheConstants.{WORDS, PAGE_WORDS}
-use Rattle.block_chain.specs.declared.layout.TheConstants.{HEADER_PAGE, FREE_HEAD_WORD}
+use Rattle.nvm_board.specs.declared.board.TheConstants.{PAGE_WORDS}
+use Rattle.block_chain.specs.declared.layout.TheConstants.{HEADER_PAGE, FREE_HEAD_WORD, FIRST_BLOCK_PAGE}
 use Rattle.block_chain.specs.declared.chain.Extent.{Extent}
 use Rattle.block_chain.specs.Words.{word, page_words, IsBlock}
 use Rattle.block_chain.specs.Chains.{bytes_of, free_chain}
@@ -81,13 +86,23 @@ all_here P xs ys o e is all =
     all_right P xs (e ∷ ys) (subst family is all) 0 e (omega arith)
 
 -- The blocks are laid out for one entry more, of which the words are written then.
-module _ (m mid after : List ℕ) (e df : ℕ) (x : Entry) (sized : length m ≡ WORDS) (stands : TreeStands m) (few : e < 64)
+module _ (m mid after : List ℕ) (e df : ℕ) (x : Entry) (sized : IsMemory m) (stands : TreeStands m) (few : e < 64)
     (free : (entry_in (table m) e).kind ≡ 0) (may : MayStand (table m) df x) (size : length mid ≡ length m)
-    (words : (page place : ℕ) → place < PAGE_WORDS → (IsBlock page → ⊥) → (page ≢ HEADER_PAGE) ⊎ (place ≢ FREE_HEAD_WORD)
+    (words : (page place : ℕ) → place < PAGE_WORDS → page < FIRST_BLOCK_PAGE → (page ≢ HEADER_PAGE) ⊎ (place ≢ FREE_HEAD_WORD)
     → word mid page place ≡ word m page place)
-    (laid : AreLaid mid (before m e ++ cons_option (extent_of x) (behind m e))) (bytes : All (SameBytes m mid) (extents (table m)))
+    (laid : AreLaid (block_count m) mid (before m e ++ cons_option (extent_of x) (behind m e))) (bytes : All (SameBytes m mid) (extents (table m)))
     (writes : WritesEntry mid e x after) where
-  keeps : KeepsBlocks mid after
+  header : (place : ℕ) → place < PAGE_WORDS → place ≢ FREE_HEAD_WORD → word after HEADER_PAGE place ≡ word m HEADER_PAGE place
+  header place small other = writes.others HEADER_PAGE place small (λ is. let z : ⊥ = omega (arith, is) in z)
+      ∙ words HEADER_PAGE place small (omega arith) (inr other)
+
+  same_format : SameFormat m after
+  same_format = record {
+    mark = header MARK_WORD (omega arith) (omega arith);
+    pages = header PAGES_WORD (omega arith) (omega arith);
+  }
+
+  keeps : KeepsBlocks (block_count m) mid after
   keeps = record {
     size = writes.size;
     words = λ page place block small. writes.others page place small (λ is. let low = block.0 in let z : ⊥ = omega (arith, is, few, low) in z);
@@ -98,7 +113,7 @@ module _ (m mid after : List ℕ) (e df : ℕ) (x : Entry) (sized : length m ≡
   other_page page from below differs =
       page_words_same mid after page (omega (arith, sized, size, below)) writes.size (λ place small. writes.others page place small differs)
       ∙ page_words_same m mid page (omega (arith, sized, below)) size (λ place small. words page place small
-      (λ block. let low = block.0 in let z : ⊥ = omega (arith, low, below) in z) (inl (λ is. let z : ⊥ = omega (arith, is, from) in z)))
+      (omega (arith, below)) (inl (λ is. let z : ⊥ = omega (arith, is, from) in z)))
 
   here : entry_in (table after) e ≡ x
   here = entry_in-table after e few ∙ writes.entry
@@ -127,9 +142,10 @@ module _ (m mid after : List ℕ) (e df : ℕ) (x : Entry) (sized : length m ≡
       extents_around after e few
       ∙ (λ i. front i ++ cons_option (extent_of (here i)) (back i))
 
-  moved : AreLaid after (before m e ++ cons_option (extent_of x) (behind m e))
+  moved : AreLaid (block_count m) after (before m e ++ cons_option (extent_of x) (behind m e))
       × (free_chain after ≡ free_chain mid) × All (SameBytes mid after) (before m e ++ cons_option (extent_of x) (behind m e))
-  moved = laid_elsewhere mid after (before m e ++ cons_option (extent_of x) (behind m e)) (size ∙ sized) laid keeps
+  moved = laid_elsewhere (block_count m) mid after (before m e ++ cons_option (extent_of x) (behind m e))
+      (memory_same m mid size sized) laid keeps
 
   pub created_free : free_chain after ≡ free_chain mid
   created_free = moved.1
@@ -137,7 +153,8 @@ module _ (m mid after : List ℕ) (e df : ℕ) (x : Entry) (sized : length m ≡
   stands_after : TreeStands after
   stands_after = record {
     entries = rules_after;
-    blocks = (let family : List Extent → Type 0 = λ es. AreLaid after es in subst family (sym extents_after) moved.0);
+    blocks = laid_as m after _ same_format (let family : List Extent → Type 0 = λ es. AreLaid (block_count m) after es in
+        subst family (sym extents_after) moved.0);
   }
 
   -- one entry less is free
@@ -246,11 +263,11 @@ module _ (m mid after : List ℕ) (e df : ℕ) (x : Entry) (sized : length m ≡
       }
 
 -- A dedicated file has no blocks: its entry alone is written.
-module _ (m after : List ℕ) (e df : ℕ) (x : Entry) (sized : length m ≡ WORDS) (stands : TreeStands m) (few : e < 64)
+module _ (m after : List ℕ) (e df : ℕ) (x : Entry) (sized : IsMemory m) (stands : TreeStands m) (few : e < 64)
     (free : (entry_in (table m) e).kind ≡ 0) (may : MayStand (table m) df x) (is : x.kind ≡ 1) (writes : WritesEntry m e x after) where
-  df_laid : AreLaid m (before m e ++ cons_option (extent_of x) (behind m e))
+  df_laid : AreLaid (block_count m) m (before m e ++ cons_option (extent_of x) (behind m e))
   df_laid =
-      let family : List Extent → Type 0 = λ es. AreLaid m es in
+      let family : List Extent → Type 0 = λ es. AreLaid (block_count m) m es in
       let none : extent_of (entry_in (table m) e) ≡ None = extent_of-none (entry_in (table m) e) (omega (arith, free)) in
       let own : extent_of x ≡ None = extent_of-none x (omega (arith, is)) in
       subst family (extents_around m e few ∙ ap (λ (o : Option Extent). before m e ++ cons_option o (behind m e)) (none ∙ sym own)) stands.blocks
@@ -276,30 +293,30 @@ module _ (m after : List ℕ) (e df : ℕ) (x : Entry) (sized : length m ≡ WOR
   df_free = created_free m m after e df x sized stands few free may refl (λ page place small outside header. refl) df_laid (λ i d lt. (refl, refl)) writes
 
 -- An elementary file takes the first free blocks: they are its extent, with the bytes that they had.
-module _ (m mid after : List ℕ) (e df n : ℕ) (x : Entry) (sized : length m ≡ WORDS) (stands : TreeStands m) (few : e < 64)
+module _ (m mid after : List ℕ) (e df n : ℕ) (x : Entry) (sized : IsMemory m) (stands : TreeStands m) (few : e < 64)
     (free : (entry_in (table m) e).kind ≡ 0) (may : MayStand (table m) df x) (high : 2 ≤ x.kind) (blocks : blocks_for x.size ≡ n)
     (some : 1 ≤ n) (enough : n ≤ length (free_chain m)) (takes : Takes m n (extent_told x).chain mid)
     (writes : WritesEntry mid e x after) where
-  laid_before : AreLaid m (before m e ++ behind m e)
+  laid_before : AreLaid (block_count m) m (before m e ++ behind m e)
   laid_before =
-      let family : List Extent → Type 0 = λ es. AreLaid m es in
+      let family : List Extent → Type 0 = λ es. AreLaid (block_count m) m es in
       let none : extent_of (entry_in (table m) e) ≡ None = extent_of-none (entry_in (table m) e) (omega (arith, free)) in
       subst family (extents_around m e few ∙ ap (λ (o : Option Extent). before m e ++ cons_option o (behind m e)) none) stands.blocks
 
   abbrev others_of : List Extent
   others_of = before m e ++ behind m e
 
-  taken : AreLaid mid (before m e ++ extent_told x ∷ behind m e) × (blocks_of mid (extent_told x) ≡ take n (free_chain m))
+  taken : AreLaid (block_count m) mid (before m e ++ extent_told x ∷ behind m e) × (blocks_of mid (extent_told x) ≡ take n (free_chain m))
       × (free_chain mid ≡ drop n (free_chain m)) × (laid_out mid others_of ≡ laid_out m others_of)
-  taken = laid_taken m (before m e) (behind m e) (extent_told x) n mid laid_before some enough takes blocks
+  taken = laid_taken m (before m e) (behind m e) (extent_told x) (block_count m) n mid laid_before some enough takes blocks
 
-  ef_laid : AreLaid mid (before m e ++ cons_option (extent_of x) (behind m e))
+  ef_laid : AreLaid (block_count m) mid (before m e ++ cons_option (extent_of x) (behind m e))
   ef_laid =
-      let family : Option Extent → Type 0 = λ o. AreLaid mid (before m e ++ cons_option o (behind m e)) in
+      let family : Option Extent → Type 0 = λ o. AreLaid (block_count m) mid (before m e ++ cons_option o (behind m e)) in
       subst family (sym (extent_of-some x high)) taken.0
 
   had : All (SameBytes m mid) others_of × (bytes_of mid (blocks_of mid (extent_told x)) ≡ bytes_of m (take n (free_chain m)))
-  had = taken_bytes m (before m e) (behind m e) (extent_told x) n mid sized laid_before takes
+  had = taken_bytes m (before m e) (behind m e) (extent_told x) (block_count m) n mid sized laid_before takes
 
   ef_bytes : All (SameBytes m mid) (extents (table m))
   ef_bytes =
@@ -307,10 +324,11 @@ module _ (m mid after : List ℕ) (e df n : ℕ) (x : Entry) (sized : length m �
       let none : extent_of (entry_in (table m) e) ≡ None = extent_of-none (entry_in (table m) e) (omega (arith, free)) in
       subst family (sym (extents_around m e few ∙ ap (λ (o : Option Extent). before m e ++ cons_option o (behind m e)) none)) had.0
 
-  ef_words : (page place : ℕ) → place < PAGE_WORDS → (IsBlock page → ⊥) → (page ≢ HEADER_PAGE) ⊎ (place ≢ FREE_HEAD_WORD)
+  ef_words : (page place : ℕ) → place < PAGE_WORDS → page < FIRST_BLOCK_PAGE → (page ≢ HEADER_PAGE) ⊎ (place ≢ FREE_HEAD_WORD)
       → word mid page place ≡ word m page place
   ef_words page place small outside header = takes.only.others page place small
-      (inr (not_among page outside (take n (free_chain m)) (leads_blocks mid _ 0 (take n (free_chain m)) takes.taken.leads))) header
+      (inr (not_among mid page (λ block. let low = block.0 in let z : ⊥ = omega (arith, low, outside) in z)
+      (take n (free_chain m)) (leads_blocks mid _ 0 (take n (free_chain m)) takes.taken.leads))) header
 
   pub ef_created : Creates m df x.identifier (file_of x (bytes_of m (take n (free_chain m)))) after
   ef_created =

@@ -1,4 +1,8 @@
 -- What freeing the entries of a file and of all below it, and giving their blocks back, makes of the tree.
+use Rattle.nvm_board.specs.laws.Sizes.{memory_same}
+use Rattle.file_tree.specs.declared.layout.TheConstants.{MARK_WORD, PAGES_WORD}
+use Rattle.file_tree.specs.laws.Formats.{count_same, format_same, format_then, laid_as}
+use Rattle.file_tree.specs.Formats.{block_count, SameFormat}
 use Rattle.std.specs.Prelude.{◌≡◌, ◌≢◌, ◌==◌, ◌⊎◌, ◌<◌, ◌≤◌, ◌+◌, ◌-◌, ◌&&◌, ℕ, zero, suc, Bool, true, false, not, cond}
 use Rattle.std.specs.Prelude.{if◌then◌else◌, List, [], ◌∷◌, ◌++◌, map, length, slice_set, nat_eq, Option, None, Some, is_some, All}
 use Rattle.std.specs.List.{range_with_len, starts_with, sum_by}
@@ -8,9 +12,9 @@ use Rattle.std.proofs.lemmas.Bool.{cases_lt}
 use Rattle.std.proofs.lemmas.Bool.Decides.{eqb_tells}
 use Rattle.std.proofs.lemmas.List.{length-append}
 use Rattle.std.proofs.Math.ListN.{length-set}
-use Rattle.nvm_board.specs.Facts.{address}
-use Rattle.nvm_board.specs.declared.board.TheConstants.{WORDS, PAGE_WORDS}
-use Rattle.block_chain.specs.declared.layout.TheConstants.{HEADER_PAGE, FREE_HEAD_WORD}
+use Rattle.nvm_board.specs.Facts.{address, IsMemory}
+use Rattle.nvm_board.specs.declared.board.TheConstants.{PAGE_WORDS}
+use Rattle.block_chain.specs.declared.layout.TheConstants.{HEADER_PAGE, FREE_HEAD_WORD, FIRST_BLOCK_PAGE}
 use Rattle.block_chain.specs.declared.chain.Extent.{Extent}
 use Rattle.block_chain.specs.Counts.{count}
 use Rattle.block_chain.specs.Words.{word, page_words, IsBlock}
@@ -165,7 +169,7 @@ abbrev pub on_page : List ℕ → ℕ → Entry
 on_page m page = entry_of (page_words m page)
 
 -- First the entries are freed.
-module _ (m mid : List ℕ) (top : ℕ) (sized : length m ≡ WORDS) (stands : TreeStands m) (above : 0 < top)
+module _ (m mid : List ℕ) (top : ℕ) (sized : IsMemory m) (stands : TreeStands m) (above : 0 < top)
     (used : IsUsed (table m) top) (freed : FreesEntries m (part_below (table m) top) mid) where
   abbrev pub part : List Entry
   part = part_below (table m) top
@@ -207,7 +211,10 @@ module _ (m mid : List ℕ) (top : ℕ) (sized : length m ≡ WORDS) (stands : T
   pub mid_rules : IsTable (table mid)
   mid_rules = rules_stay (table m) (table mid) top stands.entries above used (length-table m) (length-table mid) mid_entry
 
-  mid_keeps : KeepsBlocks m mid
+  mid_header : (place : ℕ) → place < PAGE_WORDS → word mid HEADER_PAGE place ≡ word m HEADER_PAGE place
+  mid_header place small = freed.others HEADER_PAGE place small (inr (λ f lt is. absurd (omega (arith, is))))
+
+  mid_keeps : KeepsBlocks (block_count m) m mid
   mid_keeps = record {
     size = freed.size;
     words = λ page place block small. freed.others page place small
@@ -215,8 +222,8 @@ module _ (m mid : List ℕ) (top : ℕ) (sized : length m ≡ WORDS) (stands : T
     head = freed.others HEADER_PAGE FREE_HEAD_WORD (omega arith) (inl (omega arith));
   }
 
-  pub mid_laid : AreLaid mid (extents (table m)) × (free_chain mid ≡ free_chain m) × All (SameBytes m mid) (extents (table m))
-  mid_laid = laid_elsewhere m mid (extents (table m)) sized stands.blocks mid_keeps
+  pub mid_laid : AreLaid (block_count m) mid (extents (table m)) × (free_chain mid ≡ free_chain m) × All (SameBytes m mid) (extents (table m))
+  mid_laid = laid_elsewhere (block_count m) m mid (extents (table m)) sized stands.blocks mid_keeps
 
   -- the table in its parts, page by page
   parts : (page : ℕ) → 1 ≤ page → page < 1 + 64 → GoesOrStays (on_page m page) (going (table m) top (page - 1)) (on_page mid page)
@@ -265,7 +272,7 @@ module _ (m mid : List ℕ) (top : ℕ) (sized : length m ≡ WORDS) (stands : T
 
   -- what giving the chains back asks
   pub mid_has_free : HasFree mid
-  mid_has_free = laid_has_free mid (extents (table m)) mid_laid.0
+  mid_has_free = laid_has_free (block_count m) mid (extents (table m)) mid_laid.0
 
   part_extents : All (IsExtent mid) (extents part)
   part_extents = (all_parts (λ x. IsExtent mid x) mid_laid.0.each).0
@@ -274,35 +281,47 @@ module _ (m mid : List ℕ) (top : ℕ) (sized : length m ≡ WORDS) (stands : T
   mid_extents = (all_parts (λ x. IsExtent mid x) mid_laid.0.each).1
 
   pub mid_apart : AreApart mid (chains_of (extents part))
-  mid_apart = laid_apart mid (extents (table m)) (extents part) (extents (table mid)) mid_laid.0 mid_split part_extents
+  mid_apart = laid_apart (block_count m) mid (extents (table m)) (extents part) (extents (table mid))
+      (let inside = stands.blocks.inside in let most = sized.most in omega (arith, inside, most)) mid_laid.0 mid_split part_extents
       (all_parts (λ x. 1 ≤ x.blocks) (extents_have (table m) stands.entries.each)).0
 
   -- Then the blocks are given back.
   module _ (after : List ℕ) (back : GivesBack mid (chains_of (extents part)) after) where
     -- pages that are no blocks keep their words, but the header its free chain's
-    given_word : (page place : ℕ) → place < PAGE_WORDS → (IsBlock page → ⊥) → (page ≢ HEADER_PAGE) ⊎ (place ≢ FREE_HEAD_WORD)
+    given_word : (page place : ℕ) → place < PAGE_WORDS → page < FIRST_BLOCK_PAGE → (page ≢ HEADER_PAGE) ⊎ (place ≢ FREE_HEAD_WORD)
         → word after page place ≡ word mid page place
     given_word page place small outside header = back.only.others page place small
         (inr (let same = ap (count page) (laid_chains_of mid (extents part)) in
         ⊎_elim
         (λ (some : 0 < count page (laid_out mid (extents part))).
-        absurd (outside (laid_count mid page (extents part) part_extents (omega (arith, some)))))
+        absurd (let block = laid_count mid page (extents part) part_extents (omega (arith, some)) in let low = block.0 in omega (arith, low, outside)))
         (λ (none : count page (laid_out mid (extents part)) ≤ 0). let z : count page (laid mid (chains_of (extents part))) ≡ 0 = omega (arith, same, none) in z)
         (cases_lt 0 (count page (laid_out mid (extents part)))))) header
 
     pub after_table : table after ≡ table mid
     after_table = table-same mid after (λ page from below.
         page_words_same mid after page (let size = freed.size in omega (arith, sized, size, below)) back.only.size (λ place small.
-        given_word page place small (λ block. let low = block.0 in let z : ⊥ = omega (arith, low, below) in z)
+        given_word page place small (omega (arith, below))
         (inl (λ is. let z : ⊥ = omega (arith, is, from) in z))))
 
-    after_laid : AreLaid after (extents (table mid)) × (laid_out after (extents (table mid)) ≡ laid_out mid (extents (table mid)))
-    after_laid = given_laid mid after (extents (table m)) (extents part) (extents (table mid)) mid_laid.0 mid_split mid_extents back
+    after_laid : AreLaid (block_count m) after (extents (table mid)) × (laid_out after (extents (table mid)) ≡ laid_out mid (extents (table mid)))
+    after_laid = given_laid (block_count m) mid after (extents (table m)) (extents part) (extents (table mid)) mid_laid.0 mid_split mid_extents back
+
+    after_header : (place : ℕ) → place < PAGE_WORDS → place ≢ FREE_HEAD_WORD
+        → word after HEADER_PAGE place ≡ word m HEADER_PAGE place
+    after_header place small other = given_word HEADER_PAGE place small (omega arith) (inr other) ∙ mid_header place small
+
+    after_format : SameFormat m after
+    after_format = record {
+      mark = after_header MARK_WORD (omega arith) (omega arith);
+      pages = after_header PAGES_WORD (omega arith) (omega arith);
+    }
 
     pub after_stands : TreeStands after
     after_stands = record {
       entries = subst IsTable (sym after_table) mid_rules;
-      blocks = (let family : List Extent → Type 0 = λ es. AreLaid after es in subst family (sym (ap extents after_table)) after_laid.0);
+      blocks = laid_as m after _ after_format (let family : List Extent → Type 0 = λ es. AreLaid (block_count m) after es in
+          subst family (sym (ap extents after_table)) after_laid.0);
     }
 
     after_rest : KeepsRest m after
@@ -319,9 +338,9 @@ module _ (m mid : List ℕ) (top : ℕ) (sized : length m ≡ WORDS) (stands : T
 
     kept_bytes : All KeptBytes (extents (table mid))
     kept_bytes =
-        let sized_mid : length mid ≡ WORDS = freed.size ∙ sized in
+        let sized_mid : IsMemory mid = memory_same m mid freed.size sized in
         let now : All (SameBytes mid after) (extents (table mid)) =
-        given_bytes mid after (extents (table m)) (extents part) (extents (table mid)) mid_laid.0 mid_split mid_extents back sized_mid in
+        given_bytes (block_count m) mid after (extents (table m)) (extents part) (extents (table mid)) mid_laid.0 mid_split mid_extents back sized_mid in
         let before : All (SameBytes m mid) (extents (table mid)) = (all_parts (λ x. SameBytes m mid x) mid_laid.2).1 in
         λ i d lt.
         let a = now i d lt in
@@ -426,13 +445,13 @@ module _ (m mid : List ℕ) (top : ℕ) (sized : length m ≡ WORDS) (stands : T
     -- So much is free: its blocks, and its entries.
     pub space_freed : (freed_space : FreeSpace) → freed_space.blocks ≡ sum_by (λ x. x.blocks) (extents part)
         → freed_space.entries + free_entries part ≡ 64
-        → free_space (tree_of after) ≡ with_freed (free_space (tree_of m)) freed_space
+        → free_space (block_count after) (tree_of after) ≡ with_freed (free_space (block_count m) (tree_of m)) freed_space
     space_freed space blocks entries =
-        let sized_after : length after ≡ WORDS = back.only.size ∙ freed.size ∙ sized in
+        let sized_after : IsMemory after = memory_same m after (back.only.size ∙ freed.size) sized in
         let old = space_counted m sized stands in
         let new = space_counted after sized_after after_stands in
         let chain = ap (λ (ps : List ℕ). length ps)
-        (given_free mid after (extents (table m)) (extents part) (extents (table mid)) mid_laid.0 mid_split mid_extents back) in
+        (given_free (block_count m) mid after (extents (table m)) (extents part) (extents (table mid)) mid_laid.0 mid_split mid_extents back) in
         let both = length-append (laid_out mid (extents part)) (free_chain mid) in
         let same = ap (λ (ps : List ℕ). length ps) mid_laid.1 in
         let given = laid_blocks mid (extents part) part_extents in
@@ -443,7 +462,7 @@ module _ (m mid : List ℕ) (top : ℕ) (sized : length m ≡ WORDS) (stands : T
         new ∙ (λ i. record { blocks = a i; entries = b i }) ∙ sym (ap (λ (s : FreeSpace). with_freed s space) old)
 
 -- One entry of the part after another is freed.
-module _ (m now : List ℕ) (part : List Entry) (k : ℕ) (sized : length m ≡ WORDS) (few : k < ENTRIES) (before : FreesUpTo m part k now) where
+module _ (m now : List ℕ) (part : List Entry) (k : ℕ) (sized : IsMemory m) (few : k < ENTRIES) (before : FreesUpTo m part k now) where
   pub frees_next : (entry_in part k).kind ≢ 0 → FreesUpTo m part (k + 1) (slice_set now (address (FIRST_ENTRY_PAGE + k) 0) 0)
   frees_next some = record {
     size = length-set now (address (FIRST_ENTRY_PAGE + k) 0) 0 ∙ before.size;

@@ -2,7 +2,8 @@
 use Rattle.std.specs.Prelude.{◌≡◌, ◌≢◌, ◌<◌, ◌≤◌, ◌+◌, ℕ, List, length, take}
 use Rattle.std.proofs.Common.{refl, sym, ◌∙◌, ap, arith, inl, inr, ⊎_elim}
 use Rattle.std.proofs.lemmas.Bool.{cases_lt}
-use Rattle.nvm_board.specs.declared.board.TheConstants.{WORDS}
+use Rattle.nvm_board.specs.Facts.{IsMemory}
+use Rattle.nvm_board.specs.laws.Sizes.{least_words, memory_same}
 use Rattle.block_chain.specs.declared.chain.Chain.{Chain}
 use Rattle.block_chain.specs.Chains.{free_chain}
 use Rattle.block_chain.specs.Changes.{Takes}
@@ -19,15 +20,15 @@ use Rattle.file_tree.specs.laws.Tables.{length-table, entry_in-table, entry_past
 use Rattle.file_tree.specs.laws.Rewriting.{filled}
 
 -- blocks that are taken are no entries
-taken_table : (m after : List ℕ) (n : ℕ) (chain : Chain) → length m ≡ WORDS → Takes m n chain after → table after ≡ table m
+taken_table : (m after : List ℕ) (n : ℕ) (chain : Chain) → IsMemory m → Takes m n chain after → table after ≡ table m
 taken_table m after n chain sized takes = table-same m after (λ page from below.
     let blocks = leads_blocks after _ 0 (take n (free_chain m)) takes.taken.leads in
-    let apart = not_among page (λ block. let low = block.0 in let z : ⊥ = omega (arith, low, below) in z) (take n (free_chain m)) blocks in
-    page_words_same m after page (omega (arith, sized, below)) takes.only.size (λ place small.
+    let apart = not_among after page (λ block. let low = block.0 in let z : ⊥ = omega (arith, low, below) in z) (take n (free_chain m)) blocks in
+    page_words_same m after page (omega (arith, least_words m sized, below)) takes.only.size (λ place small.
     takes.only.others page place small (inr apart) (inl (λ is. let z : ⊥ = omega (arith, is, from) in z))))
 
 -- An entry is written, and it is the one that is other.
-module _ (m after : List ℕ) (e : ℕ) (x : Entry) (few : e < 64) (sized : length m ≡ WORDS) (writes : WritesEntry m e x after) where
+module _ (m after : List ℕ) (e : ℕ) (x : Entry) (few : e < 64) (sized : IsMemory m) (writes : WritesEntry m e x after) where
   written : entry_in (table after) e ≡ x
   written = entry_in-table after e few ∙ writes.entry
 
@@ -35,7 +36,7 @@ module _ (m after : List ℕ) (e : ℕ) (x : Entry) (few : e < 64) (sized : leng
   unwritten f differs = ⊎_elim
       (λ (lt : f < 64).
       entry_in-table after f lt
-      ∙ ap entry_of (page_words_same m after (1 + f) (omega (arith, sized, lt)) writes.size (λ place small.
+      ∙ ap entry_of (page_words_same m after (1 + f) (omega (arith, least_words m sized, lt)) writes.size (λ place small.
       writes.others (1 + f) place small (λ is. differs (let z : f ≡ e = omega (arith, is) in z))))
       ∙ sym (entry_in-table m f lt))
       (λ (past : 64 ≤ f).
@@ -44,9 +45,9 @@ module _ (m after : List ℕ) (e : ℕ) (x : Entry) (few : e < 64) (sized : leng
       entry_past (table after) f (omega (arith, a, past)) ∙ sym (entry_past (table m) f (omega (arith, b, past))))
       (cases_lt f 64)
 
-module _ (m after : List ℕ) (e n : ℕ) (x : Entry) (sized : length m ≡ WORDS) (stands : TreeStands m) (few : e < 64)
+module _ (m after : List ℕ) (e n : ℕ) (x : Entry) (sized : IsMemory m) (stands : TreeStands m) (few : e < 64)
     (free : (entry_in (table m) e).kind ≡ 0) (some : x.kind ≢ 0) where
-  adds : (mid : List ℕ) (y : Entry) → length mid ≡ WORDS → table mid ≡ table m → y.kind ≡ x.kind → y.parent ≡ x.parent
+  adds : (mid : List ℕ) (y : Entry) → IsMemory mid → table mid ≡ table m → y.kind ≡ x.kind → y.parent ≡ x.parent
       → y.identifier ≡ x.identifier → WritesEntry mid e y after → AddsEntry (table m) x.parent x.identifier e (table after)
   adds mid y size same kind parent identifier writes =
       let here = written mid after e y few size writes in
@@ -69,11 +70,11 @@ module _ (m after : List ℕ) (e n : ℕ) (x : Entry) (sized : length m ≡ WORD
   created_adds made =
       let mid = made.between in
       let kept : SameTree m mid = filled m mid n sized stands made.only in
-      let size : length mid ≡ WORDS = kept.rest.size ∙ sized in
+      let size : IsMemory mid = memory_same m mid kept.rest.size sized in
       ⊎_elim
       (λ (alone : (n ≡ 0) × WritesEntry mid e x after). adds mid x size kept.table refl refl refl alone.1)
       (λ (over : TakesAndWrites mid e x n after).
       let taken = over.between in
-      adds taken (with_chain x over.chain) (over.takes.only.size ∙ size)
+      adds taken (with_chain x over.chain) (memory_same mid taken over.takes.only.size size)
       (taken_table mid taken n over.chain size over.takes ∙ kept.table) refl refl refl over.writes)
       made.adds

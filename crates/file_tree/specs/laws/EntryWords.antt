@@ -4,8 +4,7 @@ use Rattle.std.proofs.Common.{refl, sym, ◌∙◌, ap, ap₂, append_assoc, ari
 use Rattle.std.proofs.Math.Seq.{take-add, take-length}
 use Rattle.std.proofs.lemmas.List.{take-append-drop, length-drop, append-nil}
 use Rattle.std.proofs.lemmas.Bool.{cases_lt}
-use Rattle.nvm_board.specs.Facts.{address}
-use Rattle.nvm_board.specs.declared.board.TheConstants.{WORDS}
+use Rattle.nvm_board.specs.Facts.{address, IsMemory}
 use Rattle.nvm_board.specs.Torn.{written}
 use Rattle.nvm_board.specs.laws.Torn.{written-inside, written-elsewhere, length-written}
 use Rattle.block_chain.specs.Words.{page_words}
@@ -62,7 +61,7 @@ sixteen_of bytes long =
     later (suc a) b [] = drop-nil b ∙ sym (let z : suc a + b ≡ suc (a + b) = omega arith in ap (λ (k : ℕ). drop {A = ℕ} k []) z)
     later (suc a) b (x ∷ xs) = later a b xs ∙ sym (let z : suc a + b ≡ suc (a + b) = omega arith in ap (λ (k : ℕ). drop k (x ∷ xs)) z)
 
-pub written_entry : (m ws : List ℕ) (e : ℕ) (x : Entry) → length m ≡ WORDS → e < 64 → length ws ≡ 11 → entry_told ws ≡ x
+pub written_entry : (m ws : List ℕ) (e : ℕ) (x : Entry) → IsMemory m → e < 64 → length ws ≡ 11 → entry_told ws ≡ x
     → x.kind ≢ 0 → WritesEntry m e x (written m (address (FIRST_ENTRY_PAGE + e) 0) ws)
 written_entry m ws e x sized few long told some =
     let page : ℕ = FIRST_ENTRY_PAGE + e in

@@ -1,4 +1,9 @@
 -- Which words the tree depends on: those of the entries' pages, those of blocks, and the header's of the free chain.
+use Rattle.nvm_board.specs.laws.Sizes.{memory_same}
+use Rattle.file_tree.specs.declared.layout.TheConstants.{MARK_WORD, PAGES_WORD}
+use Rattle.file_tree.specs.laws.Formats.{count_same, format_same, format_then, laid_as}
+use Rattle.file_tree.specs.Formats.{block_count, SameFormat}
+use Rattle.nvm_board.specs.Facts.{IsMemory}
 use Rattle.std.specs.Prelude.{◌≡◌, ◌==◌, ◌<◌, ◌≤◌, ◌+◌, ℕ, zero, suc, if◌then◌else◌, List, [], length, Option, None}
 use Rattle.std.specs.Prelude.{Some, All}
 use Rattle.std.specs.List.{range_with_len, filter_map, cons_option}
@@ -8,7 +13,6 @@ use Rattle.std.specs.Ordering.{nat_cmp}
 use Rattle.std.specs.Cmp.Lexicographic.{slice_cmp}
 use Rattle.std.proofs.Common.{refl, sym, ◌∙◌, ap, ap₂, subst, arith, ⊎_elim}
 use Rattle.std.proofs.lemmas.Bool.{cases_lt}
-use Rattle.nvm_board.specs.declared.board.TheConstants.{WORDS}
 use Rattle.block_chain.specs.declared.chain.Extent.{Extent}
 use Rattle.block_chain.specs.Chains.{bytes_of, free_chain}
 use Rattle.block_chain.specs.Layout.{AreLaid, SameBytes, blocks_of}
@@ -68,20 +72,20 @@ tree_same m n entries same = ap (from_entries {R = slice_cmp nat_cmp})
     (nodes_same m n 0 64 (λ e from below. node_same m n e entries (same e (omega (arith, below)))))
 
 -- The table depends on words of the entries' pages.
-pub table_kept : (m after : List ℕ) → length m ≡ WORDS → KeepsTree m after → table after ≡ table m
+pub table_kept : (m after : List ℕ) → IsMemory m → KeepsTree m after → table after ≡ table m
 table_kept m after sized keeps = table-same m after (λ page from below.
     page_words_same m after page (omega (arith, sized, below)) keeps.blocks.size
     (λ place small. keeps.entries page place from below small))
 
 -- Words change elsewhere: table, tree and free chain stay, and what stood for a tree does so still.
-pub tree_kept : (m after : List ℕ) → length m ≡ WORDS → KeepsTree m after → TreeStands m
+pub tree_kept : (m after : List ℕ) → IsMemory m → KeepsTree m after → TreeStands m
     → TreeStands after × (table after ≡ table m) × (tree_of after ≡ tree_of m) × (free_chain after ≡ free_chain m)
 tree_kept m after sized keeps stands =
     let entries = table_kept m after sized keeps in
-    let laid = laid_elsewhere m after (extents (table m)) sized stands.blocks keeps.blocks in
-    let are_laid : List Entry → Type 0 = λ t. AreLaid after (extents t) in
+    let laid = laid_elsewhere (block_count m) m after (extents (table m)) sized stands.blocks keeps.blocks in
+    let are_laid : List Entry → Type 0 = λ t. AreLaid (block_count m) after (extents t) in
     let are_table : List Entry → Type 0 = λ t. IsTable t in (
-      record { entries = subst are_table (sym entries) stands.entries; blocks = subst are_laid (sym entries) laid.0 },
+      record { entries = subst are_table (sym entries) stands.entries; blocks = laid_as m after _ keeps.format (subst are_laid (sym entries) laid.0) },
       entries,
       tree_same m after entries (content_same m after (table m) (length-table m) laid.2),
       laid.1,

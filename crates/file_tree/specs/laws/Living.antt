@@ -1,4 +1,10 @@
 -- What another state in the entry of a file makes of the tree: its file in this state, and all others stay.
+use Rattle.nvm_board.specs.declared.board.TheConstants.{PAGE_WORDS}
+use Rattle.block_chain.specs.Words.{word}
+use Rattle.nvm_board.specs.laws.Sizes.{memory_same}
+use Rattle.file_tree.specs.declared.layout.TheConstants.{MARK_WORD, PAGES_WORD}
+use Rattle.file_tree.specs.laws.Formats.{count_same, format_same, format_then, laid_as}
+use Rattle.file_tree.specs.Formats.{block_count, SameFormat}
 use Rattle.std.specs.Prelude.{◌≡◌, ◌≢◌, ◌==◌, ◌<◌, ◌≤◌, ◌+◌, ◌-◌, ℕ, zero, suc, Bool, if◌then◌else◌, List, [], ◌∷◌, ◌++◌}
 use Rattle.std.specs.Prelude.{length, slice_index, slice_set, Option, None, Some, IsSome, is_some, unwrap_or, All}
 use Rattle.std.specs.List.{cons_option}
@@ -8,8 +14,7 @@ use Rattle.std.proofs.Common.{refl, sym, ◌∙◌, ap, ap₂, subst, arith, inl
 use Rattle.std.proofs.Common.{get_or-set_same, get_or-set_other, length-set}
 use Rattle.std.proofs.lemmas.Bool.{cases_lt}
 use Rattle.std.proofs.lemmas.Bool.Decides.{eqb_tells}
-use Rattle.nvm_board.specs.Facts.{address}
-use Rattle.nvm_board.specs.declared.board.TheConstants.{WORDS}
+use Rattle.nvm_board.specs.Facts.{address, IsMemory}
 use Rattle.card_rules.specs.LifeCycle.{life_cycle_at, life_cycle_byte}
 use Rattle.card_rules.specs.declared.life_cycle.LifeCycle.{LifeCycle}
 use Rattle.card_rules.specs.declared.life_cycle.LifeCycle.TheVariants.{Creation, Initialisation, Deactivated, Activated}
@@ -210,7 +215,7 @@ told_again old new w life x told first others tells =
     ∙ (λ i. record (sym told i) { kind = x.kind; life = life; identifier = x.identifier })
 
 -- A word of the entry's page is set that tells another state.
-pub life_written : (m : List ℕ) (e w life : ℕ) → length m ≡ WORDS → e < 64 → IsUsed (table m) e
+pub life_written : (m : List ℕ) (e w life : ℕ) → IsMemory m → e < 64 → IsUsed (table m) e
     → TellsLife (entry_in (table m) e) life w
     → WritesEntry m e (living (entry_in (table m) e) life) (slice_set m (address (FIRST_ENTRY_PAGE + e) 0) w)
 life_written m e w life sized few used tells =
@@ -240,7 +245,7 @@ life_written m e w life sized few used tells =
     }
 
 -- The state in the entry of a file is another one, and no other word is.
-module _ (m after : List ℕ) (e : ℕ) (state : LifeCycle) (sized : length m ≡ WORDS) (stands : TreeStands m)
+module _ (m after : List ℕ) (e : ℕ) (state : LifeCycle) (sized : IsMemory m) (stands : TreeStands m)
     (used : IsUsed (table m) e)
     (writes : WritesEntry m e (living (entry_in (table m) e) (life_cycle_byte state)) after) where
   few : e < 64
@@ -249,7 +254,13 @@ module _ (m after : List ℕ) (e : ℕ) (state : LifeCycle) (sized : length m �
   abbrev x : Entry
   x = entry_in (table m) e
 
-  keeps : KeepsBlocks m after
+  header : (place : ℕ) → place < PAGE_WORDS → word after HEADER_PAGE place ≡ word m HEADER_PAGE place
+  header place small = writes.others HEADER_PAGE place small (λ is. let z : ⊥ = omega (arith, is) in z)
+
+  pub same_format : SameFormat m after
+  same_format = record { mark = header MARK_WORD (omega arith); pages = header PAGES_WORD (omega arith) }
+
+  keeps : KeepsBlocks (block_count m) m after
   keeps = record {
     size = writes.size;
     words = λ page place block small. writes.others page place small (λ is. let low_page = block.0 in let few_e = few in
@@ -352,8 +363,8 @@ module _ (m after : List ℕ) (e : ℕ) (state : LifeCycle) (sized : length m �
       ∙ (λ i. front i ++ cons_option (own i) (back i))
       ∙ sym (extents_around m e few)
 
-  moved : AreLaid after (extents (table m)) × (free_chain after ≡ free_chain m) × All (SameBytes m after) (extents (table m))
-  moved = laid_elsewhere m after (extents (table m)) sized stands.blocks keeps
+  moved : AreLaid (block_count m) after (extents (table m)) × (free_chain after ≡ free_chain m) × All (SameBytes m after) (extents (table m))
+  moved = laid_elsewhere (block_count m) m after (extents (table m)) sized stands.blocks keeps
 
   -- the bytes of a file stay
   same_content : (f : ℕ) → IsUsed (table m) f → content after (entry_in (table m) f) ≡ content m (entry_in (table m) f)
@@ -393,7 +404,8 @@ module _ (m after : List ℕ) (e : ℕ) (state : LifeCycle) (sized : length m �
         (sym (file_at_entry m stands.entries e (path_of (table m) e) used refl));
     stands = record {
       entries = rules_after;
-      blocks = (let family : List Extent → Type 0 = λ es. AreLaid after es in subst family (sym extents_after) moved.0);
+      blocks = laid_as m after _ same_format (let family : List Extent → Type 0 = λ es. AreLaid (block_count m) after es in
+          subst family (sym extents_after) moved.0);
     };
     free = moved.1;
     rest = record {

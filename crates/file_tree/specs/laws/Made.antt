@@ -1,9 +1,13 @@
 -- What a creation makes of the tree, from its steps.
+use Rattle.nvm_board.specs.laws.Sizes.{memory_same}
+use Rattle.file_tree.specs.declared.layout.TheConstants.{MARK_WORD, PAGES_WORD}
+use Rattle.file_tree.specs.laws.Formats.{count_same, format_same, format_then, laid_as}
+use Rattle.file_tree.specs.Formats.{block_count, SameFormat}
+use Rattle.nvm_board.specs.Facts.{IsMemory}
 use Rattle.std.specs.Prelude.{◌≡◌, ◌≤◌, ◌+◌, ◌*◌, ℕ, List, [], ◌∷◌, ◌++◌, length, take, replicate, Option, None}
 use Rattle.std.specs.FinMap.{insert}
 use Rattle.std.proofs.Common.{refl, sym, ◌∙◌, ap, subst, arith, ⊎_elim}
 use Rattle.std.proofs.lemmas.List.{length-drop}
-use Rattle.nvm_board.specs.declared.board.TheConstants.{WORDS}
 use Rattle.card_rules.specs.declared.status.Sw.{Sw}
 use Rattle.fcp_template.specs.declared.fcp.Fcp.{Fcp}
 use Rattle.fcp_template.specs.Ranges.{IsCreatable}
@@ -42,10 +46,10 @@ creates_after m mid after df identifier file same creates = record {
   };
 }
 
-module _ (m after : List ℕ) (df n e : ℕ) (fcp : Fcp) (sized : length m ≡ WORDS) (stands : TreeStands m)
+module _ (m after : List ℕ) (df n e : ℕ) (fcp : Fcp) (sized : IsMemory m) (stands : TreeStands m)
     (dedicated : (entry_in (table m) df).kind ≡ 1) (is : IsCreatable fcp)
     (none : taken_refusal (tree_of m) (path_of (table m) df) fcp ≡ None)
-    (no_reason : place_refusal (tree_of m) (path_of (table m) df) fcp.kind ≡ None) (place : IsPlace m df fcp.kind e)
+    (no_reason : place_refusal (block_count m) (tree_of m) (path_of (table m) df) fcp.kind ≡ None) (place : IsPlace m df fcp.kind e)
     (short : short_option n ≡ short_of_new (tree_of m) (path_of (table m) df) fcp)
     (made : FillsAndAdds m e (entry_for fcp df n no_chain) (blocks_for (size_of_kind fcp.kind)) after) where
   abbrev pub blocks : ℕ
@@ -57,8 +61,8 @@ module _ (m after : List ℕ) (df n e : ℕ) (fcp : Fcp) (sized : length m ≡ W
   kept : SameTree m mid
   kept = filled m mid blocks sized stands made.only
 
-  sized_mid : length mid ≡ WORDS
-  sized_mid = kept.rest.size ∙ sized
+  sized_mid : IsMemory mid
+  sized_mid = memory_same m mid kept.rest.size sized
 
   free_mid : (entry_in (table mid) e).kind ≡ 0
   free_mid = ap (λ (t : List Entry). (entry_in t e).kind) kept.table ∙ place.free
@@ -81,7 +85,7 @@ module _ (m after : List ℕ) (df n e : ℕ) (fcp : Fcp) (sized : length m ≡ W
   -- what is left to say of it
   finish : CreatesNew m df fcp after → IsUsed (table after) e × (path_of (table after) e ≡ path_of (table mid) df ++ fcp.identifier ∷ [])
       → free_entries (table mid) ≡ free_entries (table after) + 1 → length (free_chain mid) ≡ length (free_chain after) + blocks
-      → length after ≡ WORDS → IsCreated m df fcp e blocks after
+      → IsMemory after → IsCreated m df fcp e blocks after
   finish creates there entries chain sized_after =
       let old = space_counted m sized stands in
       let new = space_counted after sized_after creates.stands in
@@ -90,7 +94,7 @@ module _ (m after : List ℕ) (df n e : ℕ) (fcp : Fcp) (sized : length m ≡ W
       let a : length (free_chain m) ≡ length (free_chain after) + blocks = omega (arith, chain, long) in
       let b : free_entries (table m) ≡ free_entries (table after) + 1 = omega (arith, entries, count) in
       record {
-        none = ap (λ (o : Option Sw). first_reason o (place_refusal (tree_of m) (path_of (table m) df) fcp.kind)) none ∙ no_reason;
+        none = ap (λ (o : Option Sw). first_reason o (place_refusal (block_count m) (tree_of m) (path_of (table m) df) fcp.kind)) none ∙ no_reason;
         creates = creates;
         used = there.0;
         path = there.1 ∙ ap (λ (t : List Entry). path_of t df ++ fcp.identifier ∷ []) kept.table;
@@ -106,7 +110,7 @@ module _ (m after : List ℕ) (df n e : ℕ) (fcp : Fcp) (sized : length m ≡ W
       let there = df_path mid after e df x sized_mid kept.stands place.small free_mid (may no_chain) one writes in
       let entries = df_entries mid after e df x sized_mid kept.stands place.small free_mid (may no_chain) one writes in
       let chain = ap (λ (ps : List ℕ). length ps) (df_free mid after e df x sized_mid kept.stands place.small free_mid (may no_chain) one writes) in
-      finish creates there entries (omega (arith, chain, nothing)) (writes.size ∙ sized_mid)
+      finish creates there entries (omega (arith, chain, nothing)) (memory_same mid after writes.size sized_mid)
 
   after_ef : 2 ≤ kind_number fcp.kind → TakesAndWrites mid e (entry_for fcp df n no_chain) blocks after → IsCreated m df fcp e blocks after
   after_ef high made_ef =
@@ -126,7 +130,7 @@ module _ (m after : List ℕ) (df n e : ℕ) (fcp : Fcp) (sized : length m ≡ W
       let chain = ap (λ (ps : List ℕ). length ps) (ef_free mid taken after e df blocks x sized_mid kept.stands place.small free_mid
       (may made_ef.chain) high refl made_ef.some enough_mid made_ef.takes made_ef.writes) in
       let cut = length-drop blocks (free_chain mid) in
-      finish creates there entries (omega (arith, chain, cut, enough_mid)) (made_ef.writes.size ∙ made_ef.takes.only.size ∙ sized_mid)
+      finish creates there entries (omega (arith, chain, cut, enough_mid)) (memory_same mid after (made_ef.writes.size ∙ made_ef.takes.only.size) sized_mid)
     where
       enough_bytes : (size : ℕ) → size ≤ BLOCK_BYTES * blocks_for size
       enough_bytes size = omega arith

@@ -1,12 +1,16 @@
 -- What a deletion frees, as it is found before it, and what it makes of the tree.
+use Rattle.nvm_board.specs.laws.Sizes.{memory_same}
+use Rattle.file_tree.specs.declared.layout.TheConstants.{MARK_WORD, PAGES_WORD}
+use Rattle.file_tree.specs.laws.Formats.{count_same, format_same, format_then, laid_as}
+use Rattle.file_tree.specs.Formats.{block_count, SameFormat}
+use Rattle.nvm_board.specs.Facts.{IsMemory}
 use Rattle.std.specs.Prelude.{◌≡◌, ◌&&◌, ◌<◌, ◌≤◌, ◌+◌, ◌-◌, ℕ, Bool, true, false, not, if◌then◌else◌, List, map, length}
 use Rattle.std.specs.Prelude.{All}
 use Rattle.std.specs.List.{range_with_len, sum_by}
 use Rattle.std.proofs.Common.{refl, sym, ◌∙◌, ap, subst, arith, inl, inr, true≢false}
 use Rattle.std.proofs.lemmas.List.{length-append}
 use Rattle.std.proofs.lemmas.Bool.Decides.{eqb_tells}
-use Rattle.nvm_board.specs.declared.board.TheConstants.{WORDS}
-use Rattle.block_chain.specs.declared.layout.TheConstants.{BLOCKS}
+use Rattle.block_chain.specs.declared.layout.TheConstants.{MOST_BLOCKS}
 use Rattle.block_chain.specs.declared.chain.Chain.{Chain}
 use Rattle.block_chain.specs.Chains.{free_chain}
 use Rattle.block_chain.specs.Layout.{laid_out, chains_of, IsExtent, AreSplit}
@@ -60,9 +64,9 @@ module _ (m : List ℕ) (top : ℕ) (stands : TreeStands m) where
   unfolding part_below
   part_is = shifted (table m) top 0 64
 
-  pub part_blocks : sum_by (λ x. x.blocks) (extents (part_below (table m) top)) ≤ BLOCKS
+  pub part_blocks : IsMemory m → sum_by (λ x. x.blocks) (extents (part_below (table m) top)) ≤ MOST_BLOCKS
   unfolding table
-  part_blocks =
+  part_blocks sized =
       let stay : List Entry = map kept (range_with_len 1 64) in
       let family : List Entry → Type 0 = λ gs. AreSplit m (extents (table m)) (extents gs) (extents stay) in
       let split = subst family (sym part_is) (parts_split (on_page m) gone kept m 1 64 parts) in
@@ -70,12 +74,14 @@ module _ (m : List ℕ) (top : ℕ) (stands : TreeStands m) where
       let each = subst all (sym part_is) (parts_all (on_page m) gone kept (λ x. IsExtent m x) 1 64 parts stands.blocks.each).0 in
       let long = laid_blocks m (extents (part_below (table m) top)) each in
       let whole = stands.blocks.whole in
+      let inside = stands.blocks.inside in
+      let most = sized.most in
       let both = length-append (free_chain m) (laid_out m (extents (table m))) in
       let size = split.size in
-      omega (arith, long, whole, both, size)
+      omega (arith, long, whole, both, size, inside, most)
 
 -- What goes is removed: from words that are the same, and by lists that hold what was found.
-module _ (m now : List ℕ) (top : ℕ) (sized : length m ≡ WORDS) (stands : TreeStands m) (above : 0 < top)
+module _ (m now : List ℕ) (top : ℕ) (sized : IsMemory m) (stands : TreeStands m) (above : 0 < top)
     (used : IsUsed (table m) top) (removal : Removal) (found : IsRemoval m top removal) (same : now ≡ m)
     (part : List Entry) (chains : List Chain) (part_is : part ≡ removal.part.items)
     (chains_are : chains ≡ removal.chains.items) where
@@ -104,6 +110,7 @@ module _ (m now : List ℕ) (top : ℕ) (sized : length m ≡ WORDS) (stands : T
     pub removed_deletes : Deletes m top after
     removed_deletes = deleted m removed.between top sized stands above used removed.freed after removed.given
 
-    pub removed_space : free_space (tree_of after) ≡ with_freed (free_space (tree_of m)) removal.space
+    pub removed_space : free_space (block_count after) (tree_of after)
+        ≡ with_freed (free_space (block_count m) (tree_of m)) removal.space
     removed_space = space_freed m removed.between top sized stands above used removed.freed after removed.given
         removal.space found.blocks found.entries

@@ -1,10 +1,16 @@
 -- What writing bytes of blocks makes of the tree: bytes of one file, and of free blocks.
+use Rattle.block_chain.specs.declared.layout.TheConstants.{HEADER_PAGE, FIRST_BLOCK_PAGE}
+use Rattle.nvm_board.specs.laws.Sizes.{memory_same}
+use Rattle.file_tree.specs.declared.layout.TheConstants.{MARK_WORD, PAGES_WORD}
+use Rattle.file_tree.specs.laws.Formats.{count_same, format_same, format_then, laid_as}
+use Rattle.file_tree.specs.Formats.{block_count, SameFormat}
+use Rattle.nvm_board.specs.Facts.{IsMemory}
 use Rattle.std.specs.Prelude.{◌≡◌, ◌≢◌, ◌<◌, ◌≤◌, ◌==◌, ℕ, if◌then◌else◌, List, length, take}
 use Rattle.std.specs.Prelude.{None, Some, unwrap_or}
 use Rattle.std.proofs.Common.{refl, sym, ◌∙◌, ap, ap₂, subst, arith, inl, inr, ⊎_elim}
 use Rattle.std.proofs.lemmas.Bool.{cases_lt}
 use Rattle.std.specs.FinMap.{insert}
-use Rattle.nvm_board.specs.declared.board.TheConstants.{WORDS, PAGE_WORDS}
+use Rattle.nvm_board.specs.declared.board.TheConstants.{PAGE_WORDS}
 use Rattle.card_rules.specs.LifeCycle.{life_cycle_at}
 use Rattle.card_rules.specs.declared.life_cycle.LifeCycle.TheVariants.{Activated}
 use Rattle.block_chain.specs.declared.chain.Extent.{Extent}
@@ -60,14 +66,20 @@ file_overwritten x before after bytes offset is becomes =
     ∙ sym (ap (λ (file : File). with_overwritten file offset bytes) (file_of-transparent x before is))
 
 -- Words of blocks that hold bytes change: entries stay, and so does all that is no block.
-module _ (m after ps : List ℕ) (sized : length m ≡ WORDS) (blocks : AreBlocks ps) (only : OnlyContent m ps after) where
-  other_page : (page place : ℕ) → place < PAGE_WORDS → (IsBlock page → ⊥) → word after page place ≡ word m page place
-  other_page page place small outside = only.others page place small (inr (not_among page outside ps blocks))
+module _ (m after ps : List ℕ) (sized : IsMemory m) (blocks : AreBlocks m ps) (only : OnlyContent m ps after) where
+  other_page : (page place : ℕ) → place < PAGE_WORDS → page < FIRST_BLOCK_PAGE → word after page place ≡ word m page place
+  other_page page place small outside = only.others page place small (inr (not_among m page (λ block. let low = block.0 in let z : ⊥ = omega (arith, low, outside) in z) ps blocks))
 
   pub content_table : table after ≡ table m
   content_table = table-same m after (λ page from below.
       page_words_same m after page (omega (arith, sized, below)) only.size
-      (λ place small. other_page page place small (λ block. let low = block.0 in let z : ⊥ = omega (arith, low, below) in z)))
+      (λ place small. other_page page place small (omega (arith, below))))
+
+  content_format : SameFormat m after
+  content_format = record {
+    mark = other_page HEADER_PAGE MARK_WORD (omega arith) (omega arith);
+    pages = other_page HEADER_PAGE PAGES_WORD (omega arith) (omega arith);
+  }
 
   pub content_rest : KeepsRest m after
   content_rest = record {
@@ -78,14 +90,14 @@ module _ (m after ps : List ℕ) (sized : length m ≡ WORDS) (blocks : AreBlock
   pub content_stands : TreeStands m → TreeStands after
   content_stands stands = record {
     entries = subst IsTable (sym content_table) stands.entries;
-    blocks = (
-        let family : List Extent → Type 0 = λ es. AreLaid after es in
+    blocks = laid_as m after _ content_format (
+        let family : List Extent → Type 0 = λ es. AreLaid (block_count m) after es in
         subst family (sym (ap extents content_table))
-        (laid_kept m after (extents (table m)) ps stands.blocks only (no_header ps blocks)).0);
+        (laid_kept (block_count m) m after (extents (table m)) ps stands.blocks only (no_header m ps blocks)).0);
   }
 
   pub content_free : TreeStands m → free_chain after ≡ free_chain m
-  content_free stands = (laid_kept m after (extents (table m)) ps stands.blocks only (no_header ps blocks)).1
+  content_free stands = (laid_kept (block_count m) m after (extents (table m)) ps stands.blocks only (no_header m ps blocks)).1
 
   -- a file whose blocks are not among these stays
   pub content_file : TreeStands m → (e : ℕ) → IsUsed (table m) e
@@ -122,7 +134,7 @@ entries_apart m stands e f other e_in f_in e_high f_high q some =
     (cases_lt e f)
 
 -- The bytes of a transparent file are overwritten: the tree has the file so, and all else stays.
-pub rewritten : (m after : List ℕ) (e offset : ℕ) (bytes : List ℕ) → length m ≡ WORDS → TreeStands m → IsUsed (table m) e
+pub rewritten : (m after : List ℕ) (e offset : ℕ) (bytes : List ℕ) → IsMemory m → TreeStands m → IsUsed (table m) e
     → (entry_in (table m) e).kind ≡ 2 → OnlyContent m (blocks_of m (extent_told (entry_in (table m) e))) after
     → take (entry_in (table m) e).size (bytes_of after (blocks_of m (extent_told (entry_in (table m) e))))
     ≡ overwrite (take (entry_in (table m) e).size (bytes_of m (blocks_of m (extent_told (entry_in (table m) e))))) offset bytes
@@ -139,7 +151,7 @@ rewritten m after e offset bytes sized stands used is only becomes =
     let same = content_table m after ps sized blocks only in
     let stands_after = content_stands m after ps sized blocks only stands in
     let kept : blocks_of after (extent_told x) ≡ ps =
-    (extent_kept m after (extent_told x) extent (λ q some. only.others q 0 (omega arith) (inl refl))).1 in
+    (extent_kept m after (extent_told x) extent only.size (λ q some. only.others q 0 (omega arith) (inl refl))).1 in
     let held : content m x ≡ bytes_of m ps = content-some m x high in
     let holds : content after x ≡ bytes_of after ps = content-some after x high ∙ ap (bytes_of after) kept in
     let own : file_in after e ≡ with_overwritten (file_in m e) offset bytes =
@@ -167,11 +179,11 @@ rewritten m after e offset bytes sized stands used is only becomes =
     }
 
 -- Bytes of the first free blocks are set: the tree stays.
-pub filled : (m after : List ℕ) (n : ℕ) → length m ≡ WORDS → TreeStands m → OnlyContent m (take n (free_chain m)) after
+pub filled : (m after : List ℕ) (n : ℕ) → IsMemory m → TreeStands m → OnlyContent m (take n (free_chain m)) after
     → SameTree m after
 filled m after n sized stands only =
     let ps = take n (free_chain m) in
-    let blocks : AreBlocks ps = blocks_take n (free_chain m) (leads_blocks m _ 0 (free_chain m) stands.blocks.free) in
+    let blocks : AreBlocks m ps = blocks_take m n (free_chain m) (leads_blocks m _ 0 (free_chain m) stands.blocks.free) in
     let same = content_table m after ps sized blocks only in
     record {
       tree = tree_stays m after stands.entries same (λ e used. content_file m after ps sized blocks only stands e used (λ q some high.

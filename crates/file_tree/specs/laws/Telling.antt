@@ -1,7 +1,11 @@
 -- What the parts of the check of a memory say together.
+use Rattle.nvm_board.specs.laws.Sizes.{memory_same}
+use Rattle.file_tree.specs.declared.layout.TheConstants.{MARK_WORD, PAGES_WORD}
+use Rattle.file_tree.specs.laws.Formats.{count_same, format_same, format_then, laid_as}
+use Rattle.file_tree.specs.Formats.{block_count, SameFormat}
+use Rattle.nvm_board.specs.Facts.{IsMemory}
 use Rattle.std.specs.Prelude.{◌≡◌, ℕ, List, length, Option, None, Some, option_map}
 use Rattle.std.proofs.Common.{refl, sym, ◌∙◌, ap, subst}
-use Rattle.nvm_board.specs.declared.board.TheConstants.{WORDS}
 use Rattle.block_chain.specs.declared.chain.Extent.{Extent}
 use Rattle.block_chain.specs.Chains.{free_chain}
 use Rattle.block_chain.specs.Layout.{AreLaid, TellsFree}
@@ -16,14 +20,14 @@ abbrev pub space_in : List Entry → ℕ → FreeSpace
 space_in t blocks = record { blocks = blocks; entries = free_entries t }
 
 -- the entries hold to their rules, their extents lie as they should, and free blocks and entries are counted
-tells_space : (m now : List ℕ) (t : List Entry) (es : List Extent) (blocks free : ℕ) → length m ≡ WORDS → now ≡ m
-    → t ≡ table m → es ≡ extents t → IsTable t → AreLaid now es × (blocks ≡ length (free_chain now))
+tells_space : (m now : List ℕ) (t : List Entry) (es : List Extent) (blocks free : ℕ) → IsMemory m → now ≡ m
+    → t ≡ table m → es ≡ extents t → IsTable t → AreLaid (block_count m) now es × (blocks ≡ length (free_chain now))
     → free ≡ free_entries t
     → TellsSpace m (Some (record { blocks = blocks; entries = free }))
 tells_space m now t es blocks free sized same entries named rules laid counted =
     let is_table : List Entry → Type 0 = λ l. IsTable l in
-    let lies : List ℕ → Type 0 = λ l. AreLaid l es in
-    let holds : List Extent → Type 0 = λ l. AreLaid m l in
+    let lies : List ℕ → Type 0 = λ l. AreLaid (block_count m) l es in
+    let holds : List Extent → Type 0 = λ l. AreLaid (block_count m) m l in
     let stands : TreeStands m = record {
       entries = subst is_table entries rules;
       blocks = subst holds (named ∙ ap extents entries) (subst lies same laid.0);
@@ -37,12 +41,12 @@ tells_space m now t es blocks free sized same entries named rules laid counted =
 
 -- what was found of the blocks tells it, whether they lie as they should or not
 pub space_told : (m now : List ℕ) (t : List Entry) (es : List Extent) (found : Option ℕ) (told : Option FreeSpace)
-    → length m ≡ WORDS → now ≡ m → t ≡ table m → es ≡ extents t → IsTable t → TellsFree now es found
+    → IsMemory m → now ≡ m → t ≡ table m → es ≡ extents t → IsTable t → TellsFree (block_count m) now es found
     → told ≡ option_map (space_in t) found → TellsSpace m told
 space_told m now t es None told sized same entries named rules none is =
     let answer : Option FreeSpace → Type 0 = λ o. TellsSpace m o in
-    let lies : List ℕ → Type 0 = λ l. AreLaid l es in
-    let holds : List Extent → Type 0 = λ l. AreLaid m l in
+    let lies : List ℕ → Type 0 = λ l. AreLaid (block_count m) l es in
+    let holds : List Extent → Type 0 = λ l. AreLaid (block_count m) m l in
     subst answer (sym is) (λ stands. none (subst lies (sym same) (subst holds (sym (named ∙ ap extents entries)) stands.blocks)))
 space_told m now t es (Some blocks) told sized same entries named rules laid is =
     let answer : Option FreeSpace → Type 0 = λ o. TellsSpace m o in

@@ -1,11 +1,11 @@
 -- Laws of the PINs in a memory: what they depend on, and what a set of their words makes of them.
+use Rattle.nvm_board.specs.laws.Sizes.{memory_same}
 use Rattle.std.specs.Prelude.{if◌then◌else◌}
 use Rattle.std.proofs.Common.{◌≡◌, ◌⊎◌, ◌<◌, ◌≤◌, ◌+◌, ℕ, Bool, true, false, List, [], ◌∷◌, length}
 use Rattle.std.proofs.Common.{slice_index, slice_set, refl, ◌∙◌, ap, inl, inr, arith, lit<}
 use Rattle.std.proofs.Math.ListN.{length-set}
-use Rattle.nvm_board.specs.Facts.{address}
+use Rattle.nvm_board.specs.Facts.{address, IsMemory}
 use Rattle.nvm_board.specs.Torn.{written}
-use Rattle.nvm_board.specs.declared.board.TheConstants.{WORDS}
 use Rattle.undo_journal.specs.laws.Torn.{length-written, written-elsewhere, written-inside}
 use Rattle.pin_store.specs.declared.layout.TheConstants.{PINS, PIN_WORDS, TRIES, UNBLOCKING_TRIES}
 use Rattle.pin_store.specs.Pins.{HasFewTries, owner, is_unblocking, kept, tries_left, with_tries, changed_pin, reset_pin, verified_pin}
@@ -52,7 +52,7 @@ run-beside m run pin first place (inr past) =
     written-elsewhere m run (address (pin_page pin) first) (address (pin_page pin) place) (inr le)
 
 -- those of the run are its words
-run-within : (m run : List ℕ) (pin first k : ℕ) → length m ≡ WORDS → pin < PINS → first + length run ≤ PIN_WORDS
+run-within : (m run : List ℕ) (pin first k : ℕ) → IsMemory m → pin < PINS → first + length run ≤ PIN_WORDS
     → k < length run → pin_word (written m (address (pin_page pin) first) run) pin (first + k) ≡ slice_index run k
 run-within m run pin first k sized small fits lt =
     let within : address (pin_page pin) first + length run ≤ length m = omega (arith, sized, small, fits) in
@@ -61,7 +61,7 @@ run-within m run pin first k sized small fits lt =
     ∙ written-inside m run (address (pin_page pin) first) k within lt
 
 -- a count of tries is set
-tries-set : (unblocking : Bool) (m : List ℕ) (pin n : ℕ) → length m ≡ WORDS → pin < PINS
+tries-set : (unblocking : Bool) (m : List ℕ) (pin n : ℕ) → IsMemory m → pin < PINS
     → pin_at (slice_set m (address (pin_page pin) (if unblocking then 1 else 0)) n) pin ≡ record {
       value = (pin_at m pin).value;
       tries = if unblocking then (pin_at m pin).tries else n;
@@ -127,7 +127,7 @@ tries-fits true n = lit< tt
 tries-fits false n = lit< tt
 
 -- the tries of a secret are set
-pub sets_tries : (m : List ℕ) (secret n : ℕ) → length m ≡ WORDS
+pub sets_tries : (m : List ℕ) (secret n : ℕ) → IsMemory m
     → SetsPin m (owner secret) (with_tries secret n (pin_at m (owner secret)))
     (slice_set m (address (pin_page (owner secret)) (if is_unblocking secret then 1 else 0)) n)
 sets_tries m secret n sized =
@@ -140,7 +140,7 @@ sets_tries m secret n sized =
     }
 
 -- the tries of a PIN are all there again
-pub sets_verified : (m : List ℕ) (pin : ℕ) → length m ≡ WORDS → pin < PINS
+pub sets_verified : (m : List ℕ) (pin : ℕ) → IsMemory m → pin < PINS
     → SetsPin m pin (verified_pin (pin_at m pin)) (slice_set m (address (pin_page pin) 0) TRIES)
 sets_verified m pin sized small = record {
   size = length-set m (address (pin_page pin) 0) TRIES;
@@ -149,7 +149,7 @@ sets_verified m pin sized small = record {
 }
 
 -- tries and value are set, one after the other
-pub sets_value : (m new : List ℕ) (pin first second : ℕ) → length m ≡ WORDS → pin < PINS
+pub sets_value : (m new : List ℕ) (pin first second : ℕ) → IsMemory m → pin < PINS
     → bytes_of_words first second ≡ new
     → SetsPin m pin (changed_pin new (pin_at m pin))
     (written (slice_set m (address (pin_page pin) 0) TRIES) (address (pin_page pin) 2) (first ∷ second ∷ []))
@@ -161,8 +161,8 @@ sets_value m new pin first second sized small bytes =
     let size : length between ≡ length m = length-set m (address (pin_page pin) 0) TRIES in
     let tries = run-beside between value pin 2 0 (inl (lit< tt)) ∙ run-within m run pin 0 0 sized small (lit< tt) (lit< tt) in
     let unblocking_tries = run-beside between value pin 2 1 (inl (lit< tt)) ∙ run-beside m run pin 0 1 (inr (lit< tt)) in
-    let first_is = run-within between value pin 2 0 (size ∙ sized) small (lit< tt) (lit< tt) in
-    let second_is = run-within between value pin 2 1 (size ∙ sized) small (lit< tt) (lit< tt) in
+    let first_is = run-within between value pin 2 0 (memory_same m between size sized) small (lit< tt) (lit< tt) in
+    let second_is = run-within between value pin 2 1 (memory_same m between size sized) small (lit< tt) (lit< tt) in
     let third = run-beside between value pin 2 4 (inr (lit< tt)) ∙ run-beside m run pin 0 4 (inr (lit< tt)) in
     let fourth = run-beside between value pin 2 5 (inr (lit< tt)) ∙ run-beside m run pin 0 5 (inr (lit< tt)) in
     let value_is = (λ i. bytes_of_words (first_is i) (second_is i)) ∙ bytes in
@@ -178,7 +178,7 @@ sets_value m new pin first second sized small bytes =
     }
 
 -- both counts of tries and the value are set
-pub sets_all : (m new : List ℕ) (pin first second : ℕ) → length m ≡ WORDS → pin < PINS
+pub sets_all : (m new : List ℕ) (pin first second : ℕ) → IsMemory m → pin < PINS
     → bytes_of_words first second ≡ new
     → SetsPin m pin (reset_pin new (pin_at m pin))
     (written m (address (pin_page pin) 0) (TRIES ∷ UNBLOCKING_TRIES ∷ first ∷ second ∷ []))

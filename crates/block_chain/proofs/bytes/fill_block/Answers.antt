@@ -1,4 +1,6 @@
 use Rattle.std.proofs.Common.{arith, inr}
+use Rattle.nvm_board.specs.laws.Sizes.{page_within}
+use Rattle.undo_journal.specs.laws.Memory.{current_size}
 use Rattle.block_chain.proofs.bytes.fill_block.Goals as goal
 
 pub returns-clause-any_exit : goal.returns-clause-any_exit
@@ -16,5 +18,6 @@ write_plain-requires-clause-idle g c = c.requires.ready.idle
 pub write_plain-requires-clause-place : goal.write_plain-requires-clause-place
 write_plain-requires-clause-place g c =
     let block = c.requires.block in
-    let size = c.requires.ready.usable.current_size in
-    (inr (omega (arith, block.0)), omega (arith, block.1, size))
+    let inside = page_within _ c.args.page c.requires.ready.usable.committed_size block.1 in
+    let same = current_size c.args.store.now in
+    (inr (omega (arith, block.0)), omega (arith, inside, same))

@@ -9,8 +9,8 @@ use Rattle.block_chain.specs.laws.Overwriting.{overwrites_none}
 use Rattle.block_chain.specs.Changes.{touched_blocks}
 use Rattle.block_chain.proofs.RunCosts.{none_yet, runs_all, runs_more, run_put, run_next}
 use Rattle.block_chain.proofs.Puts.{link_small, put_few, put_first, put_last, put_more}
-use Rattle.block_chain.proofs.Puts.{word_block, word_fits, word_small, word_within}
 use Rattle.block_chain.proofs.Counting.{counted-all, counted-more, counted-no_bytes, counted-none}
+use Rattle.block_chain.proofs.Puts.{put_block, word_block, word_fits, word_small, word_within}
 use Rattle.block_chain.proofs.bytes.set_bytes.Goals as goal
 
 -- no bytes are put
@@ -44,7 +44,7 @@ loop-k-init g c =
       sets = reads_sets _ _ _ c.walk.ensures.store.only;
       runs = none_yet refl (reads_runs 0 _ _ c.walk.ensures.store.only.reads);
       counted = λ idle. counted-none (chain_of m c.args.chain) (c.args.offset / 4) _ _ c.walk.ensures.store.only.reads idle;
-      put = put_first m (chain_of m c.args.chain) _ c.args.offset c.args.bytes.now c.requires.chain c.requires.within
+      put = put_first m (chain_of m c.args.chain) _ c.args.offset c.args.bytes.now c.requires.chain c.requires.within c.requires.small
           c.requires.ready.current_size
           _ _ some c.in_ok-page.ensures.page c.walk.ensures.store.only.reads.keeps.current_words;
     }
@@ -54,21 +54,21 @@ loop-k-init g c =
 pub put_word-requires-clause-block : goal.put_word-requires-clause-block
 put_word-requires-clause-block g c =
     let m = current (memory_of c.args.txn.now) in
-    word_block m (chain_of m c.args.chain) _ c.args.offset c.args.bytes.now c.requires.chain c.requires.within
+    word_block m (chain_of m c.args.chain) _ c.args.offset c.args.bytes.now c.requires.chain c.requires.within c.requires.small
     c.requires.ready.current_size
     _ _ _ c.loop-k.invariant.put (omega (arith, c.loop-k-test.true))
 
 pub put_word-requires-clause-small : goal.put_word-requires-clause-small
 put_word-requires-clause-small g c =
     let m = current (memory_of c.args.txn.now) in
-    word_small m (chain_of m c.args.chain) _ c.args.offset c.args.bytes.now c.requires.chain c.requires.within
+    word_small m (chain_of m c.args.chain) _ c.args.offset c.args.bytes.now c.requires.chain c.requires.within c.requires.small
     c.requires.ready.current_size
     _ _ _ c.loop-k.invariant.put (omega (arith, c.loop-k-test.true))
 
 pub put_word-requires-clause-room : goal.put_word-requires-clause-room
 put_word-requires-clause-room g c =
     let m = current (memory_of c.args.txn.now) in
-    let fits = word_fits m (chain_of m c.args.chain) _ c.args.offset c.args.bytes.now c.requires.chain c.requires.within
+    let fits = word_fits m (chain_of m c.args.chain) _ c.args.offset c.args.bytes.now c.requires.chain c.requires.within c.requires.small
     c.requires.ready.current_size
     _ _ _ c.loop-k.invariant.put (omega (arith, c.loop-k-test.true)) in
     omega (arith, fits, c.loop-k.invariant.sets.room, c.requires.room)
@@ -79,7 +79,7 @@ returns-in_err-put_word-clause-done g c = none_ok _ _ _ c.from_residual-in_err-p
 pub returns-in_err-put_word-clause-store : goal.returns-in_err-put_word-clause-store
 returns-in_err-put_word-clause-store g c =
     let m = current (memory_of c.args.txn.now) in
-    let fits = word_fits m (chain_of m c.args.chain) _ c.args.offset c.args.bytes.now c.requires.chain c.requires.within
+    let fits = word_fits m (chain_of m c.args.chain) _ c.args.offset c.args.bytes.now c.requires.chain c.requires.within c.requires.small
     c.requires.ready.current_size
     _ _ _ c.loop-k.invariant.put (omega (arith, c.loop-k-test.true)) in
     sets_in_handed _ _ _ _ _ c.from_residual-in_err-put_word.ensures.1
@@ -88,14 +88,14 @@ returns-in_err-put_word-clause-store g c =
 pub block_of_word-requires-clause-block : goal.block_of_word-requires-clause-block
 block_of_word-requires-clause-block g c =
     let m = current (memory_of c.args.txn.now) in
-    word_block m (chain_of m c.args.chain) _ c.args.offset c.args.bytes.now c.requires.chain c.requires.within
+    put_block m (chain_of m c.args.chain) _ c.args.offset c.args.bytes.now c.requires.chain c.requires.within c.requires.small
     c.requires.ready.current_size
-    _ _ _ c.loop-k.invariant.put (omega (arith, c.loop-k-test.true))
+    _ _ _ c.loop-k.invariant.put (omega (arith, c.loop-k-test.true)) _ c.in_ok-put_word.ensures.done
 
 pub block_of_word-requires-clause-small : goal.block_of_word-requires-clause-small
 block_of_word-requires-clause-small g c =
     let m = current (memory_of c.args.txn.now) in
-    link_small m (chain_of m c.args.chain) _ c.args.offset c.args.bytes.now c.requires.chain c.requires.within
+    link_small m (chain_of m c.args.chain) _ c.args.offset c.args.bytes.now c.requires.chain c.requires.within c.requires.small
     c.requires.ready.current_size
     _ _ _ c.loop-k.invariant.put (omega (arith, c.loop-k-test.true)) _ c.in_ok-put_word.ensures.done
 
@@ -105,7 +105,7 @@ returns-in_err-page-2-clause-done g c = none_ok _ _ _ c.from_residual-in_err-pag
 pub returns-in_err-page-2-clause-store : goal.returns-in_err-page-2-clause-store
 returns-in_err-page-2-clause-store g c =
     let m = current (memory_of c.args.txn.now) in
-    let fits = word_fits m (chain_of m c.args.chain) _ c.args.offset c.args.bytes.now c.requires.chain c.requires.within
+    let fits = word_fits m (chain_of m c.args.chain) _ c.args.offset c.args.bytes.now c.requires.chain c.requires.within c.requires.small
     c.requires.ready.current_size
     _ _ _ c.loop-k.invariant.put (omega (arith, c.loop-k-test.true)) in
     let put = sets_then _ _ _ _ _ _ fits c.loop-k.invariant.sets c.put_word.ensures.store.sets in
@@ -130,10 +130,10 @@ loop-k-preserved g c =
           c.block_of_word.ensures.store.only.reads _ _ c.in_ok-page-2.ensures.page;
       counted = λ idle. counted-more (chain_of m c.args.chain) (c.args.offset / 4) k _ _ _ _ _ (c.loop-k.invariant.counted idle)
           c.requires.chain.once c.loop-k.invariant.put.from
-          (word_within m (chain_of m c.args.chain) _ c.args.offset c.args.bytes.now c.requires.chain c.requires.within
+          (word_within m (chain_of m c.args.chain) _ c.args.offset c.args.bytes.now c.requires.chain c.requires.within c.requires.small
           c.requires.ready.current_size _ _ _ c.loop-k.invariant.put (omega (arith, c.loop-k-test.true)))
           c.loop-k.invariant.put.block c.in_ok-put_word.ensures.joins c.block_of_word.ensures.store.only.reads;
-      put = put_more m (chain_of m c.args.chain) _ c.args.offset c.args.bytes.now c.requires.chain c.requires.within
+      put = put_more m (chain_of m c.args.chain) _ c.args.offset c.args.bytes.now c.requires.chain c.requires.within c.requires.small
           c.requires.ready.current_size
           _ _ _ c.loop-k.invariant.put (omega (arith, c.loop-k-test.true)) _ c.in_ok-put_word.ensures.done
           _ _ c.block_of_word.ensures.store.only.reads.keeps.current_words c.in_ok-page-2.ensures.page;
@@ -144,14 +144,14 @@ loop-k-preserved g c =
 pub returns-clause-done : goal.returns-clause-done
 returns-clause-done g c =
     let m = current (memory_of c.args.txn.now) in
-    put_last m (chain_of m c.args.chain) _ c.args.offset c.args.bytes.now c.requires.chain c.requires.within
+    put_last m (chain_of m c.args.chain) _ c.args.offset c.args.bytes.now c.requires.chain c.requires.within c.requires.small
     c.requires.ready.current_size
     _ _ _ c.loop-k.invariant.put (omega (arith, c.loop-k-test.false))
 
 pub returns-clause-store : goal.returns-clause-store
 returns-clause-store g c =
     let m = current (memory_of c.args.txn.now) in
-    let few = put_few m (chain_of m c.args.chain) _ c.args.offset c.args.bytes.now c.requires.chain c.requires.within
+    let few = put_few m (chain_of m c.args.chain) _ c.args.offset c.args.bytes.now c.requires.chain c.requires.within c.requires.small
     c.requires.ready.current_size
     _ _ _ c.loop-k.invariant.put (omega (arith, c.loop-k.invariant.within)) in
     record {

@@ -7,10 +7,13 @@ use Rattle.block_chain.specs.Words.{link}
 use Rattle.block_chain.specs.laws.Chains.{at_block, head_small}
 use Rattle.undo_journal.specs.laws.Exits.{none_ok}
 use Rattle.undo_journal.specs.laws.Told.{reads_in_handed, reads_in_on}
+use Rattle.std.specs.Prelude.{List, ℕ}
+use Rattle.std.proofs.Common.{subst}
+use Rattle.block_chain.specs.Words.{IsBlock}
 use Rattle.block_chain.proofs.free.first_free.Goals as goal
 
 pub head-requires-clause-small : goal.head-requires-clause-small
-head-requires-clause-small g c = head_small _ _ _ c.requires.free.leads
+head-requires-clause-small g c = head_small _ _ _ c.requires.ready.current_size c.requires.free.leads
 
 pub next-requires-clause-block : goal.next-requires-clause-block
 next-requires-clause-block g c =
@@ -20,7 +23,7 @@ next-requires-clause-block g c =
     let last = c.in_ok-last.ensures.page
     ∙ ap₂ (λ (l : List ℕ) (p : ℕ). slice_index (chain l p)
     (c.args.n - 1)) c.head.ensures.store.only.reads.keeps.current_words c.in_ok-first.ensures.page in
-    let at = at_block _ _ _ _ _ _ same c.requires.free.leads last within in
+    let at = at_block _ _ _ _ _ _ same c.requires.ready.current_size c.requires.free.leads last within in
     at.block
 
 pub next-requires-clause-small : goal.next-requires-clause-small
@@ -31,7 +34,7 @@ next-requires-clause-small g c =
     let last = c.in_ok-last.ensures.page
     ∙ ap₂ (λ (l : List ℕ) (p : ℕ). slice_index (chain l p)
     (c.args.n - 1)) c.head.ensures.store.only.reads.keeps.current_words c.in_ok-first.ensures.page in
-    let at = at_block _ _ _ _ _ _ same c.requires.free.leads last within in
+    let at = at_block _ _ _ _ _ _ same c.requires.ready.current_size c.requires.free.leads last within in
     at.small
 
 pub returns-clause-found : goal.returns-clause-found
@@ -42,11 +45,11 @@ returns-clause-found g c =
     let last = c.in_ok-last.ensures.page
     ∙ ap₂ (λ (l : List ℕ) (p : ℕ). slice_index (chain l p)
     (c.args.n - 1)) c.head.ensures.store.only.reads.keeps.current_words c.in_ok-first.ensures.page in
-    let at = at_block _ _ _ _ _ _ same c.requires.free.leads last within in
+    let at = at_block _ _ _ _ _ _ same c.requires.ready.current_size c.requires.free.leads last within in
     record {
       first = c.in_ok-first.ensures.page;
       last = last;
-      block = at.block;
+      block = (let words : List ℕ → Type 0 = λ l. IsBlock l c.in_ok-last.last in subst words same at.block);
       after = c.in_ok-rest.ensures.page ∙ ap (λ (l : List ℕ). link l c.in_ok-last.last) same;
       small = (let z = c.in_ok-rest.ensures.page in let y = at.small in omega (arith, z, y));
     }

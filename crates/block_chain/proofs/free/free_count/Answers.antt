@@ -8,7 +8,7 @@ use Rattle.undo_journal.specs.laws.Told.{reads_handed, reads_on}
 use Rattle.block_chain.proofs.free.free_count.Goals as goal
 
 pub read_head-requires-clause-small : goal.read_head-requires-clause-small
-read_head-requires-clause-small g c = head_small _ _ _ c.requires.free.leads
+read_head-requires-clause-small g c = head_small _ _ _ c.requires.ready.usable.committed_size c.requires.free.leads
 
 pub read_link-requires-clause-block : goal.read_link-requires-clause-block
 read_link-requires-clause-block g c =
@@ -16,7 +16,7 @@ read_link-requires-clause-block g c =
     let some : c.loop-page.page ≢ 0 = omega (arith, c.loop-page-test.true) in
     (at_some m _ _
     (free_chain m) c.loop-page.count c.loop-page.page c.loop-page.invariant.reads.keeps.committed_words
-    c.requires.free.leads c.loop-page.invariant.place some).block
+    c.requires.ready.usable.committed_size c.requires.free.leads c.loop-page.invariant.place some).block
 
 pub read_link-requires-clause-small : goal.read_link-requires-clause-small
 read_link-requires-clause-small g c =
@@ -24,7 +24,7 @@ read_link-requires-clause-small g c =
     let some : c.loop-page.page ≢ 0 = omega (arith, c.loop-page-test.true) in
     (at_some m _ _
     (free_chain m) c.loop-page.count c.loop-page.page c.loop-page.invariant.reads.keeps.committed_words
-    c.requires.free.leads c.loop-page.invariant.place some).small
+    c.requires.ready.usable.committed_size c.requires.free.leads c.loop-page.invariant.place some).small
 
 pub loop-page-preserved : goal.loop-page-preserved
 loop-page-preserved g c =
@@ -32,7 +32,7 @@ loop-page-preserved g c =
     let some : c.loop-page.page ≢ 0 = omega (arith, c.loop-page-test.true) in
     let here = at_some m (committed c.loop-page.store) _
     (free_chain m) c.loop-page.count c.loop-page.page c.loop-page.invariant.reads.keeps.committed_words
-    c.requires.free.leads c.loop-page.invariant.place some in
+    c.requires.ready.usable.committed_size c.requires.free.leads c.loop-page.invariant.place some in
     record {
       ready = c.in_ok-page-2.ensures.store.ready;
       reads = reads_then _ _ _ c.loop-page.invariant.reads c.read_link.ensures.store.only;
@@ -76,5 +76,5 @@ loop-page-smaller g c =
     let some : c.loop-page.page ≢ 0 = omega (arith, c.loop-page-test.true) in
     let here = at_some m (committed c.loop-page.store) _
     (free_chain m) c.loop-page.count c.loop-page.page c.loop-page.invariant.reads.keeps.committed_words
-    c.requires.free.leads c.loop-page.invariant.place some in
+    c.requires.ready.usable.committed_size c.requires.free.leads c.loop-page.invariant.place some in
     omega (arith, here.within)

@@ -16,7 +16,7 @@ use Rattle.block_chain.proofs.free.join.Goals as goal
 use Rattle.nvm_board.specs.declared.board.TheConstants.{PAGE_WORDS}
 
 pub head-requires-clause-small : goal.head-requires-clause-small
-head-requires-clause-small g c = head_small _ _ _ c.requires.free.leads
+head-requires-clause-small g c = head_small _ _ _ c.requires.ready.current_size c.requires.free.leads
 
 pub loop-left-init : goal.loop-left-init
 loop-left-init g c =

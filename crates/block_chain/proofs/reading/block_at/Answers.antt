@@ -11,21 +11,21 @@ pub read_link-requires-clause-block : goal.read_link-requires-clause-block
 read_link-requires-clause-block g c =
     let within : c.loop-i._i < length (chain (committed c.args.store.now) c.args.first) =
     omega (arith, c.requires.within, c.loop-i-test.true) in
-    (at_block _ _ _ _ _ _ c.loop-i.invariant.reads.keeps.committed_words c.requires.leads c.loop-i.invariant.place
+    (at_block _ _ _ _ _ _ c.loop-i.invariant.reads.keeps.committed_words c.requires.ready.usable.committed_size c.requires.leads c.loop-i.invariant.place
     within).block
 
 pub read_link-requires-clause-small : goal.read_link-requires-clause-small
 read_link-requires-clause-small g c =
     let within : c.loop-i._i < length (chain (committed c.args.store.now) c.args.first) =
     omega (arith, c.requires.within, c.loop-i-test.true) in
-    (at_block _ _ _ _ _ _ c.loop-i.invariant.reads.keeps.committed_words c.requires.leads c.loop-i.invariant.place
+    (at_block _ _ _ _ _ _ c.loop-i.invariant.reads.keeps.committed_words c.requires.ready.usable.committed_size c.requires.leads c.loop-i.invariant.place
     within).small
 
 pub loop-i-preserved : goal.loop-i-preserved
 loop-i-preserved g c =
     let within : c.loop-i._i < length (chain (committed c.args.store.now) c.args.first) =
     omega (arith, c.requires.within, c.loop-i-test.true) in
-    let at = at_block _ _ _ _ _ _ c.loop-i.invariant.reads.keeps.committed_words c.requires.leads
+    let at = at_block _ _ _ _ _ _ c.loop-i.invariant.reads.keeps.committed_words c.requires.ready.usable.committed_size c.requires.leads
     c.loop-i.invariant.place within in
     record {
       ready = c.in_ok-page.ensures.store.ready;

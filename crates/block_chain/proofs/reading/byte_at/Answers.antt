@@ -16,9 +16,11 @@ read_word-requires-clause-block g c =
     let m = committed c.args.store.now in
     let ps = chain_of m c.args.chain in
     let place_in : c.args.offset / BLOCK_BYTES < length ps = omega (arith, c.requires.within) in
-    let family : ℕ → Type 0 = λ q. IsBlock q in
-    subst family (sym c.in_ok-page.ensures.page) (leads_block m _ 0 ps
-    (c.args.offset / BLOCK_BYTES) c.requires.leads place_in)
+    let family : ℕ → Type 0 = λ q. IsBlock (committed c.block_at.new.store) q in
+    let words : List ℕ → Type 0 = λ l. IsBlock l (slice_index ps (c.args.offset / BLOCK_BYTES)) in
+    subst family (sym c.in_ok-page.ensures.page)
+    (subst words (sym c.block_at.ensures.store.only.keeps.committed_words)
+    (leads_block m _ 0 ps (c.args.offset / BLOCK_BYTES) c.requires.leads place_in))
 
 pub returns-clause-byte : goal.returns-clause-byte
 returns-clause-byte g c =

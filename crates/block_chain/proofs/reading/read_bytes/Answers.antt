@@ -3,7 +3,7 @@ use Rattle.undo_journal.specs.Memory.{committed}
 use Rattle.undo_journal.specs.laws.Calls.{reads_then}
 use Rattle.undo_journal.specs.laws.Exits.{none_ok}
 use Rattle.undo_journal.specs.laws.Told.{reads_handed, reads_none, reads_on, reads_so_far}
-use Rattle.block_chain.specs.declared.layout.TheConstants.{BLOCKS}
+use Rattle.block_chain.specs.declared.layout.TheConstants.{MOST_BLOCKS}
 use Rattle.block_chain.specs.Chains.{chain_bytes, chain_of}
 use Rattle.block_chain.specs.laws.Laying.{pages_most}
 use Rattle.block_chain.proofs.Runs.{block_here, none_appended, none_asked, read_all, read_more, read_none, some_bytes}
@@ -37,7 +37,7 @@ returns-in_err-page-clause-store g c =
 
 pub overflow_add-end : goal.overflow_add-end
 overflow_add-end g c =
-    let most = pages_most (committed c.args.store.now) BLOCKS c.args.chain.first in
+    let most = pages_most (committed c.args.store.now) MOST_BLOCKS c.args.chain.first in
     omega (arith, most, c.requires.within)
 
 pub loop-at-init : goal.loop-at-init
@@ -76,7 +76,7 @@ returns-in_err-word-clause-store g c =
 
 pub overflow_add-at : goal.overflow_add-at
 overflow_add-at g c =
-    let most = pages_most (committed c.args.store.now) BLOCKS c.args.chain.first in
+    let most = pages_most (committed c.args.store.now) MOST_BLOCKS c.args.chain.first in
     omega (arith, most, c.requires.within, c.bytes_in_word-some.ensures.end)
 
 pub block_of_byte-requires-clause-block : goal.block_of_byte-requires-clause-block

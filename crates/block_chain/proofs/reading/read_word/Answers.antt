@@ -3,13 +3,16 @@ use Rattle.std.proofs.lemmas.Result.{IfOk-weaker}
 use Rattle.nvm_board.specs.Facts.{address}
 use Rattle.nvm_board.specs.declared.board.TheConstants.{PAGE_WORDS}
 use Rattle.block_chain.specs.declared.layout.TheConstants.{BLOCK_WORDS}
+use Rattle.nvm_board.specs.laws.Sizes.{page_within}
+use Rattle.undo_journal.specs.laws.Memory.{current_size}
 use Rattle.block_chain.proofs.reading.read_word.Goals as goal
 
 pub read-requires : goal.read-requires
 read-requires g c =
     let block = c.requires.block in
-    let size = c.requires.ready.usable.current_size in
-    (inr (omega (arith, block.0)), omega (arith, block.1, size))
+    let inside = page_within _ c.args.page c.requires.ready.usable.committed_size block.1 in
+    let same = current_size c.args.store.now in
+    (inr (omega (arith, block.0)), omega (arith, inside, same))
 
 pub returns-clause-word : goal.returns-clause-word
 returns-clause-word g c =

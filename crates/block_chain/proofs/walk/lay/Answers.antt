@@ -5,10 +5,9 @@ use Rattle.undo_journal.specs.Memory.{committed}
 use Rattle.undo_journal.specs.laws.Calls.{reads_then}
 use Rattle.block_chain.specs.Chains.{free_chain, chain}
 use Rattle.block_chain.specs.Layout.{IsExtent, laid_out}
-use Rattle.block_chain.specs.Parts.{marked, IsFresh, IsWalked}
-use Rattle.block_chain.specs.Words.{IsBlock}
+use Rattle.block_chain.specs.Parts.{IsPlace, marked, IsFresh, IsWalked}
 use Rattle.block_chain.specs.declared.chain.Extent.{Extent}
-use Rattle.block_chain.specs.declared.layout.TheConstants.{BLOCKS, FIRST_BLOCK_PAGE, FREE_HEAD}
+use Rattle.block_chain.specs.declared.layout.TheConstants.{MOST_BLOCKS, FIRST_BLOCK_PAGE, FREE_HEAD}
 use Rattle.block_chain.specs.laws.Counts.{count-append}
 use Rattle.block_chain.specs.laws.Laying.{AreLaidSoFar, laid_free, laid_more, laid_fresh, laid_fits, laid_all}
 use Rattle.block_chain.specs.laws.Laying.{laid_short}
@@ -24,12 +23,12 @@ some_at : {X : Type 0} (o : Option X) (x : X) (P : X → Type 0) → o ≡ Some 
 some_at o x P is h = let family : Option _ → Type 0 = λ r. IfSome r P in subst family is h
 
 -- no block is marked yet
-blank : (q : ℕ) → IsBlock q → marked (replicate BLOCKS 0) q ≡ 0
-blank q block = get_or-replicate BLOCKS (q - FIRST_BLOCK_PAGE) 0 0 (omega (arith, block.0, block.1))
+blank : (q : ℕ) → IsPlace q → marked (replicate MOST_BLOCKS 0) q ≡ 0
+blank q block = get_or-replicate MOST_BLOCKS (q - FIRST_BLOCK_PAGE) 0 0 (omega (arith, block.0, block.1))
 
 pub walk_over-requires-clause-marks : goal.walk_over-requires-clause-marks
 walk_over-requires-clause-marks g c =
-    record { size = length-replicate {A = ℕ} BLOCKS 0; each = λ q block. let e = blank q block in omega (arith, e) }
+    record { size = length-replicate {A = ℕ} MOST_BLOCKS 0; each = λ q block. let e = blank q block in omega (arith, e) }
 
 -- the free chain, after the header is read
 head_is : (g : Over) (c : goal.In-None g) → c.in_ok-head.head ≡ slice_index (committed c.args.store.now) FREE_HEAD
@@ -39,11 +38,14 @@ pub returns-in-None-clause-found : goal.returns-in-None-clause-found
 returns-in-None-clause-found g c = λ laid.
     let read = c.read.ensures.reads.keeps.committed_words in
     let stale = c.in_ok-walked.ensures.stale c.in-None.is in
-    let family : List ℕ → Type 0 = λ l. IsFresh l (replicate BLOCKS 0) c.in_ok-head.head in
-    let from : ℕ → Type 0 = λ p. IsFresh (committed c.args.store.now) (replicate BLOCKS 0) p in
-    let fresh : IsFresh (committed c.args.store.now) (replicate BLOCKS 0)
+    let family : List ℕ → Type 0 = λ l. IsFresh (FIRST_BLOCK_PAGE + c.args.count) l (replicate MOST_BLOCKS 0) c.in_ok-head.head in
+    let from : ℕ → Type 0 = λ p. IsFresh (FIRST_BLOCK_PAGE + c.args.count) (committed c.args.store.now)
+    (replicate MOST_BLOCKS 0) p in
+    let fresh : IsFresh (FIRST_BLOCK_PAGE + c.args.count) (committed c.args.store.now) (replicate MOST_BLOCKS 0)
     (slice_index (committed c.args.store.now) FREE_HEAD) = record {
       leads = laid.free;
+      below = λ q past. let a = laid.below q past in let s = count-append q (free_chain (committed c.args.store.now))
+          (laid_out (committed c.args.store.now) c.args.extents.now) in omega (arith, a, s);
       once = λ q block. let e =
           blank q block in let a =
           laid.once q in let s =
@@ -60,18 +62,19 @@ loop-i-init g c =
     c.in_ok-head.ensures.word ∙ ap (λ (l : List ℕ). slice_index l FREE_HEAD) (sym c.requires.ready.same) in
     let walked = some_at _ _ _ c.in-Some.is c.in_ok-walked.ensures.walked in
     let family : List ℕ → Type 0 =
-    λ l. IsWalked l c.in_ok-head.head (replicate BLOCKS 0) c.in-Some.walked c.walk_over.new.seen in
-    let from : ℕ → Type 0 = λ p. IsWalked m p (replicate BLOCKS 0) c.in-Some.walked c.walk_over.new.seen in
+    λ l. IsWalked (FIRST_BLOCK_PAGE + c.args.count) l c.in_ok-head.head (replicate MOST_BLOCKS 0) c.in-Some.walked c.walk_over.new.seen in
+    let from : ℕ → Type 0 = λ p. IsWalked (FIRST_BLOCK_PAGE + c.args.count) m p (replicate MOST_BLOCKS 0)
+    c.in-Some.walked c.walk_over.new.seen in
     let w = subst from head (subst family read walked) in
-    let most = pages_most m BLOCKS (slice_index m FREE_HEAD) in
+    let most = pages_most m MOST_BLOCKS (slice_index m FREE_HEAD) in
     record {
       ready = c.in_ok-walked.ensures.store.ready;
       reads = reads_then _ _ _ c.read.ensures.reads c.walk_over.ensures.store.only;
       in_range = omega arith;
       most = (let b = w.blocks in omega (arith, b, most));
       free = w.blocks;
-      so_far = laid_free m c.args.extents.now
-          (replicate BLOCKS 0) c.walk_over.new.seen c.in-Some.walked.blocks w.fresh blank w.marks w.fine w.blocks;
+      so_far = laid_free c.args.count m c.args.extents.now
+          (replicate MOST_BLOCKS 0) c.walk_over.new.seen c.in-Some.walked.blocks w.fresh blank w.marks w.fine w.blocks;
     }
 
 pub loop-i-preserved : goal.loop-i-preserved
@@ -86,8 +89,8 @@ loop-i-preserved g c =
     let read = c.loop-i.invariant.reads.keeps.committed_words in
     let found = some_at _ _ _ c.in-Some-2.is c.in_ok-walked-2.ensures.walked in
     let family : List ℕ → Type 0 =
-    λ l. IsWalked l c.from.result c.loop-i.seen c.in-Some-2.walked c.walk_over-in-loop-i.new.seen in
-    let start : ℕ → Type 0 = λ p. IsWalked m p c.loop-i.seen c.in-Some-2.walked c.walk_over-in-loop-i.new.seen in
+    λ l. IsWalked (FIRST_BLOCK_PAGE + c.args.count) l c.from.result c.loop-i.seen c.in-Some-2.walked c.walk_over-in-loop-i.new.seen in
+    let start : ℕ → Type 0 = λ p. IsWalked (FIRST_BLOCK_PAGE + c.args.count) m p c.loop-i.seen c.in-Some-2.walked c.walk_over-in-loop-i.new.seen in
     let w = subst start from (subst family read found) in
     let yes : IsTrue c.is_extent.result = c.if-not-is_extent.false in
     let blocks : c.in-Some-2.walked.blocks ≡ e.blocks = (c.is_extent.ensures.0 yes).0 in
@@ -97,15 +100,15 @@ loop-i-preserved g c =
       blocks = sym w.blocks ∙ blocks;
       last = sym last ∙ w.last ∙ ap (λ (k : ℕ). slice_index (chain m e.chain.first) (k - 1)) blocks;
     } in
-    let most = pages_most m BLOCKS e.chain.first in
-    let more = laid_more m es i c.loop-i.seen c.loop-i.blocks e d lt refl c.loop-i.invariant.so_far
-    c.walk_over-in-loop-i.new.seen extent w.marks w.fine in
-    let count : ℕ → Type 0 = λ k. AreLaidSoFar m es (i + 1) c.walk_over-in-loop-i.new.seen (c.loop-i.blocks + k) in
+    let most = pages_most m MOST_BLOCKS e.chain.first in
+    let more = laid_more c.args.count m es i c.loop-i.seen c.loop-i.blocks e d lt refl c.loop-i.invariant.so_far
+    c.walk_over-in-loop-i.new.seen extent w.fresh w.marks w.fine in
+    let count : ℕ → Type 0 = λ k. AreLaidSoFar (FIRST_BLOCK_PAGE + c.args.count) m es (i + 1) c.walk_over-in-loop-i.new.seen (c.loop-i.blocks + k) in
     record {
       ready = c.in_ok-walked-2.ensures.store.ready;
       reads = reads_then _ _ _ c.loop-i.invariant.reads c.walk_over-in-loop-i.ensures.store.only;
       in_range = omega (arith, lt);
-      most = (let fits : c.in-Some-2.walked.blocks ≤ BLOCKS - c.loop-i.blocks = omega (arith, c.if-walked-blocks.false) in
+      most = (let fits : c.in-Some-2.walked.blocks ≤ MOST_BLOCKS - c.loop-i.blocks = omega (arith, c.if-walked-blocks.false) in
           let b = c.loop-i.invariant.most in omega (arith, fits, b));
       free = c.loop-i.invariant.free;
       so_far = subst count (sym blocks) more;
@@ -122,28 +125,29 @@ returns-in-None-2-clause-found g c = λ laid.
     let from : c.from.result ≡ e.chain.first = c.from.ensures in
     let read = c.loop-i.invariant.reads.keeps.committed_words in
     let stale = c.in_ok-walked-2.ensures.stale c.in-None-2.is in
-    let family : List ℕ → Type 0 = λ l. IsFresh l c.loop-i.seen c.from.result in
-    let start : ℕ → Type 0 = λ p. IsFresh m c.loop-i.seen p in
-    let fresh = (laid_fresh m es i c.loop-i.seen c.loop-i.blocks e d lt refl c.loop-i.invariant.so_far laid).0 in
+    let family : List ℕ → Type 0 = λ l. IsFresh (FIRST_BLOCK_PAGE + c.args.count) l c.loop-i.seen c.from.result in
+    let start : ℕ → Type 0 = λ p. IsFresh (FIRST_BLOCK_PAGE + c.args.count) m c.loop-i.seen p in
+    let fresh = (laid_fresh c.args.count m es i c.loop-i.seen c.loop-i.blocks e d lt refl c.loop-i.invariant.so_far laid).0 in
     stale (subst family (sym read) (subst start (sym from) fresh))
 
-pub returns-then-blocks-ne-BLOCKS-clause-found : goal.returns-then-blocks-ne-BLOCKS-clause-found
-returns-then-blocks-ne-BLOCKS-clause-found g c = λ laid.
+pub returns-then-blocks-count-clause-found : goal.returns-then-blocks-count-clause-found
+returns-then-blocks-count-clause-found g c = λ laid.
     let m = committed c.args.store.now in
     let es = c.args.extents.now in
     let all : c.loop-i._i ≡ length es = omega (arith, c.loop-i-test.false, c.loop-i.invariant.in_range) in
-    let family : ℕ → Type 0 = λ k. AreLaidSoFar m es k c.loop-i.seen c.loop-i.blocks in
-    let short : c.loop-i.blocks ≢ BLOCKS = c.if-blocks-ne-BLOCKS.true in
-    laid_short m es c.loop-i.seen c.loop-i.blocks (subst family all c.loop-i.invariant.so_far) short laid
+    let family : ℕ → Type 0 = λ k. AreLaidSoFar (FIRST_BLOCK_PAGE + c.args.count) m es k c.loop-i.seen c.loop-i.blocks in
+    let short : c.loop-i.blocks ≢ c.args.count = c.if-blocks-count.true in
+    laid_short c.args.count m es c.loop-i.seen c.loop-i.blocks (subst family all c.loop-i.invariant.so_far) short laid
 
 pub returns-clause-found : goal.returns-clause-found
 returns-clause-found g c =
     let m = committed c.args.store.now in
     let es = c.args.extents.now in
     let all : c.loop-i._i ≡ length es = omega (arith, c.loop-i-test.false, c.loop-i.invariant.in_range) in
-    let family : ℕ → Type 0 = λ k. AreLaidSoFar m es k c.loop-i.seen c.loop-i.blocks in
-    let whole : c.loop-i.blocks ≡ BLOCKS = c.if-blocks-ne-BLOCKS.false in (
-      laid_all m es c.loop-i.seen c.loop-i.blocks (subst family all c.loop-i.invariant.so_far) whole,
+    let family : ℕ → Type 0 = λ k. AreLaidSoFar (FIRST_BLOCK_PAGE + c.args.count) m es k c.loop-i.seen c.loop-i.blocks in
+    let whole : c.loop-i.blocks ≡ c.args.count = c.if-blocks-count.false in (
+      laid_all c.args.count m es c.loop-i.seen c.loop-i.blocks c.requires.ready.usable.committed_size c.requires.inside
+          (subst family all c.loop-i.invariant.so_far) whole,
       c.loop-i.invariant.free,
     )
 
@@ -159,11 +163,11 @@ returns-then-not-is_extent-clause-found g c = λ laid.
     let read = c.loop-i.invariant.reads.keeps.committed_words in
     let found = some_at _ _ _ c.in-Some-2.is c.in_ok-walked-2.ensures.walked in
     let family : List ℕ → Type 0 =
-    λ l. IsWalked l c.from.result c.loop-i.seen c.in-Some-2.walked c.walk_over-in-loop-i.new.seen in
-    let start : ℕ → Type 0 = λ p. IsWalked m p c.loop-i.seen c.in-Some-2.walked c.walk_over-in-loop-i.new.seen in
+    λ l. IsWalked (FIRST_BLOCK_PAGE + c.args.count) l c.from.result c.loop-i.seen c.in-Some-2.walked c.walk_over-in-loop-i.new.seen in
+    let start : ℕ → Type 0 = λ p. IsWalked (FIRST_BLOCK_PAGE + c.args.count) m p c.loop-i.seen c.in-Some-2.walked c.walk_over-in-loop-i.new.seen in
     let w = subst start from (subst family read found) in
-    let extent = (laid_fresh m es i c.loop-i.seen c.loop-i.blocks e d lt refl c.loop-i.invariant.so_far laid).1 in
-    let fits = laid_fits m es i c.loop-i.seen c.loop-i.blocks e d lt refl c.loop-i.invariant.so_far laid in
+    let extent = (laid_fresh c.args.count m es i c.loop-i.seen c.loop-i.blocks e d lt refl c.loop-i.invariant.so_far laid).1 in
+    let fits = laid_fits c.args.count m es i c.loop-i.seen c.loop-i.blocks e d lt refl c.loop-i.invariant.so_far laid in
     let blocks : c.in-Some-2.walked.blocks ≡ e.blocks = w.blocks ∙ extent.blocks in
     let last : c.in-Some-2.walked.last ≡ e.chain.last =
     w.last ∙ ap (λ (k : ℕ). slice_index (chain m e.chain.first) (k - 1)) blocks ∙ sym extent.last in
@@ -171,8 +175,8 @@ returns-then-not-is_extent-clause-found g c = λ laid.
     elim c.then-not-is_extent.branch [
       | then-not-is_extent-via-then-not-is_extent v ↦ true≢false (sym yes ∙ v.if-not-is_extent.true)
       | then-not-is_extent-via-else-not-is_extent+then-walked-blocks v ↦ (
-          let over : BLOCKS - c.loop-i.blocks < c.in-Some-2.walked.blocks = v.if-walked-blocks.true in
-          omega (arith, over, fits, blocks))
+          let over : MOST_BLOCKS - c.loop-i.blocks < c.in-Some-2.walked.blocks = v.if-walked-blocks.true in
+          omega (arith, over, fits, blocks, c.requires.inside, c.requires.ready.usable.committed_size.most))
     ]
 
 pub returns-in_err-head-clause-found : goal.returns-in_err-head-clause-found
@@ -211,8 +215,8 @@ returns-then-not-is_extent-clause-store g c =
     reads_so_far _ _ (reads_then _ _ _ c.loop-i.invariant.reads c.walk_over-in-loop-i.ensures.store.only)
     c.in_ok-walked-2.ensures.store.ready
 
-pub returns-then-blocks-ne-BLOCKS-clause-store : goal.returns-then-blocks-ne-BLOCKS-clause-store
-returns-then-blocks-ne-BLOCKS-clause-store g c = reads_so_far _ _ c.loop-i.invariant.reads c.loop-i.invariant.ready
+pub returns-then-blocks-count-clause-store : goal.returns-then-blocks-count-clause-store
+returns-then-blocks-count-clause-store g c = reads_so_far _ _ c.loop-i.invariant.reads c.loop-i.invariant.ready
 
 pub returns-clause-store : goal.returns-clause-store
 returns-clause-store g c = reads_so_far _ _ c.loop-i.invariant.reads c.loop-i.invariant.ready

@@ -1,7 +1,7 @@
-use Rattle.std.proofs.Common.{◌≡◌, ◌≤◌, length}
+use Rattle.std.proofs.Common.{◌≡◌, ◌≤◌, ◌+◌, length}
 use Rattle.undo_journal.specs.Memory.{committed, IsReady}
 use Rattle.undo_journal.specs.Calls.{OnlyReads}
-use Rattle.block_chain.specs.declared.layout.TheConstants.{BLOCKS}
+use Rattle.block_chain.specs.declared.layout.TheConstants.{FIRST_BLOCK_PAGE, MOST_BLOCKS}
 use Rattle.block_chain.specs.Chains.{free_chain}
 use Rattle.block_chain.specs.laws.Laying.{AreLaidSoFar}
 use Rattle.block_chain.proofs.walk.lay.Given as goal
@@ -11,7 +11,7 @@ invariant-loop-i g l = let m = committed l.fn.store in record {
   ready : IsReady l.store;
   reads : OnlyReads l.fn.store l.store;
   in_range : l._i ≤ length l.extents;
-  most : l.blocks ≤ BLOCKS;
+  most : l.blocks ≤ MOST_BLOCKS;
   free : l.free ≡ length (free_chain m);
-  so_far : AreLaidSoFar m l.extents l._i l.seen l.blocks;
+  so_far : AreLaidSoFar (FIRST_BLOCK_PAGE + l.count) m l.extents l._i l.seen l.blocks;
 }

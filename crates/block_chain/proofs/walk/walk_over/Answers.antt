@@ -1,12 +1,12 @@
-use Rattle.std.proofs.Common.{◌≡◌, ◌≢◌, ◌+◌, ◌-◌, ◌*◌, ◌<◌, ℕ, List, length, slice_index, slice_set}
+use Rattle.std.proofs.Common.{◌≡◌, ◌≢◌, ◌+◌, ◌-◌, ◌*◌, ◌<◌, ◌≤◌, ℕ, List, length, slice_index, slice_set}
 use Rattle.std.proofs.Common.{true≢false, sym, ◌∙◌, ap, subst, arith}
 use Rattle.nvm_board.specs.Facts.{address}
 use Rattle.undo_journal.specs.Memory.{committed, current}
 use Rattle.undo_journal.specs.laws.Calls.{reads_then, reads_same}
 use Rattle.block_chain.specs.Counts.{count}
 use Rattle.block_chain.specs.Parts.{marked}
-use Rattle.block_chain.specs.Words.{link, IsBlock}
-use Rattle.block_chain.specs.declared.layout.TheConstants.{BLOCKS, FIRST_BLOCK_PAGE}
+use Rattle.block_chain.specs.Words.{link}
+use Rattle.block_chain.specs.declared.layout.TheConstants.{MOST_BLOCKS, FIRST_BLOCK_PAGE}
 use Rattle.block_chain.specs.laws.Walking.{HasWalked, walked_none, walked_more, walked_all, walked_fresh}
 use Rattle.block_chain.specs.laws.Walking.{stale_long, stale_next, last_more, pages_zero}
 use Rattle.undo_journal.specs.laws.Exits.{none_ok}
@@ -20,7 +20,7 @@ loop-blocks-init g c = record {
   ready = c.requires.ready;
   reads = reads_same _;
   within = omega arith;
-  walked = walked_none _ _ _ c.requires.marks;
+  walked = walked_none _ _ _ _ c.requires.marks;
   last = sym (ap (λ (ps : List ℕ). slice_index ps 0) (pages_zero (committed c.args.store.now) c.args.first));
 }
 
@@ -29,9 +29,9 @@ loop-blocks-preserved g c =
     let m = committed c.args.store.now in
     let page = c.loop-blocks.page in
     let invariant = c.loop-blocks.invariant in
-    let fits : c.loop-blocks.blocks < BLOCKS = omega (arith, c.loop-blocks-test.true) in
+    let fits : c.loop-blocks.blocks < MOST_BLOCKS = omega (arith, c.loop-blocks-test.true) in
     let some : page ≢ 0 = c.if-page-ne0.true in
-    let fit : IsBlock page × (marked c.loop-blocks.seen page ≡ 0) =
+    let fit : ((FIRST_BLOCK_PAGE ≤ page) × (page < c.args.end)) × (marked c.loop-blocks.seen page ≡ 0) =
     c.mark.ensures.new.0 c.if-not-mark.false in
     let seen : c.mark.new.seen ≡ slice_set c.loop-blocks.seen (page - FIRST_BLOCK_PAGE) 1 =
     c.mark.ensures.marks c.if-not-mark.false in
@@ -39,16 +39,16 @@ loop-blocks-preserved g c =
     (let at : PAGE_WORDS * page ≡ address page 0 = omega arith in c.in_ok-page.ensures.word
     ∙ ap (λ (k : ℕ). slice_index (current c.loop-blocks.store) k) at)
     ∙ ap (λ (l : List ℕ). link l page) (sym invariant.ready.same ∙ invariant.reads.keeps.committed_words) in
-    let more = walked_more m c.args.first c.loop-blocks.blocks page c.args.seen.now c.loop-blocks.seen invariant.walked
-    fits some fit.0 fit.1 in
+    let more = walked_more c.args.end m c.args.first c.loop-blocks.blocks page c.args.seen.now c.loop-blocks.seen invariant.walked
+    c.requires.ready.usable.committed_size c.requires.inside fits some fit.0 fit.1 in
     record {
       ready = (c.in_ok-page.ensures.store invariant.ready.idle).ready;
       reads = reads_then _ _ _ invariant.reads c.read.ensures.reads;
       within = omega (arith, fits);
       walked = (let family : ℕ → List ℕ
-          → Type 0 = λ p l. HasWalked m c.args.first (c.loop-blocks.blocks + 1) p c.args.seen.now l in
+          → Type 0 = λ p l. HasWalked c.args.end m c.args.first (c.loop-blocks.blocks + 1) p c.args.seen.now l in
           subst (λ (p : ℕ). family p c.mark.new.seen) (sym next) (subst (family (link m page)) (sym seen) more));
-      last = last_more m c.args.first c.loop-blocks.blocks page c.args.seen.now c.loop-blocks.seen invariant.walked
+      last = last_more c.args.end m c.args.first c.loop-blocks.blocks page c.args.seen.now c.loop-blocks.seen invariant.walked
           fits some;
     }
 
@@ -56,17 +56,17 @@ pub returns-then-not-mark-clause-stale : goal.returns-then-not-mark-clause-stale
 returns-then-not-mark-clause-stale g c = λ _.
     let m = committed c.args.store.now in
     let page = c.loop-blocks.page in
-    let fits : c.loop-blocks.blocks < BLOCKS = omega (arith, c.loop-blocks-test.true) in
+    let fits : c.loop-blocks.blocks < MOST_BLOCKS = omega (arith, c.loop-blocks-test.true) in
     let some : page ≢ 0 = c.if-page-ne0.true in
-    stale_next m c.args.first c.loop-blocks.blocks page c.args.seen.now c.loop-blocks.seen
-    c.loop-blocks.invariant.walked fits some (λ fit. true≢false (sym (c.mark.ensures.new.1 fit) ∙ c.if-not-mark.true))
+    stale_next c.args.end m c.args.first c.loop-blocks.blocks page c.args.seen.now c.loop-blocks.seen
+    c.loop-blocks.invariant.walked c.requires.ready.usable.committed_size fits some (λ fit. true≢false (sym (c.mark.ensures.new.1 fit) ∙ c.if-not-mark.true))
 
 pub returns-then-page-ne0-2-clause-stale : goal.returns-then-page-ne0-2-clause-stale
 returns-then-page-ne0-2-clause-stale g c = λ _.
     let m = committed c.args.store.now in
     let page = c.loop-blocks.page in
     let some : page ≢ 0 = c.if-page-ne0-2.true in
-    stale_long m c.args.first c.loop-blocks.blocks page c.args.seen.now c.loop-blocks.seen
+    stale_long c.args.end m c.args.first c.loop-blocks.blocks page c.args.seen.now c.loop-blocks.seen
     c.loop-blocks.invariant.walked (elim c.loop-blocks-test.branch [
       | then-loop-blocks-test+else-page-ne0 w ↦ absurd (some (w.if-page-ne0.false))
       | else-loop-blocks-test w ↦ omega (arith, w.loop-blocks-test.false, c.loop-blocks.invariant.within)
@@ -76,10 +76,10 @@ pub returns-clause-walked : goal.returns-clause-walked
 returns-clause-walked g c =
     let none : c.loop-blocks.page ≡ 0 = c.if-page-ne0-2.false in
     let invariant = c.loop-blocks.invariant in
-    let all = walked_all
+    let all = walked_all c.args.end
     (committed c.args.store.now) c.args.first c.loop-blocks.blocks _ _ _ invariant.walked invariant.within none in
     record {
-      fresh = walked_fresh _ _ c.loop-blocks.blocks _ _ _ invariant.walked invariant.within none;
+      fresh = walked_fresh _ _ _ c.loop-blocks.blocks _ _ _ invariant.walked invariant.within none;
       blocks = sym (ap (λ (ps : List ℕ). length ps) all ∙ invariant.walked.long);
       last = invariant.last ∙ sym (ap (λ (ps : List ℕ). slice_index ps (c.loop-blocks.blocks - 1)) all);
       marks = λ q block. invariant.walked.marks q block
@@ -120,7 +120,9 @@ pub overflow_add-blocks : goal.overflow_add-blocks
 overflow_add-blocks g c = omega (arith, c.loop-blocks-test.true)
 
 pub overflow_cast-last : goal.overflow_cast-last
-overflow_cast-last g c = let block = (c.mark.ensures.new.0 c.if-not-mark.false).0 in omega (arith, block.1)
+overflow_cast-last g c = let block = (c.mark.ensures.new.0 c.if-not-mark.false).0 in
+    let most = c.requires.ready.usable.committed_size.most in omega (arith, block.1, c.requires.inside, most)
 
 pub overflow_mul-last : goal.overflow_mul-last
-overflow_mul-last g c = let block = (c.mark.ensures.new.0 c.if-not-mark.false).0 in omega (arith, block.1)
+overflow_mul-last g c = let block = (c.mark.ensures.new.0 c.if-not-mark.false).0 in
+    let most = c.requires.ready.usable.committed_size.most in omega (arith, block.1, c.requires.inside, most)

@@ -2,7 +2,7 @@ use Rattle.std.proofs.Common.{◌≡◌, ◌≤◌, ◌-◌, slice_index}
 use Rattle.undo_journal.specs.Memory.{committed, IsReady}
 use Rattle.undo_journal.specs.Calls.{OnlyReads}
 use Rattle.block_chain.specs.Chains.{pages_from}
-use Rattle.block_chain.specs.declared.layout.TheConstants.{BLOCKS}
+use Rattle.block_chain.specs.declared.layout.TheConstants.{MOST_BLOCKS}
 use Rattle.block_chain.specs.laws.Walking.{HasWalked}
 use Rattle.block_chain.proofs.walk.walk_over.Given as goal
 
@@ -10,10 +10,10 @@ abbrev pub invariant-loop-blocks : goal.invariant-loop-blocks
 invariant-loop-blocks g l = let m = committed l.fn.store in record {
   ready : IsReady l.store;
   reads : OnlyReads l.fn.store l.store;
-  within : l.blocks ≤ BLOCKS;
-  walked : HasWalked m l.first l.blocks l.page l.fn.seen l.seen;
+  within : l.blocks ≤ MOST_BLOCKS;
+  walked : HasWalked l.end m l.first l.blocks l.page l.fn.seen l.seen;
   last : l.last ≡ slice_index (pages_from m l.blocks l.first) (l.blocks - 1);
 }
 
 abbrev pub decreases-loop-blocks : goal.decreases-loop-blocks
-decreases-loop-blocks g l = BLOCKS - l.blocks
+decreases-loop-blocks g l = MOST_BLOCKS - l.blocks

@@ -15,7 +15,7 @@ here : (g : Over) (c : goal.After-next-arg-1 g)
 here g c =
     let within : c.loop-i._i < length (chain (current (memory_of c.args.txn.now)) c.args.first) =
     omega (arith, c.requires.within, c.loop-i-test.true) in
-    at_block _ _ _ _ _ _ c.loop-i.invariant.reads.reads.keeps.current_words c.requires.leads c.loop-i.invariant.place
+    at_block _ _ _ _ _ _ c.loop-i.invariant.reads.reads.keeps.current_words c.requires.ready.current_size c.requires.leads c.loop-i.invariant.place
     within
 
 pub next-requires-clause-block : goal.next-requires-clause-block
@@ -28,7 +28,7 @@ pub loop-i-preserved : goal.loop-i-preserved
 loop-i-preserved g c =
     let within : c.loop-i._i < length (chain (current (memory_of c.args.txn.now)) c.args.first) =
     omega (arith, c.requires.within, c.loop-i-test.true) in
-    let at = at_block _ _ _ _ _ _ c.loop-i.invariant.reads.reads.keeps.current_words c.requires.leads
+    let at = at_block _ _ _ _ _ _ c.loop-i.invariant.reads.reads.keeps.current_words c.requires.ready.current_size c.requires.leads
     c.loop-i.invariant.place within in
     record {
       ready = c.in_ok-page.ensures.store.ready;

@@ -9,7 +9,7 @@ pub read_bytes-requires : goal.read_bytes-requires
 read_bytes-requires g c =
     let empty : length c.args.bytes.now.items ≡ 0 = ap (λ (l : List ℕ). length l) c.requires.empty in (
       search rules,
-      (c.requires.ready, (c.requires.leads, (c.requires.within, omega (arith, empty, c.requires.room)))),
+      (c.requires.ready, (c.requires.leads, (c.requires.within, (c.requires.small, omega (arith, empty, c.requires.room))))),
     )
 
 pub returns-clause-bytes : goal.returns-clause-bytes

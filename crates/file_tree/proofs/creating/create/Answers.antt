@@ -1,10 +1,11 @@
+use Rattle.file_tree.specs.Formats.{block_count}
+use Rattle.nvm_board.specs.Facts.{IsMemory}
 use Rattle.undo_journal.specs.laws.Calls.{reads_then}
 use Rattle.file_tree.specs.Table.{IsUsed}
 use Rattle.undo_journal.specs.laws.Exits.{none_ok}
 use Rattle.std.proofs.Common.{◌≡◌, ℕ, List, length, take, Option, None, Some, is_some, sym, ◌∙◌, ap, subst, arith, inl, inr}
 use Rattle.std.proofs.Common.{⊎_elim, true≢false, refl}
 use Rattle.file_tree.specs.Changes.{SameTree}
-use Rattle.nvm_board.specs.declared.board.TheConstants.{WORDS}
 use Rattle.undo_journal.specs.Memory.{Memory, committed}
 use Rattle.file_tree.specs.Adding.{AddsByGate}
 use Rattle.fcp_template.specs.declared.fcp.Fcp.{Fcp}
@@ -50,7 +51,7 @@ place_at m df fcp place e is found =
 
 -- a file that finds a place is not refused
 not_refused : (m : List ℕ) (df : ℕ) (fcp : Fcp) (e : ℕ) → FindsPlace m df fcp (At e)
-    → creation_refusal (tree_of m) (path_of (table m) df) fcp ≡ None
+    → creation_refusal (block_count m) (tree_of m) (path_of (table m) df) fcp ≡ None
 not_refused m df fcp e found = λ i. first_reason (found.0 i) (found.1 i)
 
 none_some : {A : Type 0} (x : A) → None ≡ Some x → ⊥
@@ -64,7 +65,7 @@ short_before m now df n fcp same short =
     short ∙ ap (λ (l : List ℕ). short_of_new (tree_of l) (path_of (table l) df) fcp) same
 
 -- the steps make the new file of the words as they were
-created : (m now after : List ℕ) (df n e k : ℕ) (fcp : Fcp) (entry : Entry) → length m ≡ WORDS → TreeStands m
+created : (m now after : List ℕ) (df n e k : ℕ) (fcp : Fcp) (entry : Entry) → IsMemory m → TreeStands m
     → (entry_in (table m) df).kind ≡ 1 → IsCreatable fcp → FindsPlace m df fcp (At e)
     → short_option n ≡ short_of_new (tree_of m) (path_of (table m) df) fcp → now ≡ m
     → entry ≡ entry_for fcp df n no_chain → k ≡ blocks_for (size_of_kind fcp.kind) → FillsAndAdds now e entry k after

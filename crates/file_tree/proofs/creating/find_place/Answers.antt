@@ -1,3 +1,4 @@
+use Rattle.file_tree.specs.Formats.{block_count}
 use Rattle.std.proofs.Common.{◌≡◌, Option, None, ◌∙◌, ap}
 use Rattle.undo_journal.specs.Memory.{committed}
 use Rattle.card_rules.specs.declared.status.Sw.{Sw}
@@ -54,7 +55,7 @@ returns-in-None-clause-store g c =
 place_told : (m now : List ℕ) (df : ℕ) (fcp : Fcp) (place : Place) → now ≡ m
     → taken_refusal (tree_of m) (path_of (table m) df) fcp ≡ None → TellsPlace now df fcp.kind place → FindsPlace m df fcp place
 place_told m now df fcp (Refused status) same none told =
-    ap (λ (o : Option Sw). first_reason o (place_refusal (tree_of m) (path_of (table m) df) fcp.kind)) none
+    ap (λ (o : Option Sw). first_reason o (place_refusal (block_count m) (tree_of m) (path_of (table m) df) fcp.kind)) none
     ∙ subst (λ (l : List ℕ). TellsPlace l df fcp.kind (Refused status)) same told
 place_told m now df fcp (At e) same none told =
     let there = subst (λ (l : List ℕ). TellsPlace l df fcp.kind (At e)) same told in (none, there.0, there.1)
@@ -66,7 +67,7 @@ pub returns-in-Some-clause-found : goal.returns-in-Some-clause-found
 returns-in-Some-clause-found g c =
     let m = committed c.args.store.now in
     let path = path_of (table m) c.args.df in
-    ap (λ (o : Option Sw). first_reason o (place_refusal (tree_of m) path c.args.fcp.now.kind))
+    ap (λ (o : Option Sw). first_reason o (place_refusal (block_count m) (tree_of m) path c.args.fcp.now.kind))
     (sym c.in_ok-status.ensures.taken ∙ c.in-Some.is)
 
 pub returns-in-None-clause-found : goal.returns-in-None-clause-found

@@ -1,3 +1,4 @@
+use Rattle.file_tree.specs.Formats.{block_count}
 use Rattle.std.proofs.Common.{rules, ◌≡◌, ◌*◌, ℕ, List, length, take, replicate, sym, ◌∙◌, ap, subst, inl, inr, refl, ⊎_elim}
 use Rattle.std.proofs.Common.{arith}
 use Rattle.undo_journal.specs.Lent.{memory_of}
@@ -30,7 +31,7 @@ filled_and_added m e x n between after only full adds = record { between = betwe
 pub fill-requires-clause-free : goal.fill-requires-clause-free
 fill-requires-clause-free g c =
     let m = committed c.args.store.now in
-    laid_has_free m (extents (table m)) c.requires.tree.blocks
+    laid_has_free (block_count m) m (extents (table m)) c.requires.tree.blocks
 
 pub add_file-work-requires-clause-free : goal.add_file-work-requires-clause-free
 add_file-work-requires-clause-free g c =
@@ -41,7 +42,7 @@ add_file-work-requires-clause-free g c =
     let same : current (memory_of c.begin-txn.result) ≡ committed c.fill.new.store =
     ap current c.begin-txn.ensures.same ∙ sym ready.same in
     let family : List ℕ → Type 0 = λ l. HasFree l in
-    subst family (sym same) (laid_has_free (committed c.fill.new.store) (extents (table
+    subst family (sym same) (laid_has_free (block_count (committed c.fill.new.store)) (committed c.fill.new.store) (extents (table
     (committed c.fill.new.store))) after.stands.blocks)
 
 pub add_file-work-requires-clause-enough : goal.add_file-work-requires-clause-enough

@@ -2,7 +2,7 @@ use Rattle.undo_journal.specs.laws.Exits.{none_ok}
 use Rattle.std.proofs.Common.{◌≤◌, List, length, sym, ◌∙◌, ap, subst, arith}
 use Rattle.std.specs.List.{sum_by}
 use Rattle.undo_journal.specs.Memory.{committed}
-use Rattle.block_chain.specs.declared.layout.TheConstants.{BLOCKS}
+use Rattle.block_chain.specs.declared.layout.TheConstants.{MOST_BLOCKS}
 use Rattle.block_chain.specs.declared.chain.Extent.{Extent}
 use Rattle.block_chain.specs.Layout.{chains_of}
 use Rattle.file_tree.specs.declared.entry.Entry.{Entry}
@@ -26,8 +26,8 @@ blocks_in-requires g c =
     let part = c.part_of-part.ensures ∙ ap (λ (t : List Entry). part_below t c.args.e) (c.as_slice.ensures.value
     ∙ c.in_ok-entries.ensures.table) in
     let es = c.as_slice-3.ensures.value ∙ c.extents_of-extents.ensures ∙ ap extents (c.as_slice-2.ensures.value ∙ part) in
-    let family : List Extent → Type 0 = λ xs. sum_by (λ x. x.blocks) xs ≤ BLOCKS in
-    subst family (sym es) (part_blocks m c.args.e c.requires.tree)
+    let family : List Extent → Type 0 = λ xs. sum_by (λ x. x.blocks) xs ≤ MOST_BLOCKS in
+    subst family (sym es) (part_blocks m c.args.e c.requires.tree c.requires.ready.usable.committed_size)
 
 pub count_free-requires : goal.count_free-requires
 count_free-requires g c =

@@ -1,9 +1,8 @@
 use Rattle.undo_journal.specs.laws.Exits.{none_ok, on_then}
 use Rattle.std.specs.Prelude.{OnOk}
 use Rattle.std.proofs.Common.{◌≡◌, ◌⊎◌, ◌+◌, arith, ℕ, List, slice_set, sym, ◌∙◌, ap, subst, inl, inr, ⊎_elim}
-use Rattle.nvm_board.specs.Facts.{address}
+use Rattle.nvm_board.specs.Facts.{address, IsMemory}
 use Rattle.undo_journal.specs.Memory.{committed}
-use Rattle.nvm_board.specs.declared.board.TheConstants.{WORDS}
 use Rattle.card_rules.specs.LifeCycle.{life_cycle_byte}
 use Rattle.card_rules.specs.declared.life_cycle.LifeCycle.{LifeCycle}
 use Rattle.std.proofs.Common.{length}
@@ -20,7 +19,7 @@ use Rattle.undo_journal.specs.laws.Told.{changes_after, reads_change, changes_ha
 use Rattle.file_tree.proofs.life_cycles.set_life_cycle.Goals as goal
 
 -- the word that is written changes the state of the words as they were
-changed : (m now after : List ℕ) (e w life : ℕ) (state : LifeCycle) (entry : Entry) → length m ≡ WORDS → TreeStands m
+changed : (m now after : List ℕ) (e w life : ℕ) (state : LifeCycle) (entry : Entry) → IsMemory m → TreeStands m
     → IsUsed (table m) e → now ≡ m → entry ≡ entry_in (table m) e → life ≡ life_cycle_byte state → TellsLife entry life w
     → after ≡ slice_set now (address (FIRST_ENTRY_PAGE + e) 0) w → ChangesLife m e state after
 changed m now after e w life state entry sized stands used words is byte tells done =

@@ -1,3 +1,4 @@
+use Rattle.file_tree.specs.Formats.{block_count}
 use Rattle.undo_journal.specs.laws.Exits.{none_ok}
 use Rattle.std.proofs.Common.{rules, ◌≡◌, ◌≢◌, ℕ, Bool, false, List, length, Option, None, IsTrue, sym, ◌∙◌, ap, subst, arith, true≢false, inl, inr}
 use Rattle.std.proofs.lemmas.Bool.Decides.{eqb_tells}
@@ -58,7 +59,7 @@ free_count-requires-clause-free g c =
     let m = committed c.args.store.now in
     let read = c.read_table.ensures.store.only.keeps.committed_words in
     let family : List ℕ → Type 0 = λ l. HasFree l in
-    subst family (sym read) (laid_has_free m (extents (table m)) c.requires.tree.blocks)
+    subst family (sym read) (laid_has_free (block_count m) m (extents (table m)) c.requires.tree.blocks)
 
 pub returns-then-free-blocks_for-clause-place : goal.returns-then-free-blocks_for-clause-place
 returns-then-free-blocks_for-clause-place g c =

@@ -8,6 +8,13 @@ use Rattle.file_tree.specs.Table.{extents, free_entries}
 use Rattle.file_tree.specs.laws.Tables.{length-table}
 use Rattle.file_tree.specs.laws.Telling.{space_told}
 use Rattle.undo_journal.specs.laws.Told.{reads_handed, reads_on}
+use Rattle.std.specs.Prelude.{◌<◌, ℕ, None, MatchOption}
+use Rattle.std.proofs.Common.{arith}
+use Rattle.undo_journal.specs.laws.Calls.{reads_then}
+use Rattle.nvm_board.specs.Facts.{pages_of}
+use Rattle.file_tree.specs.Formats.{end_page, block_count}
+use Rattle.file_tree.specs.Trees.{TreeStands}
+use Rattle.file_tree.specs.laws.Formats.{count_is}
 use Rattle.file_tree.proofs.tree.is_tree.Goals as goal
 
 pub is_table-requires : goal.is_table-requires
@@ -21,41 +28,8 @@ count_free-entries-requires g c =
     ∙ length-table (committed c.args.store.now)
 
 -- what was found of the blocks, where they lie as they should and where not
-found_is : (now : List ℕ) (es : List Extent) (o answer : Option ℕ) → o ≡ answer → TellsFree now es o → TellsFree now es answer
-found_is now es o answer is told = subst (λ (r : Option ℕ). TellsFree now es r) is told
-
-pub returns-clause-tree : goal.returns-clause-tree
-returns-clause-tree g c =
-    let passes : IsTrue c.is_table.result = search rules in
-    let same = c.as_slice-4.ensures.value ∙ sym c.as_slice.ensures.value in
-    space_told (committed c.args.store.now) (committed c.read_table.new.store) c.as_slice.result.now c.as_slice-3.result.now
-    (Some c.in-Some.blocks) _
-    c.requires.ready.usable.committed_size
-    c.read_table.ensures.store.only.keeps.committed_words
-    (c.as_slice.ensures.value ∙ c.in_ok-entries.ensures.table)
-    (c.as_slice-3.ensures.value ∙ c.extents_of-extents.ensures ∙ ap extents (c.as_slice-2.ensures.value
-    ∙ sym c.as_slice.ensures.value))
-    (c.is_table.ensures.0 passes)
-    (found_is _ _ _ _ c.in-Some.is c.in_ok-blocks.ensures.found)
-    (λ i. Some (record { blocks = c.in-Some.blocks; entries = (c.count_free-entries.ensures ∙ ap free_entries same) i }))
-
-pub returns-in_default-clause-tree : goal.returns-in_default-clause-tree
-returns-in_default-clause-tree g c =
-    let passes : IsTrue c.is_table.result = search rules in
-    space_told (committed c.args.store.now) (committed c.read_table.new.store) c.as_slice.result.now c.as_slice-3.result.now
-    None None
-    c.requires.ready.usable.committed_size
-    c.read_table.ensures.store.only.keeps.committed_words
-    (c.as_slice.ensures.value ∙ c.in_ok-entries.ensures.table)
-    (c.as_slice-3.ensures.value ∙ c.extents_of-extents.ensures ∙ ap extents (c.as_slice-2.ensures.value
-    ∙ sym c.as_slice.ensures.value))
-    (c.is_table.ensures.0 passes)
-    (found_is _ _ _ _ c.in_default.is c.in_ok-blocks.ensures.found)
-    refl
-
-pub returns-in_default-clause-store : goal.returns-in_default-clause-store
-returns-in_default-clause-store g c =
-    reads_on _ _ _ _ c.read_table.ensures.store.only c.in_ok-blocks.ensures.store
+found_is : (n : ℕ) (now : List ℕ) (es : List Extent) (o answer : Option ℕ) → o ≡ answer → TellsFree n now es o → TellsFree n now es answer
+found_is n now es o answer is told = subst (λ (r : Option ℕ). TellsFree n now es r) is told
 
 pub read_table-requires : goal.read_table-requires
 read_table-requires g c = record { ready = c.requires.ready }
@@ -73,10 +47,58 @@ returns-then-not-is_table-clause-store g c = c.in_ok-entries.ensures.store
 pub returns-in_err-blocks-clause-tree : goal.returns-in_err-blocks-clause-tree
 returns-in_err-blocks-clause-tree g c = none_ok _ _ _ c.from_residual-in_err-blocks.ensures.1
 
+pub returns-in_err-count-clause-store : goal.returns-in_err-count-clause-store
+returns-in_err-count-clause-store g c =
+    reads_handed _ _ _ _ c.from_residual-in_err-count.ensures.1
+    (reads_on _ _ _ _ c.read_table.ensures.store.only c.in_err-count.ensures.store)
+
+-- blocks that do not all lie in the memory are not laid out
+too_many : (m now : List ℕ) (o : Option ℕ) (P : ℕ → Type 0) → now ≡ m → o ≡ None
+    → MatchOption o (pages_of now < end_page now) P → TreeStands m → ⊥
+too_many m now o P same is told stands =
+    let family : Option ℕ → Type 0 = λ r. MatchOption r (pages_of now < end_page now) P in
+    let past : pages_of now < end_page now = subst family is told in
+    let pages = ap pages_of same in
+    let end = ap end_page same in
+    let count = count_is m in
+    let inside = stands.blocks.inside in
+    omega (arith, past, pages, end, count, inside)
+
+pub returns-in_default-clause-tree : goal.returns-in_default-clause-tree
+returns-in_default-clause-tree g c =
+    too_many (committed c.args.store.now) _ _ _ c.read_table.ensures.store.only.keeps.committed_words c.in_default.is
+    c.in_ok-count.ensures.count
+
 pub returns-in_err-blocks-clause-store : goal.returns-in_err-blocks-clause-store
 returns-in_err-blocks-clause-store g c =
-    reads_handed _ _ _ _ c.from_residual-in_err-blocks.ensures.1 (reads_on _ _ _ _ c.read_table.ensures.store.only c.in_err-blocks.ensures.store)
+    reads_handed _ _ _ _ c.from_residual-in_err-blocks.ensures.1
+    (reads_on _ _ _ _ (reads_then _ _ _ c.read_table.ensures.store.only c.read_block_count.ensures.store.only)
+    c.in_err-blocks.ensures.store)
 
-pub returns-clause-store : goal.returns-clause-store
-returns-clause-store g c =
-    reads_on _ _ _ _ c.read_table.ensures.store.only c.in_ok-blocks.ensures.store
+-- so many blocks were counted
+counted : (m now : List ℕ) (o : Option ℕ) (n : ℕ) (P : Type 0) (Q : ℕ → Type 0) → now ≡ m → o ≡ Some n
+    → MatchOption o P (λ k. (k ≡ block_count now) × Q k) → n ≡ block_count m
+counted m now o n P Q same is told =
+    let family : Option ℕ → Type 0 = λ r. MatchOption r P (λ k. (k ≡ block_count now) × Q k) in
+    (subst family is told).0 ∙ ap block_count same
+
+pub returns-clause-tree : goal.returns-clause-tree
+returns-clause-tree g c =
+    let m = committed c.args.store.now in
+    let passes : IsTrue c.is_table.result = search rules in
+    let same = c.as_slice-4.ensures.value ∙ sym c.as_slice.ensures.value in
+    let table_kept = c.read_table.ensures.store.only.keeps.committed_words in
+    let count : c.in-Some.count ≡ block_count m =
+    counted m (committed c.read_table.new.store) _ _ _ _ table_kept c.in-Some.is c.in_ok-count.ensures.count in
+    let family : ℕ → Type 0 =
+    λ n. TellsFree n (committed c.read_block_count.new.store) c.as_slice-3.result.now (Some c.in-Some-2.blocks) in
+    space_told m (committed c.read_block_count.new.store) c.as_slice.result.now c.as_slice-3.result.now
+    (Some c.in-Some-2.blocks) _
+    c.requires.ready.usable.committed_size
+    (c.read_block_count.ensures.store.only.keeps.committed_words ∙ table_kept)
+    (c.as_slice.ensures.value ∙ c.in_ok-entries.ensures.table)
+    (c.as_slice-3.ensures.value ∙ c.extents_of-extents.ensures ∙ ap extents (c.as_slice-2.ensures.value
+    ∙ sym c.as_slice.ensures.value))
+    (c.is_table.ensures.0 passes)
+    (subst family count (found_is _ _ _ _ _ c.in-Some-2.is c.in_ok-blocks.ensures.found))
+    (λ i. Some (record { blocks = c.in-Some-2.blocks; entries = (c.count_free-entries.ensures ∙ ap free_entries same) i }))

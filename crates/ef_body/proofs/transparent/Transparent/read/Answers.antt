@@ -31,8 +31,11 @@ read_anew-requires g c =
           (
             omega (arith, low, is, fits),
             (
-              omega (arith, is, c.requires.room),
-              c.clear.ensures,
+              (let size = c.requires.body.size in omega (arith, low, is, size)),
+              (
+                omega (arith, is, c.requires.room),
+                c.clear.ensures,
+              ),
             ),
           ),
         ),
