@@ -6,7 +6,7 @@ use Rattle.undo_journal.specs.Memory.{Memory, committed}
 use Rattle.undo_journal.specs.Spending.{WritesAtMost}
 use Rattle.pin_store.specs.declared.layout.TheConstants.{PINS, TRIES, UNBLOCKING_TRIES}
 use Rattle.pin_store.specs.Pins.{Pin, is_unblocking, owner, kept, tries_left, full_tries, charged_pin, verified_pin}
-use Rattle.pin_store.specs.Pins.{changed_pin, reset_pin}
+use Rattle.pin_store.specs.Pins.{changed_pin, marked_pin, reset_pin}
 use Rattle.pin_store.specs.Pages.{pin_at}
 use Rattle.pin_store.specs.Trials.{pin_in, Charges, ComparesOnce, IsMatch, SetsByMatch, FillsByMatch}
 use Rattle.pin_store.specs.Trials.{KeepsPinLaw}
@@ -157,6 +157,13 @@ verified_ends secret pin small = record {
 
 pub changed_ends : (secret : ℕ) (new : List ℕ) (pin : Pin) → secret < PINS → IsEnd secret pin (changed_pin new pin)
 changed_ends secret new pin small = record {
+  full = value_full secret pin.unblocking_tries small;
+  unblocking = refl;
+  unblocking_tries = λ _. refl;
+}
+
+pub marked_ends : (secret : ℕ) (enabled : Bool) (pin : Pin) → secret < PINS → IsEnd secret pin (marked_pin enabled pin)
+marked_ends secret enabled pin small = record {
   full = value_full secret pin.unblocking_tries small;
   unblocking = refl;
   unblocking_tries = λ _. refl;
