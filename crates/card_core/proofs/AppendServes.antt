@@ -3,7 +3,7 @@ use Rattle.std.proofs.Common.{◌≡◌, ◌⊎◌, ◌≤◌, ℕ, List, [], le
 use Rattle.std.proofs.Common.{subst, arith}
 use Rattle.std.proofs.lemmas.Bool.{eq-eqb}
 use Rattle.std.specs.Result.{IsErrAnd}
-use Rattle.nvm_board.specs.declared.board.TheConstants.{WORDS}
+use Rattle.nvm_board.specs.Facts.{IsMemory}
 use Rattle.card_rules.specs.declared.access_mode.AccessBit.TheVariants.{Append}
 use Rattle.card_rules.specs.declared.status.Sw.{Sw}
 use Rattle.card_rules.specs.declared.status.TheConstants.Sw.{DONE}
@@ -33,7 +33,7 @@ module _ (old mid new : Memory) (ready : IsReady old) (words : IsCard (committed
   abbrev m : List ℕ
   m = committed old
 
-  sized : length m ≡ WORDS
+  sized : IsMemory m
   sized = ready.usable.committed_size
 
   same : committed mid ≡ m

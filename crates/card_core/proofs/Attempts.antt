@@ -10,7 +10,8 @@ use Rattle.std.specs.Prelude.{nat_eq, IfOk, IfSome, MatchOption, Result}
 use Rattle.std.specs.Result.{result_err, IsErrAnd}
 use Rattle.std.specs.FinSet.{FinSet}
 use Rattle.std.specs.Ordering.{nat_cmp}
-use Rattle.nvm_board.specs.declared.board.TheConstants.{WORDS}
+use Rattle.nvm_board.specs.Facts.{IsMemory}
+use Rattle.nvm_board.specs.laws.Sizes.{memory_same}
 use Rattle.nvm_board.specs.Facts.{raised}
 use Rattle.card_rules.specs.declared.status.Sw.{Sw}
 use Rattle.card_rules.specs.declared.status.TheConstants.Sw.{DONE, METHOD_BLOCKED}
@@ -84,7 +85,7 @@ wrong-is xs ys other = by (pointwise nat_eq xs ys) (λ is. other ((bytes_decides
     by false never = refl
 
 module _ (request : Request) (a : Attempt) (asks : IsAttempt request a) (old : Memory) (x : Current)
-    (sized : length (committed old) ≡ WORDS) (card : IsCard (committed old)) (current : IsCurrent (table_in old) x) where
+    (sized : IsMemory (committed old)) (card : IsCard (committed old)) (current : IsCurrent (table_in old) x) where
   abbrev c : Card
   c = card_in old
 
@@ -247,8 +248,8 @@ module _ (request : Request) (a : Attempt) (asks : IsAttempt request a) (old : M
 
   -- after the charge
   module _ (b : Memory) (charges : Charges a.secret old b) (card-b : IsCard (committed b)) where
-    size-b : length (committed b) ≡ WORDS
-    size-b = charges.charged.size ∙ sized
+    size-b : IsMemory (committed b)
+    size-b = memory_same _ _ charges.charged.size sized
 
     never : {R : Type 0} → tries_left a.secret was ≡ 0 → R
     never none = let some = charges.left in absurd (omega (arith, some, none))
@@ -426,7 +427,7 @@ module _ (request : Request) (a : Attempt) (asks : IsAttempt request a) (old : M
 module _ (request : Request) (a : Attempt) (asks : IsAttempt request a) (n : ℕ) (most : most_writes request ≡ 1 + n)
     (old : Memory) (x : Current) (ready : IsReady old) (card : IsCard (committed old)) (current : IsCurrent (table_in old) x)
   where
-    abbrev sized : length (committed old) ≡ WORDS
+    abbrev sized : IsMemory (committed old)
     sized = ready.usable.committed_size
 
     -- the charge stopped

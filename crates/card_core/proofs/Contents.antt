@@ -6,7 +6,7 @@ use Rattle.std.proofs.Common.{⊎_elim, true≢false}
 use Rattle.std.specs.Option.{option_map_or}
 use Rattle.std.proofs.lemmas.List.{length-take-le, take_all}
 use Rattle.std.proofs.lemmas.Bool.{lt-ltb, le-ltb, ne_eqb, cases_lt, cases_eq}
-use Rattle.nvm_board.specs.declared.board.TheConstants.{WORDS}
+use Rattle.nvm_board.specs.Facts.{IsMemory}
 use Rattle.card_rules.specs.declared.status.TheConstants.Sw.{DONE, END_REACHED}
 use Rattle.block_chain.specs.declared.chain.Extent.{Extent}
 use Rattle.block_chain.specs.Chains.{chain, bytes_of, IsChain}
@@ -94,7 +94,7 @@ module _ (m : List ℕ) (e : ℕ) where
       if k == 3 then linear x.record_length (capacity_of x) (linear_records x bytes) else
       cyclic x.record_length (capacity_of x) (cyclic_records x bytes))) is
 
-  module _ (sized : length m ≡ WORDS) (words : IsCard m) (below : e < 64) (high : 2 ≤ x.kind) where
+  module _ (sized : IsMemory m) (words : IsCard m) (below : e < 64) (high : 2 ≤ x.kind) where
     -- its content is the bytes of its chain
     pub content-is : content m x ≡ bytes_of m (chain m x.first)
     unfolding content

@@ -2,7 +2,7 @@
 -- reads the new entry.
 use Rattle.std.proofs.Common.{◌≡◌, ◌⊎◌, ◌≤◌, ◌-◌, ℕ, List, [], length, Option, Some, None, Result, Ok, refl, sym, ◌∙◌, ap, subst, arith, inr}
 use Rattle.std.specs.Result.{IsErrAnd}
-use Rattle.nvm_board.specs.declared.board.TheConstants.{WORDS}
+use Rattle.nvm_board.specs.Facts.{IsMemory}
 use Rattle.card_rules.specs.declared.status.Sw.{Sw}
 use Rattle.card_rules.specs.declared.status.TheConstants.Sw.{DONE}
 use Rattle.fcp_template.specs.declared.fcp.Fcp.{Fcp}
@@ -22,7 +22,8 @@ use Rattle.file_tree.specs.declared.space.FreeSpace.{FreeSpace}
 use Rattle.file_tree.specs.Changes.{SameTree}
 use Rattle.file_tree.specs.Creations.{CreatesNew, IsCreated, TellsCreation}
 use Rattle.file_tree.specs.NewFiles.{creation_refusal}
-use Rattle.file_tree.specs.Spaces.{free_space}
+use Rattle.file_tree.specs.Formats.{block_count}
+use Rattle.card_core.specs.Cards.{card_space}
 use Rattle.file_tree.specs.Table.{table, entry_in, path_of, IsUsed}
 use Rattle.file_tree.specs.Trees.{tree_of}
 use Rattle.card_core.specs.declared.current.Current.{Current}
@@ -50,7 +51,7 @@ module _ (old mid made : Memory) (ready : IsReady old) (words : IsCard (committe
   abbrev request : Request
   request = create_file template
 
-  sized : length m ≡ WORDS
+  sized : IsMemory m
   sized = ready.usable.committed_size
 
   same : committed mid ≡ m
@@ -58,11 +59,11 @@ module _ (old mid made : Memory) (ready : IsReady old) (words : IsCard (committe
 
   -- a creation that is refused changed nothing
   pub creation-refused : (status : Sw) → TellsCreation (committed mid) x.df fcp (Refused status) after
-      → ((refusal : Sw) → creation_refusal (tree_of (committed mid)) (path_of (table_in mid) x.df) fcp ≡ Some refusal
+      → ((refusal : Sw) → creation_refusal (block_count (committed mid)) (tree_of (committed mid)) (path_of (table_in mid) x.df) fcp ≡ Some refusal
       → OnlyReads mid made) → IsReady made → Serves request old x made x [] (Ok status)
   creation-refused status tells idle ready_now =
-      let is : creation_refusal (tree_of m) (path_of (table m) x.df) fcp ≡ Some status =
-      subst (λ (l : List ℕ). creation_refusal (tree_of l) (path_of (table l) x.df) fcp ≡ Some status) same tells.0 in
+      let is : creation_refusal (block_count m) (tree_of m) (path_of (table m) x.df) fcp ≡ Some status =
+      subst (λ (l : List ℕ). creation_refusal (block_count l) (tree_of l) (path_of (table l) x.df) fcp ≡ Some status) same tells.0 in
       declined request old x made (λ _. tt) words status (reads_then old mid made reads (idle status tells.0))
       ready_now current
       (refused-step m sized words x template fcp found.told found.unbarred found.permitted status is)
@@ -79,16 +80,16 @@ module _ (old mid made : Memory) (ready : IsReady old) (words : IsCard (committe
   -- one that stopped, before or after its commit
   pub creation-torn : (r : Result Sw StoreErr) (e : StoreErr) → IsErrAnd r (λ f. f ≡ e)
       → SameTree (committed mid) after ⊎ CreatesNew (committed mid) x.df fcp after
-      → ((refusal : Sw) → creation_refusal (tree_of (committed mid)) (path_of (table_in mid) x.df) fcp ≡ Some refusal
+      → ((refusal : Sw) → creation_refusal (block_count (committed mid)) (tree_of (committed mid)) (path_of (table_in mid) x.df) fcp ≡ Some refusal
       → OnlyReads mid made) → AddsByGate mid made → (n : ℕ) → Changes n mid made (Some e) → n ≤ creation_writes
       → Serves request old x made x [] r
   creation-torn r e is any_exit idle adds n changes few =
       let exit = subst (λ (l : List ℕ). SameTree l after ⊎ CreatesNew l x.df fcp after) same any_exit in
       let all = changes_after n old mid made (Some e) reads changes in
       let idle_here = subst (λ (l : List ℕ). (status : Sw)
-      → creation_refusal (tree_of l) (path_of (table l) x.df) fcp ≡ Some status → OnlyReads mid made) same idle in
+      → creation_refusal (block_count l) (tree_of l) (path_of (table l) x.df) fcp ≡ Some status → OnlyReads mid made) same idle in
       let stage = any-stage m sized words x template fcp found.told found.unbarred found.permitted
-      (creation_refusal (tree_of m) (path_of (table m) x.df) fcp) refl
+      (creation_refusal (block_count m) (tree_of m) (path_of (table m) x.df) fcp) refl
       (λ status refuses. reads_then old mid made reads (idle_here status refuses)) after exit in
       subst (λ (s : Result Sw StoreErr). Serves request old x made x [] s) (sym (err-is r e is))
       (torn request old x made x [] e stage
@@ -104,16 +105,21 @@ module _ (old mid made : Memory) (ready : IsReady old) (words : IsCard (committe
     created = subst (λ (l : List ℕ). IsCreated l x.df fcp e blocks after) same
         (subst (λ (c : Creation). TellsCreation (committed mid) x.df fcp c after) is tells)
 
+    created-stands : IsCard after
+    created-stands = created-is-card m sized words x template fcp found.told found.unbarred found.permitted e blocks after created
+
     pub creation-used : IsUsed (table after) e
     creation-used = created.used
 
     pub creation-taken : (free : FreeSpace) → free ≡ space_in old → blocks ≤ free.blocks
     creation-taken free counted =
         taken-blocks m m after free (record { blocks = blocks; entries = 1 }) counted refl created.space
+        words created-stands
 
     pub creation-taken-one : (free : FreeSpace) → free ≡ space_in old → 1 ≤ free.entries
     creation-taken-one free counted =
         taken-entries m m after free (record { blocks = blocks; entries = 1 }) counted refl created.space
+        words created-stands
 
     -- and then the new entry was read
     module _ (new : Memory) (told : Option StoreErr) (adds : AddsByGate mid made) (n : ℕ) (changes : Changes n mid made None)
@@ -141,8 +147,7 @@ module _ (old mid made : Memory) (ready : IsReady old) (words : IsCard (committe
           )
 
       stands : IsCard (committed new)
-      stands = subst IsCard (sym still) (created-is-card m sized words x template fcp found.told found.unbarred
-          found.permitted e blocks after created)
+      stands = subst IsCard (sym still) created-stands
 
       pub created-torn : (r : Result Sw StoreErr) (error : StoreErr) → IsErrAnd r (λ f. f ≡ error) → told ≡ Some error
           → Serves request old x new x [] r
@@ -167,4 +172,5 @@ module _ (old mid made : Memory) (ready : IsReady old) (words : IsCard (committe
           → record { blocks = free.blocks - blocks; entries = free.entries - 1 } ≡ space_in new
       created-counts free counted =
           created-space m m after free (record { blocks = blocks; entries = 1 }) counted refl created.space
-          ∙ ap (λ (l : List ℕ). free_space (card_of l).tree) (sym still)
+          words created-stands
+          ∙ ap (λ (l : List ℕ). card_space (card_of l)) (sym still)

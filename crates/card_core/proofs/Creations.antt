@@ -4,7 +4,7 @@ use Rattle.std.proofs.Common.{Option, Some, None, unwrap_or, Result, Ok, Err, re
 use Rattle.std.specs.Prelude.{cond}
 use Rattle.std.specs.Cmp.Lexicographic.{nat_list_cmp_total}
 use Rattle.std.specs.FinMap.{get, get-insert}
-use Rattle.nvm_board.specs.declared.board.TheConstants.{WORDS}
+use Rattle.nvm_board.specs.Facts.{IsMemory}
 use Rattle.card_rules.specs.declared.access_mode.AccessBit.{AccessBit}
 use Rattle.card_rules.specs.declared.status.Sw.{Sw}
 use Rattle.card_rules.specs.declared.status.TheConstants.Sw.{DONE, WRONG_DATA}
@@ -16,7 +16,10 @@ use Rattle.file_tree.specs.declared.space.FreeSpace.{FreeSpace}
 use Rattle.file_tree.specs.Changes.{SameTree, with_freed}
 use Rattle.file_tree.specs.Creations.{CreatesNew, IsCreated}
 use Rattle.file_tree.specs.NewFiles.{creation_refusal, new_file, short_of_new}
+use Rattle.file_tree.specs.Formats.{block_count}
 use Rattle.file_tree.specs.Spaces.{free_space}
+use Rattle.card_core.specs.Cards.{card_space}
+use Rattle.card_core.specs.laws.CardLaws.{card_count, card_space_is}
 use Rattle.file_tree.specs.States.{is_allowed, is_barred}
 use Rattle.file_tree.specs.Table.{table, entry_in, path_of}
 use Rattle.file_tree.specs.Trees.{tree_of, file_in}
@@ -78,12 +81,13 @@ permits-is m now x eight same bit wanted bit_is verified verified_is permits is 
     ∙ sym (is ∙ (λ i. is_allowed (tree_of (same i)) (path_of (table (same i)) x.df) (bit_is i) (marks i)))
 
 -- what is free shrinks by what a file takes
-module _ (m now after : List ℕ) (old taken : FreeSpace) (is : old ≡ free_space (card_of m).tree) (same : now ≡ m)
-    (space : free_space (tree_of now) ≡ with_freed (free_space (tree_of after)) taken) where
-  sum-is : old ≡ with_freed (free_space (card_of after).tree) taken
+module _ (m now after : List ℕ) (old taken : FreeSpace) (is : old ≡ card_space (card_of m)) (same : now ≡ m)
+    (space : free_space (block_count now) (tree_of now) ≡ with_freed (free_space (block_count after) (tree_of after)) taken)
+    (before : IsCard m) (stands : IsCard after) where
+  sum-is : old ≡ with_freed (card_space (card_of after)) taken
   sum-is =
-      is ∙ ap free_space (card-tree m) ∙ sym (ap (λ (l : List ℕ). free_space (tree_of l)) same) ∙ space
-      ∙ sym (ap (λ (tree : Tree). with_freed (free_space tree) taken) (card-tree after))
+      is ∙ card_space_is m before ∙ sym (ap (λ (l : List ℕ). free_space (block_count l) (tree_of l)) same) ∙ space
+      ∙ sym (ap (λ (left : FreeSpace). with_freed left taken) (card_space_is after stands))
 
   pub taken-blocks : taken.blocks ≤ old.blocks
   taken-blocks = let sum = ap (λ (s : FreeSpace). s.blocks) sum-is in omega (arith, sum)
@@ -92,16 +96,16 @@ module _ (m now after : List ℕ) (old taken : FreeSpace) (is : old ≡ free_spa
   taken-entries = let sum = ap (λ (s : FreeSpace). s.entries) sum-is in omega (arith, sum)
 
   pub created-space : record { blocks = old.blocks - taken.blocks; entries = old.entries - taken.entries }
-      ≡ free_space (card_of after).tree
+      ≡ card_space (card_of after)
   created-space =
-      let left = free_space (card_of after).tree in
+      let left = card_space (card_of after) in
       let blocks_sum = ap (λ (s : FreeSpace). s.blocks) sum-is in
       let entries_sum = ap (λ (s : FreeSpace). s.entries) sum-is in
       let blocks : old.blocks - taken.blocks ≡ left.blocks = omega (arith, blocks_sum) in
       let entries : old.entries - taken.entries ≡ left.entries = omega (arith, entries_sum) in
       λ i. record { blocks = blocks i; entries = entries i }
 
-module _ (m : List ℕ) (sized : length m ≡ WORDS) (words : IsCard m) (x : CurrentFiles) (template : List ℕ)
+module _ (m : List ℕ) (sized : IsMemory m) (words : IsCard m) (x : CurrentFiles) (template : List ℕ)
     (fcp : Fcp) (is : fcp_read template ≡ Ok fcp) (unbarred : is_barred (card_of m).tree (path_of (table m) x.df) ≡ false)
     (permitted : allowed (card_of m) (session_of (table m) x) (path_of (table m) x.df) (creation_bit fcp.kind) ≡ true) where
   abbrev c : Card
@@ -114,10 +118,13 @@ module _ (m : List ℕ) (sized : length m ≡ WORDS) (words : IsCard m) (x : Cur
   df = path_of (table m) x.df
 
   -- the tree of the card is that of its memory
-  refusal-by-tree : creation_refusal c.tree df fcp ≡ creation_refusal (tree_of m) df fcp
-  refusal-by-tree = ap (λ (tree : Tree). creation_refusal tree df fcp) (card-tree m)
+  refusal-by-tree : creation_refusal c.blocks c.tree df fcp ≡ creation_refusal (block_count m) (tree_of m) df fcp
+  refusal-by-tree =
+      let tree = card-tree m in
+      let blocks = card_count m words in
+      λ i. creation_refusal (blocks i) (tree i) df fcp
 
-  pub refused-step : (status : Sw) → creation_refusal (tree_of m) df fcp ≡ Some status
+  pub refused-step : (status : Sw) → creation_refusal (block_count m) (tree_of m) df fcp ≡ Some status
       → served c s (create_file template) ≡ refused c s status
   refused-step status refuses = create-refused c s template unbarred fcp is permitted status (refusal-by-tree ∙ refuses)
 
@@ -146,7 +153,7 @@ module _ (m : List ℕ) (sized : length m ≡ WORDS) (words : IsCard m) (x : Cur
   any-stands after (inl same) = filled-stands after same
   any-stands after (inr creates) = created-stands after creates
 
-  pub any-creating : creation_refusal (tree_of m) df fcp ≡ None → (after : List ℕ)
+  pub any-creating : creation_refusal (block_count m) (tree_of m) df fcp ≡ None → (after : List ℕ)
       → SameTree m after ⊎ CreatesNew m x.df fcp after → IsDoing c s (create_file template) (card_of after)
   any-creating none after left =
       doing-one c s (create_file template) (with_new c df fcp) (card_of after)
@@ -156,7 +163,7 @@ module _ (m : List ℕ) (sized : length m ≡ WORDS) (words : IsCard m) (x : Cur
       (λ (creates : CreatesNew m x.df fcp after). inr (card-is after creates)) left)
 
   -- a creation that was cut, or not: where it is refused, as told by a refusal, only reads were made
-  pub any-stage : {R : Type 0} (refusal : Option Sw) → creation_refusal (tree_of m) df fcp ≡ refusal
+  pub any-stage : {R : Type 0} (refusal : Option Sw) → creation_refusal (block_count m) (tree_of m) df fcp ≡ refusal
       → ((status : Sw) → refusal ≡ Some status → R) → (after : List ℕ)
       → SameTree m after ⊎ CreatesNew m x.df fcp after → R ⊎ IsDoing c s (create_file template) (card_of after)
   any-stage (Some status) told idle after exit = inl (idle status refl)

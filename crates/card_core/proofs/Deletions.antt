@@ -4,7 +4,7 @@ use Rattle.std.proofs.Common.{Option, Some, None, option_map, unwrap_or, refl, s
 use Rattle.std.proofs.lemmas.Bool.{ne_eqb}
 use Rattle.std.proofs.lemmas.List.{length-append}
 use Rattle.std.specs.List.{starts_with}
-use Rattle.nvm_board.specs.declared.board.TheConstants.{WORDS}
+use Rattle.nvm_board.specs.Facts.{IsMemory}
 use Rattle.card_rules.specs.declared.status.Sw.{Sw}
 use Rattle.card_rules.specs.declared.status.TheConstants.Sw.{DONE}
 use Rattle.apdu_core.specs.declared.files.Subject.{Subject}
@@ -13,7 +13,10 @@ use Rattle.apdu_core.specs.Requests.{delete_file}
 use Rattle.file_tree.specs.declared.entry.Entry.{Entry}
 use Rattle.file_tree.specs.declared.space.FreeSpace.{FreeSpace}
 use Rattle.file_tree.specs.Changes.{Deletes, with_freed}
+use Rattle.file_tree.specs.Formats.{block_count}
 use Rattle.file_tree.specs.Spaces.{free_space}
+use Rattle.card_core.specs.Cards.{card_space}
+use Rattle.card_core.specs.laws.CardLaws.{card_space_is}
 use Rattle.file_tree.specs.States.{has_barred_above, is_barred}
 use Rattle.card_rules.specs.declared.access_mode.AccessBit.TheVariants.{DeleteChild, DeleteSelf}
 use Rattle.file_tree.specs.Table.{table, entry_in, path_of, IsUsed}
@@ -61,13 +64,13 @@ starts-longer (first ∷ path) id =
     ap (λ (b : Bool). nat_eq first first && b) (starts-longer path id) ∙ and_false (nat_eq first first)
 
 -- what is free grows by what was freed
-pub deleted-space : (m now after : List ℕ) (old freed : FreeSpace) → old ≡ free_space (card_of m).tree → now ≡ m
-    → free_space (tree_of after) ≡ with_freed (free_space (tree_of now)) freed
-    → with_freed old freed ≡ free_space (card_of after).tree
-deleted-space m now after old freed is same space =
+pub deleted-space : (m now after : List ℕ) (old freed : FreeSpace) → old ≡ card_space (card_of m) → now ≡ m
+    → free_space (block_count after) (tree_of after) ≡ with_freed (free_space (block_count now) (tree_of now)) freed
+    → IsCard m → IsCard after → with_freed old freed ≡ card_space (card_of after)
+deleted-space m now after old freed is same space before stands =
     ap (λ (space : FreeSpace). with_freed space freed)
-    (is ∙ ap free_space (card-tree m) ∙ sym (ap (λ (l : List ℕ). free_space (tree_of l)) same))
-    ∙ sym space ∙ sym (ap free_space (card-tree after))
+    (is ∙ card_space_is m before ∙ sym (ap (λ (l : List ℕ). free_space (block_count l) (tree_of l)) same))
+    ∙ sym space ∙ sym (card_space_is after stands)
 
 -- what refuses the deletion of a file by its parent, and by the rules of both
 abbrev pub deletion_verdict : List ℕ → CurrentFiles → ℕ → ℕ → Option Sw
@@ -77,7 +80,7 @@ deletion_verdict m x e up =
     file_refusal (is_barred c.tree (path_of (table m) up)) true
     (allowed c s (path_of (table m) e) DeleteSelf || allowed c s (path_of (table m) up) DeleteChild)
 
-module _ (m : List ℕ) (sized : length m ≡ WORDS) (words : IsCard m) (x : CurrentFiles) (subject : Subject) (e : ℕ)
+module _ (m : List ℕ) (sized : IsMemory m) (words : IsCard m) (x : CurrentFiles) (subject : Subject) (e : ℕ)
     (above : 0 < e) (used : IsUsed (table m) e)
     (place : subject_of (card_of m).tree (session_of (table m) x) subject ≡ Some (path_of (table m) e)) where
   abbrev c : Card

@@ -4,7 +4,8 @@ use Rattle.std.proofs.Common.{Result, Ok, Err, if◌then◌else◌, sym, ◌∙�
 use Rattle.std.proofs.lemmas.List.{get_or-set_other, get_or-set_same, length-set}
 use Rattle.std.specs.Result.{result_err, IsErr}
 use Rattle.nvm_board.specs.Facts.{address}
-use Rattle.nvm_board.specs.declared.board.TheConstants.{WORDS}
+use Rattle.nvm_board.specs.Facts.{IsMemory}
+use Rattle.nvm_board.specs.laws.Sizes.{least_words}
 use Rattle.card_rules.specs.declared.access_mode.AccessBit.TheVariants.{Terminate}
 use Rattle.card_rules.specs.declared.status.Sw.{Sw}
 use Rattle.card_rules.specs.declared.status.TheConstants.Sw.{ACCESS_DENIED, DONE}
@@ -22,13 +23,16 @@ use Rattle.file_tree.specs.States.{is_allowed, with_card_terminated}
 use Rattle.file_tree.specs.Table.{table, path_of}
 use Rattle.file_tree.specs.Trees.{tree_of, TreeStands}
 use Rattle.file_tree.specs.Changes.{KeepsTree}
+use Rattle.file_tree.specs.Formats.{SameFormat}
 use Rattle.file_tree.specs.laws.Footprints.{tree_kept}
 use Rattle.file_tree.specs.declared.entry.Entry.{Entry}
 use Rattle.pin_store.specs.Pages.{pin_page, KeepsPins}
 use Rattle.pin_store.specs.laws.AllPins.{pages_kept, pins_kept}
 use Rattle.card_core.specs.declared.current.Current.{Current}
 use Rattle.block_chain.specs.declared.layout.TheConstants.{HEADER_PAGE}
-use Rattle.file_tree.specs.declared.layout.TheConstants.{STATE_WORD}
+use Rattle.file_tree.specs.declared.layout.TheConstants.{MARK_WORD, PAGES_WORD, STATE_WORD}
+use Rattle.migration.specs.declared.migrating.TheConstants.{PIN_MARK_WORD}
+use Rattle.card_core.specs.laws.CardLaws.{blocks_same}
 use Rattle.card_core.specs.Cards.{Card}
 use Rattle.card_core.specs.Comparing.{comparisons, ComparesNothing}
 use Rattle.card_core.specs.Guards.{allowed}
@@ -47,7 +51,7 @@ use Rattle.card_core.proofs.Serves.{compared-none, reads-compared, torn, written
 use Rattle.card_core.proofs.Verified.{marks-are}
 use Rattle.card_core.proofs.Words.{Went, went-after}
 
-module _ (m : List ℕ) (sized : length m ≡ WORDS) (words : IsCard m) where
+module _ (m : List ℕ) (sized : IsMemory m) (words : IsCard m) where
   abbrev ended : List ℕ
   ended = with_card_terminated m
 
@@ -55,7 +59,13 @@ module _ (m : List ℕ) (sized : length m ≡ WORDS) (words : IsCard m) where
   elsewhere page place differs = get_or-set_other m 2 (address page place) 1 0 differs
 
   state-is : word ended HEADER_PAGE STATE_WORD ≡ 1
-  state-is = get_or-set_same m 2 1 0 (omega (arith, sized))
+  state-is = let many = least_words m sized in get_or-set_same m 2 1 0 (omega (arith, many))
+
+  format : SameFormat m ended
+  format = record {
+    mark = elsewhere HEADER_PAGE MARK_WORD (λ is. let z : ⊥ = omega (arith, is) in z);
+    pages = elsewhere HEADER_PAGE PAGES_WORD (λ is. let z : ⊥ = omega (arith, is) in z);
+  }
 
   keeps : KeepsTree m ended
   keeps = record {
@@ -67,6 +77,7 @@ module _ (m : List ℕ) (sized : length m ≡ WORDS) (words : IsCard m) where
           elsewhere page place (λ is. let first = block.0 in let z : ⊥ = omega (arith, is, first) in z);
       head = elsewhere HEADER_PAGE FREE_HEAD_WORD (λ is. let z : ⊥ = omega (arith, is) in z);
     };
+    format = format;
   }
 
   pins : KeepsPins m ended
@@ -80,11 +91,13 @@ module _ (m : List ℕ) (sized : length m ≡ WORDS) (words : IsCard m) where
   pub ended-stands : IsCard ended
   ended-stands = record {
     header = record {
-      mark = elsewhere HEADER_PAGE 0 (λ is. let z : ⊥ = omega (arith, is) in z) ∙ words.header.mark;
+      mark = format.mark ∙ words.header.mark;
+      end = let was = words.header.end in let is = format.pages in omega (arith, is, was);
       state = let state = state-is in omega (arith, state);
     };
     tree = kept.0;
     pins = pages_kept m ended pins words.pins;
+    marks = λ pin lt. elsewhere (pin_page pin) PIN_MARK_WORD (λ is. let z : ⊥ = omega (arith, is) in z) ∙ words.marks pin lt;
   }
 
   pub ended-card : card_of ended ≡ terminated_card (card_of m)
@@ -92,7 +105,8 @@ module _ (m : List ℕ) (sized : length m ≡ WORDS) (words : IsCard m) where
   ended-card =
       let state = state-is in
       let tree = kept.2 in
-      λ i. record { tree = tree i; pins = pins_kept m ended pins i; in_use = state i == 0 }
+      let blocks = blocks_same m ended (length-set m 2 1) format in
+      λ i. record { tree = tree i; pins = pins_kept m ended pins i; in_use = state i == 0; blocks = blocks i }
 
   pub ended-table : table ended ≡ table m
   ended-table = kept.1
@@ -142,7 +156,7 @@ module _ (old mid new : Memory) (ready : IsReady old) (words : IsCard (committed
   abbrev at_end : List ℕ
   at_end = with_card_terminated (committed old)
 
-  size : length (committed old) ≡ WORDS
+  size : IsMemory (committed old)
   size = ready.usable.committed_size
 
   same : committed mid ≡ committed old

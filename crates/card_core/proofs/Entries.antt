@@ -2,7 +2,7 @@
 use Rattle.std.proofs.Common.{◌≡◌, ◌≢◌, ◌==◌, ◌<◌, ℕ, Bool, true, false, List, [], ◌∷◌, ◌++◌, length, Option, Some, None}
 use Rattle.std.proofs.Common.{IfSome, option_map, refl, sym, ◌∙◌, ap, arith, ⊎_elim, if◌then◌else◌}
 use Rattle.std.proofs.lemmas.Bool.{cases_eq}
-use Rattle.nvm_board.specs.declared.board.TheConstants.{WORDS}
+use Rattle.nvm_board.specs.Facts.{IsMemory}
 use Rattle.std.specs.FinMap.{get}
 use Rattle.std.specs.Option.{option_map_or}
 use Rattle.apdu_core.specs.declared.select.Returned.{Returned}
@@ -27,10 +27,13 @@ use Rattle.card_core.specs.laws.FoundLaws.{same-of, other-of}
 use Rattle.card_core.specs.Selecting.{selecting, selection_data, selection_status}
 use Rattle.pin_store.specs.Pages.{ArePinPages}
 use Rattle.card_core.specs.Sessions.{marked}
-use Rattle.card_core.specs.Standing.{card_of, IsCard, IsHeader}
+use Rattle.card_core.specs.Standing.{card_of, IsAnyCard, IsCard, IsOldCard}
+use Rattle.card_core.specs.laws.CardLaws.{any_tree}
+use Rattle.card_core.specs.declared.memory_format.MemoryFormat.{MemoryFormat}
+use Rattle.card_core.specs.declared.memory_format.MemoryFormat.TheVariants.{One, Two}
 use Rattle.card_core.specs.Steps.{served}
 use Rattle.card_core.specs.Templates.{template_of}
-use Rattle.card_core.specs.Working.{current_at, data_in, life_of, outcome, session_of, template_in, IsCurrent, IsElementary, TellsCard}
+use Rattle.card_core.specs.Working.{current_at, data_in, life_of, outcome, session_of, template_in, IsCurrent, IsElementary, HoldsPins, IsHeaderIn, TellsCard}
 use Rattle.card_core.proofs.SelectSteps.{select-less, select-reached}
 use Rattle.card_core.proofs.Told.{parameters-are}
 
@@ -105,7 +108,7 @@ module _ (m : List ℕ) (words : IsCard m) (e : ℕ) (used : IsUsed (table m) e)
               (cases_eq e 0)
 
   -- what SELECT finds of the file
-  data-entry : length m ≡ WORDS → (returned : Returned)
+  data-entry : IsMemory m → (returned : Returned)
       → selection_data returned (card_of m).tree (path_of (table m) e) ≡ data_in returned entry
   unfolding template_of template_in
   data-entry sized Template =
@@ -114,7 +117,7 @@ module _ (m : List ℕ) (words : IsCard m) (e : ℕ) (used : IsUsed (table m) e)
   data-entry sized Nothing = refl
 
   -- SELECT of the file
-  module _ (sized : length m ≡ WORDS) (x : Current) (selection : Selection) (returned : Returned) (expected : Option ℕ)
+  module _ (sized : IsMemory m) (x : Current) (selection : Selection) (returned : Returned) (expected : Option ℕ)
       (place : selected_from (card_of m).tree (session_of (table m) x).current_df selection
       ≡ Some (path_of (table m) e)) where
     abbrev told : List ℕ
@@ -156,8 +159,19 @@ current-path m words x current = by_file x.ef current.ef
         file.child))
 
 -- what the parts of the check of a memory say together
-pub tells_card : (m : List ℕ) (free : Option FreeSpace) → IsHeader m → ArePinPages m → TellsSpace m free
-    → TellsCard m free
-tells_card m None header pins tells = λ words. tells words.tree
-tells_card m (Some free) header pins tells =
-    (record { header = header; tree = tells.0; pins = pins }, tells.1 ∙ sym (ap free_space (card-tree m)))
+pub tells_card : (m : List ℕ) (format : MemoryFormat) (free : Option FreeSpace) → IsHeaderIn format m → HoldsPins format m
+    → TellsSpace m free → TellsCard m (option_map (λ (free : FreeSpace). record { format = format; free = free }) free)
+tells_card m format None header pins tells = λ words. tells (any_tree m words)
+tells_card m One (Some free) header pins tells = (record { header = header; tree = tells.0; pins = pins }, tells.1)
+tells_card m Two (Some free) header pins tells =
+    (record { header = header; tree = tells.0; pins = pins.0; marks = pins.1.each }, tells.1)
+
+-- and a header without its PINs is no card's
+pub no_pins_no_card : (m : List ℕ) (format : MemoryFormat) → IsHeaderIn format m → ¬ HoldsPins format m → ¬ IsAnyCard m
+no_pins_no_card m One header none = λ words. ⊎_elim
+    (λ (new : IsCard m). let mark = new.header.mark in let old = header.mark in let z : ⊥ = omega (arith, mark, old) in z)
+    (λ (old : IsOldCard m). none old.pins) words
+no_pins_no_card m Two header none = λ words. ⊎_elim
+    (λ (new : IsCard m). none (new.pins, record { each = new.marks }))
+    (λ (old : IsOldCard m). let mark = old.header.mark in let new = header.mark in let z : ⊥ = omega (arith, mark, new) in z)
+    words

@@ -3,19 +3,24 @@ use Rattle.std.proofs.Common.{◌≡◌, ◌⊎◌, ◌<◌, ◌≤◌, ℕ, Boo
 use Rattle.std.proofs.Common.{length, slice_index, All, refl, sym, ◌∙◌, ap, subst, arith, inl, inr, lit<}
 use Rattle.std.proofs.lemmas.Bool.Decides.{eqb_tells}
 use Rattle.nvm_board.specs.Facts.{address}
-use Rattle.nvm_board.specs.declared.board.TheConstants.{WORDS}
+use Rattle.nvm_board.specs.Facts.{IsMemory, pages_of}
 use Rattle.undo_journal.specs.Undo.{gate, undo, pairs, pairs_from, earlier, Pair, IsOutside, IsDataAddress}
 use Rattle.undo_journal.specs.declared.layout.TheConstants.{GATE}
 use Rattle.undo_journal.specs.UndoLaws.{length-undo, length-data_words, undo-at, data_words-outside}
 use Rattle.block_chain.specs.Words.{word}
-use Rattle.file_tree.specs.Trees.{tree_of}
+use Rattle.block_chain.specs.declared.layout.TheConstants.{HEADER_PAGE}
+use Rattle.file_tree.specs.Formats.{SameFormat}
+use Rattle.file_tree.specs.Trees.{tree_of, TreeStands}
+use Rattle.file_tree.specs.declared.layout.TheConstants.{MARK_WORD, PAGES_WORD, STATE_WORD}
 use Rattle.file_tree.specs.Changes.{KeepsTree}
 use Rattle.file_tree.specs.laws.Footprints.{tree_kept}
 use Rattle.card_core.specs.Cards.{Card}
-use Rattle.pin_store.specs.Pages.{pin_page, KeepsPins}
+use Rattle.pin_store.specs.Pages.{pin_page, pin_word, KeepsPins}
+use Rattle.pin_store.specs.declared.layout.TheConstants.{PINS}
+use Rattle.migration.specs.declared.migrating.TheConstants.{PIN_MARK_WORD}
 use Rattle.card_core.specs.Standing.{StandsFor, card_of}
 use Rattle.card_core.specs.Finding.{words_found, Finds}
-use Rattle.card_core.proofs.Keeping.{card-stands, card-after}
+use Rattle.card_core.specs.laws.CardLaws.{any_stands, any_tree, card_after}
 
 no_pairs : (m : List ℕ) → gate m ≡ 0 → pairs m ≡ []
 unfolding pairs_from
@@ -40,44 +45,56 @@ with_tree : (m : List ℕ) → record (card_of m) { tree = tree_of m } ≡ card_
 unfolding card_of
 with_tree m = refl
 
-module _ (m : List ℕ) (sized : length m ≡ WORDS) (shut : gate m ≡ 0) where
+module _ (m : List ℕ) (sized : IsMemory m) (shut : gate m ≡ 0) where
   -- a word of a page outside gate and journal
-  page_found : (page place : ℕ) → (page < 73) ⊎ (128 ≤ page) → page < 1024 → place < 16
+  page_found : (page place : ℕ) → (page < 73) ⊎ (128 ≤ page) → page < pages_of m → place < 16
       → word (words_found m) page place ≡ word m page place
   page_found page place (inl low) high small = word_found m shut (address page place)
-      (omega (arith, sized, high, small)) (inl (omega (arith, low, small)))
+      (omega (arith, sized.whole, high, small)) (inl (omega (arith, low, small)))
   page_found page place (inr behind) high small = word_found m shut (address page place)
-      (omega (arith, sized, high, small)) (inr (omega (arith, behind)))
+      (omega (arith, sized.whole, high, small)) (inr (omega (arith, behind)))
+
+  -- and so each word before them
+  first_found : (page place : ℕ) → page < 73 → place < 16 → word (words_found m) page place ≡ word m page place
+  first_found page place low small = page_found page place (inl low) (omega (arith, low, sized.least)) small
 
   size_found : length (words_found m) ≡ length m
   size_found = length-data_words (undo m) ∙ length-undo m
 
-  tree_found : KeepsTree m (words_found m)
-  tree_found = record {
-    entries = λ page place low high small. page_found page place (inl (omega (arith, high)))
-        (omega (arith, high)) small;
+  format_found : SameFormat m (words_found m)
+  format_found = record {
+    mark = first_found HEADER_PAGE MARK_WORD (lit< tt) (lit< tt);
+    pages = first_found HEADER_PAGE PAGES_WORD (lit< tt) (lit< tt);
+  }
+
+  tree_found : TreeStands m → KeepsTree m (words_found m)
+  tree_found stands = record {
+    entries = λ page place low high small. first_found page place (omega (arith, high)) small;
     blocks = record {
       size = size_found;
-      words = λ page place block small. page_found page place (inr block.0) block.1 small;
-      head = page_found 0 1 (inl (lit< tt)) (lit< tt) (lit< tt);
+      words = λ page place block small. page_found page place (inr block.0)
+          (let within = stands.blocks.inside in omega (arith, block, within)) small;
+      head = first_found 0 1 (lit< tt) (lit< tt);
     };
+    format = format_found;
   }
 
   pub stands-found : (c : Card) → StandsFor m c → Finds m c
   stands-found c stands =
-      let tree = tree_kept m (words_found m) sized tree_found stands.words.tree in
-      let mark = page_found 0 0 (inl (lit< tt)) (lit< tt) (lit< tt) in
-      let state = page_found 0 2 (inl (lit< tt)) (lit< tt) (lit< tt) in
+      let files = any_tree m stands.words in
+      let tree = tree_kept m (words_found m) sized (tree_found files) files in
+      let state = first_found HEADER_PAGE STATE_WORD (lit< tt) (lit< tt) in
       let pins : KeepsPins m (words_found m) = record {
-        words = λ pin place lt small. page_found (pin_page pin) place (inl (omega (arith, lt))) (omega (arith, lt))
-            (omega (arith, small));
+        words = λ pin place lt small. first_found (pin_page pin) place (omega (arith, lt)) (omega (arith, small));
       } in
+      let marks : (pin : ℕ) → pin < PINS → pin_word (words_found m) pin PIN_MARK_WORD ≡ pin_word m pin PIN_MARK_WORD =
+      λ pin lt. first_found (pin_page pin) PIN_MARK_WORD (omega (arith, lt)) (lit< tt) in
       record {
         has_card = record {
           journal = record { room = omega (arith, shut); places = places };
-          words = card-stands m (words_found m) mark state pins stands.words tree.0;
+          words = any_stands m (words_found m) size_found format_found state pins marks stands.words tree.0;
         };
-        card = card-after m (words_found m) mark state pins
+        card = card_after m (words_found m) size_found format_found state pins marks
             ∙ (λ i. record (card_of m) { tree = tree.2 i }) ∙ with_tree m ∙ stands.card;
       }
     where

@@ -1,13 +1,15 @@
 -- The factory's memory stands for the factory's card.
-use Rattle.std.proofs.Common.{◌≡◌, ◌<◌, ◌≤◌, ◌+◌, ◌==◌, ℕ, true, List, [], ◌∷◌, ◌++◌, zero, suc, length, drop, map}
+use Rattle.std.proofs.Common.{◌≡◌, ◌≢◌, ◌<◌, ◌≤◌, ◌+◌, ◌-◌, ◌==◌, ℕ, false, true, List, [], ◌∷◌, ◌++◌, zero, suc, length, drop, map}
 use Rattle.std.proofs.Common.{slice_index}
-use Rattle.std.proofs.Common.{refl, sym, ◌∙◌, ap, ap₂, subst, arith, inl, lit≤, lit<, replicate, Option}
+use Rattle.std.proofs.Common.{refl, sym, ◌∙◌, ap, ap₂, subst, arith, inl, inr, lit≤, lit<, replicate, Option}
 use Rattle.std.proofs.Common.{Some}
 use Rattle.std.specs.List.{flat_map, range_with_len, filter_map, cons_option}
 use Rattle.std.specs.FinMap.{from_entries}
 use Rattle.std.specs.Ordering.{nat_cmp}
 use Rattle.std.specs.Cmp.Lexicographic.{slice_cmp}
-use Rattle.nvm_board.specs.declared.board.TheConstants.{PAGES, WORDS}
+use Rattle.nvm_board.specs.Facts.{IsMemory, pages_of}
+use Rattle.nvm_board.specs.laws.Sizes.{pages_same}
+use Rattle.nvm_board.specs.declared.board.TheConstants.{LEAST_PAGES, MOST_PAGES}
 use Rattle.undo_journal.specs.Undo.{gate}
 use Rattle.block_chain.specs.declared.chain.Extent.{Extent}
 use Rattle.block_chain.specs.Words.{word, link, word_bytes, page_words}
@@ -16,7 +18,11 @@ use Rattle.block_chain.specs.Layout.{AreLaid}
 use Rattle.block_chain.specs.laws.Words.{index-page_words}
 use Rattle.file_tree.specs.declared.entry.Entry.{Entry}
 use Rattle.file_tree.specs.declared.space.FreeSpace.{FreeSpace}
+use Rattle.file_tree.specs.Formats.{block_count, is_format_2}
 use Rattle.file_tree.specs.Spaces.{free_space}
+use Rattle.file_tree.specs.declared.layout.TheConstants.{MARK, MARK_WORD, OLD_END_PAGE, OLD_MARK, PAGES_WORD, STATE_WORD}
+use Rattle.file_tree.specs.laws.Formats.{count_is, end_new, end_old}
+use Rattle.block_chain.specs.declared.layout.TheConstants.{FIRST_BLOCK_PAGE, FREE_HEAD_WORD, HEADER_PAGE}
 use Rattle.file_tree.specs.Entries.{entry_of, file_of}
 use Rattle.file_tree.specs.Table.{table, entry_in, path_of, extents, free_entries, IsTable}
 use Rattle.file_tree.specs.Trees.{content, node, tree_of, TreeStands, file_in}
@@ -26,10 +32,15 @@ use Rattle.file_tree.specs.laws.Nodes.{Node, node-used, node-free}
 use Rattle.file_tree.specs.laws.Costs.{space_counted}
 use Rattle.file_tree.specs.laws.Contents.{content-some}
 use Rattle.pin_store.specs.declared.layout.TheConstants.{PINS}
-use Rattle.pin_store.specs.Pages.{bytes_of_words, pin_at, pin_page, pins_of, ArePinPages}
-use Rattle.card_core.specs.Cards.{Pin}
-use Rattle.card_core.specs.Standing.{IsCard, card_of}
-use Rattle.card_core.specs.Factory.{factory_page, factory_block, factory_pin_page, factory_pin}
+use Rattle.pin_store.specs.Pages.{bytes_of_words, pin_at, pin_page, pin_word, pins_of, ArePinPages}
+use Rattle.migration.specs.declared.migrating.TheConstants.{PIN_MARK_WORD}
+use Rattle.card_core.specs.declared.memory_format.MemoryFormat.{MemoryFormat}
+use Rattle.card_core.specs.declared.memory_format.MemoryFormat.TheVariants.{One, Two}
+use Rattle.card_core.specs.Cards.{card_space, Pin}
+use Rattle.card_core.specs.Standing.{IsAnyCard, IsCard, IsOldCard, card_blocks, card_of, StandsFor}
+use Rattle.card_core.specs.laws.CardLaws.{blocks_new, blocks_old, marked_new, marked_old}
+use Rattle.card_core.specs.Factory.{factory_page, factory_block, factory_end, factory_header, factory_pin_page, factory_pin}
+use Rattle.card_core.specs.Factory.{factory_pin_mark, IsWritten}
 use Rattle.card_core.specs.Factory.{factory_card, factory_tree, factory_space, master_of_factory, file_of_factory}
 use Rattle.card_core.specs.Factory.{IsFactory}
 use Rattle.card_core.proofs.FactoryPages.{blank_page, pin_page_is, free_block_is}
@@ -47,32 +58,110 @@ file_is : (rest : List ℕ) → file_of file_entry (flat_map word_bytes (drop 1 
 unfolding file_of entry_of
 file_is rest = refl
 
-module _ (m : List ℕ) (factory : IsFactory m) where
-  -- a word of the memory is a word of the factory's page
-  place : (page k : ℕ) → page < PAGES → k < 16 → word m page k ≡ slice_index (factory_page page) k
-  place page k lt small = sym (index-page_words m page k small)
-      ∙ ap (λ (words : List ℕ). slice_index words k) (factory page lt)
+-- the words of the header of either format
+header-mark : (format : MemoryFormat) → ℕ
+header-mark One = OLD_MARK
+header-mark Two = MARK
 
-  links : (page : ℕ) → 128 < page → page < PAGES → link m page ≡ next_page (page + 1)
-  links page low high = place page 0 high (lit< tt)
-      ∙ ap (λ (words : List ℕ). slice_index words 0) (free_block_is page low)
+header-first : (format : MemoryFormat) (end : ℕ) → slice_index (factory_header format end) 0 ≡ header-mark format
+header-first One end = refl
+header-first Two end = refl
+
+header-head : (format : MemoryFormat) (end : ℕ) → slice_index (factory_header format end) 1 ≡ 129
+header-head One end = refl
+header-head Two end = refl
+
+header-state : (format : MemoryFormat) (end : ℕ) → slice_index (factory_header format end) 2 ≡ 0
+header-state One end = refl
+header-state Two end = refl
+
+-- where the blocks end
+pub end_inside : (format : MemoryFormat) (m : List ℕ) → IsMemory m → factory_end format m ≤ pages_of m
+end_inside One m sized = let least = sized.least in omega (arith, least)
+end_inside Two m sized = omega arith
+
+pub end_least : (format : MemoryFormat) (m : List ℕ) → IsMemory m → LEAST_PAGES ≤ factory_end format m
+end_least One m sized = omega arith
+end_least Two m sized = sized.least
+
+end_same : (format : MemoryFormat) (m after : List ℕ) → length after ≡ length m → factory_end format after ≡ factory_end format m
+end_same One m after size = refl
+end_same Two m after size = pages_same m after size
+
+-- what was written is the factory's
+pub factory-written : (format : MemoryFormat) (end : ℕ) (m after : List ℕ) → end ≡ factory_end format m
+    → IsWritten format end m after → IsFactory format after
+factory-written format end m after is written =
+    let same : end ≡ factory_end format after = is ∙ sym (end_same format m after written.size) in
+    subst (λ (e : ℕ). (page : ℕ) → page < e → page_words after page ≡ factory_page format e page) same written.pages
+
+module _ (format : MemoryFormat) (m : List ℕ) (sized : IsMemory m) (factory : IsFactory format m) where
+  abbrev end : ℕ
+  end = factory_end format m
+
+  inside : end ≤ pages_of m
+  inside = end_inside format m sized
+
+  least : LEAST_PAGES ≤ end
+  least = end_least format m sized
+
+  most : end ≤ MOST_PAGES
+  most = let within = inside in let all = sized.most in omega (arith, within, all)
+
+  -- the first pages are the factory's in any case
+  page-is : (page : ℕ) → page < 1024 → page_words m page ≡ factory_page format end page
+  page-is page low = factory page (let many = least in omega (arith, low, many))
+
+  -- a word of the memory is a word of the factory's page
+  place : (page k : ℕ) → page < 1024 → k < 16 → word m page k ≡ slice_index (factory_page format end page) k
+  place page k low small = sym (index-page_words m page k small)
+      ∙ ap (λ (words : List ℕ). slice_index words k) (page-is page low)
+
+  head : word m HEADER_PAGE FREE_HEAD_WORD ≡ 129
+  head = place HEADER_PAGE FREE_HEAD_WORD (lit< tt) (lit< tt) ∙ header-head format end
+
+  state-is : word m HEADER_PAGE STATE_WORD ≡ 0
+  state-is = place HEADER_PAGE STATE_WORD (lit< tt) (lit< tt) ∙ header-state format end
+
+  mark-is : word m HEADER_PAGE MARK_WORD ≡ header-mark format
+  mark-is = place HEADER_PAGE MARK_WORD (lit< tt) (lit< tt) ∙ header-first format end
+
+  first-link : link m 128 ≡ 0
+  first-link = place 128 0 (lit< tt) (lit< tt)
+
+  links : (page : ℕ) → 128 < page → page < end → link m page ≡ next_page end (page + 1)
+  links page low high = sym (index-page_words m page 0 (lit< tt))
+      ∙ ap (λ (words : List ℕ). slice_index words 0) (factory page high ∙ free_block_is format end page low)
+
+  -- as many blocks are free
+  abbrev free : ℕ
+  free = end - 129
+
+  as-many : 128 + (free + 1) ≡ end
+  as-many = let many = least in omega (arith, many)
 
   entries : table m ≡ entries_with 62
-  entries = table_is m (factory 1 (lit< tt)) (factory 2 (lit< tt)) (λ page low high.
-      let within : page < PAGES = omega (arith, high) in
+  entries = table_is m (page-is 1 (lit< tt)) (page-is 2 (lit< tt)) (λ page low high.
+      let within : page < 1024 = omega (arith, high) in
       entry_of-free (page_words m page)
-      (ap (λ (words : List ℕ). slice_index words 0) (factory page within
-      ∙ blank_page page low (omega (arith, high)) (inl high))))
+      (ap (λ (words : List ℕ). slice_index words 0) (page-is page within
+      ∙ blank_page format end page low (omega (arith, high)) (inl high))))
 
-  laid : AreLaid m (extents (table m))
-  laid =
-      let are_laid : List Extent → Type 0 = λ es. AreLaid m es in
-      subst are_laid (sym (ap extents entries ∙ extents_are 62))
-      (blocks_laid m links (place 0 1 (lit< tt) (lit< tt)) (place 128 0 (lit< tt) (lit< tt)) 895 refl)
+  -- the header tells where the blocks end
+  pub Counted : Type 0
+  Counted = block_count m ≡ free + 1
 
-  pub tree-stands : TreeStands m
-  tree-stands = let is_table : List Entry → Type 0 = λ t. IsTable t in
-      record { entries = subst is_table (sym entries) (rules_hold 62); blocks = laid }
+  laid : Counted → AreLaid (block_count m) m (extents (table m))
+  laid counted =
+      let are_laid : ℕ → List Extent → Type 0 = λ n es. AreLaid n m es in
+      let here : AreLaid (free + 1) m (extents (table m)) =
+      subst (are_laid (free + 1)) (sym (ap extents entries ∙ extents_are 62))
+      (blocks_laid m end inside least most links head first-link free as-many) in
+      subst (λ (n : ℕ). AreLaid n m (extents (table m))) (sym counted) here
+
+  pub tree-stands : Counted → TreeStands m
+  tree-stands counted = let is_table : List Entry → Type 0 = λ t. IsTable t in
+      record { entries = subst is_table (sym entries) (rules_hold 62); blocks = laid counted }
 
   in_table : (e : ℕ) → entry_in (table m) e ≡ entry_in (entries_with 62) e
   in_table e = ap (λ (t : List Entry). entry_in t e) entries
@@ -80,8 +169,8 @@ module _ (m : List ℕ) (factory : IsFactory m) where
   bytes_are : content m file_entry ≡ flat_map word_bytes (drop 1 factory_block) ++ []
   unfolding entry_of bytes_of
   bytes_are = content-some m file_entry (lit≤ tt)
-      ∙ ap (bytes_of m) (one_is m links (place 0 1 (lit< tt) (lit< tt)) (place 128 0 (lit< tt) (lit< tt)) 895 refl)
-      ∙ ap (λ (words : List ℕ). flat_map word_bytes (drop 1 words) ++ []) (factory 128 (lit< tt))
+      ∙ ap (bytes_of m) (one_is m end inside least most links head first-link free as-many)
+      ∙ ap (λ (words : List ℕ). flat_map word_bytes (drop 1 words) ++ []) (page-is 128 (lit< tt))
 
   master_node : node m 0 ≡ Some ([], master_of_factory)
   master_node = node-used m 0 (λ none. let is = ap (λ (x : Entry). x.kind) (in_table 0) ∙ master_kind 62 in
@@ -115,56 +204,55 @@ module _ (m : List ℕ) (factory : IsFactory m) where
       (ap₂ (λ (o : Option Node) (ns : List Node). cons_option o ns) master_node
       (ap₂ (λ (o : Option Node) (ns : List Node). cons_option o ns) file_node (no_nodes 2 62 (lit≤ tt))))
 
-  pub space-factory : length m ≡ WORDS → free_space (tree_of m) ≡ factory_space
-  space-factory sized =
-      let blocks : length (free_chain m) ≡ 895 =
-      free_long m links (place 0 1 (lit< tt) (lit< tt)) (place 128 0 (lit< tt) (lit< tt)) 895 refl in
-      let free : free_entries (table m) ≡ 62 = ap free_entries entries ∙ free_ones 62 in
-      let counted : ◌≡◌ {A = FreeSpace} (record { blocks = length (free_chain m); entries = free_entries (table m) })
-      factory_space =
-      (λ i. record { blocks = blocks i; entries = free i }) in
-      space_counted m sized tree-stands ∙ counted
+  -- what is free on the factory's card, by what is free in this memory
+  pub space-factory : Counted → card_space (factory_card m) ≡ factory_space m
+  space-factory counted =
+      let tree = tree-factory in
+      let blocks_free : length (free_chain m) ≡ free =
+      free_long m end inside least most links head first-link free as-many in
+      let entries_free : free_entries (table m) ≡ 62 = ap free_entries entries ∙ free_ones 62 in
+      let space : free_space (block_count m) factory_tree
+      ≡ record { blocks = length (free_chain m); entries = free_entries (table m) } =
+      sym (ap (free_space (block_count m)) tree) ∙ space_counted m sized (tree-stands counted) in
+      let some = ap (λ (s : FreeSpace). s.blocks) space ∙ blocks_free in
+      let entries_are = ap (λ (s : FreeSpace). s.entries) space ∙ entries_free in
+      let many = least in
+      let all = inside in
+      let blocks : (card_space (factory_card m)).blocks ≡ (factory_space m).blocks = omega (arith, some, counted, many, all) in
+      λ i. record { blocks = blocks i; entries = entries_are i }
 
-  pin_words : (pin : ℕ) → pin < PINS → page_words m (pin_page pin) ≡ factory_pin_page
-  pin_words pin lt = factory (pin_page pin) (omega (arith, lt))
-      ∙ pin_page_is (pin_page pin) (omega arith) (omega (arith, lt))
+  pin_words : (pin : ℕ) → pin < PINS → page_words m (pin_page pin) ≡ factory_pin_page format
+  pin_words pin lt = page-is (pin_page pin) (omega (arith, lt))
+      ∙ pin_page_is format end (pin_page pin) (omega arith) (omega (arith, lt))
 
-  pin_word : (pin k : ℕ) → pin < PINS → k < 16 → word m (pin_page pin) k ≡ slice_index factory_pin_page k
-  pin_word pin k lt small =
+  pin_word_is : (pin k : ℕ) → pin < PINS → k < 16 → pin_word m pin k ≡ slice_index (factory_pin_page format) k
+  pin_word_is pin k lt small =
       sym (index-page_words m (pin_page pin) k small)
       ∙ ap (λ (words : List ℕ). slice_index words k) (pin_words pin lt)
 
   pins : ArePinPages m
   pins = record {
     each = λ pin lt. record {
-      tries = let is = pin_word pin 0 lt (lit< tt) in omega (arith, is);
-      unblocking_tries = let is = pin_word pin 1 lt (lit< tt) in omega (arith, is);
+      tries = let is = pin_word_is pin 0 lt (lit< tt) in omega (arith, is);
+      unblocking_tries = let is = pin_word_is pin 1 lt (lit< tt) in omega (arith, is);
     };
   }
+
+  mark-of : (pin : ℕ) → pin < PINS → pin_word m pin PIN_MARK_WORD ≡ factory_pin_mark format
+  mark-of pin lt = pin_word_is pin PIN_MARK_WORD lt (lit< tt)
 
   pub gate-factory : gate m ≡ 0
   gate-factory = place 73 0 (lit< tt) (lit< tt)
 
-  pub words-factory : IsCard m
-  words-factory = record {
-    header = record {
-      mark = place 0 0 (lit< tt) (lit< tt);
-      state = let is = place 0 2 (lit< tt) (lit< tt) in
-          omega (arith, is);
-    };
-    tree = tree-stands;
-    pins = pins;
-  }
-
   pin-is : (pin : ℕ) → pin < PINS → pin_at m pin ≡ factory_pin
   unfolding pin_at
   pin-is pin lt =
-      let tries = pin_word pin 0 lt (lit< tt) in
-      let unblocking_tries = pin_word pin 1 lt (lit< tt) in
-      let first = pin_word pin 2 lt (lit< tt) in
-      let second = pin_word pin 3 lt (lit< tt) in
-      let third = pin_word pin 4 lt (lit< tt) in
-      let fourth = pin_word pin 5 lt (lit< tt) in
+      let tries = pin_word_is pin 0 lt (lit< tt) in
+      let unblocking_tries = pin_word_is pin 1 lt (lit< tt) in
+      let first = pin_word_is pin 2 lt (lit< tt) in
+      let second = pin_word_is pin 3 lt (lit< tt) in
+      let third = pin_word_is pin 4 lt (lit< tt) in
+      let fourth = pin_word_is pin 5 lt (lit< tt) in
       λ i. record {
         value = bytes_of_words (first i) (second i);
         tries = tries i;
@@ -177,9 +265,95 @@ module _ (m : List ℕ) (factory : IsFactory m) where
   pins_from a (suc n) le = ap₂ (λ (pin : Pin) (rest : List Pin). pin ∷ rest) (pin-is a (omega (arith, le)))
       (pins_from (a + 1) n (omega (arith, le)))
 
-  pub card-factory : card_of m ≡ factory_card
+  card-by-blocks : card_blocks m ≡ pages_of m - 128 → card_of m ≡ factory_card m
   unfolding card_of pins_of
-  card-factory =
-      let state : (word m 0 2 == 0) ≡ true = ap (λ (w : ℕ). w == 0) (place 0 2 (lit< tt) (lit< tt)) in
+  card-by-blocks blocks =
+      let state : (word m HEADER_PAGE STATE_WORD == 0) ≡ true = ap (λ (w : ℕ). w == 0) state-is in
       let all = pins_from 0 8 (lit≤ tt) in
-      λ i. record { tree = tree-factory i; pins = all i; in_use = state i }
+      let tree = tree-factory in
+      λ i. record { tree = tree i; pins = all i; in_use = state i; blocks = blocks i }
+
+-- of format 1 the blocks end at page 1,024
+module _ (m : List ℕ) (sized : IsMemory m) (factory : IsFactory One m) where
+  differs : word m HEADER_PAGE MARK_WORD ≢ MARK
+  differs = λ is. let old = mark-is One m sized factory in let z : ⊥ = omega (arith, is, old) in z
+
+  counted-one : Counted One m sized factory
+  counted-one =
+      let count = count_is m in
+      let end = end_old m differs in
+      omega (arith, count, end)
+
+  words-one : IsOldCard m
+  words-one = record {
+    header = record {
+      mark = mark-is One m sized factory;
+      state = let is = state-is One m sized factory in omega (arith, is);
+    };
+    tree = tree-stands One m sized factory counted-one;
+    pins = pins One m sized factory;
+  }
+
+  blocks-one : card_blocks m ≡ pages_of m - 128
+  blocks-one = blocks_old m (marked_old m differs)
+
+-- and of format 2 where the header says
+module _ (m : List ℕ) (sized : IsMemory m) (factory : IsFactory Two m) where
+  is-new : word m HEADER_PAGE MARK_WORD ≡ MARK
+  is-new = mark-is Two m sized factory
+
+  told-end : word m HEADER_PAGE PAGES_WORD ≡ pages_of m
+  told-end = place Two m sized factory HEADER_PAGE PAGES_WORD (lit< tt) (lit< tt)
+
+  counted-two : Counted Two m sized factory
+  counted-two =
+      let count = count_is m in
+      let end = end_new m is-new in
+      let told = told-end in
+      let least = sized.least in
+      omega (arith, count, end, told, least)
+
+  words-two : IsCard m
+  words-two = record {
+    header = record {
+      mark = is-new;
+      end = let told = told-end in let least = sized.least in omega (arith, told, least);
+      state = let is = state-is Two m sized factory in omega (arith, is);
+    };
+    tree = tree-stands Two m sized factory counted-two;
+    pins = pins Two m sized factory;
+    marks = λ pin lt. mark-of Two m sized factory pin lt;
+  }
+
+  blocks-two : card_blocks m ≡ pages_of m - 128
+  blocks-two =
+      let was = blocks_new m (marked_new m is-new) in
+      let count = count_is m in
+      let end = end_new m is-new in
+      let told = told-end in
+      omega (arith, was, count, end, told)
+
+pub words-factory : (format : MemoryFormat) (m : List ℕ) → IsMemory m → IsFactory format m → IsAnyCard m
+words-factory One m sized factory = inr (words-one m sized factory)
+words-factory Two m sized factory = inl (words-two m sized factory)
+
+counted : (format : MemoryFormat) (m : List ℕ) (sized : IsMemory m) (factory : IsFactory format m)
+    → Counted format m sized factory
+counted One m sized factory = counted-one m sized factory
+counted Two m sized factory = counted-two m sized factory
+
+pub space-of-factory : (format : MemoryFormat) (m : List ℕ) → IsMemory m → IsFactory format m
+    → card_space (factory_card m) ≡ factory_space m
+space-of-factory format m sized factory = space-factory format m sized factory (counted format m sized factory)
+
+blocks-are : (format : MemoryFormat) (m : List ℕ) → IsMemory m → IsFactory format m → card_blocks m ≡ pages_of m - 128
+blocks-are One m sized factory = blocks-one m sized factory
+blocks-are Two m sized factory = blocks-two m sized factory
+
+-- The factory's memory stands for the factory's card.
+pub stands-factory : (format : MemoryFormat) (m : List ℕ) → IsMemory m → IsFactory format m → StandsFor m (factory_card m)
+stands-factory format m sized factory = record {
+  shut = gate-factory format m sized factory;
+  words = words-factory format m sized factory;
+  card = card-by-blocks format m sized factory (blocks-are format m sized factory);
+}

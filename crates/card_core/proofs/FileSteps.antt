@@ -145,18 +145,18 @@ module _ (c : Card) (s : Session) (template : List ℕ) where
       create-denied denied = by_rule false denied
 
       module _ (permitted : allowed c s s.current_df (creation_bit fcp.kind) ≡ true) where
-        refusal-is : refused_by (create_refusals c s template) ≡ creation_refusal c.tree s.current_df fcp
+        refusal-is : refused_by (create_refusals c s template) ≡ creation_refusal c.blocks c.tree s.current_df fcp
         refusal-is =
             by_rule true permitted
             ∙ five (exists c.tree (s.current_df ++ fcp.identifier ∷ [])) (has_name c.tree (name_bytes fcp.kind))
             (has_short_given c.tree s.current_df (short_of_kind fcp.kind)) (length s.current_df == 7)
-            (has_no_room c.tree fcp.kind)
+            (has_no_room c.blocks c.tree fcp.kind)
 
-        pub create-refused : (status : Sw) → creation_refusal c.tree s.current_df fcp ≡ Some status
+        pub create-refused : (status : Sw) → creation_refusal c.blocks c.tree s.current_df fcp ≡ Some status
             → served c s (create_file template) ≡ refused c s status
         create-refused status refuses = create-refusal status (refusal-is ∙ refuses)
 
-        pub create-unrefused : creation_refusal c.tree s.current_df fcp ≡ None
+        pub create-unrefused : creation_refusal c.blocks c.tree s.current_df fcp ≡ None
             → refused_by (refusals_of c s (create_file template)) ≡ None
         unfolding refusals_of
         create-unrefused none = refusal-is ∙ none
@@ -168,7 +168,7 @@ module _ (c : Card) (s : Session) (template : List ℕ) where
         unfolding commits
         create-commits = ap (λ (d : Card). d ∷ []) create-card
 
-        pub create-done : creation_refusal c.tree s.current_df fcp ≡ None
+        pub create-done : creation_refusal c.blocks c.tree s.current_df fcp ≡ None
             → served c s (create_file template) ≡ new_outcome c s fcp
         unfolding effect
         create-done none =

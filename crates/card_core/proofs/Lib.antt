@@ -28,6 +28,7 @@ pub mod Attempts
 pub mod Carrying
 pub mod Serving
 pub mod Powers
+pub mod Migrated
 pub mod Commanding
 pub mod SpaceKept
 pub mod FactoryPages

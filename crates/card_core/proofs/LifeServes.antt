@@ -2,7 +2,7 @@
 use Rattle.std.proofs.Common.{refl, ◌≡◌, ◌⊎◌, ℕ, List, [], length, Some, Result, Ok, Err, sym, ◌∙◌, ap, subst, arith, inl, inr, ⊎_elim, true≢false}
 use Rattle.std.proofs.lemmas.Bool.{cases_eq}
 use Rattle.std.specs.Result.{result_err, IsErr}
-use Rattle.nvm_board.specs.declared.board.TheConstants.{WORDS}
+use Rattle.nvm_board.specs.Facts.{IsMemory}
 use Rattle.card_rules.specs.LifeCycle.{life_cycle_byte}
 use Rattle.card_rules.specs.declared.status.Sw.{Sw}
 use Rattle.card_rules.specs.declared.status.TheConstants.Sw.{DONE}
@@ -62,7 +62,7 @@ module _ (old mid new : Memory) (ready : IsReady old) (words : IsCard (committed
   abbrev request : Request
   request = change_life_cycle change subject
 
-  sized : length m ≡ WORDS
+  sized : IsMemory m
   sized = ready.usable.committed_size
 
   same : committed mid ≡ m

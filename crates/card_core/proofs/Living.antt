@@ -6,7 +6,8 @@ use Rattle.std.proofs.lemmas.Bool.{cases_eq, ne_eqb}
 use Rattle.std.proofs.lemmas.List.Sums.{sum_by-cons}
 use Rattle.std.specs.List.{count_by}
 use Rattle.std.specs.Result.{result_err}
-use Rattle.nvm_board.specs.declared.board.TheConstants.{WORDS}
+use Rattle.nvm_board.specs.Facts.{IsMemory}
+use Rattle.nvm_board.specs.laws.Sizes.{memory_same}
 use Rattle.card_rules.specs.LifeCycle.{life_cycle_at, life_cycle_byte}
 use Rattle.card_rules.specs.declared.life_cycle.LifeCycle.{LifeCycle}
 use Rattle.card_rules.specs.declared.status.Sw.{Sw}
@@ -19,7 +20,8 @@ use Rattle.file_tree.specs.declared.entry.Entry.{Entry}
 use Rattle.file_tree.specs.Cards.{Body, File, Tree}
 use Rattle.file_tree.specs.Entries.{file_of, free_entry}
 use Rattle.file_tree.specs.States.{is_allowed, life_at, next_life, ChangesLife}
-use Rattle.file_tree.specs.Spaces.{free_space}
+use Rattle.card_core.specs.Cards.{card_space}
+use Rattle.card_core.specs.laws.CardLaws.{card_space_is}
 use Rattle.file_tree.specs.Table.{table, entry_in, free_entries, path_of, IsUsed}
 use Rattle.file_tree.specs.Trees.{tree_of, file_in}
 use Rattle.file_tree.specs.laws.Costs.{space_counted}
@@ -235,7 +237,7 @@ same-state one other same =
     ap (λ (o : Option LifeCycle). unwrap_or o one) (sym (life_again one) ∙ ap life_cycle_at same ∙ life_again other)
 
 -- A change that nothing refuses: what it does to the card and to the session.
-module _ (m : List ℕ) (sized : length m ≡ WORDS) (words : IsCard m) (x : Current) (current : IsCurrent (table m) x)
+module _ (m : List ℕ) (sized : IsMemory m) (words : IsCard m) (x : Current) (current : IsCurrent (table m) x)
     (change : LifeCycleChange) (subject : Subject) (changed : Changed) (found : IsChanged m x change subject changed) where
   abbrev before : Card
   before = card_of m
@@ -350,13 +352,13 @@ module _ (m : List ℕ) (sized : length m ≡ WORDS) (words : IsCard m) (x : Cur
         (current-entry after changed-stands e used x current.marks)
 
     -- what is free stays
-    pub changed-space : free_space (card_of after).tree ≡ free_space before.tree
+    pub changed-space : card_space (card_of after) ≡ card_space before
     changed-space =
-        let sized_after : length after ≡ WORDS = changes.rest.size ∙ sized in
+        let sized_after : IsMemory after = memory_same _ _ changes.rest.size sized in
         let long : length (table after) ≡ length (table m) = length-table after ∙ sym (length-table m) in
         let entries : free_entries (table after) ≡ free_entries (table m) =
         count-alike (λ (y : Entry). y.kind == 0) free_entry (table after) (table m) long
         (λ f. ap (λ (kind : ℕ). kind == 0) (kind-kept f)) in
-        ap free_space (card-tree after) ∙ space_counted after sized_after changes.stands
+        card_space_is after changed-stands ∙ space_counted after sized_after changes.stands
         ∙ ap₂ (λ (free : List ℕ) (n : ℕ). record { blocks = length free; entries = n }) changes.free entries
-        ∙ sym (ap free_space (card-tree m) ∙ space_counted m sized words.tree)
+        ∙ sym (card_space_is m words ∙ space_counted m sized words.tree)

@@ -8,10 +8,9 @@ use Rattle.undo_journal.specs.declared.error.StoreErr.{StoreErr}
 use Rattle.undo_journal.specs.Calls.{OnlyReads}
 use Rattle.undo_journal.specs.Memory.{Memory}
 use Rattle.file_tree.specs.declared.space.FreeSpace.{FreeSpace}
-use Rattle.file_tree.specs.Spaces.{free_space}
 use Rattle.apdu_core.specs.Requests.{Request}
 use Rattle.card_core.specs.declared.current.Current.{Current}
-use Rattle.card_core.specs.Cards.{Card}
+use Rattle.card_core.specs.Cards.{Card, card_space}
 use Rattle.card_core.specs.Attempts.{attempt_commits, charged_card, is_right, settled_card, Attempt}
 use Rattle.card_core.specs.Pins.{pin_commits}
 use Rattle.card_core.specs.Served.{IsDoing, Serves}
@@ -22,7 +21,7 @@ use Rattle.card_core.proofs.SpaceKept.{space-same}
 
 -- each of these cards has the files of a card
 abbrev pub HaveFilesOf : Card → List Card → Type 0
-HaveFilesOf c cards = AllByRecursion (λ (d : Card). d.tree ≡ c.tree) cards
+HaveFilesOf c cards = AllByRecursion (λ (d : Card). card_space d ≡ card_space c) cards
 
 pub space_left : (request : Request) (old : Memory) (x : Current) (new : Memory) (y : Current) (text : List ℕ)
     (result : Result Sw StoreErr) (free : FreeSpace) → Serves request old x new y text result
@@ -34,9 +33,9 @@ space_left request old x new y text result free serves all counted =
     let every : HaveFilesOf c stages = (refl, all) in
     let same : space_in new ≡ space_in old = ⊎_elim
     (λ (reads : OnlyReads old new). space-same old new reads.keeps.committed_words)
-    (λ (doing : IsDoing c (session_in old x) request (card_in new)). ap free_space
-    (All-contains (λ (d : Card). d.tree ≡ c.tree) stages (card_in new)
-    (All-from_recursion (λ (d : Card). d.tree ≡ c.tree) stages every) doing.card)) serves.stage in
+    (λ (doing : IsDoing c (session_in old x) request (card_in new)).
+    All-contains (λ (d : Card). card_space d ≡ card_space c) stages (card_in new)
+    (All-from_recursion (λ (d : Card). card_space d ≡ card_space c) stages every) doing.card) serves.stage in
     ok_anyway _ result (counted ∙ sym same)
 
 -- as those of an attempt on a PIN do

@@ -2,7 +2,7 @@
 use Rattle.std.proofs.Common.{◌≡◌, ◌≢◌, ◌==◌, ◌≤◌, ℕ, Bool, true, false, List, take, length, Option, Some, None, refl, sym}
 use Rattle.std.proofs.Common.{◌∙◌, ap, arith, if◌then◌else◌, ⊎_elim}
 use Rattle.std.proofs.lemmas.Bool.{cases_eq}
-use Rattle.nvm_board.specs.declared.board.TheConstants.{WORDS}
+use Rattle.nvm_board.specs.Facts.{IsMemory}
 use Rattle.apdu_core.specs.declared.binary.Target.{Target}
 use Rattle.file_tree.specs.declared.entry.Entry.{Entry}
 use Rattle.file_tree.specs.Cards.{Kind, transparent, linear, cyclic, dedicated, elementary}
@@ -90,7 +90,7 @@ free-fits false true permitted none = refl
 free-fits false false permitted none = cc
 
 -- what refuses a command on contents, by the entry of the file that it names
-module _ (m : List ℕ) (sized : length m ≡ WORDS) (words : IsCard m) (x : Current) (target : Target) (need : Need) (e : ℕ)
+module _ (m : List ℕ) (sized : IsMemory m) (words : IsCard m) (x : Current) (target : Target) (need : Need) (e : ℕ)
     (file : IsElementary (table m) x.df e)
     (place : target_of (card_of m).tree (session_of (table m) x) target ≡ Some (path_of (table m) e)) where
   abbrev c : Card

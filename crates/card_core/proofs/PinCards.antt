@@ -1,20 +1,25 @@
 -- A PIN is set in a memory that stands for a card.
-use Rattle.std.proofs.Common.{◌≡◌, ◌⊎◌, ◌<◌, ◌≤◌, ◌+◌, ◌-◌, ◌==◌, ℕ, List, length, ◌∙◌, arith, inl, inr, lit<}
+use Rattle.std.proofs.Common.{◌≡◌, ◌⊎◌, ◌<◌, ◌≤◌, ◌+◌, ◌-◌, ◌==◌, ℕ, List, length, ◌∙◌, arith, inl, inr, lit<, ⊎_elim}
 use Rattle.std.proofs.Common.{slice_index_or}
 use Rattle.std.proofs.lemmas.List.FromFn.{get_or-map-range_with_len}
+use Rattle.std.proofs.lemmas.Bool.{cases_lt}
 use Rattle.nvm_board.specs.Facts.{address}
-use Rattle.nvm_board.specs.declared.board.TheConstants.{WORDS}
+use Rattle.nvm_board.specs.Facts.{IsMemory}
 use Rattle.block_chain.specs.Words.{word}
 use Rattle.file_tree.specs.Table.{table}
 use Rattle.file_tree.specs.Changes.{KeepsTree}
+use Rattle.file_tree.specs.Formats.{SameFormat}
+use Rattle.file_tree.specs.declared.layout.TheConstants.{MARK_WORD, PAGES_WORD}
 use Rattle.file_tree.specs.laws.Footprints.{tree_kept}
 use Rattle.card_rules.specs.Pins.{IsPinNumber}
-use Rattle.pin_store.specs.Pages.{pin_at, pin_page, pins_of, ArePinPages, SetsPin}
+use Rattle.pin_store.specs.Pages.{pin_at, pin_page, pin_word, pins_of, ArePinPages, SetsPin}
 use Rattle.pin_store.specs.declared.layout.TheConstants.{PINS, PIN_WORDS}
 use Rattle.pin_store.specs.laws.AllPins.{pins_set}
 use Rattle.card_core.specs.Cards.{Pin}
 use Rattle.card_core.specs.Attempts.{no_pin, pin_of, with_pin_of}
+use Rattle.migration.specs.declared.migrating.TheConstants.{PIN_MARK_WORD}
 use Rattle.card_core.specs.Standing.{card_of, IsCard}
+use Rattle.card_core.specs.laws.CardLaws.{blocks_same}
 
 -- PIN n of the card is the one of its page
 pin-placed : (m : List ℕ) (k : ℕ) → k < PINS → slice_index_or (pins_of m) k no_pin ≡ pin_at m k
@@ -28,7 +33,7 @@ pin-is m n number =
     let last = number.last in
     pin-placed m (n - 1) (omega (arith, first, last))
 
-module _ (m after : List ℕ) (sized : length m ≡ WORDS) (words : IsCard m) (n : ℕ) (number : IsPinNumber n) (now : Pin)
+module _ (m after : List ℕ) (sized : IsMemory m) (words : IsCard m) (n : ℕ) (number : IsPinNumber n) (now : Pin)
     (sets : SetsPin m (n - 1) now after) where
   small : n - 1 < PINS
   small =
@@ -46,6 +51,23 @@ module _ (m after : List ℕ) (sized : length m ≡ WORDS) (words : IsCard m) (n
       let le : address (pin_page (n - 1)) PIN_WORDS ≤ address page place = omega (arith, high, within) in
       sets.elsewhere (address page place) (inr le)
 
+  -- nor any mark of a PIN
+  mark-kept : (pin : ℕ) → pin < PINS → pin_word after pin PIN_MARK_WORD ≡ pin_word m pin PIN_MARK_WORD
+  mark-kept pin lt = ⊎_elim
+      (λ (low : pin < n - 1).
+      let before : address (pin_page pin) PIN_MARK_WORD < address (pin_page (n - 1)) 0 = omega (arith, low) in
+      sets.elsewhere (address (pin_page pin) PIN_MARK_WORD) (inl before))
+      (λ (high : n - 1 ≤ pin).
+      let behind : address (pin_page (n - 1)) PIN_WORDS ≤ address (pin_page pin) PIN_MARK_WORD = omega (arith, high) in
+      sets.elsewhere (address (pin_page pin) PIN_MARK_WORD) (inr behind))
+      (cases_lt pin (n - 1))
+
+  format : SameFormat m after
+  format = record {
+    mark = word-kept 0 MARK_WORD (inl (lit< tt)) (lit< tt);
+    pages = word-kept 0 PAGES_WORD (inl (lit< tt)) (lit< tt);
+  }
+
   tree-words : KeepsTree m after
   tree-words = record {
     entries = λ page place from below few. word-kept page place (inl below) few;
@@ -54,6 +76,7 @@ module _ (m after : List ℕ) (sized : length m ≡ WORDS) (words : IsCard m) (n
       words = λ page place block few. word-kept page place (inr block.0) few;
       head = word-kept 0 1 (inl (lit< tt)) (lit< tt);
     };
+    format = format;
   }
 
   state : word after 0 2 ≡ word m 0 2
@@ -64,20 +87,24 @@ module _ (m after : List ℕ) (sized : length m ≡ WORDS) (words : IsCard m) (n
   unfolding card_of
   pin-set =
       let kept = tree_kept m after sized tree-words words.tree in
+      let blocks = blocks_same m after sets.size format in
       λ i. record {
         tree = kept.2 i;
         pins = pins_set m after (n - 1) now small sets i;
         in_use = state i == 0;
+        blocks = blocks i;
       }
 
   pub pin-stands : ArePinPages after → IsCard after
   pin-stands pages = record {
     header = record {
-      mark = word-kept 0 0 (inl (lit< tt)) (lit< tt) ∙ words.header.mark;
+      mark = format.mark ∙ words.header.mark;
+      end = let was = words.header.end in let is = format.pages in omega (arith, is, was);
       state = let was = words.header.state in let is = state in omega (arith, is, was);
     };
     tree = (tree_kept m after sized tree-words words.tree).0;
     pins = pages;
+    marks = λ pin lt. mark-kept pin lt ∙ words.marks pin lt;
   }
 
   pub pin-table : table after ≡ table m

@@ -10,14 +10,13 @@ use Rattle.undo_journal.specs.declared.error.StoreErr.TheVariants.{PowerLost, Fa
 use Rattle.undo_journal.specs.declared.error.OpenFault.{OpenFault}
 use Rattle.undo_journal.specs.declared.error.OpenFault.TheVariants as opening
 use Rattle.undo_journal.specs.Memory.{committed, FailsBy as StoreFailsBy, IsReady, Memory, OpensNot, Reports}
-use Rattle.undo_journal.specs.Calls.{Reads, UnlessFailed}
+use Rattle.undo_journal.specs.Calls.{Changes, UnlessFailed}
 use Rattle.undo_journal.specs.Undo.{IsSound}
 use Rattle.file_tree.specs.declared.space.FreeSpace.{FreeSpace}
 use Rattle.card_core.specs.declared.faults.StartFault.TheVariants.{Damaged}
-use Rattle.file_tree.specs.Spaces.{free_space}
-use Rattle.card_core.specs.Finding.{words_found, FindsAgain, HasCard}
-use Rattle.card_core.specs.Standing.{card_of, IsCard}
-use Rattle.card_core.specs.Working.{fresh_current, space_in, IsKept, TellsCard}
+use Rattle.card_core.specs.Finding.{words_found, HasCard}
+use Rattle.card_core.specs.Standing.{IsAnyCard}
+use Rattle.card_core.specs.Working.{fresh_current, space_in, IsKept, TellsRenewed}
 use Rattle.card_core.specs.declared.faults.StartFault.{StartFault}
 use Rattle.card_core.specs.StartFaults.{fault_of_open, fault_of_store}
 use Rattle.card_core.specs.Running.{StartStopsBy}
@@ -96,7 +95,7 @@ found-there (Err e) result free tells is = let never = sym tells ∙ is in cc
 pub stops-found : (first : Facts) (opened last : Memory) → Steady first opened.facts → IsSound first.words
     → committed opened ≡ words_found first.words → opened.failed ≡ None → Reports opened last
     → (found : Result (Option FreeSpace) StoreErr) (result : Result FreeSpace StartFault) (stop : StartFault)
-    → Found found result → result ≡ Err stop → IfOk found (TellsCard (committed opened))
+    → Found found result → result ≡ Err stop → IfOk found (TellsRenewed (committed opened) (committed last))
     → last.failed ≡ result_err found → StartStopsBy stop first last.facts
 stops-found first opened last light sound words works reports (Ok (Some space)) result stop tells is card failed =
     let never = sym tells ∙ is in cc
@@ -106,7 +105,7 @@ stops-found first opened last light sound words works reports (Ok None) result s
     let still = (reports.works failed).1 in
     subst (λ (f : StartFault). StartStopsBy f first last.facts) damaged (
       sound,
-      λ stands. card (subst IsCard (sym words) stands),
+      λ stands. card (subst IsAnyCard (sym words) stands),
       record {
         was_lit = light.was_lit;
         lit = still.dark ∙ light.lit;
@@ -127,26 +126,19 @@ stops-opening opening.PowerLost stop a b is stops = subst (λ (f : StartFault). 
 stops-opening opening.Fault stop a b is stops = subst (λ (f : StartFault). StartStopsBy f a b) (sym is) stops
 stops-opening opening.BadJournal stop a b is stops = subst (λ (f : StartFault). StartStopsBy f a b) (sym is) stops
 
--- What is found after an opening, and reads behind it: `first` is the board before them, `opened` and `last` are the store.
-pub found-again : (first : List ℕ) (opened last : Memory) → committed last ≡ committed opened
-    → committed opened ≡ words_found first → IsSound first → IsSound last.facts.words
-    → FindsAgain first last.facts.words
-found-again first opened last kept undone sound still =
-    record { words = kept ∙ undone; journal = (λ there. sound, λ there. still) }
-
 -- the card of a start is found, its store is ready, and its free space is what was told
-pub starts-kept : (opened last : Memory) (free : FreeSpace) (found : Result (Option FreeSpace) StoreErr)
-    → found ≡ Ok (Some free) → IsSound opened.facts.words → IfOk found (TellsCard (committed opened))
-    → Reads opened last (result_err found) → HasCard last.facts.words × IsKept last fresh_current × (free ≡ space_in last)
-starts-kept opened last free found is sound card reads =
-    let told = subst (λ (r : Result (Option FreeSpace) StoreErr). IfOk r (TellsCard (committed opened))) is card in
-    let same = sym reads.only.keeps.committed_words in
-    let stands = subst IsCard same told.0 in (
-      record { journal = reads.only.reports.sound sound; words = stands },
+pub starts-kept : (opened last : Memory) (n : ℕ) (free : FreeSpace) (found : Result (Option FreeSpace) StoreErr)
+    → found ≡ Ok (Some free) → IsSound opened.facts.words
+    → IfOk found (TellsRenewed (committed opened) (committed last)) → Changes n opened last (result_err found)
+    → HasCard last.facts.words × IsKept last fresh_current × (free ≡ space_in last)
+starts-kept opened last n free found is sound card changes =
+    let told = subst (λ (r : Result (Option FreeSpace) StoreErr). IfOk r (TellsRenewed (committed opened) (committed last)))
+    is card in (
+      record { journal = changes.reports.sound sound; words = inl told.1 },
       record {
-        ready = subst (λ (r : Result (Option FreeSpace) StoreErr). UnlessFailed (result_err r) (IsReady last)) is reads.ready;
-        card = stands;
-        current = record { df = stands.tree.entries.master.kind; ef = tt; marks = refl };
+        ready = subst (λ (r : Result (Option FreeSpace) StoreErr). UnlessFailed (result_err r) (IsReady last)) is changes.ready;
+        card = told.1;
+        current = record { df = told.1.tree.entries.master.kind; ef = tt; marks = refl };
       },
-      told.1 ∙ ap (λ (l : List ℕ). free_space (card_of l).tree) same,
+      told.2,
     )

@@ -6,7 +6,7 @@ use Rattle.std.proofs.Common.{slice_index, Option, Some, None, if◌then◌else�
 use Rattle.std.proofs.Common.{⊎_elim, true≢false, is_some, unwrap_or}
 use Rattle.std.proofs.lemmas.Bool.{ne_eqb, cases_eq, leb-false, leb-true}
 use Rattle.std.proofs.lemmas.List.FromFn.{length-map-range_with_len}
-use Rattle.nvm_board.specs.declared.board.TheConstants.{WORDS}
+use Rattle.nvm_board.specs.Facts.{IsMemory}
 use Rattle.block_chain.specs.Words.{page_words}
 use Rattle.block_chain.specs.laws.Words.{index-page_words}
 use Rattle.block_chain.specs.Chains.{chain_bytes}
@@ -46,7 +46,7 @@ pub record Agree (m : List ℕ) (kind : Kind) (body : RecordBody) : Type 0 where
   pub number : length (records_of kind) ≡ count_in body
   pub stands : IsBodyIn m body
 
-module _ (m : List ℕ) (sized : length m ≡ WORDS) (words : IsCard m) (e : ℕ) (used : IsUsed (table m) e) where
+module _ (m : List ℕ) (sized : IsMemory m) (words : IsCard m) (e : ℕ) (used : IsUsed (table m) e) where
   abbrev x : Entry
   x = entry_in (table m) e
 

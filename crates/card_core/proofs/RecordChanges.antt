@@ -7,7 +7,8 @@ use Rattle.std.proofs.lemmas.Bool.{cases_eq, ne_eqb}
 use Rattle.std.specs.FinMap.{insert}
 use Rattle.std.proofs.Math.Nat.{mod-lt}
 use Rattle.nvm_board.specs.Facts.{address}
-use Rattle.nvm_board.specs.declared.board.TheConstants.{WORDS}
+use Rattle.nvm_board.specs.Facts.{IsMemory}
+use Rattle.nvm_board.specs.laws.Sizes.{memory_same}
 use Rattle.block_chain.specs.Chains.{chain, chain_bytes}
 use Rattle.block_chain.specs.Changes.{OnlyContent}
 use Rattle.block_chain.specs.Counts.{count, IsNotIn}
@@ -21,7 +22,8 @@ use Rattle.file_tree.specs.declared.entry.Entry.{Entry}
 use Rattle.file_tree.specs.Cards.{Kind, File, Tree, linear, cyclic, elementary, file_at}
 use Rattle.file_tree.specs.Changes.{KeepsRest}
 use Rattle.file_tree.specs.Entries.{capacity_of, extent_told, file_of, free_entry, high, low}
-use Rattle.file_tree.specs.Spaces.{free_space}
+use Rattle.card_core.specs.Cards.{card_space}
+use Rattle.card_core.specs.laws.CardLaws.{card_space_is}
 use Rattle.file_tree.specs.Table.{table, entry_in, free_entries, path_of, IsEntry, IsUsed}
 use Rattle.file_tree.specs.Trees.{content, tree_of, TreeStands, file_in}
 use Rattle.file_tree.specs.laws.Changing.{tree_inserted}
@@ -45,7 +47,7 @@ use Rattle.card_core.proofs.RecordTables.{session-mid, stands-mid, used-mid, was
 pub record Records (m : List ℕ) (e : ℕ) (records : List (List ℕ)) (after : List ℕ) : Type 0 where
   pub stands : IsCard after
   pub card : card_of after ≡ with_records_at (card_of m) (path_of (table m) e) records
-  pub space : free_space (card_of after).tree ≡ free_space (card_of m).tree
+  pub space : card_space (card_of after) ≡ card_space (card_of m)
   pub session : (x : Current) → session_of (table after) x ≡ session_of (table m) x
   pub current : (x : Current) → IsCurrent (table m) x → IsCurrent (table after) x
 
@@ -57,7 +59,7 @@ unfolding file_of
 file-retold x number start bytes old = refl
 
 -- Bytes of a file of records, and the word of its entry that tells of them, are other ones.
-module _ (m after : List ℕ) (e : ℕ) (sized : length m ≡ WORDS) (words : IsCard m) (used : IsUsed (table m) e)
+module _ (m after : List ℕ) (e : ℕ) (sized : IsMemory m) (words : IsCard m) (used : IsUsed (table m) e)
     (of_records : ((entry_in (table m) e).kind ≡ 3) ⊎ ((entry_in (table m) e).kind ≡ 4))
     (only : OnlyBody m (chain m (entry_in (table m) e).first) (told_address e) after)
     (number : number_told after (told_address e) ≤ capacity_of (entry_in (table m) e))
@@ -114,11 +116,11 @@ module _ (m after : List ℕ) (e : ℕ) (sized : length m ≡ WORDS) (words : Is
         };
       }
 
-  sized-mid : length mid ≡ WORDS
+  sized-mid : IsMemory mid
   sized-mid = length-set m (told_address e) w ∙ sized
 
-  sized-after : length after ≡ WORDS
-  sized-after = only.size ∙ sized
+  sized-after : IsMemory after
+  sized-after = memory_same _ _ only.size sized
 
   blocks : AreBlocks ps
   blocks = leads_blocks m _ 0 ps (entry_extent m sized words.tree e few high_kind).leads
@@ -189,14 +191,14 @@ module _ (m after : List ℕ) (e : ℕ) (sized : length m ≡ WORDS) (words : Is
   pub card-stands : IsCard after
   card-stands = files-stand m after sized rest words tree-stands
 
-  pub space-after : free_space (card_of after).tree ≡ free_space (card_of m).tree
+  pub space-after : card_space (card_of after) ≡ card_space (card_of m)
   space-after =
       let free = content_free mid after ps sized-mid blocks bytes-change tree-mid
       ∙ free_chain-mid m e w sized words.tree used entry in
       let entries = ap free_entries table-after ∙ free-mid m e w sized words.tree used entry in
-      ap free_space (card-tree after) ∙ space_counted after sized-after tree-stands
+      card_space_is after card-stands ∙ space_counted after sized-after tree-stands
       ∙ (λ i. record { blocks = length (free i); entries = entries i })
-      ∙ sym (ap free_space (card-tree m) ∙ space_counted m sized words.tree)
+      ∙ sym (card_space_is m words ∙ space_counted m sized words.tree)
 
   pub session-after : (y : Current) → session_of (table after) y ≡ session_of (table m) y
   session-after y = ap (λ (t : List Entry). session_of t y) table-after
@@ -229,7 +231,7 @@ module _ (m after : List ℕ) (e : ℕ) (sized : length m ≡ WORDS) (words : Is
       ∙ sym (ap (λ (tree : Tree). with_records_at (record (card_of m) { tree = tree }) p records) (card-tree m))
 
 -- The body that the entry of a file tells of has these records then.
-module _ (m after : List ℕ) (e : ℕ) (sized : length m ≡ WORDS) (words : IsCard m) (used : IsUsed (table m) e)
+module _ (m after : List ℕ) (e : ℕ) (sized : IsMemory m) (words : IsCard m) (used : IsUsed (table m) e)
     (records : List (List ℕ)) where
   abbrev entry_m : Entry
   entry_m = entry_in (table m) e
@@ -251,7 +253,7 @@ module _ (m after : List ℕ) (e : ℕ) (sized : length m ≡ WORDS) (words : Is
       let start : start_told after (told_address e) < capacity_of entry_m = omega (arith, begins, room) in
       let stands = card-stands m after e sized words used (inl is) becomes.only number start (λ _. begins) in
       let own = entry-after m after e sized words used (inl is) becomes.only number start (λ _. begins) in
-      let sized_after : length after ≡ WORDS = becomes.only.size ∙ sized in
+      let sized_after : IsMemory after = memory_same _ _ becomes.only.size sized in
       let kind : (entry_in (table after) e).kind ≡ 3 = ap (λ (y : Entry). y.kind) own ∙ is in
       let used_after : IsUsed (table after) e = λ none. let z : ⊥ = omega (arith, kind, none) in z in
       let short = if entry_m.short == 0 then None else Some entry_m.short in
@@ -291,7 +293,7 @@ module _ (m after : List ℕ) (e : ℕ) (sized : length m ≡ WORDS) (words : Is
       λ three. let z : ⊥ = omega (arith, is, three) in absurd z in
       let stands = card-stands m after e sized words used (inr is) becomes.only number start first in
       let own = entry-after m after e sized words used (inr is) becomes.only number start first in
-      let sized_after : length after ≡ WORDS = becomes.only.size ∙ sized in
+      let sized_after : IsMemory after = memory_same _ _ becomes.only.size sized in
       let kind : (entry_in (table after) e).kind ≡ 4 = ap (λ (y : Entry). y.kind) own ∙ is in
       let used_after : IsUsed (table after) e = λ none. let z : ⊥ = omega (arith, kind, none) in z in
       let short = if entry_m.short == 0 then None else Some entry_m.short in

@@ -3,7 +3,7 @@ use Rattle.std.proofs.Common.{◌≡◌, ◌||◌, ◌+◌, ◌^◌, ◌≤◌, 
 use Rattle.std.proofs.Common.{◌∷◌, ◌++◌, length, Option, Some, None, if◌then◌else◌, refl, ◌∙◌, ap}
 use Rattle.std.proofs.Common.{subst}
 use Rattle.std.proofs.lemmas.Bool.{ltb-false}
-use Rattle.nvm_board.specs.declared.board.TheConstants.{WORDS}
+use Rattle.nvm_board.specs.Facts.{IsMemory}
 use Rattle.card_rules.specs.declared.access_mode.AccessBit.TheVariants.{Update}
 use Rattle.card_rules.specs.declared.status.Sw.{Sw}
 use Rattle.card_rules.specs.declared.status.TheConstants.Sw.{DONE, MAXIMUM_REACHED, RECORD_NOT_FOUND, WRONG_LENGTH}
@@ -78,7 +78,7 @@ unfolding refusals_of
 increase-barred c s status sent expected is =
     guarded-refused c s target.Current is_cyclic Update status is (sum_limits c s sent expected)
 
-module _ (m : List ℕ) (sized : length m ≡ WORDS) (words : IsCard m) (x : Current) (need : Need) (e : ℕ) (body : Cyclic)
+module _ (m : List ℕ) (sized : IsMemory m) (words : IsCard m) (x : Current) (need : Need) (e : ℕ) (body : Cyclic)
     (found : IsRecordFile m x target.Current need e (bodies.Cyclic body)) (sent : List ℕ) (expected : Option ℕ)
     (unrefused : refused_by (file_refusals (card_of m) (session_of (table m) x) target.Current is_cyclic Update) ≡ None) where
   abbrev c : Card

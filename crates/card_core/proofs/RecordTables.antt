@@ -6,7 +6,7 @@ use Rattle.std.proofs.Common.{length-set}
 use Rattle.std.specs.List.{cons_option}
 use Rattle.std.proofs.lemmas.Bool.{cases_eq, cases_lt}
 use Rattle.nvm_board.specs.Facts.{address}
-use Rattle.nvm_board.specs.declared.board.TheConstants.{WORDS}
+use Rattle.nvm_board.specs.Facts.{IsMemory}
 use Rattle.block_chain.specs.declared.chain.Extent.{Extent}
 use Rattle.block_chain.specs.Words.{page_words, word_bytes, IsBlock}
 use Rattle.block_chain.specs.Chains.{bytes_of, free_chain}
@@ -203,7 +203,7 @@ told_over old new w x told last others =
     ∙ (λ i. record (sym told i) { records = high w; start = low w })
 
 -- The word of an entry that tells of its records is set.
-module _ (m : List ℕ) (e w : ℕ) (sized : length m ≡ WORDS) (stands : TreeStands m) (used : IsUsed (table m) e)
+module _ (m : List ℕ) (e w : ℕ) (sized : IsMemory m) (stands : TreeStands m) (used : IsUsed (table m) e)
     (entry : IsEntry (retold (entry_in (table m) e) (high w) (low w))) where
   abbrev x : Entry
   x = entry_in (table m) e

@@ -4,7 +4,7 @@ use Rattle.std.proofs.Common.{◌∷◌, ◌++◌}
 use Rattle.std.proofs.Common.{length, slice_set, Option, Some, None, Result, Ok, if◌then◌else◌, refl, sym, ◌∙◌, ap, subst, arith}
 use Rattle.std.proofs.Common.{inl, inr, ⊎_elim}
 use Rattle.std.specs.Result.{IsErrAnd}
-use Rattle.nvm_board.specs.declared.board.TheConstants.{WORDS}
+use Rattle.nvm_board.specs.Facts.{IsMemory}
 use Rattle.card_rules.specs.declared.access_mode.AccessBit.TheVariants.{Append, Update}
 use Rattle.card_rules.specs.declared.status.Sw.{Sw}
 use Rattle.card_rules.specs.declared.status.TheConstants.Sw.{DONE, NO_ROOM, RECORD_NOT_FOUND, WRONG_LENGTH}
@@ -83,7 +83,7 @@ module _ (old mid new : Memory) (ready : IsReady old) (words : IsCard (committed
   abbrev s : Session
   s = session_in old x
 
-  sized : length m ≡ WORDS
+  sized : IsMemory m
   sized = ready.usable.committed_size
 
   same : committed mid ≡ m
@@ -223,7 +223,7 @@ pointer-by : (b : Bool) (pointer : Option ℕ) (choice : RecordChoice) (n : ℕ)
 pointer-by true pointer choice n = refl
 pointer-by false pointer choice n = refl
 
-module _ (m : List ℕ) (sized : length m ≡ WORDS) (words : IsCard m) (x : Current) (target : Target) (need : Need)
+module _ (m : List ℕ) (sized : IsMemory m) (words : IsCard m) (x : Current) (target : Target) (need : Need)
     (e : ℕ) (body : RecordBody) (found : IsRecordFile m x target need e body) (bytes : List ℕ) where
   abbrev cm : Card
   cm = card_of m

@@ -2,7 +2,8 @@
 use Rattle.std.proofs.Common.{◌≡◌, ◌⊎◌, ◌<◌, ◌≤◌, ◌+◌, ◌==◌, ℕ, Bool, true, false, List, [], length, length-take, take, drop, Ok, Err}
 use Rattle.std.proofs.Common.{Some, None, refl, sym, ◌∙◌, ap, ap₂, subst, arith, if◌then◌else◌, inl, inr, ⊎_elim}
 use Rattle.std.specs.FinMap.{insert}
-use Rattle.nvm_board.specs.declared.board.TheConstants.{WORDS}
+use Rattle.nvm_board.specs.Facts.{IsMemory}
+use Rattle.nvm_board.specs.laws.Sizes.{memory_same}
 use Rattle.card_rules.specs.declared.status.Sw.{Sw}
 use Rattle.card_rules.specs.declared.status.TheConstants.Sw.{DONE}
 use Rattle.card_rules.specs.declared.access_mode.AccessBit.{AccessBit}
@@ -27,7 +28,8 @@ use Rattle.file_tree.specs.Cards.{Kind, Tree, File, file_at, overwrite, with_byt
 use Rattle.file_tree.specs.Cards.{bytes_of as bytes_in}
 use Rattle.file_tree.specs.Changes.{Rewrites}
 use Rattle.file_tree.specs.Entries.{free_entry}
-use Rattle.file_tree.specs.Spaces.{free_space}
+use Rattle.card_core.specs.Cards.{card_space}
+use Rattle.card_core.specs.laws.CardLaws.{card_space_is}
 use Rattle.file_tree.specs.Table.{table, entry_in, path_of, free_entries}
 use Rattle.file_tree.specs.Trees.{tree_of, file_in}
 use Rattle.file_tree.specs.laws.Costs.{space_counted}
@@ -85,7 +87,7 @@ abbrev pub bytes_told : Entry → Transparent
 bytes_told entry = record { chain = record { first = entry.first; last = entry.last }; size = entry.size }
 
 -- The body of what is found stands in a memory that was only read since, and its bytes are the file's.
-module _ (m : List ℕ) (sized : length m ≡ WORDS) (words : IsCard m) (x : CurrentFiles) (target : Target) (bit : AccessBit)
+module _ (m : List ℕ) (sized : IsMemory m) (words : IsCard m) (x : CurrentFiles) (target : Target) (bit : AccessBit)
     (e : ℕ) (entry : Entry) (found : IsNamed m x target (bytes_for bit) e entry) (body : Transparent)
     (is : body ≡ bytes_told entry) (now : List ℕ) (same : now ≡ m) where
   abbrev told : Entry
@@ -133,7 +135,7 @@ module _ (m : List ℕ) (sized : length m ≡ WORDS) (words : IsCard m) (x : Cur
       (ap (λ (ps : List ℕ). take told.size (bytes_of after ps)) (sym change.blocks) ∙ change.becomes)
 
 -- READ BINARY of what is found
-module _ (m : List ℕ) (sized : length m ≡ WORDS) (words : IsCard m) (x : CurrentFiles) (target : Target)
+module _ (m : List ℕ) (sized : IsMemory m) (words : IsCard m) (x : CurrentFiles) (target : Target)
     (e : ℕ) (entry : Entry) (found : IsNamed m x target (bytes_for Read) e entry) (body : Transparent)
     (is : body ≡ bytes_told entry) (now : List ℕ) (same : now ≡ m) (offset expected : ℕ) where
   abbrev held : List ℕ
@@ -187,7 +189,7 @@ module _ (old mid : Memory) (ready : IsReady old) (words : IsCard (committed old
   abbrev held_now : List ℕ
   held_now = transparent_bytes (committed mid) body
 
-  sized : length m ≡ WORDS
+  sized : IsMemory m
   sized = ready.usable.committed_size
 
   same : committed mid ≡ m
@@ -284,11 +286,11 @@ module _ (old mid : Memory) (ready : IsReady old) (words : IsCard (committed old
     pub found-space : Becomes → space_in new ≡ space_in old
     found-space becomes =
         let change = rewrites becomes in
-        let sized_after : length after ≡ WORDS = change.rest.size ∙ sized in
-        ap free_space (card-tree after) ∙ space_counted after sized_after change.stands
+        let sized_after : IsMemory after = memory_same _ _ change.rest.size sized in
+        card_space_is after card-stands ∙ space_counted after sized_after change.stands
         ∙ ap₂ (λ (free : List ℕ) (t : List Entry). record { blocks = length free; entries = free_entries t })
         change.free change.table
-        ∙ sym (ap free_space (card-tree m) ∙ space_counted m sized words.tree)
+        ∙ sym (card_space_is m words ∙ space_counted m sized words.tree)
 
 -- an Le byte asks for at most 256 bytes
 pub asked-most : (expected : ℕ) → expected < 256 → (if expected == 0 then 256 else expected) ≤ 256

@@ -4,7 +4,7 @@ use Rattle.std.proofs.Common.{List, length, take, Option, Some, None, if◌then�
 use Rattle.std.proofs.Common.{refl, sym, ◌∙◌, ap, arith, inl, inr, ⊎_elim, length-take}
 use Rattle.std.proofs.lemmas.Bool.{lt-leb, le-leb, ne_eqb, cases_eq}
 use Rattle.std.proofs.lemmas.List.FromFn.{length-map-range_with_len}
-use Rattle.nvm_board.specs.declared.board.TheConstants.{WORDS}
+use Rattle.nvm_board.specs.Facts.{IsMemory}
 use Rattle.fcp_template.specs.declared.fcp.FileKind.{FileKind}
 use Rattle.fcp_template.specs.declared.fcp.FileKind.TheVariants.{Df, Transparent, Linear, Cyclic}
 use Rattle.fcp_template.specs.declared.fcp.ShortIdentifier.TheVariants.{Empty, Given}
@@ -111,7 +111,7 @@ module _ (x : Entry) (used : x.kind ≢ 0) (file : IsFileEntry x) where
     kind-is : kind_told (kind_of x bytes) ≡ kind_in_entry x
     kind-is = by_kind (x.kind == 1) (x.kind == 2) (x.kind == 3) high records-body
 
-module _ (m : List ℕ) (sized : length m ≡ WORDS) (words : IsCard m) (e : ℕ) (used : IsUsed (table m) e) where
+module _ (m : List ℕ) (sized : IsMemory m) (words : IsCard m) (e : ℕ) (used : IsUsed (table m) e) where
   abbrev entry : Entry
   entry = entry_in (table m) e
 

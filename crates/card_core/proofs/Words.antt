@@ -63,7 +63,7 @@ stands-gated c alone gated before new stood is (inr turned) card = record {
         card = rest;
         pairs = turned.pairs;
         former = record {
-          has_card = record { journal = turned.sound; words = subst IsCard (sym turned.former) stood };
+          has_card = record { journal = turned.sound; words = inl (subst IsCard (sym turned.former) stood) };
           card = ap card_of turned.former ∙ is;
         };
       }))

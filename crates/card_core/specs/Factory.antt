@@ -1,9 +1,10 @@
--- The factory's memory: the master file, one elementary file, eight PINs, and all other blocks free.
-use Rattle.std.specs.Prelude.{◌≡◌, ◌<◌, ℕ, ◌+◌, ◌-◌, ◌==◌, ◌&&◌, nat_lt, nat_le, true, List, [], ◌∷◌, ◌++◌, length}
+-- The factory's memory, in both formats: the master file, one elementary file, eight PINs, and all other blocks free.
+use Rattle.std.specs.Prelude.{◌≡◌, ◌<◌, ◌≤◌, ℕ, ◌+◌, ◌-◌, ◌==◌, ◌&&◌, nat_lt, nat_le, true, List, [], ◌∷◌, ◌++◌, length}
 use Rattle.std.specs.Prelude.{replicate}
 use Rattle.std.specs.Prelude.{if◌then◌else◌, None, Some}
 use Rattle.std.specs.FinMap.{from_entries}
-use Rattle.nvm_board.specs.declared.board.TheConstants.{PAGES, PAGE_WORDS}
+use Rattle.nvm_board.specs.declared.board.TheConstants.{PAGE_WORDS}
+use Rattle.nvm_board.specs.Facts.{pages_of}
 use Rattle.card_rules.specs.declared.life_cycle.LifeCycle.TheVariants.{Activated}
 use Rattle.block_chain.specs.declared.layout.TheConstants.{FIRST_BLOCK_PAGE}
 use Rattle.block_chain.specs.Words.{page_words}
@@ -11,16 +12,19 @@ use Rattle.file_tree.specs.declared.layout.TheConstants.{FIRST_ENTRY_PAGE}
 use Rattle.file_tree.specs.declared.space.FreeSpace.{FreeSpace}
 use Rattle.pin_store.specs.declared.layout.TheConstants.{FIRST_PIN_PAGE, PINS}
 use Rattle.block_chain.specs.declared.layout.TheConstants.{HEADER_PAGE}
-use Rattle.card_core.specs.declared.layout.TheConstants.{MARK}
+use Rattle.file_tree.specs.declared.layout.TheConstants.{MARK, OLD_END_PAGE, OLD_MARK}
+use Rattle.card_core.specs.declared.memory_format.MemoryFormat.{MemoryFormat}
+use Rattle.card_core.specs.declared.memory_format.MemoryFormat.TheVariants.{One, Two}
 use Rattle.card_core.specs.Cards.{transparent, dedicated, elementary, File, Tree, Pin, Card}
 
 -- the words of a page that begins with these, and has one filler behind them
 abbrev pub filled : List ℕ → ℕ → List ℕ
 filled words filler = words ++ replicate (PAGE_WORDS - length words) filler
 
--- the header: the mark, the first free block, a card in use
-abbrev pub factory_header : List ℕ
-factory_header = filled (MARK ∷ (FIRST_BLOCK_PAGE + 1) ∷ []) 0
+-- the header: the mark, the first free block, a card in use, and of format 2 the page where the blocks end
+abbrev pub factory_header : MemoryFormat → ℕ → List ℕ
+factory_header One end = filled (OLD_MARK ∷ (FIRST_BLOCK_PAGE + 1) ∷ []) 0
+factory_header Two end = filled (MARK ∷ (FIRST_BLOCK_PAGE + 1) ∷ 0 ∷ end ∷ []) 0
 
 -- entry 0, the master file: activated, rule 27 18 00 00 00
 abbrev pub factory_master : List ℕ
@@ -30,32 +34,50 @@ factory_master = filled (0x01053F00 ∷ 0x00000005 ∷ 0x27180000 ∷ []) 0
 abbrev pub factory_file : List ℕ
 factory_file = filled (0x02052FE2 ∷ 0x00020003 ∷ 0x03110000 ∷ 0 ∷ 0 ∷ 0 ∷ 0 ∷ 0 ∷ 0x000A0000 ∷ 0x00800080 ∷ []) 0
 
--- each PIN: 3 tries, 10 unblocking tries, the value 31 32 33 34 FF FF FF FF, the unblocking value 31 32 33 34 35 36 37 38
-abbrev pub factory_pin_page : List ℕ
-factory_pin_page = filled (3 ∷ 10 ∷ 0x31323334 ∷ 0xFFFFFFFF ∷ 0x31323334 ∷ 0x35363738 ∷ []) 0
+-- each PIN: 3 tries, 10 unblocking tries, the value 31 32 33 34 FF FF FF FF, the unblocking value 31 32 33 34 35 36 37 38, and
+-- of format 2 its mark
+abbrev pub factory_pin_mark : MemoryFormat → ℕ
+factory_pin_mark One = 0
+factory_pin_mark Two = 1
+
+abbrev pub factory_pin_page : MemoryFormat → List ℕ
+factory_pin_page format =
+    filled (3 ∷ 10 ∷ 0x31323334 ∷ 0xFFFFFFFF ∷ 0x31323334 ∷ 0x35363738 ∷ factory_pin_mark format ∷ []) 0
 
 -- the first block: the content of the file, 98 10 32 54 76 98 10 32 54 76
 abbrev pub factory_block : List ℕ
 factory_block = filled (0 ∷ 0x98103254 ∷ 0x76981032 ∷ 0x5476FFFF ∷ []) 0xFFFFFFFF
 
 -- a free block, linked to the next page; the last one is linked to none
-abbrev pub factory_free_block : ℕ → List ℕ
-factory_free_block page = filled ((if page + 1 == PAGES then 0 else page + 1) ∷ []) 0
+abbrev pub factory_free_block : ℕ → ℕ → List ℕ
+factory_free_block end page = filled ((if page + 1 == end then 0 else page + 1) ∷ []) 0
 
--- the words of each page
-abbrev pub factory_page : ℕ → List ℕ
-factory_page page =
-    if page == HEADER_PAGE then factory_header else
+-- the words of each page, where the blocks end at this one
+abbrev pub factory_page : MemoryFormat → ℕ → ℕ → List ℕ
+factory_page format end page =
+    if page == HEADER_PAGE then factory_header format end else
     if page == FIRST_ENTRY_PAGE then factory_master else
     if page == FIRST_ENTRY_PAGE + 1 then factory_file else
-    if nat_le FIRST_PIN_PAGE page && nat_lt page (FIRST_PIN_PAGE + PINS) then factory_pin_page else
+    if nat_le FIRST_PIN_PAGE page && nat_lt page (FIRST_PIN_PAGE + PINS) then factory_pin_page format else
     if nat_lt page FIRST_BLOCK_PAGE then filled [] 0 else
     if page == FIRST_BLOCK_PAGE then factory_block else
-    factory_free_block page
+    factory_free_block end page
 
--- each page is the factory's
-abbrev pub IsFactory : List ℕ → Type 0
-IsFactory m = (page : ℕ) → page < PAGES → page_words m page ≡ factory_page page
+-- The pages up to this one are the factory's, whose blocks end there, and those behind it are as they were.
+pub record IsWritten (format : MemoryFormat) (end : ℕ) (m after : List ℕ) : Type 0 where
+  pub size : length after ≡ length m
+  pub pages : (page : ℕ) → page < end → page_words after page ≡ factory_page format end page
+  pub behind : (page : ℕ) → end ≤ page → page_words after page ≡ page_words m page
+
+-- the blocks of a memory end behind its last page, those of format 1 at page 1,024
+abbrev pub factory_end : MemoryFormat → List ℕ → ℕ
+factory_end One m = OLD_END_PAGE
+factory_end Two m = pages_of m
+
+-- each page up to there is the factory's; of format 1 nothing is said of what lies behind
+abbrev pub IsFactory : MemoryFormat → List ℕ → Type 0
+IsFactory format m =
+    (page : ℕ) → page < factory_end format m → page_words m page ≡ factory_page format (factory_end format m) page
 
 -- a PIN of the factory
 abbrev pub factory_pin : Pin
@@ -86,10 +108,15 @@ file_of_factory = record {
 abbrev pub factory_tree : Tree
 factory_tree = from_entries (([], master_of_factory) ∷ (0x2FE2 ∷ [], file_of_factory) ∷ [])
 
--- all blocks are free but that of the elementary file, and all entries but two
-abbrev pub factory_space : FreeSpace
-factory_space = record { blocks = 895; entries = 62 }
+-- the factory's card, which has all blocks of its board: of format 1 it gets those behind page 1,024 at its first start
+abbrev pub factory_card : List ℕ → Card
+factory_card m = record {
+  tree = factory_tree;
+  pins = replicate PINS factory_pin;
+  in_use = true;
+  blocks = pages_of m - FIRST_BLOCK_PAGE;
+}
 
--- the factory's card
-abbrev pub factory_card : Card
-factory_card = record { tree = factory_tree; pins = replicate PINS factory_pin; in_use = true }
+-- all blocks are free but that of the elementary file, and all entries but two
+abbrev pub factory_space : List ℕ → FreeSpace
+factory_space m = record { blocks = pages_of m - (FIRST_BLOCK_PAGE + 1); entries = 62 }

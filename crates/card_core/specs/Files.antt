@@ -84,7 +84,7 @@ place_refusals c df fcp =
     ∷ record { applies = has_name c.tree (name_bytes fcp.kind); status = NAME_EXISTS }
     ∷ record { applies = has_short_given c.tree df (short_of_kind fcp.kind); status = WRONG_DATA }
     ∷ record { applies = length df == 7; status = CONDITIONS_NOT_SATISFIED }
-    ∷ record { applies = has_no_room c.tree fcp.kind; status = NO_ROOM } ∷ []
+    ∷ record { applies = has_no_room c.blocks c.tree fcp.kind; status = NO_ROOM } ∷ []
 
 -- what the rule of a dedicated file must allow for a file of a kind to be created in it
 abbrev pub creation_bit : FileKind → AccessBit

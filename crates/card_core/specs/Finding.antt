@@ -2,7 +2,7 @@
 use Rattle.std.specs.Prelude.{◌≡◌, ◌↔◌, List, ℕ}
 use Rattle.undo_journal.specs.Undo.{undo, data_words, IsSound}
 use Rattle.card_core.specs.Cards.{Card}
-use Rattle.card_core.specs.Standing.{IsCard, card_of}
+use Rattle.card_core.specs.Standing.{IsAnyCard, card_of}
 
 -- the words that are found: the data words after undo
 abbrev pub words_found : List ℕ → List ℕ
@@ -11,7 +11,7 @@ words_found m = data_words (undo m)
 -- there is a card to be found: undo is defined, and what it gives are the words of a card
 pub record HasCard (m : List ℕ) : Type 0 where
   pub journal : IsSound m
-  pub words : IsCard (words_found m)
+  pub words : IsAnyCard (words_found m)
 
 -- the card that is found
 abbrev pub found : List ℕ → Card
@@ -22,7 +22,8 @@ pub record Finds (m : List ℕ) (c : Card) : Type 0 where
   pub has_card : HasCard m
   pub card : found m ≡ c
 
--- what is found stays: the same words, and undo is defined where it was
+-- what is found stays: the same card, in whatever format, or none; and undo is defined where it was
 pub record FindsAgain (old new : List ℕ) : Type 0 where
-  pub words : words_found new ≡ words_found old
+  pub card : HasCard old → HasCard new × (found new ≡ found old)
+  pub none : HasCard new → HasCard old
   pub journal : IsSound new ↔ IsSound old

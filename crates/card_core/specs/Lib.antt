@@ -26,6 +26,7 @@ pub mod Counting
 pub mod Standing
 pub mod Factory
 pub mod Finding
+pub mod Starting
 pub mod Words
 pub mod Running
 pub mod StartFaults

@@ -13,7 +13,7 @@ use Rattle.card_core.specs.Counting.{CountsAnswered}
 use Rattle.card_core.specs.Sessions.{Session, fresh_session}
 use Rattle.card_core.specs.Outcomes.{answer_bytes, only_status}
 use Rattle.card_core.specs.Steps.{carried_out}
-use Rattle.card_core.specs.Standing.{IsCard}
+use Rattle.card_core.specs.Standing.{IsAnyCard}
 use Rattle.card_core.specs.Finding.{words_found, found, HasCard}
 
 -- the board, the session, and what the card can still do; a card that doesn't work has a fresh session
@@ -68,4 +68,4 @@ StartStopsBy PowerLost old new = GoesDark old new ⊎ ((old.dark ≡ true) × (n
 StartStopsBy Fault old new = Fails old new
 StartStopsBy BadJournal old new = IsBadJournal old.words × Steady old new × (new.words ≡ old.words) × (new.writes
     ≡ old.writes)
-StartStopsBy Damaged old new = IsSound old.words × ¬ IsCard (words_found old.words) × Steady old new
+StartStopsBy Damaged old new = IsSound old.words × ¬ IsAnyCard (words_found old.words) × Steady old new

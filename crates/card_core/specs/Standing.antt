@@ -1,25 +1,52 @@
 -- When the words of a memory stand for a card, and for which. Page 0 is the header, pages 1 to 64 hold file entries, pages
--- 65 to 72 the PINs, and blocks begin at page 128; gate and journal, between them, are the store's.
-use Rattle.std.specs.Prelude.{◌≡◌, ℕ, ◌≤◌, ◌==◌, List}
+-- 65 to 72 the PINs, and blocks begin at page 128; gate and journal, between them, are the store's. There are two formats: of
+-- format 1 the blocks end at page 1,024, of format 2 where the header says.
+use Rattle.std.specs.Prelude.{◌≡◌, ◌⊎◌, ℕ, ◌<◌, ◌≤◌, ◌-◌, ◌==◌, if◌then◌else◌, List}
+use Rattle.nvm_board.specs.Facts.{pages_of}
 use Rattle.undo_journal.specs.Undo.{gate}
 use Rattle.block_chain.specs.Words.{word}
+use Rattle.file_tree.specs.Formats.{block_count, is_format_2}
 use Rattle.file_tree.specs.Trees.{tree_of, TreeStands}
-use Rattle.pin_store.specs.Pages.{pins_of, ArePinPages}
-use Rattle.block_chain.specs.declared.layout.TheConstants.{HEADER_PAGE}
-use Rattle.file_tree.specs.declared.layout.TheConstants.{STATE_WORD}
-use Rattle.card_core.specs.declared.layout.TheConstants.{MARK}
+use Rattle.pin_store.specs.Pages.{pin_word, pins_of, ArePinPages}
+use Rattle.pin_store.specs.declared.layout.TheConstants.{PINS}
+use Rattle.block_chain.specs.declared.layout.TheConstants.{FIRST_BLOCK_PAGE, HEADER_PAGE}
+use Rattle.file_tree.specs.declared.layout.TheConstants.{MARK, MARK_WORD, OLD_END_PAGE, OLD_MARK, PAGES_WORD, STATE_WORD}
+use Rattle.migration.specs.declared.migrating.TheConstants.{PIN_MARK_WORD}
 use Rattle.card_core.specs.Cards.{Card}
 
--- the header: the mark "TSC1", and the state, 0 in use or 1 terminated
+-- the header of format 2: the mark "TSC2"; the page where the blocks end, 1,024 at least; and the state, 0 in use or 1 terminated
 pub record IsHeader (m : List ℕ) : Type 0 where
-  pub mark : word m HEADER_PAGE 0 ≡ MARK
+  pub mark : word m HEADER_PAGE MARK_WORD ≡ MARK
+  pub end : OLD_END_PAGE ≤ word m HEADER_PAGE PAGES_WORD
   pub state : word m HEADER_PAGE STATE_WORD ≤ 1
 
--- The words are those of a card: a header; entries that make a tree, over chains that hold each block once; PINs.
+-- The words are those of a card of format 2: a header; entries that make a tree, over chains that hold each block once; PINs,
+-- each with the mark 1.
 pub record IsCard (m : List ℕ) : Type 0 where
   pub header : IsHeader m
   pub tree : TreeStands m
   pub pins : ArePinPages m
+  pub marks : (pin : ℕ) → pin < PINS → pin_word m pin PIN_MARK_WORD ≡ 1
+
+-- the header of format 1: the mark "TSC1", and the state
+pub record IsOldHeader (m : List ℕ) : Type 0 where
+  pub mark : word m HEADER_PAGE MARK_WORD ≡ OLD_MARK
+  pub state : word m HEADER_PAGE STATE_WORD ≤ 1
+
+-- The words are those of a card of format 1, which a start makes one of format 2.
+pub record IsOldCard (m : List ℕ) : Type 0 where
+  pub header : IsOldHeader m
+  pub tree : TreeStands m
+  pub pins : ArePinPages m
+
+-- the words are those of a card, in one format or the other
+abbrev pub IsAnyCard : List ℕ → Type 0
+IsAnyCard m = IsCard m ⊎ IsOldCard m
+
+-- How many blocks the card has, once it is started: of format 2 those that its header names; of format 1 all that its board has
+-- room for, which its first start makes of them.
+unfoldable pub card_blocks : List ℕ → ℕ
+card_blocks m = if is_format_2 m then block_count m else pages_of m - FIRST_BLOCK_PAGE
 
 -- the card that the words of a card stand for
 unfoldable pub card_of : List ℕ → Card
@@ -27,10 +54,11 @@ card_of m = record {
   tree = tree_of m;
   pins = pins_of m;
   in_use = word m HEADER_PAGE STATE_WORD == 0;
+  blocks = card_blocks m;
 }
 
 -- A memory stands for a card: no pair of its journal counts, and its words are those of the card.
 pub record StandsFor (m : List ℕ) (c : Card) : Type 0 where
   pub shut : gate m ≡ 0
-  pub words : IsCard m
+  pub words : IsAnyCard m
   pub card : card_of m ≡ c

@@ -1,5 +1,5 @@
 -- What the code keeps of a session, and what it makes of a step. No public clause names these.
-use Rattle.std.specs.Prelude.{◌≡◌, ◌≢◌, ◌≤◌, ◌+◌, ◌*◌, ◌==◌, ◌&&◌, ℕ, Bool, true, false, not, nat_lt}
+use Rattle.std.specs.Prelude.{◌≡◌, ◌≢◌, ◌<◌, ◌≤◌, ◌+◌, ◌*◌, ◌==◌, ◌&&◌, ℕ, Bool, true, false, not, nat_lt}
 use Rattle.std.specs.Prelude.{nat_le, if◌then◌else◌}
 use Rattle.std.specs.Prelude.{◌||◌, ◌-◌, ◌++◌, ◌∷◌, slice_set, IsTrue, List, [], length, Option, Some}
 use Rattle.std.specs.Prelude.{None, option_map, unwrap_or, IfSome}
@@ -17,7 +17,9 @@ use Rattle.pin_store.specs.declared.errors.Outcome.TheVariants.{Matched, Wrong}
 use Rattle.undo_journal.specs.Memory.{Memory, committed, IsReady}
 use Rattle.file_tree.specs.declared.entry.Entry.{Entry}
 use Rattle.file_tree.specs.declared.space.FreeSpace.{FreeSpace}
+use Rattle.file_tree.specs.Formats.{block_count}
 use Rattle.file_tree.specs.Spaces.{free_space}
+use Rattle.file_tree.specs.Trees.{tree_of}
 use Rattle.file_tree.specs.Entries.{capacity_of, name_of, rule_of}
 use Rattle.file_tree.specs.declared.layout.TheConstants.{FIRST_ENTRY_PAGE}
 use Rattle.nvm_board.specs.declared.board.TheConstants.{PAGE_WORDS}
@@ -50,13 +52,20 @@ use Rattle.card_core.specs.declared.current.Shown.TheVariants.{Value, Unblocking
 use Rattle.card_core.specs.declared.named.Need.{Need}
 use Rattle.card_core.specs.declared.named.Structure.{Structure}
 use Rattle.card_core.specs.declared.named.Structure.TheVariants.{Bytes, Records, Linear, Cyclic}
-use Rattle.card_core.specs.Cards.{Card, Kind, is_transparent}
+use Rattle.card_core.specs.Cards.{Card, Kind, card_space, is_transparent}
 use Rattle.card_core.specs.Elementary.{file_refusals}
 use Rattle.card_core.specs.Outcomes.{Outcome, refused_by}
 use Rattle.card_core.specs.Pins.{tries_told}
 use Rattle.card_core.specs.Reaching.{target_of}
 use Rattle.card_core.specs.Sessions.{Session, fresh_session, marked}
-use Rattle.card_core.specs.Standing.{card_of, IsCard}
+use Rattle.file_tree.specs.declared.layout.TheConstants.{MARK, OLD_END_PAGE, OLD_MARK}
+use Rattle.pin_store.specs.Pages.{ArePinPages, pin_word}
+use Rattle.pin_store.specs.declared.layout.TheConstants.{PINS}
+use Rattle.migration.specs.declared.migrating.TheConstants.{PIN_MARK_WORD}
+use Rattle.card_core.specs.Standing.{card_of, IsAnyCard, IsCard, IsHeader, IsOldCard, IsOldHeader}
+use Rattle.card_core.specs.declared.check.Checked.{Checked}
+use Rattle.card_core.specs.declared.memory_format.MemoryFormat.{MemoryFormat}
+use Rattle.card_core.specs.declared.memory_format.MemoryFormat.TheVariants.{One, Two}
 
 -- an elementary file that is a child of a dedicated file
 pub record IsElementary (t : List Entry) (df e : ℕ) : Type 0 where
@@ -100,7 +109,7 @@ abbrev pub session_in : Memory → Current → Session
 session_in m x = session_of (table_in m) x
 
 abbrev pub space_in : Memory → FreeSpace
-space_in m = free_space (card_in m).tree
+space_in m = card_space (card_in m)
 
 -- What a card that works keeps of its memory and its current files: a store that is ready, the words of a card, and the numbers
 -- of files that can be current.
@@ -327,10 +336,44 @@ abbrev pub data_in : Returned → Entry → List ℕ
 data_in Template entry = template_in entry
 data_in Nothing entry = []
 
--- what a check of a memory answers: its free space, or None exactly where it is no card's
-abbrev pub TellsCard : List ℕ → Option FreeSpace → Type 0
-TellsCard m None = ¬ IsCard m
-TellsCard m (Some free) = IsCard m × (free ≡ free_space (card_of m).tree)
+-- the words are those of a header, or of a card, of a format
+abbrev pub IsHeaderIn : MemoryFormat → List ℕ → Type 0
+IsHeaderIn One m = IsOldHeader m
+IsHeaderIn Two m = IsHeader m
+
+abbrev pub IsCardIn : MemoryFormat → List ℕ → Type 0
+IsCardIn One m = IsOldCard m
+IsCardIn Two m = IsCard m
+
+-- and these three words are those of one: its mark, where the blocks end, and the state
+abbrev pub AreHeaderWords : ℕ → ℕ → ℕ → Option MemoryFormat → Type 0
+AreHeaderWords mark end state None =
+    ((mark ≡ MARK) → (OLD_END_PAGE ≤ end) → (state ≤ 1) → ⊥) × ((mark ≡ OLD_MARK) → (state ≤ 1) → ⊥)
+AreHeaderWords mark end state (Some One) = (mark ≡ OLD_MARK) × (state ≤ 1)
+AreHeaderWords mark end state (Some Two) = (mark ≡ MARK) × (OLD_END_PAGE ≤ end) × (state ≤ 1)
+
+-- each PIN has the mark of format 2, and the PINs are those of a memory of a format
+pub record AreMarked (m : List ℕ) : Type 0 where
+  pub each : (pin : ℕ) → pin < PINS → pin_word m pin PIN_MARK_WORD ≡ 1
+
+abbrev pub HoldsPins : MemoryFormat → List ℕ → Type 0
+HoldsPins One m = ArePinPages m
+HoldsPins Two m = ArePinPages m × AreMarked m
+
+-- what a check of a header answers: its format, or None exactly where it is none
+abbrev pub TellsHeader : List ℕ → Option MemoryFormat → Type 0
+TellsHeader m None = ¬ IsHeader m × ¬ IsOldHeader m
+TellsHeader m (Some format) = IsHeaderIn format m
+
+-- what a check of a memory answers: its format and its free space as it is, or None exactly where it is no card's
+abbrev pub TellsCard : List ℕ → Option Checked → Type 0
+TellsCard m None = ¬ IsAnyCard m
+TellsCard m (Some checked) = IsCardIn checked.format m × (checked.free ≡ free_space (block_count m) (tree_of m))
+
+-- what is told of a memory that was made one of format 2 if it was a card's: the free space of the card, or None where it was none's
+abbrev pub TellsRenewed : List ℕ → List ℕ → Option FreeSpace → Type 0
+TellsRenewed m after None = ¬ IsAnyCard m
+TellsRenewed m after (Some free) = IsAnyCard m × IsCard after × (free ≡ card_space (card_of after))
 
 -- the outcome that leaves this session, and answers this data and status word
 abbrev pub outcome : Card → Session → List ℕ → Sw → Outcome

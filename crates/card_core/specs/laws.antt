@@ -1,4 +1,5 @@
 -- Laws of the definitions, with their proofs.
+pub mod CardLaws
 pub mod StageLaws
 pub mod TemplateLaws
 pub mod TextLaws

@@ -1,38 +1,114 @@
-//! Whether the words of a memory are those of a card.
-ghost use Rattle.std.specs.Prelude.{◌↔◌, IfOk, IsTrue};
+//! Whether the words of a memory are those of a card, and in which format.
+ghost use Rattle.std.specs.Prelude.{◌≡◌, ◌<◌, ◌≤◌, ◌↔◌, IfOk, IsTrue, MatchOption};
 ghost use Rattle.std.specs.Result.{result_err};
 ghost use Rattle.undo_journal.specs.Calls.{Reads};
 ghost use Rattle.undo_journal.specs.Memory.{committed, IsReady};
-ghost use Rattle.card_core.specs.Standing.{IsHeader};
-ghost use Rattle.card_core.specs.Working.{TellsCard};
+ghost use Rattle.block_chain.specs.Words.{word};
+ghost use Rattle.block_chain.specs.declared.layout.TheConstants.{HEADER_PAGE};
+ghost use Rattle.nvm_board.specs.declared.board.TheConstants.{PAGE_WORDS};
+ghost use Rattle.pin_store.specs.Pages.{ArePinPages, pin_word};
+ghost use Rattle.pin_store.specs.declared.layout.TheConstants.{PINS};
+ghost use Rattle.migration.specs.declared.migrating.TheConstants.{PIN_MARK_WORD};
+ghost use Rattle.card_core.specs.Working.{AreHeaderWords, AreMarked, HoldsPins, TellsCard, TellsHeader};
 
-use crate::layout::MARK;
+use crate::memory_format::MemoryFormat;
 use block_chain::HEADER_PAGE;
-use file_tree::{CARD_TERMINATED, FreeSpace, STATE_WORD, is_tree};
-use pin_store::are_pins;
+use file_tree::{
+    CARD_TERMINATED, FreeSpace, MARK, MARK_WORD, OLD_END_PAGE, OLD_MARK, PAGES_WORD, STATE_WORD,
+    is_tree,
+};
+use migration::PIN_MARK_WORD;
+use pin_store::{FIRST_PIN_PAGE, PINS, are_pins};
 use undo_journal::{Board, PAGE_WORDS, Store, StoreErr};
 
-/// The header: the mark, and one of the two states.
-#[tactic(auto, using(undo_journal::specs::laws::Calls::reads_then))]
-fn is_header<B: Board>(store: &mut Store<B>) -> Result<bool, StoreErr>
-    requires ready { IsReady store.old }
-    ensures header { IfOk result (λ header. IsTrue header ↔ IsHeader (committed store.old)) }
-    ensures store { Reads store.old store.new (result_err result) }
-{
-    let mark = store.read(PAGE_WORDS * HEADER_PAGE)?;
-    let state = store.read(PAGE_WORDS * HEADER_PAGE + STATE_WORD)?;
-    Ok(mark == MARK && state <= CARD_TERMINATED)
+/// What a check finds of a card: the format of its memory, and the space that is free in it.
+#[derive(Drop)]
+pub(crate) struct Checked {
+    pub format: MemoryFormat,
+    pub free: FreeSpace,
 }
 
-/// The free space of a card, if the words are those of one: its header, its PINs, its files and their blocks are looked at.
+/// A word of the header.
+fn header_word<B: Board>(store: &mut Store<B>, place: u16) -> Result<u32, StoreErr>
+    requires ready { IsReady store.old }
+    requires place { place < PAGE_WORDS }
+    ensures word { IfOk result (λ w. w ≡ word (committed store.old) HEADER_PAGE place) }
+    ensures store { Reads store.old store.new (result_err result) }
+{
+    store.read(PAGE_WORDS * HEADER_PAGE + place)
+}
+
+/// The format that three words of a header tell: its mark, the page where the blocks end, and the state.
+fn format_of(mark: u32, end: u32, state: u32) -> Option<MemoryFormat>
+    ensures { AreHeaderWords mark end state result }
+{
+    if state > CARD_TERMINATED {
+        None
+    } else if mark == OLD_MARK {
+        Some(MemoryFormat::One)
+    } else if mark == MARK && end >= u32::from(OLD_END_PAGE) {
+        Some(MemoryFormat::Two)
+    } else {
+        None
+    }
+}
+
+/// The format that the header tells, if it is one.
 #[tactic(auto, using(undo_journal::specs::laws::Calls::reads_then))]
-pub(crate) fn find_card<B: Board>(store: &mut Store<B>) -> Result<Option<FreeSpace>, StoreErr>
+fn find_format<B: Board>(store: &mut Store<B>) -> Result<Option<MemoryFormat>, StoreErr>
+    requires ready { IsReady store.old }
+    ensures header { IfOk result (TellsHeader (committed store.old)) }
+    ensures store { Reads store.old store.new (result_err result) }
+{
+    let mark = header_word(store, MARK_WORD)?;
+    let end = header_word(store, PAGES_WORD)?;
+    let state = header_word(store, STATE_WORD)?;
+    Ok(format_of(mark, end, state))
+}
+
+/// Whether each PIN has the mark that it has in format 2.
+fn are_marked<B: Board>(store: &mut Store<B>) -> Result<bool, StoreErr>
+    requires ready { IsReady store.old }
+    ensures marks { IfOk result (λ marked. IsTrue marked ↔ AreMarked (committed store.old)) }
+    ensures store { Reads store.old store.new (result_err result) }
+{
+    for pin in 0..u16::from(PINS) {
+        if store.read(PAGE_WORDS * (FIRST_PIN_PAGE + pin) + PIN_MARK_WORD)? != 1 {
+            return Ok(false);
+        }
+    }
+    Ok(true)
+}
+
+/// Whether the PINs are those of a memory of this format.
+#[tactic(auto, using(undo_journal::specs::laws::Calls::reads_then))]
+fn has_pins<B: Board>(store: &mut Store<B>, format: MemoryFormat) -> Result<bool, StoreErr>
+    requires ready { IsReady store.old }
+    ensures pins { IfOk result (λ pins. IsTrue pins ↔ HoldsPins format (committed store.old)) }
+    ensures store { Reads store.old store.new (result_err result) }
+{
+    if !are_pins(store)? {
+        return Ok(false);
+    }
+    match format {
+        MemoryFormat::One => Ok(true),
+        MemoryFormat::Two => are_marked(store),
+    }
+}
+
+/// What the words tell of a card, if they are those of one: its header, its PINs, its files and their blocks are looked at.
+#[tactic(auto, using(undo_journal::specs::laws::Calls::reads_then))]
+pub(crate) fn find_card<B: Board>(store: &mut Store<B>) -> Result<Option<Checked>, StoreErr>
     requires ready { IsReady store.old }
     ensures card { IfOk result (TellsCard (committed store.old)) }
     ensures store { Reads store.old store.new (result_err result) }
 {
-    let header = is_header(store)?;
-    let pins = are_pins(store)?;
-    let tree = is_tree(store)?;
-    if header && pins { Ok(tree) } else { Ok(None) }
+    let Some(format) = find_format(store)? else {
+        return Ok(None);
+    };
+    if !has_pins(store, format)? {
+        return Ok(None);
+    }
+    let free = is_tree(store)?;
+    Ok(free.map(|free| Checked { format, free }))
 }

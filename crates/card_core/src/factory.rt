@@ -1,29 +1,31 @@
-//! The factory's memory, and its writing.
+//! The factory's memory in both formats, and its writing.
 ghost use Rattle.std.specs.Prelude.{◌≡◌, ◌+◌, ◌<◌, ◌≤◌, false, Err, OnOk, IfOk, IfErr};
 ghost use Rattle.nvm_board.specs.Aims.{AimsOn};
-ghost use Rattle.nvm_board.specs.Facts.{Answered, Steady};
-ghost use Rattle.nvm_board.specs.declared.board.TheConstants.{PAGES};
+ghost use Rattle.nvm_board.specs.Facts.{Answered, Steady, pages_of};
+ghost use Rattle.nvm_board.specs.declared.board.TheConstants.{LEAST_PAGES, MOST_PAGES};
 ghost use Rattle.block_chain.specs.declared.layout.TheConstants.{HEADER_PAGE};
 ghost use Rattle.block_chain.specs.Words.{page_words};
-ghost use Rattle.file_tree.specs.Spaces.{free_space};
+ghost use Rattle.file_tree.specs.declared.layout.TheConstants.{OLD_END_PAGE};
 ghost use Rattle.undo_journal.specs.Spending.{WritesAtMost};
-ghost use Rattle.card_core.specs.Factory.{IsFactory, factory_card, factory_space, factory_free_block};
-ghost use Rattle.card_core.specs.Factory.{factory_page as factory_page_of};
+ghost use Rattle.card_core.specs.declared.memory_format.MemoryFormat.TheVariants as MemoryFormat;
+ghost use Rattle.card_core.specs.Cards.{card_space};
+ghost use Rattle.card_core.specs.Factory.{IsFactory, IsWritten, factory_card, factory_space, factory_free_block};
+ghost use Rattle.card_core.specs.Factory.{factory_header, factory_page as factory_page_of, factory_pin_page};
 ghost use Rattle.card_core.specs.Finding.{Finds, found};
 ghost use Rattle.card_core.specs.Standing.{StandsFor};
 
-use crate::layout::{CARD_IN_USE, MARK};
+use crate::layout::CARD_IN_USE;
+use crate::memory_format::MemoryFormat;
 use block_chain::{FIRST_BLOCK_PAGE, HEADER_PAGE};
-use file_tree::FIRST_ENTRY_PAGE;
+use file_tree::{FIRST_ENTRY_PAGE, MARK, OLD_END_PAGE, OLD_MARK};
 use pin_store::{FIRST_PIN_PAGE, PINS};
-use undo_journal::{Board, DeviceErr, PAGE_WORDS, PAGES};
+use undo_journal::{Board, DeviceErr, PAGE_WORDS};
 
 /// The words of a page.
 type PageWords = [u32; PAGE_WORDS as usize];
 
-/// The mark, the first free block, a card in use.
-#[rattlefmt::skip]
-const HEADER: PageWords = [MARK, FIRST_BLOCK_PAGE as u32 + 1, CARD_IN_USE, 0, 0, 0, 0, 0, 0, 0, 0, 0, 0, 0, 0, 0];
+/// The first free block.
+const FIRST_FREE: u32 = FIRST_BLOCK_PAGE as u32 + 1;
 
 /// The master file, with its rule.
 #[rattlefmt::skip]
@@ -35,12 +37,6 @@ const FILE_ENTRY: PageWords = [
     0x0205_2FE2, 0x0002_0003, 0x0311_0000, 0, 0, 0, 0, 0, 0x000A_0000, 0x0080_0080, 0, 0, 0, 0, 0, 0,
 ];
 
-/// The tries and the values of each PIN.
-#[rattlefmt::skip]
-const PIN_PAGE: PageWords = [
-    3, 10, 0x3132_3334, 0xFFFF_FFFF, 0x3132_3334, 0x3536_3738, 0, 0, 0, 0, 0, 0, 0, 0, 0, 0,
-];
-
 /// The content of the elementary file.
 #[rattlefmt::skip]
 const FILE_BLOCK: PageWords = [
@@ -48,34 +44,90 @@ const FILE_BLOCK: PageWords = [
     0xFFFF_FFFF, 0xFFFF_FFFF, 0xFFFF_FFFF, 0xFFFF_FFFF, 0xFFFF_FFFF, 0xFFFF_FFFF, 0xFFFF_FFFF, 0xFFFF_FFFF,
 ];
 
-/// The words of a page of the factory's memory.
-fn factory_page(page: u16) -> PageWords
-    requires { page < PAGES }
-    ensures { result ≡ factory_page_of page }
+/// The mark, the first free block, a card in use, and of format 2 the page where the blocks end.
+fn header(format: MemoryFormat, end: u16) -> PageWords
+    ensures { result ≡ factory_header format end }
+{
+    let (mark, end) = match format {
+        MemoryFormat::One => (OLD_MARK, 0),
+        MemoryFormat::Two => (MARK, u32::from(end)),
+    };
+    [
+        mark,
+        FIRST_FREE,
+        CARD_IN_USE,
+        end,
+        0,
+        0,
+        0,
+        0,
+        0,
+        0,
+        0,
+        0,
+        0,
+        0,
+        0,
+        0,
+    ]
+}
+
+/// The tries and the values of each PIN, and of format 2 its mark.
+fn pin_page(format: MemoryFormat) -> PageWords
+    ensures { result ≡ factory_pin_page format }
+{
+    let mark = match format {
+        MemoryFormat::One => 0,
+        MemoryFormat::Two => 1,
+    };
+    [
+        3,
+        10,
+        0x3132_3334,
+        0xFFFF_FFFF,
+        0x3132_3334,
+        0x3536_3738,
+        mark,
+        0,
+        0,
+        0,
+        0,
+        0,
+        0,
+        0,
+        0,
+        0,
+    ]
+}
+
+/// The words of a page of the factory's memory, whose blocks end at this page.
+fn factory_page(format: MemoryFormat, end: u16, page: u16) -> PageWords
+    requires page { page < end }
+    ensures words { result ≡ factory_page_of format end page }
 {
     if page == HEADER_PAGE {
-        HEADER
+        header(format, end)
     } else if page == FIRST_ENTRY_PAGE {
         MASTER_ENTRY
     } else if page == FIRST_ENTRY_PAGE + 1 {
         FILE_ENTRY
     } else if (FIRST_PIN_PAGE..FIRST_PIN_PAGE + u16::from(PINS)).contains(&page) {
-        PIN_PAGE
+        pin_page(format)
     } else if page < FIRST_BLOCK_PAGE {
         [0; PAGE_WORDS as usize]
     } else if page == FIRST_BLOCK_PAGE {
         FILE_BLOCK
     } else {
-        free_block(page)
+        free_block(end, page)
     }
 }
 
 /// The words of a free block: the link to the next page, or 0 in the last.
-fn free_block(page: u16) -> PageWords
-    requires { page < PAGES }
-    ensures { result ≡ factory_free_block page }
+fn free_block(end: u16, page: u16) -> PageWords
+    requires page { page < end }
+    ensures words { result ≡ factory_free_block end page }
 {
-    let next = if page + 1 == PAGES {
+    let next = if page + 1 == end {
         0
     } else {
         u32::from(page + 1)
@@ -83,55 +135,81 @@ fn free_block(page: u16) -> PageWords
     [next, 0, 0, 0, 0, 0, 0, 0, 0, 0, 0, 0, 0, 0, 0, 0]
 }
 
-/// Writes each page of the factory's memory, by one device write each.
-fn write_factory<B: Board>(board: &mut B) -> Result<(), DeviceErr>
-    ensures factory { OnOk result (IsFactory (B.facts board.new).words) }
+/// Writes each page of the factory's memory, by one device write each, up to the page where its blocks end.
+fn write_factory<B: Board>(board: &mut B, format: MemoryFormat, end: u16) -> Result<(), DeviceErr>
+    requires least { LEAST_PAGES ≤ end }
+    requires inside { end ≤ pages_of (B.facts board.old).words }
+    ensures written { OnOk result (IsWritten format end (B.facts board.old).words (B.facts board.new).words) }
     ensures power { Answered (B.facts board.old) (B.facts board.new) result }
-    ensures writes { (B.facts board.new).writes ≤ (B.facts board.old).writes + PAGES }
-    ensures more { (B.facts board.old).writes ≤ (B.facts board.new).writes }
-    ensures cut { AimsOn (B.facts board.old) (B.facts board.new) }
-    ensures compares { (B.facts board.new).compares ≡ (B.facts board.old).compares }
-    ensures matches { (B.facts board.new).matches ≡ (B.facts board.old).matches }
+    ensures counts { WritesAtMost end (B.facts board.old) (B.facts board.new) }
 {
-    board.write(HEADER_PAGE, 0, &HEADER)?;
-    write_pages(board)
+    board.write(HEADER_PAGE, 0, &header(format, end))?;
+    write_pages(board, format, end)
 }
 
 /// Writes all pages behind the header.
-fn write_pages<B: Board>(board: &mut B) -> Result<(), DeviceErr>
+fn write_pages<B: Board>(board: &mut B, format: MemoryFormat, end: u16) -> Result<(), DeviceErr>
     requires lit { (B.facts board.old).dark ≡ false }
-    requires header { page_words (B.facts board.old).words HEADER_PAGE ≡ factory_page_of HEADER_PAGE }
-    ensures factory { OnOk result (IsFactory (B.facts board.new).words) }
+    requires least { LEAST_PAGES ≤ end }
+    requires inside { end ≤ pages_of (B.facts board.old).words }
+    requires header { page_words (B.facts board.old).words HEADER_PAGE ≡ factory_page_of format end HEADER_PAGE }
+    ensures written { OnOk result (IsWritten format end (B.facts board.old).words (B.facts board.new).words) }
     ensures power { Answered (B.facts board.old) (B.facts board.new) result }
-    ensures writes { (B.facts board.new).writes + 1 ≤ (B.facts board.old).writes + PAGES }
+    ensures writes { (B.facts board.new).writes + 1 ≤ (B.facts board.old).writes + end }
     ensures more { (B.facts board.old).writes ≤ (B.facts board.new).writes }
     ensures cut { AimsOn (B.facts board.old) (B.facts board.new) }
     ensures compares { (B.facts board.new).compares ≡ (B.facts board.old).compares }
     ensures matches { (B.facts board.new).matches ≡ (B.facts board.old).matches }
 {
-    for page in HEADER_PAGE + 1..PAGES {
-        board.write(page, 0, &factory_page(page))?;
+    for page in HEADER_PAGE + 1..end {
+        board.write(page, 0, &factory_page(format, end, page))?;
     }
     Ok(())
 }
 
-/// Writes the factory's memory to a board: its two files, its PINs, and all other blocks free. Then 895 blocks and 62
-/// entries are free.
+/// Writes the factory's memory to a board, in format 2: its two files, its PINs, and all other blocks of the board free. Then all
+/// blocks but one and 62 entries are free.
 ///
 /// # Errors
 /// What the device answers, with the board: power was off, or was lost; or it failed. The memory then stands for nothing that is
 /// promised.
 pub fn format<B: Board>(mut board: B) -> Result<B, (B, DeviceErr)>
-    ensures factory { IfOk result (λ b. IsFactory (B.facts b).words) }
-    ensures stands { IfOk result (λ b. StandsFor (B.facts b).words factory_card) }
-    ensures found { IfOk result (λ b. Finds (B.facts b).words factory_card) }
-    ensures space { IfOk result (λ b. free_space (found (B.facts b).words).tree ≡ factory_space) }
+    ensures factory { IfOk result (λ b. IsFactory MemoryFormat.Two (B.facts b).words) }
+    ensures stands { IfOk result (λ b. StandsFor (B.facts b).words (factory_card (B.facts b).words)) }
+    ensures found { IfOk result (λ b. Finds (B.facts b).words (factory_card (B.facts b).words)) }
+    ensures space { IfOk result (λ b. card_space (found (B.facts b).words) ≡ factory_space (B.facts b).words) }
+    ensures written { IfOk result (λ b. IsWritten MemoryFormat.Two (pages_of (B.facts board).words) (B.facts board).words
+        (B.facts b).words) }
     ensures power { IfOk result (λ b. Steady (B.facts board) (B.facts b)) }
     ensures power_err { IfErr result (λ e. Answered {T = Unit {0}} (B.facts board) (B.facts e.0) (Err e.1)) }
-    ensures counts { IfOk result (λ b. WritesAtMost PAGES (B.facts board) (B.facts b)) }
-    ensures counts_err { IfErr result (λ e. WritesAtMost PAGES (B.facts board) (B.facts e.0)) }
+    ensures counts { IfOk result (λ b. WritesAtMost (pages_of (B.facts board).words) (B.facts board) (B.facts b)) }
+    ensures counts_err { IfErr result (λ e. WritesAtMost (pages_of (B.facts board).words) (B.facts board) (B.facts e.0)) }
 {
-    match write_factory(&mut board) {
+    let end = board.pages();
+    match write_factory(&mut board, MemoryFormat::Two, end) {
+        Ok(()) => Ok(board),
+        Err(error) => Err((board, error)),
+    }
+}
+
+/// Writes the factory's memory to the first 1,024 pages of a board, in format 1, and leaves the pages behind them as they are. The
+/// card has all blocks of the board from its first start on.
+///
+/// # Errors
+/// What the device answers, with the board: power was off, or was lost; or it failed. The memory then stands for nothing that is
+/// promised.
+pub fn format_old<B: Board>(mut board: B) -> Result<B, (B, DeviceErr)>
+    ensures factory { IfOk result (λ b. IsFactory MemoryFormat.One (B.facts b).words) }
+    ensures stands { IfOk result (λ b. StandsFor (B.facts b).words (factory_card (B.facts b).words)) }
+    ensures found { IfOk result (λ b. Finds (B.facts b).words (factory_card (B.facts b).words)) }
+    ensures space { IfOk result (λ b. card_space (found (B.facts b).words) ≡ factory_space (B.facts b).words) }
+    ensures written { IfOk result (λ b. IsWritten MemoryFormat.One OLD_END_PAGE (B.facts board).words (B.facts b).words) }
+    ensures power { IfOk result (λ b. Steady (B.facts board) (B.facts b)) }
+    ensures power_err { IfErr result (λ e. Answered {T = Unit {0}} (B.facts board) (B.facts e.0) (Err e.1)) }
+    ensures counts { IfOk result (λ b. WritesAtMost OLD_END_PAGE (B.facts board) (B.facts b)) }
+    ensures counts_err { IfErr result (λ e. WritesAtMost OLD_END_PAGE (B.facts board) (B.facts e.0)) }
+{
+    match write_factory(&mut board, MemoryFormat::One, OLD_END_PAGE) {
         Ok(()) => Ok(board),
         Err(error) => Err((board, error)),
     }

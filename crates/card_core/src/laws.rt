@@ -5,11 +5,11 @@ ghost use Rattle.block_chain.specs.Changes.{touched_blocks, touched_words};
 ghost use Rattle.ef_body.specs.Changes.{update_writes};
 ghost use Rattle.card_core.specs.declared.machine.TheConstants.{COMMAND_WRITES};
 ghost use Rattle.card_core.specs.Spending.{writes_of};
-ghost use Rattle.card_core.specs.declared.layout.TheConstants.{MARK};
 ghost use Rattle.block_chain.specs.declared.layout.TheConstants.{HEADER_PAGE};
-ghost use Rattle.file_tree.specs.declared.layout.TheConstants.{STATE_WORD};
+ghost use Rattle.file_tree.specs.declared.layout.TheConstants.{MARK, MARK_WORD, OLD_END_PAGE, OLD_MARK, PAGES_WORD, STATE_WORD};
 ghost use Rattle.pin_store.specs.declared.layout.TheConstants.{FIRST_PIN_PAGE, PINS};
-ghost use Rattle.nvm_board.specs.declared.board.TheConstants.{WORDS};
+ghost use Rattle.nvm_board.specs.Facts.{IsMemory};
+ghost use Rattle.migration.specs.declared.migrating.TheConstants.{PIN_MARK_WORD};
 ghost use Rattle.apdu_core.specs.OfBytes.{AreBytes};
 ghost use Rattle.card_core.specs.Cards.{Card};
 ghost use Rattle.card_core.specs.Finding.{Finds, HasCard, found};
@@ -29,7 +29,7 @@ pub fn one_card()
 
 /// Where no pair of the journal counts and the words are a card's, that card is found.
 pub fn standing_card_is_found()
-    ensures { (m : List ℕ) (c : Card) → length m ≡ WORDS → StandsFor m c → Finds m c }
+    ensures { (m : List ℕ) (c : Card) → IsMemory m → StandsFor m c → Finds m c }
 {}
 
 /// The card that is found is proper: what it holds are bytes, and no record, name or rule is too long.
@@ -66,10 +66,12 @@ pub fn commits_by_their_words()
         → alone_served c s request ++ gated_served c s request ≡ commits_served c s request }
 {}
 
-/// The numbers of the header and of the PINs, as a reader sees them: the mark "TSC1" and the state in words 0 and 2 of page 0,
-/// and the pages of 8 PINs from page 65 on. Those of file entries and blocks are laws of file_tree and block_chain.
+/// The numbers of the header and of the PINs, as a reader sees them: in page 0 the mark, "TSC1" of format 1 and "TSC2" of format
+/// 2, in word 0, the state in word 2, and the page where the blocks of format 2 end in word 3, those of format 1 end at page
+/// 1,024; and the pages of 8 PINs from page 65 on, whose mark in format 2 is word 6. Those of file entries and blocks are laws of file_tree and block_chain.
 pub fn layout()
-    ensures mark { MARK ≡ 0x54534331 }
-    ensures header { (HEADER_PAGE ≡ 0) × (STATE_WORD ≡ 2) }
-    ensures pins { (FIRST_PIN_PAGE ≡ 65) × (PINS ≡ 8) }
+    ensures mark { (OLD_MARK ≡ 0x54534331) × (MARK ≡ 0x54534332) }
+    ensures header { (HEADER_PAGE ≡ 0) × (MARK_WORD ≡ 0) × (STATE_WORD ≡ 2) × (PAGES_WORD ≡ 3) }
+    ensures end { OLD_END_PAGE ≡ 1024 }
+    ensures pins { (FIRST_PIN_PAGE ≡ 65) × (PINS ≡ 8) × (PIN_MARK_WORD ≡ 6) }
 {}

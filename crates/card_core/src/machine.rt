@@ -5,14 +5,15 @@ ghost use Rattle.nvm_board.specs.Aims.{due_of};
 ghost use Rattle.undo_journal.specs.declared.error.StoreErr.TheVariants as StoreErr;
 ghost use Rattle.card_core.specs.declared.faults.StartFault.TheVariants as StartFault;
 ghost use Rattle.card_core.specs.StartFaults.{fault_of_store};
-ghost use Rattle.undo_journal.specs.Spending.{Advances, WritesAtMost, KeepsBoard, KeepsShut, start_writes};
+ghost use Rattle.undo_journal.specs.Spending.{Advances, WritesAtMost, KeepsBoard};
 ghost use Rattle.ef_body.specs.Changes.{update_writes};
-ghost use Rattle.file_tree.specs.Spaces.{free_space};
 ghost use Rattle.apdu_core.specs.Asked.{asked};
 ghost use Rattle.apdu_core.specs.Requests.{update_binary};
 ghost use Rattle.apdu_core.specs.declared.binary.Target.{Target};
 ghost use Rattle.card_core.specs.Comparing.{comparisons, ComparesAsked};
+ghost use Rattle.card_core.specs.Cards.{card_space};
 ghost use Rattle.card_core.specs.Finding.{HasCard, FindsAgain};
+ghost use Rattle.card_core.specs.Starting.{IsNewFound, KeepsFormat, KeepsUnlessOld, TakesAllPages, power_on_writes};
 ghost use Rattle.card_core.specs.Running.{Starts, StartStopsBy, Steps, FailsIn, IsCutIn, card_found, memory_failure};
 ghost use Rattle.card_core.specs.Spending.{writes_of};
 ghost use Rattle.card_core.specs.Stages.{IsStage, ChangesNothing};
@@ -20,11 +21,11 @@ ghost use Rattle.card_core.specs.Words.{StandsAsked};
 ghost use Rattle.card_core.specs.Outcomes.{answer_bytes};
 
 use crate::card_state::CardState;
-use crate::check::find_card;
 use crate::commands::carry_out;
 use crate::current::Current;
 use crate::faults::{PowerLost, StartFault};
 use crate::lent::Lent;
+use crate::renewing::find_renewed;
 use apdu_core::{Answer, Sw};
 use file_tree::FreeSpace;
 use std::marker::Model;
@@ -66,9 +67,10 @@ impl<B: Board> Model for Card<B> {
 }
 
 impl<B: Board> Card<B> {
-    /// Starts the card that the memory stands for, its journal undone, in a fresh session. At every exit the card that is
-    /// found is what it was, so that a start may itself be cut any number of times; where no pair of the journal counts, it
-    /// changes no word and writes nothing.
+    /// Starts the card that the memory stands for, its journal undone, in a fresh session. A memory of format 1 becomes one of
+    /// format 2 that has all pages of its board. At every exit the card that is found is what it was, in the format that it
+    /// had or in format 2, so that a start may itself be cut any number of times; where no pair of the journal counts, and
+    /// there is no card of format 1, it changes no word and writes nothing.
     ///
     /// # Errors
     /// Why the card doesn't start, with the board: power was off, or was lost; the device failed; the journal can't be undone;
@@ -79,17 +81,22 @@ impl<B: Board> Card<B> {
         ensures has_card { IfOk result (λ c. HasCard c.facts.words) }
         ensures found { IfOk result (λ c. FindsAgain (B.facts board).words c.facts.words) }
         ensures found_err { IfErr result (λ e. FindsAgain (B.facts board).words (B.facts e.0).words) }
-        ensures shut { IfOk result (λ c. KeepsShut (B.facts board) c.facts) }
-        ensures shut_err { IfErr result (λ e. KeepsShut (B.facts board) (B.facts e.0)) }
-        ensures writes { IfOk result (λ c. WritesAtMost (start_writes (B.facts board)) (B.facts board) c.facts) }
-        ensures writes_err { IfErr result (λ e. WritesAtMost (start_writes (B.facts board)) (B.facts board) (B.facts
+        // The card is of format 2 then, and where it wasn't it has got all pages of the board; a start that stops leaves it in
+        // its format, or in format 2.
+        ensures format { IfOk result (λ c. IsNewFound c.facts.words) }
+        ensures all_pages { IfOk result (λ c. TakesAllPages (B.facts board).words c.facts.words) }
+        ensures format_err { IfErr result (λ e. KeepsFormat (B.facts board).words (B.facts e.0).words) }
+        ensures shut { IfOk result (λ c. KeepsUnlessOld (B.facts board) c.facts) }
+        ensures shut_err { IfErr result (λ e. KeepsUnlessOld (B.facts board) (B.facts e.0)) }
+        ensures writes { IfOk result (λ c. WritesAtMost (power_on_writes (B.facts board)) (B.facts board) c.facts) }
+        ensures writes_err { IfErr result (λ e. WritesAtMost (power_on_writes (B.facts board)) (B.facts board) (B.facts
             e.0)) }
     {
         let mut store = match Store::open(board) {
             Ok(store) => store,
             Err((board, fault)) => return Err((board, StartFault::from(fault))),
         };
-        match space_of(find_card(&mut store)) {
+        match space_of(find_renewed(&mut store)) {
             Ok(free) => Ok(Card {
                 lent: Lent {
                     store,
@@ -114,7 +121,7 @@ impl<B: Board> Card<B> {
     /// The free space of the card, from counts that each command keeps: blocks and file entries. It is told as long as the
     /// card works.
     pub fn free(&self) -> FreeSpace
-        ensures { self.now.state ≡ CardState.Working → result ≡ free_space (card_found self.now).tree }
+        ensures { self.now.state ≡ CardState.Working → result ≡ card_space (card_found self.now) }
     {
         self.lent.free
     }

@@ -31,7 +31,8 @@ use Rattle.pin_store.specs.laws.PinPages.{few_tries}
 use Rattle.card_core.specs.Finding.{HasCard, found, words_found}
 use Rattle.card_core.specs.Proper.{AreRecords, IsProper, IsProperBody, IsProperFile, IsProperKind, IsProperName}
 use Rattle.card_core.specs.Proper.{IsProperShort, IsRecord}
-use Rattle.card_core.specs.Standing.{card_of, IsCard}
+use Rattle.card_core.specs.Standing.{card_of, IsAnyCard}
+use Rattle.card_core.specs.laws.CardLaws.{any_pins, any_tree}
 
 abbrev byte : ℕ → Type 0
 byte number = number < 256
@@ -230,12 +231,12 @@ proper-pins m pages =
     let small : get_or (range_with_len 0 PINS) k d < PINS = omega (arith, place, below) in
     few_tries m (get_or (range_with_len 0 PINS) k d) (pages.each (get_or (range_with_len 0 PINS) k d) small))
 
-pub proper-card : (m : List ℕ) → IsCard m → IsProper (card_of m)
+pub proper-card : (m : List ℕ) → IsAnyCard m → IsProper (card_of m)
 unfolding card_of
 proper-card m words = record {
-  files = proper-file m words.tree;
-  identifiers = small-identifier m words.tree;
-  pins = proper-pins m words.pins;
+  files = proper-file m (any_tree m words);
+  identifiers = small-identifier m (any_tree m words);
+  pins = proper-pins m (any_pins m words);
 }
 
 pub found_is_proper : (m : List ℕ) → HasCard m → IsProper (found m)

@@ -1,4 +1,4 @@
-use Rattle.std.proofs.Common.{◌≡◌, ◌<◌, ◌+◌, ℕ}
+use Rattle.std.proofs.Common.{◌≡◌, ◌<◌, ◌≤◌, ◌+◌, ℕ, length}
 use Rattle.nvm_board.specs.Aims.{AimsOn}
 use Rattle.nvm_board.specs.Facts.{Steady}
 use Rattle.card_core.specs.Factory.{factory_page}
@@ -14,5 +14,7 @@ invariant-loop-page g l =
       writes : now.writes + 1 ≡ first.writes + l.page;
       compares : now.compares ≡ first.compares;
       matches : now.matches ≡ first.matches;
-      so_far : (page : ℕ) → page < l.page → page_words now.words page ≡ factory_page page;
+      size : length now.words ≡ length first.words;
+      so_far : (page : ℕ) → page < l.page → page_words now.words page ≡ factory_page l.format l.end page;
+      behind : (page : ℕ) → l.end ≤ page → page_words now.words page ≡ page_words first.words page;
     }

@@ -96,5 +96,10 @@ returns-clause-serves g c =
 pub returns-clause-space : goal.returns-clause-space
 returns-clause-space g c =
     let m = committed c.args.store.now in
+    let found = said_ok _ _ c.in_ok-file.field-0 c.in-Ok.file c.in-Ok.is c.in_ok-file.ensures.found in
+    let same = c.find_deletable.ensures.store.only.keeps.committed_words in
+    let card = any-stands m c.requires.kept.ready.usable.committed_size c.requires.kept.card c.args.current.now c.args.subject
+    c.in-Ok.file.number found.below found.used found.place (committed c.find_deletable.new.store)
+    (committed c.delete.new.store) same c.delete.ensures.any_exit in
     deleted-space m (committed c.find_deletable.new.store) (committed c.delete.new.store) c.args.free.now
-    c.in_ok-freed.freed c.requires.space c.find_deletable.ensures.store.only.keeps.committed_words c.in_ok-freed.ensures.space
+    c.in_ok-freed.freed c.requires.space same c.in_ok-freed.ensures.space c.requires.kept.card card

@@ -1,4 +1,4 @@
-use Rattle.std.proofs.Common.{refl, ◌≡◌, ◌⊎◌, ◌+◌, ◌≤◌, OnOk, OnErr, sym, ◌∙◌, ap, subst, arith, length}
+use Rattle.std.proofs.Common.{refl, ◌≡◌, ◌⊎◌, ◌+◌, ◌≤◌, inl, OnOk, OnErr, sym, ◌∙◌, ap, subst, arith, length}
 use Rattle.nvm_board.specs.laws.Aims.{aim_same, aims_same}
 use Rattle.undo_journal.specs.Spending.{Advances, KeepsBoard}
 use Rattle.apdu_core.specs.Asked.{asked}
@@ -32,7 +32,7 @@ ends g c = record {
 there : (g : Over) (c : After-end_command g) → HasCard c.carry_out-carried.new.lent.store.facts.words
 there g c =
     let carries = c.carry_out-carried.ensures.carries in
-    record { journal = carries.reports.sound c.self.invariant.0.journal; words = carries.card }
+    record { journal = carries.reports.sound c.self.invariant.0.journal; words = inl carries.card }
 
 pub end_command-requires : goal.end_command-requires
 end_command-requires g c = c.carry_out-carried.ensures.carries.room

@@ -1,44 +1,51 @@
-use Rattle.std.proofs.Common.{◌≡◌, Option, None, Result, IfOk, refl, sym, subst, ◌∙◌, ap}
+use Rattle.std.proofs.Common.{◌≡◌, ℕ, List, Option, None, Result, IfOk, inl, refl, sym, subst, ◌∙◌, ap, arith}
 use Rattle.std.specs.Result.{result_err}
 use Rattle.card_core.proofs.Verified.{marked-none}
 use Rattle.undo_journal.specs.declared.error.StoreErr.{StoreErr}
 use Rattle.undo_journal.specs.Memory.{committed}
-use Rattle.undo_journal.specs.Spending.{start_writes, KeepsBoard, WritesAtMost}
+use Rattle.undo_journal.specs.Spending.{KeepsBoard, WritesAtMost}
 use Rattle.undo_journal.specs.Undo.{data_words}
 use Rattle.card_core.specs.Finding.{FindsAgain}
 use Rattle.file_tree.specs.declared.space.FreeSpace.{FreeSpace}
-use Rattle.card_core.specs.Standing.{IsCard}
+use Rattle.card_core.specs.Standing.{IsAnyCard}
 use Rattle.card_core.specs.declared.card_state.CardState.TheVariants.{Working, Dark}
 use Rattle.card_core.specs.declared.current.Current.{Current}
-use Rattle.card_core.specs.Working.{IsKept, session_of, table_in, TellsCard}
+use Rattle.card_core.specs.Working.{IsKept, session_of, table_in, TellsRenewed}
 use Rattle.card_core.proofs.Entries.{master-path}
 use Rattle.nvm_board.specs.Facts.{Facts}
 use Rattle.card_core.specs.Running.{StartStopsBy}
-use Rattle.undo_journal.specs.laws.Calls.{boards_then, spends_before}
-use Rattle.card_core.proofs.Powers.{found-again, found-there, starts-kept, stops-found, stops-opening}
+use Rattle.undo_journal.specs.laws.Calls.{boards_then, within_more}
+use Rattle.block_chain.specs.Words.{word}
+use Rattle.block_chain.specs.declared.layout.TheConstants.{HEADER_PAGE}
+use Rattle.file_tree.specs.declared.layout.TheConstants.{MARK_WORD}
+use Rattle.card_core.specs.Standing.{IsOldCard}
+use Rattle.card_core.specs.Starting.{KeepsFormat, power_on_writes}
+use Rattle.card_core.specs.laws.CardLaws.{card_format}
+use Rattle.card_core.proofs.Migrated.{found-again, found-format, found-pages, found-still, spends-on}
+use Rattle.card_core.proofs.Powers.{found-there, starts-kept, stops-found, stops-opening}
 use Rattle.card_core.proofs.machine.Card.start.Goals as goal
 
 pub returns-in-Err-space_of-clause-stopped : goal.returns-in-Err-space_of-clause-stopped
 returns-in-Err-space_of-clause-stopped g c =
     let first = g.B.Board.facts c.args.board in
     subst (λ (now : Facts). StartStopsBy c.in-Err-space_of.fault first now) (sym c.into_board.ensures)
-    (stops-found first c.in-Ok.store c.find_card.new.store c.in-Ok.ensures.light c.in-Ok.ensures.sound
-    c.in-Ok.ensures.found c.in-Ok.ensures.ready.usable.works c.find_card.ensures.store.only.reports c.find_card.result
-    c.space_of.result c.in-Err-space_of.fault c.space_of.ensures c.in-Err-space_of.is c.find_card.ensures.card
-    c.find_card.ensures.store.tells)
+    (stops-found first c.in-Ok.store c.find_renewed.new.store c.in-Ok.ensures.light c.in-Ok.ensures.sound
+    c.in-Ok.ensures.found c.in-Ok.ensures.ready.usable.works c.find_renewed.ensures.store.reports c.find_renewed.result
+    c.space_of.result c.in-Err-space_of.fault c.space_of.ensures c.in-Err-space_of.is c.find_renewed.ensures.card
+    c.find_renewed.ensures.store.tells)
 
 pub returns-in-Ok-space_of-clause-started : goal.returns-in-Ok-space_of-clause-started
 returns-in-Ok-space_of-clause-started g c =
-    let there = found-there c.find_card.result c.space_of.result c.in-Ok-space_of.free c.space_of.ensures
+    let there = found-there c.find_renewed.result c.space_of.result c.in-Ok-space_of.free c.space_of.ensures
     c.in-Ok-space_of.is in
-    let works = c.find_card.ensures.store.tells ∙ ap (λ (r : Result (Option FreeSpace) StoreErr). result_err r) there in
-    let same = (c.find_card.ensures.store.only.reports.works works).1 in
+    let works = c.find_renewed.ensures.store.tells ∙ ap (λ (r : Result (Option FreeSpace) StoreErr). result_err r) there in
+    let same = (c.find_renewed.ensures.store.reports.works works).1 in
     let steady = c.in-Ok.ensures.light in
-    let told = subst (λ (r : Result (Option FreeSpace) StoreErr). IfOk r (TellsCard (committed c.in-Ok.store))) there
-    c.find_card.ensures.card in
-    let path = master-path (committed c.find_card.new.store) in
+    let told = subst (λ (r : Result (Option FreeSpace) StoreErr). IfOk r (TellsRenewed (committed c.in-Ok.store)
+    (committed c.find_renewed.new.store))) there c.find_renewed.ensures.card in
+    let path = master-path (committed c.find_renewed.new.store) in
     record {
-      has_card = record { journal = c.in-Ok.ensures.sound; words = subst IsCard c.in-Ok.ensures.found told.0 };
+      has_card = record { journal = c.in-Ok.ensures.sound; words = subst IsAnyCard c.in-Ok.ensures.found told.0 };
       power = record {
         was_lit = steady.was_lit;
         lit = same.dark ∙ steady.lit;
@@ -46,20 +53,20 @@ returns-in-Ok-space_of-clause-started g c =
         cuts = same.cuts ∙ steady.cuts;
         due = same.due ∙ steady.due;
       };
-      session = ap (session_of (table_in c.find_card.new.store)) c.fresh.ensures
+      session = ap (session_of (table_in c.find_renewed.new.store)) c.fresh.ensures
           ∙ (λ i. record { current_df = path i; current_ef = None; pointer = None; verified = marked-none i });
       state = refl;
     }
 
 pub invariant_of-result : goal.invariant_of-result
 invariant_of-result g c =
-    let there = found-there c.find_card.result c.space_of.result c.in-Ok-space_of.free c.space_of.ensures
+    let there = found-there c.find_renewed.result c.space_of.result c.in-Ok-space_of.free c.space_of.ensures
     c.in-Ok-space_of.is in
-    let kept = starts-kept c.in-Ok.store c.find_card.new.store c.in-Ok-space_of.free c.find_card.result there
-    c.in-Ok.ensures.defined c.find_card.ensures.card c.find_card.ensures.store in (
+    let kept = starts-kept c.in-Ok.store c.find_renewed.new.store _ c.in-Ok-space_of.free c.find_renewed.result there
+    c.in-Ok.ensures.defined c.find_renewed.ensures.card c.find_renewed.ensures.store in (
       kept.0,
       λ works. record {
-        kept = subst (λ (x : Current). IsKept c.find_card.new.store x) (sym c.fresh.ensures) kept.1;
+        kept = subst (λ (x : Current). IsKept c.find_renewed.new.store x) (sym c.fresh.ensures) kept.1;
         space = kept.2;
       },
       λ dark. let never : Working ≡ Dark = dark in cc,
@@ -70,45 +77,70 @@ returns-in-Ok-space_of-clause-has_card g c = (invariant_of-result g c).0
 
 pub returns-in-Ok-space_of-clause-found : goal.returns-in-Ok-space_of-clause-found
 returns-in-Ok-space_of-clause-found g c =
-    found-again (g.B.Board.facts c.args.board).words c.in-Ok.store c.find_card.new.store
-    c.find_card.ensures.store.only.keeps.committed_words c.in-Ok.ensures.found c.in-Ok.ensures.sound
-    (c.find_card.ensures.store.only.reports.sound c.in-Ok.ensures.defined)
+    found-again (g.B.Board.facts c.args.board).words c.in-Ok.store c.find_renewed.new.store
+    c.in-Ok.ensures.ready.usable.committed_size c.in-Ok.ensures.found c.find_renewed.ensures.any_exit c.in-Ok.ensures.sound
+    (c.find_renewed.ensures.store.reports.sound c.in-Ok.ensures.defined)
+
+pub returns-in-Ok-space_of-clause-format : goal.returns-in-Ok-space_of-clause-format
+returns-in-Ok-space_of-clause-format g c =
+    let kept = invariant_of-result g c in
+    card_format (committed c.find_renewed.new.store) (kept.1 refl).kept.card
+
+pub returns-in-Ok-space_of-clause-all_pages : goal.returns-in-Ok-space_of-clause-all_pages
+returns-in-Ok-space_of-clause-all_pages g c =
+    let kept = invariant_of-result g c in
+    found-pages (g.B.Board.facts c.args.board).words c.in-Ok.store c.find_renewed.new.store
+    c.in-Ok.ensures.ready.usable.committed_size c.in-Ok.ensures.found c.find_renewed.ensures.any_exit (kept.1 refl).kept.card
 
 pub returns-in-Ok-space_of-clause-shut : goal.returns-in-Ok-space_of-clause-shut
 returns-in-Ok-space_of-clause-shut g c =
-    λ shut. boards_then _ _ _ (c.in-Ok.ensures.shut shut) c.find_card.ensures.store.only.board
+    λ shut new. boards_then _ _ _ (c.in-Ok.ensures.shut shut)
+        (c.find_renewed.ensures.idle (subst (λ (l : List ℕ). ¬ IsOldCard l) (sym c.in-Ok.ensures.found) new)).board
 
 pub returns-in-Ok-space_of-clause-writes : goal.returns-in-Ok-space_of-clause-writes
 returns-in-Ok-space_of-clause-writes g c =
-    spends_before _ _ _ _ c.in-Ok.ensures.writes c.find_card.ensures.store.only.board
+    spends-on _ c.in-Ok.store c.find_renewed.new.store c.in-Ok.ensures.found c.in-Ok.ensures.writes
+    c.find_renewed.ensures.store.writes
 
 pub returns-in-Err-space_of-clause-found_err : goal.returns-in-Err-space_of-clause-found_err
 returns-in-Err-space_of-clause-found_err g c =
     subst (λ (now : Facts). FindsAgain (g.B.Board.facts c.args.board).words now.words) (sym c.into_board.ensures)
-    (found-again (g.B.Board.facts c.args.board).words c.in-Ok.store c.find_card.new.store
-    c.find_card.ensures.store.only.keeps.committed_words c.in-Ok.ensures.found c.in-Ok.ensures.sound
-    (c.find_card.ensures.store.only.reports.sound c.in-Ok.ensures.defined))
+    (found-again (g.B.Board.facts c.args.board).words c.in-Ok.store c.find_renewed.new.store
+    c.in-Ok.ensures.ready.usable.committed_size c.in-Ok.ensures.found c.find_renewed.ensures.any_exit c.in-Ok.ensures.sound
+    (c.find_renewed.ensures.store.reports.sound c.in-Ok.ensures.defined))
+
+pub returns-in-Err-space_of-clause-format_err : goal.returns-in-Err-space_of-clause-format_err
+returns-in-Err-space_of-clause-format_err g c =
+    subst (λ (now : Facts). KeepsFormat (g.B.Board.facts c.args.board).words now.words) (sym c.into_board.ensures)
+    (found-format (g.B.Board.facts c.args.board).words c.in-Ok.store c.find_renewed.new.store
+    c.in-Ok.ensures.ready.usable.committed_size c.in-Ok.ensures.found c.find_renewed.ensures.any_exit)
 
 pub returns-in-Err-space_of-clause-shut_err : goal.returns-in-Err-space_of-clause-shut_err
 returns-in-Err-space_of-clause-shut_err g c =
-    λ shut. subst (λ (now : Facts). KeepsBoard (g.B.Board.facts c.args.board) now) (sym c.into_board.ensures)
-    (boards_then _ _ _ (c.in-Ok.ensures.shut shut) c.find_card.ensures.store.only.board)
+    λ shut new. subst (λ (now : Facts). KeepsBoard (g.B.Board.facts c.args.board) now) (sym c.into_board.ensures)
+    (boards_then _ _ _ (c.in-Ok.ensures.shut shut)
+    (c.find_renewed.ensures.idle (subst (λ (l : List ℕ). ¬ IsOldCard l) (sym c.in-Ok.ensures.found) new)).board)
 
 pub returns-in-Err-space_of-clause-writes_err : goal.returns-in-Err-space_of-clause-writes_err
 returns-in-Err-space_of-clause-writes_err g c =
     let first = g.B.Board.facts c.args.board in
-    subst (λ (now : Facts). WritesAtMost (start_writes first) first now) (sym c.into_board.ensures)
-    (spends_before _ _ _ _ c.in-Ok.ensures.writes c.find_card.ensures.store.only.board)
+    subst (λ (now : Facts). WritesAtMost (power_on_writes first) first now) (sym c.into_board.ensures)
+    (spends-on first c.in-Ok.store c.find_renewed.new.store c.in-Ok.ensures.found c.in-Ok.ensures.writes
+    c.find_renewed.ensures.store.writes)
 
 pub returns-in-Err-clause-stopped : goal.returns-in-Err-clause-stopped
 returns-in-Err-clause-stopped g c = stops-opening _ _ _ _ c.from.ensures c.in-Err.ensures.not_opened
 
 pub returns-in-Err-clause-found_err : goal.returns-in-Err-clause-found_err
 returns-in-Err-clause-found_err g c =
-    record { words = ap data_words c.in-Err.ensures.kept_err; journal = c.in-Err.ensures.sound_err }
+    found-still _ _ (ap data_words c.in-Err.ensures.kept_err) c.in-Err.ensures.sound_err
+
+pub returns-in-Err-clause-format_err : goal.returns-in-Err-clause-format_err
+returns-in-Err-clause-format_err g c =
+    inl (ap (λ (l : List ℕ). word l HEADER_PAGE MARK_WORD) (ap data_words c.in-Err.ensures.kept_err))
 
 pub returns-in-Err-clause-shut_err : goal.returns-in-Err-clause-shut_err
-returns-in-Err-clause-shut_err g c = c.in-Err.ensures.shut_err
+returns-in-Err-clause-shut_err g c = λ shut new. c.in-Err.ensures.shut_err shut
 
 pub returns-in-Err-clause-writes_err : goal.returns-in-Err-clause-writes_err
-returns-in-Err-clause-writes_err g c = c.in-Err.ensures.writes_err
+returns-in-Err-clause-writes_err g c = within_more _ _ _ _ (omega arith) c.in-Err.ensures.writes_err

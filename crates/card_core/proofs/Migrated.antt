@@ -1,0 +1,152 @@
+-- A card of format 1 that becomes one of format 2, at whatever exit, and what a start finds then.
+use Rattle.std.specs.Prelude.{◌↔◌}
+use Rattle.std.proofs.Common.{◌≡◌, ◌≢◌, ◌⊎◌, ◌+◌, ◌-◌, ◌<◌, ◌≤◌, ◌==◌, ℕ, Bool, true, false, true≢false, List, length, if◌then◌else◌}
+use Rattle.std.proofs.Common.{Option, Some, None, refl, sym, ◌∙◌, ap, subst, arith, inl, inr, ⊎_elim}
+use Rattle.nvm_board.specs.Facts.{Facts, IsMemory, pages_of}
+use Rattle.nvm_board.specs.laws.Sizes.{pages_same}
+use Rattle.undo_journal.specs.Memory.{committed, Memory}
+use Rattle.undo_journal.specs.Spending.{WritesAtMost, start_writes}
+use Rattle.undo_journal.specs.Undo.{undo, IsSound}
+use Rattle.undo_journal.specs.UndoLaws.{length-undo, length-data_words}
+use Rattle.undo_journal.specs.laws.Memory.{writes_then}
+use Rattle.block_chain.specs.Words.{word}
+use Rattle.block_chain.specs.declared.layout.TheConstants.{FIRST_BLOCK_PAGE, HEADER_PAGE}
+use Rattle.file_tree.specs.Formats.{block_count, end_page, is_format_2}
+use Rattle.file_tree.specs.declared.layout.TheConstants.{MARK, MARK_WORD, PAGES_WORD}
+use Rattle.file_tree.specs.laws.Formats.{count_is, end_new}
+use Rattle.pin_store.specs.laws.AllPins.{pages_kept, pins_kept}
+use Rattle.migration.specs.Migrating.{IsNew, Migrates, migration_writes}
+use Rattle.card_core.specs.Finding.{words_found, FindsAgain}
+use Rattle.card_core.specs.Standing.{card_blocks, card_of, IsAnyCard, IsCard, IsOldCard}
+use Rattle.card_core.specs.Starting.{IsNewFound, KeepsFormat, TakesAllPages, power_on_writes}
+use Rattle.card_core.specs.laws.CardLaws.{blocks_new, blocks_old, card_format, marked_new, marked_old, old_format, old_mark}
+
+-- the memory is as it was, or that of a card of format 1 which is still one, or is one of format 2
+abbrev pub IsRenewed : List ℕ → List ℕ → Type 0
+IsRenewed m after = (after ≡ m) ⊎ (IsOldCard m × Migrates m after)
+
+module _ (m after : List ℕ) (sized : IsMemory m) (old : IsOldCard m) (migrates : Migrates m after) where
+  abbrev Format : Type 0
+  Format = (word after HEADER_PAGE MARK_WORD ≡ word m HEADER_PAGE MARK_WORD) ⊎ IsNew after
+
+  pages-are : pages_of after ≡ pages_of m
+  pages-are = pages_same m after migrates.keeps.size
+
+  still-old : word after HEADER_PAGE MARK_WORD ≡ word m HEADER_PAGE MARK_WORD → IsOldCard after
+  still-old same = record {
+    header = record {
+      mark = same ∙ old.header.mark;
+      state = let was = old.header.state in let is = migrates.keeps.state in omega (arith, is, was);
+    };
+    tree = migrates.keeps.stands;
+    pins = pages_kept m after migrates.keeps.pins old.pins;
+  }
+
+  -- where it has become one of format 2
+  pub renewed-card : IsNew after → IsCard after
+  renewed-card new = record {
+    header = record {
+      mark = new.mark;
+      end = let pages = new.pages in let same = pages-are in omega (arith, pages, same, sized.least);
+      state = let was = old.header.state in let is = migrates.keeps.state in omega (arith, is, was);
+    };
+    tree = migrates.keeps.stands;
+    pins = pages_kept m after migrates.keeps.pins old.pins;
+    marks = new.pins;
+  }
+
+  any-migrated : IsAnyCard after
+  any-migrated = ⊎_elim (λ (same : word after HEADER_PAGE MARK_WORD ≡ word m HEADER_PAGE MARK_WORD). inr (still-old same))
+      (λ (new : IsNew after). inl (renewed-card new)) migrates.format
+
+  -- it has as many blocks, once it is started
+  blocks-are : card_blocks after ≡ card_blocks m
+  blocks-are =
+      let was = blocks_old m (old_format m old) in
+      let same = pages-are in
+      ⊎_elim
+      (λ (kept : word after HEADER_PAGE MARK_WORD ≡ word m HEADER_PAGE MARK_WORD).
+      let now = blocks_old after (old_format after (still-old kept)) in omega (arith, was, now, same))
+      (λ (new : IsNew after).
+      let now = blocks_new after (marked_new after new.mark) in
+      let count = count_is after in
+      let end = end_new after new.mark in
+      let pages = new.pages in
+      omega (arith, was, now, count, end, pages, same)) migrates.format
+
+  card-migrated : card_of after ≡ card_of m
+  unfolding card_of
+  card-migrated =
+      let tree = migrates.keeps.tree in
+      let pins = pins_kept m after migrates.keeps.pins in
+      let state = migrates.keeps.state in
+      let blocks = blocks-are in
+      λ i. record { tree = tree i; pins = pins i; in_use = state i == 0; blocks = blocks i }
+
+-- where the same words are found, the same card is
+pub found-still : (old new : List ℕ) → words_found new ≡ words_found old → (IsSound new ↔ IsSound old) → FindsAgain old new
+found-still old new same sound = record {
+  card = λ there. (record { journal = sound.1 there.journal; words = subst IsAnyCard (sym same) there.words }, ap card_of same);
+  none = λ there. record { journal = sound.0 there.journal; words = subst IsAnyCard same there.words };
+  journal = sound;
+}
+
+-- What is found after an opening, and a renewal behind it: `first` is the board before them, `opened` and `last` are the store.
+module _ (first : List ℕ) (opened last : Memory) (sized : IsMemory (committed opened)) (undone : committed opened ≡ words_found first)
+    (exit : IsRenewed (committed opened) (committed last)) where
+  pub found-again : IsSound first → IsSound last.facts.words → FindsAgain first last.facts.words
+  found-again sound still = ⊎_elim
+      (λ (kept : committed last ≡ committed opened). let same : committed last ≡ words_found first = kept ∙ undone in
+      record {
+        card = λ there. (record { journal = still; words = subst IsAnyCard (sym same) there.words }, ap card_of same);
+        none = λ there. record { journal = sound; words = subst IsAnyCard same there.words };
+        journal = (λ there. sound, λ there. still);
+      })
+      (λ (migrated : IsOldCard (committed opened) × Migrates (committed opened) (committed last)).
+      record {
+        card = λ there. (
+          record {
+            journal = still;
+            words = any-migrated (committed opened) (committed last) sized migrated.0 migrated.1;
+          },
+          card-migrated (committed opened) (committed last) sized migrated.0 migrated.1 ∙ ap card_of undone,
+        );
+        none = λ there. record { journal = sound; words = subst IsAnyCard undone (inr migrated.0) };
+        journal = (λ there. sound, λ there. still);
+      }) exit
+
+  pub found-format : KeepsFormat first last.facts.words
+  found-format = ⊎_elim
+      (λ (kept : committed last ≡ committed opened). inl (ap (λ (l : List ℕ). word l HEADER_PAGE MARK_WORD) (kept ∙ undone)))
+      (λ (migrated : IsOldCard (committed opened) × Migrates (committed opened) (committed last)). ⊎_elim
+      (λ (same : word (committed last) HEADER_PAGE MARK_WORD ≡ word (committed opened) HEADER_PAGE MARK_WORD).
+      inl (same ∙ ap (λ (l : List ℕ). word l HEADER_PAGE MARK_WORD) undone))
+      (λ (new : IsNew (committed last)). inr (marked_new (committed last) new.mark)) migrated.1.format) exit
+
+  -- a card of format 2 that was of format 1 has all pages
+  pub found-pages : IsCard (committed last) → TakesAllPages first last.facts.words
+  found-pages card = λ was. ⊎_elim
+      (λ (kept : committed last ≡ committed opened).
+      absurd (true≢false (sym (card_format (committed last) card) ∙ ap is_format_2 (kept ∙ undone) ∙ was)))
+      (λ (migrated : IsOldCard (committed opened) × Migrates (committed opened) (committed last)). ⊎_elim
+      (λ (same : word (committed last) HEADER_PAGE MARK_WORD ≡ word (committed opened) HEADER_PAGE MARK_WORD).
+      absurd (old_mark (committed opened) migrated.0 (sym same ∙ card.header.mark)))
+      (λ (new : IsNew (committed last)). end_new (committed last) new.mark ∙ new.pages
+      ∙ pages_same last.facts.words (committed last) (length-data_words (undo last.facts.words) ∙ length-undo last.facts.words))
+      migrated.1.format) exit
+
+-- what an opening and a renewal spend together
+pub spends-on : (first : Facts) (opened last : Memory) → committed opened ≡ words_found first.words
+    → WritesAtMost (start_writes first) first opened.facts
+    → WritesAtMost (if is_format_2 (committed opened) then 0 else migration_writes (pages_of (committed opened))) opened.facts last.facts
+    → WritesAtMost (power_on_writes first) first last.facts
+spends-on first opened last undone before after =
+    let size : length (committed opened) ≡ length first.words =
+    ap (λ (l : List ℕ). length l) undone ∙ length-data_words (undo first.words) ∙ length-undo first.words in
+    let pages = pages_same first.words (committed opened) size in
+    let bound : (if is_format_2 (committed opened) then 0 else migration_writes (pages_of (committed opened)))
+    ≡ (if is_format_2 (words_found first.words) then 0 else migration_writes (pages_of first.words)) =
+    λ i. if is_format_2 (undone i) then 0 else migration_writes (pages i) in
+    subst (λ (n : ℕ). WritesAtMost (start_writes first + n) first last.facts) bound
+    (writes_then (start_writes first) (if is_format_2 (committed opened) then 0 else migration_writes (pages_of (committed opened)))
+    first opened.facts last.facts before after)

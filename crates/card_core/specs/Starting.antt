@@ -1,0 +1,34 @@
+-- What a start makes of the format of a memory, and how many device writes it makes at most.
+use Rattle.std.specs.Prelude.{◌≡◌, ◌⊎◌, ◌+◌, ℕ, false, if◌then◌else◌, IsTrue, List}
+use Rattle.nvm_board.specs.Facts.{Facts, pages_of}
+use Rattle.undo_journal.specs.Spending.{start_writes, KeepsBoard}
+use Rattle.undo_journal.specs.Undo.{gate}
+use Rattle.block_chain.specs.Words.{word}
+use Rattle.block_chain.specs.declared.layout.TheConstants.{HEADER_PAGE}
+use Rattle.file_tree.specs.Formats.{end_page, is_format_2}
+use Rattle.file_tree.specs.declared.layout.TheConstants.{MARK_WORD}
+use Rattle.migration.specs.Migrating.{migration_writes}
+use Rattle.card_core.specs.Finding.{words_found}
+use Rattle.card_core.specs.Standing.{IsOldCard}
+
+-- what is found is of format 2
+abbrev pub IsNewFound : List ℕ → Type 0
+IsNewFound m = IsTrue (is_format_2 (words_found m))
+
+-- the mark of what is found is as it was, or that of format 2
+abbrev pub KeepsFormat : List ℕ → List ℕ → Type 0
+KeepsFormat old new =
+    (word (words_found new) HEADER_PAGE MARK_WORD ≡ word (words_found old) HEADER_PAGE MARK_WORD) ⊎ IsNewFound new
+
+-- what was not of format 2 has all pages of its board
+abbrev pub TakesAllPages : List ℕ → List ℕ → Type 0
+TakesAllPages old new = is_format_2 (words_found old) ≡ false → end_page (words_found new) ≡ pages_of new
+
+-- Where no pair of the journal counts, a start leaves the board as it is, unless there is a card of format 1.
+abbrev pub KeepsUnlessOld : Facts → Facts → Type 0
+KeepsUnlessOld old new = gate old.words ≡ 0 → ¬ IsOldCard (words_found old.words) → KeepsBoard old new
+
+-- device writes of a start at most: those of the rollback, and where the memory isn't of format 2 those of the way to it
+abbrev pub power_on_writes : Facts → ℕ
+power_on_writes facts =
+    start_writes facts + (if is_format_2 (words_found facts.words) then 0 else migration_writes (pages_of facts.words))
