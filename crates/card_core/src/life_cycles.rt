@@ -13,11 +13,12 @@ ghost use Rattle.card_core.specs.Served.{Serves};
 ghost use Rattle.card_core.specs.Standing.{IsCard};
 ghost use Rattle.card_core.specs.Working.{card_in, session_in, space_in, table_in, IsKept};
 
+use crate::access::allows;
 use crate::current::Current;
 use apdu_core::{LifeCycleChange, Subject, Sw};
 use card_rules::{AccessBit, LifeCycle, LifeCycleCommand};
 use file_tree::{
-    Entry, is_allowed, kinds, next_life_cycle, read_entry, select, set_life_cycle, terminate_card,
+    Entry, kinds, next_life_cycle, read_entry, select, set_life_cycle, terminate_card,
 };
 use undo_journal::{Board, Store, StoreErr};
 
@@ -60,7 +61,7 @@ pub(crate) fn terminate_card_usage<B: Board>(
     requires kept { IsKept store.old current.now }
     ensures { Serves (terminating) store.old current.now store.new current.now [] result }
 {
-    if !is_allowed(store, 0, AccessBit::Terminate, &current.verified)? {
+    if !allows(store, current, 0, AccessBit::Terminate)? {
         return Ok(Sw::ACCESS_DENIED);
     }
     terminate_card(store)?;
@@ -106,7 +107,7 @@ fn read_change<B: Board>(
     ensures store { Reads store.old store.new (result_err result) }
 {
     let next = next_life_cycle(store, number, command_of(change))?;
-    let allowed = is_allowed(store, number, bit_of(change), &current.verified)?;
+    let allowed = allows(store, current, number, bit_of(change))?;
     let entry = read_entry(store, number)?;
     Ok(changed_by(change, number, entry, next, allowed))
 }
