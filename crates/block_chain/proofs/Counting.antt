@@ -11,7 +11,7 @@ use Rattle.undo_journal.specs.declared.batch.Waiting.{Waiting}
 use Rattle.undo_journal.specs.Batches.{batch_writes, joined, look_up}
 use Rattle.undo_journal.specs.Calls.{OnlyReads}
 use Rattle.undo_journal.specs.Memory.{Memory, IsIdle, Joins, commit_writes, spent, taken}
-use Rattle.undo_journal.specs.laws.Joining.{joins-first, joins-goes_on, joins-begins, joins-takes}
+use Rattle.undo_journal.specs.laws.Joining.{commit_of_some, joins-first, joins-goes_on, joins-begins, joins-takes}
 use Rattle.undo_journal.specs.laws.Told.{idle_waits}
 use Rattle.undo_journal.specs.laws.Waits.{AreAscending, ascending-joined, look_up-joined, look_up-other}
 use Rattle.block_chain.specs.Changes.{touched_words}
@@ -185,13 +185,6 @@ counted-more ps first k page old now after last so_far once from within is set r
     let more = counted-next ps first k old set.found found once from within _ here after set.joins in
     counted-read ps first (k + 1) old after last more reads
 
--- what a commit of some sets writes
-commit-some : (m : Memory) → 1 ≤ taken m → commit_writes m ≡ batch_writes m.waiting + 1
-commit-some m some = elim (eqb_tells (taken m) 0) [
-  | inl none ↦ absurd (omega (arith, some, none.1))
-  | inr other ↦ ap (λ (b : Bool). if b then 0 else batch_writes m.waiting + 1) other.0
-]
-
 -- all words are set
 pub counted-all : (ps : List ℕ) (offset count k : ℕ) (old now : Memory) → IsCounted ps (offset / 4) k old now → 1 ≤ count
     → offset / 4 ≤ k → (offset + count + 3) / 4 ≤ k → k ≤ (offset + count + 3) / 4
@@ -201,7 +194,7 @@ counted-all ps offset (suc n) k old now so_far some from far le =
     let all : k - offset / 4 ≡ touched_words offset (suc n) = omega (arith, touched offset (suc n) some, far, le) in
     let costs = ap (λ (words : ℕ). word_writes (offset / 4) words) all in
     let taken_some : 1 ≤ taken now = omega (arith, so_far.takes, far) in
-    omega (arith, so_far.costs, costs, commit-some now taken_some)
+    omega (arith, so_far.costs, costs, commit_of_some now taken_some)
 
 -- no bytes
 pub counted-no_bytes : (offset count : ℕ) (m : Memory) → count ≡ 0 → IsIdle m

@@ -35,6 +35,7 @@ pub fn link_pages<B: Board>(
     ensures any_exit { LinksAlone first end (committed store.old) (committed store.new) }
     ensures done { OnOk result (AreLinked first end rest (committed store.new)) }
     ensures store { Changes (end - first) store.old store.new (result_err result) }
+    ensures counted { OnOk result (store.new.facts.writes ≡ store.old.facts.writes + (end - first)) }
 {
     let mut page = first;
     while page < end {

@@ -8,6 +8,7 @@ use Rattle.file_tree.specs.Spaces.{free_space}
 use Rattle.file_tree.specs.Table.{table, path_of, IsUsed}
 use Rattle.file_tree.specs.Trees.{tree_of}
 use Rattle.file_tree.specs.Changes.{Creates, with_freed}
+use Rattle.file_tree.specs.Indexes.{AddsEntry}
 use Rattle.file_tree.specs.NewFiles.{new_file, short_of_new, creation_refusal}
 
 -- A file more stands in a dedicated file, new as its file control parameters tell.
@@ -20,6 +21,7 @@ pub record IsCreated (m : List ℕ) (df : ℕ) (fcp : Fcp) (e blocks : ℕ) (aft
   pub creates : CreatesNew m df fcp after
   pub used : IsUsed (table after) e
   pub path : path_of (table after) e ≡ path_of (table m) df ++ fcp.identifier ∷ []
+  pub adds : AddsEntry (table m) df fcp.identifier e (table after)
   pub space : free_space (block_count m) (tree_of m)
       ≡ with_freed (free_space (block_count after) (tree_of after)) (record { blocks = blocks; entries = 1 })
 

@@ -6,7 +6,7 @@ use Rattle.file_tree.specs.declared.index.Place.{Place}
 use Rattle.file_tree.specs.declared.index.Index.{Index}
 use Rattle.file_tree.specs.Cards.{Path, Tree, exists}
 use Rattle.file_tree.specs.Keys.{key_for, IsBefore}
-use Rattle.file_tree.specs.Table.{entry_in, IsUsed}
+use Rattle.file_tree.specs.Table.{entry_in, IsUsed, IsChild}
 
 -- where the file of an entry is found
 abbrev pub place_of : List Entry → ℕ → Place
@@ -47,6 +47,17 @@ pub record AddsEntry (t : List Entry) (parent identifier e : ℕ) (after : List 
   pub identifier_is : (entry_in after e).identifier ≡ identifier
   pub others : (f : ℕ) → f ≢ e → entry_in after f ≡ entry_in t f
 
--- the child of a dedicated file with an identifier: the first that two bytes may name
+-- Each entry has the kind, the parent and the identifier that it had.
+pub record KeepsPlaces (t after : List Entry) : Type 0 where
+  pub kinds : (e : ℕ) → (entry_in after e).kind ≡ (entry_in t e).kind
+  pub parents : (e : ℕ) → (entry_in after e).parent ≡ (entry_in t e).parent
+  pub identifiers : (e : ℕ) → (entry_in after e).identifier ≡ (entry_in t e).identifier
+
+-- the child of a dedicated file with an identifier, or None where no child has it
+abbrev pub TellsChild : List Entry → ℕ → ℕ → Option ℕ → Type 0
+TellsChild t df id None = (e : ℕ) → IsChild t df e → (entry_in t e).identifier ≡ id → ⊥
+TellsChild t df id (Some e) = IsChild t df e × ((entry_in t e).identifier ≡ id)
+
+-- the same by its path: the first that two bytes may name
 abbrev pub child_by_identifier : Tree → Path → ℕ → Option Path
 child_by_identifier tree df id = if exists tree (df ++ id ∷ []) then Some (df ++ id ∷ []) else None

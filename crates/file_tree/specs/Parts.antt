@@ -5,8 +5,6 @@ use Rattle.card_rules.specs.LifeCycle.{life_cycle_at}
 use Rattle.card_rules.specs.declared.life_cycle.LifeCycle.{LifeCycle}
 use Rattle.card_rules.specs.declared.life_cycle.LifeCycle.TheVariants.{Activated}
 use Rattle.file_tree.specs.declared.entry.Entry.{Entry}
-use Rattle.file_tree.specs.declared.look_up.ChildKey.{ChildKey}
-use Rattle.file_tree.specs.declared.look_up.ChildKey.TheVariants.{Identifier, ShortIdentifier}
 use Rattle.file_tree.specs.Cards.{master_file}
 use Rattle.file_tree.specs.States.{bars}
 use Rattle.file_tree.specs.Entries.{byte_of, low, name_of}
@@ -35,25 +33,16 @@ AreApart t = (e : ℕ) → IsUsed t e → IsAlone t e
 abbrev pub AreBelow : List Entry → Type 0
 AreBelow t = (e : ℕ) → 0 < e → IsUsed t e → IsBelowMaster t e
 
--- an entry has what a child is known by
-abbrev pub IsKnownBy : ChildKey → Entry → Type 0
-IsKnownBy (Identifier id) x = x.identifier ≡ id
-IsKnownBy (ShortIdentifier n) x = x.short ≡ n
-
--- An entry is that of the child of a dedicated file that is known by this.
-pub record IsChildBy (x : Entry) (df : ℕ) (key : ChildKey) : Type 0 where
+-- An entry is that of the child of a dedicated file with this short identifier.
+pub record IsShortChild (x : Entry) (df n : ℕ) : Type 0 where
   pub used : x.kind ≢ 0
   pub parent : x.parent ≡ df
-  pub known : IsKnownBy key x
+  pub short : x.short ≡ n
 
--- the child that is known by this, or None where no child is
-abbrev pub TellsChildBy : List Entry → ℕ → ChildKey → Option ℕ → Type 0
-TellsChildBy t df key None = (e : ℕ) → IsChild t df e → IsKnownBy key (entry_in t e) → ⊥
-TellsChildBy t df key (Some e) = IsChild t df e × IsKnownBy key (entry_in t e)
-
--- the child with an identifier
-abbrev pub TellsChild : List Entry → ℕ → ℕ → Option ℕ → Type 0
-TellsChild t df id = TellsChildBy t df (Identifier id)
+-- the child with a short identifier, or None where no child has it
+abbrev pub TellsShort : List Entry → ℕ → ℕ → Option ℕ → Type 0
+TellsShort t df n None = (e : ℕ) → IsChild t df e → (entry_in t e).short ≡ n → ⊥
+TellsShort t df n (Some e) = IsChild t df e × ((entry_in t e).short ≡ n)
 
 -- the dedicated file beside this one, or None where there is none with the identifier
 abbrev pub TellsBeside : List Entry → ℕ → ℕ → Option ℕ → Type 0

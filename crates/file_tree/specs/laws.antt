@@ -25,12 +25,13 @@ pub mod Creating
 pub mod Refusing
 pub mod Allowed
 pub mod Places
+pub mod Entering
 pub mod Made
 pub mod Selecting
 pub mod Barring
 pub mod Living
 pub mod Indexes
+pub mod Above
 pub mod Pruning
 pub mod Indexed
-pub mod Entering
 pub mod Migrating

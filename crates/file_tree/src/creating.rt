@@ -1,6 +1,6 @@
 //! Creating a file.
 
-ghost use Rattle.std.specs.Prelude.{◌≡◌, ◌≢◌, ◌⊎◌, ◌&&◌, ◌<◌, ◌≤◌, nat_le, length, Some, IfOk, OnOk, if◌then◌else◌};
+ghost use Rattle.std.specs.Prelude.{◌≡◌, ◌≢◌, ◌⊎◌, ◌&&◌, ◌<◌, ◌≤◌, nat_le, length, Some, IfOk, OnOk, MatchResult, if◌then◌else◌};
 ghost use Rattle.std.specs.Result.{result_err};
 ghost use Rattle.undo_journal.specs.Memory.{committed, current, room, InRuns, IsOpen, IsReady};
 ghost use Rattle.undo_journal.specs.Lent.{memory_of};
@@ -15,12 +15,14 @@ ghost use Rattle.file_tree.specs.declared.layout.TheConstants.{CREATE_WRITES, MO
 ghost use Rattle.file_tree.specs.Table.{table, entry_in, path_of, IsUsed};
 ghost use Rattle.file_tree.specs.Trees.{tree_of, TreeStands};
 ghost use Rattle.file_tree.specs.Changes.{SameTree};
+ghost use Rattle.file_tree.specs.Indexes.{IsIndex};
 ghost use Rattle.file_tree.specs.Creations.{CreatesNew, TellsCreation};
 ghost use Rattle.file_tree.specs.NewFiles.{low_bits, short_for, short_of_new, creation_refusal};
 ghost use Rattle.file_tree.specs.CreationParts.{FindsPlace, AddsFile, FillsAndAdds, FillsOrAdds};
 ghost use Rattle.file_tree.specs.CreationParts.{entry_for, kind_number, record_length_of_kind, existing_of_kind, padded, no_chain, short_option};
 
 use crate::entry::Entry;
+use crate::index::Index;
 use crate::kinds;
 use crate::look_up::find_short;
 use crate::placing::{Place, blocks_for, place_for};
@@ -214,15 +216,21 @@ fn write_file<B: Board>(
 }
 
 /// The place of a new file in a dedicated file, or the first reason why it is refused.
-fn find_place<B: Board>(store: &mut Store<B>, df: u8, fcp: &Fcp<'_>) -> Result<Place, StoreErr>
+fn find_place<B: Board>(
+    store: &mut Store<B>,
+    index: &Index,
+    df: u8,
+    fcp: &Fcp<'_>,
+) -> Result<Place, StoreErr>
     requires ready { IsReady store.old }
     requires tree { TreeStands (committed store.old) }
     requires df { IsUsed (table (committed store.old)) df }
+    requires index { IsIndex (table (committed store.old)) index.now }
     requires fcp { IsCreatable fcp.now }
     ensures found { IfOk result (FindsPlace (committed store.old) df fcp.now) }
     ensures store { Reads store.old store.new (result_err result) }
 {
-    match taken(store, df, fcp)? {
+    match taken(store, index, df, fcp)? {
         Some(status) => Ok(Place::Refused(status)),
         None => place_for(store, df, fcp),
     }
@@ -230,15 +238,22 @@ fn find_place<B: Board>(store: &mut Store<B>, df: u8, fcp: &Fcp<'_>) -> Result<P
 
 /// Creates a file in the dedicated file of an entry, as its file control parameters tell: all its bytes, or the records
 /// that exist, are FF. Its blocks are filled first; then one transaction takes them and writes its entry. Where it is
-/// refused nothing is changed, and nothing is written.
+/// refused nothing is changed, and nothing is written. The index follows once all is done.
 ///
 /// # Errors
-/// What the store answers: power was lost, or the device failed. The tree is then as it was, or as after the creation.
-pub fn create<B: Board>(store: &mut Store<B>, df: u8, fcp: &Fcp<'_>) -> Result<Creation, StoreErr>
+/// What the store answers: power was lost, or the device failed. The tree is then as it was, or as after the creation; the
+/// index is as it was.
+pub fn create<B: Board>(
+    store: &mut Store<B>,
+    index: &mut Index,
+    df: u8,
+    fcp: &Fcp<'_>,
+) -> Result<Creation, StoreErr>
     requires ready { IsReady store.old }
     requires tree { TreeStands (committed store.old) }
     requires df { (entry_in (table (committed store.old)) df).kind ≡ 1 }
     requires fcp { IsCreatable fcp.now }
+    requires index { IsIndex (table (committed store.old)) index.old }
     ensures any_exit { SameTree (committed store.old) (committed store.new)
         ⊎ CreatesNew (committed store.old) df fcp.now (committed store.new) }
     ensures by_gate { AddsByGate store.old store.new }
@@ -247,13 +262,15 @@ pub fn create<B: Board>(store: &mut Store<B>, df: u8, fcp: &Fcp<'_>) -> Result<C
         → creation_refusal (block_count (committed store.old)) (tree_of (committed store.old)) (path_of (table (committed store.old)) df) fcp.now ≡ Some status
         → OnlyReads store.old store.new }
     ensures done { IfOk result (λ creation. TellsCreation (committed store.old) df fcp.now creation (committed store.new)) }
+    ensures index { MatchResult result (λ creation. IsIndex (table (committed store.new)) index.new) (λ error. index.new ≡ index.old) }
 {
-    let entry = match find_place(store, df, fcp)? {
+    let entry = match find_place(store, index, df, fcp)? {
         Place::At(entry) => entry,
         Place::Refused(status) => return Ok(Creation::Refused(status)),
     };
     let short = short_of(store, df, fcp)?;
     let blocks = blocks_for(fcp.kind.size());
     write_file(store, entry, entry_for(fcp, df, short), blocks)?;
+    index.with(df, fcp.identifier, entry);
     Ok(Creation::Created { entry, blocks })
 }

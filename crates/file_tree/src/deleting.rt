@@ -1,6 +1,6 @@
 //! Deleting a file, with all files below it.
 
-ghost use Rattle.std.specs.Prelude.{◌≡◌, ◌⊎◌, ◌<◌, ◌≤◌, ◌+◌, length, IfOk, OnOk};
+ghost use Rattle.std.specs.Prelude.{◌≡◌, ◌⊎◌, ◌<◌, ◌≤◌, ◌+◌, length, IfOk, OnOk, MatchResult};
 ghost use Rattle.std.specs.List.{sum_by};
 ghost use Rattle.std.specs.Result.{result_err};
 ghost use Rattle.undo_journal.specs.Commits.{CommitsByGate};
@@ -15,9 +15,11 @@ ghost use Rattle.file_tree.specs.Spaces.{free_space};
 ghost use Rattle.file_tree.specs.Table.{extents, table, IsUsed};
 ghost use Rattle.file_tree.specs.Trees.{tree_of, TreeStands};
 ghost use Rattle.file_tree.specs.Changes.{Deletes, with_freed};
+ghost use Rattle.file_tree.specs.Indexes.{IsIndex};
 ghost use Rattle.file_tree.specs.DeletionParts.{IsRemoval, leads_up, going, part_below, CanGive, FreesEntries, Removes};
 
 use crate::entry::{Entry, ExtentList, TABLE_ROOM, Table};
+use crate::index::Index;
 use crate::kinds;
 use crate::layout::{DEEPEST, ENTRIES, ENTRIES_END, entry_address};
 use crate::reading::read_table;
@@ -176,15 +178,21 @@ fn removal_of<B: Board>(store: &mut Store<B>, e: u8) -> Result<Removal, StoreErr
 }
 
 /// Deletes the file of an entry, with all files below it, in one transaction: their entries are free then, and their
-/// blocks. The answer is how many of both. The master file (entry 0) is not deleted.
+/// blocks. The answer is how many of both. The master file (entry 0) is not deleted. The index follows once all is done.
 ///
 /// # Errors
-/// What the store answers: power was lost, or the device failed. The tree is then as it was, or as after the deletion.
-pub fn delete<B: Board>(store: &mut Store<B>, e: u8) -> Result<FreeSpace, StoreErr>
+/// What the store answers: power was lost, or the device failed. The tree is then as it was, or as after the deletion; the
+/// index is as it was.
+pub fn delete<B: Board>(
+    store: &mut Store<B>,
+    index: &mut Index,
+    e: u8,
+) -> Result<FreeSpace, StoreErr>
     requires ready { IsReady store.old }
     requires tree { TreeStands (committed store.old) }
     requires used { IsUsed (table (committed store.old)) e }
     requires below { 0 < e }
+    requires index { IsIndex (table (committed store.old)) index.old }
     ensures any_exit { (committed store.new ≡ committed store.old) ⊎ Deletes (committed store.old) e (committed store.new) }
     ensures done { OnOk result (Deletes (committed store.old) e (committed store.new)) }
     ensures space { IfOk result (λ freed.
@@ -192,8 +200,10 @@ pub fn delete<B: Board>(store: &mut Store<B>, e: u8) -> Result<FreeSpace, StoreE
             ≡ with_freed (free_space (block_count (committed store.old)) (tree_of (committed store.old))) freed) }
     ensures by_gate { CommitsByGate store.old store.new }
     ensures store { Changes DELETE_WRITES store.old store.new (result_err result) }
+    ensures index { MatchResult result (λ freed. IsIndex (table (committed store.new)) index.new) (λ error. index.new ≡ index.old) }
 {
     let removal = removal_of(store, e)?;
     remove(store, removal.part.as_slice(), removal.chains.as_slice())?;
+    index.without(e);
     Ok(removal.space)
 }

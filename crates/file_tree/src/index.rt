@@ -6,11 +6,10 @@ ghost use Rattle.std.specs.Result.{result_err};
 ghost use Rattle.undo_journal.specs.Memory.{committed, IsReady};
 ghost use Rattle.undo_journal.specs.Calls.{Reads};
 ghost use Rattle.file_tree.specs.declared.entry.Entry.{Entry};
-ghost use Rattle.file_tree.specs.Table.{table, path_of, IsUsed, IsTable};
+ghost use Rattle.file_tree.specs.Table.{table, entry_in, path_of, IsUsed, IsTable};
 ghost use Rattle.file_tree.specs.Trees.{tree_of, TreeStands};
 ghost use Rattle.file_tree.specs.Changes.{Deletes};
-ghost use Rattle.file_tree.specs.Parts.{TellsChild};
-ghost use Rattle.file_tree.specs.Indexes.{AreSorted, IsIndex, IsFreeIn, AddsEntry, child_by_identifier};
+ghost use Rattle.file_tree.specs.Indexes.{AreSorted, IsIndex, IsFreeIn, AddsEntry, TellsChild, child_by_identifier};
 ghost use Rattle.file_tree.specs.IndexParts.{TellsSearch, Puts, parent_by, leads_by, is_outside};
 
 use crate::kinds;
@@ -142,6 +141,22 @@ impl Index {
             Ok(at) => (Some(places[at].entry), steps),
             Err(_) => (None, steps),
         }
+    }
+
+    /// The entry of the child of a dedicated file with an identifier, if it has one.
+    pub(crate) fn child(&self, parent: u8, identifier: u16) -> Reached
+        ensures { (m : List ℕ) → IsIndex (table m) self.now → TellsChild (table m) parent identifier result }
+    {
+        let (child, _) = self.find(parent, identifier);
+        child
+    }
+
+    /// The entry of the parent of a used entry's file; of the master file its own.
+    pub(crate) fn parent(&self, entry: u8) -> u8
+        ensures { (m : List ℕ) → IsTable (table m) → IsUsed (table m) entry → IsIndex (table m) self.now
+            → result ≡ (entry_in (table m) entry).parent }
+    {
+        parent_of(self.places.as_slice(), entry)
     }
 
     /// Puts the place of one file more where its key belongs.

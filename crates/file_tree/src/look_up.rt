@@ -1,16 +1,17 @@
-//! Files by their names: every look-up of an identifier goes through `find_child`.
+//! Files by two bytes, which the index finds, and by short identifiers, which entries are read for.
 
-ghost use Rattle.std.specs.Prelude.{◌≡◌, ◌==◌, ◌≤◌, ◌&&◌, ◌↔◌, not, IsTrue, IfOk, IfSome, Some, None, if◌then◌else◌, option_map};
+ghost use Rattle.std.specs.Prelude.{◌≡◌, ◌==◌, ◌≤◌, ◌↔◌, ℕ, List, IsTrue, IfOk, IfSome, option_map};
 ghost use Rattle.std.specs.Result.{result_err};
 ghost use Rattle.undo_journal.specs.Memory.{committed, IsReady};
 ghost use Rattle.undo_journal.specs.Calls.{Reads};
-ghost use Rattle.file_tree.specs.Cards.{master_file};
 ghost use Rattle.file_tree.specs.Reaching.{reached, child_by_short};
-ghost use Rattle.file_tree.specs.Table.{IsChild, table, entry_in, path_of, IsUsed};
+ghost use Rattle.file_tree.specs.Table.{IsChild, table, entry_in, path_of, IsUsed, IsTable};
 ghost use Rattle.file_tree.specs.Trees.{tree_of, TreeStands};
-ghost use Rattle.file_tree.specs.Parts.{IsKnownBy, IsChildBy, TellsChildBy, TellsChild, TellsBeside, TellsAbove};
+ghost use Rattle.file_tree.specs.Indexes.{IsIndex};
+ghost use Rattle.file_tree.specs.Parts.{IsShortChild, TellsShort, TellsBeside, TellsAbove};
 
 use crate::entry::Entry;
+use crate::index::Index;
 use crate::kinds;
 use crate::layout::ENTRIES_END;
 use crate::reading::read_entry;
@@ -20,61 +21,26 @@ use undo_journal::{Board, Store, StoreErr};
 /// What a look-up reaches: the number of the entry, or None where no file is what is looked for.
 pub type Reached = Option<u8>;
 
-/// What a child of a dedicated file is known by.
-#[derive(Clone, Copy)]
-enum ChildKey {
-    /// The file identifier.
-    Identifier(u16),
-    /// The short identifier, 1 to 30.
-    ShortIdentifier(u8),
-}
-
-/// An entry tells what a child is known by.
-fn is_known_by(entry: &Entry, key: ChildKey) -> bool
-    ensures { IsTrue result ↔ IsKnownBy key entry.now }
+/// An entry is that of the child of a dedicated file with this short identifier.
+fn is_child(entry: &Entry, df: u8, short: u8) -> bool
+    ensures { IsTrue result ↔ IsShortChild entry.now df short }
 {
-    match key {
-        ChildKey::Identifier(identifier) => entry.identifier == identifier,
-        ChildKey::ShortIdentifier(short) => entry.short == short,
-    }
+    entry.kind != kinds::FREE && entry.parent == df && entry.short == short
 }
 
-/// An entry is that of the child of a dedicated file that is known by this.
-fn is_child(entry: &Entry, df: u8, key: ChildKey) -> bool
-    ensures { IsTrue result ↔ IsChildBy entry.now df key }
-{
-    entry.kind != kinds::FREE && entry.parent == df && is_known_by(entry, key)
-}
-
-/// The entry of the child of a dedicated file that is known by this, if it has one.
-fn first_child<B: Board>(store: &mut Store<B>, df: u8, key: ChildKey) -> Result<Reached, StoreErr>
+/// The entry of the child of a dedicated file with this short identifier, if it has one.
+fn first_child<B: Board>(store: &mut Store<B>, df: u8, short: u8) -> Result<Reached, StoreErr>
     requires ready { IsReady store.old }
-    ensures found { IfOk result (TellsChildBy (table (committed store.old)) df key) }
+    ensures found { IfOk result (TellsShort (table (committed store.old)) df short) }
     ensures store { Reads store.old store.new (result_err result) }
 {
     for e in 1..ENTRIES_END {
         let entry = read_entry(store, e)?;
-        if is_child(&entry, df, key) {
+        if is_child(&entry, df, short) {
             return Ok(Some(e));
         }
     }
     Ok(None)
-}
-
-/// The entry of the child of a dedicated file with this identifier, if it has one.
-///
-/// # Errors
-/// What the store answers: power was lost, or the device failed.
-pub(crate) fn find_child<B: Board>(
-    store: &mut Store<B>,
-    df: u8,
-    identifier: u16,
-) -> Result<Reached, StoreErr>
-    requires ready { IsReady store.old }
-    ensures found { IfOk result (TellsChild (table (committed store.old)) df identifier) }
-    ensures store { Reads store.old store.new (result_err result) }
-{
-    first_child(store, df, ChildKey::Identifier(identifier))
 }
 
 /// The entry of the child of a dedicated file that a short identifier names, if it has one.
@@ -92,56 +58,62 @@ pub fn find_short<B: Board>(store: &mut Store<B>, df: u8, short: u8) -> Result<R
     ensures elementary { IfOk result (λ found. IfSome found (λ e. 2 ≤ (entry_in (table (committed store.old)) e).kind)) }
     ensures store { Reads store.old store.new (result_err result) }
 {
-    first_child(store, df, ChildKey::ShortIdentifier(short))
+    first_child(store, df, short)
 }
 
 /// A dedicated file beside this one with this identifier. The master file has none beside it.
-fn find_beside<B: Board>(store: &mut Store<B>, df: u8, identifier: u16) -> Result<Reached, StoreErr>
+fn find_beside<B: Board>(
+    store: &mut Store<B>,
+    index: &Index,
+    df: u8,
+    identifier: u16,
+) -> Result<Reached, StoreErr>
     requires ready { IsReady store.old }
     requires tree { TreeStands (committed store.old) }
     requires df { IsUsed (table (committed store.old)) df }
+    requires index { IsIndex (table (committed store.old)) index.now }
     ensures found { IfOk result (TellsBeside (table (committed store.old)) df identifier) }
     ensures store { Reads store.old store.new (result_err result) }
 {
     if df == 0 {
         return Ok(None);
     }
-    let entry = read_entry(store, df)?;
-    let Some(beside) = find_child(store, entry.parent, identifier)? else {
+    let Some(beside) = index.child(index.parent(df), identifier) else {
         return Ok(None);
     };
     let other = read_entry(store, beside)?;
     Ok((other.kind == kinds::DEDICATED).then_some(beside))
 }
 
-/// The first with this identifier of the parent of a dedicated file, itself and the master file, by their entries.
-fn named_above(df: u8, own: &Entry, above: &Entry, identifier: u16) -> Reached
-    ensures { result ≡ (if not (df == 0) && (above.now.identifier == identifier) then Some own.now.parent else
-        if own.now.identifier == identifier then Some df else
-        if master_file == identifier then Some 0 else None) }
+/// The file of a used entry has this identifier: it is the child of its parent that has it.
+fn has_identifier(index: &Index, e: u8, identifier: u16) -> bool
+    ensures { (m : List ℕ) → IsTable (table m) → IsUsed (table m) e → IsIndex (table m) index.now
+        → result ≡ ((entry_in (table m) e).identifier == identifier) }
 {
-    if df != 0 && above.identifier == identifier {
-        Some(own.parent)
-    } else if own.identifier == identifier {
-        Some(df)
-    } else if identifier == MASTER_FILE {
-        Some(0)
-    } else {
-        None
+    if e == 0 {
+        return identifier == MASTER_FILE;
+    }
+    match index.child(index.parent(e), identifier) {
+        Some(child) => child == e,
+        None => false,
     }
 }
 
 /// The parent of a dedicated file, or itself, or the master file: the first that has this identifier.
-fn find_above<B: Board>(store: &mut Store<B>, df: u8, identifier: u16) -> Result<Reached, StoreErr>
-    requires ready { IsReady store.old }
-    requires tree { TreeStands (committed store.old) }
-    requires df { IsUsed (table (committed store.old)) df }
-    ensures found { IfOk result (TellsAbove (table (committed store.old)) df identifier) }
-    ensures store { Reads store.old store.new (result_err result) }
+fn find_above(index: &Index, df: u8, identifier: u16) -> Reached
+    ensures { (m : List ℕ) → IsTable (table m) → IsUsed (table m) df → IsIndex (table m) index.now
+        → TellsAbove (table m) df identifier result }
 {
-    let own = read_entry(store, df)?;
-    let above = read_entry(store, own.parent)?;
-    Ok(named_above(df, &own, &above, identifier))
+    let parent = index.parent(df);
+    if has_identifier(index, parent, identifier) {
+        Some(parent)
+    } else if has_identifier(index, df, identifier) {
+        Some(df)
+    } else if has_identifier(index, 0, identifier) {
+        Some(0)
+    } else {
+        None
+    }
 }
 
 /// The entry of the file that two bytes name from a dedicated file: a child of it; a dedicated file beside it; its
@@ -149,20 +121,26 @@ fn find_above<B: Board>(store: &mut Store<B>, df: u8, identifier: u16) -> Result
 ///
 /// # Errors
 /// What the store answers: power was lost, or the device failed.
-pub fn select<B: Board>(store: &mut Store<B>, df: u8, identifier: u16) -> Result<Reached, StoreErr>
+pub fn select<B: Board>(
+    store: &mut Store<B>,
+    index: &Index,
+    df: u8,
+    identifier: u16,
+) -> Result<Reached, StoreErr>
     requires ready { IsReady store.old }
     requires tree { TreeStands (committed store.old) }
     requires df { IsUsed (table (committed store.old)) df }
+    requires index { IsIndex (table (committed store.old)) index.now }
     ensures found { IfOk result (λ found. option_map (path_of (table (committed store.old))) found
         ≡ reached (tree_of (committed store.old)) (path_of (table (committed store.old)) df) identifier) }
     ensures used { IfOk result (λ found. IfSome found (IsUsed (table (committed store.old)))) }
     ensures store { Reads store.old store.new (result_err result) }
 {
-    if let Some(child) = find_child(store, df, identifier)? {
+    if let Some(child) = index.child(df, identifier) {
         return Ok(Some(child));
     }
-    if let Some(beside) = find_beside(store, df, identifier)? {
+    if let Some(beside) = find_beside(store, index, df, identifier)? {
         return Ok(Some(beside));
     }
-    find_above(store, df, identifier)
+    Ok(find_above(index, df, identifier))
 }

@@ -1,6 +1,6 @@
 //! Files by their names, and along paths: what SELECT reaches but by two bytes (ISO/IEC 7816-4, 7.3.1 and 11.2.2).
 
-ghost use Rattle.std.specs.Prelude.{◌≡◌, ◌↔◌, length, option_map, IfOk, IfSome, IsTrue};
+ghost use Rattle.std.specs.Prelude.{◌≡◌, ◌↔◌, length, option_map, IfOk, IfSome, IsTrue, List, ℕ};
 ghost use Rattle.std.specs.Result.{result_err};
 ghost use Rattle.undo_journal.specs.Memory.{committed, IsReady};
 ghost use Rattle.undo_journal.specs.Calls.{Reads};
@@ -8,12 +8,14 @@ ghost use Rattle.file_tree.specs.Cards.{Path};
 ghost use Rattle.file_tree.specs.Reaching.{selected, the_parent, by_name, path_from_master, path_from_current};
 ghost use Rattle.file_tree.specs.Table.{table, path_of, IsUsed};
 ghost use Rattle.file_tree.specs.Trees.{tree_of, TreeStands};
+ghost use Rattle.file_tree.specs.Indexes.{IsIndex};
 ghost use Rattle.file_tree.specs.Parts.{BearsName, TellsNamed};
 
 use crate::entry::Entry;
+use crate::index::Index;
 use crate::kinds;
 use crate::layout::ENTRIES_END;
-use crate::look_up::{Reached, find_child};
+use crate::look_up::Reached;
 use crate::reading::{read_entry, read_table};
 use undo_journal::{Board, Store, StoreErr};
 
@@ -75,42 +77,27 @@ pub fn find_parent<B: Board>(store: &mut Store<B>, df: u8) -> Result<Reached, St
 
 /// The entry of the file at the end of a path from a file: each identifier is that of a child of the one before. The empty
 /// path leads to the file itself, and no path leads through an elementary file.
-///
-/// # Errors
-/// What the store answers: power was lost, or the device failed.
-pub fn find_path<B: Board>(store: &mut Store<B>, df: u8, path: &[u16]) -> Result<Reached, StoreErr>
-    requires ready { IsReady store.old }
-    requires tree { TreeStands (committed store.old) }
-    requires df { IsUsed (table (committed store.old)) df }
-    ensures found { IfOk result (λ found. option_map (path_of (table (committed store.old))) found
-        ≡ selected (tree_of (committed store.old)) (path_of (table (committed store.old)) df) (path_from_current path.now)) }
-    ensures used { IfOk result (λ found. IfSome found (IsUsed (table (committed store.old)))) }
-    ensures store { Reads store.old store.new (result_err result) }
+pub fn find_path(index: &Index, df: u8, path: &[u16]) -> Reached
+    ensures found { (m : List ℕ) → TreeStands m → IsUsed (table m) df → IsIndex (table m) index.now
+        → option_map (path_of (table m)) result ≡ selected (tree_of m) (path_of (table m) df) (path_from_current path.now) }
+    ensures used { (m : List ℕ) → TreeStands m → IsUsed (table m) df → IsIndex (table m) index.now
+        → IfSome result (IsUsed (table m)) }
 {
     let mut at = df;
     for k in 0..path.len() {
-        match find_child(store, at, path[k])? {
+        match index.child(at, path[k]) {
             Some(child) => at = child,
-            None => return Ok(None),
+            None => return None,
         }
     }
-    Ok(Some(at))
+    Some(at)
 }
 
 /// The same from the master file, whose identifier is not in the path.
-///
-/// # Errors
-/// What the store answers: power was lost, or the device failed.
-pub fn find_path_from_master<B: Board>(
-    store: &mut Store<B>,
-    path: &[u16],
-) -> Result<Reached, StoreErr>
-    requires ready { IsReady store.old }
-    requires tree { TreeStands (committed store.old) }
-    ensures found { IfOk result (λ found. (df : Path) → option_map (path_of (table (committed store.old))) found
-        ≡ selected (tree_of (committed store.old)) df (path_from_master path.now)) }
-    ensures used { IfOk result (λ found. IfSome found (IsUsed (table (committed store.old)))) }
-    ensures store { Reads store.old store.new (result_err result) }
+pub fn find_path_from_master(index: &Index, path: &[u16]) -> Reached
+    ensures found { (m : List ℕ) → TreeStands m → IsIndex (table m) index.now → (df : Path)
+        → option_map (path_of (table m)) result ≡ selected (tree_of m) df (path_from_master path.now) }
+    ensures used { (m : List ℕ) → TreeStands m → IsIndex (table m) index.now → IfSome result (IsUsed (table m)) }
 {
-    find_path(store, 0, path)
+    find_path(index, 0, path)
 }

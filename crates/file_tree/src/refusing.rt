@@ -8,13 +8,15 @@ ghost use Rattle.card_rules.specs.declared.status.TheConstants.Sw.{FILE_EXISTS, 
 ghost use Rattle.fcp_template.specs.Ranges.{IsShort, IsCreatable};
 ghost use Rattle.file_tree.specs.Table.{ancestor, table, path_of, IsUsed};
 ghost use Rattle.file_tree.specs.Trees.{tree_of, TreeStands};
+ghost use Rattle.file_tree.specs.Indexes.{IsIndex};
 ghost use Rattle.file_tree.specs.NewFiles.{has_short_given, taken_refusal};
 ghost use Rattle.file_tree.specs.CreationParts.{TellsFreeEntry};
 
 use crate::entry::Entry;
+use crate::index::Index;
 use crate::kinds;
 use crate::layout::{DEEPEST, ENTRIES_END};
-use crate::look_up::{find_child, find_short};
+use crate::look_up::find_short;
 use crate::naming::entry_named;
 use crate::reading::read_table;
 use crate::table::ancestor;
@@ -92,18 +94,20 @@ fn first_taken(taken: TakenNames) -> Option<Sw>
 /// Why a name of a new file is taken, if one is: its identifier, its name, or its short identifier.
 pub(crate) fn taken<B: Board>(
     store: &mut Store<B>,
+    index: &Index,
     df: u8,
     fcp: &Fcp<'_>,
 ) -> Result<Option<Sw>, StoreErr>
     requires ready { IsReady store.old }
     requires tree { TreeStands (committed store.old) }
     requires df { IsUsed (table (committed store.old)) df }
+    requires index { IsIndex (table (committed store.old)) index.now }
     requires fcp { IsCreatable fcp.now }
     ensures taken { IfOk result (λ status. status
         ≡ taken_refusal (tree_of (committed store.old)) (path_of (table (committed store.old)) df) fcp.now) }
     ensures store { Reads store.old store.new (result_err result) }
 {
-    let child = find_child(store, df, fcp.identifier)?;
+    let child = index.child(df, fcp.identifier);
     let entries = read_table(store)?;
     let named = entry_named(entries.as_slice(), fcp.kind.name());
     let short = is_short_taken(store, df, fcp.kind.short())?;

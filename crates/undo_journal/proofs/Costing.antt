@@ -12,7 +12,7 @@ use Rattle.undo_journal.specs.laws.Undo.{data_words-set}
 use Rattle.undo_journal.specs.laws.Memory.{length-overlay}
 use Rattle.undo_journal.specs.Batches.{overlay, look_up, batch_writes, AreSets, joined}
 use Rattle.undo_journal.specs.Memory.{Memory, commit_writes, run_writes, taken}
-use Rattle.undo_journal.specs.laws.Joining.{writes-some}
+use Rattle.undo_journal.specs.laws.Joining.{commit_of_some, writes-some}
 use Rattle.undo_journal.specs.laws.Runs.{begins-one}
 use Rattle.undo_journal.specs.laws.Waits.{look_up-joined}
 use Rattle.undo_journal.proofs.Waits.{overlay-joined, length-joined, joined-length}
@@ -78,10 +78,4 @@ commit-none m used after all none flushed =
 
 pub commit-some : (m : Memory) (used after : ℕ) → used ≡ taken m → used ≢ 0
     → after ≡ m.facts.writes + batch_writes m.waiting + 1 → after ≡ m.facts.writes + commit_writes m
-commit-some m used after all some written = elim (eqb_tells (taken m) 0) [
-  | inl none ↦ absurd (some (all ∙ none.1))
-  | inr other ↦
-      let cost : commit_writes m ≡ batch_writes m.waiting + 1 =
-      ap (λ (b : Bool). if b then 0 else batch_writes m.waiting + 1) other.0 in
-      omega (arith, written, cost)
-]
+commit-some m used after all some written = omega (arith, written, commit_of_some m (let s : 1 ≤ taken m = omega (arith, all, some) in s))

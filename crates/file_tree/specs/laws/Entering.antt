@@ -45,19 +45,23 @@ module _ (m after : List ℕ) (e : ℕ) (x : Entry) (few : e < 64) (sized : IsMe
       entry_past (table after) f (omega (arith, a, past)) ∙ sym (entry_past (table m) f (omega (arith, b, past))))
       (cases_lt f 64)
 
+-- an entry that no file has is not the master file's
+pub free_below : (m : List ℕ) (e : ℕ) → TreeStands m → (entry_in (table m) e).kind ≡ 0 → 0 < e
+free_below m e stands free =
+    let master = stands.entries.master.kind in
+    ⊎_elim (λ (lt : 0 < e). lt) (λ (none : e ≤ 0). absurd (
+    let zero_is : e ≡ 0 = omega (arith, none) in
+    let used = ap (λ (k : ℕ). (entry_in (table m) k).kind) zero_is in
+    omega (arith, master, free, used))) (cases_lt 0 e)
+
 module _ (m after : List ℕ) (e n : ℕ) (x : Entry) (sized : IsMemory m) (stands : TreeStands m) (few : e < 64)
     (free : (entry_in (table m) e).kind ≡ 0) (some : x.kind ≢ 0) where
   adds : (mid : List ℕ) (y : Entry) → IsMemory mid → table mid ≡ table m → y.kind ≡ x.kind → y.parent ≡ x.parent
       → y.identifier ≡ x.identifier → WritesEntry mid e y after → AddsEntry (table m) x.parent x.identifier e (table after)
   adds mid y size same kind parent identifier writes =
       let here = written mid after e y few size writes in
-      let master = stands.entries.master.kind in
-      let below : 0 < e = ⊎_elim (λ (lt : 0 < e). lt) (λ (none : e ≤ 0). absurd (
-      let zero_is : e ≡ 0 = omega (arith, none) in
-      let used = ap (λ (k : ℕ). (entry_in (table m) k).kind) zero_is in
-      omega (arith, master, free, used))) (cases_lt 0 e) in
       record {
-        below = below;
+        below = free_below m e stands free;
         free = free;
         used = λ none. some (sym kind ∙ sym (ap (λ (z : Entry). z.kind) here) ∙ none);
         parent_is = ap (λ (z : Entry). z.parent) here ∙ parent;

@@ -1,5 +1,5 @@
 -- What an index finds is the tree's; a table has one index, and a change of what no index tells leaves it.
-use Rattle.std.specs.Prelude.{◌≡◌, ◌⊎◌, ◌<◌, ℕ, zero, suc, List, [], ◌∷◌, length, slice_index_or, All, Contains}
+use Rattle.std.specs.Prelude.{◌≡◌, ◌≢◌, ◌⊎◌, ◌<◌, ℕ, zero, suc, List, [], ◌∷◌, length, slice_index_or, All, Contains}
 use Rattle.std.specs.Prelude.{◌++◌, Bool, if◌then◌else◌, Option, None, Some, option_map}
 use Rattle.std.proofs.Common.{refl, sym, ◌∙◌, ap, ap₂, subst, arith, inl, inr}
 use Rattle.std.proofs.lemmas.Bool.Decides.{eqb_tells}
@@ -12,9 +12,8 @@ use Rattle.file_tree.specs.Keys.{key_for, IsBefore}
 use Rattle.file_tree.specs.Cards.{Path}
 use Rattle.file_tree.specs.Table.{table, entry_in, path_of, IsUsed, IsTable}
 use Rattle.file_tree.specs.Trees.{tree_of}
-use Rattle.file_tree.specs.Parts.{TellsChild}
 use Rattle.file_tree.specs.States.{ChangesLife}
-use Rattle.file_tree.specs.Indexes.{IsPlace, AreSorted, IsIndex, child_by_identifier}
+use Rattle.file_tree.specs.Indexes.{IsPlace, AreSorted, IsIndex, KeepsPlaces, TellsChild, child_by_identifier}
 use Rattle.file_tree.specs.laws.Paths.{child_of_path, path_of_child}
 use Rattle.file_tree.specs.laws.Nodes.{exists-used, exists-none}
 use Rattle.file_tree.specs.laws.Indexes.{before_then, never_before_itself, place_is}
@@ -91,36 +90,59 @@ one_index t one other is_one is_other =
     λ i. record { places = record { items = same i } }
 
 -- What an index tells of entries is their parents and identifiers.
-index_stays : (t s : List Entry) (index : Index) → ((f : ℕ) → (entry_in s f).kind ≡ (entry_in t f).kind)
-    → ((f : ℕ) → key_for (entry_in s f).parent (entry_in s f).identifier ≡ key_for (entry_in t f).parent (entry_in t f).identifier)
-    → IsIndex t index → IsIndex s index
-index_stays t s index kinds keys is = record {
+pub index_kept : (t after : List Entry) (index : Index) → KeepsPlaces t after → IsIndex t index → IsIndex after index
+index_kept t after index keeps is = record {
   each = λ k d lt.
       let place = is.each k d lt in
+      let e = (slice_index_or index.places.items k d).entry in
       record {
         below = place.below;
-        used = λ none. place.used (sym (kinds (slice_index_or index.places.items k d).entry) ∙ none);
-        key_is = place.key_is ∙ sym (keys (slice_index_or index.places.items k d).entry);
+        used = λ none. place.used (sym (keeps.kinds e) ∙ none);
+        key_is = place.key_is ∙ sym (same_key e);
       };
   all = λ e below used.
       let family : Place → Type 0 = λ p. Contains index.places.items p in
-      subst family (λ i. record { key = sym (keys e) i; entry = e }) (is.all e below (λ none. used (kinds e ∙ none)));
+      subst family (λ i. record { key = sym (same_key e) i; entry = e }) (is.all e below (λ none. used (keeps.kinds e ∙ none)));
   sorted = is.sorted;
 }
+  where
+    same_key : (e : ℕ) → key_for (entry_in after e).parent (entry_in after e).identifier ≡ key_for (entry_in t e).parent (entry_in t e).identifier
+    same_key e = ap₂ (λ (a b : ℕ). key_for a b) (keeps.parents e) (keeps.identifiers e)
+
+-- Places stay in the same table, over two changes, and where one entry keeps its own and no other is other.
+pub places_same : (t after : List Entry) → after ≡ t → KeepsPlaces t after
+places_same t after same = record {
+  kinds = λ e. ap (λ (s : List Entry). (entry_in s e).kind) same;
+  parents = λ e. ap (λ (s : List Entry). (entry_in s e).parent) same;
+  identifiers = λ e. ap (λ (s : List Entry). (entry_in s e).identifier) same;
+}
+
+pub places_then : (t mid after : List Entry) → KeepsPlaces t mid → KeepsPlaces mid after → KeepsPlaces t after
+places_then t mid after one other = record {
+  kinds = λ e. other.kinds e ∙ one.kinds e;
+  parents = λ e. other.parents e ∙ one.parents e;
+  identifiers = λ e. other.identifiers e ∙ one.identifiers e;
+}
+
+pub places_but : (t after : List Entry) (e : ℕ) → (entry_in after e).kind ≡ (entry_in t e).kind
+    → (entry_in after e).parent ≡ (entry_in t e).parent → (entry_in after e).identifier ≡ (entry_in t e).identifier
+    → ((f : ℕ) → f ≢ e → entry_in after f ≡ entry_in t f) → KeepsPlaces t after
+places_but t after e kind parent identifier others = record {
+  kinds = of_each (λ x. x.kind) kind;
+  parents = of_each (λ x. x.parent) parent;
+  identifiers = of_each (λ x. x.identifier) identifier;
+}
+  where
+    of_each : (told : Entry → ℕ) → told (entry_in after e) ≡ told (entry_in t e) → (f : ℕ) → told (entry_in after f) ≡ told (entry_in t f)
+    of_each told own f = elim (eqb_tells f e) [
+      | inl same ↦ ap (λ (k : ℕ). told (entry_in after k)) same.1 ∙ own ∙ sym (ap (λ (k : ℕ). told (entry_in t k)) same.1)
+      | inr other ↦ ap told (others f other.1)
+    ]
+
+pub life_places : (m after : List ℕ) (e : ℕ) (state : LifeCycle) → ChangesLife m e state after → KeepsPlaces (table m) (table after)
+life_places m after e state changes = places_but (table m) (table after) e (ap (λ (x : Entry). x.kind) changes.entry)
+    (ap (λ (x : Entry). x.parent) changes.entry) (ap (λ (x : Entry). x.identifier) changes.entry) changes.others
 
 pub life_leaves : (m after : List ℕ) (e : ℕ) (state : LifeCycle) (index : Index) → ChangesLife m e state after
     → IsIndex (table m) index → IsIndex (table after) index
-life_leaves m after e state index changes is =
-    index_stays (table m) (table after) index
-    (λ f. elim (eqb_tells f e) [
-      | inl same ↦ ap (λ (k : ℕ). (entry_in (table after) k).kind) same.1 ∙ ap (λ (x : Entry). x.kind) changes.entry
-          ∙ sym (ap (λ (k : ℕ). (entry_in (table m) k).kind) same.1)
-      | inr other ↦ ap (λ (x : Entry). x.kind) (changes.others f other.1)
-    ])
-    (λ f. elim (eqb_tells f e) [
-      | inl same ↦ ap (λ (k : ℕ). key_for (entry_in (table after) k).parent (entry_in (table after) k).identifier) same.1
-          ∙ ap (λ (x : Entry). key_for x.parent x.identifier) changes.entry
-          ∙ sym (ap (λ (k : ℕ). key_for (entry_in (table m) k).parent (entry_in (table m) k).identifier) same.1)
-      | inr other ↦ ap (λ (x : Entry). key_for x.parent x.identifier) (changes.others f other.1)
-    ])
-    is
+life_leaves m after e state index changes = index_kept (table m) (table after) index (life_places m after e state changes)

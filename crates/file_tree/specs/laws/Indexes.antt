@@ -17,8 +17,7 @@ use Rattle.file_tree.specs.declared.index.Place.{Place}
 use Rattle.file_tree.specs.declared.index.Index.{Index}
 use Rattle.file_tree.specs.Keys.{key_for, IsBefore}
 use Rattle.file_tree.specs.Table.{table, entry_in, IsUsed, IsTable, HaveIdentifiers}
-use Rattle.file_tree.specs.Parts.{TellsChild}
-use Rattle.file_tree.specs.Indexes.{place_of, IsPlace, AreSorted, IsIndex, IsFreeIn, AddsEntry}
+use Rattle.file_tree.specs.Indexes.{place_of, IsPlace, AreSorted, IsIndex, IsFreeIn, AddsEntry, TellsChild}
 use Rattle.file_tree.specs.IndexParts.{key_at, AreBefore, AreBehind, TellsSearch, halved, Puts, ArePlacesTo, parent_by, leads_by}
 use Rattle.file_tree.specs.laws.Tables.{entry_past}
 use Rattle.file_tree.specs.laws.Nodes.{used_small}

@@ -6,34 +6,29 @@ use Rattle.std.specs.FinMap.{get}
 use Rattle.std.proofs.Common.{refl, sym, ◌∙◌, ap, ap₂, subst, arith, inl, inr}
 use Rattle.std.proofs.lemmas.Bool.Decides.{eqb_tells}
 use Rattle.file_tree.specs.declared.entry.Entry.{Entry}
-use Rattle.file_tree.specs.declared.look_up.ChildKey.{ChildKey}
-use Rattle.file_tree.specs.declared.look_up.ChildKey.TheVariants.{ShortIdentifier}
 use Rattle.file_tree.specs.Cards.{Path, File, master_file, parent, identifier, no_file, exists, file_at, is_dedicated}
 use Rattle.file_tree.specs.Reaching.{Candidate, first_reached, reached}
 use Rattle.file_tree.specs.Table.{table, entry_in, path_of, IsUsed, IsChild, HaveIdentifiers, IsTable}
 use Rattle.file_tree.specs.Trees.{content, tree_of}
-use Rattle.file_tree.specs.Parts.{IsKnownBy, IsChildBy, TellsChildBy, TellsChild, TellsBeside, TellsAbove}
+use Rattle.file_tree.specs.Indexes.{TellsChild}
+use Rattle.file_tree.specs.Parts.{IsShortChild, TellsShort, TellsBeside, TellsAbove}
 use Rattle.file_tree.specs.laws.Paths.{path-zero, path_of-empty, parent_path, identifier_path, parent_used}
 use Rattle.file_tree.specs.laws.Paths.{master_used, child_of_path, path_of_child}
 use Rattle.file_tree.specs.laws.Nodes.{used_small, entry_found, exists-used, exists-none, file_at_entry}
 use Rattle.file_tree.specs.laws.Nodes.{dedicated_entry}
 
--- the child with a short identifier, or None where no child has it
-abbrev pub TellsShort : List Entry → ℕ → ℕ → Option ℕ → Type 0
-TellsShort t df n = TellsChildBy t df (ShortIdentifier n)
-
 -- the entry of a number is that of the child that is looked for, or it is not
-pub child_there : (t : List Entry) (df e : ℕ) (key : ChildKey) (x : Entry) → x ≡ entry_in t e → 0 < e → IsChildBy x df key
-    → TellsChildBy t df key (Some e)
-child_there t df e key x is below found =
-    let here = subst (λ (y : Entry). IsChildBy y df key) is found in
-    (record { below = below; used = here.used; parent = here.parent }, here.known)
+pub child_there : (t : List Entry) (df e n : ℕ) (x : Entry) → x ≡ entry_in t e → 0 < e → IsShortChild x df n
+    → TellsShort t df n (Some e)
+child_there t df e n x is below found =
+    let here = subst (λ (y : Entry). IsShortChild y df n) is found in
+    (record { below = below; used = here.used; parent = here.parent }, here.short)
 
-pub no_child_there : (t : List Entry) (df e : ℕ) (key : ChildKey) (x : Entry) → x ≡ entry_in t e
-    → (IsChildBy x df key → ⊥) → IsChild t df e → IsKnownBy key (entry_in t e) → ⊥
-no_child_there t df e key x is other child known =
-    other (subst (λ (y : Entry). IsChildBy y df key) (sym is)
-    (record { used = child.used; parent = child.parent; known = known }))
+pub no_child_there : (t : List Entry) (df e n : ℕ) (x : Entry) → x ≡ entry_in t e
+    → (IsShortChild x df n → ⊥) → IsChild t df e → (entry_in t e).short ≡ n → ⊥
+no_child_there t df e n x is other child short =
+    other (subst (λ (y : Entry). IsShortChild y df n) (sym is)
+    (record { used = child.used; parent = child.parent; short = short }))
 
 -- of the children of the parent the one with the identifier is beside, if it is a dedicated file
 pub beside_there : (t : List Entry) (df id e : ℕ) (x : Entry) (found : Option ℕ) → HaveIdentifiers t → df ≢ 0
@@ -50,22 +45,6 @@ beside_there t df id e x found one below told is tells = elim (eqb_tells x.kind 
       let same = one (entry_in t df).parent e f told.0 child (told.1 ∙ sym named) in
       other.1 (ap (λ (y : Entry). y.kind) is ∙ ap (λ (k : ℕ). (entry_in t k).kind) same ∙ dedicated))
 ]
-
--- what was told of the words as they were
-pub told_child : (m now : List ℕ) (p q id : ℕ) (o answer : Option ℕ) → now ≡ m → p ≡ q → o ≡ answer
-    → TellsChild (table now) p id o → TellsChild (table m) q id answer
-told_child m now p q id o answer same there is told =
-    let of_words : List ℕ → Type 0 = λ l. TellsChild (table l) q id answer in
-    let of_parent : ℕ → Type 0 = λ k. TellsChild (table now) k id answer in
-    let of_answer : Option ℕ → Type 0 = λ r. TellsChild (table now) p id r in
-    subst of_words same (subst of_parent there (subst of_answer is told))
-
-pub told_beside : (m now : List ℕ) (df id : ℕ) (o answer : Option ℕ) → now ≡ m → o ≡ answer
-    → TellsBeside (table now) df id o → TellsBeside (table m) df id answer
-told_beside m now df id o answer same is told =
-    let of_words : List ℕ → Type 0 = λ l. TellsBeside (table l) df id answer in
-    let of_answer : Option ℕ → Type 0 = λ r. TellsBeside (table now) df id r in
-    subst of_words same (subst of_answer is told)
 
 -- the first of some candidates leads, or what is reached is among the others
 pub picks : (leads : Bool) (path : Path) (rest : List Candidate)
@@ -122,9 +101,6 @@ module _ (m : List ℕ) (rules : IsTable (table m)) (df id : ℕ) (used : IsUsed
       one_of_three false true master = used
       one_of_three false false true = master_used (table m) rules
       one_of_three false false false = tt
-
-  pub parent_small : (entry_in (table m) df).parent < 64
-  parent_small = used_small m (entry_in (table m) df).parent above_used
 
   -- the master file alone has the empty path
   pub at_root : (length (path_of (table m) df) == 0) ≡ (df == 0)

@@ -29,9 +29,10 @@ use Rattle.file_tree.specs.CreationParts.{entry_for, no_chain, short_option, kin
 use Rattle.file_tree.specs.laws.Costs.{space_counted}
 use Rattle.file_tree.specs.laws.Rewriting.{filled}
 use Rattle.file_tree.specs.laws.Adding.{MayStand}
-use Rattle.file_tree.specs.laws.NewEntries.{new_dedicated, new_by_kind, kind_blocks}
+use Rattle.file_tree.specs.laws.NewEntries.{new_dedicated, new_by_kind, kind_blocks, some_kind}
 use Rattle.file_tree.specs.laws.Creating.{df_created, df_path, df_free, df_entries, ef_created, ef_path, ef_free, ef_entries}
 use Rattle.file_tree.specs.laws.Allowed.{none_taken, may_stand}
+use Rattle.file_tree.specs.laws.Entering.{created_adds}
 
 -- after a change that the tree does not see
 creates_after : (m mid after : List ℕ) (df identifier : ℕ) (file : File) → SameTree m mid → Creates mid df identifier file after
@@ -98,6 +99,7 @@ module _ (m after : List ℕ) (df n e : ℕ) (fcp : Fcp) (sized : IsMemory m) (s
         creates = creates;
         used = there.0;
         path = there.1 ∙ ap (λ (t : List Entry). path_of t df ++ fcp.identifier ∷ []) kept.table;
+        adds = created_adds m after e blocks (entry_for fcp df n no_chain) sized stands place.small place.free (some_kind fcp.kind) made;
         space = old ∙ (λ i. record { blocks = a i; entries = b i })
             ∙ sym (ap (λ (s : FreeSpace). with_freed s (record { blocks = blocks; entries = 1 })) new);
       }

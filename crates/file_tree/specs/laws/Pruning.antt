@@ -1,13 +1,11 @@
 -- What an index is without the places of a file and of all files below it.
 use Rattle.std.specs.Prelude.{◌≡◌, ◌==◌, ◌<◌, ◌||◌, ℕ, zero, suc, Bool, true, false, not, cond, nat_eq}
-use Rattle.std.specs.Prelude.{if◌then◌else◌, List, [], ◌∷◌, filter, length, slice_index_or, All, Contains, Option, None, Some, is_some}
+use Rattle.std.specs.Prelude.{List, [], ◌∷◌, filter, length, slice_index_or, All, Contains, Option, None, Some, is_some}
 use Rattle.std.specs.List.{starts_with}
 use Rattle.std.specs.FinMap.{get, retain_keys, get-retain_keys, slice_cmp-IsAntisymmetric, nat_cmp-IsAntisymmetric}
-use Rattle.std.proofs.Common.{refl, sym, ◌∙◌, ap, subst, arith, inl, inr, true≢false}
-use Rattle.std.proofs.lemmas.Bool.Decides.{eqb_tells}
-use Rattle.std.proofs.lemmas.List.Elements.{All-head, All-tail, All-filter, filter_passes}
+use Rattle.std.proofs.Common.{refl, sym, ◌∙◌, ap, subst, arith, true≢false}
+use Rattle.std.proofs.lemmas.List.Elements.{All-filter, filter_passes}
 use Rattle.file_tree.specs.declared.entry.Entry.{Entry}
-use Rattle.file_tree.specs.declared.steps.Key.{Key}
 use Rattle.file_tree.specs.declared.index.Place.{Place}
 use Rattle.file_tree.specs.declared.index.Index.{Index}
 use Rattle.file_tree.specs.Cards.{Path, File, Tree}
@@ -17,12 +15,12 @@ use Rattle.file_tree.specs.Trees.{tree_of, TreeStands, file_in}
 use Rattle.file_tree.specs.Changes.{Deletes}
 use Rattle.file_tree.specs.DeletionParts.{leads_up}
 use Rattle.file_tree.specs.Indexes.{place_of, IsPlace, AreSorted, IsIndex}
-use Rattle.file_tree.specs.IndexParts.{parent_by, leads_by, is_outside}
+use Rattle.file_tree.specs.IndexParts.{leads_by, is_outside}
 use Rattle.file_tree.specs.laws.Paths.{one_path}
 use Rattle.file_tree.specs.laws.Nodes.{get-used, entry_found}
 use Rattle.file_tree.specs.laws.LookUps.{above_used}
 use Rattle.file_tree.specs.laws.Subtrees.{within_path}
-use Rattle.file_tree.specs.laws.Indexes.{differ}
+use Rattle.file_tree.specs.laws.Above.{parent_is}
 
 -- what is kept of places by ascending keys has ascending keys
 sorted_rest : (b : Bool) (p : Place) (kept : List Place) → All (λ q. IsBefore p.key q.key) kept → AreSorted kept
@@ -51,32 +49,6 @@ has_kept keep (p ∷ places) x zero lt is passes = has_here (keep p) p x (filter
 has_kept keep (p ∷ places) x (suc k) lt is passes =
     has_later (keep p) p x (filter keep places) (has_kept keep places x k (omega (arith, lt)) is passes)
 
--- the parent of an entry that has a place
-parent_found : (t : List Entry) (places : List Place) (e k : ℕ) → All (IsPlace t) places → k < length places
-    → slice_index_or places k (place_of t e) ≡ place_of t e → parent_by places e ≡ (entry_in t e).parent
-unfolding parent_by
-parent_found t [] e k each lt is = absurd (omega (arith, lt))
-parent_found t (p ∷ places) e zero each lt is = elim (eqb_tells p.entry e) [
-  | inl same ↦ ap (λ (b : Bool). if b then p.key.parent else parent_by places e) same.0 ∙ ap (λ (q : Place). q.key.parent) is
-  | inr other ↦ absurd (other.1 (ap (λ (q : Place). q.entry) is))
-]
-parent_found t (p ∷ places) e (suc k) each lt is = elim (eqb_tells p.entry e) [
-  | inl same ↦ ap (λ (b : Bool). if b then p.key.parent else parent_by places e) same.0
-      ∙ ap (λ (key : Key). key.parent) (All-head (IsPlace t) p places each).key_is
-      ∙ ap (λ (f : ℕ). (entry_in t f).parent) same.1
-  | inr other ↦ ap (λ (b : Bool). if b then p.key.parent else parent_by places e) other.0
-      ∙ parent_found t places e k (All-tail (IsPlace t) p places each) (omega (arith, lt)) is
-]
-
--- no place is that of the master file
-parent_of_master : (t : List Entry) (places : List Place) → All (IsPlace t) places → parent_by places 0 ≡ 0
-unfolding parent_by
-parent_of_master t [] each = refl
-parent_of_master t (p ∷ places) each =
-    let below = (All-head (IsPlace t) p places each).below in
-    ap (λ (b : Bool). if b then p.key.parent else parent_by places 0) (differ p.entry 0 (λ is. let z : ⊥ = omega (arith, is, below) in z))
-    ∙ parent_of_master t places (All-tail (IsPlace t) p places each)
-
 module _ (m after : List ℕ) (top : ℕ) (index : Index) (stands : TreeStands m) (above : 0 < top) (used : IsUsed (table m) top)
     (deletes : Deletes m top after) (is : IsIndex (table m) index) where
   abbrev t : List Entry
@@ -85,21 +57,11 @@ module _ (m after : List ℕ) (top : ℕ) (index : Index) (stands : TreeStands m
   abbrev places : List Place
   places = index.places.items
 
-  parent_is : (e : ℕ) → IsUsed t e → parent_by places e ≡ (entry_in t e).parent
-  parent_is e used_e = elim (eqb_tells e 0) [
-    | inl same ↦ ap (parent_by places) same.1 ∙ parent_of_master t places is.each
-        ∙ sym (ap (λ (k : ℕ). (entry_in t k).parent) same.1 ∙ stands.entries.master.parent)
-    | inr other ↦
-        let below : 0 < e = (let d = other.1 in omega (arith, d)) in
-        let has = is.all e below used_e in
-        parent_found t places e has.0 is.each has.1 has.2
-  ]
-
   leads_is : (n e : ℕ) → IsUsed t e → leads_by places n top e ≡ leads_up t n top e
   unfolding leads_by leads_up
   leads_is zero e used_e = refl
   leads_is (suc n) e used_e = ap (λ (b : Bool). (e == top) || b)
-      (ap (leads_by places n top) (parent_is e used_e)
+      (ap (leads_by places n top) (parent_is t index stands.entries is e used_e)
       ∙ leads_is n (entry_in t e).parent (above_used m stands.entries e 0 used_e))
 
   abbrev outside : Path → Bool

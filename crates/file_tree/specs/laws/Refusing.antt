@@ -14,7 +14,8 @@ use Rattle.file_tree.specs.Table.{table, entry_in, ancestor, path_in, path_of, I
 use Rattle.file_tree.specs.Trees.{content, node, tree_of, file_in}
 use Rattle.file_tree.specs.Reaching.{is_named}
 use Rattle.file_tree.specs.NewFiles.{has_name}
-use Rattle.file_tree.specs.Parts.{TellsChild, IsNamed, TellsNamed}
+use Rattle.file_tree.specs.Indexes.{TellsChild}
+use Rattle.file_tree.specs.Parts.{IsNamed, TellsNamed}
 use Rattle.file_tree.specs.laws.Tables.{length-table, entry_in-table}
 use Rattle.file_tree.specs.laws.Paths.{path-zero, path-below, path-enough, child_of_path, path_of_child}
 use Rattle.file_tree.specs.laws.Nodes.{Node, same_path, one_of_same, same_of_one, used_small, node_tells}

@@ -13,7 +13,8 @@ use Rattle.file_tree.specs.Reaching.{Candidate, first_reached, is_named, selecte
 use Rattle.file_tree.specs.Reaching.{path_from_master, path_from_current, IsReserved}
 use Rattle.file_tree.specs.Table.{table, entry_in, path_of, IsUsed, IsTable}
 use Rattle.file_tree.specs.Trees.{tree_of, TreeStands}
-use Rattle.file_tree.specs.Parts.{TellsChild, TellsNamed}
+use Rattle.file_tree.specs.Indexes.{TellsChild}
+use Rattle.file_tree.specs.Parts.{TellsNamed}
 use Rattle.file_tree.specs.laws.Paths.{path-zero, parent-push, identifier-push, not_empty, identifier_path, path_of_child}
 use Rattle.file_tree.specs.laws.Nodes.{Node, used_small, exists-used, exists-none}
 use Rattle.file_tree.specs.laws.Tables.{length-table}

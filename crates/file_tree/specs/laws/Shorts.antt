@@ -23,7 +23,7 @@ use Rattle.file_tree.specs.laws.Tables.{length-table}
 use Rattle.file_tree.specs.laws.Paths.{path-zero, path_of-empty, parent_path, one_path, parent_used}
 use Rattle.file_tree.specs.laws.Nodes.{Node, find_path, same_path, one_of_same, same_of_one, used_small}
 use Rattle.file_tree.specs.laws.Nodes.{node_tells, get-used}
-use Rattle.file_tree.specs.laws.LookUps.{TellsShort}
+use Rattle.file_tree.specs.Parts.{TellsShort}
 use Rattle.file_tree.specs.laws.Costs.{no_entries}
 
 -- what holds of each of these nodes

@@ -97,11 +97,9 @@ transaction_costs n r b t idle few runs =
     ]
 
 -- one that is committed
-spent : (n r k : ℕ) (a b t c x : Memory) (told : Option StoreErr) → transaction_writes n r ≤ k → IsIdle a → b ≡ a → x ≡ c
-    → taken t ≤ taken b + n → Reports b t → InRuns r b t → Changes (commit_writes t) t c told → Changes k a x told
-spent n r k a b t c x told fits idle begun last few first runs rest =
-    let idle_b : IsIdle b = subst (λ (m : Memory). IsIdle m) (sym begun) idle in
-    let costs = transaction_costs n r b t idle_b few runs in
+spent : (r k : ℕ) (a b t c x : Memory) (told : Option StoreErr) → t.facts.writes + commit_writes t ≤ b.facts.writes + k → b ≡ a
+    → x ≡ c → Reports b t → InRuns r b t → Changes (commit_writes t) t c told → Changes k a x told
+spent r k a b t c x told costs begun last first runs rest =
     subst (λ (m : Memory). Changes k m x told) begun
     (subst (λ (m : Memory). Changes k b m told) (sym last) (record {
       reports = reports_then b t c first rest.reports;
@@ -109,7 +107,7 @@ spent n r k a b t c x told fits idle begun last few first runs rest =
       ready = rest.ready;
       tells = rest.tells;
       writes = record {
-        writes = omega (arith, costs, rest.writes.writes, fits);
+        writes = omega (arith, costs, rest.writes.writes);
         more = omega (arith, runs.more, rest.writes.more);
         cut = aims_then b.facts t.facts c.facts runs.cut rest.writes.cut;
         compares = rest.writes.compares ∙ runs.compares;
@@ -118,12 +116,9 @@ spent n r k a b t c x told fits idle begun last few first runs rest =
     }))
 
 -- one whose work failed: what abandoning it does is nothing
-spent_failed : (n r k i : ℕ) (a b t c x : Memory) (told : Option StoreErr) (e : StoreErr) → transaction_writes n r ≤ k → IsIdle a
-    → b ≡ a → x ≡ c → taken t ≤ taken b + n → Reports b t → InRuns r b t → t.failed ≡ Some e → Changes i t c told
-    → Changes k a x told
-spent_failed n r k i a b t c x told e fits idle begun last few first runs failed rest =
-    let idle_b : IsIdle b = subst (λ (m : Memory). IsIdle m) (sym begun) idle in
-    let costs = transaction_costs n r b t idle_b few runs in
+spent_failed : (r k i : ℕ) (a b t c x : Memory) (told : Option StoreErr) (e : StoreErr) → t.facts.writes ≤ b.facts.writes + k
+    → b ≡ a → x ≡ c → Reports b t → InRuns r b t → t.failed ≡ Some e → Changes i t c told → Changes k a x told
+spent_failed r k i a b t c x told e costs begun last first runs failed rest =
     let same = stays_spends t.facts c.facts (rest.reports.stuck e failed).1 in
     subst (λ (m : Memory). Changes k m x told) begun
     (subst (λ (m : Memory). Changes k b m told) (sym last) (record {
@@ -132,7 +127,7 @@ spent_failed n r k i a b t c x told e fits idle begun last few first runs failed
       ready = rest.ready;
       tells = rest.tells;
       writes = record {
-        writes = omega (arith, costs, same.writes, fits);
+        writes = omega (arith, costs, same.writes);
         more = omega (arith, runs.more, same.more);
         cut = aims_then b.facts t.facts c.facts runs.cut same.cut;
         compares = same.compares ∙ runs.compares;
@@ -147,15 +142,33 @@ ended_tells (Err e) result failed told stuck = stuck e refl ∙ sym (ap result_e
 ended_tells {T} (Ok v) result None told stuck = sym (ap result_err told)
 ended_tells {T} (Ok v) result (Some e) told stuck = sym (ap result_err told)
 
--- what they cost, and what the store is then: one whose work failed has failed, and what the end does is nothing
+-- What they cost where it is known, of work that is done and of work that failed, and what the store is then: one whose work failed
+-- has failed, and what the end does is nothing.
+pub ends_within : {T : Type 0} (r k : ℕ) (work result : Result T StoreErr) (a b t c x : Memory)
+    → OnOk work (t.facts.writes + commit_writes t ≤ b.facts.writes + k) → t.facts.writes ≤ b.facts.writes + k → b ≡ a → x ≡ c
+    → Reports b t → InRuns r b t → t.failed ≡ result_err work → Changes (end_writes work t) t c c.failed
+    → result ≡ ended work c.failed → Changes k a x (result_err result)
+ends_within {T} r k work result a b t c x costs so_far same last first runs failed rest told =
+    let tells : c.failed ≡ result_err result =
+    ended_tells work result c.failed told (λ e is. (rest.reports.stuck e (failed ∙ is)).0) in
+    subst (λ (o : Option StoreErr). Changes k a x o) tells (by_work work costs failed rest)
+  where
+    by_work : (w : Result T StoreErr) → OnOk w (t.facts.writes + commit_writes t ≤ b.facts.writes + k) → t.failed ≡ result_err w
+        → Changes (end_writes w t) t c c.failed → Changes k a x c.failed
+    by_work (Ok v) costs works rest = spent r k a b t c x c.failed costs same last first runs rest
+    by_work (Err e) none fails rest = spent_failed r k _ a b t c x c.failed e so_far same last first runs fails rest
+
+-- the same by how many sets the work makes, in how many runs
 pub ends_answered : {T : Type 0} (n r k : ℕ) (work result : Result T StoreErr) (a b t c x : Memory) → transaction_writes n r ≤ k → b ≡ a
     → x ≡ c → IsReady a → taken t ≤ taken b + n → Reports b t → InRuns r b t → t.failed ≡ result_err work
     → Changes (end_writes work t) t c c.failed → result ≡ ended work c.failed → Changes k a x (result_err result)
 ends_answered {T} n r k work result a b t c x fits same last ready few first runs failed rest told =
-    let tells : c.failed ≡ result_err result =
-    ended_tells work result c.failed told (λ e is. (rest.reports.stuck e (failed ∙ is)).0) in
-    subst (λ (o : Option StoreErr). Changes k a x o) tells (by_work work failed rest)
+    let idle : IsIdle b = subst (λ (m : Memory). IsIdle m) (sym same) ready.idle in
+    let costs = transaction_costs n r b t idle few runs in
+    let all : t.facts.writes + commit_writes t ≤ b.facts.writes + k = omega (arith, costs, fits) in
+    ends_within r k work result a b t c x (always work all) (omega (arith, all)) same last first runs failed rest told
   where
-    by_work : (w : Result T StoreErr) → t.failed ≡ result_err w → Changes (end_writes w t) t c c.failed → Changes k a x c.failed
-    by_work (Ok v) works rest = spent n r k a b t c x c.failed fits ready.idle same last few first runs rest
-    by_work (Err e) fails rest = spent_failed n r k _ a b t c x c.failed e fits ready.idle same last few first runs fails rest
+    always : (w : Result T StoreErr) → t.facts.writes + commit_writes t ≤ b.facts.writes + k
+        → OnOk w (t.facts.writes + commit_writes t ≤ b.facts.writes + k)
+    always (Ok v) all = all
+    always (Err e) all = tt

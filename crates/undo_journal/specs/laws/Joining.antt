@@ -1,11 +1,13 @@
 -- What a set costs that stands alone, by what it makes of those that wait: none of its address waits yet, nor of the one behind it.
 -- It is the first of a batch, or it goes on with the run of the word before it, or it begins a run.
 use Rattle.std.proofs.Common.{◌≡◌, ◌≢◌, ◌⊎◌, ◌≤◌, ◌+◌, ◌-◌, ◌%◌, List, [], ◌∷◌, length, refl, ap, inl, inr, arith}
-use Rattle.std.proofs.Common.{IsSome, None}
+use Rattle.std.proofs.Common.{IsSome, None, Bool, ◌==◌}
+use Rattle.std.specs.Prelude.{if◌then◌else◌}
+use Rattle.std.proofs.lemmas.Bool.Decides.{eqb_tells}
 use Rattle.nvm_board.specs.declared.board.TheConstants.{PAGE_WORDS}
 use Rattle.undo_journal.specs.declared.batch.Waiting.{Waiting}
 use Rattle.undo_journal.specs.Batches.{look_up, joined, batch_writes, runs_from}
-use Rattle.undo_journal.specs.Memory.{Memory, Joins, spent, taken}
+use Rattle.undo_journal.specs.Memory.{Memory, Joins, commit_writes, spent, taken}
 use Rattle.undo_journal.specs.laws.Runs.{begins-first, runs-same, runs-one_more}
 use Rattle.undo_journal.specs.laws.Waits.{AreAscending, joined-longer}
 
@@ -13,6 +15,13 @@ use Rattle.undo_journal.specs.laws.Waits.{AreAscending, joined-longer}
 pub writes-some : (ps : List Waiting) → 1 ≤ length ps → batch_writes ps ≡ 2 + runs_from 0 ps
 writes-some [] some = absurd (omega arith)
 writes-some (s ∷ rest) some = refl
+
+-- what a commit of some sets writes
+pub commit_of_some : (m : Memory) → 1 ≤ taken m → commit_writes m ≡ batch_writes m.waiting + 1
+commit_of_some m some = elim (eqb_tells (taken m) 0) [
+  | inl none ↦ absurd (omega (arith, some, none.1))
+  | inr other ↦ ap (λ (b : Bool). if b then 0 else batch_writes m.waiting + 1) other.0
+]
 
 module _ (set : Waiting) (old new : Memory) (joins : Joins set old new) where
   -- what waits afterwards, or was written now, is what waited with the set

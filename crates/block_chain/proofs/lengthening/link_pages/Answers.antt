@@ -16,6 +16,7 @@ loop-page-init g c = record {
   only = links_none _ _ _;
   linked = λ q from below. absurd (omega (arith, from, below));
   changes = reads_change _ _ _ _ c.requires.ready.idle (reads_none _ c.requires.ready);
+  counted = omega arith;
 }
 
 pub write_plain-requires-clause-place : goal.write_plain-requires-clause-place
@@ -42,6 +43,7 @@ loop-page-preserved g c =
           invariant.changes.ready.usable.committed_size (omega (arith, lt, c.requires.inside, pages))
           (c.from.ensures ∙ c.next_page-next.ensures) c.in_ok-write_plain.ensures.done invariant.linked;
       changes = changes_on _ 1 _ _ _ _ _ (omega (arith, invariant.from)) invariant.changes c.in_ok-write_plain.ensures.store;
+      counted = omega (arith, c.in_ok-write_plain.ensures.counted, invariant.counted, invariant.from);
     }
 
 pub returns-in_err-write_plain-clause-any_exit : goal.returns-in_err-write_plain-clause-any_exit
@@ -71,3 +73,11 @@ returns-clause-done g c = λ q from below.
 pub returns-clause-store : goal.returns-clause-store
 returns-clause-store g c =
     changes_within _ _ _ _ _ (omega (arith, c.loop-page.invariant.within)) c.loop-page.invariant.changes
+
+pub returns-in_err-write_plain-clause-counted : goal.returns-in_err-write_plain-clause-counted
+returns-in_err-write_plain-clause-counted g c = none_ok _ _ _ c.from_residual.ensures.1
+
+pub returns-clause-counted : goal.returns-clause-counted
+returns-clause-counted g c =
+    let invariant = c.loop-page.invariant in
+    omega (arith, invariant.counted, invariant.within, c.loop-page-test.false)

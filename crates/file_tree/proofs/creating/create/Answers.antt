@@ -24,6 +24,8 @@ use Rattle.file_tree.specs.NewFiles.{short_of_new, first_reason, creation_refusa
 use Rattle.file_tree.specs.CreationParts.{entry_for, no_chain, short_option, FindsPlace, FillsAndAdds}
 use Rattle.file_tree.specs.laws.NewEntries.{size_most, some_kind}
 use Rattle.file_tree.specs.laws.Rewriting.{filled}
+use Rattle.file_tree.specs.laws.Tables.{length-table}
+use Rattle.file_tree.specs.laws.Entering.{free_below}
 use Rattle.file_tree.specs.laws.Made.{is_created}
 use Rattle.undo_journal.specs.laws.Told.{changes_after, changes_handed, reads_change, reads_on}
 use Rattle.file_tree.proofs.creating.create.Goals as goal
@@ -118,19 +120,29 @@ returns-clause-done g c =
     c.entry_for.ensures (c.blocks_for-blocks.ensures ∙ ap blocks_for c.size.ensures) c.in_ok-write_file.ensures.done
 
 pub returns-clause-any_exit : goal.returns-clause-any_exit
-returns-clause-any_exit g c =
+returns-clause-any_exit g c = inr (returns-clause-done g c).creates
+
+-- an entry that is free takes the file, and then the index has its place
+pub with-requires : goal.with-requires
+with-requires g c =
     let m = committed c.args.store.now in
-    let fcp = c.args.fcp.now in
-    let read = c.find_place.ensures.store.only.keeps.committed_words in
-    let is =
-    created m (committed c.short_of.new.store) (committed c.write_file.new.store) c.args.df c.in_ok-short.short c.in-At.entry
-    c.blocks_for-blocks.result fcp c.entry_for.result
-    c.requires.ready.usable.committed_size c.requires.tree c.requires.df c.requires.fcp
-    (place_at m c.args.df fcp _ c.in-At.entry c.in-At.is c.in_ok-entry.ensures.found)
-    (short_before m (committed c.find_place.new.store) c.args.df c.in_ok-short.short fcp read c.in_ok-short.ensures.short)
-    (c.short_of.ensures.store.only.keeps.committed_words ∙ read)
-    c.entry_for.ensures (c.blocks_for-blocks.ensures ∙ ap blocks_for c.size.ensures) c.in_ok-write_file.ensures.done in
-    inr is.creates
+    let found = place_at m c.args.df c.args.fcp.now _ c.in-At.entry c.in-At.is c.in_ok-entry.ensures.found in
+    record {
+      free = record {
+        entries = table m;
+        size = length-table m;
+        indexed = c.requires.index;
+        below = free_below m c.in-At.entry c.requires.tree found.2.free;
+        within = found.2.small;
+        free = found.2.free;
+      };
+    }
+
+pub returns-clause-index : goal.returns-clause-index
+returns-clause-index g c =
+    let is = returns-clause-done g c in
+    c.with.ensures.added (table (committed c.args.store.now)) (table (committed c.write_file.new.store)) is.creates.stands.entries is.adds
+    c.requires.index
 
 pub returns-in_err-write_file-clause-any_exit : goal.returns-in_err-write_file-clause-any_exit
 returns-in_err-write_file-clause-any_exit g c =

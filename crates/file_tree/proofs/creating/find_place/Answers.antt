@@ -26,6 +26,9 @@ taken-requires-clause-tree g c = c.requires.tree
 pub taken-requires-clause-df : goal.taken-requires-clause-df
 taken-requires-clause-df g c = c.requires.df
 
+pub taken-requires-clause-index : goal.taken-requires-clause-index
+taken-requires-clause-index g c = c.requires.index
+
 pub returns-in_err-status-clause-found : goal.returns-in_err-status-clause-found
 returns-in_err-status-clause-found g c = none_ok _ _ _ c.from_residual.ensures.1
 

@@ -115,3 +115,8 @@ pub returns-clause-by_gate : goal.returns-clause-by_gate
 returns-clause-by_gate g c =
     by_gate_after c.args.store.now c.removal_of.new.store c.remove.new.store
     c.removal_of.ensures.store.only.keeps.committed_words c.remove.ensures.by_gate
+
+pub returns-clause-index : goal.returns-clause-index
+returns-clause-index g c =
+    c.without.ensures.deleted (committed c.args.store.now) (committed c.remove.new.store) c.requires.tree c.requires.below c.requires.used
+    (returns-clause-done g c) c.requires.index

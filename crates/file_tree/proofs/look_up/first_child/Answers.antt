@@ -38,7 +38,7 @@ returns-then-is_child-clause-found g c =
     let e = c.loop-e.e in
     let is = c.in_ok-entry.ensures.entry ∙ ap (λ (l : List ℕ). entry_in (table l) e) c.loop-e.invariant.reads.keeps.committed_words in
     let some : 0 < e = search rules in
-    child_there (table m) c.args.df e c.args.key c.in_ok-entry.entry is some (c.is_child.ensures.0 c.if-is_child.true)
+    child_there (table m) c.args.df e c.args.short c.in_ok-entry.entry is some (c.is_child.ensures.0 c.if-is_child.true)
 
 pub loop-e-preserved : goal.loop-e-preserved
 loop-e-preserved g c =
@@ -49,6 +49,6 @@ loop-e-preserved g c =
       ready = c.in_ok-entry.ensures.store.ready;
       reads = reads_then _ _ _ c.loop-e.invariant.reads c.read_entry.ensures.store.only;
       none = below_more _ _ c.loop-e.invariant.none
-          (no_child_there (table m) c.args.df e c.args.key c.in_ok-entry.entry is
+          (no_child_there (table m) c.args.df e c.args.short c.in_ok-entry.entry is
           (λ names. true≢false (sym (c.is_child.ensures.1 names) ∙ c.if-is_child.false)));
     }

@@ -2,7 +2,6 @@ use Rattle.file_tree.specs.Table.{IsUsed}
 use Rattle.undo_journal.specs.laws.Exits.{none_ok}
 use Rattle.std.proofs.Common.{◌≡◌, Bool, List, ℕ, [], ◌∷◌, ◌++◌, length, Option, is_some, sym, ◌∙◌, ap, subst, arith}
 use Rattle.undo_journal.specs.Memory.{committed}
-use Rattle.undo_journal.specs.laws.Calls.{reads_then}
 use Rattle.fcp_template.specs.Views.{name_bytes, short_of_kind}
 use Rattle.fcp_template.specs.Ranges.{IsShort}
 use Rattle.fcp_template.specs.declared.fcp.ShortIdentifier.{ShortIdentifier}
@@ -29,13 +28,13 @@ name_is_taken m rules entries name text found taken read same is told =
 
 pub entry_named-named-requires : goal.entry_named-named-requires
 entry_named-named-requires g c =
-    let l = length-table (committed c.find_child.new.store) in
+    let l = length-table (committed c.args.store.now) in
     let a = ap (λ (t : List Entry). length t) (c.as_slice.ensures.value ∙ c.in_ok-entries.ensures.table) in
     omega (arith, l, a)
 
 pub is_short_taken-requires-clause-tree : goal.is_short_taken-requires-clause-tree
 is_short_taken-requires-clause-tree g c =
-    let read = c.read_table.ensures.store.only.keeps.committed_words ∙ c.find_child.ensures.store.only.keeps.committed_words in
+    let read = c.read_table.ensures.store.only.keeps.committed_words in
     let family : List ℕ → Type 0 = λ l. TreeStands l in
     subst family (sym read) c.requires.tree
 
@@ -52,47 +51,34 @@ returns-clause-taken g c =
     let path = path_of (table m) c.args.df in
     let fcp = c.args.fcp.now in
     let child : exists tree (path ++ fcp.identifier ∷ []) ≡ c.is_some.result =
-    child_told m rules c.args.df fcp.identifier c.in_ok-child.child c.requires.df c.in_ok-child.ensures.found
+    child_told m rules c.args.df fcp.identifier c.child-child.result c.requires.df (c.child-child.ensures m c.requires.index)
     ∙ sym c.is_some.ensures in
-    let entries = c.as_slice.ensures.value ∙ c.in_ok-entries.ensures.table
-    ∙ ap table c.find_child.ensures.store.only.keeps.committed_words in
+    let entries = c.as_slice.ensures.value ∙ c.in_ok-entries.ensures.table in
     let named : has_name tree (name_bytes fcp.kind) ≡ c.is_some-2.result =
     name_is_taken m rules _ (name_bytes fcp.kind) _ c.entry_named-named.result c.is_some-2.result entries c.name.ensures
     c.is_some-2.ensures c.entry_named-named.ensures in
-    let read = c.read_table.ensures.store.only.keeps.committed_words ∙ c.find_child.ensures.store.only.keeps.committed_words in
+    let read = c.read_table.ensures.store.only.keeps.committed_words in
     let short : has_short_given tree path (short_of_kind fcp.kind) ≡ c.in_ok-short.short =
     sym (c.in_ok-short.ensures.taken
     ∙ (λ i. has_short_given (tree_of (read i)) (path_of (table (read i)) c.args.df) (c.short.ensures i))) in
     c.first_taken.ensures ∙ sym (taken_is tree path fcp _ _ _ child named short)
 
-pub find_child-requires : goal.find_child-requires
-find_child-requires g c = record { ready = c.requires.ready }
-
-pub returns-in_err-child-clause-taken : goal.returns-in_err-child-clause-taken
-returns-in_err-child-clause-taken g c = none_ok _ _ _ c.from_residual.ensures.1
-
-pub returns-in_err-child-clause-store : goal.returns-in_err-child-clause-store
-returns-in_err-child-clause-store g c =
-    reads_handed _ _ _ _ c.from_residual.ensures.1 c.in_err-child.ensures.store
-
 pub read_table-requires : goal.read_table-requires
-read_table-requires g c = record { ready = c.in_ok-child.ensures.store.ready }
+read_table-requires g c = record { ready = c.requires.ready }
 
 pub returns-in_err-entries-clause-taken : goal.returns-in_err-entries-clause-taken
-returns-in_err-entries-clause-taken g c = none_ok _ _ _ c.from_residual-in_err-entries.ensures.1
+returns-in_err-entries-clause-taken g c = none_ok _ _ _ c.from_residual.ensures.1
 
 pub returns-in_err-entries-clause-store : goal.returns-in_err-entries-clause-store
 returns-in_err-entries-clause-store g c =
-    reads_handed _ _ _ _ c.from_residual-in_err-entries.ensures.1
-    (reads_on _ _ _ _ c.find_child.ensures.store.only c.in_err-entries.ensures.store)
+    reads_handed _ _ _ _ c.from_residual.ensures.1 c.in_err-entries.ensures.store
 
 pub is_short_taken-requires-clause-ready : goal.is_short_taken-requires-clause-ready
 is_short_taken-requires-clause-ready g c = c.in_ok-entries.ensures.store.ready
 
 pub is_short_taken-requires-clause-df : goal.is_short_taken-requires-clause-df
 is_short_taken-requires-clause-df g c =
-    subst (λ (l : List ℕ). IsUsed (table l) c.args.df) (sym (c.read_table.ensures.store.only.keeps.committed_words
-    ∙ c.find_child.ensures.store.only.keeps.committed_words)) c.requires.df
+    subst (λ (l : List ℕ). IsUsed (table l) c.args.df) (sym (c.read_table.ensures.store.only.keeps.committed_words)) c.requires.df
 
 pub returns-in_err-short-clause-taken : goal.returns-in_err-short-clause-taken
 returns-in_err-short-clause-taken g c = none_ok _ _ _ c.from_residual-in_err-short.ensures.1
@@ -100,8 +86,8 @@ returns-in_err-short-clause-taken g c = none_ok _ _ _ c.from_residual-in_err-sho
 pub returns-in_err-short-clause-store : goal.returns-in_err-short-clause-store
 returns-in_err-short-clause-store g c =
     reads_handed _ _ _ _ c.from_residual-in_err-short.ensures.1
-    (reads_on _ _ _ _ (reads_then _ _ _ c.find_child.ensures.store.only c.read_table.ensures.store.only) c.in_err-short.ensures.store)
+    (reads_on _ _ _ _ c.read_table.ensures.store.only c.in_err-short.ensures.store)
 
 pub returns-clause-store : goal.returns-clause-store
 returns-clause-store g c =
-    reads_on _ _ _ _ (reads_then _ _ _ c.find_child.ensures.store.only c.read_table.ensures.store.only) c.in_ok-short.ensures.store
+    reads_on _ _ _ _ c.read_table.ensures.store.only c.in_ok-short.ensures.store

@@ -1,0 +1,2 @@
+pub mod Migrating
+pub mod Parts

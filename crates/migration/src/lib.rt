@@ -1,0 +1,7 @@
+//! The way of a memory from format 1 to format 2.
+#![tactic(auto)]
+
+pub mod laws;
+mod migrating;
+
+pub use migrating::{PIN_MARK_WORD, RENAME_WRITES, migrate};
