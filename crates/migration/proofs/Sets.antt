@@ -16,8 +16,8 @@ use Rattle.file_tree.specs.Migration.{Renames}
 use Rattle.file_tree.specs.laws.Footprints.{tree_kept}
 use Rattle.file_tree.specs.laws.Migrating.{links_keep, migrated_tree}
 use Rattle.pin_store.specs.declared.layout.TheConstants.{FIRST_PIN_PAGE}
-use Rattle.pin_store.specs.Pages.{KeepsPins}
-use Rattle.migration.specs.declared.migrating.TheConstants.{PIN_MARK_WORD}
+use Rattle.pin_store.specs.Pages.{KeepsSecrets}
+use Rattle.pin_store.specs.declared.layout.TheConstants.{PIN_MARK_WORD}
 use Rattle.migration.specs.Migrating.{MarksPins, RenamesHeader, IsRenamed, KeepsCard, IsNew, IsMigrated, Migrates}
 
 pub marks_none : (m : List ℕ) → MarksPins 0 m m
