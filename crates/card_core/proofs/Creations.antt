@@ -70,15 +70,11 @@ pub barred-is : (m : List ℕ) (x : CurrentFiles) (barred : Bool) → barred ≡
     → is_barred (card_of m).tree (path_of (table m) x.df) ≡ barred
 barred-is m x barred is = ap (λ (tree : Tree). is_barred tree (path_of (table m) x.df)) (card-tree m) ∙ sym is
 
-pub permits-is : (m now : List ℕ) (x : CurrentFiles) → length x.verified ≡ 8 → now ≡ m → (bit wanted : AccessBit)
-    → bit ≡ wanted → (verified : List Bool) → verified ≡ verified_in x → (permits : Bool)
-    → permits ≡ is_allowed (tree_of now) (path_of (table now) x.df) bit verified
+pub permits-is : (m now : List ℕ) (x : CurrentFiles) → now ≡ m → (bit wanted : AccessBit) → bit ≡ wanted → (permits : Bool)
+    → permits ≡ allowed (card_of now) (session_of (table now) x) (path_of (table now) x.df) bit
     → allowed (card_of m) (session_of (table m) x) (path_of (table m) x.df) wanted ≡ permits
-permits-is m now x eight same bit wanted bit_is verified verified_is permits is =
-    let marks = verified_is ∙ sym (marks-are (table m) x eight) in
-    ap (λ (tree : Tree). is_allowed tree (path_of (table m) x.df) wanted (marks_of (session_of (table m) x).verified))
-    (card-tree m)
-    ∙ sym (is ∙ (λ i. is_allowed (tree_of (same i)) (path_of (table (same i)) x.df) (bit_is i) (marks i)))
+permits-is m now x same bit wanted bit_is permits is =
+    sym (is ∙ (λ i. allowed (card_of (same i)) (session_of (table (same i)) x) (path_of (table (same i)) x.df) (bit_is i)))
 
 -- what is free shrinks by what a file takes
 module _ (m now after : List ℕ) (old taken : FreeSpace) (is : old ≡ card_space (card_of m)) (same : now ≡ m)

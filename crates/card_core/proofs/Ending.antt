@@ -97,7 +97,7 @@ module _ (m : List ℕ) (sized : IsMemory m) (words : IsCard m) where
     };
     tree = kept.0;
     pins = pages_kept m ended pins words.pins;
-    marks = λ pin lt. elsewhere (pin_page pin) PIN_MARK_WORD (λ is. let z : ⊥ = omega (arith, is) in z) ∙ words.marks pin lt;
+    marks = marks_kept m ended pins words.marks;
   }
 
   pub ended-card : card_of ended ≡ terminated_card (card_of m)
@@ -106,14 +106,15 @@ module _ (m : List ℕ) (sized : IsMemory m) (words : IsCard m) where
       let state = state-is in
       let tree = kept.2 in
       let blocks = blocks_same m ended (length-set m 2 1) format in
-      λ i. record { tree = tree i; pins = pins_kept m ended pins i; in_use = state i == 0; blocks = blocks i }
+      let same = pins_same m ended format pins in
+      λ i. record { tree = tree i; pins = same i; in_use = state i == 0; blocks = blocks i }
 
   pub ended-table : table ended ≡ table m
   ended-table = kept.1
 
 -- what the rule of the master file says, as the code asks it
-module _ (m : List ℕ) (x : Current) (current : IsCurrent (table m) x) (marks : List Bool) (are : marks ≡ verified_in x)
-    (permitted : Bool) (is : permitted ≡ is_allowed (tree_of m) (path_of (table m) 0) Terminate marks) where
+module _ (m : List ℕ) (x : Current) (permitted : Bool)
+    (is : permitted ≡ allowed (card_of m) (session_of (table m) x) (path_of (table m) 0) Terminate) where
   abbrev c : Card
   c = card_of m
 
@@ -121,11 +122,7 @@ module _ (m : List ℕ) (x : Current) (current : IsCurrent (table m) x) (marks :
   s = session_of (table m) x
 
   allowed-is : allowed c s [] Terminate ≡ permitted
-  allowed-is =
-      let tree = card-tree m in
-      let told = marks-are (table m) x current.marks ∙ sym are in
-      let path = master-path m in
-      (λ i. is_allowed (tree i) (sym path i) Terminate (told i)) ∙ sym is
+  allowed-is = (λ i. allowed c s (sym (master-path m) i) Terminate) ∙ sym is
 
   refusal-is : refused_by (terminate_card_refusals c s) ≡ (if not permitted then Some ACCESS_DENIED else None)
   refusal-is = ap (λ (b : Bool). if not b then Some ACCESS_DENIED else None) allowed-is
@@ -149,8 +146,8 @@ module _ (m : List ℕ) (x : Current) (current : IsCurrent (table m) x) (marks :
 
 -- A call that ends the use, where the rule allows it: first it only reads, and then it writes.
 module _ (old mid new : Memory) (ready : IsReady old) (words : IsCard (committed old)) (x : Current)
-    (current : IsCurrent (table_in old) x) (marks : List Bool) (are : marks ≡ verified_in x)
-    (is : true ≡ is_allowed (tree_of (committed old)) (path_of (table_in old) 0) Terminate marks) (reads : OnlyReads old mid)
+    (current : IsCurrent (table_in old) x)
+    (is : true ≡ allowed (card_in old) (session_in old x) (path_of (table_in old) 0) Terminate) (reads : OnlyReads old mid)
     (any_exit : (committed new ≡ committed mid) ⊎ (committed new ≡ with_card_terminated (committed mid)))
     (by_gate : CommitsByGate mid new) (reports : Reports mid new) (spends : WritesAtMost 4 mid.facts new.facts) where
   abbrev at_end : List ℕ
@@ -170,7 +167,7 @@ module _ (old mid new : Memory) (ready : IsReady old) (words : IsCard (committed
       (λ done. subst IsCard (sym (end-is done)) (ended-stands (committed old) size words)) any_exit
 
   doing : IsDoing (card_in old) (session_in old x) terminate_card_usage (card_in new)
-  doing = end-doing (committed old) x current marks are true is refl (card_in new) (⊎_elim
+  doing = end-doing (committed old) x true is refl (card_in new) (⊎_elim
       (λ (stays : committed new ≡ committed mid). inl (ap card_of (stays ∙ same)))
       (λ (done : committed new ≡ with_card_terminated (committed mid)).
       inr (ap card_of (end-is done) ∙ ended-card (committed old) size words))
@@ -205,5 +202,5 @@ module _ (old mid new : Memory) (ready : IsReady old) (words : IsCard (committed
         ready_now
         (subst (λ (t : List Entry). IsCurrent t x) (sym table-is) current) (omega arith)
         (omega (arith, spends.writes, reads.board.writes)) went compares
-        (end-done (committed old) x current marks are true is refl
+        (end-done (committed old) x true is refl
         ∙ (λ i. outcome (sym card-is i) (session_of (sym table-is i) x) [] DONE))

@@ -164,7 +164,7 @@ pub tells_card : (m : List ℕ) (format : MemoryFormat) (free : Option FreeSpace
 tells_card m format None header pins tells = λ words. tells (any_tree m words)
 tells_card m One (Some free) header pins tells = (record { header = header; tree = tells.0; pins = pins }, tells.1)
 tells_card m Two (Some free) header pins tells =
-    (record { header = header; tree = tells.0; pins = pins.0; marks = pins.1.each }, tells.1)
+    (record { header = header; tree = tells.0; pins = pins.0; marks = pins.1 }, tells.1)
 
 -- and a header without its PINs is no card's
 pub no_pins_no_card : (m : List ℕ) (format : MemoryFormat) → IsHeaderIn format m → ¬ HoldsPins format m → ¬ IsAnyCard m
@@ -172,6 +172,6 @@ no_pins_no_card m One header none = λ words. ⊎_elim
     (λ (new : IsCard m). let mark = new.header.mark in let old = header.mark in let z : ⊥ = omega (arith, mark, old) in z)
     (λ (old : IsOldCard m). none old.pins) words
 no_pins_no_card m Two header none = λ words. ⊎_elim
-    (λ (new : IsCard m). none (new.pins, record { each = new.marks }))
+    (λ (new : IsCard m). none (new.pins, new.marks))
     (λ (old : IsOldCard m). let mark = old.header.mark in let new = header.mark in let z : ⊥ = omega (arith, mark, new) in z)
     words

@@ -3,14 +3,13 @@
 ghost use Rattle.std.specs.Prelude.{◌≡◌, [], Some, option_map, IfOk, IfSome, OnOk, MatchResult};
 ghost use Rattle.std.specs.Result.{result_err};
 ghost use Rattle.undo_journal.specs.Calls.{Reads};
-ghost use Rattle.undo_journal.specs.Memory.{committed, IsReady};
+ghost use Rattle.undo_journal.specs.Memory.{committed};
 ghost use Rattle.apdu_core.specs.Requests.{change_life_cycle as changing, terminate_card_usage as terminating};
 ghost use Rattle.file_tree.specs.Table.{path_of, IsUsed};
 ghost use Rattle.card_core.specs.Changing.{change_at, changed_by, current_changed, is_for_kind, IsChanged};
 ghost use Rattle.card_core.specs.LifeCycles.{change_bit, change_refusals, changed_file, command_of, no_subject};
 ghost use Rattle.card_core.specs.Outcomes.{refused_by};
 ghost use Rattle.card_core.specs.Served.{Serves};
-ghost use Rattle.card_core.specs.Standing.{IsCard};
 ghost use Rattle.card_core.specs.Working.{card_in, session_in, space_in, table_in, IsKept};
 
 use crate::access::allows;
@@ -100,8 +99,7 @@ fn read_change<B: Board>(
     change: LifeCycleChange,
     number: u8,
 ) -> Result<Result<Changed, Sw>, StoreErr>
-    requires ready { IsReady store.old }
-    requires card { IsCard (committed store.old) }
+    requires kept { IsKept store.old current.now }
     requires used { IsUsed (table_in store.old) number }
     ensures found { IfOk result (λ answer. answer ≡ change_at (committed store.old) current.now change number) }
     ensures store { Reads store.old store.new (result_err result) }

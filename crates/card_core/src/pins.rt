@@ -212,7 +212,8 @@ fn take_try<B: Board>(
     requires pages { ArePinPages (committed store.old) }
     ensures any_exit { (committed store.new ≡ committed store.old) ⊎ Charges secret store.old store.new }
     ensures done { IfOk result (λ taken. MatchResult taken
-        (λ charged. (charged ≡ secret) × Charges secret store.old store.new)
+        (λ charged. (charged ≡ secret) × Charges secret store.old store.new
+        × (refused_use usable secret (pin_in store.old secret) ≡ None))
         (λ refusal. (refused_use usable secret (pin_in store.old secret) ≡ Some refusal) × IsReady store.new)) }
     ensures kept { IsSome (refused_use usable secret (pin_in store.old secret)) → OnlyReads store.old store.new }
     ensures pages { ArePinPages (committed store.new) }
