@@ -244,7 +244,7 @@ module _ (format : MemoryFormat) (m : List ℕ) (sized : IsMemory m) (factory : 
   pub gate-factory : gate m ≡ 0
   gate-factory = place 73 0 (lit< tt) (lit< tt)
 
-  pin-is : (pin : ℕ) → pin < PINS → pin_at m pin ≡ factory_pin
+  pin-is : (pin : ℕ) → pin < PINS → enabled_pin (pin_at m pin) ≡ factory_pin
   unfolding pin_at
   pin-is pin lt =
       let tries = pin_word_is pin 0 lt (lit< tt) in
@@ -258,18 +258,20 @@ module _ (format : MemoryFormat) (m : List ℕ) (sized : IsMemory m) (factory : 
         tries = tries i;
         unblocking = bytes_of_words (third i) (fourth i);
         unblocking_tries = unblocking_tries i;
+        enabled = true;
       }
 
-  pins_from : (a n : ℕ) → a + n ≤ PINS → map (pin_at m) (range_with_len a n) ≡ replicate n factory_pin
+  pins_from : (a n : ℕ) → a + n ≤ PINS
+      → map (λ pin. enabled_pin (pin_at m pin)) (range_with_len a n) ≡ replicate n factory_pin
   pins_from a zero le = refl
   pins_from a (suc n) le = ap₂ (λ (pin : Pin) (rest : List Pin). pin ∷ rest) (pin-is a (omega (arith, le)))
       (pins_from (a + 1) n (omega (arith, le)))
 
-  card-by-blocks : card_blocks m ≡ pages_of m - 128 → card_of m ≡ factory_card m
-  unfolding card_of pins_of
-  card-by-blocks blocks =
+  card-by-blocks : card_blocks m ≡ pages_of m - 128 → card_pins m ≡ unmarked_pins_of m → card_of m ≡ factory_card m
+  unfolding card_of unmarked_pins_of
+  card-by-blocks blocks unmarked =
       let state : (word m HEADER_PAGE STATE_WORD == 0) ≡ true = ap (λ (w : ℕ). w == 0) state-is in
-      let all = pins_from 0 8 (lit≤ tt) in
+      let all = unmarked ∙ pins_from 0 8 (lit≤ tt) in
       let tree = tree-factory in
       λ i. record { tree = tree i; pins = all i; in_use = state i; blocks = blocks i }
 
@@ -322,7 +324,7 @@ module _ (m : List ℕ) (sized : IsMemory m) (factory : IsFactory Two m) where
     };
     tree = tree-stands Two m sized factory counted-two;
     pins = pins Two m sized factory;
-    marks = λ pin lt. mark-of Two m sized factory pin lt;
+    marks = enabled_marks m enabled-two;
   }
 
   blocks-two : card_blocks m ≡ pages_of m - 128

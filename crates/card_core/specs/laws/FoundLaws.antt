@@ -237,13 +237,13 @@ proper-pins : (m : List ℕ) → ArePinPages m → All HasFewTries (card_pins m)
 unfolding card_pins pins_of unmarked_pins_of
 proper-pins m pages = by (is_format_2 m)
   where
+    enabled_few : (pin : Pin) → HasFewTries pin → HasFewTries (enabled_pin pin)
+    enabled_few pin few = record { tries = few.tries; unblocking_tries = few.unblocking_tries }
+
     by : (new : Bool) → All HasFewTries (if new then map (pin_at m) (range_with_len 0 PINS) else
         map (λ pin. enabled_pin (pin_at m pin)) (range_with_len 0 PINS))
     by true = proper-each m (pin_at m) (λ k few. few) pages
     by false = proper-each m (λ pin. enabled_pin (pin_at m pin)) (λ k few. enabled_few (pin_at m k) few) pages
-
-    enabled_few : (pin : Pin) → HasFewTries pin → HasFewTries (enabled_pin pin)
-    enabled_few pin few = record { tries = few.tries; unblocking_tries = few.unblocking_tries }
 
 pub proper-card : (m : List ℕ) → IsAnyCard m → IsProper (card_of m)
 unfolding card_of
