@@ -107,7 +107,7 @@ module _ (m : List ℕ) (e : ℕ) where
     pub chain-is : IsChain m x.first (chain m x.first)
     chain-is =
         let is_chain : Extent → Type 0 = λ extent. IsChain m extent.chain.first (blocks_of m extent) in
-        all_extents is_chain (table m) (laid_chains m (extents (table m)) words.tree.blocks) e
+        all_extents is_chain (table m) (laid_chains _ m (extents (table m)) words.tree.blocks) e
         (let l = length-table m in omega (arith, l, below)) (extent_told x) (extent_of-some x high)
 
     -- which has room for its size

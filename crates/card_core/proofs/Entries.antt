@@ -14,9 +14,7 @@ use Rattle.file_tree.specs.declared.entry.Entry.{Entry}
 use Rattle.file_tree.specs.Cards.{Body, File, Tree, dedicated, elementary}
 use Rattle.file_tree.specs.Entries.{file_of}
 use Rattle.file_tree.specs.Table.{table, entry_in, path_of, IsUsed}
-use Rattle.file_tree.specs.declared.space.FreeSpace.{FreeSpace}
-use Rattle.file_tree.specs.Spaces.{free_space}
-use Rattle.file_tree.specs.Trees.{tree_of, TellsSpace, file_in}
+use Rattle.file_tree.specs.Trees.{tree_of, TreeStands, file_in}
 use Rattle.file_tree.specs.laws.Nodes.{get-used}
 use Rattle.file_tree.specs.laws.Paths.{parent_path, identifier_path, path_of_child, path-zero}
 use Rattle.card_core.specs.declared.current.Current.{Current}
@@ -28,12 +26,11 @@ use Rattle.card_core.specs.Selecting.{selecting, selection_data, selection_statu
 use Rattle.pin_store.specs.Pages.{ArePinPages}
 use Rattle.card_core.specs.Sessions.{marked}
 use Rattle.card_core.specs.Standing.{card_of, IsAnyCard, IsCard, IsOldCard}
-use Rattle.card_core.specs.laws.CardLaws.{any_tree}
 use Rattle.card_core.specs.declared.memory_format.MemoryFormat.{MemoryFormat}
 use Rattle.card_core.specs.declared.memory_format.MemoryFormat.TheVariants.{One, Two}
 use Rattle.card_core.specs.Steps.{served}
 use Rattle.card_core.specs.Templates.{template_of}
-use Rattle.card_core.specs.Working.{current_at, data_in, life_of, outcome, session_of, template_in, IsCurrent, IsElementary, HoldsPins, IsHeaderIn, TellsCard}
+use Rattle.card_core.specs.Working.{current_at, data_in, life_of, outcome, session_of, template_in, IsCurrent, IsElementary, HoldsPins, IsCardIn, IsHeaderIn, TellsHeader}
 use Rattle.card_core.proofs.SelectSteps.{select-less, select-reached}
 use Rattle.card_core.proofs.Told.{parameters-are}
 
@@ -159,12 +156,15 @@ current-path m words x current = by_file x.ef current.ef
         file.child))
 
 -- what the parts of the check of a memory say together
-pub tells_card : (m : List ℕ) (format : MemoryFormat) (free : Option FreeSpace) → IsHeaderIn format m → HoldsPins format m
-    → TellsSpace m free → TellsCard m (option_map (λ (free : FreeSpace). record { format = format; free = free }) free)
-tells_card m format None header pins tells = λ words. tells (any_tree m words)
-tells_card m One (Some free) header pins tells = (record { header = header; tree = tells.0; pins = pins }, tells.1)
-tells_card m Two (Some free) header pins tells =
-    (record { header = header; tree = tells.0; pins = pins.0; marks = pins.1 }, tells.1)
+pub card_told : (m : List ℕ) (format : MemoryFormat) → IsHeaderIn format m → HoldsPins format m → TreeStands m
+    → IsCardIn format m
+card_told m One header pins tree = record { header = header; tree = tree; pins = pins }
+card_told m Two header pins tree = record { header = header; tree = tree; pins = pins.0; marks = pins.1 }
+
+-- where there is no header there is no card
+pub no_header_no_card : (m : List ℕ) → TellsHeader m None → ¬ IsAnyCard m
+no_header_no_card m none = λ words. ⊎_elim (λ (new : IsCard m). none.0 new.header) (λ (old : IsOldCard m). none.1 old.header)
+    words
 
 -- and a header without its PINs is no card's
 pub no_pins_no_card : (m : List ℕ) (format : MemoryFormat) → IsHeaderIn format m → ¬ HoldsPins format m → ¬ IsAnyCard m

@@ -32,13 +32,15 @@ use Rattle.file_tree.specs.laws.Nodes.{Node, node-used, node-free}
 use Rattle.file_tree.specs.laws.Costs.{space_counted}
 use Rattle.file_tree.specs.laws.Contents.{content-some}
 use Rattle.pin_store.specs.declared.layout.TheConstants.{PINS}
-use Rattle.pin_store.specs.Pages.{bytes_of_words, pin_at, pin_page, pin_word, pins_of, ArePinPages}
-use Rattle.migration.specs.declared.migrating.TheConstants.{PIN_MARK_WORD}
+use Rattle.pin_store.specs.Pages.{bytes_of_words, pin_at, pin_page, pin_word, unmarked_pins_of, ArePinPages, AreEnabled}
+use Rattle.pin_store.specs.Pins.{enabled_pin}
+use Rattle.pin_store.specs.laws.AllPins.{enabled_marks, enabled_unmarked}
+use Rattle.pin_store.specs.declared.layout.TheConstants.{PIN_MARK_WORD}
 use Rattle.card_core.specs.declared.memory_format.MemoryFormat.{MemoryFormat}
 use Rattle.card_core.specs.declared.memory_format.MemoryFormat.TheVariants.{One, Two}
 use Rattle.card_core.specs.Cards.{card_space, Pin}
-use Rattle.card_core.specs.Standing.{IsAnyCard, IsCard, IsOldCard, card_blocks, card_of, StandsFor}
-use Rattle.card_core.specs.laws.CardLaws.{blocks_new, blocks_old, marked_new, marked_old}
+use Rattle.card_core.specs.Standing.{IsAnyCard, IsCard, IsOldCard, card_blocks, card_of, card_pins, StandsFor}
+use Rattle.card_core.specs.laws.CardLaws.{blocks_new, blocks_old, marked_new, marked_old, pins_new, pins_old}
 use Rattle.card_core.specs.Factory.{factory_page, factory_block, factory_end, factory_header, factory_pin_page, factory_pin}
 use Rattle.card_core.specs.Factory.{factory_pin_mark, IsWritten}
 use Rattle.card_core.specs.Factory.{factory_card, factory_tree, factory_space, master_of_factory, file_of_factory}
@@ -59,7 +61,7 @@ unfolding file_of entry_of
 file_is rest = refl
 
 -- the words of the header of either format
-header-mark : (format : MemoryFormat) → ℕ
+abbrev header-mark : MemoryFormat → ℕ
 header-mark One = OLD_MARK
 header-mark Two = MARK
 
@@ -148,7 +150,7 @@ module _ (format : MemoryFormat) (m : List ℕ) (sized : IsMemory m) (factory : 
       ∙ blank_page format end page low (omega (arith, high)) (inl high))))
 
   -- the header tells where the blocks end
-  pub Counted : Type 0
+  abbrev pub Counted : Type 0
   Counted = block_count m ≡ free + 1
 
   laid : Counted → AreLaid (block_count m) m (extents (table m))
@@ -299,6 +301,9 @@ module _ (m : List ℕ) (sized : IsMemory m) (factory : IsFactory One m) where
   blocks-one : card_blocks m ≡ pages_of m - 128
   blocks-one = blocks_old m (marked_old m differs)
 
+  pins-one : card_pins m ≡ unmarked_pins_of m
+  pins-one = pins_old m (marked_old m differs)
+
 -- and of format 2 where the header says
 module _ (m : List ℕ) (sized : IsMemory m) (factory : IsFactory Two m) where
   is-new : word m HEADER_PAGE MARK_WORD ≡ MARK
@@ -314,6 +319,9 @@ module _ (m : List ℕ) (sized : IsMemory m) (factory : IsFactory Two m) where
       let told = told-end in
       let least = sized.least in
       omega (arith, count, end, told, least)
+
+  enabled-two : AreEnabled m
+  enabled-two = record { each = λ pin lt. mark-of Two m sized factory pin lt }
 
   words-two : IsCard m
   words-two = record {
@@ -335,6 +343,9 @@ module _ (m : List ℕ) (sized : IsMemory m) (factory : IsFactory Two m) where
       let told = told-end in
       omega (arith, was, count, end, told)
 
+  pins-two : card_pins m ≡ unmarked_pins_of m
+  pins-two = pins_new m (marked_new m is-new) ∙ enabled_unmarked m enabled-two
+
 pub words-factory : (format : MemoryFormat) (m : List ℕ) → IsMemory m → IsFactory format m → IsAnyCard m
 words-factory One m sized factory = inr (words-one m sized factory)
 words-factory Two m sized factory = inl (words-two m sized factory)
@@ -352,10 +363,14 @@ blocks-are : (format : MemoryFormat) (m : List ℕ) → IsMemory m → IsFactory
 blocks-are One m sized factory = blocks-one m sized factory
 blocks-are Two m sized factory = blocks-two m sized factory
 
+pins-are : (format : MemoryFormat) (m : List ℕ) → IsMemory m → IsFactory format m → card_pins m ≡ unmarked_pins_of m
+pins-are One m sized factory = pins-one m sized factory
+pins-are Two m sized factory = pins-two m sized factory
+
 -- The factory's memory stands for the factory's card.
 pub stands-factory : (format : MemoryFormat) (m : List ℕ) → IsMemory m → IsFactory format m → StandsFor m (factory_card m)
 stands-factory format m sized factory = record {
   shut = gate-factory format m sized factory;
   words = words-factory format m sized factory;
-  card = card-by-blocks format m sized factory (blocks-are format m sized factory);
+  card = card-by-blocks format m sized factory (blocks-are format m sized factory) (pins-are format m sized factory);
 }

@@ -46,6 +46,5 @@ pub mod UpdateServes
 pub mod AppendServes
 pub mod IncreaseServes
 pub mod Readings
-pub mod Headers
 pub mod Missing
 pub mod RecordKinds

@@ -12,14 +12,24 @@ use Rattle.undo_journal.specs.laws.Memory.{writes_then}
 use Rattle.block_chain.specs.Words.{word}
 use Rattle.block_chain.specs.declared.layout.TheConstants.{FIRST_BLOCK_PAGE, HEADER_PAGE}
 use Rattle.file_tree.specs.Formats.{block_count, end_page, is_format_2}
-use Rattle.file_tree.specs.declared.layout.TheConstants.{MARK, MARK_WORD, PAGES_WORD}
+use Rattle.file_tree.specs.declared.layout.TheConstants.{MARK, MARK_WORD, OLD_END_PAGE, PAGES_WORD}
+use Rattle.file_tree.specs.Spaces.{free_space}
+use Rattle.file_tree.specs.Trees.{tree_of}
+use Rattle.file_tree.specs.declared.space.FreeSpace.{FreeSpace}
+use Rattle.file_tree.specs.laws.Costs.{costs_fit}
 use Rattle.file_tree.specs.laws.Formats.{count_is, end_new}
+use Rattle.file_tree.specs.laws.Migrating.{old_count}
 use Rattle.pin_store.specs.laws.AllPins.{enabled_marks, enabled_unmarked, secrets_kept, secrets_pages}
 use Rattle.migration.specs.Migrating.{IsNew, Migrates, migration_writes}
+use Rattle.card_core.specs.Cards.{card_space}
 use Rattle.card_core.specs.Finding.{words_found, FindsAgain}
 use Rattle.card_core.specs.Standing.{card_blocks, card_of, card_pins, IsAnyCard, IsCard, IsOldCard}
+use Rattle.card_core.specs.Working.{IsCardIn, TellsCard}
+use Rattle.card_core.specs.declared.check.Checked.{Checked}
+use Rattle.card_core.specs.declared.memory_format.MemoryFormat.{MemoryFormat}
+use Rattle.card_core.specs.declared.memory_format.MemoryFormat.TheVariants.{One, Two}
 use Rattle.card_core.specs.Starting.{IsNewFound, KeepsFormat, TakesAllPages, power_on_writes}
-use Rattle.card_core.specs.laws.CardLaws.{blocks_new, blocks_old, card_format, marked_new, marked_old, old_format, old_mark}
+use Rattle.card_core.specs.laws.CardLaws.{blocks_new, blocks_old, card_format, card_space_is, marked_new, marked_old, old_format, old_mark}
 use Rattle.card_core.specs.laws.CardLaws.{pins_new, pins_old}
 
 -- the memory is as it was, or that of a card of format 1 which is still one, or is one of format 2
@@ -94,6 +104,49 @@ module _ (m after : List ℕ) (sized : IsMemory m) (old : IsOldCard m) (migrates
       let state = migrates.keeps.state in
       let blocks = blocks-are in
       λ i. record { tree = tree i; pins = pins i; in_use = state i == 0; blocks = blocks i }
+
+-- what is free grows by the blocks that the memory gains
+pub grown-space : (m after : List ℕ) (free : FreeSpace) (n : ℕ) → n ≡ pages_of after → IsMemory m → IsOldCard m → Migrates m after → IsNew after
+    → free ≡ free_space (block_count m) (tree_of m)
+    → record { blocks = free.blocks + (n - OLD_END_PAGE); entries = free.entries } ≡ card_space (card_of after)
+grown-space m after free n all sized old migrates new is =
+    let card = renewed-card m after sized old migrates new in
+    let tree = migrates.keeps.tree in
+    let blocks_is = ap (λ (s : FreeSpace). s.blocks) is in
+    let entries_is = ap (λ (s : FreeSpace). s.entries) is in
+    let fit = costs_fit m sized old.tree in
+    let before = old_count m (old_mark m old) in
+    let count = count_is after in
+    let end = end_new after new.mark in
+    let pages = new.pages in
+    let same = pages_same m after migrates.keeps.size in
+    let least = sized.least in
+    let blocks : free.blocks + (n - OLD_END_PAGE) ≡ (free_space (block_count after) (tree_of m)).blocks =
+    omega (arith, all, blocks_is, fit, before, count, end, pages, same, least) in
+    (λ i. record { blocks = blocks i; entries = entries_is i })
+    ∙ ap (free_space (block_count after)) (sym tree) ∙ sym (card_space_is after card)
+
+-- what a check told of a card, by its format
+told-one : (m : List ℕ) (checked : Checked) → checked.format ≡ One → TellsCard m (Some checked) → IsOldCard m
+told-one m checked is tells = subst (λ (format : MemoryFormat). IsCardIn format m) is tells.0
+
+pub found-one : (m : List ℕ) (told : Option Checked) (checked : Checked) → told ≡ Some checked → checked.format ≡ One
+    → TellsCard m told → IsOldCard m
+found-one m told checked there is tells = told-one m checked is (subst (λ (o : Option Checked). TellsCard m o) there tells)
+
+pub found-two : (m : List ℕ) (told : Option Checked) (checked : Checked) → told ≡ Some checked → checked.format ≡ Two
+    → TellsCard m told → IsCard m × (checked.free ≡ card_space (card_of m))
+found-two m told checked there is tells =
+    let says = subst (λ (o : Option Checked). TellsCard m o) there tells in
+    let card = subst (λ (format : MemoryFormat). IsCardIn format m) is says.0 in
+    (card, says.1 ∙ sym (card_space_is m card))
+
+-- the writes of a renewal, of a memory that was only read before
+pub renewal-writes : (m mid : List ℕ) → mid ≡ m → IsOldCard m
+    → migration_writes (pages_of mid) ≡ (if is_format_2 m then 0 else migration_writes (pages_of m))
+renewal-writes m mid same old =
+    ap (λ (l : List ℕ). migration_writes (pages_of l)) same
+    ∙ sym (ap (λ (b : Bool). if b then 0 else migration_writes (pages_of m)) (old_format m old))
 
 -- where the same words are found, the same card is
 pub found-still : (old new : List ℕ) → words_found new ≡ words_found old → (IsSound new ↔ IsSound old) → FindsAgain old new

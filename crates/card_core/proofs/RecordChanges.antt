@@ -13,7 +13,7 @@ use Rattle.block_chain.specs.Chains.{chain, chain_bytes}
 use Rattle.block_chain.specs.Changes.{OnlyContent}
 use Rattle.block_chain.specs.Counts.{count, IsNotIn}
 use Rattle.block_chain.specs.Layout.{blocks_of}
-use Rattle.block_chain.specs.laws.Bytes.{AreBlocks, leads_blocks}
+use Rattle.block_chain.specs.laws.Bytes.{blocks_same, AreBlocks, leads_blocks}
 use Rattle.block_chain.specs.laws.Footprints.{not_among}
 use Rattle.ef_body.specs.Bodies.{cyclic_records, linear_records, number_told, start_told}
 use Rattle.ef_body.specs.Changes.{CyclicBecomes, LinearBecomes, OnlyBody}
@@ -117,18 +117,24 @@ module _ (m after : List ℕ) (e : ℕ) (sized : IsMemory m) (words : IsCard m) 
       }
 
   sized-mid : IsMemory mid
-  sized-mid = length-set m (told_address e) w ∙ sized
+  sized-mid = memory_same _ _ (length-set m (told_address e) w) sized
 
   sized-after : IsMemory after
   sized-after = memory_same _ _ only.size sized
 
-  blocks : AreBlocks ps
-  blocks = leads_blocks m _ 0 ps (entry_extent m sized words.tree e few high_kind).leads
+  size-mid : length mid ≡ length m
+  size-mid = length-set m (told_address e) w
+
+  blocks-before : AreBlocks m ps
+  blocks-before = leads_blocks m _ 0 ps (entry_extent m sized words.tree e few high_kind).leads
+
+  blocks : AreBlocks mid ps
+  blocks = blocks_same m mid ps size-mid blocks-before
 
   -- then the bytes
   bytes-change : OnlyContent mid ps after
   bytes-change = record {
-    size = sized-after ∙ sym sized-mid;
+    size = only.size ∙ sym size-mid;
     others = λ page place small outside. ⊎_elim
         (λ (is : address page place ≡ told_address e).
         let lt = few in
@@ -184,7 +190,8 @@ module _ (m after : List ℕ) (e : ℕ) (sized : IsMemory m) (words : IsCard m) 
   rest : KeepsRest m after
   rest = record {
     size = only.size;
-    words = λ page place small outside no_block head. only.others page place small (inr (not_among page no_block ps blocks))
+    words = λ page place small outside low head. only.others page place small
+        (inr (not_among m page (λ block. let from = block.0 in let z : ⊥ = omega (arith, from, low) in z) ps blocks-before))
         (λ is. let lt = few in outside (omega (arith, is, small), omega (arith, is, small, lt)));
   }
 

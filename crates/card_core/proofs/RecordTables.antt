@@ -8,10 +8,14 @@ use Rattle.std.proofs.lemmas.Bool.{cases_eq, cases_lt}
 use Rattle.nvm_board.specs.Facts.{address}
 use Rattle.nvm_board.specs.Facts.{IsMemory}
 use Rattle.block_chain.specs.declared.chain.Extent.{Extent}
-use Rattle.block_chain.specs.Words.{page_words, word_bytes, IsBlock}
+use Rattle.block_chain.specs.Words.{page_words, word_bytes}
+use Rattle.block_chain.specs.declared.layout.TheConstants.{HEADER_PAGE}
+use Rattle.file_tree.specs.Formats.{block_count, SameFormat}
+use Rattle.file_tree.specs.declared.layout.TheConstants.{MARK_WORD, PAGES_WORD}
+use Rattle.file_tree.specs.laws.Formats.{laid_as}
 use Rattle.block_chain.specs.Chains.{bytes_of, free_chain}
 use Rattle.block_chain.specs.Changes.{KeepsBlocks}
-use Rattle.block_chain.specs.Layout.{AreLaid, SameBytes}
+use Rattle.block_chain.specs.Layout.{IsOf, AreLaid, SameBytes}
 use Rattle.block_chain.specs.laws.Footprints.{laid_elsewhere, page_words_same, set_elsewhere}
 use Rattle.block_chain.specs.laws.Words.{index-page_words}
 use Rattle.file_tree.specs.declared.entry.Entry.{Entry}
@@ -301,15 +305,21 @@ module _ (m : List ℕ) (e w : ℕ) (sized : IsMemory m) (stands : TreeStands m)
   current-mid = current-same (table m) (table mid) stands.entries (length-table m) (length-table mid) all-retold
       all-entries
 
-  keeps-mid : KeepsBlocks m mid
+  format-mid : SameFormat m mid
+  format-mid = record {
+    mark = other-word (address HEADER_PAGE MARK_WORD) (λ is. let z : ⊥ = omega (arith, is) in z);
+    pages = other-word (address HEADER_PAGE PAGES_WORD) (λ is. let z : ⊥ = omega (arith, is) in z);
+  }
+
+  keeps-mid : KeepsBlocks (block_count m) m mid
   keeps-mid =
       let lt = few in
-      set_elsewhere m (1 + e) 10 w (omega arith)
-      (λ (block : IsBlock (1 + e)). let low_page = block.0 in let z : ⊥ = omega (arith, lt, low_page) in z)
+      set_elsewhere (block_count m) m (1 + e) 10 w (omega arith)
+      (λ (block : IsOf (block_count m) (1 + e)). let low_page = block.0 in let z : ⊥ = omega (arith, lt, low_page) in z)
       (inl (λ is. let z : ⊥ = omega (arith, is) in z))
 
-  moved : AreLaid mid (extents (table m)) × (free_chain mid ≡ free_chain m) × All (SameBytes m mid) (extents (table m))
-  moved = laid_elsewhere m mid (extents (table m)) sized stands.blocks keeps-mid
+  moved : AreLaid (block_count m) mid (extents (table m)) × (free_chain mid ≡ free_chain m) × All (SameBytes m mid) (extents (table m))
+  moved = laid_elsewhere (block_count m) m mid (extents (table m)) sized stands.blocks keeps-mid
 
   pub free_chain-mid : free_chain mid ≡ free_chain m
   free_chain-mid = moved.1
@@ -317,9 +327,9 @@ module _ (m : List ℕ) (e w : ℕ) (sized : IsMemory m) (stands : TreeStands m)
   pub stands-mid : TreeStands mid
   stands-mid = record {
     entries = rules-mid;
-    blocks = (let family : List Extent → Type 0 = λ es. AreLaid mid es in
+    blocks = (let family : List Extent → Type 0 = λ es. AreLaid (block_count mid) mid es in
         subst family (sym (same-extents (table m) (table mid) stands.entries (length-table m) (length-table mid)
-        all-retold all-entries)) moved.0);
+        all-retold all-entries)) (laid_as m mid (extents (table m)) format-mid moved.0));
   }
 
   pub bytes-mid : (f : ℕ) → IsUsed (table m) f → 2 ≤ (entry_in (table m) f).kind

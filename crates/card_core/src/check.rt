@@ -91,6 +91,8 @@ pub(crate) fn find_card<B: Board>(store: &mut Store<B>) -> Result<Option<Checked
     if !has_pins(store, format)? {
         return Ok(None);
     }
-    let free = is_tree(store)?;
-    Ok(free.map(|free| Checked { format, free }))
+    let Some(free) = is_tree(store)? else {
+        return Ok(None);
+    };
+    Ok(Some(Checked { format, free }))
 }

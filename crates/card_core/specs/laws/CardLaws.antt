@@ -1,13 +1,14 @@
 -- Laws of the words of a card, in either format: what they have in common, and what a change of some of them leaves.
-use Rattle.std.specs.Prelude.{◌≡◌, ◌≢◌, ◌⊎◌, ◌<◌, ◌-◌, ◌==◌, ℕ, Bool, true, false, if◌then◌else◌, List, length}
+use Rattle.std.specs.Prelude.{◌≡◌, ◌≢◌, ◌⊎◌, ◌<◌, ◌≤◌, ◌-◌, ◌==◌, ℕ, Bool, true, false, if◌then◌else◌, List, length}
 use Rattle.std.proofs.Common.{refl, sym, ◌∙◌, ap, arith, inl, inr, ⊎_elim}
 use Rattle.std.proofs.lemmas.Bool.Decides.{eqb_tells}
-use Rattle.nvm_board.specs.Facts.{pages_of}
+use Rattle.nvm_board.specs.Facts.{pages_of, IsMemory}
 use Rattle.nvm_board.specs.laws.Sizes.{pages_same}
 use Rattle.block_chain.specs.Words.{word}
-use Rattle.block_chain.specs.declared.layout.TheConstants.{FIRST_BLOCK_PAGE, HEADER_PAGE}
+use Rattle.block_chain.specs.declared.layout.TheConstants.{FIRST_BLOCK_PAGE, HEADER_PAGE, MOST_BLOCKS}
 use Rattle.file_tree.specs.Formats.{block_count, is_format_2, SameFormat}
 use Rattle.file_tree.specs.Spaces.{free_space}
+use Rattle.file_tree.specs.declared.space.FreeSpace.{FreeSpace}
 use Rattle.file_tree.specs.Trees.{tree_of, TreeStands}
 use Rattle.file_tree.specs.declared.layout.TheConstants.{MARK, MARK_WORD, STATE_WORD}
 use Rattle.file_tree.specs.laws.Formats.{count_same}
@@ -64,6 +65,14 @@ card_count m words = blocks_new m (card_format m words)
 pub card_space_is : (m : List ℕ) → IsCard m → card_space (card_of m) ≡ free_space (block_count m) (tree_of m)
 unfolding card_of
 card_space_is m words = ap (λ (n : ℕ). free_space n (tree_of m)) (blocks_new m (card_format m words))
+
+-- and there are no more blocks than pages behind the first 128
+pub few_free : (m : List ℕ) → IsMemory m → IsCard m → (card_space (card_of m)).blocks ≤ MOST_BLOCKS
+few_free m sized words =
+    let space = ap (λ (s : FreeSpace). s.blocks) (card_space_is m words) in
+    let inside = words.tree.blocks.inside in
+    let most = sized.most in
+    omega (arith, space, inside, most)
 
 -- the same header and the same size, as many blocks
 pub blocks_same : (m after : List ℕ) → length after ≡ length m → SameFormat m after → card_blocks after ≡ card_blocks m

@@ -334,6 +334,20 @@ module _ (m : List ℕ) (sized : IsMemory m) (stands : TreeStands m) where
       (map page_entry (range_with_len (a + 1 + 1) n)) in
       omega (arith, one, same, rest, left, right)
 
+  -- what the files cost are the blocks that their entries name, and so no more than there are
+  costs_laid : sum_by (λ (n : Node). cost n.1) (entries (tree_of m)) ≡ length (laid_out m (extents (table m)))
+  unfolding tree_of table
+  costs_laid =
+      sum-nodes (λ (n : Node). cost n.1) (filter_map (node m) (range_with_len 0 64)) (nodes_distinct m stands.entries 0 64)
+      ∙ costs_from 0 64 (omega arith) ∙ laid_blocks m (extents (table m)) stands.blocks.each
+
+  pub costs_fit : sum_by (λ (n : Node). cost n.1) (entries (tree_of m)) ≤ block_count m
+  costs_fit =
+      let costs = costs_laid in
+      let whole = stands.blocks.whole in
+      let parts = length-append (free_chain m) (laid_out m (extents (table m))) in
+      omega (arith, costs, whole, parts)
+
   -- Free are the blocks of the free chain, and the free entries.
   pub space_counted : free_space (block_count m) (tree_of m) ≡ record {
     blocks = length (free_chain m);
@@ -344,9 +358,7 @@ module _ (m : List ℕ) (sized : IsMemory m) (stands : TreeStands m) where
   space_counted =
       let ns = filter_map (node m) (range_with_len 0 64) in
       let distinct = nodes_distinct m stands.entries 0 64 in
-      let costs : sum_by (λ (n : Node). cost n.1) (entries (tree_of m)) ≡ length (laid_out m (extents (table m))) =
-      sum-nodes (λ (n : Node). cost n.1) ns distinct ∙ costs_from 0 64 (omega arith)
-      ∙ laid_blocks m (extents (table m)) stands.blocks.each in
+      let costs = costs_laid in
       let blocks : block_count m - sum_by (λ (n : Node). cost n.1) (entries (tree_of m)) ≡ length (free_chain m) =
       (let whole = stands.blocks.whole in
       let parts = length-append (free_chain m) (laid_out m (extents (table m))) in

@@ -7,7 +7,7 @@ use Rattle.card_core.proofs.FactoryFound.{stands-found}
 use Rattle.card_core.proofs.factory.format.Goals as goal
 
 pub returns-in-Ok-clause-factory : goal.returns-in-Ok-clause-factory
-returns-in-Ok-clause-factory g c = factory-written Two _ _ _ c.pages.ensures c.in-Ok.ensures.written
+returns-in-Ok-clause-factory g c = factory-written Two _ _ _ c.pages-end.ensures c.in-Ok.ensures.written
 
 pub returns-in-Ok-clause-stands : goal.returns-in-Ok-clause-stands
 returns-in-Ok-clause-stands g c =

@@ -1,26 +1,29 @@
-use Rattle.std.proofs.Common.{◌≡◌, ◌<◌, ◌≤◌, ◌+◌, ℕ, length, refl, ap, ◌∙◌, inr, arith, ⊎_elim}
+use Rattle.std.proofs.Common.{◌≡◌, ◌≢◌, ◌<◌, ◌≤◌, ◌+◌, ℕ, length, refl, ap, ◌∙◌, inr, arith, ⊎_elim}
 use Rattle.nvm_board.specs.Facts.{address}
 use Rattle.nvm_board.specs.laws.Aims.{aims_then, aims_written}
 use Rattle.nvm_board.specs.laws.Sizes.{page_within, pages_same}
 use Rattle.nvm_board.specs.laws.Torn.{length-written}
 use Rattle.block_chain.specs.declared.layout.TheConstants.{HEADER_PAGE}
-use Rattle.card_core.specs.Factory.{factory_header}
+use Rattle.undo_journal.specs.laws.Exits.{on_then}
+use Rattle.card_core.specs.Factory.{IsWritten}
 use Rattle.block_chain.specs.Words.{page_words}
 use Rattle.card_core.proofs.FactoryPages.{length-header, page_words-written, page_words-written_other}
 use Rattle.card_core.proofs.Powers.{answered_after, answered_handed}
 use Rattle.card_core.proofs.Stopping.{none-done}
 use Rattle.card_core.proofs.factory.write_factory.Goals as goal
 
-pub board-write-requires-clause-page : goal.board-write-requires-clause-page
-board-write-requires-clause-page g c = omega (arith, c.requires.least, c.requires.inside)
+pub write-requires-clause-page : goal.write-requires-clause-page
+write-requires-clause-page g c = omega (arith, c.requires.least, c.requires.inside)
 
 pub write_pages-requires-clause-lit : goal.write_pages-requires-clause-lit
 write_pages-requires-clause-lit g c = (c.in_ok-write.ensures.light.ok refl).lit
 
 pub write_pages-requires-clause-inside : goal.write_pages-requires-clause-inside
 write_pages-requires-clause-inside g c =
-    let size = ap (λ words. length words) c.in_ok-write.ensures.done ∙ length-written _ _ _ in
-    let pages = pages_same _ _ size in
+    let m = (g.B.Board.facts c.args.board.now).words in
+    let size = ap (λ words. length words) c.in_ok-write.ensures.done
+    ∙ length-written m c.header.result (address HEADER_PAGE 0) in
+    let pages = pages_same m _ size in
     omega (arith, c.requires.inside, pages)
 
 pub write_pages-requires-clause-header : goal.write_pages-requires-clause-header
@@ -36,7 +39,18 @@ pub returns-clause-power : goal.returns-clause-power
 returns-clause-power g c = answered_after _ _ _ (c.in_ok-write.ensures.light.ok refl) _ c.write_pages.ensures.power
 
 pub returns-clause-written : goal.returns-clause-written
-returns-clause-written g c = ?
+returns-clause-written g c =
+    let m = (g.B.Board.facts c.args.board.now).words in
+    let whole : length c.header.result ≡ 16 = ap length c.header.ensures ∙ length-header c.args.format c.args.end in
+    on_then _ _ c.write_pages.result (λ (rest : IsWritten c.args.format c.args.end _ _). λ _. record {
+      size = rest.size ∙ ap (λ words. length words) c.in_ok-write.ensures.done
+          ∙ length-written m c.header.result (address HEADER_PAGE 0);
+      pages = rest.pages;
+      behind = λ page high.
+          let other : page ≢ HEADER_PAGE = λ same. let z : ⊥ = omega (arith, same, high, c.requires.least) in z in
+          rest.behind page high ∙ ap (λ words. page_words words page) c.in_ok-write.ensures.done
+          ∙ page_words-written_other m c.header.result HEADER_PAGE page (omega (arith, whole)) other;
+    }) c.write_pages.ensures.written
 
 pub returns-clause-counts : goal.returns-clause-counts
 returns-clause-counts g c =

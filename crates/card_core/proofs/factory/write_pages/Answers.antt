@@ -1,6 +1,8 @@
 use Rattle.std.proofs.Common.{◌≡◌, ◌≢◌, ◌≤◌, ℕ, List, length, refl, rules, ap, ◌∙◌, arith, below_more, inr}
 use Rattle.nvm_board.specs.Facts.{address}
 use Rattle.nvm_board.specs.laws.Aims.{aims_then, aims_written}
+use Rattle.nvm_board.specs.laws.Sizes.{page_within, pages_same}
+use Rattle.nvm_board.specs.laws.Torn.{length-written}
 use Rattle.block_chain.specs.Words.{page_words}
 use Rattle.card_core.proofs.FactoryPages.{page_words-written, page_words-written_other}
 use Rattle.card_core.proofs.Powers.{answered_after, steady_then}
@@ -14,10 +16,12 @@ returns-in_err-write-clause-power g c =
 pub loop-page-preserved : goal.loop-page-preserved
 loop-page-preserved g c =
     let m = (g.B.Board.facts c.loop-page.board).words in
-    let sized = g.met.B.Board.sized c.loop-page.board in
-    let within : address c.loop-page.page 16 ≤ length m = omega (arith, sized) in
-    let whole : length c.factory_page.result ≡ 16 = ap length c.factory_page.ensures
-    ∙ length-factory_page c.loop-page.page in
+    let first = (g.B.Board.facts c.args.board.now).words in
+    let pages = pages_same first m c.loop-page.invariant.size in
+    let within = page_within m c.loop-page.page (g.met.B.Board.sized c.loop-page.board)
+    (omega (arith, pages, c.loop-page-test.true, c.requires.inside)) in
+    let whole : length c.factory_page.result ≡ 16 = ap length c.factory_page.ensures.words
+    ∙ length-factory_page c.args.format c.args.end c.loop-page.page in
     let fits : length c.factory_page.result ≤ 16 = omega arith in
     record {
       steady = steady_then _ _ _ c.loop-page.invariant.steady (c.in_ok-write.ensures.light.ok refl);
@@ -26,6 +30,13 @@ loop-page-preserved g c =
       writes = omega (arith, c.in_ok-write.ensures.counted);
       compares = c.in_ok-write.ensures.compares ∙ c.loop-page.invariant.compares;
       matches = c.in_ok-write.ensures.matches ∙ c.loop-page.invariant.matches;
+      size = ap (λ (words : List ℕ). length words) c.in_ok-write.ensures.done
+          ∙ length-written m c.factory_page.result (address c.loop-page.page 0) ∙ c.loop-page.invariant.size;
+      behind = λ page high.
+          let other : page ≢ c.loop-page.page = λ same. let z : ⊥ = omega (arith, same, high, c.loop-page-test.true) in z in
+          ap (λ (words : List ℕ). page_words words page) c.in_ok-write.ensures.done
+          ∙ page_words-written_other m c.factory_page.result c.loop-page.page page fits other
+          ∙ c.loop-page.invariant.behind page high;
       so_far = below_more _ _
           (λ page below.
           let other : page ≢ c.loop-page.page = λ same. let z : ⊥ = omega arith in z in
@@ -33,7 +44,7 @@ loop-page-preserved g c =
           ∙ page_words-written_other m c.factory_page.result c.loop-page.page page fits other
           ∙ c.loop-page.invariant.so_far page below)
           (ap (λ (words : List ℕ). page_words words c.loop-page.page) c.in_ok-write.ensures.done
-          ∙ page_words-written m c.factory_page.result c.loop-page.page whole within ∙ c.factory_page.ensures);
+          ∙ page_words-written m c.factory_page.result c.loop-page.page whole within ∙ c.factory_page.ensures.words);
     }
 
 pub returns-in_err-write-clause-cut : goal.returns-in_err-write-clause-cut
@@ -42,3 +53,14 @@ returns-in_err-write-clause-cut g c = aims_then _ _ _ c.loop-page.invariant.cut
 
 pub returns-clause-cut : goal.returns-clause-cut
 returns-clause-cut g c = c.loop-page.invariant.cut
+
+pub write-requires-clause-page : goal.write-requires-clause-page
+write-requires-clause-page g c =
+    let pages = pages_same _ _ c.loop-page.invariant.size in omega (arith, pages, c.loop-page-test.true, c.requires.inside)
+
+pub returns-clause-written : goal.returns-clause-written
+returns-clause-written g c = record {
+  size = c.loop-page.invariant.size;
+  pages = λ page below. c.loop-page.invariant.so_far page (omega (arith, below, c.loop-page-test.false));
+  behind = c.loop-page.invariant.behind;
+}

@@ -1,4 +1,4 @@
-use Rattle.std.proofs.Common.{[], Result, Ok, None, refl, sym, ◌∙◌, subst, arith, inr}
+use Rattle.std.proofs.Common.{[], Result, Ok, None, refl, sym, ◌∙◌, ap, subst, arith, inr}
 use Rattle.undo_journal.specs.declared.error.StoreErr.{StoreErr}
 use Rattle.undo_journal.specs.Memory.{committed}
 use Rattle.undo_journal.specs.laws.Memory.{reports_then}
@@ -8,6 +8,8 @@ use Rattle.apdu_core.specs.Requests.{delete_file}
 use Rattle.file_tree.specs.declared.entry.Entry.{Entry}
 use Rattle.card_core.specs.Served.{Serves}
 use Rattle.card_core.specs.Working.{card_in, session_in}
+use Rattle.file_tree.specs.declared.space.FreeSpace.{FreeSpace}
+use Rattle.card_core.specs.laws.CardLaws.{few_free}
 use Rattle.card_core.proofs.Answering.{said_ok, said_err}
 use Rattle.card_core.proofs.Deletions.{any-deleting, any-stands, deleted-space, done-current, done-step}
 use Rattle.card_core.proofs.FileSteps.{delete-refused}
@@ -103,3 +105,19 @@ returns-clause-space g c =
     (committed c.delete.new.store) same c.delete.ensures.any_exit in
     deleted-space m (committed c.find_deletable.new.store) (committed c.delete.new.store) c.args.free.now
     c.in_ok-freed.freed c.requires.space same c.in_ok-freed.ensures.space c.requires.kept.card card
+
+-- what is free then is at most all there is
+pub overflow_add-free : goal.overflow_add-free
+overflow_add-free g c =
+    let m = committed c.args.store.now in
+    let new = c.delete.new.store in
+    let found = said_ok _ _ c.in_ok-file.field-0 c.in-Ok.file c.in-Ok.is c.in_ok-file.ensures.found in
+    let same = c.find_deletable.ensures.store.only.keeps.committed_words in
+    let card = any-stands m c.requires.kept.ready.usable.committed_size c.requires.kept.card c.args.current.now c.args.subject
+    c.in-Ok.file.number found.below found.used found.place (committed c.find_deletable.new.store) (committed new) same
+    c.delete.ensures.any_exit in
+    let space = ap (λ (s : FreeSpace). s.blocks)
+    (deleted-space m (committed c.find_deletable.new.store) (committed new) c.args.free.now c.in_ok-freed.freed
+    c.requires.space same c.in_ok-freed.ensures.space c.requires.kept.card card) in
+    let few = few_free (committed new) c.in_ok-freed.ensures.store.ready.usable.committed_size card in
+    omega (arith, space, few)

@@ -1,0 +1,40 @@
+use Rattle.std.proofs.Common.{ℕ, List, Option, Some, None, sym, ◌∙◌, ap, subst, inl}
+use Rattle.std.specs.Result.{result_err}
+use Rattle.undo_journal.specs.Calls.{Changes}
+use Rattle.undo_journal.specs.Memory.{committed}
+use Rattle.undo_journal.specs.laws.Told.{changes_after, changes_handed}
+use Rattle.card_core.specs.Cards.{card_space}
+use Rattle.card_core.specs.Standing.{card_of, IsCard}
+use Rattle.card_core.proofs.Migrated.{found-one, found-two, renewal-writes}
+use Rattle.card_core.proofs.renewing.find_renewed.Goals as goal
+
+pub returns-in_err-renew-in-One-clause-store : goal.returns-in_err-renew-in-One-clause-store
+returns-in_err-renew-in-One-clause-store g c =
+    let m = committed c.args.store.now in
+    let same = c.find_card.ensures.store.only.keeps.committed_words in
+    let old = found-one m _ c.in-Some.found c.in-Some.is c.in-One.is c.in_ok-found.ensures.card in
+    let told = Some c.in_err-renew-in-One.field-0.0 in
+    let first = c.args.store.now in
+    let last = c.renew.new.store in
+    let changes = changes_after _ first c.find_card.new.store last told c.find_card.ensures.store.only
+    c.in_err-renew-in-One.ensures.store in
+    changes_handed _ first last _ _ c.from_residual-in_err-renew-in-One.ensures.1
+    (subst (λ (n : ℕ). Changes n first last told) (renewal-writes m (committed c.find_card.new.store) same old) changes)
+
+pub returns-in-Two-clause-card : goal.returns-in-Two-clause-card
+returns-in-Two-clause-card g c =
+    let m = committed c.args.store.now in
+    let same = sym c.find_card.ensures.store.only.keeps.committed_words in
+    let there = found-two m _ c.in-Some.found c.in-Some.is c.in-Two.is c.in_ok-found.ensures.card in
+    (inl there.0, subst IsCard same there.0, there.1 ∙ ap (λ (l : List ℕ). card_space (card_of l)) same)
+
+pub returns-in_ok-renew-in-One-clause-store : goal.returns-in_ok-renew-in-One-clause-store
+returns-in_ok-renew-in-One-clause-store g c =
+    let m = committed c.args.store.now in
+    let same = c.find_card.ensures.store.only.keeps.committed_words in
+    let old = found-one m _ c.in-Some.found c.in-Some.is c.in-One.is c.in_ok-found.ensures.card in
+    let first = c.args.store.now in
+    let last = c.renew.new.store in
+    let changes = changes_after _ first c.find_card.new.store last None c.find_card.ensures.store.only
+    c.in_ok-renew-in-One.ensures.store in
+    subst (λ (n : ℕ). Changes n first last None) (renewal-writes m (committed c.find_card.new.store) same old) changes
