@@ -505,8 +505,8 @@ module _ (request : Request) (a : Attempt) (asks : IsAttempt request a) (n : ℕ
           (λ refusal. (refused_at a (pin_in old a.secret) ≡ Some refusal) × IsReady b)) is done
 
       card-b : IsCard (committed b)
-      card-b = exit-card request a asks old x sized card current b got.1.0.charged.size pages-b
-          (charge_keeps_law a.secret a.shown old b (inr got.1.0) costs)
+      card-b = exit-card request a asks old x sized card current b got.1.charged.size pages-b
+          (charge_keeps_law a.secret a.shown old b (inr got.1) costs)
 
       exit-told : (committed e ≡ committed b) ⊎ SetsByMatch a.secret a.shown (a.becomes (pin_in b a.secret)) b e
       exit-told = subst (λ (k : ℕ). (committed e ≡ committed b) ⊎ SetsByMatch k a.shown (a.becomes (pin_in b k)) b e) got.0
@@ -522,7 +522,7 @@ module _ (request : Request) (a : Attempt) (asks : IsAttempt request a) (n : ℕ
           → Serves request old x e x [] r
       end-torn r err error failed =
           subst (λ (result : Result Sw StoreErr). Serves request old x e x [] result) (sym (err-is r err error))
-          (exit-end request a asks old x sized card current got.1.1 b got.1.0 card-b e n (ends _) costs spends-told pages
+          (exit-end request a asks old x sized card current got.2 b got.1 card-b e n (ends _) costs spends-told pages
           (reports_then old b e reports-b reports) stays word writes exit-told err failed)
 
       pub end-made : (end : AttemptEnd) → EndsByOutcome k a.shown (a.becomes (pin_in b k)) b e end → IsReady e
@@ -532,7 +532,7 @@ module _ (request : Request) (a : Attempt) (asks : IsAttempt request a) (n : ℕ
       end-made end ended is-ready counted y at status told =
           let charge : b.facts.writes ≡ old.facts.writes + 1 =
           subst (λ (r : Result ℕ Sw). IfOk r (λ _. b.facts.writes ≡ old.facts.writes + 1)) is counted in
-          let made = exit-done request a asks old x sized card current got.1.1 b got.1.0 card-b e n (ends _) costs spends-told pages
+          let made = exit-done request a asks old x sized card current got.2 b got.1 card-b e n (ends _) costs spends-told pages
           (reports_then old b e reports-b reports) stays word writes exit-told end
           (subst (λ (k : ℕ). EndsByOutcome k a.shown (a.becomes (pin_in b k)) b e end) got.0 ended) is-ready charge in
           subst (λ (z : Current). Serves request old x e z [] (Ok status)) (sym at)
