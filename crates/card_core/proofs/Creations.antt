@@ -20,7 +20,7 @@ use Rattle.file_tree.specs.Formats.{block_count}
 use Rattle.file_tree.specs.Spaces.{free_space}
 use Rattle.card_core.specs.Cards.{card_space}
 use Rattle.card_core.specs.laws.CardLaws.{card_count, card_space_is}
-use Rattle.file_tree.specs.States.{is_allowed, is_barred}
+use Rattle.file_tree.specs.States.{is_barred}
 use Rattle.file_tree.specs.Table.{table, entry_in, path_of}
 use Rattle.file_tree.specs.Trees.{tree_of, file_in}
 use Rattle.file_tree.specs.laws.Nodes.{get-used, same_of_one}
@@ -30,16 +30,15 @@ use Rattle.card_core.specs.Files.{create_refusals, creation_bit, with_new}
 use Rattle.card_core.specs.Guards.{allowed}
 use Rattle.card_core.specs.Outcomes.{refused, refused_by, only_status}
 use Rattle.card_core.specs.Selecting.{selecting}
-use Rattle.card_core.specs.Sessions.{Session, marks_of}
+use Rattle.card_core.specs.Sessions.{Session}
 use Rattle.card_core.specs.Standing.{card_of, IsCard}
 use Rattle.card_core.specs.Served.{IsDoing}
 use Rattle.card_core.specs.Steps.{served}
-use Rattle.card_core.specs.Working.{current_at, outcome, session_of, verified_in, IsCurrent}
+use Rattle.card_core.specs.Working.{current_at, outcome, session_of, IsCurrent}
 use Rattle.card_core.proofs.Entries.{card-tree, current-entry, selecting-entry}
 use Rattle.card_core.proofs.Doing.{doing-one}
 use Rattle.card_core.proofs.FileSteps.{create-commits, create-done, create-refused, create-unread, create-unrefused}
 use Rattle.card_core.proofs.Keeping.{files-stand, files-after}
-use Rattle.card_core.proofs.Verified.{marks-are}
 
 -- what was found of nothing that is there
 value_of : (one other : File) → Some one ≡ Some other → one ≡ other

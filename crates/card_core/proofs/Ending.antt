@@ -19,7 +19,7 @@ use Rattle.block_chain.specs.declared.layout.TheConstants.{FREE_HEAD_WORD}
 use Rattle.block_chain.specs.Chains.{free_chain}
 use Rattle.block_chain.specs.Words.{word}
 use Rattle.apdu_core.specs.Requests.{terminate_card_usage}
-use Rattle.file_tree.specs.States.{is_allowed, with_card_terminated}
+use Rattle.file_tree.specs.States.{with_card_terminated}
 use Rattle.file_tree.specs.Table.{table, path_of}
 use Rattle.file_tree.specs.Trees.{tree_of, TreeStands}
 use Rattle.file_tree.specs.Changes.{KeepsTree}
@@ -27,12 +27,11 @@ use Rattle.file_tree.specs.Formats.{SameFormat}
 use Rattle.file_tree.specs.laws.Footprints.{tree_kept}
 use Rattle.file_tree.specs.declared.entry.Entry.{Entry}
 use Rattle.pin_store.specs.Pages.{pin_page, KeepsPins}
-use Rattle.pin_store.specs.laws.AllPins.{pages_kept, pins_kept}
+use Rattle.pin_store.specs.laws.AllPins.{marks_kept, pages_kept}
 use Rattle.card_core.specs.declared.current.Current.{Current}
 use Rattle.block_chain.specs.declared.layout.TheConstants.{HEADER_PAGE}
 use Rattle.file_tree.specs.declared.layout.TheConstants.{MARK_WORD, PAGES_WORD, STATE_WORD}
-use Rattle.migration.specs.declared.migrating.TheConstants.{PIN_MARK_WORD}
-use Rattle.card_core.specs.laws.CardLaws.{blocks_same}
+use Rattle.card_core.specs.laws.CardLaws.{blocks_same, pins_same}
 use Rattle.card_core.specs.Cards.{Card}
 use Rattle.card_core.specs.Comparing.{comparisons, ComparesNothing}
 use Rattle.card_core.specs.Guards.{allowed}
@@ -43,12 +42,11 @@ use Rattle.card_core.specs.Sessions.{Session}
 use Rattle.card_core.specs.Stages.{commits}
 use Rattle.card_core.specs.Standing.{card_of, IsCard}
 use Rattle.card_core.specs.Steps.{effect, refusals_of, served}
-use Rattle.card_core.specs.Working.{card_in, outcome, session_in, session_of, table_in, verified_in, IsCurrent}
+use Rattle.card_core.specs.Working.{card_in, outcome, session_in, session_of, table_in, IsCurrent}
 use Rattle.card_core.proofs.Doing.{doing-one}
 use Rattle.card_core.proofs.Entries.{card-tree, master-path}
 use Rattle.card_core.proofs.Guarding.{served-done, served-refused}
 use Rattle.card_core.proofs.Serves.{compared-none, reads-compared, torn, written}
-use Rattle.card_core.proofs.Verified.{marks-are}
 use Rattle.card_core.proofs.Words.{Went, went-after}
 
 module _ (m : List ℕ) (sized : IsMemory m) (words : IsCard m) where

@@ -19,7 +19,7 @@ use Rattle.apdu_core.specs.Requests.{Request, change_life_cycle}
 use Rattle.file_tree.specs.declared.entry.Entry.{Entry}
 use Rattle.file_tree.specs.Cards.{Body, File, Tree}
 use Rattle.file_tree.specs.Entries.{file_of, free_entry}
-use Rattle.file_tree.specs.States.{is_allowed, life_at, next_life, ChangesLife}
+use Rattle.file_tree.specs.States.{life_at, next_life, ChangesLife}
 use Rattle.card_core.specs.Cards.{card_space}
 use Rattle.card_core.specs.laws.CardLaws.{card_space_is}
 use Rattle.file_tree.specs.Table.{table, entry_in, free_entries, path_of, IsUsed}
@@ -44,11 +44,10 @@ use Rattle.card_core.specs.Stages.{commits}
 use Rattle.card_core.specs.LifeCycles.{life_commits}
 use Rattle.card_core.specs.Standing.{card_of, IsCard}
 use Rattle.card_core.specs.Steps.{effect, refusals_of, served}
-use Rattle.card_core.specs.Working.{current_at, outcome, session_of, verified_in, IsCurrent, IsElementary}
+use Rattle.card_core.specs.Working.{current_at, outcome, session_of, IsCurrent, IsElementary}
 use Rattle.card_core.proofs.Doing.{doing-one}
 use Rattle.card_core.proofs.Entries.{card-tree, current-entry, current-path, selecting-entry}
 use Rattle.card_core.proofs.Keeping.{files-after, files-stand}
-use Rattle.card_core.proofs.Verified.{marks-are}
 
 -- two lists of one length, alike where a test looks
 count-alike : {T : Type 0} (p : T → Bool) (d : T) (ys xs : List T) → length ys ≡ length xs
