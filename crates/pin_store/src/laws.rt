@@ -24,13 +24,17 @@ pub fn words_elsewhere_keep_the_pins()
     ensures marks { (m after : List ℕ) → KeepsPins m after → AreMarks m → AreMarks after }
 {}
 
-/// The PINs of a memory whose pages have no marks are enabled, and depend on six words of each page. Once each is marked as
-/// enabled, the PINs are those.
-#[tactic(auto, using(crate::specs::laws::AllPins::secrets_kept, crate::specs::laws::AllPins::secrets_pages, crate::specs::laws::AllPins::enabled_unmarked, crate::specs::laws::AllPins::enabled_marks))]
+/// The PINs of a memory whose pages have no marks are enabled, and depend on six words of each page.
+#[tactic(auto, using(crate::specs::laws::AllPins::secrets_kept, crate::specs::laws::AllPins::secrets_pages))]
 pub fn pins_without_marks_are_enabled()
     ensures pins { (m after : List ℕ) → KeepsSecrets m after → unmarked_pins_of after ≡ unmarked_pins_of m }
     ensures pages { (m after : List ℕ) → KeepsSecrets m after → ArePinPages m → ArePinPages after }
-    ensures enabled { (m : List ℕ) → AreEnabled m → pins_of m ≡ unmarked_pins_of m }
+{}
+
+/// Once each PIN is marked as enabled, the PINs are those of a memory without marks.
+#[tactic(auto, using(crate::specs::laws::AllPins::enabled_unmarked, crate::specs::laws::AllPins::enabled_marks))]
+pub fn pins_marked_as_enabled_are_so()
+    ensures pins { (m : List ℕ) → AreEnabled m → pins_of m ≡ unmarked_pins_of m }
     ensures marks { (m : List ℕ) → AreEnabled m → AreMarks m }
 {}
 
