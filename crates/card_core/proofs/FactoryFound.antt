@@ -17,7 +17,6 @@ use Rattle.file_tree.specs.laws.Footprints.{tree_kept}
 use Rattle.card_core.specs.Cards.{Card}
 use Rattle.pin_store.specs.Pages.{pin_page, pin_word, KeepsPins}
 use Rattle.pin_store.specs.declared.layout.TheConstants.{PINS}
-use Rattle.migration.specs.declared.migrating.TheConstants.{PIN_MARK_WORD}
 use Rattle.card_core.specs.Standing.{StandsFor, card_of}
 use Rattle.card_core.specs.Finding.{words_found, Finds}
 use Rattle.card_core.specs.laws.CardLaws.{any_stands, any_tree, card_after}
