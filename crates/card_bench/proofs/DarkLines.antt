@@ -24,7 +24,7 @@ use Rattle.card_bench.specs.Lasting.{HasLeft}
 use Rattle.card_bench.specs.Performing.{Performs, PerformsCommand, shown, free_shown}
 use Rattle.card_bench.specs.Printouts.{prints_dark}
 use Rattle.card_bench.specs.Turns.{dark_of}
-use Rattle.card_bench.proofs.Wearing.{LINE_STEPS, arrives-last, block-due, due-spent, fewer}
+use Rattle.card_bench.proofs.Wearing.{LINE_STEPS, arrives-last, block-due, due-spent, fewer, turn-left}
 
 -- 1 where power was lost, else 0
 abbrev lost_in : Result NextBlock Ending → ℕ
@@ -130,21 +130,21 @@ free-lit : (b : BenchState) → prints_dark ≡ free_shown b → ⊥
 free-lit (off facts) printed = cc
 free-lit (on powered) printed = cc
 
-turn-left : (b : BenchState) → HasLeft LINE_STEPS (bench_facts b) → HasLeft COMMAND_WRITES (bench_facts b)
-turn-left b left = fewer LINE_STEPS COMMAND_WRITES (bench_facts b) (omega arith) left
+block-left : (b : BenchState) → HasLeft LINE_STEPS (bench_facts b) → HasLeft COMMAND_WRITES (bench_facts b)
+block-left b left = fewer LINE_STEPS COMMAND_WRITES (bench_facts b) (omega arith) left
 
 pub dark-spends : (order : Order) (old new : Desk) → Performs order old new prints_dark
     → HasLeft LINE_STEPS (bench_facts old.bench) → (bench_facts old.bench).due ≡ (bench_facts new.bench).due + 1
 dark-spends Nothing old new performs left = absurd cc
 dark-spends On old new performs left =
-    let spent = due-spent old.bench new.bench turn.On performs.came performs.turn (turn-left old.bench left) in
+    let spent = due-spent old.bench new.bench turn.On performs.came performs.turn (turn-left 0 old.bench left) in
     let lost = one-dark performs.came performs.printed in
     omega (arith, spent, lost)
 dark-spends Off old new performs left = let printed = performs.printed in absurd cc
 dark-spends Free old new performs left = absurd (free-lit old.bench performs.1)
 dark-spends (Apdu command) old new performs left = command-due old.bench old new command.items performs left
 dark-spends (Block block) old new performs left =
-    let spent = block-due old.bench new.bench block.items performs.came performs.turn (turn-left old.bench left) in
+    let spent = block-due old.bench new.bench block.items performs.came performs.turn (block-left old.bench left) in
     let lost = one-dark performs.came performs.printed in
     omega (arith, spent, lost)
 dark-spends (Cut number mask) old new performs left = let printed = performs.printed in absurd cc

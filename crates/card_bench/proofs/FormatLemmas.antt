@@ -1,12 +1,15 @@
 -- Formatting a new board succeeds: no cut is due, and no count stands at its end.
-use Rattle.std.specs.Prelude.{◌≡◌, ◌<◌, ℕ, zero, suc, true, false, List, Option, None, Some, Err, Contains, replicate, slice_index_or, refl}
+use Rattle.std.specs.Prelude.{◌≡◌, ◌<◌, ◌*◌, ℕ, zero, suc, true, false, List, Option, None, Some, Err, Contains, length, replicate, slice_index_or, refl}
 use Rattle.std.proofs.Common.{arith, inl, inr, subst, sym, ap, ◌∙◌, true≢false}
 use Rattle.nvm_board.specs.declared.board.Arm.{Arm}
 use Rattle.nvm_board.specs.declared.board.DeviceErr.{DeviceErr}
 use Rattle.nvm_board.specs.declared.board.DeviceErr.TheVariants.{PowerLost, Fault}
-use Rattle.nvm_board.specs.declared.board.TheConstants.{COUNT_END, PAGES}
+use Rattle.nvm_board.specs.declared.board.TheConstants.{COUNT_END, LEAST_PAGES, PAGE_WORDS}
 use Rattle.nvm_board.specs.Aims.{due_of}
-use Rattle.nvm_board.specs.Facts.{Answered, Facts, GoesDark, Steady, new_board}
+use Rattle.nvm_board.specs.Facts.{Answered, Facts, GoesDark, Steady, new_board, pages_of}
+use Rattle.std.proofs.lemmas.List.{length-replicate}
+use Rattle.nvm_board.specs.laws.Sizes.{pages_same}
+use Rattle.card_core.specs.Standing.{board_blocks}
 use Rattle.undo_journal.specs.Spending.{WritesAtMost}
 use Rattle.card_core.specs.Factory.{factory_card}
 use Rattle.card_core.specs.Finding.{Finds}
@@ -14,6 +17,20 @@ use Rattle.card_bench.specs.BenchStates.{BenchState, off, bench_card, bench_fact
 use Rattle.card_bench.specs.Exchanges.{Desk}
 use Rattle.card_bench.specs.Plays.{IsGood}
 use Rattle.card_bench.specs.Prints.{IsFirstDesk, IsJustWritten}
+
+-- a new board of 1,024 pages has room for 896 blocks
+pub new_pages : (old : Facts) → old ≡ new_board LEAST_PAGES → pages_of old.words ≡ LEAST_PAGES
+new_pages old is =
+    let size : length old.words ≡ PAGE_WORDS * LEAST_PAGES =
+    ap (λ (f : Facts). length f.words) is ∙ length-replicate (PAGE_WORDS * LEAST_PAGES) 0 in
+    omega (arith, size)
+
+pub new_blocks : (old new : Facts) → old ≡ new_board LEAST_PAGES → length new.words ≡ length old.words
+    → board_blocks new.words ≡ 896
+new_blocks old new is size =
+    let pages = new_pages old is in
+    let same = pages_same old.words new.words size in
+    omega (arith, pages, same)
 
 zero_at : (n k x : ℕ) → k < n → slice_index_or (replicate n 0) k x ≡ 0
 zero_at zero k x lt = absurd (omega arith)
@@ -29,7 +46,7 @@ new_count counts none at_end =
     omega (arith, same)
 
 -- power isn't lost
-stays_lit : (old new : Facts) → old ≡ new_board → new.faults ≡ 0 → WritesAtMost PAGES old new → GoesDark old new → ⊥
+stays_lit : (old new : Facts) → old ≡ new_board LEAST_PAGES → new.faults ≡ 0 → WritesAtMost LEAST_PAGES old new → GoesDark old new → ⊥
 stays_lit old new is none counts dark = elim dark.due [
   | inl spent ↦ let due : old.due ≡ 0 = ap (λ (f : Facts). f.due) is in omega (arith, spent, due)
   | inr worn ↦ elim worn.0 [
@@ -43,7 +60,7 @@ stays_lit old new is none counts dark = elim dark.due [
   ]
 ]
 
-pub format_succeeds : (old new : Facts) (e : DeviceErr) → old ≡ new_board → new.faults ≡ 0 → WritesAtMost PAGES old new
+pub format_succeeds : (old new : Facts) (e : DeviceErr) → old ≡ new_board LEAST_PAGES → new.faults ≡ 0 → WritesAtMost LEAST_PAGES old new
     → Answered {T = Unit {0}} old new (Err e) → ⊥
 format_succeeds old new Fault is none counts answered = let rises = (answered.fault refl).faults in omega (arith, none, rises)
 format_succeeds old new PowerLost is none counts answered = elim (answered.lost refl) [
@@ -54,7 +71,7 @@ format_succeeds old new PowerLost is none counts answered = elim (answered.lost 
 ]
 
 -- a new board on which the factory's card was written
-pub just_written : (old new : Facts) → old ≡ new_board → Steady old new → WritesAtMost PAGES old new → IsJustWritten new
+pub just_written : (old new : Facts) → old ≡ new_board LEAST_PAGES → Steady old new → WritesAtMost LEAST_PAGES old new → IsJustWritten new
 just_written old new is steady spent =
     let due : old.due ≡ 0 = ap (λ (f : Facts). f.due) is in
     let cuts : old.cuts ≡ 0 = ap (λ (f : Facts). f.cuts) is in
@@ -75,11 +92,11 @@ none_due (Some arm) due = absurd (omega (arith, due))
 
 -- the desk with the factory's board
 pub first_desk : (d : Desk) (f : Facts) → d.bench ≡ off (record f { dark = true }) → d.reader ≡ None → d.line ≡ record { lose = None; garble = None }
-    → Finds f.words factory_card → IsJustWritten f → f.faults ≡ 0 → f.due ≡ due_of f.pending → IsFirstDesk d
+    → Finds f.words (factory_card 896) → IsJustWritten f → f.faults ≡ 0 → f.due ≡ due_of f.pending → IsFirstDesk d
 first_desk d f bench reader line finds counts faults due = record {
   power = subst IsOff (sym bench) refl;
   good = subst IsGood (sym bench) (record { has_card = finds.has_card; faults = faults; due = due; well = tt });
-  card = subst (λ (b : BenchState). bench_card b ≡ factory_card) (sym bench) finds.card;
+  card = subst (λ (b : BenchState). bench_card b ≡ factory_card 896) (sym bench) finds.card;
   counts = subst (λ (b : BenchState). IsJustWritten (bench_facts b)) (sym bench) (record {
     due = counts.due;
     cuts = counts.cuts;

@@ -2,7 +2,7 @@
 use Rattle.std.specs.Prelude.{◌≡◌, ◌≤◌, ◌+◌, ◌⊎◌, ℕ, true, false, List, Option, IfSome}
 use Rattle.std.proofs.Common.{arith, ap, inl, inr, refl, subst, sym, ◌∙◌, true≢false}
 use Rattle.nvm_board.specs.Aims.{Aim, aim, KeepsAim}
-use Rattle.nvm_board.specs.Facts.{Facts, GoesDark, IsWorn, IsWornOut, Steady}
+use Rattle.nvm_board.specs.Facts.{Facts, GoesDark, IsMemory, IsWorn, IsWornOut, Steady}
 use Rattle.undo_journal.specs.declared.layout.TheConstants.{PAIRS}
 use Rattle.undo_journal.specs.Spending.{WritesAtMost, start_writes}
 use Rattle.card_core.specs.declared.faults.StartFault.{StartFault}
@@ -10,7 +10,7 @@ use Rattle.card_core.specs.declared.faults.StartFault.TheVariants.{PowerLost, Fa
 use Rattle.card_core.specs.Comparing.{Comparisons, comparisons}
 use Rattle.card_core.specs.Finding.{FindsAgain, HasCard, found}
 use Rattle.card_core.specs.Running.{Starts, StartStopsBy}
-use Rattle.card_core.specs.Standing.{IsCard, card_of}
+use Rattle.card_core.specs.Starting.{power_on_writes, renewal_writes}
 use Rattle.t1_link.specs.CardTable.{fresh}
 use Rattle.card_bench.specs.declared.playing.Turn.TheVariants as turn
 use Rattle.card_bench.specs.declared.playing.Item.TheVariants as item
@@ -18,16 +18,9 @@ use Rattle.card_bench.specs.BenchStates.{BenchState, off, on, bench_facts}
 use Rattle.card_bench.specs.CardBlocks.{Powered}
 use Rattle.card_bench.specs.Guessing.{GuessesFew}
 use Rattle.card_bench.specs.Plays.{Plays}
-use Rattle.card_bench.specs.Turns.{LeavesCard, Wears}
+use Rattle.card_bench.specs.Turns.{LeavesCard, Wears, most_renewal, turn_writes}
 use Rattle.card_bench.proofs.FewGuesses.{pays-nothing, writing-compares}
-use Rattle.card_bench.proofs.Wearing.{aims-off, few-start, wears-writing}
-
--- a card that is found again
-again-found : (old new : List ℕ) → FindsAgain old new → HasCard old → HasCard new
-again-found old new again before = record {
-  journal = again.journal.1 before.journal;
-  words = subst IsCard (sym again.words) before.words;
-}
+use Rattle.card_bench.proofs.Wearing.{aims-off, few-renewal, few-start, wears-writing}
 
 -- power goes off
 pub turns_off : (old new : BenchState) → new ≡ off (record (bench_facts old) { dark = true }) → Plays old turn.Off item.Quiet new
@@ -77,11 +70,11 @@ module _ (old : BenchState) (dark : Facts) (darkened : dark ≡ record (bench_fa
         guesses = pays-nothing old (off new) (ap found words) (ap comparisons is);
         one = λ before good. (ap (λ (f : Facts). off f) is, subst IsWornOut (sym same) worn);
         wears = λ before good.
-            wears-writing (PAIRS + 1) (bench_facts old) new faults (omega (arith, writes)) (ap comparisons is);
+            wears-writing (turn_writes old turn.On) (bench_facts old) new faults (omega (arith, writes)) (ap comparisons is);
       }
 
   -- the board with power on
-  module _ (lit : Facts) (lights : lit ≡ record dark { dark = false }) where
+  module _ (lit : Facts) (lights : lit ≡ record dark { dark = false }) (sized : IsMemory lit.words) where
     lit-words : lit.words ≡ (bench_facts old).words
     lit-words = ap (λ (f : Facts). f.words) lights ∙ same-words
 
@@ -101,10 +94,10 @@ module _ (old : BenchState) (dark : Facts) (darkened : dark ≡ record (bench_fa
     lit-counts = ap comparisons lights ∙ same-counts
 
     found-again : (new : List ℕ) → FindsAgain lit.words new → found new ≡ found (bench_facts old).words
-    found-again new again = ap card_of again.words ∙ ap found lit-words
+    found-again new again = again.card ∙ ap found lit-words
 
     has-card-again : (new : List ℕ) → FindsAgain lit.words new → HasCard (bench_facts old).words → HasCard new
-    has-card-again new again before = again-found lit.words new again (subst HasCard (sym lit-words) before)
+    has-card-again new again before = again.there.1 (subst HasCard (sym lit-words) before)
 
     -- a cut that is set is the same with power on
     lit-aims : (new : Facts) → KeepsAim lit new → KeepsAim (bench_facts old) new
@@ -117,13 +110,15 @@ module _ (old : BenchState) (dark : Facts) (darkened : dark ≡ record (bench_fa
     })
 
     -- what a start takes of the board's counts
-    start-wears : (new : Facts) → WritesAtMost (start_writes lit) lit new → HasCard (bench_facts old).words
-        → new.faults ≡ (bench_facts old).faults → Wears (PAIRS + 1) (bench_facts old) new
+    start-wears : (new : Facts) → WritesAtMost (power_on_writes lit) lit new → HasCard (bench_facts old).words
+        → new.faults ≡ (bench_facts old).faults → Wears (turn_writes old turn.On) (bench_facts old) new
     start-wears new spent before faults =
         let few : start_writes lit ≤ PAIRS + 1 = few-start lit (subst HasCard (sym lit-words) before) in
+        let renewal : renewal_writes lit.words ≤ most_renewal (bench_facts old).words =
+        subst (λ (l : List ℕ). renewal_writes lit.words ≤ most_renewal l) lit-words (few-renewal lit.words sized) in
         let most = spent.writes in
-        wears-writing (PAIRS + 1) (bench_facts old) new faults (omega (arith, few, most, lit-writes))
-        (writing-compares (start_writes lit) lit new spent ∙ lit-counts)
+        wears-writing (turn_writes old turn.On) (bench_facts old) new faults (omega (arith, few, renewal, most, lit-writes))
+        (writing-compares (power_on_writes lit) lit new spent ∙ lit-counts)
 
     -- what a start leaves
     leaves : (new : BenchState) → FindsAgain lit.words (bench_facts new).words
@@ -136,10 +131,10 @@ module _ (old : BenchState) (dark : Facts) (darkened : dark ≡ record (bench_fa
 
     -- the card starts
     pub starts : (p : Powered) → Starts lit p.card → p.link ≡ fresh → FindsAgain lit.words p.card.facts.words
-        → WritesAtMost (start_writes lit) lit p.card.facts → Plays old turn.On item.Atr (on p)
+        → WritesAtMost (power_on_writes lit) lit p.card.facts → Plays old turn.On item.Atr (on p)
     starts p started link again spent =
         let power = started.power in
-        let counts = writing-compares (start_writes lit) lit p.card.facts spent in
+        let counts = writing-compares (power_on_writes lit) lit p.card.facts spent in
         record {
           has_card = has-card-again p.card.facts.words again;
           counts = record {
@@ -161,7 +156,7 @@ module _ (old : BenchState) (dark : Facts) (darkened : dark ≡ record (bench_fa
 
     -- the board, power off, after a start that stopped
     module _ (stopped new : Facts) (again : FindsAgain lit.words stopped.words) (turned : new ≡ record stopped { dark = true })
-        (spent : WritesAtMost (start_writes lit) lit stopped) where
+        (spent : WritesAtMost (power_on_writes lit) lit stopped) where
       new-words : new.words ≡ stopped.words
       new-words = ap (λ (f : Facts). f.words) turned
 
@@ -169,7 +164,7 @@ module _ (old : BenchState) (dark : Facts) (darkened : dark ≡ record (bench_fa
       unlit = ap (λ (f : Facts). f.dark) turned
 
       same-comparisons : comparisons new ≡ comparisons (bench_facts old)
-      same-comparisons = ap comparisons turned ∙ writing-compares (start_writes lit) lit stopped spent ∙ lit-counts
+      same-comparisons = ap comparisons turned ∙ writing-compares (power_on_writes lit) lit stopped spent ∙ lit-counts
 
       rests : LeavesCard old (off new)
       rests = leaves (off new) (subst (FindsAgain lit.words) (sym new-words) again) same-comparisons
@@ -180,8 +175,8 @@ module _ (old : BenchState) (dark : Facts) (darkened : dark ≡ record (bench_fa
       guesses : GuessesFew old (off new)
       guesses = pays-nothing old (off new) rests.card same-comparisons
 
-      spent-so : WritesAtMost (start_writes lit) lit new
-      spent-so = subst (λ (f : Facts). WritesAtMost (start_writes lit) lit f) (sym turned) (record {
+      spent-so : WritesAtMost (power_on_writes lit) lit new
+      spent-so = subst (λ (f : Facts). WritesAtMost (power_on_writes lit) lit f) (sym turned) (record {
         writes = spent.writes;
         more = spent.more;
         cut = record { off = λ is. absurd (dark-lit is); cut = aims-off lit stopped spent.cut.cut };

@@ -1,12 +1,15 @@
 -- What turns and lines take of a board's counts, and that no count comes to its end where enough is left before.
 use Rattle.std.specs.Prelude.{◌≡◌, ◌==◌, ◌≤◌, ◌<◌, ◌+◌, ◌*◌, ℕ, zero, suc, List, [], ◌∷◌, length, slice_index, replicate}
-use Rattle.std.specs.Prelude.{All, Option, None, Some, Result, Ok, Err}
+use Rattle.std.specs.Prelude.{All, Bool, false, if◌then◌else◌, Option, None, Some, Result, Ok, Err}
 use Rattle.std.proofs.Common.{arith, ap, inl, inr, refl, subst, sym, true}
 use Rattle.std.proofs.lemmas.List.Elements.{All-contains, All-replicate, All-set}
 use Rattle.nvm_board.specs.declared.board.Arm.{Arm}
-use Rattle.nvm_board.specs.declared.board.TheConstants.{COUNT_END, SECRETS}
+use Rattle.nvm_board.specs.declared.board.TheConstants.{COUNT_END, MOST_PAGES, SECRETS}
 use Rattle.nvm_board.specs.Aims.{KeepsAim}
-use Rattle.nvm_board.specs.Facts.{Facts, IsWornOut, RisesAt}
+use Rattle.nvm_board.specs.Facts.{Facts, IsMemory, IsWornOut, RisesAt, pages_of}
+use Rattle.file_tree.specs.Formats.{is_format_2}
+use Rattle.migration.specs.Migrating.{migration_writes}
+use Rattle.card_core.specs.Starting.{renewal_writes}
 use Rattle.undo_journal.specs.declared.layout.TheConstants.{PAIRS}
 use Rattle.undo_journal.specs.Spending.{start_writes}
 use Rattle.undo_journal.specs.Undo.{gate}
@@ -14,7 +17,7 @@ use Rattle.t1_link.specs.ReaderTable.{Reader}
 use Rattle.card_core.specs.declared.machine.TheConstants.{COMMAND_WRITES}
 use Rattle.card_core.specs.Cards.{Card}
 use Rattle.card_core.specs.Comparing.{Comparisons, comparisons}
-use Rattle.card_core.specs.Finding.{HasCard}
+use Rattle.card_core.specs.Finding.{HasCard, words_found}
 use Rattle.card_core.specs.laws.ProperLaws.{at-or, either-if}
 use Rattle.card_core.specs.laws.ShownLaws.{ComparesOrStays}
 use Rattle.card_bench.specs.declared.exchange.Ending.{Ending}
@@ -34,13 +37,25 @@ use Rattle.card_bench.specs.Lasting.{HasLeft}
 use Rattle.card_bench.specs.Performing.{Performs, PerformsCommand, with_facts}
 use Rattle.card_bench.specs.Printouts.{Print}
 use Rattle.card_bench.specs.Prints.{IsFirstDesk, PrintsLines}
-use Rattle.card_bench.specs.Turns.{GoodBlock, GoodTurn, Runs, Spends, Wears, dark_of, turn_writes}
+use Rattle.card_bench.specs.Turns.{GoodBlock, GoodTurn, Runs, Spends, Wears, dark_of, most_renewal, turn_steps, turn_writes}
 
--- a start writes at most once for each pair of the journal, and once for the gate
+-- the most steps of a turn
+abbrev pub TURN_STEPS : ℕ
+TURN_STEPS = COMMAND_WRITES + migration_writes MOST_PAGES
+
+-- an opening writes at most once for each pair of the journal, and once for the gate
 pub few-start : (f : Facts) → HasCard f.words → start_writes f ≤ PAIRS + 1
 few-start f there =
     let few = there.journal.room in
     either-if (λ (n : ℕ). n ≤ PAIRS + 1) (gate f.words == 0) 0 (gate f.words + 1) (omega arith) (omega (arith, few))
+
+-- and the way to format 2 writes no more than on the largest board
+pub few-renewal : (m : List ℕ) → IsMemory m → renewal_writes m ≤ most_renewal m
+few-renewal m sized = by_format (is_format_2 (words_found m))
+  where
+    by_format : (new : Bool) → (if new then 0 else migration_writes (pages_of m)) ≤ (if new then 0 else migration_writes MOST_PAGES)
+    by_format true = omega arith
+    by_format false = let most = sized.most in omega (arith, most)
 
 -- a cut that is set, once power is off
 pub aims-off : (old new : Facts) → KeepsAim old new → KeepsAim old (record new { dark = true })
@@ -91,37 +106,45 @@ not-worn f left (inr (inr (inr (inr matches)))) =
     let far = All-contains (λ (c : ℕ). c + 0 < COUNT_END) f.matches COUNT_END left.matches matches in omega (arith, far)
 
 -- counts of which one may have risen
-risen : (n : ℕ) (old new : List ℕ) (secret : ℕ) → n + COMMAND_WRITES < COUNT_END → RisesAt old secret new
-    → All (λ c. c + (n + COMMAND_WRITES) < COUNT_END) old → All (λ c. c + n < COUNT_END) new
-risen n old new secret small rises all =
+risen : (n most : ℕ) (old new : List ℕ) (secret : ℕ) → 1 ≤ most → n + most < COUNT_END → RisesAt old secret new
+    → All (λ c. c + (n + most) < COUNT_END) old → All (λ c. c + n < COUNT_END) new
+risen n most old new secret some small rises all =
     let before : All (λ (c : ℕ). c + n < COUNT_END) old = λ k d there. let far = all k d there in omega (arith, far) in
     elim rises [
       | inl same ↦ subst (λ (l : List ℕ). All (λ c. c + n < COUNT_END) l) (sym same) before
       | inr rise ↦
-          let far : slice_index old secret + (n + COMMAND_WRITES) < COUNT_END =
-          at-or (λ (c : ℕ). c + (n + COMMAND_WRITES) < COUNT_END) old secret 0 (omega (arith, small)) all in
+          let far : slice_index old secret + (n + most) < COUNT_END =
+          at-or (λ (c : ℕ). c + (n + most) < COUNT_END) old secret 0 (omega (arith, small)) all in
           subst (λ (l : List ℕ). All (λ c. c + n < COUNT_END) l) (sym rise)
-          (All-set (λ (c : ℕ). c + n < COUNT_END) old secret (slice_index old secret + 1) (omega (arith, far)) before)
+          (All-set (λ (c : ℕ). c + n < COUNT_END) old secret (slice_index old secret + 1) (omega (arith, far, some)) before)
     ]
 
--- a turn takes at most 700 steps of any count
-counts-last : (n writes lost : ℕ) (old new : Facts) → writes ≤ COMMAND_WRITES → lost ≤ 1 → Spends lost old new
-    → Wears writes old new → HasLeft (n + COMMAND_WRITES) old → HasLeft n new
-counts-last n writes lost old new few once spends wears left =
+-- what takes at most so many steps of any count
+counts-last : (n most writes lost : ℕ) (old new : Facts) → 1 ≤ most → writes ≤ most → lost ≤ 1 → Spends lost old new
+    → Wears writes old new → HasLeft (n + most) old → HasLeft n new
+counts-last n most writes lost old new some few once spends wears left =
     let far = left.writes in
-    let small : n + COMMAND_WRITES < COUNT_END = omega (arith, far) in
+    let small : n + most < COUNT_END = omega (arith, far) in
     record {
       faults = let same = wears.faults in let there = left.faults in omega (arith, same, there);
-      cuts = let more = spends.cuts in let there = left.cuts in omega (arith, more, once, there);
+      cuts = let more = spends.cuts in let there = left.cuts in omega (arith, more, once, some, there);
       writes = let more = wears.writes in omega (arith, more, few, far);
-      compares = risen n old.compares new.compares wears.secret small wears.compares left.compares;
-      matches = risen n old.matches new.matches wears.secret small wears.matches left.matches;
+      compares = risen n most old.compares new.compares wears.secret some small wears.compares left.compares;
+      matches = risen n most old.matches new.matches wears.secret some small wears.matches left.matches;
     }
 
-few-writes : (t : Turn) → turn_writes t ≤ COMMAND_WRITES
-few-writes turn.On = omega arith
-few-writes turn.Off = omega arith
-few-writes (turn.Block got) = omega arith
+few-writes : (old : BenchState) (t : Turn) → turn_writes old t ≤ turn_steps old
+few-writes old turn.On = omega arith
+few-writes old turn.Off = omega arith
+few-writes old (turn.Block got) = omega arith
+
+-- a turn takes at most 3,787 steps, in whatever format
+pub few-steps : (old : BenchState) → turn_steps old ≤ TURN_STEPS
+few-steps old = by_format (is_format_2 (words_found (bench_facts old).words))
+  where
+    by_format : (new : Bool) → COMMAND_WRITES + (if new then 0 else migration_writes MOST_PAGES) ≤ TURN_STEPS
+    by_format true = omega arith
+    by_format false = omega arith
 
 one-dark : (i : Item) → dark_of i ≤ 1
 one-dark item.Atr = omega arith
@@ -130,17 +153,21 @@ one-dark item.Mute = omega arith
 one-dark item.Dark = omega arith
 one-dark (item.Reply block) = omega arith
 
+-- of format 2 at most 700
+pub steps-new : (old : BenchState) → is_format_2 (words_found (bench_facts old).words) ≡ true → turn_steps old ≡ 700
+steps-new old is = ap (λ (new : Bool). COMMAND_WRITES + (if new then 0 else migration_writes MOST_PAGES)) is
+
 pub turn-lasts : (n : ℕ) (old new : BenchState) (t : Turn) (i : Item) → GoodTurn old t i new
-    → HasLeft (n + COMMAND_WRITES) (bench_facts old) → HasLeft n (bench_facts new)
+    → HasLeft (n + turn_steps old) (bench_facts old) → HasLeft n (bench_facts new)
 turn-lasts n old new t i good left =
-    counts-last n (turn_writes t) (dark_of i) (bench_facts old) (bench_facts new) (few-writes t) (one-dark i) good.counts
-    good.wears left
+    counts-last n (turn_steps old) (turn_writes old t) (dark_of i) (bench_facts old) (bench_facts new) (omega arith)
+    (few-writes old t) (one-dark i) good.counts good.wears left
 
 block-lasts : (n : ℕ) (old new : BenchState) (got : List ℕ) (i : Item) → GoodBlock old got i new
     → HasLeft (n + COMMAND_WRITES) (bench_facts old) → HasLeft n (bench_facts new)
 block-lasts n old new got i good left =
-    counts-last n COMMAND_WRITES (dark_of i) (bench_facts old) (bench_facts new) (omega arith) (one-dark i) good.counts
-    good.wears left
+    counts-last n COMMAND_WRITES COMMAND_WRITES (dark_of i) (bench_facts old) (bench_facts new) (omega arith) (omega arith)
+    (one-dark i) good.counts good.wears left
 
 -- the same bench
 stays-last : (n more : ℕ) (old new : BenchState) → new ≡ old → HasLeft (n + more) (bench_facts old)
@@ -153,7 +180,10 @@ pub not-mute : (old new : BenchState) (i : Item) → GoodTurn old turn.On i new 
     → i ≡ item.Mute → ⊥
 not-mute old new i good left is =
     let mute : GoodTurn old turn.On item.Mute new = subst (λ (i : Item). GoodTurn old turn.On i new) is good in
-    not-worn (bench_facts new) (turn-lasts 0 old new turn.On item.Mute mute left) mute.one.1
+    let nearer = fewer COMMAND_WRITES 0 (bench_facts old) (omega arith) left in
+    not-worn (bench_facts new) (subst (λ (b : BenchState). HasLeft 0 (bench_facts b)) (sym mute.one.0)
+    (record { faults = nearer.faults; cuts = nearer.cuts; writes = nearer.writes; compares = nearer.compares; matches = nearer.matches }))
+    mute.one.1
 
 due-so : (lost : ℕ) (old new : Facts) → Spends lost old new → HasLeft 0 new → old.due ≡ new.due + lost
 due-so lost old new spends left = elim spends.due [
@@ -161,7 +191,7 @@ due-so lost old new spends left = elim spends.due [
   | inr worn ↦ absurd (not-worn new left (inr worn.0))
 ]
 
-pub due-spent : (old new : BenchState) (t : Turn) (i : Item) → GoodTurn old t i new → HasLeft COMMAND_WRITES (bench_facts old)
+pub due-spent : (old new : BenchState) (t : Turn) (i : Item) → GoodTurn old t i new → HasLeft (turn_steps old) (bench_facts old)
     → (bench_facts old).due ≡ (bench_facts new).due + dark_of i
 due-spent old new t i good left =
     due-so (dark_of i) (bench_facts old) (bench_facts new) good.counts (turn-lasts 0 old new t i good left)
@@ -172,16 +202,16 @@ block-due old new got i good left =
     due-so (dark_of i) (bench_facts old) (bench_facts new) good.counts (block-lasts 0 old new got i good left)
 
 pub runs-last : (n : ℕ) (old new : BenchState) (turns : List Turn) (trace : List Item) → Runs old turns trace new
-    → HasLeft (n + COMMAND_WRITES * length turns) (bench_facts old) → HasLeft n (bench_facts new)
+    → HasLeft (n + TURN_STEPS * length turns) (bench_facts old) → HasLeft n (bench_facts new)
 unfolding Runs
-runs-last n old new [] [] run left = stays-last n (COMMAND_WRITES * 0) old new run left
+runs-last n old new [] [] run left = stays-last n (TURN_STEPS * 0) old new run left
 runs-last n old new [] (i ∷ trace) run left = absurd run
 runs-last n old new (t ∷ turns) [] run left = absurd run
 runs-last n old new (t ∷ turns) (i ∷ trace) run left =
     runs-last n run.0 new turns trace run.2
-    (turn-lasts (n + COMMAND_WRITES * length turns) old run.0 t i run.1
-    (fewer (n + COMMAND_WRITES * length (t ∷ turns)) (n + COMMAND_WRITES * length turns + COMMAND_WRITES) (bench_facts old)
-    (omega arith) left))
+    (turn-lasts (n + TURN_STEPS * length turns) old run.0 t i run.1
+    (fewer (n + TURN_STEPS * length (t ∷ turns)) (n + TURN_STEPS * length turns + turn_steps old) (bench_facts old)
+    (let few = few-steps old in omega (arith, few)) left))
 
 -- a block that goes on the line
 takes-last : (n : ℕ) (old new : BenchState) (got : List ℕ) (follows : Result NextBlock Ending)
@@ -261,23 +291,27 @@ armed-lasts n (on powered) due pending left = record {
 }
 
 -- with more left than a turn may take
-turn-left : (n : ℕ) (f : Facts) → HasLeft (n + LINE_STEPS) f → HasLeft (n + COMMAND_WRITES) f
-turn-left n f left = fewer (n + LINE_STEPS) (n + COMMAND_WRITES) f (omega arith) left
+pub turn-left : (n : ℕ) (b : BenchState) → HasLeft (n + LINE_STEPS) (bench_facts b) → HasLeft (n + turn_steps b) (bench_facts b)
+turn-left n b left =
+    let few = few-steps b in fewer (n + LINE_STEPS) (n + turn_steps b) (bench_facts b) (omega (arith, few)) left
+
+block-left : (n : ℕ) (f : Facts) → HasLeft (n + LINE_STEPS) f → HasLeft (n + COMMAND_WRITES) f
+block-left n f left = fewer (n + LINE_STEPS) (n + COMMAND_WRITES) f (omega arith) left
 
 line-lasts : (n : ℕ) (order : Order) (old new : Desk) (prints : Print) → Performs order old new prints
     → HasLeft (n + LINE_STEPS) (bench_facts old.bench) → HasLeft n (bench_facts new.bench)
 line-lasts n Nothing old new prints performs left =
     stays-last n LINE_STEPS old.bench new.bench (ap (λ (d : Desk). d.bench) performs.0) left
 line-lasts n On old new prints performs left =
-    turn-lasts n old.bench new.bench turn.On performs.came performs.turn (turn-left n (bench_facts old.bench) left)
+    turn-lasts n old.bench new.bench turn.On performs.came performs.turn (turn-left n old.bench left)
 line-lasts n Off old new prints performs left =
-    turn-lasts n old.bench new.bench turn.Off item.Quiet performs.turn (turn-left n (bench_facts old.bench) left)
+    turn-lasts n old.bench new.bench turn.Off item.Quiet performs.turn (turn-left n old.bench left)
 line-lasts n Free old new prints performs left =
     stays-last n LINE_STEPS old.bench new.bench (ap (λ (d : Desk). d.bench) performs.0) left
 line-lasts n (Apdu command) old new prints performs left =
     command-lasts n old.bench old new command.items prints performs left
 line-lasts n (Block block) old new prints performs left =
-    block-lasts n old.bench new.bench block.items performs.came performs.turn (turn-left n (bench_facts old.bench) left)
+    block-lasts n old.bench new.bench block.items performs.came performs.turn (block-left n (bench_facts old.bench) left)
 line-lasts n (Cut number mask) old new prints performs left =
     let nearer = fewer (n + LINE_STEPS) n (bench_facts old.bench) (omega arith) left in
     subst (λ (b : BenchState). HasLeft n (bench_facts b)) (sym performs.armed.same) (armed-lasts n old.bench _ _ nearer)

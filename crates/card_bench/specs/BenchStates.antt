@@ -7,7 +7,7 @@ use Rattle.card_core.specs.Finding.{HasCard, found}
 use Rattle.card_core.specs.Running.{card_found}
 use Rattle.card_core.specs.Sessions.{fresh_session}
 use Rattle.file_tree.specs.declared.space.FreeSpace.{FreeSpace}
-use Rattle.file_tree.specs.Spaces.{free_space}
+use Rattle.card_core.specs.Cards.{card_space}
 use Rattle.t1_link.specs.CardTable.{fresh}
 use Rattle.card_bench.specs.CardBlocks.{Powered}
 
@@ -59,4 +59,4 @@ IsWell (on powered) = powered.card.state ≡ Working
 abbrev pub TellsFree : BenchState → Option FreeSpace → Type 0
 TellsFree (off facts) told = told ≡ None
 TellsFree (on powered) told = IsSome told × (powered.card.state ≡ Working
-    → told ≡ Some (free_space (card_found powered.card).tree))
+    → told ≡ Some (card_space (card_found powered.card)))

@@ -12,7 +12,7 @@ use Rattle.card_bench.specs.Exchanges.{Commands, Desk}
 use Rattle.card_bench.specs.Printouts.{Print, prints_nothing, prints_atr, prints_mute, prints_dark, prints_bytes}
 use Rattle.card_bench.specs.Printouts.{prints_free}
 use Rattle.card_core.specs.Running.{card_found}
-use Rattle.file_tree.specs.Spaces.{free_space}
+use Rattle.card_core.specs.Cards.{card_space}
 use Rattle.card_bench.specs.Turns.{GoodBlock, GoodTurn}
 
 -- what is printed of a turn
@@ -78,7 +78,7 @@ pub record PerformsCut (number mask : ℕ) (old new : Desk) (prints : Print) : T
 -- what is printed of the free space: that of the card that is found; with power off the card doesn't answer
 abbrev pub free_shown : BenchState → Print
 free_shown (off facts) = prints_mute
-free_shown (on powered) = prints_free (free_space (card_found powered.card).tree)
+free_shown (on powered) = prints_free (card_space (card_found powered.card))
 
 -- A command: with power off the card doesn't answer; with power on it goes through both ends of the link.
 abbrev pub PerformsCommand : BenchState → Desk → List ℕ → Desk → Print → Type 0

@@ -52,7 +52,7 @@ pub record Plays (old : BenchState) (turn : Turn) (item : Item) (new : BenchStat
   pub well : HasNoFault old new → IsWell new
   pub guesses : GuessesFew old new
   pub one : BenchHasCard old → HasNoFault old new → OneTurn old turn item new
-  pub wears : BenchHasCard old → HasNoFault old new → Wears (turn_writes turn) (bench_facts old) (bench_facts new)
+  pub wears : BenchHasCard old → HasNoFault old new → Wears (turn_writes old turn) (bench_facts old) (bench_facts new)
 
 -- A block is played.
 pub record PlaysBlock (old : BenchState) (got : List ℕ) (item : Item) (new : BenchState) : Type 0 where

@@ -1,6 +1,6 @@
 -- What a script prints, line by line.
 use Rattle.std.specs.Prelude.{◌≡◌, ◌≤◌, ℕ, List, [], ◌∷◌, ◌++◌, None, Some, replicate}
-use Rattle.nvm_board.specs.declared.board.TheConstants.{PAGES, SECRETS}
+use Rattle.nvm_board.specs.declared.board.TheConstants.{LEAST_PAGES, SECRETS}
 use Rattle.nvm_board.specs.Facts.{Facts}
 use Rattle.card_core.specs.Factory.{factory_card}
 use Rattle.card_bench.specs.declared.order.Order.{Order}
@@ -20,20 +20,20 @@ PrintsLines old (line ∷ others) new out =
     × (order_of line ≡ Some order) × Performs order old between prints × IsGood between.bench
     × PrintsLines between others new rest × (out ≡ text_of prints ++ rest)
 
--- The counts of a new board on which a card was written: at most one device write a page, and nothing else was counted, nor
--- is a cut to come.
+-- The counts of a new board of 1,024 pages on which a card was written: at most one device write a page, and nothing else was
+-- counted, nor is a cut to come.
 pub record IsJustWritten (f : Facts) : Type 0 where
   pub due : f.due ≡ 0
   pub cuts : f.cuts ≡ 0
-  pub writes : f.writes ≤ PAGES
+  pub writes : f.writes ≤ LEAST_PAGES
   pub compares : f.compares ≡ replicate SECRETS 0
   pub matches : f.matches ≡ replicate SECRETS 0
 
--- The desk at first: the factory's card on a new board, power off, and nothing pending on the line.
+-- The desk at first: the factory's card on a new board of 896 blocks, power off, and nothing pending on the line.
 pub record IsFirstDesk (d : Desk) : Type 0 where
   pub power : IsOff d.bench
   pub good : IsGood d.bench
-  pub card : bench_card d.bench ≡ factory_card
+  pub card : bench_card d.bench ≡ factory_card 896
   pub counts : IsJustWritten (bench_facts d.bench)
   pub reader : d.reader ≡ None
   pub line : d.line ≡ record { lose = None; garble = None }

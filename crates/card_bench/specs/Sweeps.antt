@@ -11,7 +11,7 @@ use Rattle.card_core.specs.Finding.{HasCard}
 use Rattle.card_bench.specs.Turns.{GoodBlock, GoodTurn, Runs}
 use Rattle.card_bench.specs.Performing.{IsArmed}
 use Rattle.card_bench.specs.CardBlocks.{IsBlockStage}
-use Rattle.file_tree.specs.Spaces.{free_space}
+use Rattle.card_core.specs.Cards.{card_space}
 use Rattle.card_core.specs.Cards.{Card}
 use Rattle.card_core.specs.Running.{card_found}
 use Rattle.t1_link.specs.CardTable.{link_step}
@@ -28,7 +28,7 @@ left_by b = record (bench_facts b) { dark = true }
 -- the free space that a run shows: that of the card that is found; none where power is off
 abbrev pub free_of : BenchState → FreeSpace
 free_of (off facts) = record { blocks = 0; entries = 0 }
-free_of (on powered) = free_space (card_found powered.card).tree
+free_of (on powered) = card_space (card_found powered.card)
 
 -- The command is cut at this write, by this mask: the preparation is played on the board, the cut is set, and power is lost
 -- while the command runs. No cut is to come any more.

@@ -1,9 +1,13 @@
 -- What each turn at a bench does, and what comes of it; and turns, one after another.
-use Rattle.std.specs.Prelude.{◌≡◌, ◌⊎◌, ◌≤◌, ◌+◌, ℕ, List, [], ◌∷◌}
+use Rattle.std.specs.Prelude.{◌≡◌, ◌⊎◌, ◌≤◌, ◌+◌, ℕ, if◌then◌else◌, List, [], ◌∷◌}
 use Rattle.nvm_board.specs.Aims.{KeepsAim}
 use Rattle.nvm_board.specs.Facts.{Facts, IsWorn, IsWornOut, RisesAt}
 use Rattle.undo_journal.specs.declared.layout.TheConstants.{PAIRS}
 use Rattle.card_core.specs.declared.machine.TheConstants.{COMMAND_WRITES}
+use Rattle.nvm_board.specs.declared.board.TheConstants.{MOST_PAGES}
+use Rattle.file_tree.specs.Formats.{is_format_2}
+use Rattle.migration.specs.Migrating.{migration_writes}
+use Rattle.card_core.specs.Finding.{words_found}
 use Rattle.t1_link.specs.CardTable.{link_step}
 use Rattle.card_bench.specs.declared.playing.Turn.{Turn}
 use Rattle.card_bench.specs.declared.playing.Turn.TheVariants as turn
@@ -106,11 +110,19 @@ pub record CountsLosses (lost : ℕ) (old new : Facts) : Type 0 where
   pub faults : old.faults ≤ new.faults
   pub more : old.writes ≤ new.writes
 
--- how many device writes a turn makes at most: a start one for each pair of the journal, and one for the gate
-abbrev pub turn_writes : Turn → ℕ
-turn_writes turn.On = PAIRS + 1
-turn_writes turn.Off = 0
-turn_writes (turn.Block got) = COMMAND_WRITES
+-- how many device writes a turn makes at most: a start one for each pair of the journal, and one for the gate, and where the
+-- memory isn't of format 2 those of the way to it, on whatever board
+abbrev pub most_renewal : List ℕ → ℕ
+most_renewal m = if is_format_2 (words_found m) then 0 else migration_writes MOST_PAGES
+
+abbrev pub turn_writes : BenchState → Turn → ℕ
+turn_writes old turn.On = PAIRS + 1 + most_renewal (bench_facts old).words
+turn_writes old turn.Off = 0
+turn_writes old (turn.Block got) = COMMAND_WRITES
+
+-- how many steps a turn takes of a count at most: 700, and more where the memory isn't of format 2
+abbrev pub turn_steps : BenchState → ℕ
+turn_steps old = COMMAND_WRITES + most_renewal (bench_facts old).words
 
 -- What a turn without a fault takes of the board's other counts: so many device writes at most, and at most the comparison of one
 -- secret, which may match.
@@ -125,7 +137,7 @@ pub record Wears (most : ℕ) (old new : Facts) : Type 0 where
 pub record GoodTurn (old : BenchState) (turn : Turn) (item : Item) (new : BenchState) : Type 0 where
   pub one : OneTurn old turn item new
   pub counts : Spends (dark_of item) (bench_facts old) (bench_facts new)
-  pub wears : Wears (turn_writes turn) (bench_facts old) (bench_facts new)
+  pub wears : Wears (turn_writes old turn) (bench_facts old) (bench_facts new)
 
 -- A block without a fault, with what it takes of the board's counts.
 pub record GoodBlock (old : BenchState) (got : List ℕ) (item : Item) (new : BenchState) : Type 0 where

@@ -9,12 +9,12 @@ use card_core::format;
 use nvm_board::CutBoard;
 use std::alloc::{AllocError, Global};
 
-/// A new board with the factory's card. It has counted the writes of its making alone, and no cut is to come.
+/// A new board of 1,024 pages with the factory's card, in format 2. It has counted the writes of its making alone, and no cut is to come.
 ///
 /// # Errors
 /// There is too little memory for the words.
 pub fn factory_board(alloc: Global) -> Result<CutBoard, AllocError>
-    ensures card { IfOk result (λ board. Finds (cut_facts board).words factory_card) }
+    ensures card { IfOk result (λ board. Finds (cut_facts board).words (factory_card 896)) }
     ensures counts { IfOk result (λ board. IsJustWritten (cut_facts board)) }
     ensures uncut { IfOk result (λ board. (cut_facts board).pending ≡ None) }
 {

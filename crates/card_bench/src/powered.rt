@@ -1,11 +1,12 @@
 //! A card behind its end of the link.
 ghost use Rattle.std.specs.Prelude.{◌≡◌, ◌≢◌, ◌⊎◌, ◌+◌, ◌-◌, ◌≤◌, Some, true, [], IsOk, IsErr, OnOk, OnErr, IfOk, IfErr};
 ghost use Rattle.nvm_board.specs.Aims.{due_of};
-ghost use Rattle.undo_journal.specs.Spending.{Advances, KeepsBoard, KeepsShut, WritesAtMost, start_writes};
+ghost use Rattle.undo_journal.specs.Spending.{Advances, KeepsBoard, WritesAtMost};
 ghost use Rattle.card_core.specs.declared.machine.TheConstants.{COMMAND_WRITES};
 ghost use Rattle.card_core.specs.Finding.{HasCard, FindsAgain};
 ghost use Rattle.card_core.specs.Running.{Starts, StartStopsBy, card_found};
-ghost use Rattle.file_tree.specs.Spaces.{free_space};
+ghost use Rattle.card_core.specs.Cards.{card_space};
+ghost use Rattle.card_core.specs.Starting.{IsNewFound, KeepsFormat, KeepsUnlessOld, TakesAllPages, power_on_writes};
 ghost use Rattle.t1_link.specs.CardTable.{link_step, fresh};
 ghost use Rattle.card_bench.specs.CardBlocks.{Replies, RepliesFailure, FailsAt, IsCutAt, IsBlockStage, IsRun, BlockChangesNothing};
 ghost use Rattle.card_bench.specs.CardBlocks.{BlockCompares, BlockStands};
@@ -56,11 +57,15 @@ impl<B: Board> Powered<B> {
         ensures stopped { IfErr result (λ e. StartStopsBy e.1 (B.facts board) (B.facts e.0)) }
         ensures found { IfOk result (λ p. FindsAgain (B.facts board).words p.card.facts.words) }
         ensures found_err { IfErr result (λ e. FindsAgain (B.facts board).words (B.facts e.0).words) }
-        // Where no pair of the journal counts, no word changes, and nothing is written.
-        ensures shut { IfOk result (λ p. KeepsShut (B.facts board) p.card.facts) }
-        ensures shut_err { IfErr result (λ e. KeepsShut (B.facts board) (B.facts e.0)) }
-        ensures writes { IfOk result (λ p. WritesAtMost (start_writes (B.facts board)) (B.facts board) p.card.facts) }
-        ensures writes_err { IfErr result (λ e. WritesAtMost (start_writes (B.facts board)) (B.facts board) (B.facts e.0)) }
+        // The card is of format 2 then, with all pages of the board where it wasn't before.
+        ensures format { IfOk result (λ p. IsNewFound p.card.facts.words) }
+        ensures all_pages { IfOk result (λ p. TakesAllPages (B.facts board).words p.card.facts.words) }
+        ensures format_err { IfErr result (λ e. KeepsFormat (B.facts board).words (B.facts e.0).words) }
+        // Where no pair of the journal counts, and there is no card of format 1, no word changes, and nothing is written.
+        ensures shut { IfOk result (λ p. KeepsUnlessOld (B.facts board) p.card.facts) }
+        ensures shut_err { IfErr result (λ e. KeepsUnlessOld (B.facts board) (B.facts e.0)) }
+        ensures writes { IfOk result (λ p. WritesAtMost (power_on_writes (B.facts board)) (B.facts board) p.card.facts) }
+        ensures writes_err { IfErr result (λ e. WritesAtMost (power_on_writes (B.facts board)) (B.facts board) (B.facts e.0)) }
     {
         let card = Card::start(board)?;
         Ok(Powered {
@@ -115,7 +120,7 @@ impl<B: Board> Powered<B> {
 
     /// The free space of the card: blocks and file entries. It is told as long as the card works.
     pub fn free(&self) -> FreeSpace
-        ensures { self.now.card.state ≡ CardState.Working → result ≡ free_space (card_found self.now.card).tree }
+        ensures { self.now.card.state ≡ CardState.Working → result ≡ card_space (card_found self.now.card) }
     {
         self.card.free()
     }

@@ -53,16 +53,14 @@ count_run q a (suc n) =
           let here = count-here q (range_with_len (a + 1) n) in
           let is : count q (a ∷ range_with_len (a + 1) n) ≡ count q (q ∷ range_with_len (a + 1) n) =
           ap (λ (p : ℕ). count q (p ∷ range_with_len (a + 1) n)) (sym same.1) in
-          let none : count q (range_with_len (a + 1) n) ≡ 0 = rest.1 (let e = same.1 in omega (arith, e)) in
-          (
+          let none : count q (range_with_len (a + 1) n) ≡ 0 = rest.1 (let e = same.1 in omega (arith, e)) in (
             omega (arith, is, here, none),
             λ low. absurd (let e = same.1 in omega (arith, e, low)),
             λ high. absurd (let e = same.1 in omega (arith, e, high)),
           )
       | inr other ↦
           let is = count-other q a (range_with_len (a + 1) n) other.1 in
-          let most = rest.0 in
-          (
+          let most = rest.0 in (
             omega (arith, is, most),
             λ low. is ∙ rest.1 (omega (arith, low)),
             λ high. is ∙ rest.2 (omega (arith, high)),

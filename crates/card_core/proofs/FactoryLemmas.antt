@@ -39,7 +39,7 @@ use Rattle.pin_store.specs.declared.layout.TheConstants.{PIN_MARK_WORD}
 use Rattle.card_core.specs.declared.memory_format.MemoryFormat.{MemoryFormat}
 use Rattle.card_core.specs.declared.memory_format.MemoryFormat.TheVariants.{One, Two}
 use Rattle.card_core.specs.Cards.{card_space, Pin}
-use Rattle.card_core.specs.Standing.{IsAnyCard, IsCard, IsOldCard, card_blocks, card_of, card_pins, StandsFor}
+use Rattle.card_core.specs.Standing.{IsAnyCard, IsCard, IsOldCard, board_blocks, card_blocks, card_of, card_pins, StandsFor}
 use Rattle.card_core.specs.laws.CardLaws.{blocks_new, blocks_old, marked_new, marked_old, pins_new, pins_old}
 use Rattle.card_core.specs.Factory.{factory_page, factory_block, factory_end, factory_header, factory_pin_page, factory_pin}
 use Rattle.card_core.specs.Factory.{factory_pin_mark, IsWritten}
@@ -207,7 +207,7 @@ module _ (format : MemoryFormat) (m : List ℕ) (sized : IsMemory m) (factory : 
       (ap₂ (λ (o : Option Node) (ns : List Node). cons_option o ns) file_node (no_nodes 2 62 (lit≤ tt))))
 
   -- what is free on the factory's card, by what is free in this memory
-  pub space-factory : Counted → card_space (factory_card m) ≡ factory_space m
+  pub space-factory : Counted → card_space (factory_card (board_blocks m)) ≡ factory_space (board_blocks m)
   space-factory counted =
       let tree = tree-factory in
       let blocks_free : length (free_chain m) ≡ free =
@@ -220,7 +220,7 @@ module _ (format : MemoryFormat) (m : List ℕ) (sized : IsMemory m) (factory : 
       let entries_are = ap (λ (s : FreeSpace). s.entries) space ∙ entries_free in
       let many = least in
       let all = inside in
-      let blocks : (card_space (factory_card m)).blocks ≡ (factory_space m).blocks = omega (arith, some, counted, many, all) in
+      let blocks : (card_space (factory_card (board_blocks m))).blocks ≡ (factory_space (board_blocks m)).blocks = omega (arith, some, counted, many, all) in
       λ i. record { blocks = blocks i; entries = entries_are i }
 
   pin_words : (pin : ℕ) → pin < PINS → page_words m (pin_page pin) ≡ factory_pin_page format
@@ -269,7 +269,7 @@ module _ (format : MemoryFormat) (m : List ℕ) (sized : IsMemory m) (factory : 
   pins_from a (suc n) le = ap₂ (λ (pin : Pin) (rest : List Pin). pin ∷ rest) (pin-is a (omega (arith, le)))
       (pins_from (a + 1) n (omega (arith, le)))
 
-  card-by-blocks : card_blocks m ≡ pages_of m - 128 → card_pins m ≡ unmarked_pins_of m → card_of m ≡ factory_card m
+  card-by-blocks : card_blocks m ≡ board_blocks m → card_pins m ≡ unmarked_pins_of m → card_of m ≡ factory_card (board_blocks m)
   unfolding card_of unmarked_pins_of
   card-by-blocks blocks unmarked =
       let state : (word m HEADER_PAGE STATE_WORD == 0) ≡ true = ap (λ (w : ℕ). w == 0) state-is in
@@ -298,7 +298,7 @@ module _ (m : List ℕ) (sized : IsMemory m) (factory : IsFactory One m) where
     pins = pins One m sized factory;
   }
 
-  blocks-one : card_blocks m ≡ pages_of m - 128
+  blocks-one : card_blocks m ≡ board_blocks m
   blocks-one = blocks_old m (marked_old m differs)
 
   pins-one : card_pins m ≡ unmarked_pins_of m
@@ -335,7 +335,7 @@ module _ (m : List ℕ) (sized : IsMemory m) (factory : IsFactory Two m) where
     marks = enabled_marks m enabled-two;
   }
 
-  blocks-two : card_blocks m ≡ pages_of m - 128
+  blocks-two : card_blocks m ≡ board_blocks m
   blocks-two =
       let was = blocks_new m (marked_new m is-new) in
       let count = count_is m in
@@ -356,10 +356,10 @@ counted One m sized factory = counted-one m sized factory
 counted Two m sized factory = counted-two m sized factory
 
 pub space-of-factory : (format : MemoryFormat) (m : List ℕ) → IsMemory m → IsFactory format m
-    → card_space (factory_card m) ≡ factory_space m
+    → card_space (factory_card (board_blocks m)) ≡ factory_space (board_blocks m)
 space-of-factory format m sized factory = space-factory format m sized factory (counted format m sized factory)
 
-blocks-are : (format : MemoryFormat) (m : List ℕ) → IsMemory m → IsFactory format m → card_blocks m ≡ pages_of m - 128
+blocks-are : (format : MemoryFormat) (m : List ℕ) → IsMemory m → IsFactory format m → card_blocks m ≡ board_blocks m
 blocks-are One m sized factory = blocks-one m sized factory
 blocks-are Two m sized factory = blocks-two m sized factory
 
@@ -368,7 +368,7 @@ pins-are One m sized factory = pins-one m sized factory
 pins-are Two m sized factory = pins-two m sized factory
 
 -- The factory's memory stands for the factory's card.
-pub stands-factory : (format : MemoryFormat) (m : List ℕ) → IsMemory m → IsFactory format m → StandsFor m (factory_card m)
+pub stands-factory : (format : MemoryFormat) (m : List ℕ) → IsMemory m → IsFactory format m → StandsFor m (factory_card (board_blocks m))
 stands-factory format m sized factory = record {
   shut = gate-factory format m sized factory;
   words = words-factory format m sized factory;

@@ -151,8 +151,11 @@ renewal-writes m mid same old =
 -- where the same words are found, the same card is
 pub found-still : (old new : List ℕ) → words_found new ≡ words_found old → (IsSound new ↔ IsSound old) → FindsAgain old new
 found-still old new same sound = record {
-  card = λ there. (record { journal = sound.1 there.journal; words = subst IsAnyCard (sym same) there.words }, ap card_of same);
-  none = λ there. record { journal = sound.0 there.journal; words = subst IsAnyCard same there.words };
+  card = ap card_of same;
+  there = (
+    λ there. record { journal = sound.0 there.journal; words = subst IsAnyCard same there.words },
+    λ there. record { journal = sound.1 there.journal; words = subst IsAnyCard (sym same) there.words },
+  );
   journal = sound;
 }
 
@@ -161,22 +164,18 @@ module _ (first : List ℕ) (opened last : Memory) (sized : IsMemory (committed 
     (exit : IsRenewed (committed opened) (committed last)) where
   pub found-again : IsSound first → IsSound last.facts.words → FindsAgain first last.facts.words
   found-again sound still = ⊎_elim
-      (λ (kept : committed last ≡ committed opened). let same : committed last ≡ words_found first = kept ∙ undone in
-      record {
-        card = λ there. (record { journal = still; words = subst IsAnyCard (sym same) there.words }, ap card_of same);
-        none = λ there. record { journal = sound; words = subst IsAnyCard same there.words };
-        journal = (λ there. sound, λ there. still);
-      })
+      (λ (kept : committed last ≡ committed opened). found-still first last.facts.words (kept ∙ undone)
+      (λ there. sound, λ there. still))
       (λ (migrated : IsOldCard (committed opened) × Migrates (committed opened) (committed last)).
       record {
-        card = λ there. (
-          record {
+        card = card-migrated (committed opened) (committed last) sized migrated.0 migrated.1 ∙ ap card_of undone;
+        there = (
+          λ there. record { journal = sound; words = subst IsAnyCard undone (inr migrated.0) },
+          λ there. record {
             journal = still;
             words = any-migrated (committed opened) (committed last) sized migrated.0 migrated.1;
           },
-          card-migrated (committed opened) (committed last) sized migrated.0 migrated.1 ∙ ap card_of undone,
         );
-        none = λ there. record { journal = sound; words = subst IsAnyCard undone (inr migrated.0) };
         journal = (λ there. sound, λ there. still);
       }) exit
 

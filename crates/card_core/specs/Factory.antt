@@ -109,15 +109,15 @@ file_of_factory = record {
 abbrev pub factory_tree : Tree
 factory_tree = from_entries (([], master_of_factory) ∷ (0x2FE2 ∷ [], file_of_factory) ∷ [])
 
--- the factory's card, which has all blocks of its board: of format 1 it gets those behind page 1,024 at its first start
-abbrev pub factory_card : List ℕ → Card
-factory_card m = record {
+-- the factory's card, of so many blocks: in either format all those of its board
+abbrev pub factory_card : ℕ → Card
+factory_card n = record {
   tree = factory_tree;
   pins = replicate PINS factory_pin;
   in_use = true;
-  blocks = pages_of m - FIRST_BLOCK_PAGE;
+  blocks = n;
 }
 
 -- all blocks are free but that of the elementary file, and all entries but two
-abbrev pub factory_space : List ℕ → FreeSpace
-factory_space m = record { blocks = pages_of m - (FIRST_BLOCK_PAGE + 1); entries = 62 }
+abbrev pub factory_space : ℕ → FreeSpace
+factory_space n = record { blocks = n - 1; entries = 62 }

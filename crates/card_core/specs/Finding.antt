@@ -24,6 +24,6 @@ pub record Finds (m : List ℕ) (c : Card) : Type 0 where
 
 -- what is found stays: the same card, in whatever format, or none; and undo is defined where it was
 pub record FindsAgain (old new : List ℕ) : Type 0 where
-  pub card : HasCard old → HasCard new × (found new ≡ found old)
-  pub none : HasCard new → HasCard old
+  pub card : found new ≡ found old
+  pub there : HasCard new ↔ HasCard old
   pub journal : IsSound new ↔ IsSound old

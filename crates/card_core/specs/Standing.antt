@@ -41,10 +41,14 @@ pub record IsOldCard (m : List ℕ) : Type 0 where
 abbrev pub IsAnyCard : List ℕ → Type 0
 IsAnyCard m = IsCard m ⊎ IsOldCard m
 
+-- the blocks that a board has room for: one a page from page 128 on
+abbrev pub board_blocks : List ℕ → ℕ
+board_blocks m = pages_of m - FIRST_BLOCK_PAGE
+
 -- How many blocks the card has, once it is started: of format 2 those that its header names; of format 1 all that its board has
 -- room for, which its first start makes of them.
 unfoldable pub card_blocks : List ℕ → ℕ
-card_blocks m = if is_format_2 m then block_count m else pages_of m - FIRST_BLOCK_PAGE
+card_blocks m = if is_format_2 m then block_count m else board_blocks m
 
 -- its PINs: of format 1, whose pages have no marks, all are enabled
 unfoldable pub card_pins : List ℕ → List Pin

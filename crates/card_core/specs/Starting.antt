@@ -28,7 +28,10 @@ TakesAllPages old new = is_format_2 (words_found old) ≡ false → end_page (wo
 abbrev pub KeepsUnlessOld : Facts → Facts → Type 0
 KeepsUnlessOld old new = gate old.words ≡ 0 → ¬ IsOldCard (words_found old.words) → KeepsBoard old new
 
--- device writes of a start at most: those of the rollback, and where the memory isn't of format 2 those of the way to it
+-- device writes of the way to format 2, where the memory isn't of it
+abbrev pub renewal_writes : List ℕ → ℕ
+renewal_writes m = if is_format_2 (words_found m) then 0 else migration_writes (pages_of m)
+
+-- device writes of a start at most: those of the rollback, and those of the way to format 2
 abbrev pub power_on_writes : Facts → ℕ
-power_on_writes facts =
-    start_writes facts + (if is_format_2 (words_found facts.words) then 0 else migration_writes (pages_of facts.words))
+power_on_writes facts = start_writes facts + renewal_writes facts.words

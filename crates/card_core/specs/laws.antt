@@ -19,3 +19,4 @@ pub mod AnswerLaws
 pub mod FoundLaws
 pub mod ShownLaws
 pub mod WordLaws
+pub mod BlockLaws

@@ -12,7 +12,7 @@ ghost use Rattle.card_core.specs.Cards.{card_space};
 ghost use Rattle.card_core.specs.Factory.{IsFactory, IsWritten, factory_card, factory_space, factory_free_block};
 ghost use Rattle.card_core.specs.Factory.{factory_header, factory_page as factory_page_of, factory_pin_page};
 ghost use Rattle.card_core.specs.Finding.{Finds, found};
-ghost use Rattle.card_core.specs.Standing.{StandsFor};
+ghost use Rattle.card_core.specs.Standing.{StandsFor, board_blocks};
 
 use crate::layout::CARD_IN_USE;
 use crate::memory_format::MemoryFormat;
@@ -175,9 +175,9 @@ fn write_pages<B: Board>(board: &mut B, format: MemoryFormat, end: u16) -> Resul
 /// promised.
 pub fn format<B: Board>(mut board: B) -> Result<B, (B, DeviceErr)>
     ensures factory { IfOk result (λ b. IsFactory MemoryFormat.Two (B.facts b).words) }
-    ensures stands { IfOk result (λ b. StandsFor (B.facts b).words (factory_card (B.facts b).words)) }
-    ensures found { IfOk result (λ b. Finds (B.facts b).words (factory_card (B.facts b).words)) }
-    ensures space { IfOk result (λ b. card_space (found (B.facts b).words) ≡ factory_space (B.facts b).words) }
+    ensures stands { IfOk result (λ b. StandsFor (B.facts b).words (factory_card (board_blocks (B.facts b).words))) }
+    ensures found { IfOk result (λ b. Finds (B.facts b).words (factory_card (board_blocks (B.facts b).words))) }
+    ensures space { IfOk result (λ b. card_space (found (B.facts b).words) ≡ factory_space (board_blocks (B.facts b).words)) }
     ensures written { IfOk result (λ b. IsWritten MemoryFormat.Two (pages_of (B.facts board).words) (B.facts board).words
         (B.facts b).words) }
     ensures power { IfOk result (λ b. Steady (B.facts board) (B.facts b)) }
@@ -200,9 +200,9 @@ pub fn format<B: Board>(mut board: B) -> Result<B, (B, DeviceErr)>
 /// promised.
 pub fn format_old<B: Board>(mut board: B) -> Result<B, (B, DeviceErr)>
     ensures factory { IfOk result (λ b. IsFactory MemoryFormat.One (B.facts b).words) }
-    ensures stands { IfOk result (λ b. StandsFor (B.facts b).words (factory_card (B.facts b).words)) }
-    ensures found { IfOk result (λ b. Finds (B.facts b).words (factory_card (B.facts b).words)) }
-    ensures space { IfOk result (λ b. card_space (found (B.facts b).words) ≡ factory_space (B.facts b).words) }
+    ensures stands { IfOk result (λ b. StandsFor (B.facts b).words (factory_card (board_blocks (B.facts b).words))) }
+    ensures found { IfOk result (λ b. Finds (B.facts b).words (factory_card (board_blocks (B.facts b).words))) }
+    ensures space { IfOk result (λ b. card_space (found (B.facts b).words) ≡ factory_space (board_blocks (B.facts b).words)) }
     ensures written { IfOk result (λ b. IsWritten MemoryFormat.One OLD_END_PAGE (B.facts board).words (B.facts b).words) }
     ensures power { IfOk result (λ b. Steady (B.facts board) (B.facts b)) }
     ensures power_err { IfErr result (λ e. Answered {T = Unit {0}} (B.facts board) (B.facts e.0) (Err e.1)) }

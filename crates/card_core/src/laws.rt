@@ -18,7 +18,7 @@ ghost use Rattle.card_core.specs.Standing.{StandsFor};
 ghost use Rattle.card_core.specs.Proper.{IsAnswer, IsProper};
 ghost use Rattle.card_core.specs.Sessions.{Session};
 ghost use Rattle.apdu_core.specs.Requests.{Request};
-ghost use Rattle.card_core.specs.Stages.{commits_served};
+ghost use Rattle.card_core.specs.Stages.{IsStage, commits_served};
 ghost use Rattle.card_core.specs.Steps.{carried_out};
 ghost use Rattle.card_core.specs.Words.{alone_served, gated_served};
 
@@ -41,6 +41,12 @@ pub fn found_is_proper()
 pub fn step_keeps_proper()
     ensures { (c : Card) (s : Session) (command : List ℕ) → IsProper c → AreBytes command
         → IsProper (carried_out c s command).card }
+{}
+
+/// No command changes how many blocks a card has, nor does any of its stages: it is one number for a whole run.
+pub fn steps_keep_blocks()
+    ensures step { (c : Card) (s : Session) (command : List ℕ) → (carried_out c s command).card.blocks ≡ c.blocks }
+    ensures stages { (c : Card) (s : Session) (command : List ℕ) (d : Card) → IsStage c s command d → d.blocks ≡ c.blocks }
 {}
 
 /// The answer of a proper card to a command of bytes is 2 to 258 bytes.

@@ -1,22 +1,24 @@
 //! The factory's memory, memories that start and that don't, and boards without power.
 
-use crate::fixtures::formatted;
-use card_core::{Card, StartFault, format};
+use crate::fixtures::{formatted, formatted_old};
+use card_core::{Card, FreeSpace, StartFault, format};
 use nvm_board::{Armed, Board, CutBoard, DeviceErr, RamBoard, Socket};
 use std::alloc::Global;
 use std::test::Fail;
 use store_vectors::fixtures::with_words;
 
-// What `format` writes: the mark, the first free block and the card state; the first words of both files; the tries of
-// PIN 1; the end of the file's chain and its first bytes; the free chain and its end.
+// What `format` writes: the mark, the first free block, the card state and the page where the blocks end; the first words of
+// both files; the tries and the mark of PIN 1; the end of the file's chain and its first bytes; the free chain and its end.
 const FACTORY: &[(u16, u32)] = &[
-    (0, 0x5453_4331),
+    (0, 0x5453_4332),
     (1, 129),
     (2, 0),
+    (3, 1024),
     (16, 0x0105_3F00),
     (32, 0x0205_2FE2),
     (1040, 3),
     (1041, 10),
+    (1046, 1),
     (1168, 0),
     (2048, 0),
     (2049, 0x9810_3254),
@@ -25,12 +27,36 @@ const FACTORY: &[(u16, u32)] = &[
     (16_368, 0),
 ];
 
+// What is other on a board of 1,030 pages, and in format 1.
+const LARGER: &[(u16, u32)] = &[(3, 1030), (16_368, 1024), (16_464, 0)];
+
+const OLD: &[(u16, u32)] = &[
+    (0, 0x5453_4331),
+    (3, 0),
+    (1046, 0),
+    (16_368, 0),
+    (16_464, 0),
+];
+
+/// The first of these words that a board doesn't have.
+fn other_word(mut board: RamBoard, words: &[(u16, u32)]) -> Option<u16> {
+    let size = u32::from(board.pages()) * 16;
+    for &(at, want) in words {
+        if u32::from(at) >= size || board.read(at) != Ok(want) {
+            return Some(at);
+        }
+    }
+    None
+}
+
 #[test]
 fn formats_the_factory_memory(rt: HostRuntime) -> Result<(), Fail> {
-    let mut board = formatted(RamBoard::new(rt.alloc())?)?;
-    for &(at, want) in FACTORY {
-        assert!(rt; at < 16_384 && board.read(at) == Ok(want), "at {at}");
-    }
+    let board = formatted(RamBoard::new(rt.alloc())?)?;
+    assert!(rt; other_word(board, FACTORY).is_none());
+    let board = formatted(RamBoard::with_pages(rt.alloc(), 1030)?)?;
+    assert!(rt; other_word(board, LARGER).is_none());
+    let board = formatted_old(RamBoard::with_pages(rt.alloc(), 1030)?)?;
+    assert!(rt; other_word(board, OLD).is_none());
     Ok(())
 }
 
@@ -56,6 +82,14 @@ const BAD_JOURNAL: Option<StartFault> = Some(StartFault::BadJournal);
 const MEMORIES: &[(&[(u16, u32)], Option<StartFault>)] = &[
     // The mark; the file's parent; the tries of PIN 1 and the unblocking tries of PIN 8; the link of the file's block.
     (&[(0, 0x5453_4330)], DAMAGED),
+    // The mark of format 1, in which neither the page where the blocks end is looked at nor the mark of a PIN.
+    (&[(0, 0x5453_4331), (3, 7), (1046, 7)], None),
+    // The page where the blocks end: before page 1,024, behind the board, and none; the mark of a PIN.
+    (&[(3, 1023)], DAMAGED),
+    (&[(3, 1025)], DAMAGED),
+    (&[(3, 0xFFFF_FFFF)], DAMAGED),
+    (&[(1046, 0)], DAMAGED),
+    (&[(1158, 2)], DAMAGED),
     (&[(33, 0x0102_0003)], DAMAGED),
     (&[(1040, 4)], DAMAGED),
     (&[(1153, 11)], DAMAGED),
@@ -92,9 +126,9 @@ const MEMORIES: &[(&[(u16, u32)], Option<StartFault>)] = &[
     (&[(1184, 16384)], None),
     (&[(1168, 1), (1184, 16383)], None),
     // What isn't looked at: the rest of the header, of the gate, of a free entry, of the file's entry, of a PIN's page.
-    (&[(3, 0xFFFF_FFFF), (1169, 0xFFFF_FFFF)], None),
+    (&[(4, 0xFFFF_FFFF), (1169, 0xFFFF_FFFF)], None),
     (&[(49, 0xFFFF_FFFF), (43, 0xFFFF_FFFF)], None),
-    (&[(1158, 0xFFFF_FFFF), (36, 0xFFFF_FFFF)], None),
+    (&[(1159, 0xFFFF_FFFF), (36, 0xFFFF_FFFF)], None),
     // The bytes behind a rule, the size of the master file.
     (
         &[(19, 0x00FF_FFFF), (34, 0x0311_00FF), (24, 0xFFFF_FFFF)],
@@ -124,6 +158,41 @@ fn starts_what_stands_for_a_card(rt: HostRuntime) -> Result<(), Fail> {
     for &(words, want) in MEMORIES {
         let fault = start_with(rt.alloc(), words)?;
         assert!(rt; fault == want, "with {words:?}");
+    }
+    Ok(())
+}
+
+/// The words of the header and of the mark of PIN 8 after a start of the factory's memory of format 1, and what is free.
+fn after_start(alloc: Global, pages: u16) -> Result<Option<([u32; 4], FreeSpace)>, Fail> {
+    let board = formatted_old(RamBoard::with_pages(alloc, pages.clamp(1024, 4096))?)?;
+    let Ok(card) = Card::start(board) else {
+        return Ok(None);
+    };
+    let free = card.free();
+    let mut board = card.into_board();
+    let words = [
+        board.read(0)?,
+        board.read(1)?,
+        board.read(3)?,
+        board.read(1158)?,
+    ];
+    Ok(Some((words, free)))
+}
+
+#[test]
+fn a_start_makes_format_2(rt: HostRuntime) -> Result<(), Fail> {
+    for (pages, first) in [(1024u16, 129u32), (1030, 1024), (4096, 1024)] {
+        let want = (
+            [0x5453_4332, first, u32::from(pages), 1],
+            FreeSpace {
+                blocks: pages - 129,
+                entries: 62,
+            },
+        );
+        assert!(rt;
+            after_start(rt.alloc(), pages)? == Some(want),
+            "on {pages} pages"
+        );
     }
     Ok(())
 }

@@ -1,16 +1,27 @@
 //! The factory's memory, with which tests of cards begin.
 ghost use Rattle.std.specs.Prelude.{IfOk};
 ghost use Rattle.card_core.specs.Factory.{IsFactory};
+ghost use Rattle.card_core.specs.declared.memory_format.MemoryFormat.TheVariants.{One, Two};
 
-use card_core::format;
+use card_core::{format, format_old};
 use nvm_board::Board;
 use std::test::Fail;
 
-/// A board with the factory's memory.
+/// A board with the factory's memory, in format 2.
 pub fn formatted<B: Board + Drop>(board: B) -> Result<B, Fail>
-    ensures { IfOk result (λ b. IsFactory (B.facts b).words) }
+    ensures { IfOk result (λ b. IsFactory Two (B.facts b).words) }
 {
     match format(board) {
+        Ok(board) => Ok(board),
+        Err((_, error)) => Err(Fail::from(error)),
+    }
+}
+
+/// A board with the factory's memory in format 1.
+pub fn formatted_old<B: Board + Drop>(board: B) -> Result<B, Fail>
+    ensures { IfOk result (λ b. IsFactory One (B.facts b).words) }
+{
+    match format_old(board) {
         Ok(board) => Ok(board),
         Err((_, error)) => Err(Fail::from(error)),
     }

@@ -61,7 +61,7 @@ fn pair(words: &[u32], number: u32) -> (u32, u32) {
 fn are_pairs(words: &[u32], gate: u32) -> bool {
     for number in 0..gate {
         let (address, _) = pair(words, number);
-        if address > 16_383 || 73 <= address / 16 && address / 16 <= 127 {
+        if address as usize >= words.len() || 73 <= address / 16 && address / 16 <= 127 {
             return false;
         }
     }
@@ -78,15 +78,35 @@ fn undo(words: &mut [u32], gate: u32) {
     }
 }
 
-/// The mark and the card state.
-fn has_header(words: &[u32]) -> bool {
-    word(words, 0) == 0x5453_4331 && word(words, 2) <= 1
+/// The mark of format 2.
+fn is_new(words: &[u32]) -> bool {
+    word(words, 0) == 0x5453_4332
 }
 
-/// Tries are at most 3, unblocking tries at most 10.
+/// The page where the blocks end: of format 2 as the header says, of format 1 page 1,024.
+fn end_page(words: &[u32]) -> usize {
+    if is_new(words) {
+        word(words, 3) as usize
+    } else {
+        1024
+    }
+}
+
+/// A mark, where the blocks end, and the card state.
+fn has_header(words: &[u32]) -> bool {
+    (is_new(words) || word(words, 0) == 0x5453_4331)
+        && 1024 <= end_page(words)
+        && end_page(words) <= words.len() / 16
+        && word(words, 2) <= 1
+}
+
+/// Tries are at most 3, unblocking tries at most 10; and in format 2 there is the mark.
 fn are_pins(words: &[u32]) -> bool {
     for page in 65..=72 {
         if word(words, 16 * page) > 3 || word(words, 16 * page + 1) > 10 {
+            return false;
+        }
+        if is_new(words) && word(words, 16 * page + 6) != 1 {
             return false;
         }
     }
@@ -222,14 +242,14 @@ fn differ(words: &[u32], one: usize, other: usize) -> bool {
 /// Which blocks are in a chain.
 #[derive(Drop)]
 struct Blocks {
-    taken: [bool; 1024],
+    taken: [bool; 4096],
     count: usize,
 }
 
 /// The free chain and those of the files, in which each block is once.
 fn are_chains(words: &[u32]) -> bool {
     let mut blocks = Blocks {
-        taken: [false; 1024],
+        taken: [false; 4096],
         count: 0,
     };
     if blocks.takes(words, word(words, 1)).is_none() {
@@ -240,7 +260,7 @@ fn are_chains(words: &[u32]) -> bool {
             return false;
         }
     }
-    blocks.count == 896
+    blocks.count == end_page(words).saturating_sub(128)
 }
 
 impl Blocks {
@@ -249,18 +269,18 @@ impl Blocks {
     fn takes(&mut self, words: &[u32], first: u32) -> Option<u32> {
         let mut last = 0;
         let mut next = first;
-        for _ in 0..=896 {
+        for _ in 0..=3968 {
             if next == 0 {
                 return Some(last);
             }
             let taken = self.taken.get_mut(next as usize)?;
-            if next < 128 || *taken {
+            if next < 128 || next as usize >= end_page(words) || *taken {
                 return None;
             }
             *taken = true;
             self.count = self.count.saturating_add(1);
             last = next;
-            next = word(words, 16 * (next as usize % 1024));
+            next = word(words, 16 * (next as usize % 4096));
         }
         None
     }

@@ -50,7 +50,7 @@ const FILES: &[(u16, u32)] = &[
     (1026, 0x0700_0000),
 ];
 
-/// A row of pages, and how many of the first words of each a start looks at.
+/// A row of pages, and in how many of the first words of each one is changed: up to the last that a start looks at.
 #[derive(Clone, Copy)]
 struct Part {
     first: u16,
@@ -61,7 +61,7 @@ struct Part {
 const HEADER: Part = Part {
     first: 0,
     last: 0,
-    words: 3,
+    words: 4,
 };
 
 const ENTRIES: Part = Part {
@@ -73,7 +73,7 @@ const ENTRIES: Part = Part {
 const PINS: Part = Part {
     first: 65,
     last: 72,
-    words: 2,
+    words: 7,
 };
 
 const GATE: Part = Part {
@@ -97,9 +97,9 @@ const LINKS: Part = Part {
 // How often a card starts, is Damaged, and is BadJournal, where one word of a part is 0, has all bits set, or has one
 // bit turned: of the factory's memory, and of one with a file of each kind.
 const CHANGED: &[(Part, [u32; 3], [u32; 3])] = &[
-    (HEADER, [2, 100, 0], [2, 100, 0]),
+    (HEADER, [2, 134, 0], [2, 134, 0]),
     (ENTRIES, [21_625, 2_311, 0], [21_123, 2_813, 0]),
-    (PINS, [48, 496, 0], [48, 496, 0]),
+    (PINS, [1136, 768, 0], [1136, 768, 0]),
     (GATE, [1, 9, 24], [1, 9, 24]),
     (LINKS, [2, 30_462, 0], [5, 30_459, 0]),
 ];

@@ -17,7 +17,7 @@ counts_text runs seen = decimal runs ++ 58 ∷ flat_map (λ s. 32 ∷ decimal s.
 -- unless their count came to its end.
 pub record IsCountOf (case : Case) (text : List ℕ) : Type 0 where
   pub board : Facts
-  pub card : Finds board.words factory_card
+  pub card : Finds board.words (factory_card 896)
   pub uncut : board.pending ≡ None
   pub runs : ℕ
   pub seen : List Seen

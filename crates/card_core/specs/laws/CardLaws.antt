@@ -15,7 +15,7 @@ use Rattle.file_tree.specs.laws.Formats.{count_same}
 use Rattle.pin_store.specs.Pages.{pins_of, unmarked_pins_of, ArePinPages, KeepsPins, KeepsSecrets}
 use Rattle.pin_store.specs.laws.AllPins.{marks_kept, pages_kept, pins_kept, secrets_kept}
 use Rattle.card_core.specs.Cards.{card_space}
-use Rattle.card_core.specs.Standing.{card_blocks, card_of, card_pins, IsAnyCard, IsCard, IsOldCard}
+use Rattle.card_core.specs.Standing.{board_blocks, card_blocks, card_of, card_pins, IsAnyCard, IsCard, IsOldCard}
 
 -- in either format the files make a tree, and the PINs have no more tries than they may have
 pub any_tree : (m : List ℕ) → IsAnyCard m → TreeStands m
@@ -51,11 +51,11 @@ old_format m old = marked_old m (old_mark m old)
 -- and by it the card has its blocks
 pub blocks_new : (m : List ℕ) → is_format_2 m ≡ true → card_blocks m ≡ block_count m
 unfolding card_blocks
-blocks_new m is = ap (λ (b : Bool). if b then block_count m else pages_of m - FIRST_BLOCK_PAGE) is
+blocks_new m is = ap (λ (b : Bool). if b then block_count m else board_blocks m) is
 
-pub blocks_old : (m : List ℕ) → is_format_2 m ≡ false → card_blocks m ≡ pages_of m - FIRST_BLOCK_PAGE
+pub blocks_old : (m : List ℕ) → is_format_2 m ≡ false → card_blocks m ≡ board_blocks m
 unfolding card_blocks
-blocks_old m is = ap (λ (b : Bool). if b then block_count m else pages_of m - FIRST_BLOCK_PAGE) is
+blocks_old m is = ap (λ (b : Bool). if b then block_count m else board_blocks m) is
 
 pub card_count : (m : List ℕ) → IsCard m → (card_of m).blocks ≡ block_count m
 unfolding card_of

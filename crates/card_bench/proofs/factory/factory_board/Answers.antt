@@ -1,20 +1,30 @@
-use Rattle.std.proofs.Common.{refl}
+use Rattle.std.proofs.Common.{ℕ, refl, subst}
 use Rattle.nvm_board.specs.Cut.{cut_facts}
-use Rattle.card_bench.proofs.FormatLemmas.{format_succeeds, just_written, none_due}
+use Rattle.nvm_board.specs.declared.board.TheConstants.{LEAST_PAGES}
+use Rattle.undo_journal.specs.Spending.{WritesAtMost}
+use Rattle.card_core.specs.Factory.{factory_card}
+use Rattle.card_core.specs.Finding.{Finds}
+use Rattle.card_bench.proofs.FormatLemmas.{format_succeeds, just_written, new_blocks, new_pages, none_due}
 use Rattle.card_bench.proofs.factory.factory_board.Goals as goal
 
 pub unreachable-unreachable : goal.unreachable-unreachable
 unreachable-unreachable c =
-    format_succeeds _ (cut_facts c.in-Err.field-0.0) c.in-Err.field-0.1 c.in_ok-new.ensures.facts refl c.in-Err.ensures.counts_err
-    c.in-Err.ensures.power_err
+    let is = c.in_ok-new.ensures.facts in
+    let new = cut_facts c.in-Err.field-0.0 in
+    format_succeeds _ new c.in-Err.field-0.1 is refl
+    (subst (λ (n : ℕ). WritesAtMost n _ new) (new_pages _ is) c.in-Err.ensures.counts_err) c.in-Err.ensures.power_err
 
 pub returns-clause-card : goal.returns-clause-card
-returns-clause-card c = c.in-Ok.ensures.found
+returns-clause-card c =
+    let new = cut_facts c.in-Ok.board in
+    subst (λ (n : ℕ). Finds new.words (factory_card n)) (new_blocks _ new c.in_ok-new.ensures.facts c.in-Ok.ensures.written.size)
+    c.in-Ok.ensures.found
 
 pub returns-clause-counts : goal.returns-clause-counts
 returns-clause-counts c =
-    just_written _ (cut_facts c.in-Ok.board) c.in_ok-new.ensures.facts c.in-Ok.ensures.power c.in-Ok.ensures.counts
+    let is = c.in_ok-new.ensures.facts in
+    just_written _ (cut_facts c.in-Ok.board) is c.in-Ok.ensures.power
+    (subst (λ (n : ℕ). WritesAtMost n _ (cut_facts c.in-Ok.board)) (new_pages _ is) c.in-Ok.ensures.counts)
 
 pub returns-clause-uncut : goal.returns-clause-uncut
-returns-clause-uncut c =
-    none_due _ (just_written _ (cut_facts c.in-Ok.board) c.in_ok-new.ensures.facts c.in-Ok.ensures.power c.in-Ok.ensures.counts).due
+returns-clause-uncut c = none_due _ (returns-clause-counts c).due

@@ -1,5 +1,5 @@
 use Rattle.card_bench.proofs.DarkLines.{dark-spends, dark-unsets}
-use Rattle.card_bench.proofs.Wearing.{block-due, due-spent, not-mute, runs-last, script-lasts}
+use Rattle.card_bench.proofs.Wearing.{block-due, due-spent, few-steps, not-mute, runs-last, script-lasts, steps-new}
 use Rattle.card_bench.proofs.laws.counts_last.Goals as goal
 
 pub returns-clause-starts : goal.returns-clause-starts
@@ -22,3 +22,6 @@ returns-clause-dark c = dark-spends
 
 pub returns-clause-cut : goal.returns-clause-cut
 returns-clause-cut c = dark-unsets
+
+pub returns-clause-steps : goal.returns-clause-steps
+returns-clause-steps c = λ old. (few-steps old, steps-new old)

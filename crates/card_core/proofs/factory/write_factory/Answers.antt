@@ -42,7 +42,7 @@ pub returns-clause-written : goal.returns-clause-written
 returns-clause-written g c =
     let m = (g.B.Board.facts c.args.board.now).words in
     let whole : length c.header.result ≡ 16 = ap length c.header.ensures ∙ length-header c.args.format c.args.end in
-    on_then _ _ c.write_pages.result (λ (rest : IsWritten c.args.format c.args.end _ _). λ _. record {
+    on_then _ _ c.write_pages.result (λ (rest : IsWritten c.args.format c.args.end _ _). record {
       size = rest.size ∙ ap (λ words. length words) c.in_ok-write.ensures.done
           ∙ length-written m c.header.result (address HEADER_PAGE 0);
       pages = rest.pages;

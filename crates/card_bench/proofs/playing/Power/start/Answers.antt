@@ -15,7 +15,7 @@ returns-in-Ok-start-clause-plays g c =
     let dark = g.B.Board.facts c.into_dark_board-board.result in
     let lit = g.B.Board.facts c.light.new.self in
     starts (power_state g.B.Board.facts c.args.self) dark c.into_dark_board-board.ensures lit c.in-Ok.ensures.lit
-    c.in-Ok-start.powered c.in-Ok-start.ensures.started.0 c.in-Ok-start.ensures.started.1 c.in-Ok-start.ensures.found
+    (g.met.B.Board.sized c.light.new.self) c.in-Ok-start.powered c.in-Ok-start.ensures.started.0 c.in-Ok-start.ensures.started.1 c.in-Ok-start.ensures.found
     c.in-Ok-start.ensures.writes
 
 pub returns-in-Ok-start-clause-kept : goal.returns-in-Ok-start-clause-kept
@@ -51,10 +51,10 @@ returns-after-fault-clause-plays g c =
     elim c.match-fault.branch [
       | in-PowerLost w ↦
           subst (λ (p : PowerOn). Plays old On (powered_item p) (off new)) (sym w.power_on-is)
-          (ends_dark old dark c.into_dark_board-board.ensures lit lights stopped new c.in-Err.ensures.found_err c.power_off.ensures
+          (ends_dark old dark c.into_dark_board-board.ensures lit lights (g.met.B.Board.sized c.light.new.self) stopped new c.in-Err.ensures.found_err c.power_off.ensures
           spent c.in-Err.fault w.in-PowerLost.is c.in-Err.ensures.stopped)
       | in-Fault w ↦
           subst (λ (p : PowerOn). Plays old On (powered_item p) (off new)) (sym w.power_on-is)
-          (ends_mute old dark c.into_dark_board-board.ensures lit lights stopped new c.in-Err.ensures.found_err c.power_off.ensures
+          (ends_mute old dark c.into_dark_board-board.ensures lit lights (g.met.B.Board.sized c.light.new.self) stopped new c.in-Err.ensures.found_err c.power_off.ensures
           spent c.in-Err.fault w.in-Fault.is c.in-Err.ensures.stopped)
     ]

@@ -95,7 +95,7 @@ returns-in-Ok-space_of-clause-all_pages g c =
 pub returns-in-Ok-space_of-clause-shut : goal.returns-in-Ok-space_of-clause-shut
 returns-in-Ok-space_of-clause-shut g c =
     λ shut new. boards_then _ _ _ (c.in-Ok.ensures.shut shut)
-        (c.find_renewed.ensures.idle (subst (λ (l : List ℕ). ¬ IsOldCard l) (sym c.in-Ok.ensures.found) new)).board
+    (c.find_renewed.ensures.idle (subst (λ (l : List ℕ). ¬ IsOldCard l) (sym c.in-Ok.ensures.found) new)).board
 
 pub returns-in-Ok-space_of-clause-writes : goal.returns-in-Ok-space_of-clause-writes
 returns-in-Ok-space_of-clause-writes g c =
