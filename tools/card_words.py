@@ -120,7 +120,7 @@ class Log:
             return selected(it)
         if it.key == "00E0":
             return tagged(it.data).get(0x83, b"").hex().upper()
-        if it.key in ("0020", "0024", "002C"):
+        if it.key in ("0020", "0024", "0026", "0028", "002C"):
             return f"PIN {it.p2}"
         if it.key == "00FE":
             return ""

@@ -4,7 +4,7 @@ use Rattle.card_rules.specs.declared.status.Sw.{Sw}
 use Rattle.apdu_core.specs.Requests.{Request, select, read_binary, update_binary, create_file, delete_file}
 use Rattle.apdu_core.specs.Requests.{read_record, update_record, append_record, search_record, increase}
 use Rattle.apdu_core.specs.Requests.{change_life_cycle, terminate_card_usage}
-use Rattle.apdu_core.specs.Requests.{verify, change_reference_data, reset_retry_counter}
+use Rattle.apdu_core.specs.Requests.{verify, change_reference_data, reset_retry_counter, change_requirement}
 use Rattle.apdu_core.specs.Selections.{Selection, master_file, identifier, parent, name, path_from_master}
 use Rattle.apdu_core.specs.Selections.{path_from_current}
 
@@ -42,6 +42,7 @@ IsOfBytes terminate_card_usage = Unit {0}
 IsOfBytes (verify pin shown) = IfSome shown AreBytes
 IsOfBytes (change_reference_data pin shown new) = AreBytes shown × AreBytes new
 IsOfBytes (reset_retry_counter pin values) = IfSome values (λ values. AreBytes values.0 × AreBytes values.1)
+IsOfBytes (change_requirement change pin shown) = AreBytes shown
 
 -- a status word is two bytes
 abbrev pub IsStatusWord : Sw → Type 0

@@ -1,6 +1,8 @@
 -- The rows of the commands on PINs (ISO/IEC 7816-4, 11.5).
 use Rattle.std.specs.Prelude.{ℕ, ◌==◌, nat_le, Bool, not, ◌&&◌, ◌||◌, List, [], ◌∷◌, take, drop, Option, Some, None}
-use Rattle.apdu_core.specs.Requests.{verify, change_reference_data, reset_retry_counter}
+use Rattle.apdu_core.specs.declared.pins.RequirementChange.{RequirementChange}
+use Rattle.apdu_core.specs.declared.pins.RequirementChange.TheVariants.{Disable, Enable}
+use Rattle.apdu_core.specs.Requests.{verify, change_reference_data, reset_retry_counter, change_requirement}
 use Rattle.apdu_core.specs.Rows.{Row}
 
 -- P1 is 00 and P2 names a PIN, 1 to 8
@@ -48,5 +50,21 @@ reset_retry_counter_row = record {
   meaning = λ p1 p2 body. reset_retry_counter p2 (shown_values body.sent);
 }
 
+-- the instruction of each change of the verification requirement
+abbrev pub requirement_instruction : RequirementChange → ℕ
+requirement_instruction Disable = 0x26
+requirement_instruction Enable = 0x28
+
+-- DISABLE VERIFICATION REQUIREMENT, ENABLE VERIFICATION REQUIREMENT: the PIN's value; Le must not stand
+abbrev pub requirement_row : RequirementChange → Row
+requirement_row change = record {
+  class = 0x00;
+  instruction = requirement_instruction change;
+  parameters = is_pin;
+  lengths = λ p1 p2 sent le. (sent == 8) && not le;
+  meaning = λ p1 p2 body. change_requirement change p2 body.sent;
+}
+
 abbrev pub pin_rows : List Row
-pin_rows = verify_row ∷ change_reference_data_row ∷ reset_retry_counter_row ∷ []
+pin_rows =
+    verify_row ∷ change_reference_data_row ∷ reset_retry_counter_row ∷ requirement_row Disable ∷ requirement_row Enable ∷ []

@@ -7,6 +7,7 @@ use Rattle.apdu_core.specs.declared.commands.Command.TheVariants.{ReadRecord, Up
 use Rattle.apdu_core.specs.declared.commands.Command.TheVariants.{SearchRecord, Increase}
 use Rattle.apdu_core.specs.declared.commands.Command.TheVariants.{ChangeLifeCycle, TerminateCardUsage}
 use Rattle.apdu_core.specs.declared.commands.Command.TheVariants.{Verify, ChangeReferenceData, ResetRetryCounter}
+use Rattle.apdu_core.specs.declared.commands.Command.TheVariants.{ChangeRequirement}
 use Rattle.apdu_core.specs.declared.records.RecordPlace.{RecordPlace}
 use Rattle.apdu_core.specs.declared.records.RecordPlace.TheVariants.{CurrentRecord, Number}
 use Rattle.apdu_core.specs.declared.records.RecordChoice.{RecordChoice}
@@ -68,3 +69,4 @@ IsInRange TerminateCardUsage = Unit {0}
 IsInRange (Verify pin shown) = IsPinNumber pin
 IsInRange (ChangeReferenceData pin values) = IsPinNumber pin
 IsInRange (ResetRetryCounter pin values) = IsPinNumber pin
+IsInRange (ChangeRequirement change pin shown) = IsPinNumber pin

@@ -8,6 +8,7 @@ use Rattle.apdu_core.specs.declared.commands.Command.TheVariants.{ReadRecord, Up
 use Rattle.apdu_core.specs.declared.commands.Command.TheVariants.{SearchRecord, Increase}
 use Rattle.apdu_core.specs.declared.commands.Command.TheVariants.{ChangeLifeCycle, TerminateCardUsage}
 use Rattle.apdu_core.specs.declared.commands.Command.TheVariants.{Verify, ChangeReferenceData, ResetRetryCounter}
+use Rattle.apdu_core.specs.declared.commands.Command.TheVariants.{ChangeRequirement}
 use Rattle.apdu_core.specs.declared.select.Returned.{Returned}
 use Rattle.apdu_core.specs.declared.binary.Target.{Target}
 use Rattle.apdu_core.specs.declared.files.Subject.{Subject}
@@ -15,6 +16,7 @@ use Rattle.apdu_core.specs.declared.records.RecordPlace.{RecordPlace}
 use Rattle.apdu_core.specs.declared.records.RecordChoice.{RecordChoice}
 use Rattle.apdu_core.specs.declared.records.Direction.{Direction}
 use Rattle.apdu_core.specs.declared.life_cycles.LifeCycleChange.{LifeCycleChange}
+use Rattle.apdu_core.specs.declared.pins.RequirementChange.{RequirementChange}
 use Rattle.apdu_core.specs.Selections.{Selection, selection_of}
 
 -- a command as a value: numbers, and the bytes that were sent, with no place in memory
@@ -48,6 +50,8 @@ pub data Request : Type 0 where
   change_reference_data : ℕ → List ℕ → List ℕ → Request
   -- the PIN, the unblocking value that is shown and the new value, if they are
   reset_retry_counter : ℕ → Option (List ℕ × List ℕ) → Request
+  -- what is done to the verification requirement, the PIN, and the value that is shown
+  change_requirement : RequirementChange → ℕ → List ℕ → Request
 
 -- what a parsed command asks for
 abbrev pub request_of : Command → Request
@@ -67,6 +71,7 @@ request_of (Verify pin shown) = verify pin (option_map (λ value. value.now) sho
 request_of (ChangeReferenceData pin values) = change_reference_data pin values.shown.now values.new.now
 request_of (ResetRetryCounter pin values) =
     reset_retry_counter pin (option_map (λ values. (values.shown.now, values.new.now)) values)
+request_of (ChangeRequirement change pin shown) = change_requirement change pin shown.now
 
 -- A parsed command, or a refusal, is what was asked.
 abbrev pub Gives : Result Command Sw → Result Request Sw → Type 0

@@ -3,7 +3,7 @@ use Rattle.std.specs.Prelude.{ℕ, ◌≡◌, ◌≤◌, List, length, IfSome}
 use Rattle.apdu_core.specs.Requests.{Request, select, read_binary, update_binary, create_file, delete_file}
 use Rattle.apdu_core.specs.Requests.{read_record, update_record, append_record, search_record, increase}
 use Rattle.apdu_core.specs.Requests.{change_life_cycle, terminate_card_usage}
-use Rattle.apdu_core.specs.Requests.{verify, change_reference_data, reset_retry_counter}
+use Rattle.apdu_core.specs.Requests.{verify, change_reference_data, reset_retry_counter, change_requirement}
 use Rattle.apdu_core.specs.Selections.{Selection, master_file, identifier, parent, name, path_from_master}
 use Rattle.apdu_core.specs.Selections.{path_from_current}
 
@@ -41,3 +41,4 @@ IsSized terminate_card_usage = Unit {0}
 IsSized (verify pin shown) = IfSome shown IsPinValue
 IsSized (change_reference_data pin shown new) = IsPinValue shown × IsPinValue new
 IsSized (reset_retry_counter pin values) = IfSome values (λ values. IsPinValue values.0 × IsPinValue values.1)
+IsSized (change_requirement change pin shown) = IsPinValue shown

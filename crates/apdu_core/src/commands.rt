@@ -8,7 +8,8 @@ use crate::binary::{Target, parse_read_binary, parse_update_binary};
 use crate::files::{Subject, parse_create_file, parse_delete_file};
 use crate::life_cycles::{LifeCycleChange, parse_life_cycle_change, parse_terminate_card_usage};
 use crate::pins::{
-    Replacement, parse_change_reference_data, parse_reset_retry_counter, parse_verify,
+    Replacement, RequirementChange, parse_change_reference_data, parse_requirement_change,
+    parse_reset_retry_counter, parse_verify,
 };
 use crate::records::{
     Direction, RecordChoice, RecordPlace, parse_append_record, parse_increase, parse_read_record,
@@ -99,6 +100,12 @@ pub enum Command<'a> {
         pin: u8,
         values: Option<Replacement<'a>>,
     },
+    /// DISABLE or ENABLE VERIFICATION REQUIREMENT (ISO/IEC 7816-4, 11.5.9 and 11.5.8) of a PIN, 1 to 8, by its value.
+    ChangeRequirement {
+        change: RequirementChange,
+        pin: u8,
+        shown: &'a [u8; 8],
+    },
 }
 
 /// An instruction that is built.
@@ -119,6 +126,7 @@ enum Instruction {
     Verify,
     ChangeReferenceData,
     ResetRetryCounter,
+    ChangeRequirement(RequirementChange),
 }
 
 impl<'a> Command<'a> {
@@ -169,6 +177,9 @@ impl Instruction {
             Instruction::Verify => parse_verify(p1, p2, rest),
             Instruction::ChangeReferenceData => parse_change_reference_data(p1, p2, rest),
             Instruction::ResetRetryCounter => parse_reset_retry_counter(p1, p2, rest),
+            Instruction::ChangeRequirement(change) => parse_requirement_change(
+                change, p1, p2, rest,
+            ),
         }
     }
 
@@ -191,6 +202,8 @@ impl Instruction {
             0x04 => Some(Instruction::ChangeLifeCycle(LifeCycleChange::Deactivate)),
             0x20 => Some(Instruction::Verify),
             0x24 => Some(Instruction::ChangeReferenceData),
+            0x26 => Some(Instruction::ChangeRequirement(RequirementChange::Disable)),
+            0x28 => Some(Instruction::ChangeRequirement(RequirementChange::Enable)),
             0x2C => Some(Instruction::ResetRetryCounter),
             0x44 => Some(Instruction::ChangeLifeCycle(LifeCycleChange::Activate)),
             0xA2 => Some(Instruction::SearchRecord),

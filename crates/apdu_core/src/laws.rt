@@ -5,6 +5,8 @@ ghost use Rattle.apdu_core.specs.declared.binary.Target.TheVariants.{Current as 
 ghost use Rattle.apdu_core.specs.declared.files.Subject.TheVariants.{Identifier as by_identifier};
 ghost use Rattle.apdu_core.specs.declared.life_cycles.LifeCycleChange.{LifeCycleChange};
 ghost use Rattle.apdu_core.specs.declared.life_cycles.LifeCycleChange.TheVariants.{TerminateEf};
+ghost use Rattle.apdu_core.specs.declared.pins.RequirementChange.{RequirementChange};
+ghost use Rattle.apdu_core.specs.declared.pins.RequirementChange.TheVariants.{Disable, Enable};
 ghost use Rattle.apdu_core.specs.declared.records.Direction.TheVariants.{Backward};
 ghost use Rattle.apdu_core.specs.declared.records.RecordChoice.TheVariants.{Previous, At};
 ghost use Rattle.apdu_core.specs.declared.records.RecordPlace.TheVariants.{CurrentRecord, Number};
@@ -16,6 +18,7 @@ ghost use Rattle.apdu_core.specs.RecordRows.{read_record_row, update_record_row,
 ghost use Rattle.apdu_core.specs.RecordRows.{increase_row, is_record_file, is_choice, is_direction};
 ghost use Rattle.apdu_core.specs.LifeCycleRows.{life_cycle_row, terminate_card_usage_row};
 ghost use Rattle.apdu_core.specs.PinRows.{verify_row, change_reference_data_row, reset_retry_counter_row, is_pin};
+ghost use Rattle.apdu_core.specs.PinRows.{requirement_row};
 ghost use Rattle.apdu_core.specs.SelectRows.{select_row, is_way, is_returned};
 ghost use Rattle.apdu_core.specs.Listing.{header, bytes_with, mode, first_parameters, lengths_allowed};
 ghost use Rattle.std.specs.List.{range_with_len};
@@ -23,6 +26,7 @@ ghost use Rattle.apdu_core.specs.OfBytes.{AreBytes, IsOfBytes, IsStatusWord};
 ghost use Rattle.apdu_core.specs.Requests.{select, read_binary, update_binary, create_file, delete_file};
 ghost use Rattle.apdu_core.specs.Requests.{read_record, update_record, append_record, search_record, increase};
 ghost use Rattle.apdu_core.specs.Requests.{change_life_cycle, terminate_card_usage, verify, change_reference_data};
+ghost use Rattle.apdu_core.specs.Requests.{change_requirement};
 ghost use Rattle.apdu_core.specs.Selections.{identifier, parent, name, path_from_master, path_from_current};
 ghost use Rattle.apdu_core.specs.Sizes.{IsSized};
 
@@ -46,7 +50,7 @@ pub fn headers()
         ≡ (0x00, 0xA4) ∷ (0x00, 0xB0) ∷ (0x00, 0xD6) ∷ (0x00, 0xE0) ∷ (0x00, 0xE4)
         ∷ (0x00, 0xB2) ∷ (0x00, 0xDC) ∷ (0x00, 0xE2) ∷ (0x00, 0xA2) ∷ (0x80, 0x32)
         ∷ (0x00, 0x04) ∷ (0x00, 0x44) ∷ (0x00, 0xE6) ∷ (0x00, 0xE8) ∷ (0x00, 0xFE)
-        ∷ (0x00, 0x20) ∷ (0x00, 0x24) ∷ (0x00, 0x2C) ∷ [] }
+        ∷ (0x00, 0x20) ∷ (0x00, 0x24) ∷ (0x00, 0x2C) ∷ (0x00, 0x26) ∷ (0x00, 0x28) ∷ [] }
 {}
 
 /// The numbers of SELECT (ISO/IEC 7816-4, 11.2.2): each P1 and P2, and how many bytes may be sent under each P1; Le may
@@ -142,6 +146,14 @@ pub fn pin_numbers()
         × (lengths_allowed reset_retry_counter_row p1 p2 true ≡ []) }
 {}
 
+/// The numbers of DISABLE and ENABLE VERIFICATION REQUIREMENT (ISO/IEC 7816-4, 11.5): P1 is 00, P2 is a PIN, 1 to 8, 8 bytes
+/// are sent, and Le doesn't stand.
+pub fn requirement_numbers()
+    ensures parameters { (change : RequirementChange) (p1 p2 : ℕ) → (requirement_row change).parameters p1 p2 ≡ is_pin p1 p2 }
+    ensures lengths { (change : RequirementChange) (p1 p2 : ℕ) → (lengths_allowed (requirement_row change) p1 p2 true ≡ [])
+        × (lengths_allowed (requirement_row change) p1 p2 false ≡ 8 ∷ []) }
+{}
+
 /// What commands on records ask for, from their bytes.
 pub fn records_in_bytes()
     ensures read { (le : ℕ) → asked (0x00 ∷ 0xB2 ∷ 0x05 ∷ 0xF4 ∷ le ∷ [])
@@ -165,6 +177,16 @@ pub fn states_in_bytes()
     ensures change { (a b c d e f g h n o p q r s t u : ℕ)
         → asked (0x00 ∷ 0x24 ∷ 0x00 ∷ 0x01 ∷ 0x10 ∷ a ∷ b ∷ c ∷ d ∷ e ∷ f ∷ g ∷ h ∷ n ∷ o ∷ p ∷ q ∷ r ∷ s ∷ t ∷ u ∷ [])
         ≡ Ok (change_reference_data 1 (a ∷ b ∷ c ∷ d ∷ e ∷ f ∷ g ∷ h ∷ []) (n ∷ o ∷ p ∷ q ∷ r ∷ s ∷ t ∷ u ∷ [])) }
+{}
+
+/// What DISABLE and ENABLE VERIFICATION REQUIREMENT ask for, from their bytes.
+pub fn requirements_in_bytes()
+    ensures disable { (a b c d e f g h : ℕ)
+        → asked (0x00 ∷ 0x26 ∷ 0x00 ∷ 0x01 ∷ 0x08 ∷ a ∷ b ∷ c ∷ d ∷ e ∷ f ∷ g ∷ h ∷ [])
+        ≡ Ok (change_requirement Disable 1 (a ∷ b ∷ c ∷ d ∷ e ∷ f ∷ g ∷ h ∷ [])) }
+    ensures enable { (a b c d e f g h : ℕ)
+        → asked (0x00 ∷ 0x28 ∷ 0x00 ∷ 0x08 ∷ 0x08 ∷ a ∷ b ∷ c ∷ d ∷ e ∷ f ∷ g ∷ h ∷ [])
+        ≡ Ok (change_requirement Enable 8 (a ∷ b ∷ c ∷ d ∷ e ∷ f ∷ g ∷ h ∷ [])) }
 {}
 
 /// What SELECT asks for, from its bytes: by an identifier, a path, a name, and the parent.

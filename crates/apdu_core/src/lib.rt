@@ -20,7 +20,7 @@ pub use commands::Command;
 pub use files::Subject;
 pub use life_cycles::LifeCycleChange;
 pub use path::FilePath;
-pub use pins::Replacement;
+pub use pins::{Replacement, RequirementChange};
 pub use records::{Direction, RecordChoice, RecordPlace};
 pub use select::{Returned, Selector};
 

@@ -2,6 +2,7 @@
 ghost use Rattle.std.specs.Prelude.{◌≡◌, ◌==◌, Some, is_some, IfOk, IfSome, length, take, drop};
 ghost use Rattle.apdu_core.specs.Asked.{asked_by_row};
 ghost use Rattle.apdu_core.specs.PinRows.{verify_row, change_reference_data_row, reset_retry_counter_row, is_pin};
+ghost use Rattle.apdu_core.specs.PinRows.{requirement_row};
 ghost use Rattle.apdu_core.specs.Ranges.{IsInRange};
 ghost use Rattle.apdu_core.specs.Requests.{Gives};
 
@@ -27,6 +28,15 @@ impl<'a> Replacement<'a> {
         let new = rest.as_array::<8>()?;
         Some(Replacement { shown, new })
     }
+}
+
+/// What a command does to the verification requirement of a PIN.
+#[derive(Clone, Copy)]
+pub enum RequirementChange {
+    /// DISABLE VERIFICATION REQUIREMENT: conditions of access rules that ask for the PIN are met without it.
+    Disable,
+    /// ENABLE VERIFICATION REQUIREMENT: they ask for it again.
+    Enable,
 }
 
 /// Whether P1 and P2 name a PIN: 00, and 01 to 08.
@@ -101,4 +111,31 @@ pub(crate) fn parse_reset_retry_counter<'a>(
         return Err(Sw::WRONG_LENGTH);
     }
     Ok(Command::ResetRetryCounter { pin: p2, values })
+}
+
+/// Reads P1, P2 and what follows the header of DISABLE VERIFICATION REQUIREMENT and ENABLE VERIFICATION REQUIREMENT
+/// (ISO/IEC 7816-4, 11.5). P1 and P2 that name no PIN are 6A86, another length than 8 is 6700, and so is Le.
+pub(crate) fn parse_requirement_change<'a>(
+    change: RequirementChange,
+    p1: u8,
+    p2: u8,
+    rest: &'a [u8],
+) -> Result<Command<'a>, Sw>
+    ensures asked { Gives result (asked_by_row (Some (requirement_row change)) p1 p2 rest.now) }
+    ensures ranges { IfOk result IsInRange }
+{
+    if !names_pin(p1, p2) {
+        return Err(Sw::WRONG_PARAMETERS);
+    }
+    let Some(body) = CommandBody::parse(rest) else {
+        return Err(Sw::WRONG_LENGTH);
+    };
+    match body.sent.as_array::<8>() {
+        Some(shown) if body.expected.is_none() => Ok(Command::ChangeRequirement {
+            change,
+            pin: p2,
+            shown,
+        }),
+        _ => Err(Sw::WRONG_LENGTH),
+    }
 }

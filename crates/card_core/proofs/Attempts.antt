@@ -3,10 +3,10 @@
 use Rattle.std.proofs.Common.{◌≡◌, ◌≢◌, ◌⊎◌, ◌<◌, ◌≤◌, ◌+◌, ◌-◌, ◌==◌, ◌&&◌, not, ℕ, Bool, true, false, List, [], ◌∷◌, length, Contains}
 use Rattle.std.proofs.Common.{slice_index, slice_set, Option, Some, None, Ok, Err, if◌then◌else◌, refl, sym, ◌∙◌, ap, subst, arith, inl, inr}
 use Rattle.std.proofs.Common.{⊎_elim}
-use Rattle.std.proofs.lemmas.Bool.{cases_eq, ne_eqb, eq-eqb}
+use Rattle.std.proofs.lemmas.Bool.{eq-eqb}
 use Rattle.std.proofs.Math.ListN.{length-set}
 use Rattle.std.specs.Cmp.Lexicographic.{bytes_decides, pointwise}
-use Rattle.std.specs.Prelude.{nat_eq, IfOk, IfSome, MatchOption, Result}
+use Rattle.std.specs.Prelude.{nat_eq, IfOk, IsSome, MatchResult, Result}
 use Rattle.std.specs.Result.{result_err, IsErrAnd}
 use Rattle.std.specs.FinSet.{FinSet}
 use Rattle.std.specs.Ordering.{nat_cmp}
@@ -25,10 +25,11 @@ use Rattle.undo_journal.specs.Memory.{Memory, committed, IsReady, Reports}
 use Rattle.undo_journal.specs.Spending.{WritesAtMost}
 use Rattle.undo_journal.specs.laws.Memory.{reports_then}
 use Rattle.file_tree.specs.declared.entry.Entry.{Entry}
-use Rattle.apdu_core.specs.Requests.{Request, change_reference_data, reset_retry_counter, verify}
+use Rattle.apdu_core.specs.declared.pins.RequirementChange.{RequirementChange}
+use Rattle.apdu_core.specs.Requests.{Request, change_reference_data, change_requirement, reset_retry_counter, verify}
 use Rattle.pin_store.specs.declared.errors.Outcome.{Outcome as AttemptEnd}
 use Rattle.pin_store.specs.declared.errors.Outcome.TheVariants.{Matched, Wrong}
-use Rattle.pin_store.specs.Pages.{pin_at, ArePinPages, IsApart, SetsPin}
+use Rattle.pin_store.specs.Pages.{pin_at, ArePinPages, IsApart, IsMark, SetsPin}
 use Rattle.pin_store.specs.Pins.{charged_pin, kept, owner, tries_left, Pin}
 use Rattle.pin_store.specs.Trials.{pin_in, Charges, ComparesOnce, EndsByOutcome, IsWrong, KeepsPinLaw, SetsByMatch}
 use Rattle.pin_store.specs.laws.Tries.{charge_keeps_law, end_keeps_law, IsEnd}
@@ -37,10 +38,10 @@ use Rattle.card_core.specs.declared.current.Current.{Current}
 use Rattle.card_core.specs.Cards.{Card}
 use Rattle.card_core.specs.Comparing.{attempt_of, comparisons, ComparesBy, ComparesShown, CostsATry}
 use Rattle.card_core.specs.Counting.{CountsAttempt, CountsServed, CountsShown}
-use Rattle.card_core.specs.Outcomes.{no_refusals, refused, refused_by}
+use Rattle.card_core.specs.Outcomes.{Refusal, first_applying, no_refusals, refused, refused_by}
 use Rattle.card_core.specs.Attempts.{Attempt, attempt_commits, charged_card, is_right}
 use Rattle.card_core.specs.Pins.{attempt_refusals, attempted, attempted_as}
-use Rattle.card_core.specs.Pins.{changing, resetting, told_tries, tries_told}
+use Rattle.card_core.specs.Pins.{changing, marking, resetting, told_tries, tries_told}
 use Rattle.card_core.specs.Attempts.{pin_of, settled_card, tries_of}
 use Rattle.card_core.specs.Words.{StandsByWord, StandsServed, commits_alone, commits_gated}
 use Rattle.card_core.specs.Attempts.{tries_commits, value_commits, unblocking_of, value_of, with_pin_of}
@@ -74,6 +75,32 @@ pub record IsAttempt (request : Request) (a : Attempt) : Type 0 where
   pub number : IsPinNumber a.pin
   pub owned : owner a.secret ≡ a.pin - 1
 
+-- what refuses an attempt, by its PIN: no try is left, or it is enabled, or disabled
+abbrev pub refused_at : Attempt → Pin → Option Sw
+refused_at a pin =
+    first_applying (record { applies = tries_left a.secret pin == 0; status = METHOD_BLOCKED } ∷ a.unusable pin)
+
+-- the same by what refuses it, under whichever name
+abbrev refused_with : (Pin → List Refusal) → ℕ → Pin → Option Sw
+refused_with unusable secret pin =
+    first_applying (record { applies = tries_left secret pin == 0; status = METHOD_BLOCKED } ∷ unusable pin)
+
+pub kept-by : (secret : ℕ) (one other : Pin → List Refusal) → one ≡ other → (was : Pin) (old b : Memory)
+    → (IsSome (refused_with one secret was) → OnlyReads old b) → IsSome (refused_with other secret was) → OnlyReads old b
+kept-by secret one other is was old b kept =
+    subst (λ (unusable : Pin → List Refusal). IsSome (refused_with unusable secret was) → OnlyReads old b) is kept
+
+pub taken-by : (secret : ℕ) (one other : Pin → List Refusal) → one ≡ other → (was : Pin) (old b : Memory)
+    (taken : Result ℕ Sw)
+    → MatchResult taken (λ k. (k ≡ secret) × Charges secret old b × (refused_with one secret was ≡ None))
+    (λ refusal. (refused_with one secret was ≡ Some refusal) × IsReady b)
+    → MatchResult taken (λ k. (k ≡ secret) × Charges secret old b × (refused_with other secret was ≡ None))
+    (λ refusal. (refused_with other secret was ≡ Some refusal) × IsReady b)
+taken-by secret one other is was old b taken done =
+    subst (λ (unusable : Pin → List Refusal). MatchResult taken
+    (λ k. (k ≡ secret) × Charges secret old b × (refused_with unusable secret was ≡ None))
+    (λ refusal. (refused_with unusable secret was ≡ Some refusal) × IsReady b)) is done
+
 -- whether what is shown is right
 right-is : (xs ys : List ℕ) → xs ≡ ys → pointwise nat_eq xs ys ≡ true
 right-is xs ys same = (bytes_decides xs ys).1 same
@@ -99,40 +126,41 @@ module _ (request : Request) (a : Attempt) (asks : IsAttempt request a) (old : M
   abbrev was : Pin
   was = pin_in old a.secret
 
-  pin-in : (m : Memory) → pin_in m a.secret ≡ pin_of (card_in m) a.pin
-  pin-in m = ap (pin_at (committed m)) asks.owned ∙ sym (pin-is (committed m) a.pin asks.number)
+  pin-in : (m : Memory) → IsCard (committed m) → pin_in m a.secret ≡ pin_of (card_in m) a.pin
+  pin-in m is = ap (pin_at (committed m)) asks.owned ∙ sym (pin-is (committed m) a.pin is asks.number)
 
-  refusal-by : (b : Bool) → (tries_of c a.pin a.secret == 0) ≡ b
-      → refused_by (refusals_of c s request) ≡ (if b then Some METHOD_BLOCKED else None)
-  refusal-by b is = ap refused_by (asks.refuses c s) ∙ ap (λ (t : Bool). if t then Some METHOD_BLOCKED else None) is
+  refusal-is : refused_by (refusals_of c s request) ≡ refused_at a was
+  refusal-is = ap refused_by (asks.refuses c s) ∙ ap (refused_at a) (sym (pin-in old card))
 
-  tries-in : tries_left a.secret was ≡ tries_of c a.pin a.secret
-  tries-in = ap (tries_left a.secret) (pin-in old)
+  none-refused : tries_left a.secret was ≡ 0 → refused_at a was ≡ Some METHOD_BLOCKED
+  none-refused none =
+      ap (λ (t : Bool). if t then Some METHOD_BLOCKED else first_applying (a.unusable was))
+      (eq-eqb (tries_left a.secret was) 0 none)
 
-  refused-blocked : tries_left a.secret was ≡ 0 → refused_by (refusals_of c s request) ≡ Some METHOD_BLOCKED
-  refused-blocked none = refusal-by true (eq-eqb (tries_of c a.pin a.secret) 0 (sym tries-in ∙ none))
+  some-refused : tries_left a.secret was ≡ 0 → IsSome (refused_at a was)
+  some-refused none = subst (λ (o : Option Sw). IsSome o) (sym (none-refused none)) refl
 
-  unrefused : 0 < tries_left a.secret was → refused_by (refusals_of c s request) ≡ None
-  unrefused some = refusal-by false (ne_eqb (tries_of c a.pin a.secret) 0 (λ none.
-      let left = tries-in in let z : ⊥ = omega (arith, left, none, some) in z))
+  unrefused : refused_at a was ≡ None → refused_by (refusals_of c s request) ≡ None
+  unrefused free = refusal-is ∙ free
 
-  -- where no try is left, there is nothing to count
-  counts-blocked : (new : Memory) → tries_left a.secret was ≡ 0 → CountsServed c s request old.facts new.facts
-  counts-blocked new none free = let never : Some METHOD_BLOCKED ≡ None = sym (refused-blocked none) ∙ free in cc
+  -- where it is refused, there is nothing to count
+  counts-refused : (new : Memory) (status : Sw) → refused_at a was ≡ Some status → CountsServed c s request old.facts new.facts
+  counts-refused new status is free = let never : Some status ≡ None = sym (refusal-is ∙ is) ∙ free in cc
 
-  -- no try is left
-  pub exit-blocked : (new : Memory) → tries_left a.secret was ≡ 0 → OnlyReads old new → IsReady new
-      → Serves request old x new x [] (Ok METHOD_BLOCKED)
-  exit-blocked new none reads ready =
-      declined request old x new (counts-blocked new none) card METHOD_BLOCKED reads ready current
-      (served-refused c s request METHOD_BLOCKED (refused-blocked none))
+  -- it is refused
+  pub exit-refused : (new : Memory) (status : Sw) → refused_at a was ≡ Some status → OnlyReads old new → IsReady new
+      → Serves request old x new x [] (Ok status)
+  exit-refused new status is reads ready =
+      declined request old x new (counts-refused new status is) card status reads ready current
+      (served-refused c s request status (refusal-is ∙ is))
 
   -- a PIN that is set, by its number
-  set-by : (m n : Memory) (now : Pin → Pin) → SetsPin (committed m) (owner a.secret) (now (pin_in m a.secret)) (committed n)
+  set-by : (m n : Memory) (now : Pin → Pin) → IsCard (committed m)
+      → SetsPin (committed m) (owner a.secret) (now (pin_in m a.secret)) (committed n)
       → SetsPin (committed m) k (now (pin_of (card_in m) a.pin)) (committed n)
-  set-by m n now sets =
+  set-by m n now is sets =
       subst (λ (j : ℕ). SetsPin (committed m) j (now (pin_of (card_in m) a.pin)) (committed n)) asks.owned
-      (subst (λ (p : Pin). SetsPin (committed m) (owner a.secret) (now p) (committed n)) (pin-in m) sets)
+      (subst (λ (p : Pin). SetsPin (committed m) (owner a.secret) (now p) (committed n)) (pin-in m is) sets)
 
   -- What the PIN law tells of the card: at any exit.
   module _ (new : Memory) (size : length (committed new) ≡ length (committed old)) (pages : ArePinPages (committed new))
@@ -143,6 +171,7 @@ module _ (request : Request) (a : Attempt) (asks : IsAttempt request a) (old : M
       elsewhere = subst (λ (j : ℕ). (w : ℕ) → IsApart j w → slice_index (committed new) w ≡ slice_index (committed old) w)
           asks.owned law.elsewhere;
       becomes = refl;
+      mark = subst (λ (j : ℕ). IsMark (committed old) j → IsMark (committed new) j) asks.owned law.mark;
     }
 
     card-any : card_in new ≡ with_pin_of c a.pin (pin_at (committed new) k)
@@ -159,12 +188,12 @@ module _ (request : Request) (a : Attempt) (asks : IsAttempt request a) (old : M
     exit-compares blocked = subst (λ (o : Option Attempt). ComparesShown o c (comparisons old.facts) (card_in new) (comparisons
         new.facts)) (sym asks.shows) (record {
           costs = subst (λ (p : Pin). CostsATry a.secret a.shown p (pin_of (card_in new) a.pin) (comparisons old.facts)
-              (comparisons new.facts)) (pin-in old)
+              (comparisons new.facts)) (pin-in old card)
               (subst (λ (p : Pin). CostsATry a.secret a.shown was p (comparisons old.facts) (comparisons new.facts))
-              (pin-in new) (costs-told a.secret a.shown old new law (λ none.
+              (pin-in new exit-card) (costs-told a.secret a.shown old new law (λ none.
               (ap (λ (l : List ℕ). pin_at l (owner a.secret)) (blocked none).0, (blocked none).1))));
           others = ap (λ (d : Card). d.pins) card-any
-              ∙ ap (slice_set c.pins k) (sym (pin-is (committed new) a.pin asks.number));
+              ∙ ap (slice_set c.pins k) (sym (pin-is (committed new) a.pin exit-card asks.number));
         })
 
   -- the cards that the request passes
@@ -176,13 +205,14 @@ module _ (request : Request) (a : Attempt) (asks : IsAttempt request a) (old : M
       let long : length (attempt_commits c a) ≡ 0 = ap length (sym (asks.passes c s) ∙ none) in
       let z : ⊥ = omega (arith, long) in z
 
-  doing : (d : Card) → 0 < tries_left a.secret was → Contains (c ∷ attempt_commits c a) d → IsDoing c s request d
-  doing d some among = record { unrefused = unrefused some; lasts = lasting; card = passed d among }
+  doing : (d : Card) → refused_at a was ≡ None → Contains (c ∷ attempt_commits c a) d → IsDoing c s request d
+  doing d free among = record { unrefused = unrefused free; lasts = lasting; card = passed d among }
 
   -- the charge
   charged-card : (b : Memory) → Charges a.secret old b → card_in b ≡ charged_card c a
   charged-card b charges =
-      pin-set (committed old) (committed b) sized card a.pin asks.number _ (set-by old b (charged_pin a.secret) charges.charged)
+      pin-set (committed old) (committed b) sized card a.pin asks.number _
+      (set-by old b (charged_pin a.secret) card charges.charged)
 
   charged-size : (b : Memory) → (committed b ≡ committed old) ⊎ Charges a.secret old b
       → length (committed b) ≡ length (committed old)
@@ -193,12 +223,18 @@ module _ (request : Request) (a : Attempt) (asks : IsAttempt request a) (old : M
   charged-stage b (inl same) = (0, omega arith, sym (ap card_of same))
   charged-stage b (inr charges) = (1, omega arith, sym (charged-card b charges))
 
-  -- where no try was left, only reads were made
-  idle : {R : Type 0} (new : Memory) → (tries_left a.secret was ≡ 0 → OnlyReads old new) → (0 < tries_left a.secret was → R)
+  -- it is refused, or it isn't
+  either : {R : Type 0} → (IsSome (refused_at a was) → R) → (refused_at a was ≡ None → R) → R
+  either {R} refused free = by (refused_at a was) refused free
+    where
+      by : (o : Option Sw) → (IsSome o → R) → (o ≡ None → R) → R
+      by None refused free = free refl
+      by (Some status) refused free = refused refl
+
+  -- where it is refused, only reads were made
+  idle : {R : Type 0} (new : Memory) → (IsSome (refused_at a was) → OnlyReads old new) → (refused_at a was ≡ None → R)
       → OnlyReads old new ⊎ R
-  idle new kept some = ⊎_elim (λ none. inl (kept none))
-      (λ other. let left : 0 < tries_left a.secret was = omega (arith, other) in inr (some left))
-      (cases_eq (tries_left a.secret was) 0)
+  idle new kept free = either (λ refused. inl (kept refused)) (λ none. inr (free none))
 
   reads-told : (new : Memory) → OnlyReads old new → (committed new ≡ committed old) × (comparisons new.facts ≡ comparisons old.facts)
   reads-told new reads = (
@@ -207,27 +243,25 @@ module _ (request : Request) (a : Attempt) (asks : IsAttempt request a) (old : M
   )
 
   -- which card stands by the word, where the attempt isn't refused
-  stood : (m : List ℕ) → 0 < tries_left a.secret was → StandsByWord c (tries_commits c a) (value_commits c a) m
+  stood : (m : List ℕ) → refused_at a was ≡ None → StandsByWord c (tries_commits c a) (value_commits c a) m
       → StandsServed c s request m
-  stood m some stands =
+  stood m free stands =
       subst (λ (verdict : Option Sw). StandsByWord c (commits_unless verdict (commits_alone c (attempt_of request)))
-      (commits_unless verdict (commits_gated c (attempt_of request) (commits c s request))) m) (sym (unrefused some))
+      (commits_unless verdict (commits_gated c (attempt_of request) (commits c s request))) m) (sym (unrefused free))
       (subst (λ (o : Option Attempt). StandsByWord c (commits_alone c o) (commits_gated c o (commits c s request)) m)
       (sym asks.shows) stands)
 
   -- after the charge, or before it
   went-charge : (b : Memory) → (committed b ≡ committed old) ⊎ Charges a.secret old b
-      → (tries_left a.secret was ≡ 0 → OnlyReads old b) → WritesAtMost 1 old.facts b.facts → StaysShut old b
+      → (IsSome (refused_at a was) → OnlyReads old b) → WritesAtMost 1 old.facts b.facts → StaysShut old b
       → Went request old x b
   went-charge b exit kept spends stays =
-      ⊎_elim (λ none. went-reads request old x b (kept none))
-      (λ other.
-      let some : 0 < tries_left a.secret was = omega (arith, other) in (
+      either (λ refused. went-reads request old x b (kept refused))
+      (λ free. (
         advances_by 1 old.facts b.facts spends,
-        λ shut. stood b.facts.words some (stands-alone c (tries_commits c a) (value_commits c a) b.facts.words (stays shut)
+        λ shut. stood b.facts.words free (stands-alone c (tries_commits c a) (value_commits c a) b.facts.words (stays shut)
             (among-tries exit)),
       ))
-      (cases_eq (tries_left a.secret was) 0)
     where
       among-tries : (committed b ≡ committed old) ⊎ Charges a.secret old b → Contains (c ∷ tries_commits c a) (card_in b)
       among-tries (inl same) = (0, omega arith, sym (ap card_of same))
@@ -235,20 +269,20 @@ module _ (request : Request) (a : Attempt) (asks : IsAttempt request a) (old : M
 
   -- the charge stopped
   pub exit-charge : (b : Memory) (e : StoreErr) → (committed b ≡ committed old) ⊎ Charges a.secret old b
-      → (tries_left a.secret was ≡ 0 → OnlyReads old b) → ArePinPages (committed b) → Reports old b → b.failed ≡ Some e
+      → (IsSome (refused_at a was) → OnlyReads old b) → ArePinPages (committed b) → Reports old b → b.failed ≡ Some e
       → WritesAtMost 1 old.facts b.facts → StaysShut old b → b.facts.writes ≤ old.facts.writes + most_writes request
       → Serves request old x b x [] (Err e)
   exit-charge b e exit kept pages reports failed spends stays writes =
       let law = charge_keeps_law a.secret a.shown old b exit spends in
       let size = charged-size b exit in
       torn request old x b x [] e
-      (idle b kept (λ some. doing (card_in b) some (charged-stage b exit)))
+      (idle b kept (λ free. doing (card_in b) free (charged-stage b exit)))
       (exit-card b size pages law) reports failed (omega arith) writes
       (went-charge b exit kept spends stays)
-      (exit-compares b size pages law (λ none. reads-told b (kept none)))
+      (exit-compares b size pages law (λ none. reads-told b (kept (some-refused none))))
 
   -- after the charge
-  module _ (b : Memory) (charges : Charges a.secret old b) (card-b : IsCard (committed b)) where
+  module _ (free : refused_at a was ≡ None) (b : Memory) (charges : Charges a.secret old b) (card-b : IsCard (committed b)) where
     size-b : IsMemory (committed b)
     size-b = memory_same _ _ charges.charged.size sized
 
@@ -259,12 +293,12 @@ module _ (request : Request) (a : Attempt) (asks : IsAttempt request a) (old : M
     settled-is : (e : Memory) → SetsPin (committed b) (owner a.secret) (a.becomes (pin_in b a.secret)) (committed e)
         → card_in e ≡ settled_card c a
     settled-is e sets =
-        pin-set (committed b) (committed e) size-b card-b a.pin asks.number _ (set-by b e a.becomes sets)
+        pin-set (committed b) (committed e) size-b card-b a.pin asks.number _ (set-by b e a.becomes card-b sets)
         ∙ ap (λ (d : Card). with_pin_of d a.pin (a.becomes (pin_of d a.pin))) (charged-card b charges)
 
     -- the secret that is kept stays
     kept-stays : kept a.secret (pin_in b a.secret) ≡ kept a.secret (pin_of c a.pin)
-    kept-stays = ap (kept a.secret) (charges.charged.becomes ∙ ap (charged_pin a.secret) (pin-in old))
+    kept-stays = ap (kept a.secret) (charges.charged.becomes ∙ ap (charged_pin a.secret) (pin-in old card))
 
     right : kept a.secret (pin_in b a.secret) ≡ a.shown → is_right c a ≡ true
     right is = right-is (kept a.secret (pin_of c a.pin)) a.shown (sym kept-stays ∙ is)
@@ -301,7 +335,7 @@ module _ (request : Request) (a : Attempt) (asks : IsAttempt request a) (old : M
       law-end = end_keeps_law n a.secret a.shown _ old b e ends charges costs exit spends
 
       stage-end : OnlyReads old e ⊎ IsDoing c s request (card_in e)
-      stage-end = inr (doing (card_in e) charges.left (ended-stage e exit))
+      stage-end = inr (doing (card_in e) free (ended-stage e exit))
 
       -- which card stands by the word
       stand : (renews right : Bool) → EndsByWord renews b e → gate old.facts.words ≡ 0
@@ -321,7 +355,7 @@ module _ (request : Request) (a : Attempt) (asks : IsAttempt request a) (old : M
       went-end = (
         advances_then old.facts b.facts e.facts (advances_by 1 old.facts b.facts costs)
             (record { more = spends.more; cut = spends.cut }),
-        λ shut. stood e.facts.words charges.left
+        λ shut. stood e.facts.words free
             (stand a.renews (is_right c a) word shut (ended-stage e exit)),
       )
 
@@ -355,7 +389,7 @@ module _ (request : Request) (a : Attempt) (asks : IsAttempt request a) (old : M
 
       -- the step
       step-by : (t : Bool) → is_right c a ≡ t → served c s request ≡ attempted_as c s a t
-      step-by t is = served-done c s request (unrefused charges.left) ∙ asks.does c s ∙ ap (attempted_as c s a) is
+      step-by t is = served-done c s request (unrefused free) ∙ asks.does c s ∙ ap (attempted_as c s a) is
 
       session-set : (set : FinSet nat_cmp) (marks : List Bool) → marked marks ≡ set
           → record s { verified = set } ≡ session_in e (record x { verified = marks })
@@ -377,7 +411,7 @@ module _ (request : Request) (a : Attempt) (asks : IsAttempt request a) (old : M
       step-wrong left is =
           let card-is = sym (ap card_of is.same ∙ charged-card b charges) in
           let told = ap (λ (d : Card). tries_of d a.pin a.secret) (sym (charged-card b charges))
-          ∙ sym (ap (tries_left a.secret) (pin-in b)) ∙ sym is.left in
+          ∙ sym (ap (tries_left a.secret) (pin-in b card-b)) ∙ sym is.left in
           let session = session-wrong a.unverifies in
           step-by false (wrong is.wrong)
           ∙ (λ i. outcome (card-is i) (session i) [] (tries_told (told i)))
@@ -436,7 +470,7 @@ module _ (request : Request) (a : Attempt) (asks : IsAttempt request a) (n : ℕ
     -- the charge stopped
     pub charge-torn : (b : Memory) (r : Result Sw StoreErr) (err : StoreErr) → IsErrAnd r (λ f. f ≡ err)
         → (committed b ≡ committed old) ⊎ Charges a.secret old b
-        → (tries_left a.secret (pin_in old a.secret) ≡ 0 → OnlyReads old b) → ArePinPages (committed b) → Reports old b
+        → (IsSome (refused_at a (pin_in old a.secret)) → OnlyReads old b) → ArePinPages (committed b) → Reports old b
         → b.failed ≡ Some err → WritesAtMost 1 old.facts b.facts → StaysShut old b → Serves request old x b x [] r
     charge-torn b r err is exit kept pages reports failed spends stays =
         let once = spends.writes in
@@ -444,27 +478,34 @@ module _ (request : Request) (a : Attempt) (asks : IsAttempt request a) (n : ℕ
         subst (λ (result : Result Sw StoreErr). Serves request old x b x [] result) (sym (err-is r err is))
         (exit-charge request a asks old x sized card current b err exit kept pages reports failed spends stays writes)
 
-    -- no try was left
-    pub charge-blocked : (b : Memory) (taken : Option ℕ) → taken ≡ None
-        → MatchOption taken (tries_left a.secret (pin_in old a.secret) ≡ 0) (λ k. (k ≡ a.secret) × Charges a.secret old b)
-        → (tries_left a.secret (pin_in old a.secret) ≡ 0 → OnlyReads old b) → IsReady b
-        → Serves request old x b x [] (Ok METHOD_BLOCKED)
-    charge-blocked b taken is done kept is-ready =
-        let none = subst (λ (o : Option ℕ). MatchOption o (tries_left a.secret (pin_in old a.secret) ≡ 0)
-        (λ k. (k ≡ a.secret) × Charges a.secret old b)) is done in
-        exit-blocked request a asks old x sized card current b none (kept none) is-ready
+    -- no try was taken
+    pub charge-refused : (b : Memory) (taken : Result ℕ Sw) (status : Sw) → taken ≡ Err status
+        → MatchResult taken
+        (λ k. (k ≡ a.secret) × Charges a.secret old b × (refused_at a (pin_in old a.secret) ≡ None))
+        (λ refusal. (refused_at a (pin_in old a.secret) ≡ Some refusal) × IsReady b)
+        → (IsSome (refused_at a (pin_in old a.secret)) → OnlyReads old b)
+        → Serves request old x b x [] (Ok status)
+    charge-refused b taken status is done kept =
+        let told = subst (λ (r : Result ℕ Sw). MatchResult r
+        (λ k. (k ≡ a.secret) × Charges a.secret old b × (refused_at a (pin_in old a.secret) ≡ None))
+        (λ refusal. (refused_at a (pin_in old a.secret) ≡ Some refusal) × IsReady b)) is done in
+        exit-refused request a asks old x sized card current b status told.0
+        (kept (subst (λ (o : Option Sw). IsSome o) (sym told.0) refl)) told.1
 
     -- a try was taken, and then an end came
-    module _ (b e : Memory) (taken : Option ℕ) (k : ℕ) (is : taken ≡ Some k)
-        (done : MatchOption taken (tries_left a.secret (pin_in old a.secret) ≡ 0) (λ k. (k ≡ a.secret) × Charges a.secret old b))
+    module _ (b e : Memory) (taken : Result ℕ Sw) (k : ℕ) (is : taken ≡ Ok k)
+        (done : MatchResult taken
+        (λ k. (k ≡ a.secret) × Charges a.secret old b × (refused_at a (pin_in old a.secret) ≡ None))
+        (λ refusal. (refused_at a (pin_in old a.secret) ≡ Some refusal) × IsReady b))
         (pages-b : ArePinPages (committed b)) (costs : WritesAtMost 1 old.facts b.facts) (reports-b : Reports old b)
         (ends : (p : Pin) → IsEnd a.secret p (a.becomes p))
         (exit : (committed e ≡ committed b) ⊎ SetsByMatch k a.shown (a.becomes (pin_in b k)) b e)
         (spends : ComparesOnce n k b.facts e.facts) (pages : ArePinPages (committed e)) (reports : Reports b e)
         (stays : StaysShut old b) (word : EndsByWord a.renews b e) where
-      got : (k ≡ a.secret) × Charges a.secret old b
-      got = subst (λ (o : Option ℕ). MatchOption o (tries_left a.secret (pin_in old a.secret) ≡ 0)
-          (λ k. (k ≡ a.secret) × Charges a.secret old b)) is done
+      got : (k ≡ a.secret) × Charges a.secret old b × (refused_at a (pin_in old a.secret) ≡ None)
+      got = subst (λ (r : Result ℕ Sw). MatchResult r
+          (λ k. (k ≡ a.secret) × Charges a.secret old b × (refused_at a (pin_in old a.secret) ≡ None))
+          (λ refusal. (refused_at a (pin_in old a.secret) ≡ Some refusal) × IsReady b)) is done
 
       card-b : IsCard (committed b)
       card-b = exit-card request a asks old x sized card current b got.1.charged.size pages-b
@@ -484,23 +525,23 @@ module _ (request : Request) (a : Attempt) (asks : IsAttempt request a) (n : ℕ
           → Serves request old x e x [] r
       end-torn r err error failed =
           subst (λ (result : Result Sw StoreErr). Serves request old x e x [] result) (sym (err-is r err error))
-          (exit-end request a asks old x sized card current b got.1 card-b e n (ends _) costs spends-told pages
+          (exit-end request a asks old x sized card current got.2 b got.1 card-b e n (ends _) costs spends-told pages
           (reports_then old b e reports-b reports) stays word writes exit-told err failed)
 
       pub end-made : (end : AttemptEnd) → EndsByOutcome k a.shown (a.becomes (pin_in b k)) b e end → IsReady e
-          → IfSome taken (λ _. b.facts.writes ≡ old.facts.writes + 1)
+          → IfOk taken (λ _. b.facts.writes ≡ old.facts.writes + 1)
           → (y : Current) → y ≡ tried_from x a.pin a.unverifies end → (status : Sw) → status ≡ end_of_attempt end
           → Serves request old x e y [] (Ok status)
       end-made end ended is-ready counted y at status told =
           let charge : b.facts.writes ≡ old.facts.writes + 1 =
-          subst (λ (o : Option ℕ). IfSome o (λ _. b.facts.writes ≡ old.facts.writes + 1)) is counted in
-          let made = exit-done request a asks old x sized card current b got.1 card-b e n (ends _) costs spends-told pages
+          subst (λ (r : Result ℕ Sw). IfOk r (λ _. b.facts.writes ≡ old.facts.writes + 1)) is counted in
+          let made = exit-done request a asks old x sized card current got.2 b got.1 card-b e n (ends _) costs spends-told pages
           (reports_then old b e reports-b reports) stays word writes exit-told end
           (subst (λ (k : ℕ). EndsByOutcome k a.shown (a.becomes (pin_in b k)) b e end) got.0 ended) is-ready charge in
           subst (λ (z : Current). Serves request old x e z [] (Ok status)) (sym at)
           (subst (λ (w : Sw). Serves request old x e (tried_from x a.pin a.unverifies end) [] (Ok w)) (sym told) made)
 
--- the three requests
+-- the requests that show a secret
 module _ (n : ℕ) (number : IsPinNumber n) where
   value-owned : owner (value_of n) ≡ n - 1
   value-owned =
@@ -547,6 +588,18 @@ module _ (n : ℕ) (number : IsPinNumber n) where
     owned = unblocking-owned;
   }
 
+  pub requires_or_not : (change : RequirementChange) (shown : List ℕ)
+      → IsAttempt (change_requirement change n shown) (marking change n shown)
+  unfolding refusals_of effect commits
+  requires_or_not change shown = record {
+    refuses = λ c s. refl;
+    does = λ c s. refl;
+    passes = λ c s. refl;
+    shows = refl;
+    number = number;
+    owned = value-owned;
+  }
+
 -- The requests that ask for the tries that are left.
 pub record IsQuestion (request : Request) (n secret : ℕ) : Type 0 where
   pub refuses : (c : Card) (s : Session) → refusals_of c s request ≡ no_refusals
@@ -579,7 +632,7 @@ module _ (n : ℕ) (number : IsPinNumber n) where
 module _ (request : Request) (n secret : ℕ) (asks : IsQuestion request n secret) (old : Memory) (x : Current)
     (card : IsCard (committed old)) (current : IsCurrent (table_in old) x) (new : Memory) where
   tries-are : tries_left secret (pin_in old secret) ≡ tries_of (card_in old) n secret
-  tries-are = ap (tries_left secret) (ap (pin_at (committed old)) asks.owned ∙ sym (pin-is (committed old) n asks.number))
+  tries-are = ap (tries_left secret) (ap (pin_at (committed old)) asks.owned ∙ sym (pin-is (committed old) n card asks.number))
 
   answer-is : (status : Sw) → status ≡ tries_told (tries_left secret (pin_in old secret))
       → served (card_in old) (session_in old x) request ≡ refused (card_in old) (session_in old x) status

@@ -20,7 +20,7 @@ use Rattle.file_tree.specs.Formats.{block_count}
 use Rattle.file_tree.specs.Spaces.{free_space}
 use Rattle.card_core.specs.Cards.{card_space}
 use Rattle.card_core.specs.laws.CardLaws.{card_count, card_space_is}
-use Rattle.file_tree.specs.States.{is_allowed, is_barred}
+use Rattle.file_tree.specs.States.{is_barred}
 use Rattle.file_tree.specs.Table.{table, entry_in, path_of}
 use Rattle.file_tree.specs.Trees.{tree_of, file_in}
 use Rattle.file_tree.specs.laws.Nodes.{get-used, same_of_one}
@@ -30,16 +30,15 @@ use Rattle.card_core.specs.Files.{create_refusals, creation_bit, with_new}
 use Rattle.card_core.specs.Guards.{allowed}
 use Rattle.card_core.specs.Outcomes.{refused, refused_by, only_status}
 use Rattle.card_core.specs.Selecting.{selecting}
-use Rattle.card_core.specs.Sessions.{Session, marks_of}
+use Rattle.card_core.specs.Sessions.{Session}
 use Rattle.card_core.specs.Standing.{card_of, IsCard}
 use Rattle.card_core.specs.Served.{IsDoing}
 use Rattle.card_core.specs.Steps.{served}
-use Rattle.card_core.specs.Working.{current_at, outcome, session_of, verified_in, IsCurrent}
+use Rattle.card_core.specs.Working.{current_at, outcome, session_of, IsCurrent}
 use Rattle.card_core.proofs.Entries.{card-tree, current-entry, selecting-entry}
 use Rattle.card_core.proofs.Doing.{doing-one}
 use Rattle.card_core.proofs.FileSteps.{create-commits, create-done, create-refused, create-unread, create-unrefused}
 use Rattle.card_core.proofs.Keeping.{files-stand, files-after}
-use Rattle.card_core.proofs.Verified.{marks-are}
 
 -- what was found of nothing that is there
 value_of : (one other : File) → Some one ≡ Some other → one ≡ other
@@ -70,15 +69,11 @@ pub barred-is : (m : List ℕ) (x : CurrentFiles) (barred : Bool) → barred ≡
     → is_barred (card_of m).tree (path_of (table m) x.df) ≡ barred
 barred-is m x barred is = ap (λ (tree : Tree). is_barred tree (path_of (table m) x.df)) (card-tree m) ∙ sym is
 
-pub permits-is : (m now : List ℕ) (x : CurrentFiles) → length x.verified ≡ 8 → now ≡ m → (bit wanted : AccessBit)
-    → bit ≡ wanted → (verified : List Bool) → verified ≡ verified_in x → (permits : Bool)
-    → permits ≡ is_allowed (tree_of now) (path_of (table now) x.df) bit verified
+pub permits-is : (m now : List ℕ) (x : CurrentFiles) → now ≡ m → (bit wanted : AccessBit) → bit ≡ wanted → (permits : Bool)
+    → permits ≡ allowed (card_of now) (session_of (table now) x) (path_of (table now) x.df) bit
     → allowed (card_of m) (session_of (table m) x) (path_of (table m) x.df) wanted ≡ permits
-permits-is m now x eight same bit wanted bit_is verified verified_is permits is =
-    let marks = verified_is ∙ sym (marks-are (table m) x eight) in
-    ap (λ (tree : Tree). is_allowed tree (path_of (table m) x.df) wanted (marks_of (session_of (table m) x).verified))
-    (card-tree m)
-    ∙ sym (is ∙ (λ i. is_allowed (tree_of (same i)) (path_of (table (same i)) x.df) (bit_is i) (marks i)))
+permits-is m now x same bit wanted bit_is permits is =
+    sym (is ∙ (λ i. allowed (card_of (same i)) (session_of (table (same i)) x) (path_of (table (same i)) x.df) (bit_is i)))
 
 -- what is free shrinks by what a file takes
 module _ (m now after : List ℕ) (old taken : FreeSpace) (is : old ≡ card_space (card_of m)) (same : now ≡ m)

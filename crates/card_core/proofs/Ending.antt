@@ -19,7 +19,7 @@ use Rattle.block_chain.specs.declared.layout.TheConstants.{FREE_HEAD_WORD}
 use Rattle.block_chain.specs.Chains.{free_chain}
 use Rattle.block_chain.specs.Words.{word}
 use Rattle.apdu_core.specs.Requests.{terminate_card_usage}
-use Rattle.file_tree.specs.States.{is_allowed, with_card_terminated}
+use Rattle.file_tree.specs.States.{with_card_terminated}
 use Rattle.file_tree.specs.Table.{table, path_of}
 use Rattle.file_tree.specs.Trees.{tree_of, TreeStands}
 use Rattle.file_tree.specs.Changes.{KeepsTree}
@@ -27,13 +27,12 @@ use Rattle.file_tree.specs.Formats.{SameFormat}
 use Rattle.file_tree.specs.laws.Footprints.{tree_kept}
 use Rattle.file_tree.specs.declared.entry.Entry.{Entry}
 use Rattle.pin_store.specs.Pages.{pin_page, KeepsPins}
-use Rattle.pin_store.specs.laws.AllPins.{pages_kept, pins_kept}
+use Rattle.pin_store.specs.laws.AllPins.{marks_kept, pages_kept}
 use Rattle.file_tree.specs.laws.Indexed.{places_same}
 use Rattle.card_core.specs.declared.current.Current.{Current}
 use Rattle.block_chain.specs.declared.layout.TheConstants.{HEADER_PAGE}
 use Rattle.file_tree.specs.declared.layout.TheConstants.{MARK_WORD, PAGES_WORD, STATE_WORD}
-use Rattle.migration.specs.declared.migrating.TheConstants.{PIN_MARK_WORD}
-use Rattle.card_core.specs.laws.CardLaws.{blocks_same}
+use Rattle.card_core.specs.laws.CardLaws.{blocks_same, pins_same}
 use Rattle.card_core.specs.Cards.{Card}
 use Rattle.card_core.specs.Comparing.{comparisons, ComparesNothing}
 use Rattle.card_core.specs.Guards.{allowed}
@@ -44,12 +43,11 @@ use Rattle.card_core.specs.Sessions.{Session}
 use Rattle.card_core.specs.Stages.{commits}
 use Rattle.card_core.specs.Standing.{card_of, IsCard}
 use Rattle.card_core.specs.Steps.{effect, refusals_of, served}
-use Rattle.card_core.specs.Working.{card_in, outcome, session_in, session_of, table_in, verified_in, IsCurrent}
+use Rattle.card_core.specs.Working.{card_in, outcome, session_in, session_of, table_in, IsCurrent}
 use Rattle.card_core.proofs.Doing.{doing-one}
 use Rattle.card_core.proofs.Entries.{card-tree, master-path}
 use Rattle.card_core.proofs.Guarding.{served-done, served-refused}
 use Rattle.card_core.proofs.Serves.{compared-none, reads-compared, torn, written}
-use Rattle.card_core.proofs.Verified.{marks-are}
 use Rattle.card_core.proofs.Words.{Went, went-after}
 
 module _ (m : List ℕ) (sized : IsMemory m) (words : IsCard m) where
@@ -98,7 +96,7 @@ module _ (m : List ℕ) (sized : IsMemory m) (words : IsCard m) where
     };
     tree = kept.0;
     pins = pages_kept m ended pins words.pins;
-    marks = λ pin lt. elsewhere (pin_page pin) PIN_MARK_WORD (λ is. let z : ⊥ = omega (arith, is) in z) ∙ words.marks pin lt;
+    marks = marks_kept m ended pins words.marks;
   }
 
   pub ended-card : card_of ended ≡ terminated_card (card_of m)
@@ -107,14 +105,15 @@ module _ (m : List ℕ) (sized : IsMemory m) (words : IsCard m) where
       let state = state-is in
       let tree = kept.2 in
       let blocks = blocks_same m ended (length-set m 2 1) format in
-      λ i. record { tree = tree i; pins = pins_kept m ended pins i; in_use = state i == 0; blocks = blocks i }
+      let same = pins_same m ended format pins in
+      λ i. record { tree = tree i; pins = same i; in_use = state i == 0; blocks = blocks i }
 
   pub ended-table : table ended ≡ table m
   ended-table = kept.1
 
 -- what the rule of the master file says, as the code asks it
-module _ (m : List ℕ) (x : Current) (current : IsCurrent (table m) x) (marks : List Bool) (are : marks ≡ verified_in x)
-    (permitted : Bool) (is : permitted ≡ is_allowed (tree_of m) (path_of (table m) 0) Terminate marks) where
+module _ (m : List ℕ) (x : Current) (permitted : Bool)
+    (is : permitted ≡ allowed (card_of m) (session_of (table m) x) (path_of (table m) 0) Terminate) where
   abbrev c : Card
   c = card_of m
 
@@ -122,11 +121,7 @@ module _ (m : List ℕ) (x : Current) (current : IsCurrent (table m) x) (marks :
   s = session_of (table m) x
 
   allowed-is : allowed c s [] Terminate ≡ permitted
-  allowed-is =
-      let tree = card-tree m in
-      let told = marks-are (table m) x current.marks ∙ sym are in
-      let path = master-path m in
-      (λ i. is_allowed (tree i) (sym path i) Terminate (told i)) ∙ sym is
+  allowed-is = (λ i. allowed c s (sym (master-path m) i) Terminate) ∙ sym is
 
   refusal-is : refused_by (terminate_card_refusals c s) ≡ (if not permitted then Some ACCESS_DENIED else None)
   refusal-is = ap (λ (b : Bool). if not b then Some ACCESS_DENIED else None) allowed-is
@@ -150,8 +145,8 @@ module _ (m : List ℕ) (x : Current) (current : IsCurrent (table m) x) (marks :
 
 -- A call that ends the use, where the rule allows it: first it only reads, and then it writes.
 module _ (old mid new : Memory) (ready : IsReady old) (words : IsCard (committed old)) (x : Current)
-    (current : IsCurrent (table_in old) x) (marks : List Bool) (are : marks ≡ verified_in x)
-    (is : true ≡ is_allowed (tree_of (committed old)) (path_of (table_in old) 0) Terminate marks) (reads : OnlyReads old mid)
+    (current : IsCurrent (table_in old) x)
+    (is : true ≡ allowed (card_in old) (session_in old x) (path_of (table_in old) 0) Terminate) (reads : OnlyReads old mid)
     (any_exit : (committed new ≡ committed mid) ⊎ (committed new ≡ with_card_terminated (committed mid)))
     (by_gate : CommitsByGate mid new) (reports : Reports mid new) (spends : WritesAtMost 4 mid.facts new.facts) where
   abbrev at_end : List ℕ
@@ -171,7 +166,7 @@ module _ (old mid new : Memory) (ready : IsReady old) (words : IsCard (committed
       (λ done. subst IsCard (sym (end-is done)) (ended-stands (committed old) size words)) any_exit
 
   doing : IsDoing (card_in old) (session_in old x) terminate_card_usage (card_in new)
-  doing = end-doing (committed old) x current marks are true is refl (card_in new) (⊎_elim
+  doing = end-doing (committed old) x true is refl (card_in new) (⊎_elim
       (λ (stays : committed new ≡ committed mid). inl (ap card_of (stays ∙ same)))
       (λ (done : committed new ≡ with_card_terminated (committed mid)).
       inr (ap card_of (end-is done) ∙ ended-card (committed old) size words))
@@ -206,5 +201,5 @@ module _ (old mid new : Memory) (ready : IsReady old) (words : IsCard (committed
         ready_now
         (subst (λ (t : List Entry). IsCurrent t x) (sym table-is) current) (λ _. places_same _ _ table-is) (omega arith)
         (omega (arith, spends.writes, reads.board.writes)) went compares
-        (end-done (committed old) x current marks are true is refl
+        (end-done (committed old) x true is refl
         ∙ (λ i. outcome (sym card-is i) (session_of (sym table-is i) x) [] DONE))

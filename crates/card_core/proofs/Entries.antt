@@ -158,7 +158,7 @@ current-path m words x current = by_file x.ef current.ef
 pub card_told : (m : List ℕ) (format : MemoryFormat) → IsHeaderIn format m → HoldsPins format m → TreeStands m
     → IsCardIn format m
 card_told m One header pins tree = record { header = header; tree = tree; pins = pins }
-card_told m Two header pins tree = record { header = header; tree = tree; pins = pins.0; marks = pins.1.each }
+card_told m Two header pins tree = record { header = header; tree = tree; pins = pins.0; marks = pins.1 }
 
 -- where there is no header there is no card
 pub no_header_no_card : (m : List ℕ) → TellsHeader m None → ¬ IsAnyCard m
@@ -171,6 +171,6 @@ no_pins_no_card m One header none = λ words. ⊎_elim
     (λ (new : IsCard m). let mark = new.header.mark in let old = header.mark in let z : ⊥ = omega (arith, mark, old) in z)
     (λ (old : IsOldCard m). none old.pins) words
 no_pins_no_card m Two header none = λ words. ⊎_elim
-    (λ (new : IsCard m). none (new.pins, record { each = new.marks }))
+    (λ (new : IsCard m). none (new.pins, new.marks))
     (λ (old : IsOldCard m). let mark = old.header.mark in let new = header.mark in let z : ⊥ = omega (arith, mark, new) in z)
     words

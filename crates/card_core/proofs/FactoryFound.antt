@@ -17,7 +17,6 @@ use Rattle.file_tree.specs.laws.Footprints.{tree_kept}
 use Rattle.card_core.specs.Cards.{Card}
 use Rattle.pin_store.specs.Pages.{pin_page, pin_word, KeepsPins}
 use Rattle.pin_store.specs.declared.layout.TheConstants.{PINS}
-use Rattle.migration.specs.declared.migrating.TheConstants.{PIN_MARK_WORD}
 use Rattle.card_core.specs.Standing.{StandsFor, card_of}
 use Rattle.card_core.specs.Finding.{words_found, Finds}
 use Rattle.card_core.specs.laws.CardLaws.{any_stands, any_tree, card_after}
@@ -87,14 +86,12 @@ module _ (m : List ℕ) (sized : IsMemory m) (shut : gate m ≡ 0) where
       let pins : KeepsPins m (words_found m) = record {
         words = λ pin place lt small. first_found (pin_page pin) place (omega (arith, lt)) (omega (arith, small));
       } in
-      let marks : (pin : ℕ) → pin < PINS → pin_word (words_found m) pin PIN_MARK_WORD ≡ pin_word m pin PIN_MARK_WORD =
-      λ pin lt. first_found (pin_page pin) PIN_MARK_WORD (omega (arith, lt)) (lit< tt) in
       record {
         has_card = record {
           journal = record { room = omega (arith, shut); places = places };
-          words = any_stands m (words_found m) size_found format_found state pins marks stands.words tree.0;
+          words = any_stands m (words_found m) size_found format_found state pins stands.words tree.0;
         };
-        card = card_after m (words_found m) size_found format_found state pins marks
+        card = card_after m (words_found m) size_found format_found state pins
             ∙ (λ i. record (card_of m) { tree = tree.2 i }) ∙ with_tree m ∙ stands.card;
       }
     where

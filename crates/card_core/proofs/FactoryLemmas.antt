@@ -32,13 +32,15 @@ use Rattle.file_tree.specs.laws.Nodes.{Node, node-used, node-free}
 use Rattle.file_tree.specs.laws.Costs.{space_counted}
 use Rattle.file_tree.specs.laws.Contents.{content-some}
 use Rattle.pin_store.specs.declared.layout.TheConstants.{PINS}
-use Rattle.pin_store.specs.Pages.{bytes_of_words, pin_at, pin_page, pin_word, pins_of, ArePinPages}
-use Rattle.migration.specs.declared.migrating.TheConstants.{PIN_MARK_WORD}
+use Rattle.pin_store.specs.Pages.{bytes_of_words, pin_at, pin_page, pin_word, unmarked_pins_of, ArePinPages, AreEnabled}
+use Rattle.pin_store.specs.Pins.{enabled_pin}
+use Rattle.pin_store.specs.laws.AllPins.{enabled_marks, enabled_unmarked}
+use Rattle.pin_store.specs.declared.layout.TheConstants.{PIN_MARK_WORD}
 use Rattle.card_core.specs.declared.memory_format.MemoryFormat.{MemoryFormat}
 use Rattle.card_core.specs.declared.memory_format.MemoryFormat.TheVariants.{One, Two}
 use Rattle.card_core.specs.Cards.{card_space, Pin}
-use Rattle.card_core.specs.Standing.{IsAnyCard, IsCard, IsOldCard, board_blocks, card_blocks, card_of, StandsFor}
-use Rattle.card_core.specs.laws.CardLaws.{blocks_new, blocks_old, marked_new, marked_old}
+use Rattle.card_core.specs.Standing.{IsAnyCard, IsCard, IsOldCard, board_blocks, card_blocks, card_of, card_pins, StandsFor}
+use Rattle.card_core.specs.laws.CardLaws.{blocks_new, blocks_old, marked_new, marked_old, pins_new, pins_old}
 use Rattle.card_core.specs.Factory.{factory_page, factory_block, factory_end, factory_header, factory_pin_page, factory_pin}
 use Rattle.card_core.specs.Factory.{factory_pin_mark, IsWritten}
 use Rattle.card_core.specs.Factory.{factory_card, factory_tree, factory_space, master_of_factory, file_of_factory}
@@ -244,7 +246,7 @@ module _ (format : MemoryFormat) (m : List ℕ) (sized : IsMemory m) (factory : 
   pub gate-factory : gate m ≡ 0
   gate-factory = place 73 0 (lit< tt) (lit< tt)
 
-  pin-is : (pin : ℕ) → pin < PINS → pin_at m pin ≡ factory_pin
+  pin-is : (pin : ℕ) → pin < PINS → enabled_pin (pin_at m pin) ≡ factory_pin
   unfolding pin_at
   pin-is pin lt =
       let tries = pin_word_is pin 0 lt (lit< tt) in
@@ -258,18 +260,20 @@ module _ (format : MemoryFormat) (m : List ℕ) (sized : IsMemory m) (factory : 
         tries = tries i;
         unblocking = bytes_of_words (third i) (fourth i);
         unblocking_tries = unblocking_tries i;
+        enabled = true;
       }
 
-  pins_from : (a n : ℕ) → a + n ≤ PINS → map (pin_at m) (range_with_len a n) ≡ replicate n factory_pin
+  pins_from : (a n : ℕ) → a + n ≤ PINS
+      → map (λ pin. enabled_pin (pin_at m pin)) (range_with_len a n) ≡ replicate n factory_pin
   pins_from a zero le = refl
   pins_from a (suc n) le = ap₂ (λ (pin : Pin) (rest : List Pin). pin ∷ rest) (pin-is a (omega (arith, le)))
       (pins_from (a + 1) n (omega (arith, le)))
 
-  card-by-blocks : card_blocks m ≡ board_blocks m → card_of m ≡ factory_card (board_blocks m)
-  unfolding card_of pins_of
-  card-by-blocks blocks =
+  card-by-blocks : card_blocks m ≡ board_blocks m → card_pins m ≡ unmarked_pins_of m → card_of m ≡ factory_card (board_blocks m)
+  unfolding card_of unmarked_pins_of
+  card-by-blocks blocks unmarked =
       let state : (word m HEADER_PAGE STATE_WORD == 0) ≡ true = ap (λ (w : ℕ). w == 0) state-is in
-      let all = pins_from 0 8 (lit≤ tt) in
+      let all = unmarked ∙ pins_from 0 8 (lit≤ tt) in
       let tree = tree-factory in
       λ i. record { tree = tree i; pins = all i; in_use = state i; blocks = blocks i }
 
@@ -297,6 +301,9 @@ module _ (m : List ℕ) (sized : IsMemory m) (factory : IsFactory One m) where
   blocks-one : card_blocks m ≡ board_blocks m
   blocks-one = blocks_old m (marked_old m differs)
 
+  pins-one : card_pins m ≡ unmarked_pins_of m
+  pins-one = pins_old m (marked_old m differs)
+
 -- and of format 2 where the header says
 module _ (m : List ℕ) (sized : IsMemory m) (factory : IsFactory Two m) where
   is-new : word m HEADER_PAGE MARK_WORD ≡ MARK
@@ -313,6 +320,9 @@ module _ (m : List ℕ) (sized : IsMemory m) (factory : IsFactory Two m) where
       let least = sized.least in
       omega (arith, count, end, told, least)
 
+  enabled-two : AreEnabled m
+  enabled-two = record { each = λ pin lt. mark-of Two m sized factory pin lt }
+
   words-two : IsCard m
   words-two = record {
     header = record {
@@ -322,7 +332,7 @@ module _ (m : List ℕ) (sized : IsMemory m) (factory : IsFactory Two m) where
     };
     tree = tree-stands Two m sized factory counted-two;
     pins = pins Two m sized factory;
-    marks = λ pin lt. mark-of Two m sized factory pin lt;
+    marks = enabled_marks m enabled-two;
   }
 
   blocks-two : card_blocks m ≡ board_blocks m
@@ -332,6 +342,9 @@ module _ (m : List ℕ) (sized : IsMemory m) (factory : IsFactory Two m) where
       let end = end_new m is-new in
       let told = told-end in
       omega (arith, was, count, end, told)
+
+  pins-two : card_pins m ≡ unmarked_pins_of m
+  pins-two = pins_new m (marked_new m is-new) ∙ enabled_unmarked m enabled-two
 
 pub words-factory : (format : MemoryFormat) (m : List ℕ) → IsMemory m → IsFactory format m → IsAnyCard m
 words-factory One m sized factory = inr (words-one m sized factory)
@@ -350,10 +363,14 @@ blocks-are : (format : MemoryFormat) (m : List ℕ) → IsMemory m → IsFactory
 blocks-are One m sized factory = blocks-one m sized factory
 blocks-are Two m sized factory = blocks-two m sized factory
 
+pins-are : (format : MemoryFormat) (m : List ℕ) → IsMemory m → IsFactory format m → card_pins m ≡ unmarked_pins_of m
+pins-are One m sized factory = pins-one m sized factory
+pins-are Two m sized factory = pins-two m sized factory
+
 -- The factory's memory stands for the factory's card.
 pub stands-factory : (format : MemoryFormat) (m : List ℕ) → IsMemory m → IsFactory format m → StandsFor m (factory_card (board_blocks m))
 stands-factory format m sized factory = record {
   shut = gate-factory format m sized factory;
   words = words-factory format m sized factory;
-  card = card-by-blocks format m sized factory (blocks-are format m sized factory);
+  card = card-by-blocks format m sized factory (blocks-are format m sized factory) (pins-are format m sized factory);
 }

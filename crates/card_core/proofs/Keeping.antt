@@ -9,7 +9,6 @@ use Rattle.file_tree.specs.Trees.{tree_of, TreeStands}
 use Rattle.file_tree.specs.declared.layout.TheConstants.{MARK_WORD, PAGES_WORD, STATE_WORD}
 use Rattle.pin_store.specs.Pages.{pin_page, pin_word, KeepsPins}
 use Rattle.pin_store.specs.declared.layout.TheConstants.{PINS}
-use Rattle.migration.specs.declared.migrating.TheConstants.{PIN_MARK_WORD}
 use Rattle.block_chain.specs.declared.layout.TheConstants.{HEADER_PAGE}
 use Rattle.card_core.specs.Standing.{card_of, IsCard}
 use Rattle.card_core.specs.laws.CardLaws.{card_after, card_stands}
@@ -39,11 +38,8 @@ module _ (m after : List ℕ) (sized : IsMemory m) (rest : KeepsRest m after) wh
   pins-kept : KeepsPins m after
   pins-kept = record { words = λ pin place lt few. pin-kept pin place lt (omega (arith, few)) }
 
-  marks-kept : (pin : ℕ) → pin < PINS → pin_word after pin PIN_MARK_WORD ≡ pin_word m pin PIN_MARK_WORD
-  marks-kept pin lt = pin-kept pin PIN_MARK_WORD lt (lit< tt)
-
   pub files-stand : IsCard m → TreeStands after → IsCard after
-  files-stand = card_stands m after rest.size format-kept state-kept pins-kept marks-kept
+  files-stand = card_stands m after rest.size format-kept state-kept pins-kept
 
   pub files-after : card_of after ≡ record (card_of m) { tree = tree_of after }
-  files-after = card_after m after rest.size format-kept state-kept pins-kept marks-kept
+  files-after = card_after m after rest.size format-kept state-kept pins-kept

@@ -19,7 +19,7 @@ use Rattle.apdu_core.specs.Requests.{Request, change_life_cycle}
 use Rattle.file_tree.specs.declared.entry.Entry.{Entry}
 use Rattle.file_tree.specs.Cards.{Body, File, Tree}
 use Rattle.file_tree.specs.Entries.{file_of, free_entry}
-use Rattle.file_tree.specs.States.{is_allowed, life_at, next_life, ChangesLife}
+use Rattle.file_tree.specs.States.{life_at, next_life, ChangesLife}
 use Rattle.card_core.specs.Cards.{card_space}
 use Rattle.card_core.specs.laws.CardLaws.{card_space_is}
 use Rattle.file_tree.specs.Table.{table, entry_in, free_entries, path_of, IsUsed}
@@ -44,11 +44,10 @@ use Rattle.card_core.specs.Stages.{commits}
 use Rattle.card_core.specs.LifeCycles.{life_commits}
 use Rattle.card_core.specs.Standing.{card_of, IsCard}
 use Rattle.card_core.specs.Steps.{effect, refusals_of, served}
-use Rattle.card_core.specs.Working.{current_at, outcome, session_of, verified_in, IsCurrent, IsElementary}
+use Rattle.card_core.specs.Working.{current_at, outcome, session_of, IsCurrent, IsElementary}
 use Rattle.card_core.proofs.Doing.{doing-one}
 use Rattle.card_core.proofs.Entries.{card-tree, current-entry, current-path, selecting-entry}
 use Rattle.card_core.proofs.Keeping.{files-after, files-stand}
-use Rattle.card_core.proofs.Verified.{marks-are}
 
 -- two lists of one length, alike where a test looks
 count-alike : {T : Type 0} (p : T → Bool) (d : T) (ys xs : List T) → length ys ≡ length xs
@@ -191,12 +190,6 @@ module _ (m : List ℕ) (words : IsCard m) (x : Current) (current : IsCurrent (t
   unfolding file_of
   fits-is = ap (λ (file : File). is_for change file.kind) file-is ∙ for-kind change entry.kind _ _ _
 
-  allowed-is : allowed c s path (change_bit change) ≡ is_allowed (tree_of m) path (change_bit change) (verified_in x)
-  allowed-is =
-      let marks = marks-are (table m) x current.marks in
-      let tree = card-tree m in
-      λ i. is_allowed (tree i) path (change_bit change) (marks i)
-
   -- what refuses it
   refusal-is : refused_by (change_refusals c s change subject) ≡ result_err (change_at m x change e)
   refusal-is =
@@ -205,9 +198,10 @@ module _ (m : List ℕ) (words : IsCard m) (x : Current) (current : IsCurrent (t
       (next_life c.tree (unwrap_or (place i) []) (command_of change))
       (is_for change (file_at c.tree (unwrap_or (place i) [])).kind)
       (allowed c s (unwrap_or (place i) []) (change_bit change)))
-      ∙ (λ i. verdict false (no_subject subject) (next_life (tree i) path (command_of change)) (fits-is i) (allowed-is i))
+      ∙ (λ i. verdict false (no_subject subject) (next_life (tree i) path (command_of change)) (fits-is i)
+      (allowed c s path (change_bit change)))
       ∙ by_tests (no_subject subject) change e entry (next_life (tree_of m) path (command_of change))
-      (is_allowed (tree_of m) path (change_bit change) (verified_in x))
+      (allowed c s path (change_bit change))
 
   -- what is found
   pub found-is : (answer : Result Changed Sw) → answer ≡ change_at m x change e → MatchResult answer
@@ -217,12 +211,12 @@ module _ (m : List ℕ) (words : IsCard m) (x : Current) (current : IsCurrent (t
   found-is (Ok changed) is = by_next (next_life (tree_of m) path (command_of change)) refl is
     where
       by_next : (next : Option LifeCycle) → next_life (tree_of m) path (command_of change) ≡ next
-          → Ok changed ≡ changed_by change e entry next (is_allowed (tree_of m) path (change_bit change) (verified_in x))
+          → Ok changed ≡ changed_by change e entry next (allowed c s path (change_bit change))
           → IsChanged m x change subject changed
       by_next None none ok = absurd (let z : ⊥ = cc in z)
       by_next (Some life) some ok =
           subst (λ (found : Changed). IsChanged m x change subject found)
-          (sym (change-is change e entry life (is_allowed (tree_of m) path (change_bit change) (verified_in x)) changed ok))
+          (sym (change-is change e entry life (allowed c s path (change_bit change)) changed ok))
           (record {
             entry_is = refl;
             used = used;

@@ -19,17 +19,18 @@ use Rattle.file_tree.specs.declared.space.FreeSpace.{FreeSpace}
 use Rattle.file_tree.specs.laws.Costs.{costs_fit}
 use Rattle.file_tree.specs.laws.Formats.{count_is, end_new}
 use Rattle.file_tree.specs.laws.Migrating.{old_count}
-use Rattle.pin_store.specs.laws.AllPins.{pages_kept, pins_kept}
+use Rattle.pin_store.specs.laws.AllPins.{enabled_marks, enabled_unmarked, secrets_kept, secrets_pages}
 use Rattle.migration.specs.Migrating.{IsNew, Migrates, migration_writes}
 use Rattle.card_core.specs.Cards.{card_space}
 use Rattle.card_core.specs.Finding.{words_found, FindsAgain}
-use Rattle.card_core.specs.Standing.{card_blocks, card_of, IsAnyCard, IsCard, IsOldCard}
+use Rattle.card_core.specs.Standing.{card_blocks, card_of, card_pins, IsAnyCard, IsCard, IsOldCard}
 use Rattle.card_core.specs.Working.{IsCardIn, TellsCard}
 use Rattle.card_core.specs.declared.check.Checked.{Checked}
 use Rattle.card_core.specs.declared.memory_format.MemoryFormat.{MemoryFormat}
 use Rattle.card_core.specs.declared.memory_format.MemoryFormat.TheVariants.{One, Two}
 use Rattle.card_core.specs.Starting.{KeepsFormat, TakesAllPages, power_on_writes}
-use Rattle.card_core.specs.laws.CardLaws.{blocks_new, blocks_old, card_format, card_space_is, marked_new, old_format, old_mark}
+use Rattle.card_core.specs.laws.CardLaws.{blocks_new, blocks_old, card_format, card_space_is, marked_new, marked_old, old_format, old_mark}
+use Rattle.card_core.specs.laws.CardLaws.{pins_new, pins_old}
 
 -- the memory is as it was, or that of a card of format 1 which is still one, or is one of format 2
 abbrev pub IsRenewed : List ℕ → List ℕ → Type 0
@@ -49,7 +50,7 @@ module _ (m after : List ℕ) (sized : IsMemory m) (old : IsOldCard m) (migrates
       state = let was = old.header.state in let is = migrates.keeps.state in omega (arith, is, was);
     };
     tree = migrates.keeps.stands;
-    pins = pages_kept m after migrates.keeps.pins old.pins;
+    pins = secrets_pages m after migrates.keeps.pins old.pins;
   }
 
   -- where it has become one of format 2
@@ -61,8 +62,8 @@ module _ (m after : List ℕ) (sized : IsMemory m) (old : IsOldCard m) (migrates
       state = let was = old.header.state in let is = migrates.keeps.state in omega (arith, is, was);
     };
     tree = migrates.keeps.stands;
-    pins = pages_kept m after migrates.keeps.pins old.pins;
-    marks = new.pins;
+    pins = secrets_pages m after migrates.keeps.pins old.pins;
+    marks = enabled_marks after (record { each = new.pins });
   }
 
   any-migrated : IsAnyCard after
@@ -84,11 +85,22 @@ module _ (m after : List ℕ) (sized : IsMemory m) (old : IsOldCard m) (migrates
       let pages = new.pages in
       omega (arith, was, now, count, end, pages, same)) migrates.format
 
+  -- and the same PINs: of format 1 all are enabled, and so their marks say in format 2
+  pins-are : card_pins after ≡ card_pins m
+  pins-are =
+      let same = secrets_kept m after migrates.keeps.pins ∙ sym (pins_old m (old_format m old)) in
+      ⊎_elim
+      (λ (kept : word after HEADER_PAGE MARK_WORD ≡ word m HEADER_PAGE MARK_WORD).
+      pins_old after (old_format after (still-old kept)) ∙ same)
+      (λ (new : IsNew after).
+      pins_new after (marked_new after new.mark) ∙ enabled_unmarked after (record { each = new.pins }) ∙ same)
+      migrates.format
+
   card-migrated : card_of after ≡ card_of m
   unfolding card_of
   card-migrated =
       let tree = migrates.keeps.tree in
-      let pins = pins_kept m after migrates.keeps.pins in
+      let pins = pins-are in
       let state = migrates.keeps.state in
       let blocks = blocks-are in
       λ i. record { tree = tree i; pins = pins i; in_use = state i == 0; blocks = blocks i }

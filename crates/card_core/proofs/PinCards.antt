@@ -1,8 +1,7 @@
 -- A PIN is set in a memory that stands for a card.
-use Rattle.std.proofs.Common.{◌≡◌, ◌⊎◌, ◌<◌, ◌≤◌, ◌+◌, ◌-◌, ◌==◌, ℕ, List, ◌∙◌, arith, inl, inr, lit<, ⊎_elim}
+use Rattle.std.proofs.Common.{◌≡◌, ◌⊎◌, ◌<◌, ◌≤◌, ◌+◌, ◌-◌, ◌==◌, ℕ, List, length, slice_set, sym, ◌∙◌, ap, arith, inl, inr, lit<, ⊎_elim}
 use Rattle.std.proofs.Common.{slice_index_or}
 use Rattle.std.proofs.lemmas.List.FromFn.{get_or-map-range_with_len}
-use Rattle.std.proofs.lemmas.Bool.{cases_lt}
 use Rattle.nvm_board.specs.Facts.{address}
 use Rattle.nvm_board.specs.Facts.{IsMemory}
 use Rattle.block_chain.specs.Words.{word}
@@ -12,26 +11,25 @@ use Rattle.file_tree.specs.Formats.{SameFormat}
 use Rattle.file_tree.specs.declared.layout.TheConstants.{MARK_WORD, PAGES_WORD}
 use Rattle.file_tree.specs.laws.Footprints.{tree_kept}
 use Rattle.card_rules.specs.Pins.{IsPinNumber}
-use Rattle.pin_store.specs.Pages.{pin_at, pin_page, pin_word, pins_of, ArePinPages, SetsPin}
+use Rattle.pin_store.specs.Pages.{pin_at, pin_page, pins_of, ArePinPages, SetsPin}
 use Rattle.pin_store.specs.declared.layout.TheConstants.{PINS, PIN_WORDS}
-use Rattle.pin_store.specs.laws.AllPins.{pins_set}
+use Rattle.pin_store.specs.laws.AllPins.{marks_set, pins_set}
 use Rattle.card_core.specs.Cards.{Pin}
 use Rattle.card_core.specs.Attempts.{no_pin, pin_of, with_pin_of}
-use Rattle.migration.specs.declared.migrating.TheConstants.{PIN_MARK_WORD}
 use Rattle.card_core.specs.Standing.{card_of, IsCard}
-use Rattle.card_core.specs.laws.CardLaws.{blocks_same}
+use Rattle.card_core.specs.laws.CardLaws.{blocks_same, card_format, card_pins_are, marked_new, pins_new}
 
 -- PIN n of the card is the one of its page
 pin-placed : (m : List ℕ) (k : ℕ) → k < PINS → slice_index_or (pins_of m) k no_pin ≡ pin_at m k
 unfolding pins_of
 pin-placed m k small = let place : 0 + k ≡ k = omega arith in get_or-map-range_with_len (pin_at m) 0 PINS k k no_pin small place
 
-pub pin-is : (m : List ℕ) (n : ℕ) → IsPinNumber n → pin_of (card_of m) n ≡ pin_at m (n - 1)
-unfolding card_of
-pin-is m n number =
+pub pin-is : (m : List ℕ) (n : ℕ) → IsCard m → IsPinNumber n → pin_of (card_of m) n ≡ pin_at m (n - 1)
+pin-is m n words number =
     let first = number.first in
     let last = number.last in
-    pin-placed m (n - 1) (omega (arith, first, last))
+    ap (λ (pins : List Pin). slice_index_or pins (n - 1) no_pin) (card_pins_are m words)
+    ∙ pin-placed m (n - 1) (omega (arith, first, last))
 
 module _ (m after : List ℕ) (sized : IsMemory m) (words : IsCard m) (n : ℕ) (number : IsPinNumber n) (now : Pin)
     (sets : SetsPin m (n - 1) now after) where
@@ -50,17 +48,6 @@ module _ (m after : List ℕ) (sized : IsMemory m) (words : IsCard m) (n : ℕ) 
       let within = small in
       let le : address (pin_page (n - 1)) PIN_WORDS ≤ address page place = omega (arith, high, within) in
       sets.elsewhere (address page place) (inr le)
-
-  -- nor any mark of a PIN
-  mark-kept : (pin : ℕ) → pin < PINS → pin_word after pin PIN_MARK_WORD ≡ pin_word m pin PIN_MARK_WORD
-  mark-kept pin lt = ⊎_elim
-      (λ (low : pin < n - 1).
-      let before : address (pin_page pin) PIN_MARK_WORD < address (pin_page (n - 1)) 0 = omega (arith, low) in
-      sets.elsewhere (address (pin_page pin) PIN_MARK_WORD) (inl before))
-      (λ (high : n - 1 ≤ pin).
-      let behind : address (pin_page (n - 1)) PIN_WORDS ≤ address (pin_page pin) PIN_MARK_WORD = omega (arith, high) in
-      sets.elsewhere (address (pin_page pin) PIN_MARK_WORD) (inr behind))
-      (cases_lt pin (n - 1))
 
   format : SameFormat m after
   format = record {
@@ -88,9 +75,11 @@ module _ (m after : List ℕ) (sized : IsMemory m) (words : IsCard m) (n : ℕ) 
   pin-set =
       let kept = tree_kept m after sized tree-words words.tree in
       let blocks = blocks_same m after sets.size format in
+      let pins = pins_new after (marked_new after (format.mark ∙ words.header.mark)) ∙ pins_set m after (n - 1) now small sets
+      ∙ sym (ap (λ (all : List Pin). slice_set all (n - 1) now) (pins_new m (card_format m words))) in
       λ i. record {
         tree = kept.2 i;
-        pins = pins_set m after (n - 1) now small sets i;
+        pins = pins i;
         in_use = state i == 0;
         blocks = blocks i;
       }
@@ -104,7 +93,7 @@ module _ (m after : List ℕ) (sized : IsMemory m) (words : IsCard m) (n : ℕ) 
     };
     tree = (tree_kept m after sized tree-words words.tree).0;
     pins = pages;
-    marks = λ pin lt. mark-kept pin lt ∙ words.marks pin lt;
+    marks = marks_set m after (n - 1) now sets words.marks;
   }
 
   pub pin-table : table after ≡ table m

@@ -142,7 +142,7 @@ pub marked-none : marked no_pins ≡ empty
 marked-none = refl
 
 -- a list by its elements
-by_places : (marks : List Bool) (f : ℕ → Bool) (a : ℕ)
+pub by_places : (marks : List Bool) (f : ℕ → Bool) (a : ℕ)
     → ((k : ℕ) → k < length marks → f (a + k) ≡ slice_index_or marks k false)
     → map f (range_with_len a (length marks)) ≡ marks
 by_places [] f a each = refl

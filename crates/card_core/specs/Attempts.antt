@@ -1,14 +1,15 @@
 -- An attempt at a secret of a PIN, which the PIN law and the guess law are about: what is shown, what it costs, and the cards that
 -- it passes (ISO/IEC 7816-4, clause 11, basic security handling).
-use Rattle.std.specs.Prelude.{ℕ, ◌+◌, ◌-◌, ◌&&◌, not, nat_eq, Bool, if◌then◌else◌, List, [], ◌∷◌, slice_index_or, slice_set}
+use Rattle.std.specs.Prelude.{ℕ, ◌+◌, ◌-◌, ◌&&◌, not, nat_eq, Bool, true, if◌then◌else◌, List, [], ◌∷◌, slice_index_or, slice_set}
 use Rattle.std.specs.Cmp.Lexicographic.{pointwise}
 use Rattle.pin_store.specs.declared.layout.TheConstants.{PINS}
 use Rattle.pin_store.specs.Pins.{charged_pin, kept, tries_left}
 use Rattle.card_core.specs.Cards.{Card, Pin}
+use Rattle.card_core.specs.Outcomes.{Refusal}
 
 -- PIN n of a card: PIN 1 is the first
 abbrev pub no_pin : Pin
-no_pin = record { value = []; tries = 0; unblocking = []; unblocking_tries = 0 }
+no_pin = record { value = []; tries = 0; unblocking = []; unblocking_tries = 0; enabled = true }
 
 abbrev pub pin_of : Card → ℕ → Pin
 pin_of c n = slice_index_or c.pins (n - 1) no_pin
@@ -24,12 +25,13 @@ value_of n = n - 1
 abbrev pub unblocking_of : ℕ → ℕ
 unblocking_of n = PINS + (n - 1)
 
--- A secret of a PIN is shown: which one, and what is shown of it; what the PIN becomes where that is right, and whether a new
--- value is set with it; and whether it is no longer verified where it is wrong.
+-- A secret of a PIN is shown: which one, and what is shown of it; what refuses that by whether the PIN is enabled; what the PIN
+-- becomes where it is right, and whether more than its tries is set then; and whether it is no longer verified where it is wrong.
 pub record Attempt : Type 0 where
   pub pin : ℕ
   pub secret : ℕ
   pub shown : List ℕ
+  pub unusable : Pin → List Refusal
   pub becomes : Pin → Pin
   pub renews : Bool
   pub unverifies : Bool
@@ -54,10 +56,10 @@ settled_card c a = let charged = charged_card c a in with_pin_of charged a.pin (
 abbrev pub attempt_commits : Card → Attempt → List Card
 attempt_commits c a = charged_card c a ∷ (if is_right c a then settled_card c a ∷ [] else [])
 
--- those that the word of the tries commits: the charge, and where no new value is set what a right value renews
+-- those that the word of the tries commits: the charge, and what a right value renews, where that is the tries alone
 abbrev pub tries_commits : Card → Attempt → List Card
 tries_commits c a = charged_card c a ∷ (if is_right c a && not a.renews then settled_card c a ∷ [] else [])
 
--- and those that a transaction commits: a new value, with the tries
+-- and those that a transaction commits: a new value or the mark, with the tries
 abbrev pub value_commits : Card → Attempt → List Card
 value_commits c a = if is_right c a && a.renews then settled_card c a ∷ [] else []

@@ -7,15 +7,16 @@ use Rattle.apdu_core.specs.declared.files.Subject.{Subject}
 use Rattle.apdu_core.specs.declared.life_cycles.LifeCycleChange.{LifeCycleChange}
 use Rattle.apdu_core.specs.declared.life_cycles.LifeCycleChange.TheVariants.{Activate, Deactivate, TerminateDf, TerminateEf}
 use Rattle.file_tree.specs.declared.entry.Entry.{Entry}
-use Rattle.file_tree.specs.States.{is_allowed, next_life}
+use Rattle.file_tree.specs.States.{next_life}
 use Rattle.file_tree.specs.Table.{table, entry_in, path_of, IsUsed}
 use Rattle.file_tree.specs.Trees.{tree_of}
 use Rattle.card_core.specs.declared.current.Current.{Current}
 use Rattle.card_core.specs.declared.life_cycles.Changed.{Changed}
+use Rattle.card_core.specs.Guards.{allowed}
 use Rattle.card_core.specs.LifeCycles.{change_bit, change_refusals, changed_file, command_of}
 use Rattle.card_core.specs.Outcomes.{refused_by}
 use Rattle.card_core.specs.Standing.{card_of}
-use Rattle.card_core.specs.Working.{session_of, verified_in}
+use Rattle.card_core.specs.Working.{session_of}
 
 -- the entry of the file that a command is about where it names none
 abbrev pub current_changed : Current → LifeCycleChange → Option ℕ
@@ -44,7 +45,7 @@ abbrev pub change_at : List ℕ → Current → LifeCycleChange → ℕ → Resu
 change_at m x change e =
     let path = path_of (table m) e in
     changed_by change e (entry_in (table m) e) (next_life (tree_of m) path (command_of change))
-    (is_allowed (tree_of m) path (change_bit change) (verified_in x))
+    (allowed (card_of m) (session_of (table m) x) path (change_bit change))
 
 -- A file whose life cycle a command changes, and that doesn't refuse it, has this entry, and this state after the change.
 pub record IsChanged (m : List ℕ) (x : Current) (change : LifeCycleChange) (subject : Subject) (changed : Changed) : Type 0 where

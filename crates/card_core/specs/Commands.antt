@@ -2,13 +2,13 @@
 use Rattle.apdu_core.specs.Requests.{Request, select, read_binary, update_binary, create_file, delete_file}
 use Rattle.apdu_core.specs.Requests.{read_record, update_record, append_record, search_record, increase}
 use Rattle.apdu_core.specs.Requests.{change_life_cycle, terminate_card_usage, verify, change_reference_data}
-use Rattle.apdu_core.specs.Requests.{reset_retry_counter}
+use Rattle.apdu_core.specs.Requests.{reset_retry_counter, change_requirement}
 use Rattle.card_core.specs.Behaviours.{Behaviour}
 use Rattle.card_core.specs.Binaries.{on_read_binary, on_update_binary}
 use Rattle.card_core.specs.Files.{on_create_file, on_delete_file}
 use Rattle.card_core.specs.Increasing.{on_increase}
 use Rattle.card_core.specs.LifeCycles.{on_change_life_cycle, on_terminate_card_usage}
-use Rattle.card_core.specs.Pins.{on_change_reference_data, on_reset_retry_counter, on_verify}
+use Rattle.card_core.specs.Pins.{on_change_reference_data, on_change_requirement, on_reset_retry_counter, on_verify}
 use Rattle.card_core.specs.Records.{on_append_record, on_read_record, on_search_record, on_update_record}
 use Rattle.card_core.specs.Selecting.{on_select}
 
@@ -28,3 +28,4 @@ behaviour_of terminate_card_usage = on_terminate_card_usage
 behaviour_of (verify pin shown) = on_verify pin shown
 behaviour_of (change_reference_data pin shown new) = on_change_reference_data pin shown new
 behaviour_of (reset_retry_counter pin values) = on_reset_retry_counter pin values
+behaviour_of (change_requirement change pin shown) = on_change_requirement change pin shown

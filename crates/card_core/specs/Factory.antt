@@ -86,6 +86,7 @@ factory_pin = record {
   tries = 3;
   unblocking = 0x31 ∷ 0x32 ∷ 0x33 ∷ 0x34 ∷ 0x35 ∷ 0x36 ∷ 0x37 ∷ 0x38 ∷ [];
   unblocking_tries = 10;
+  enabled = true;
 }
 
 -- the master file: activated, without a name, rule 27 18 00 00 00

@@ -1,5 +1,5 @@
 -- What refuses a command by the life cycle of a file, and by its access rule (ISO/IEC 7816-4, 7.4.10 and 9.3.3).
-use Rattle.std.specs.Prelude.{Bool, not, is_none}
+use Rattle.std.specs.Prelude.{Bool, List, map, not, is_none}
 use Rattle.card_rules.specs.declared.access_mode.AccessBit.{AccessBit}
 use Rattle.card_rules.specs.declared.life_cycle.LifeCycleCommand.{LifeCycleCommand}
 use Rattle.card_rules.specs.declared.status.TheConstants.Sw.{ACCESS_DENIED, CONDITIONS_NOT_SATISFIED}
@@ -23,9 +23,13 @@ no_next_life c path command = record {
   status = CONDITIONS_NOT_SATISFIED;
 }
 
--- whether the rule of the file at a path allows what a bit stands for, in its state and by the PINs that are verified
+-- the PINs that are disabled, each of PIN 1 to 8 marked
+abbrev pub disabled_of : Card → List Bool
+disabled_of c = map (λ pin. not pin.enabled) c.pins
+
+-- whether the rule of the file at a path allows what a bit stands for, in its state, by the PINs that are verified or disabled
 abbrev pub allowed : Card → Session → Path → AccessBit → Bool
-allowed c s path bit = is_allowed c.tree path bit (marks_of s.verified)
+allowed c s path bit = is_allowed c.tree path bit (marks_of s.verified) (disabled_of c)
 
 abbrev pub unless_allowed : Bool → Refusal
 unless_allowed allowed = record { applies = not allowed; status = ACCESS_DENIED }

@@ -1,17 +1,32 @@
--- Commands on PINs: VERIFY, CHANGE REFERENCE DATA and RESET RETRY COUNTER (ISO/IEC 7816-4, 11.5 and 11.6).
-use Rattle.std.specs.Prelude.{ℕ, ◌+◌, ◌==◌, Bool, true, false, List, [], ◌∷◌, Option, option_map, Some, None}
+-- Commands on PINs: VERIFY, CHANGE REFERENCE DATA, RESET RETRY COUNTER, ENABLE and DISABLE VERIFICATION REQUIREMENT (ISO/IEC
+-- 7816-4, 11.5 and 11.6).
+use Rattle.std.specs.Prelude.{ℕ, ◌+◌, ◌==◌, Bool, true, false, not, List, [], ◌∷◌, Option, option_map, Some, None}
 use Rattle.std.specs.FinSet.{insert, remove}
 use Rattle.std.specs.Option.{option_map_or}
 use Rattle.card_rules.specs.declared.status.Sw.{Sw}
-use Rattle.card_rules.specs.declared.status.TheConstants.Sw.{DONE, METHOD_BLOCKED}
+use Rattle.card_rules.specs.declared.status.TheConstants.Sw.{CONDITIONS_NOT_SATISFIED, DONE, METHOD_BLOCKED}
+use Rattle.card_rules.specs.declared.status.TheConstants.Sw.{REFERENCE_DATA_NOT_USABLE}
+use Rattle.apdu_core.specs.declared.pins.RequirementChange.{RequirementChange}
+use Rattle.apdu_core.specs.declared.pins.RequirementChange.TheVariants.{Disable, Enable}
 use Rattle.undo_journal.specs.Spending.{transaction_writes}
-use Rattle.pin_store.specs.Pins.{changed_pin, reset_pin, verified_pin}
+use Rattle.pin_store.specs.Pins.{changed_pin, marked_pin, reset_pin, verified_pin}
 pub use Rattle.card_core.specs.Attempts.{Attempt, no_pin, pin_of, unblocking_of, value_of}
 use Rattle.card_core.specs.Attempts.{attempt_commits, charged_card, is_right, settled_card, tries_of}
 use Rattle.card_core.specs.Behaviours.{Behaviour}
-use Rattle.card_core.specs.Cards.{Card}
-use Rattle.card_core.specs.Outcomes.{Outcome, Refusals, no_refusals, only_status}
+use Rattle.card_core.specs.Cards.{Card, Pin}
+use Rattle.card_core.specs.Outcomes.{Outcome, Refusal, Refusals, no_refusals, only_status}
 use Rattle.card_core.specs.Sessions.{Session}
+
+-- the value of a disabled PIN is of no use, but to enable it; one that is enabled already isn't enabled again
+abbrev pub while_enabled : Pin → List Refusal
+while_enabled pin = record { applies = not pin.enabled; status = REFERENCE_DATA_NOT_USABLE } ∷ []
+
+abbrev pub while_disabled : Pin → List Refusal
+while_disabled pin = record { applies = pin.enabled; status = CONDITIONS_NOT_SATISFIED } ∷ []
+
+-- the value that unblocks it is of use in either case
+abbrev pub in_any_case : Pin → List Refusal
+in_any_case pin = []
 
 -- what each command shows, and what comes of it
 abbrev pub verifying : ℕ → List ℕ → Attempt
@@ -19,6 +34,7 @@ verifying n shown = record {
   pin = n;
   secret = value_of n;
   shown = shown;
+  unusable = while_enabled;
   becomes = verified_pin;
   renews = false;
   unverifies = true;
@@ -29,6 +45,7 @@ changing n shown new = record {
   pin = n;
   secret = value_of n;
   shown = shown;
+  unusable = while_enabled;
   becomes = changed_pin new;
   renews = true;
   unverifies = true;
@@ -39,19 +56,41 @@ resetting n shown new = record {
   pin = n;
   secret = unblocking_of n;
   shown = shown;
+  unusable = in_any_case;
   becomes = reset_pin new;
   renews = true;
   unverifies = false;
+}
+
+-- what DISABLE and ENABLE VERIFICATION REQUIREMENT make of the mark of a PIN, and for which PIN they are
+abbrev pub is_enabled_by : RequirementChange → Bool
+is_enabled_by Disable = false
+is_enabled_by Enable = true
+
+abbrev pub unusable_by : RequirementChange → Pin → List Refusal
+unusable_by Disable = while_enabled
+unusable_by Enable = while_disabled
+
+abbrev pub marking : RequirementChange → ℕ → List ℕ → Attempt
+marking change n shown = record {
+  pin = n;
+  secret = value_of n;
+  shown = shown;
+  unusable = unusable_by change;
+  becomes = marked_pin (is_enabled_by change);
+  renews = true;
+  unverifies = true;
 }
 
 -- 63CX: X tries are left
 abbrev pub tries_told : ℕ → Sw
 tries_told tries = record { 0 = 0x63C0 + tries }
 
--- an attempt is refused where no try is left, and nothing is compared then; a question for the tries never is
+-- An attempt is refused where no try is left, and then where the PIN is disabled or enabled; nothing is compared then, and no try
+-- is taken away. A question for the tries is never refused.
 abbrev pub attempt_refusals : Card → Attempt → Refusals
 attempt_refusals c a = record no_refusals {
-  limits = record { applies = tries_of c a.pin a.secret == 0; status = METHOD_BLOCKED } ∷ [];
+  limits = record { applies = tries_of c a.pin a.secret == 0; status = METHOD_BLOCKED } ∷ a.unusable (pin_of c a.pin);
 }
 
 abbrev pub pin_refusals : Card → Option Attempt → Refusals
@@ -96,7 +135,8 @@ pin_commits c None = []
 pin_commits c (Some a) = attempt_commits c a
 
 -- A charge is one write by itself. After a match VERIFY sets the tries by another one, CHANGE REFERENCE DATA sets three words in a
--- transaction, the tries and then the value, and RESET RETRY COUNTER four successive ones.
+-- transaction, the tries and then the value, RESET RETRY COUNTER four successive ones, ENABLE and DISABLE VERIFICATION REQUIREMENT
+-- two, the tries and then the mark.
 abbrev pub verify_writes : ℕ
 verify_writes = 1 + 1
 
@@ -105,6 +145,9 @@ change_writes = 1 + transaction_writes 3 2
 
 abbrev pub reset_writes : ℕ
 reset_writes = 1 + transaction_writes 4 1
+
+abbrev pub mark_writes : ℕ
+mark_writes = 1 + transaction_writes 2 2
 
 -- a command on a secret of PIN n: it shows the secret, by at most so many writes, or asks for the tries that are left of it
 abbrev pub shows : ℕ → ℕ → Option Attempt → ℕ → Behaviour
@@ -125,3 +168,6 @@ on_change_reference_data n shown new = shows n (value_of n) (Some (changing n sh
 abbrev pub on_reset_retry_counter : ℕ → Option (List ℕ × List ℕ) → Behaviour
 on_reset_retry_counter n values =
     shows n (unblocking_of n) (option_map (λ values. resetting n values.0 values.1) values) reset_writes
+
+abbrev pub on_change_requirement : RequirementChange → ℕ → List ℕ → Behaviour
+on_change_requirement change n shown = shows n (value_of n) (Some (marking change n shown)) mark_writes

@@ -7,12 +7,10 @@ use Rattle.undo_journal.specs.Undo.{gate}
 use Rattle.block_chain.specs.Words.{word}
 use Rattle.file_tree.specs.Formats.{block_count, is_format_2}
 use Rattle.file_tree.specs.Trees.{tree_of, TreeStands}
-use Rattle.pin_store.specs.Pages.{pin_word, pins_of, ArePinPages}
-use Rattle.pin_store.specs.declared.layout.TheConstants.{PINS}
+use Rattle.pin_store.specs.Pages.{pins_of, unmarked_pins_of, AreMarks, ArePinPages}
 use Rattle.block_chain.specs.declared.layout.TheConstants.{FIRST_BLOCK_PAGE, HEADER_PAGE}
 use Rattle.file_tree.specs.declared.layout.TheConstants.{MARK, MARK_WORD, OLD_END_PAGE, OLD_MARK, PAGES_WORD, STATE_WORD}
-use Rattle.migration.specs.declared.migrating.TheConstants.{PIN_MARK_WORD}
-use Rattle.card_core.specs.Cards.{Card}
+use Rattle.card_core.specs.Cards.{Card, Pin}
 
 -- the header of format 2: the mark "TSC2"; the page where the blocks end, 1,024 at least; and the state, 0 in use or 1 terminated
 pub record IsHeader (m : List ℕ) : Type 0 where
@@ -21,12 +19,12 @@ pub record IsHeader (m : List ℕ) : Type 0 where
   pub state : word m HEADER_PAGE STATE_WORD ≤ 1
 
 -- The words are those of a card of format 2: a header; entries that make a tree, over chains that hold each block once; PINs,
--- each with the mark 1.
+-- each with a mark.
 pub record IsCard (m : List ℕ) : Type 0 where
   pub header : IsHeader m
   pub tree : TreeStands m
   pub pins : ArePinPages m
-  pub marks : (pin : ℕ) → pin < PINS → pin_word m pin PIN_MARK_WORD ≡ 1
+  pub marks : AreMarks m
 
 -- the header of format 1: the mark "TSC1", and the state
 pub record IsOldHeader (m : List ℕ) : Type 0 where
@@ -52,11 +50,15 @@ board_blocks m = pages_of m - FIRST_BLOCK_PAGE
 unfoldable pub card_blocks : List ℕ → ℕ
 card_blocks m = if is_format_2 m then block_count m else board_blocks m
 
+-- its PINs: of format 1, whose pages have no marks, all are enabled
+unfoldable pub card_pins : List ℕ → List Pin
+card_pins m = if is_format_2 m then pins_of m else unmarked_pins_of m
+
 -- the card that the words of a card stand for
 unfoldable pub card_of : List ℕ → Card
 card_of m = record {
   tree = tree_of m;
-  pins = pins_of m;
+  pins = card_pins m;
   in_use = word m HEADER_PAGE STATE_WORD == 0;
   blocks = card_blocks m;
 }

@@ -2,13 +2,14 @@
 use Rattle.std.specs.Prelude.{◌≡◌, ◌≢◌, ◌⊎◌, ◌<◌, ◌≤◌, ◌+◌, ◌*◌, ◌==◌, ◌&&◌, ℕ, Bool, true, false, not, nat_lt}
 use Rattle.std.specs.Prelude.{nat_le, if◌then◌else◌}
 use Rattle.std.specs.Prelude.{◌||◌, ◌-◌, ◌++◌, ◌∷◌, slice_set, IsTrue, List, [], length, Option, Some}
-use Rattle.std.specs.Prelude.{None, option_map, unwrap_or, IfSome}
+use Rattle.std.specs.Prelude.{None, map, option_map, unwrap_or, IfSome}
 use Rattle.card_rules.specs.declared.life_cycle.LifeCycle.{LifeCycle}
 use Rattle.card_rules.specs.declared.life_cycle.LifeCycle.TheVariants.{Activated}
 use Rattle.apdu_core.specs.declared.binary.Target.{Target}
 use Rattle.apdu_core.specs.declared.binary.Target.TheVariants as target
 use Rattle.card_rules.specs.declared.status.Sw.{Sw}
 use Rattle.card_rules.specs.declared.status.TheConstants.Sw.{ACCESS_DENIED, CONDITIONS_NOT_SATISFIED, DONE, END_REACHED}
+use Rattle.card_rules.specs.declared.status.TheConstants.Sw.{METHOD_BLOCKED}
 use Rattle.card_rules.specs.declared.status.TheConstants.Sw.{WRONG_STRUCTURE}
 use Rattle.card_rules.specs.LifeCycle.{life_cycle_at}
 use Rattle.card_rules.specs.Pins.{no_pins, with_pin, without_pin}
@@ -54,14 +55,15 @@ use Rattle.card_core.specs.declared.named.Structure.{Structure}
 use Rattle.card_core.specs.declared.named.Structure.TheVariants.{Bytes, Records, Linear, Cyclic}
 use Rattle.card_core.specs.Cards.{Card, Kind, card_space, is_transparent}
 use Rattle.card_core.specs.Elementary.{file_refusals}
-use Rattle.card_core.specs.Outcomes.{Outcome, refused_by}
-use Rattle.card_core.specs.Pins.{tries_told}
+use Rattle.card_core.specs.declared.pins.Usable.{Usable}
+use Rattle.card_core.specs.declared.pins.Usable.TheVariants.{WhileEnabled, WhileDisabled, InAnyCase}
+use Rattle.card_core.specs.Outcomes.{Outcome, Refusal, first_applying, refused_by}
+use Rattle.card_core.specs.Pins.{in_any_case, tries_told, while_disabled, while_enabled}
 use Rattle.card_core.specs.Reaching.{target_of}
 use Rattle.card_core.specs.Sessions.{Session, fresh_session, marked}
 use Rattle.file_tree.specs.declared.layout.TheConstants.{MARK, OLD_END_PAGE, OLD_MARK}
-use Rattle.pin_store.specs.Pages.{ArePinPages, pin_word}
-use Rattle.pin_store.specs.declared.layout.TheConstants.{PINS}
-use Rattle.migration.specs.declared.migrating.TheConstants.{PIN_MARK_WORD}
+use Rattle.pin_store.specs.Pages.{ArePinPages, AreMarks, pins_of}
+use Rattle.pin_store.specs.Pins.{Pin, tries_left}
 use Rattle.card_core.specs.Standing.{card_of, IsAnyCard, IsCard, IsHeader, IsOldCard, IsOldHeader}
 use Rattle.card_core.specs.declared.check.Checked.{Checked}
 use Rattle.card_core.specs.declared.memory_format.MemoryFormat.{MemoryFormat}
@@ -82,6 +84,10 @@ pub record IsCurrent (t : List Entry) (x : Current) : Type 0 where
 -- the PINs that are verified, each of PIN 1 to 8 marked
 abbrev pub verified_in : Current → List Bool
 verified_in x = x.verified
+
+-- the PINs of a memory of format 2 that are disabled, each of PIN 1 to 8 marked
+abbrev pub disabled_in : List ℕ → List Bool
+disabled_in m = map (λ pin. not pin.enabled) (pins_of m)
 
 -- the session that these numbers stand for
 abbrev pub session_of : List Entry → Current → Session
@@ -312,13 +318,10 @@ AreHeaderWords mark end state None =
 AreHeaderWords mark end state (Some One) = (mark ≡ OLD_MARK) × (state ≤ 1)
 AreHeaderWords mark end state (Some Two) = (mark ≡ MARK) × (OLD_END_PAGE ≤ end) × (state ≤ 1)
 
--- each PIN has the mark of format 2, and the PINs are those of a memory of a format
-pub record AreMarked (m : List ℕ) : Type 0 where
-  pub each : (pin : ℕ) → pin < PINS → pin_word m pin PIN_MARK_WORD ≡ 1
-
+-- the PINs are those of a memory of a format: of format 2 each has a mark
 abbrev pub HoldsPins : MemoryFormat → List ℕ → Type 0
 HoldsPins One m = ArePinPages m
-HoldsPins Two m = ArePinPages m × AreMarked m
+HoldsPins Two m = ArePinPages m × AreMarks m
 
 -- what a check of a header answers: its format, or None exactly where it is none
 abbrev pub TellsHeader : List ℕ → Option MemoryFormat → Type 0
@@ -350,6 +353,16 @@ abbrev pub tried_from : Current → ℕ → Bool → AttemptEnd → Current
 tried_from x n unverifies Matched = record x { verified = with_pin x.verified n }
 tried_from x n true (Wrong left) = record x { verified = without_pin x.verified n }
 tried_from x n false (Wrong left) = x
+
+-- what refuses a command that shows a secret of a PIN, by the PINs that it is for
+abbrev pub use_refusals : Usable → Pin → List Refusal
+use_refusals WhileEnabled = while_enabled
+use_refusals WhileDisabled = while_disabled
+use_refusals InAnyCase = in_any_case
+
+abbrev pub refused_use : Usable → ℕ → Pin → Option Sw
+refused_use usable secret pin =
+    first_applying (record { applies = tries_left secret pin == 0; status = METHOD_BLOCKED } ∷ use_refusals usable pin)
 
 -- a wrong value takes the PIN out of the verified ones, if it was to be the value of the PIN itself
 abbrev pub unverifies : Shown → Bool

@@ -6,10 +6,7 @@ ghost use Rattle.undo_journal.specs.Memory.{committed, IsReady};
 ghost use Rattle.block_chain.specs.Words.{word};
 ghost use Rattle.block_chain.specs.declared.layout.TheConstants.{HEADER_PAGE};
 ghost use Rattle.nvm_board.specs.declared.board.TheConstants.{PAGE_WORDS};
-ghost use Rattle.pin_store.specs.Pages.{ArePinPages, pin_word};
-ghost use Rattle.pin_store.specs.declared.layout.TheConstants.{PINS};
-ghost use Rattle.migration.specs.declared.migrating.TheConstants.{PIN_MARK_WORD};
-ghost use Rattle.card_core.specs.Working.{AreHeaderWords, AreMarked, HoldsPins, TellsCard, TellsHeader};
+ghost use Rattle.card_core.specs.Working.{AreHeaderWords, HoldsPins, TellsCard, TellsHeader};
 
 use crate::memory_format::MemoryFormat;
 use block_chain::HEADER_PAGE;
@@ -17,8 +14,7 @@ use file_tree::{
     CARD_TERMINATED, FreeSpace, MARK, MARK_WORD, OLD_END_PAGE, OLD_MARK, PAGES_WORD, STATE_WORD,
     is_tree,
 };
-use migration::PIN_MARK_WORD;
-use pin_store::{FIRST_PIN_PAGE, PINS, are_pins};
+use pin_store::{are_marks, are_pins};
 use undo_journal::{Board, PAGE_WORDS, Store, StoreErr};
 
 /// What a check finds of a card: the format of its memory, and the space that is free in it.
@@ -66,31 +62,6 @@ fn find_format<B: Board>(store: &mut Store<B>) -> Result<Option<MemoryFormat>, S
     Ok(format_of(mark, end, state))
 }
 
-/// Whether a PIN has the mark that it has in format 2.
-fn is_marked<B: Board>(store: &mut Store<B>, pin: u8) -> Result<bool, StoreErr>
-    requires ready { IsReady store.old }
-    requires pin { pin < PINS }
-    ensures mark { IfOk result (λ marked. IsTrue marked ↔ (pin_word (committed store.old) pin PIN_MARK_WORD ≡ 1)) }
-    ensures store { Reads store.old store.new (result_err result) }
-{
-    let mark = store.read(PAGE_WORDS * (FIRST_PIN_PAGE + u16::from(pin)) + PIN_MARK_WORD)?;
-    Ok(mark == 1)
-}
-
-/// Whether each PIN has its mark.
-fn are_marked<B: Board>(store: &mut Store<B>) -> Result<bool, StoreErr>
-    requires ready { IsReady store.old }
-    ensures marks { IfOk result (λ marked. IsTrue marked ↔ AreMarked (committed store.old)) }
-    ensures store { Reads store.old store.new (result_err result) }
-{
-    for pin in 0..PINS {
-        if !is_marked(store, pin)? {
-            return Ok(false);
-        }
-    }
-    Ok(true)
-}
-
 /// Whether the PINs are those of a memory of this format.
 #[tactic(auto, using(undo_journal::specs::laws::Calls::reads_then))]
 fn has_pins<B: Board>(store: &mut Store<B>, format: MemoryFormat) -> Result<bool, StoreErr>
@@ -103,7 +74,7 @@ fn has_pins<B: Board>(store: &mut Store<B>, format: MemoryFormat) -> Result<bool
     }
     match format {
         MemoryFormat::One => Ok(true),
-        MemoryFormat::Two => are_marked(store),
+        MemoryFormat::Two => are_marks(store),
     }
 }
 

@@ -16,7 +16,7 @@ use crate::increasing::increase;
 use crate::layout::CARD_IN_USE;
 use crate::lent::Lent;
 use crate::life_cycles::{change_life_cycle, terminate_card_usage};
-use crate::pins::{change_reference_data, reset_retry_counter, verify};
+use crate::pins::{change_reference_data, change_requirement, reset_retry_counter, verify};
 use crate::records::{append_record, read_record, search_record, update_record};
 use crate::select::select_file;
 use apdu_core::{Answer, Command, Sw};
@@ -129,6 +129,9 @@ fn serve<B: Board>(
         ),
         Command::ResetRetryCounter { pin, values } => reset_retry_counter(
             store, current, pin, values,
+        ),
+        Command::ChangeRequirement { change, pin, shown } => change_requirement(
+            store, current, change, pin, shown,
         ),
     }
 }

@@ -4,7 +4,7 @@ ghost use Rattle.card_rules.specs.Pins.{IsPinNumber};
 ghost use Rattle.card_core.specs.Working.{current_at, fresh_current, named_from, pointer_from, pointing_from, tried_from, unverifies};
 
 use apdu_core::Target;
-use card_rules::{PinNumber, Verified};
+use card_rules::{PinNumber, PinSet};
 use file_tree::{Entry, kinds};
 use pin_store::Outcome;
 
@@ -16,7 +16,7 @@ pub(crate) struct Current {
     /// The number of the current record, if one is current.
     pub pointer: Option<u8>,
     /// The PINs that are verified.
-    pub verified: Verified,
+    pub verified: PinSet,
 }
 
 /// Which value of a PIN is shown.
@@ -37,7 +37,7 @@ impl Current {
             df: 0,
             ef: None,
             pointer: None,
-            verified: Verified::new(),
+            verified: PinSet::new(),
         }
     }
 

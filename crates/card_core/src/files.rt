@@ -16,14 +16,13 @@ ghost use Rattle.card_core.specs.Reaching.{subject_of};
 ghost use Rattle.card_core.specs.Served.{Serves};
 ghost use Rattle.card_core.specs.Working.{card_in, file_refusal, session_in, space_in, table_in, IsKept};
 
+use crate::access::allows;
 use crate::current::Current;
 use crate::named::{Findings, Named};
 use apdu_core::{Subject, Sw};
 use card_rules::AccessBit;
 use fcp_template::{Fcp, FileKind, parse};
-use file_tree::{
-    Creation, FreeSpace, Index, create, delete, is_allowed, is_barred, read_entry, select,
-};
+use file_tree::{Creation, FreeSpace, Index, create, delete, is_barred, read_entry, select};
 use undo_journal::{Board, Store, StoreErr};
 
 /// CREATE FILE: the file that the template tells stands in the current dedicated file then, and is current. Its blocks are
@@ -81,7 +80,7 @@ fn find_new_file<'a, B: Board>(
         return Ok(Err(Sw::WRONG_DATA));
     };
     let bit = creation_bit(&fcp.kind);
-    if !is_allowed(store, current.df, bit, &current.verified)? {
+    if !allows(store, current, current.df, bit)? {
         return Ok(Err(Sw::ACCESS_DENIED));
     }
     Ok(Ok(fcp))
@@ -181,8 +180,8 @@ fn deletion_refusal<B: Board>(
     ensures store { Reads store.old store.new (result_err result) }
 {
     let barred = is_barred(store, parent)?;
-    let own = is_allowed(store, number, AccessBit::DeleteSelf, &current.verified)?;
-    let by_parent = is_allowed(store, parent, AccessBit::DeleteChild, &current.verified)?;
+    let own = allows(store, current, number, AccessBit::DeleteSelf)?;
+    let by_parent = allows(store, current, parent, AccessBit::DeleteChild)?;
     let findings = Findings {
         barred,
         fits: true,

@@ -9,7 +9,7 @@ ghost use Rattle.block_chain.specs.declared.layout.TheConstants.{HEADER_PAGE};
 ghost use Rattle.file_tree.specs.declared.layout.TheConstants.{MARK, MARK_WORD, OLD_END_PAGE, OLD_MARK, PAGES_WORD, STATE_WORD};
 ghost use Rattle.pin_store.specs.declared.layout.TheConstants.{FIRST_PIN_PAGE, PINS};
 ghost use Rattle.nvm_board.specs.Facts.{IsMemory};
-ghost use Rattle.migration.specs.declared.migrating.TheConstants.{PIN_MARK_WORD};
+ghost use Rattle.pin_store.specs.declared.layout.TheConstants.{PIN_MARK_WORD};
 ghost use Rattle.apdu_core.specs.OfBytes.{AreBytes};
 ghost use Rattle.card_core.specs.Cards.{Card};
 ghost use Rattle.card_core.specs.Finding.{Finds, HasCard, found};

@@ -1,6 +1,7 @@
 //! The card: what its memory stands for, its start, and its commands.
 #![tactic(auto)]
 
+mod access;
 mod binary;
 mod card_state;
 mod check;

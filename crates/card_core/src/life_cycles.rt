@@ -3,7 +3,7 @@
 ghost use Rattle.std.specs.Prelude.{◌≡◌, [], Some, option_map, IfOk, IfSome, OnOk, MatchResult};
 ghost use Rattle.std.specs.Result.{result_err};
 ghost use Rattle.undo_journal.specs.Calls.{Reads};
-ghost use Rattle.undo_journal.specs.Memory.{committed, IsReady};
+ghost use Rattle.undo_journal.specs.Memory.{committed};
 ghost use Rattle.apdu_core.specs.Requests.{change_life_cycle as changing, terminate_card_usage as terminating};
 ghost use Rattle.file_tree.specs.Indexes.{IsIndex};
 ghost use Rattle.file_tree.specs.Table.{path_of, IsUsed};
@@ -11,15 +11,14 @@ ghost use Rattle.card_core.specs.Changing.{change_at, changed_by, current_change
 ghost use Rattle.card_core.specs.LifeCycles.{change_bit, change_refusals, changed_file, command_of, no_subject};
 ghost use Rattle.card_core.specs.Outcomes.{refused_by};
 ghost use Rattle.card_core.specs.Served.{Serves};
-ghost use Rattle.card_core.specs.Standing.{IsCard};
 ghost use Rattle.card_core.specs.Working.{card_in, session_in, space_in, table_in, IsKept};
 
+use crate::access::allows;
 use crate::current::Current;
 use apdu_core::{LifeCycleChange, Subject, Sw};
 use card_rules::{AccessBit, LifeCycle, LifeCycleCommand};
 use file_tree::{
-    Entry, Index, is_allowed, kinds, next_life_cycle, read_entry, select, set_life_cycle,
-    terminate_card,
+    Entry, Index, kinds, next_life_cycle, read_entry, select, set_life_cycle, terminate_card,
 };
 use undo_journal::{Board, Store, StoreErr};
 
@@ -64,7 +63,7 @@ pub(crate) fn terminate_card_usage<B: Board>(
     requires kept { IsKept store.old current.now }
     ensures { Serves (terminating) store.old current.now store.new current.now [] result }
 {
-    if !is_allowed(store, 0, AccessBit::Terminate, &current.verified)? {
+    if !allows(store, current, 0, AccessBit::Terminate)? {
         return Ok(Sw::ACCESS_DENIED);
     }
     terminate_card(store)?;
@@ -105,14 +104,13 @@ fn read_change<B: Board>(
     change: LifeCycleChange,
     number: u8,
 ) -> Result<Result<Changed, Sw>, StoreErr>
-    requires ready { IsReady store.old }
-    requires card { IsCard (committed store.old) }
+    requires kept { IsKept store.old current.now }
     requires used { IsUsed (table_in store.old) number }
     ensures found { IfOk result (λ answer. answer ≡ change_at (committed store.old) current.now change number) }
     ensures store { Reads store.old store.new (result_err result) }
 {
     let next = next_life_cycle(store, number, command_of(change))?;
-    let allowed = is_allowed(store, number, bit_of(change), &current.verified)?;
+    let allowed = allows(store, current, number, bit_of(change))?;
     let entry = read_entry(store, number)?;
     Ok(changed_by(change, number, entry, next, allowed))
 }

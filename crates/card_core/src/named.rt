@@ -12,10 +12,11 @@ ghost use Rattle.card_core.specs.Outcomes.{refused_by};
 ghost use Rattle.card_core.specs.Reaching.{target_of};
 ghost use Rattle.card_core.specs.Working.{card_in, file_refusal, fits, fits_kind, session_in, table_in, IsElementary, IsKept, IsNamed};
 
+use crate::access::allows;
 use crate::current::Current;
 use apdu_core::{Sw, Target};
 use card_rules::AccessBit;
-use file_tree::{Entry, find_short, is_allowed, is_barred, kinds, read_entry};
+use file_tree::{Entry, find_short, is_barred, kinds, read_entry};
 use undo_journal::{Board, Store, StoreErr};
 
 /// The structures that a command is for.
@@ -91,7 +92,7 @@ fn refusal_of<B: Board>(
     let findings = Findings {
         barred: is_barred(store, number)?,
         fits: need.structure.fits(kind),
-        allowed: is_allowed(store, number, need.bit, &current.verified)?,
+        allowed: allows(store, current, number, need.bit)?,
     };
     Ok(findings.refusal())
 }

@@ -1,6 +1,6 @@
-//! Commands on PINs: VERIFY, CHANGE REFERENCE DATA and RESET RETRY COUNTER (ISO/IEC 7816-4, 11.5 and 11.6). A try is taken away,
-//! lastingly, before anything is compared.
-ghost use Rattle.std.specs.Prelude.{◌≡◌, ◌⊎◌, ◌<◌, ◌+◌, [], Some, option_map, IfOk, IfSome, MatchOption};
+//! Commands on PINs: VERIFY, CHANGE REFERENCE DATA, RESET RETRY COUNTER, DISABLE and ENABLE VERIFICATION REQUIREMENT (ISO/IEC
+//! 7816-4, 11.5 and 11.6). A try is taken away, lastingly, before anything is compared.
+ghost use Rattle.std.specs.Prelude.{◌≡◌, ◌⊎◌, ◌<◌, ◌+◌, [], Some, option_map, IfOk, IsSome, MatchResult};
 ghost use Rattle.std.specs.Result.{result_err};
 ghost use Rattle.nvm_board.specs.declared.board.TheConstants.{SECRETS};
 ghost use Rattle.undo_journal.specs.Commits.{StaysShut};
@@ -8,17 +8,43 @@ ghost use Rattle.undo_journal.specs.Calls.{OnlyReads, Reads, Changes};
 ghost use Rattle.undo_journal.specs.Memory.{committed, IsReady};
 ghost use Rattle.card_rules.specs.Pins.{IsPinNumber};
 ghost use Rattle.apdu_core.specs.Requests.{change_reference_data as changing, reset_retry_counter as resetting, verify as verifying};
+ghost use Rattle.apdu_core.specs.Requests.{change_requirement as requiring};
 ghost use Rattle.pin_store.specs.Pages.{ArePinPages};
-ghost use Rattle.pin_store.specs.Pins.{tries_left};
+ghost use Rattle.pin_store.specs.Pins.{Pin, tries_left};
 ghost use Rattle.pin_store.specs.Trials.{pin_in, Charges};
-ghost use Rattle.card_core.specs.Pins.{tries_told};
+ghost use Rattle.card_core.specs.Outcomes.{first_applying};
+ghost use Rattle.card_core.specs.Pins.{is_enabled_by, tries_told, unusable_by};
 ghost use Rattle.card_core.specs.Served.{Serves};
-ghost use Rattle.card_core.specs.Working.{end_of_attempt, IsKept};
+ghost use Rattle.card_core.specs.Working.{end_of_attempt, refused_use, use_refusals, IsKept};
 
 use crate::current::{Current, Shown};
-use apdu_core::{Replacement, Sw};
-use pin_store::{Charged, Outcome, PINS, PinErr, change, charge, reset_counter, settle, tries};
+use apdu_core::{Replacement, RequirementChange, Sw};
+use pin_store::{
+    Charged, Outcome, PINS, PinErr, change, charge, is_enabled, reset_counter, set_enabled, settle,
+    tries,
+};
 use undo_journal::{Board, Store, StoreErr};
+
+/// Which PINs a command that shows a secret is for: those that are enabled, those that are disabled, or all.
+#[derive(Clone, Copy)]
+enum Usable {
+    WhileEnabled,
+    WhileDisabled,
+    InAnyCase,
+}
+
+impl Usable {
+    /// What refuses the command by whether the PIN is enabled.
+    fn refusal(self, enabled: bool) -> Option<Sw>
+        ensures { (pin : Pin) → pin.enabled ≡ enabled → result ≡ first_applying (use_refusals self pin) }
+    {
+        match self {
+            Usable::WhileEnabled if !enabled => Some(Sw::REFERENCE_DATA_NOT_USABLE),
+            Usable::WhileDisabled if enabled => Some(Sw::CONDITIONS_NOT_SATISFIED),
+            _ => None,
+        }
+    }
+}
 
 /// VERIFY: the PIN is verified where its value is shown. Without data the tries that are left are told. The status word is the
 /// result.
@@ -52,9 +78,9 @@ pub(crate) fn change_reference_data<B: Board>(
     ensures { Serves (changing pin values.entry.shown.now values.entry.new.now) store.old current.old store.new current.new []
         result }
 {
-    let charged = match take_try(store, pin - 1)? {
-        Some(charged) => charged,
-        None => return Ok(Sw::METHOD_BLOCKED),
+    let charged = match take_try(store, pin - 1, Usable::WhileEnabled)? {
+        Ok(charged) => charged,
+        Err(refusal) => return Ok(refusal),
     };
     let outcome = change(store, charged, values.shown, values.new)?;
     *current = current.after_attempt(pin, Shown::Value, outcome);
@@ -80,6 +106,48 @@ pub(crate) fn reset_retry_counter<B: Board>(
     }
 }
 
+/// DISABLE and ENABLE VERIFICATION REQUIREMENT: where the value of the PIN is shown, its verification is no longer required, or is
+/// again, and the PIN is verified. The status word is the result.
+pub(crate) fn change_requirement<B: Board>(
+    store: &mut Store<B>,
+    current: &mut Current,
+    change: RequirementChange,
+    pin: u8,
+    shown: &[u8; 8],
+) -> Result<Sw, StoreErr>
+    requires kept { IsKept store.old current.old }
+    requires pin { IsPinNumber pin }
+    ensures { Serves (requiring change pin shown.now) store.old current.old store.new current.new [] result }
+{
+    let charged = match take_try(store, pin - 1, usable_by(change))? {
+        Ok(charged) => charged,
+        Err(refusal) => return Ok(refusal),
+    };
+    let outcome = set_enabled(store, charged, shown, is_enabled_by(change))?;
+    *current = current.after_attempt(pin, Shown::Value, outcome);
+    Ok(status_of(outcome))
+}
+
+/// The PINs that a change of the requirement is for.
+fn usable_by(change: RequirementChange) -> Usable
+    ensures { use_refusals result ≡ unusable_by change }
+{
+    match change {
+        RequirementChange::Disable => Usable::WhileEnabled,
+        RequirementChange::Enable => Usable::WhileDisabled,
+    }
+}
+
+/// Whether the PIN is enabled by a change of the requirement.
+fn is_enabled_by(change: RequirementChange) -> bool
+    ensures { result ≡ is_enabled_by change }
+{
+    match change {
+        RequirementChange::Disable => false,
+        RequirementChange::Enable => true,
+    }
+}
+
 /// VERIFY with data.
 fn verify_value<B: Board>(
     store: &mut Store<B>,
@@ -91,9 +159,9 @@ fn verify_value<B: Board>(
     requires pin { IsPinNumber pin }
     ensures { Serves (verifying pin (Some shown.now)) store.old current.old store.new current.new [] result }
 {
-    let charged = match take_try(store, pin - 1)? {
-        Some(charged) => charged,
-        None => return Ok(Sw::METHOD_BLOCKED),
+    let charged = match take_try(store, pin - 1, Usable::WhileEnabled)? {
+        Ok(charged) => charged,
+        Err(refusal) => return Ok(refusal),
     };
     let outcome = settle(store, charged, shown)?;
     *current = current.after_attempt(pin, Shown::Value, outcome);
@@ -112,9 +180,9 @@ fn reset_value<B: Board>(
     ensures { Serves (resetting pin (Some (values.entry.shown.now, values.entry.new.now))) store.old current.old store.new
         current.new [] result }
 {
-    let charged = match take_try(store, PINS + (pin - 1))? {
-        Some(charged) => charged,
-        None => return Ok(Sw::METHOD_BLOCKED),
+    let charged = match take_try(store, PINS + (pin - 1), Usable::InAnyCase)? {
+        Ok(charged) => charged,
+        Err(refusal) => return Ok(refusal),
     };
     let outcome = reset_counter(store, charged, values.shown, values.new)?;
     *current = current.after_attempt(pin, Shown::UnblockingValue, outcome);
@@ -133,25 +201,53 @@ fn tell_tries<B: Board>(store: &mut Store<B>, secret: u8) -> Result<Sw, StoreErr
     Ok(tries_status(left))
 }
 
-/// Takes a try of a secret away, if one is left.
-fn take_try<B: Board>(store: &mut Store<B>, secret: u8) -> Result<Option<Charged>, StoreErr>
+/// Takes a try of a secret away, or tells what refuses that: none is left; the PIN is disabled, or enabled.
+fn take_try<B: Board>(
+    store: &mut Store<B>,
+    secret: u8,
+    usable: Usable,
+) -> Result<Result<Charged, Sw>, StoreErr>
     requires ready { IsReady store.old }
     requires secret { secret < SECRETS }
     requires pages { ArePinPages (committed store.old) }
     ensures any_exit { (committed store.new ≡ committed store.old) ⊎ Charges secret store.old store.new }
-    ensures done { IfOk result (λ taken. MatchOption taken (tries_left secret (pin_in store.old secret) ≡ 0)
-        (λ charged. (charged ≡ secret) × Charges secret store.old store.new)) }
-    ensures kept { tries_left secret (pin_in store.old secret) ≡ 0 → OnlyReads store.old store.new }
+    ensures done { IfOk result (λ taken. MatchResult taken
+        (λ charged. (charged ≡ secret) × Charges secret store.old store.new
+        × (refused_use usable secret (pin_in store.old secret) ≡ None))
+        (λ refusal. (refused_use usable secret (pin_in store.old secret) ≡ Some refusal) × IsReady store.new)) }
+    ensures kept { IsSome (refused_use usable secret (pin_in store.old secret)) → OnlyReads store.old store.new }
     ensures pages { ArePinPages (committed store.new) }
     ensures shut { StaysShut store.old store.new }
     ensures store { Changes 1 store.old store.new (result_err result) }
-    ensures counted { IfOk result (λ taken. IfSome taken (λ _. store.new.facts.writes ≡ store.old.facts.writes + 1)) }
+    ensures counted { IfOk result (λ taken. IfOk taken (λ _. store.new.facts.writes ≡ store.old.facts.writes + 1)) }
 {
+    if let Some(refusal) = refusal_of(store, secret, usable)? {
+        return Ok(Err(refusal));
+    }
     match charge(store, secret) {
-        Ok(charged) => Ok(Some(charged)),
-        Err(PinErr::Blocked) => Ok(None),
+        Ok(charged) => Ok(Ok(charged)),
+        Err(PinErr::Blocked) => Ok(Err(Sw::METHOD_BLOCKED)),
         Err(PinErr::Store(error)) => Err(error),
     }
+}
+
+/// What refuses that a secret is shown, before a try is taken away: none is left; the PIN is disabled, or enabled.
+fn refusal_of<B: Board>(
+    store: &mut Store<B>,
+    secret: u8,
+    usable: Usable,
+) -> Result<Option<Sw>, StoreErr>
+    requires ready { IsReady store.old }
+    requires secret { secret < SECRETS }
+    requires pages { ArePinPages (committed store.old) }
+    ensures refusal { IfOk result (λ refusal. refusal ≡ refused_use usable secret (pin_in store.old secret)) }
+    ensures store { Reads store.old store.new (result_err result) }
+{
+    if tries(store, secret)? == 0 {
+        return Ok(Some(Sw::METHOD_BLOCKED));
+    }
+    let enabled = is_enabled(store, secret)?;
+    Ok(usable.refusal(enabled))
 }
 
 /// The status word that tells so many tries.

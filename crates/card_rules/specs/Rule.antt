@@ -12,18 +12,18 @@ use Rattle.card_rules.specs.Access.{is_set, set_down_to}
 use Rattle.card_rules.specs.Pins.{has_pin}
 
 -- what a condition byte asks for: 00 always, FF never; 11 to 18 and 91 to 98 name security environment 1 to 8,
--- in which the PIN of that number must be verified; None: the byte isn't allowed in a rule
+-- in which the PIN of that number must be verified, unless it is disabled; None: the byte isn't allowed in a rule
 abbrev pub condition_of : ℕ → Option Condition
 condition_of b =
     if b == 0x00 then Some Always else
     if b == 0xFF then Some Never else
     if nat_le 0x11 b && nat_le b 0x18 || nat_le 0x91 b && nat_le b 0x98 then Some (Verified (b % 16)) else None
 
--- whether a condition is met where these PINs are verified
-abbrev pub is_met : List Bool → Condition → Bool
-is_met verified Always = true
-is_met verified Never = false
-is_met verified (Verified pin) = has_pin verified pin
+-- whether a condition is met where these PINs are verified, and these are disabled
+abbrev pub is_met : List Bool → List Bool → Condition → Bool
+is_met verified disabled Always = true
+is_met verified disabled Never = false
+is_met verified disabled (Verified pin) = has_pin verified pin || has_pin disabled pin
 
 -- a rule: an access mode byte with bit 8 clear, and an allowed condition byte for each of its set bits
 abbrev pub is_rule : List ℕ → Bool
@@ -41,7 +41,7 @@ condition_at (mode ∷ conditions) bit =
 
 -- whether a file's rule allows an operation: everything in creation and initialisation states, else where the
 -- operation's bit is set and its condition is met
-abbrev pub allows : List ℕ → AccessBit → LifeCycle → List Bool → Bool
-allows rule bit Creation verified = true
-allows rule bit Initialisation verified = true
-allows rule bit _ verified = option_map_or (is_met verified) (condition_at rule bit) false
+abbrev pub allows : List ℕ → AccessBit → LifeCycle → List Bool → List Bool → Bool
+allows rule bit Creation verified disabled = true
+allows rule bit Initialisation verified disabled = true
+allows rule bit _ verified disabled = option_map_or (is_met verified disabled) (condition_at rule bit) false

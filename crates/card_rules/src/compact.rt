@@ -6,7 +6,7 @@ ghost use Rattle.card_rules.specs.Rule.{condition_of, is_met, is_rule, condition
 
 use crate::access_mode::{AccessBit, AccessMode};
 use crate::life_cycle::LifeCycle;
-use crate::pins::{PinNumber, Verified};
+use crate::pins::{PinNumber, PinSet};
 use arrayvec::ArrayVec;
 use bitflags::Flags;
 use std::marker::Model;
@@ -16,7 +16,7 @@ use std::marker::Model;
 enum Condition {
     Always,
     Never,
-    /// That the PIN is verified.
+    /// That the PIN is verified, unless it is disabled.
     Verified(PinNumber),
 }
 
@@ -33,14 +33,14 @@ impl Condition {
         }
     }
 
-    /// Whether the condition is met where these PINs are verified.
-    fn is_met(self, verified: &Verified) -> bool
-        ensures { result ≡ is_met verified.now self }
+    /// Whether the condition is met where these PINs are verified, and these are disabled.
+    fn is_met(self, verified: &PinSet, disabled: &PinSet) -> bool
+        ensures { result ≡ is_met verified.now disabled.now self }
     {
         match self {
             Condition::Always => true,
             Condition::Never => false,
-            Condition::Verified(pin) => verified.contains(pin),
+            Condition::Verified(pin) => verified.contains(pin) || disabled.contains(pin),
         }
     }
 }
@@ -86,17 +86,38 @@ impl Compact {
         self.bytes.as_slice()
     }
 
-    /// Whether the rule of a file in `state` allows what the bit stands for, where these PINs are verified.
-    pub fn allows(&self, bit: AccessBit, state: LifeCycle, verified: &Verified) -> bool
-        ensures { result ≡ allows self.now bit state verified.now }
+    /// Whether the rule of a file in `state` allows what the bit stands for, where these PINs are verified, and these are
+    /// disabled.
+    pub fn allows(
+        &self,
+        bit: AccessBit,
+        state: LifeCycle,
+        verified: &PinSet,
+        disabled: &PinSet,
+    ) -> bool
+        ensures { result ≡ allows self.now bit state verified.now disabled.now }
     {
-        match state {
-            LifeCycle::Creation | LifeCycle::Initialisation => true,
-            LifeCycle::Deactivated | LifeCycle::Activated | LifeCycle::Terminated => {
-                match self.condition(bit) {
-                    Some(condition) => condition.is_met(verified),
-                    None => false,
-                }
+        allows(self.as_bytes(), bit, state, verified, disabled)
+    }
+}
+
+/// Whether the bytes of a rule, of a file in `state`, allow what the bit stands for, where these PINs are verified, and these
+/// are disabled.
+pub fn allows(
+    bytes: &[u8],
+    bit: AccessBit,
+    state: LifeCycle,
+    verified: &PinSet,
+    disabled: &PinSet,
+) -> bool
+    ensures { result ≡ allows bytes.now bit state verified.now disabled.now }
+{
+    match state {
+        LifeCycle::Creation | LifeCycle::Initialisation => true,
+        LifeCycle::Deactivated | LifeCycle::Activated | LifeCycle::Terminated => {
+            match condition_at(bytes, bit) {
+                Some(condition) => condition.is_met(verified, disabled),
+                None => false,
             }
         }
     }

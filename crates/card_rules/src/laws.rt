@@ -8,6 +8,7 @@ ghost use Rattle.card_rules.specs.declared.status.TheConstants.Sw.{WRONG_LENGTH,
 ghost use Rattle.card_rules.specs.declared.status.TheConstants.Sw.{UNKNOWN_CLASS};
 ghost use Rattle.card_rules.specs.declared.status.TheConstants.Sw.{WRONG_STRUCTURE, ACCESS_DENIED, METHOD_BLOCKED};
 ghost use Rattle.card_rules.specs.declared.status.TheConstants.Sw.{CONDITIONS_NOT_SATISFIED, NO_CURRENT_EF};
+ghost use Rattle.card_rules.specs.declared.status.TheConstants.Sw.{REFERENCE_DATA_NOT_USABLE};
 ghost use Rattle.card_rules.specs.declared.status.TheConstants.Sw.{WRONG_DATA, FILE_NOT_FOUND, RECORD_NOT_FOUND};
 ghost use Rattle.card_rules.specs.declared.status.TheConstants.Sw.{NO_ROOM, WRONG_PARAMETERS, FILE_EXISTS, NAME_EXISTS};
 ghost use Rattle.card_rules.specs.declared.access_mode.AccessBit.{AccessBit};
@@ -22,7 +23,7 @@ pub fn status_words()
     ensures not_understood { (WRONG_LENGTH.0 ≡ 0x6700) × (WRONG_OFFSET.0 ≡ 0x6B00)
         × (UNKNOWN_INSTRUCTION.0 ≡ 0x6D00) × (UNKNOWN_CLASS.0 ≡ 0x6E00) }
     ensures not_allowed { (WRONG_STRUCTURE.0 ≡ 0x6981) × (ACCESS_DENIED.0 ≡ 0x6982) × (METHOD_BLOCKED.0 ≡ 0x6983)
-        × (CONDITIONS_NOT_SATISFIED.0 ≡ 0x6985) × (NO_CURRENT_EF.0 ≡ 0x6986) }
+        × (REFERENCE_DATA_NOT_USABLE.0 ≡ 0x6984) × (CONDITIONS_NOT_SATISFIED.0 ≡ 0x6985) × (NO_CURRENT_EF.0 ≡ 0x6986) }
     ensures wrong_parameters { (WRONG_DATA.0 ≡ 0x6A80) × (FILE_NOT_FOUND.0 ≡ 0x6A82) × (RECORD_NOT_FOUND.0 ≡ 0x6A83)
         × (NO_ROOM.0 ≡ 0x6A84) × (WRONG_PARAMETERS.0 ≡ 0x6A86) × (FILE_EXISTS.0 ≡ 0x6A89) × (NAME_EXISTS.0 ≡ 0x6A8A) }
 {}

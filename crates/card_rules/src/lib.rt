@@ -13,5 +13,5 @@ mod status;
 pub use access_mode::{AccessBit, AccessMode};
 pub use compact::Compact;
 pub use life_cycle::{LifeCycle, LifeCycleCommand};
-pub use pins::{PINS, PinNumber, Verified};
+pub use pins::{PINS, PinNumber, PinSet};
 pub use status::Sw;

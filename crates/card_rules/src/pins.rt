@@ -1,4 +1,4 @@
-//! PIN numbers, and the set of PINs that are verified.
+//! PIN numbers, and sets of PINs: those that are verified, and those that are disabled.
 
 ghost use Rattle.std.specs.Prelude.{◌≡◌, ◌<◌, ◌-◌, ◌↔◌, IsSome, IfSome, List, Bool};
 ghost use Rattle.card_rules.specs.Pins.{IsPinNumber, no_pins, has_pin, with_pin, without_pin};
@@ -58,13 +58,14 @@ impl PinNumber {
     }
 }
 
-/// The set of PINs that were verified in a session (ISO/IEC 7816-4, 11.5: the security status).
+/// A set of PINs: those that were verified in a session (ISO/IEC 7816-4, 11.5: the security status), or those that are
+/// disabled, whose verification is not required.
 #[derive(Clone, Copy)]
-pub struct Verified {
+pub struct PinSet {
     marks: [bool; PINS as usize],
 }
 
-impl Model for Verified {
+impl Model for PinSet {
     ghost Value = { List Bool };
 
     ghost view = { λ v. v.marks };
@@ -72,12 +73,12 @@ impl Model for Verified {
     ghost inverse = { λ pins. record { marks = pins } };
 }
 
-impl Verified {
+impl PinSet {
     /// The empty set.
-    pub const fn new() -> Verified
+    pub const fn new() -> PinSet
         ensures { result ≡ no_pins }
     {
-        Verified {
+        PinSet {
             marks: [false; PINS as usize],
         }
     }
@@ -105,10 +106,10 @@ impl Verified {
     }
 }
 
-impl Default for Verified {
+impl Default for PinSet {
     ghost is_default = { λ pins. pins ≡ no_pins };
 
-    fn default() -> Verified {
-        Verified::new()
+    fn default() -> PinSet {
+        PinSet::new()
     }
 }

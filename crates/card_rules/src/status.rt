@@ -25,6 +25,8 @@ impl Sw {
     pub const ACCESS_DENIED: Sw = Sw(0x6982);
     /// No tries are left.
     pub const METHOD_BLOCKED: Sw = Sw(0x6983);
+    /// The reference data isn't usable: the PIN is disabled.
+    pub const REFERENCE_DATA_NOT_USABLE: Sw = Sw(0x6984);
     /// The conditions of use aren't satisfied.
     pub const CONDITIONS_NOT_SATISFIED: Sw = Sw(0x6985);
     /// There is no current elementary file.

@@ -47,9 +47,9 @@ is_barred tree path = bars (life_at tree path) || has_barred_above tree path
 abbrev pub next_life : Tree → Path → LifeCycleCommand → Option LifeCycle
 next_life tree path command = if has_barred_above tree path then None else state_after command (life_at tree path)
 
--- whether the access rule of the file at a path allows an operation, where these PINs are verified
-abbrev pub is_allowed : Tree → Path → AccessBit → List Bool → Bool
-is_allowed tree path bit verified = allows (file_at tree path).rule bit (life_at tree path) verified
+-- whether the access rule of the file at a path allows an operation, where these PINs are verified, and these are disabled
+abbrev pub is_allowed : Tree → Path → AccessBit → List Bool → List Bool → Bool
+is_allowed tree path bit verified disabled = allows (file_at tree path).rule bit (life_at tree path) verified disabled
 
 -- the words of a card whose use has ended
 abbrev pub with_card_terminated : List ℕ → List ℕ

@@ -16,7 +16,7 @@ use crate::layout::{CARD_TERMINATED, DEEPEST, STATE_WORD, entry_address};
 use crate::reading::read_entry;
 use crate::writing::two_bytes;
 use block_chain::HEADER_PAGE;
-use card_rules::{AccessBit, Compact, LifeCycle, LifeCycleCommand, Verified};
+use card_rules::{AccessBit, LifeCycle, LifeCycleCommand, PinSet, allows};
 use undo_journal::{Board, PAGE_WORDS, Store, StoreErr};
 
 /// A file in this state bars itself and all files below it.
@@ -156,8 +156,8 @@ pub fn set_life_cycle<B: Board>(
     write_word(store, entry_address(e), life_word(&entry, life))
 }
 
-/// Whether the access rule of an entry's file allows what the bit stands for, where these PINs are verified (ISO/IEC
-/// 7816-4, 9.3.3).
+/// Whether the access rule of an entry's file allows what the bit stands for, where these PINs are verified, and these are
+/// disabled (ISO/IEC 7816-4, 9.3.3).
 ///
 /// # Errors
 /// What the store answers: power was lost, or the device failed.
@@ -165,20 +165,18 @@ pub fn is_allowed<B: Board>(
     store: &mut Store<B>,
     e: u8,
     bit: AccessBit,
-    verified: &Verified,
+    verified: &PinSet,
+    disabled: &PinSet,
 ) -> Result<bool, StoreErr>
     requires ready { IsReady store.old }
     requires tree { TreeStands (committed store.old) }
     requires used { IsUsed (table (committed store.old)) e }
     ensures allowed { IfOk result (λ allowed. allowed ≡ is_allowed (tree_of (committed store.old))
-        (path_of (table (committed store.old)) e) bit verified.now) }
+        (path_of (table (committed store.old)) e) bit verified.now disabled.now) }
     ensures store { Reads store.old store.new (result_err result) }
 {
     let entry = read_entry(store, e)?;
-    match Compact::parse(entry.rule()) {
-        Some(rule) => Ok(rule.allows(bit, life_of(&entry), verified)),
-        None => Ok(false),
-    }
+    Ok(allows(entry.rule(), bit, life_of(&entry), verified, disabled))
 }
 
 /// Ends the use of the card: the state of the card in the header is "terminated". No other word changes. A card whose use

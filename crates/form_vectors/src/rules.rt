@@ -2,11 +2,11 @@
 
 use card_rules::AccessBit::{Activate, CreateDf, DeleteChild, DeleteSelf, Terminate};
 use card_rules::LifeCycle::{Activated, Creation, Deactivated, Initialisation};
-use card_rules::{AccessBit, AccessMode, Compact, LifeCycle, PinNumber, Verified};
+use card_rules::{AccessBit, AccessMode, Compact, LifeCycle, PinNumber, PinSet};
 use std::test::Fail;
 
-fn verified(pins: &[u8]) -> Verified {
-    let mut set = Verified::new();
+fn set_of(pins: &[u8]) -> PinSet {
+    let mut set = PinSet::new();
     for number in pins {
         if let Some(pin) = PinNumber::new(*number) {
             set.insert(pin);
@@ -15,27 +15,34 @@ fn verified(pins: &[u8]) -> Verified {
     set
 }
 
-// What the rule of the factory card's master file allows, with these PINs verified: bit 6 asks for PIN 8, bits 3 to 1 are
-// always allowed, all else never.
-const ASKED: &[(AccessBit, LifeCycle, &[u8], bool)] = &[
-    (Terminate, Activated, &[], false),
-    (Terminate, Activated, &[1, 2, 3, 4, 5, 6, 7], false),
-    (Terminate, Activated, &[8], true),
-    (CreateDf, Activated, &[], true),
-    (DeleteChild, Deactivated, &[], true),
-    (DeleteSelf, Activated, &[8], false),
-    (Activate, Deactivated, &[8], false),
+// What the rule of the factory card's master file allows, with these PINs verified and these disabled: bit 6 asks for PIN 8,
+// bits 3 to 1 are always allowed, all else never.
+const ASKED: &[(AccessBit, LifeCycle, &[u8], &[u8], bool)] = &[
+    (Terminate, Activated, &[], &[], false),
+    (
+        Terminate,
+        Activated,
+        &[1, 2, 3, 4, 5, 6, 7],
+        &[1, 2, 3, 4, 5, 6, 7],
+        false,
+    ),
+    (Terminate, Activated, &[8], &[], true),
+    (Terminate, Activated, &[], &[8], true),
+    (CreateDf, Activated, &[], &[], true),
+    (DeleteChild, Deactivated, &[], &[], true),
+    (DeleteSelf, Activated, &[8], &[8], false),
+    (Activate, Deactivated, &[8], &[8], false),
     // In the states of creation and initialisation a rule allows everything.
-    (DeleteSelf, Creation, &[], true),
-    (Activate, Initialisation, &[], true),
+    (DeleteSelf, Creation, &[], &[], true),
+    (Activate, Initialisation, &[], &[], true),
 ];
 
 #[test]
 fn asks_a_rule(rt: HostRuntime) -> Result<(), Fail> {
     let rule = Compact::parse(&[0x27, 0x18, 0x00, 0x00, 0x00]).ok_or("a rule")?;
-    for &(bit, state, pins, want) in ASKED {
+    for &(bit, state, verified, disabled, want) in ASKED {
         assert!(rt;
-            rule.allows(bit, state, &verified(pins)) == want,
+            rule.allows(bit, state, &set_of(verified), &set_of(disabled)) == want,
             "at {bit:?}"
         );
     }

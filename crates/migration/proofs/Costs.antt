@@ -12,7 +12,7 @@ use Rattle.undo_journal.specs.laws.Told.{idle_waits}
 use Rattle.block_chain.specs.declared.layout.TheConstants.{FREE_HEAD}
 use Rattle.file_tree.specs.declared.layout.TheConstants.{MARK, OLD_END_PAGE}
 use Rattle.pin_store.specs.declared.layout.TheConstants.{FIRST_PIN_PAGE}
-use Rattle.migration.specs.declared.migrating.TheConstants.{PIN_MARK_WORD}
+use Rattle.pin_store.specs.declared.layout.TheConstants.{PIN_MARK_WORD}
 use Rattle.migration.specs.Parts.{FillsBatch, JoinsFirst}
 
 -- A set after which these sets wait, fewer than a batch: nothing is written.

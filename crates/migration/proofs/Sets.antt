@@ -15,8 +15,9 @@ use Rattle.file_tree.specs.Trees.{TreeStands}
 use Rattle.file_tree.specs.laws.Footprints.{tree_kept}
 use Rattle.file_tree.specs.laws.Migrating.{links_keep, migrated_tree}
 use Rattle.pin_store.specs.declared.layout.TheConstants.{FIRST_PIN_PAGE}
-use Rattle.migration.specs.declared.migrating.TheConstants.{PIN_MARK_WORD}
-use Rattle.migration.specs.Migrating.{MarksPins, RenamesHeader, IsRenamed, IsMigrated, Migrates}
+use Rattle.pin_store.specs.Pages.{KeepsSecrets}
+use Rattle.pin_store.specs.declared.layout.TheConstants.{PIN_MARK_WORD}
+use Rattle.migration.specs.Migrating.{MarksPins, RenamesHeader, IsRenamed, KeepsCard, IsNew, IsMigrated, Migrates}
 
 pub marks_none : (m : List ℕ) → MarksPins 0 m m
 marks_none m = record { size = refl; marked = λ pin lt. absurd (omega (arith, lt)); others = λ page place small apart. refl }

@@ -7,9 +7,9 @@ use Rattle.block_chain.specs.declared.layout.TheConstants.{HEADER_PAGE, FREE_HEA
 use Rattle.file_tree.specs.declared.layout.TheConstants.{MARK_WORD, PAGES_WORD, MARK, OLD_END_PAGE, STATE_WORD}
 use Rattle.file_tree.specs.Migration.{Renames}
 use Rattle.file_tree.specs.Trees.{tree_of, TreeStands}
-use Rattle.pin_store.specs.declared.layout.TheConstants.{FIRST_PIN_PAGE}
-use Rattle.pin_store.specs.Pages.{KeepsPins}
-use Rattle.migration.specs.declared.migrating.TheConstants.{PIN_MARK_WORD, RENAME_WRITES}
+use Rattle.pin_store.specs.declared.layout.TheConstants.{FIRST_PIN_PAGE, PIN_MARK_WORD}
+use Rattle.pin_store.specs.Pages.{KeepsSecrets}
+use Rattle.migration.specs.declared.migrating.TheConstants.{RENAME_WRITES}
 
 -- The first i PINs have their mark, and no word but marks of PINs is other.
 pub record MarksPins (i : ℕ) (m after : List ℕ) : Type 0 where
@@ -40,14 +40,14 @@ pub record RenamesHeader (end : ℕ) (m after : List ℕ) : Type 0 where
 pub record IsRenamed (end : ℕ) (m after : List ℕ) : Type 0 where
   pub renames : Renames end m after
   pub marked : (pin : ℕ) → pin < 8 → word after (FIRST_PIN_PAGE + pin) PIN_MARK_WORD ≡ 1
-  pub pins : KeepsPins m after
+  pub pins : KeepsSecrets m after
 
 -- The memory stands for the same files, PINs and state.
 pub record KeepsCard (m after : List ℕ) : Type 0 where
   pub size : length after ≡ length m
   pub stands : TreeStands after
   pub tree : tree_of after ≡ tree_of m
-  pub pins : KeepsPins m after
+  pub pins : KeepsSecrets m after
   pub state : word after HEADER_PAGE STATE_WORD ≡ word m HEADER_PAGE STATE_WORD
 
 -- The memory has format 2, with all its pages.

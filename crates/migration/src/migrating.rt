@@ -16,11 +16,8 @@ ghost use Rattle.migration.specs.Parts.{FillsBatch, JoinsFirst};
 
 use block_chain::{FREE_HEAD, HEADER_PAGE, link_pages};
 use file_tree::{MARK, MARK_WORD, OLD_END_PAGE, PAGES_WORD};
-use pin_store::{FIRST_PIN_PAGE, PINS};
+use pin_store::{FIRST_PIN_PAGE, PIN_MARK_WORD, PINS};
 use undo_journal::{Board, PAGE_WORDS, Store, StoreErr, Txn};
-
-/// The word of a PIN's page that is 1 in format 2.
-pub const PIN_MARK_WORD: u16 = 6;
 
 /// Device writes of the transaction: the marks of the PINs are written together, then the words of the header.
 pub const RENAME_WRITES: u16 = 15;

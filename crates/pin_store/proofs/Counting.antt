@@ -9,11 +9,17 @@ use Rattle.undo_journal.specs.declared.batch.Waiting.{Waiting}
 use Rattle.undo_journal.specs.Batches.{batch_writes, joined_run}
 use Rattle.undo_journal.specs.Memory.{Memory, IsIdle, Waits, commit_writes, taken}
 use Rattle.undo_journal.specs.laws.Told.{idle_waits}
+use Rattle.pin_store.specs.declared.layout.TheConstants.{PIN_MARK_WORD}
 
 -- the tries, and the value behind the unblocking tries
 value_batch : (page first second third : ℕ)
     → batch_writes (joined_run (address page 2) (second ∷ third ∷ []) (joined_run (address page 0) (first ∷ []) [])) ≡ 4
 value_batch page first second third = grind (arith, nat_tests)
+
+-- the tries, and the mark behind all else
+mark_batch : (page first second : ℕ)
+    → batch_writes (joined_run (address page PIN_MARK_WORD) (second ∷ []) (joined_run (address page 0) (first ∷ []) [])) ≡ 4
+mark_batch page first second = grind (arith, nat_tests)
 
 all_batch : (page first second third fourth : ℕ)
     → batch_writes (joined_run (address page 0) (first ∷ second ∷ third ∷ fourth ∷ []) []) ≡ 3
@@ -45,6 +51,20 @@ module _ (page first second third : ℕ) (a b c : Memory) (at other : ℕ) (idle
       let two = value (let few : length b.waiting + 2 < BATCH = omega (arith, ap length held) in few) in
       let all = two.waiting ∙ ap₂ (λ (k : ℕ) (l : List Waiting). joined_run k (second ∷ third ∷ []) l) behind held in
       let batch = ap batch_writes all ∙ value_batch page first second third in
+      let commit = commit_some c (let some : 1 ≤ batch_writes c.waiting = omega (arith, batch) in some) in
+      omega (arith, ap (λ (f : Facts). f.writes) two.facts, ap (λ (f : Facts). f.writes) one.facts, batch, commit)
+
+  pub mark_counts : other ≡ address page PIN_MARK_WORD
+      → (length a.waiting + 1 < BATCH → Waits (joined_run at (first ∷ []) a.waiting) a b)
+      → (length b.waiting + 1 < BATCH → Waits (joined_run other (second ∷ []) b.waiting) b c)
+      → c.facts.writes + commit_writes c ≡ a.facts.writes + 5
+  mark_counts behind tries mark =
+      let one = tries (let few : length a.waiting + 1 < BATCH = omega (arith, ap length nothing) in few) in
+      let held : b.waiting ≡ joined_run (address page 0) (first ∷ []) [] =
+      one.waiting ∙ ap₂ (λ (k : ℕ) (l : List Waiting). joined_run k (first ∷ []) l) is nothing in
+      let two = mark (let few : length b.waiting + 1 < BATCH = omega (arith, ap length held) in few) in
+      let all = two.waiting ∙ ap₂ (λ (k : ℕ) (l : List Waiting). joined_run k (second ∷ []) l) behind held in
+      let batch = ap batch_writes all ∙ mark_batch page first second in
       let commit = commit_some c (let some : 1 ≤ batch_writes c.waiting = omega (arith, batch) in some) in
       omega (arith, ap (λ (f : Facts). f.writes) two.facts, ap (λ (f : Facts). f.writes) one.facts, batch, commit)
 

@@ -1,4 +1,3 @@
 mod Counting
 mod Pages
-mod Renewed
 mod Settled

@@ -11,7 +11,6 @@ use Rattle.undo_journal.specs.Memory.{Memory, IsIdle, IsReady, KeepsWords, Repor
 use Rattle.undo_journal.specs.laws.Memory.{reports_then}
 use Rattle.undo_journal.specs.Spending.{WritesAtMost}
 use Rattle.pin_store.specs.Pins.{Pin, kept, owner, tries_left, with_tries}
-use Rattle.pin_store.specs.Renewals.{renewal_writes}
 use Rattle.pin_store.specs.Pages.{pin_at, ArePinPages, SetsPin}
 use Rattle.pin_store.specs.Trials.{pin_in, store_failure, Charges, Compared, ComparesOnce, EndsByOutcome}
 use Rattle.pin_store.specs.Trials.{IsMatch, IsWrong, SetsByMatch}
@@ -157,22 +156,15 @@ compares_more n secret a b once = record {
   matches = once.matches;
 }
 
--- the writes of a renewal after it, by the charged secret under whichever name
-pub compares_renewal : (secret named : ℕ) (a b c : Facts) → named ≡ secret → ComparesOnce 0 secret a b
-    → WritesAtMost (renewal_writes named) b c → ComparesOnce (renewal_writes secret) secret a c
-compares_renewal secret named a b c is first rest =
-    subst (λ (s : ℕ). ComparesOnce (renewal_writes s) secret a c) is
-    (compares_then (renewal_writes named) secret a b c first rest)
-
 -- after a match a PIN is set, that of the secret under whichever name
-pub matched_sets : (n secret named : ℕ) (shown : List ℕ) (change : ℕ → Pin → Pin) (a b c : Memory) → named ≡ secret
+pub matched_sets : (n secret named : ℕ) (shown : List ℕ) (change : Pin → Pin) (a b c : Memory) → named ≡ secret
     → IsMatch secret shown a b → committed b ≡ committed a → WritesAtMost n b.facts c.facts
-    → SetsPin (committed b) (owner named) (change named (pin_in b named)) (committed c)
-    → SetsByMatch secret shown (change secret (pin_in a secret)) a c
+    → SetsPin (committed b) (owner named) (change (pin_in b named)) (committed c)
+    → SetsByMatch secret shown (change (pin_in a secret)) a c
 matched_sets n secret named shown change a b c is matched same rest sets =
-    let by_name : ℕ → Type 0 = λ s. SetsPin (committed b) (owner s) (change s (pin_at (committed b) (owner s)))
+    let by_name : ℕ → Type 0 = λ s. SetsPin (committed b) (owner s) (change (pin_at (committed b) (owner s)))
     (committed c) in
-    let by_words : List ℕ → Type 0 = λ m. SetsPin m (owner secret) (change secret (pin_at m (owner secret))) (committed c) in
+    let by_words : List ℕ → Type 0 = λ m. SetsPin m (owner secret) (change (pin_at m (owner secret))) (committed c) in
     record {
       match_counted = record {
         right = matched.right;
@@ -183,10 +175,10 @@ matched_sets n secret named shown change a b c is matched same rest sets =
     }
 
 -- or it stays
-pub matched_sets_or_not : (n secret named : ℕ) (shown : List ℕ) (change : ℕ → Pin → Pin) (a b c : Memory) → named ≡ secret
+pub matched_sets_or_not : (n secret named : ℕ) (shown : List ℕ) (change : Pin → Pin) (a b c : Memory) → named ≡ secret
     → IsMatch secret shown a b → committed b ≡ committed a → WritesAtMost n b.facts c.facts
-    → (committed c ≡ committed b) ⊎ SetsPin (committed b) (owner named) (change named (pin_in b named)) (committed c)
-    → (committed c ≡ committed a) ⊎ SetsByMatch secret shown (change secret (pin_in a secret)) a c
+    → (committed c ≡ committed b) ⊎ SetsPin (committed b) (owner named) (change (pin_in b named)) (committed c)
+    → (committed c ≡ committed a) ⊎ SetsByMatch secret shown (change (pin_in a secret)) a c
 matched_sets_or_not n secret named shown change a b c is matched same rest either =
     ⊎_map (λ stays. stays ∙ same) (λ sets. matched_sets n secret named shown change a b c is matched same rest sets)
     either

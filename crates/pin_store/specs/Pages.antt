@@ -1,10 +1,10 @@
 -- The PINs in the words of a memory: each has a page.
-use Rattle.std.specs.Prelude.{◌≡◌, ◌⊎◌, ◌<◌, ◌≤◌, ◌+◌, ℕ, List, ◌++◌, map, length, slice_index}
+use Rattle.std.specs.Prelude.{◌≡◌, ◌⊎◌, ◌<◌, ◌≤◌, ◌+◌, ◌==◌, ℕ, List, ◌++◌, map, length, slice_index}
 use Rattle.std.specs.List.{range_with_len}
 use Rattle.std.specs.Int.{w32, to_be_bytes}
 use Rattle.nvm_board.specs.Facts.{address}
-use Rattle.pin_store.specs.declared.layout.TheConstants.{FIRST_PIN_PAGE, PINS, PIN_WORDS, TRIES, UNBLOCKING_TRIES}
-use Rattle.pin_store.specs.Pins.{Pin}
+use Rattle.pin_store.specs.declared.layout.TheConstants.{FIRST_PIN_PAGE, PINS, PIN_MARK_WORD, PIN_WORDS, TRIES, UNBLOCKING_TRIES}
+use Rattle.pin_store.specs.Pins.{Pin, enabled_pin}
 
 -- the page of a PIN; PIN 1 is at 0
 abbrev pub pin_page : ℕ → ℕ
@@ -18,18 +18,23 @@ pin_word m pin place = slice_index m (address (pin_page pin) place)
 abbrev pub bytes_of_words : ℕ → ℕ → List ℕ
 bytes_of_words first second = to_be_bytes w32 first ++ to_be_bytes w32 second
 
--- the PIN of a page: tries, unblocking tries, the value in two words, the unblocking value in two
+-- the PIN of a page: tries, unblocking tries, the value in two words, the unblocking value in two, the mark
 unfoldable pub pin_at : List ℕ → ℕ → Pin
 pin_at m pin = record {
   value = bytes_of_words (pin_word m pin 2) (pin_word m pin 3);
   tries = pin_word m pin 0;
   unblocking = bytes_of_words (pin_word m pin 4) (pin_word m pin 5);
   unblocking_tries = pin_word m pin 1;
+  enabled = pin_word m pin PIN_MARK_WORD == 1;
 }
 
 -- all PINs, PIN 1 first
 unfoldable pub pins_of : List ℕ → List Pin
 pins_of m = map (pin_at m) (range_with_len 0 PINS)
+
+-- and all PINs of a memory whose pages have no marks
+unfoldable pub unmarked_pins_of : List ℕ → List Pin
+unmarked_pins_of m = map (λ pin. enabled_pin (pin_at m pin)) (range_with_len 0 PINS)
 
 -- a PIN has at most 3 tries, and its unblocking value at most 10
 pub record IsPinPage (m : List ℕ) (pin : ℕ) : Type 0 where
@@ -39,6 +44,21 @@ pub record IsPinPage (m : List ℕ) (pin : ℕ) : Type 0 where
 pub record ArePinPages (m : List ℕ) : Type 0 where
   pub each : (pin : ℕ) → pin < PINS → IsPinPage m pin
 
+-- a mark is 1 or 0
+abbrev pub IsMark : List ℕ → ℕ → Type 0
+IsMark m pin = pin_word m pin PIN_MARK_WORD ≤ 1
+
+pub record AreMarks (m : List ℕ) : Type 0 where
+  pub each : (pin : ℕ) → pin < PINS → IsMark m pin
+
+-- each PIN is enabled
+pub record AreEnabled (m : List ℕ) : Type 0 where
+  pub each : (pin : ℕ) → pin < PINS → pin_word m pin PIN_MARK_WORD ≡ 1
+
+-- the words of the PINs stay, but for their marks
+pub record KeepsSecrets (m after : List ℕ) : Type 0 where
+  pub words : (pin place : ℕ) → pin < PINS → place < PIN_MARK_WORD → pin_word after pin place ≡ pin_word m pin place
+
 -- the words that the PINs depend on stay
 pub record KeepsPins (m after : List ℕ) : Type 0 where
   pub words : (pin place : ℕ) → pin < PINS → place < PIN_WORDS → pin_word after pin place ≡ pin_word m pin place
@@ -47,8 +67,9 @@ pub record KeepsPins (m after : List ℕ) : Type 0 where
 abbrev pub IsApart : ℕ → ℕ → Type 0
 IsApart pin k = (k < address (pin_page pin) 0) ⊎ (address (pin_page pin) PIN_WORDS ≤ k)
 
--- A PIN becomes this one, and no word apart from it changes.
+-- A PIN becomes this one, and no word apart from it changes. Its mark stays one.
 pub record SetsPin (m : List ℕ) (pin : ℕ) (now : Pin) (after : List ℕ) : Type 0 where
   pub size : length after ≡ length m
   pub elsewhere : (k : ℕ) → IsApart pin k → slice_index after k ≡ slice_index m k
   pub becomes : pin_at after pin ≡ now
+  pub mark : IsMark m pin → IsMark after pin

@@ -1,13 +1,14 @@
 -- A PIN, its two secrets, and what becomes of it (ISO/IEC 7816-4, clause 11, basic security handling).
-use Rattle.std.specs.Prelude.{ℕ, ◌≤◌, ◌-◌, ◌%◌, Bool, nat_le, if◌then◌else◌, List}
+use Rattle.std.specs.Prelude.{ℕ, ◌≤◌, ◌-◌, ◌%◌, Bool, true, nat_le, if◌then◌else◌, List}
 use Rattle.pin_store.specs.declared.layout.TheConstants.{PINS, TRIES, UNBLOCKING_TRIES}
 
--- a PIN: its value and the tries that are left, and the same of the value that unblocks it
+-- a PIN: its value and the tries that are left, the same of the value that unblocks it, and whether its verification is required
 pub record Pin : Type 0 where
   pub value : List ℕ
   pub tries : ℕ
   pub unblocking : List ℕ
   pub unblocking_tries : ℕ
+  pub enabled : Bool
 
 -- secrets 0 to 7 are the values of PIN 1 to 8, and secrets 8 to 15 the values that unblock them
 abbrev pub is_unblocking : ℕ → Bool
@@ -40,6 +41,7 @@ with_tries secret n pin = record {
   tries = if is_unblocking secret then pin.tries else n;
   unblocking = pin.unblocking;
   unblocking_tries = if is_unblocking secret then n else pin.unblocking_tries;
+  enabled = pin.enabled;
 }
 
 -- a try of a secret is taken away
@@ -57,3 +59,11 @@ changed_pin new pin = record pin { value = new; tries = TRIES }
 -- the unblocking value was shown, and a new value takes the place of the old one, by RESET RETRY COUNTER
 abbrev pub reset_pin : List ℕ → Pin → Pin
 reset_pin new pin = record pin { value = new; tries = TRIES; unblocking_tries = UNBLOCKING_TRIES }
+
+-- the value was shown, and its verification is required from now on, or no longer, by ENABLE and DISABLE VERIFICATION REQUIREMENT
+abbrev pub marked_pin : Bool → Pin → Pin
+marked_pin enabled pin = record pin { tries = TRIES; enabled = enabled }
+
+-- a PIN whose page has no mark is enabled
+abbrev pub enabled_pin : Pin → Pin
+enabled_pin pin = record pin { enabled = true }

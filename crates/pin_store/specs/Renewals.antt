@@ -1,20 +1,28 @@
--- What a right secret and a new value renew of a PIN, whichever of its two secrets it is. No public clause names these.
-use Rattle.std.specs.Prelude.{ℕ, if◌then◌else◌, List}
+-- What a right value renews of a PIN. No public clause names these.
+use Rattle.std.specs.Prelude.{ℕ}
 use Rattle.undo_journal.specs.Spending.{transaction_writes}
-use Rattle.pin_store.specs.Pins.{Pin, changed_pin, is_unblocking, reset_pin}
+use Rattle.pin_store.specs.declared.putting.Renewal.{Renewal}
+use Rattle.pin_store.specs.declared.putting.Renewal.TheVariants.{Value, ValueAndTries, Mark}
+use Rattle.pin_store.specs.Pins.{Pin, changed_pin, marked_pin, reset_pin}
 
 -- the PIN afterwards
-abbrev pub renewed_pin : ℕ → List ℕ → Pin → Pin
-renewed_pin secret new pin = if is_unblocking secret then reset_pin new pin else changed_pin new pin
+abbrev pub renewed_pin : Renewal → Pin → Pin
+renewed_pin (Value new) pin = changed_pin new.now pin
+renewed_pin (ValueAndTries new) pin = reset_pin new.now pin
+renewed_pin (Mark enabled) pin = marked_pin enabled pin
 
--- how many words are set: tries and two of the value, and unblocking tries
-abbrev pub renewal_sets : ℕ → ℕ
-renewal_sets secret = if is_unblocking secret then 4 else 3
+-- how many words are set: the tries, and two of the value; the unblocking tries too; or the tries and the mark
+abbrev pub renewal_sets : Renewal → ℕ
+renewal_sets (Value new) = 3
+renewal_sets (ValueAndTries new) = 4
+renewal_sets (Mark enabled) = 2
 
--- in how many runs of successive words: without the unblocking tries, which stand between, in two
-abbrev pub renewal_runs : ℕ → ℕ
-renewal_runs secret = if is_unblocking secret then 1 else 2
+-- in how many runs of successive words: only with the unblocking tries, which stand between tries and value, in one
+abbrev pub renewal_runs : Renewal → ℕ
+renewal_runs (Value new) = 2
+renewal_runs (ValueAndTries new) = 1
+renewal_runs (Mark enabled) = 2
 
 -- and the device writes of their transaction
-abbrev pub renewal_writes : ℕ → ℕ
-renewal_writes secret = transaction_writes (renewal_sets secret) (renewal_runs secret)
+abbrev pub renewal_writes : Renewal → ℕ
+renewal_writes renewal = transaction_writes (renewal_sets renewal) (renewal_runs renewal)

@@ -9,7 +9,7 @@ use Rattle.pin_store.specs.declared.errors.PinErr.TheVariants as pin_err
 use Rattle.pin_store.specs.declared.errors.Outcome.{Outcome}
 use Rattle.pin_store.specs.declared.errors.Outcome.TheVariants.{Matched, Wrong}
 use Rattle.pin_store.specs.Pins.{Pin, owner, kept, tries_left, full_tries, charged_pin}
-use Rattle.pin_store.specs.Pages.{pin_at, IsApart, SetsPin}
+use Rattle.pin_store.specs.Pages.{pin_at, IsApart, IsMark, SetsPin}
 use Rattle.pin_store.specs.declared.layout.TheConstants.{PINS}
 
 -- the PIN of a secret, as what is committed has it
@@ -85,7 +85,7 @@ pub record PaysForOne (secret : ℕ) (shown : List ℕ) (old new : Memory) : Typ
 -- The PIN law, of the store before the charge and after the end, or where either stopped. The tries of what is shown stay, or
 -- are one fewer, or all of them after a match; where a comparison was counted, it was paid for. The PIN changes but for these
 -- tries by a match alone, its unblocking value never, its unblocking tries by no command that shows its value. No word apart
--- from the PIN changes.
+-- from the PIN changes, and its mark stays one.
 pub record KeepsPinLaw (secret : ℕ) (shown : List ℕ) (old new : Memory) : Type 0 where
   pub tries : (tries_left secret (pin_in new secret) ≡ tries_left secret (pin_in old secret))
       ⊎ (tries_left secret (pin_in new secret) + 1 ≡ tries_left secret (pin_in old secret))
@@ -97,3 +97,4 @@ pub record KeepsPinLaw (secret : ℕ) (shown : List ℕ) (old new : Memory) : Ty
   pub unblocking : (pin_in new secret).unblocking ≡ (pin_in old secret).unblocking
   pub unblocking_tries : secret < PINS → (pin_in new secret).unblocking_tries ≡ (pin_in old secret).unblocking_tries
   pub elsewhere : (k : ℕ) → IsApart (owner secret) k → slice_index (committed new) k ≡ slice_index (committed old) k
+  pub mark : IsMark (committed old) (owner secret) → IsMark (committed new) (owner secret)

@@ -11,13 +11,14 @@ ghost use Rattle.pin_store.specs.Pages.{ArePinPages};
 ghost use Rattle.pin_store.specs.Trials.{pin_in, store_failure, Charges};
 
 use crate::errors::PinErr;
+use crate::layout::PIN_MARK_WORD;
 use crate::putting::put_left;
 use crate::words::{address_of, tries_place};
 use std::marker::Model;
 use undo_journal::{Board, Store, StoreErr};
 
-/// The receipt of a charge: a try of this secret is gone. It is spent by `settle`, `change` or `reset_counter`, which alone
-/// compare; it can't be copied or dropped.
+/// The receipt of a charge: a try of this secret is gone. It is spent by `settle`, `change`, `reset_counter` or `set_enabled`,
+/// which alone compare; it can't be copied or dropped.
 pub struct Charged {
     pub(crate) secret: u8,
 }
@@ -56,6 +57,20 @@ pub fn tries<B: Board>(store: &mut Store<B>, secret: u8) -> Result<u8, StoreErr>
 {
     let word = store.read(address_of(secret, tries_place(secret)))?;
     Ok(word as u8)
+}
+
+/// Whether the PIN of a secret is enabled: its verification is required.
+///
+/// # Errors
+/// What the store answers: power was lost, or the device failed.
+pub fn is_enabled<B: Board>(store: &mut Store<B>, secret: u8) -> Result<bool, StoreErr>
+    requires ready { IsReady store.old }
+    requires secret { secret < SECRETS }
+    ensures enabled { IfOk result (λ enabled. enabled ≡ (pin_in store.old secret).enabled) }
+    ensures store { Reads store.old store.new (result_err result) }
+{
+    let mark = store.read(address_of(secret, PIN_MARK_WORD))?;
+    Ok(mark == 1)
 }
 
 /// Takes a try of a secret away, lastingly, in one device write (`counted`). Nothing is compared, at no exit: the counts

@@ -1,38 +1,57 @@
 //! Laws of the definitions, as contracts of functions that do nothing.
-ghost use Rattle.std.specs.Prelude.{◌≡◌, ◌⊎◌, ◌<◌, ◌≤◌, ℕ, List, slice_set};
+ghost use Rattle.std.specs.Prelude.{◌≡◌, ◌⊎◌, ◌<◌, ◌≤◌, ℕ, Bool, List, slice_set};
 ghost use Rattle.undo_journal.specs.Memory.{Memory, committed};
 ghost use Rattle.undo_journal.specs.Spending.{WritesAtMost};
-ghost use Rattle.pin_store.specs.declared.layout.TheConstants.{FIRST_PIN_PAGE, PINS, PIN_WORDS, TRIES, UNBLOCKING_TRIES};
-ghost use Rattle.pin_store.specs.Pins.{Pin, HasFewTries, changed_pin, reset_pin, verified_pin};
-ghost use Rattle.pin_store.specs.Pages.{pins_of, ArePinPages, KeepsPins, SetsPin};
+ghost use Rattle.pin_store.specs.declared.layout.TheConstants.{FIRST_PIN_PAGE, PINS, PIN_MARK_WORD, PIN_WORDS, TRIES};
+ghost use Rattle.pin_store.specs.declared.layout.TheConstants.{UNBLOCKING_TRIES};
+ghost use Rattle.pin_store.specs.Pins.{Pin, HasFewTries, changed_pin, marked_pin, reset_pin, verified_pin};
+ghost use Rattle.pin_store.specs.Pages.{pins_of, unmarked_pins_of, AreEnabled, AreMarks, ArePinPages, KeepsPins, KeepsSecrets};
+ghost use Rattle.pin_store.specs.Pages.{SetsPin};
 ghost use Rattle.pin_store.specs.Trials.{pin_in, Charges, ComparesOnce, KeepsPinLaw, SetsByMatch};
 
-/// The numbers of PINs: the pages of 8 PINs from page 65 on, of which 6 words are looked at, 3 tries, 10 unblocking tries.
+/// The numbers of PINs: the pages of 8 PINs from page 65 on, of which 7 words are looked at, the last of them the mark; 3
+/// tries, 10 unblocking tries.
 pub fn layout()
-    ensures pages { (FIRST_PIN_PAGE ≡ 65) × (PINS ≡ 8) × (PIN_WORDS ≡ 6) }
+    ensures pages { (FIRST_PIN_PAGE ≡ 65) × (PINS ≡ 8) × (PIN_WORDS ≡ 7) × (PIN_MARK_WORD ≡ 6) }
     ensures tries { (TRIES ≡ 3) × (UNBLOCKING_TRIES ≡ 10) }
 {}
 
-/// The PINs depend on six words of each of their pages, pages 65 to 72.
-#[tactic(auto, using(crate::specs::laws::AllPins::pins_kept, crate::specs::laws::AllPins::pages_kept))]
+/// The PINs depend on seven words of each of their pages, pages 65 to 72.
+#[tactic(auto, using(crate::specs::laws::AllPins::pins_kept, crate::specs::laws::AllPins::pages_kept, crate::specs::laws::AllPins::marks_kept))]
 pub fn words_elsewhere_keep_the_pins()
     ensures pins { (m after : List ℕ) → KeepsPins m after → pins_of after ≡ pins_of m }
     ensures pages { (m after : List ℕ) → KeepsPins m after → ArePinPages m → ArePinPages after }
+    ensures marks { (m after : List ℕ) → KeepsPins m after → AreMarks m → AreMarks after }
+{}
+
+/// The PINs of a memory whose pages have no marks are enabled, and depend on six words of each page.
+#[tactic(auto, using(crate::specs::laws::AllPins::secrets_kept, crate::specs::laws::AllPins::secrets_pages))]
+pub fn pins_without_marks_are_enabled()
+    ensures pins { (m after : List ℕ) → KeepsSecrets m after → unmarked_pins_of after ≡ unmarked_pins_of m }
+    ensures pages { (m after : List ℕ) → KeepsSecrets m after → ArePinPages m → ArePinPages after }
+{}
+
+/// Once each PIN is marked as enabled, the PINs are those of a memory without marks.
+#[tactic(auto, using(crate::specs::laws::AllPins::enabled_unmarked, crate::specs::laws::AllPins::enabled_marks))]
+pub fn pins_marked_as_enabled_are_so()
+    ensures pins { (m : List ℕ) → AreEnabled m → pins_of m ≡ unmarked_pins_of m }
+    ensures marks { (m : List ℕ) → AreEnabled m → AreMarks m }
 {}
 
 /// Where one PIN is set, the list of PINs has it in the place of the old one, and no other PIN changes. The pages stay as they
-/// may be, if the new PIN has no more tries than there may be.
-#[tactic(auto, using(crate::specs::laws::AllPins::pins_set, crate::specs::laws::AllPins::pages_set))]
+/// may be, if the new PIN has no more tries than there may be, and marks stay marks.
+#[tactic(auto, using(crate::specs::laws::AllPins::pins_set, crate::specs::laws::AllPins::pages_set, crate::specs::laws::AllPins::marks_set))]
 pub fn one_pin_is_set()
     ensures pins { (m after : List ℕ) (pin : ℕ) (now : Pin) → pin < PINS → SetsPin m pin now after
         → pins_of after ≡ slice_set (pins_of m) pin now }
     ensures pages { (m after : List ℕ) (pin : ℕ) (now : Pin) → SetsPin m pin now after → HasFewTries now → ArePinPages m
         → ArePinPages after }
+    ensures marks { (m after : List ℕ) (pin : ℕ) (now : Pin) → SetsPin m pin now after → AreMarks m → AreMarks after }
 {}
 
 /// The PIN law: a comparison costs a lasting try. It holds of the store before a charge and at each of its exits, and of the
-/// store before a charge and at each exit of the end that spends its receipt: what `charge`, `settle`, `change` and
-/// `reset_counter` leave, by their clauses `any_exit`, `store` and `spends`, is all that it asks.
+/// store before a charge and at each exit of the end that spends its receipt: what `charge`, `settle`, `change`,
+/// `reset_counter` and `set_enabled` leave, by their clauses `any_exit`, `store` and `spends`, is all that it asks.
 pub fn a_comparison_costs_a_try()
     ensures charge { (secret : ℕ) (shown : List ℕ) (a b : Memory) → (committed b ≡ committed a) ⊎ Charges secret a b
         → WritesAtMost 1 a.facts b.facts → KeepsPinLaw secret shown a b }
@@ -48,4 +67,8 @@ pub fn a_comparison_costs_a_try()
         → WritesAtMost 1 a.facts b.facts
         → (committed c ≡ committed b) ⊎ SetsByMatch secret shown (reset_pin new (pin_in b secret)) b c
         → ComparesOnce 4 secret b.facts c.facts → KeepsPinLaw secret shown a c }
+    ensures mark { (secret : ℕ) (shown : List ℕ) (enabled : Bool) (a b c : Memory) → secret < PINS → Charges secret a b
+        → WritesAtMost 1 a.facts b.facts
+        → (committed c ≡ committed b) ⊎ SetsByMatch secret shown (marked_pin enabled (pin_in b secret)) b c
+        → ComparesOnce 5 secret b.facts c.facts → KeepsPinLaw secret shown a c }
 {}

@@ -11,8 +11,8 @@ mod putting;
 mod settling;
 mod words;
 
-pub use charging::{Charged, charge, tries};
-pub use checking::are_pins;
+pub use charging::{Charged, charge, is_enabled, tries};
+pub use checking::{are_marks, are_pins};
 pub use errors::{Outcome, PinErr};
-pub use layout::{FIRST_PIN_PAGE, PINS, TRIES, UNBLOCKING_TRIES};
-pub use settling::{change, reset_counter, settle};
+pub use layout::{FIRST_PIN_PAGE, PIN_MARK_WORD, PINS, TRIES, UNBLOCKING_TRIES};
+pub use settling::{change, reset_counter, set_enabled, settle};

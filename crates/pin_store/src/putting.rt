@@ -1,18 +1,29 @@
 //! PINs that are set after a match.
-ghost use Rattle.std.specs.Prelude.{◌≡◌, ◌⊎◌, ◌+◌, ◌≤◌, OnOk};
+ghost use Rattle.std.specs.Prelude.{◌≡◌, ◌⊎◌, ◌+◌, ◌≤◌, OnOk, if◌then◌else◌};
 ghost use Rattle.std.specs.Result.{result_err};
 ghost use Rattle.undo_journal.specs.Calls.{Changes, SetsIn};
 ghost use Rattle.undo_journal.specs.Commits.{CommitsByGate, StaysShut};
 ghost use Rattle.undo_journal.specs.Lent.{memory_of};
 ghost use Rattle.undo_journal.specs.Memory.{committed, current, room, CountsCommit, InRuns, IsOpen, IsReady};
-ghost use Rattle.pin_store.specs.Pins.{changed_pin, owner, reset_pin, tries_left, verified_pin, with_tries};
+ghost use Rattle.pin_store.specs.Pins.{changed_pin, marked_pin, owner, reset_pin, tries_left, verified_pin, with_tries};
 ghost use Rattle.pin_store.specs.Renewals.{renewal_runs, renewal_sets, renewal_writes, renewed_pin};
 ghost use Rattle.pin_store.specs.Pages.{pin_at, ArePinPages, SetsPin};
 ghost use Rattle.pin_store.specs.Trials.{pin_in};
 
-use crate::layout::{PINS, TRIES, UNBLOCKING_TRIES};
+use crate::layout::{PIN_MARK_WORD, TRIES, UNBLOCKING_TRIES};
 use crate::words::{address_of, tries_place, words_of};
 use undo_journal::{Board, Store, StoreErr, Txn};
+
+/// What a right value renews of a PIN, beside the tries of the value.
+#[derive(Clone, Copy)]
+pub(crate) enum Renewal<'a> {
+    /// A new value takes the place of the old one.
+    Value(&'a [u8; 8]),
+    /// A new value takes the place of the old one, and the unblocking tries are all there again.
+    ValueAndTries(&'a [u8; 8]),
+    /// The PIN is enabled, or disabled.
+    Mark(bool),
+}
 
 /// Sets the tries of a PIN to 3, and its value, within a transaction: words 0, 2 and 3 of its page, in this order.
 fn set_value<B: Board>(txn: &mut Txn<'_, B>, secret: u8, new: &[u8; 8]) -> Result<(), StoreErr>
@@ -45,6 +56,27 @@ fn set_all<B: Board>(txn: &mut Txn<'_, B>, secret: u8, new: &[u8; 8]) -> Result<
         address_of(secret, 0),
         &[u32::from(TRIES), u32::from(UNBLOCKING_TRIES), first, second],
     )
+}
+
+/// Sets the tries of a PIN to 3, and its mark, within a transaction: words 0 and 6 of its page, in this order.
+fn set_mark<B: Board>(txn: &mut Txn<'_, B>, secret: u8, enabled: bool) -> Result<(), StoreErr>
+    requires ready { IsOpen (memory_of txn.old) }
+    requires room { 2 ≤ room (memory_of txn.old) }
+    ensures done { OnOk result (SetsPin (current (memory_of txn.old)) (owner secret)
+        (marked_pin enabled (pin_at (current (memory_of txn.old)) (owner secret))) (current (memory_of txn.new))) }
+    ensures store { SetsIn 2 txn.old txn.new (result_err result) }
+    ensures counted { OnOk result (CountsCommit 5 (memory_of txn.old) (memory_of txn.new)) }
+    ensures runs { InRuns 2 (memory_of txn.old) (memory_of txn.new) }
+{
+    txn.set_run(address_of(secret, 0), &[u32::from(TRIES)])?;
+    txn.set_run(address_of(secret, PIN_MARK_WORD), &[mark_of(enabled)])
+}
+
+/// The mark of a PIN that is enabled, or disabled.
+fn mark_of(enabled: bool) -> u32
+    ensures { result ≡ (if enabled then 1 else 0) }
+{
+    if enabled { 1 } else { 0 }
 }
 
 /// Sets the tries of a secret, to fewer or as many, in one device write.
@@ -80,41 +112,44 @@ pub(crate) fn put_tries<B: Board>(store: &mut Store<B>, secret: u8) -> Result<()
     store.put_alone(address_of(secret, 0), u32::from(TRIES))
 }
 
-/// Sets what a right secret and a new value renew, within a transaction: the value and its tries, and of an unblocking
-/// secret its own tries too.
-fn set_renewed<B: Board>(txn: &mut Txn<'_, B>, secret: u8, new: &[u8; 8]) -> Result<(), StoreErr>
+/// Sets what a right secret renews of its PIN, within a transaction.
+fn set_renewed<B: Board>(
+    txn: &mut Txn<'_, B>,
+    secret: u8,
+    renewal: Renewal<'_>,
+) -> Result<(), StoreErr>
     requires ready { IsOpen (memory_of txn.old) }
     requires room { 4 ≤ room (memory_of txn.old) }
     ensures done { OnOk result (SetsPin (current (memory_of txn.old)) (owner secret)
-        (renewed_pin secret new.now (pin_at (current (memory_of txn.old)) (owner secret)))
+        (renewed_pin renewal.entry (pin_at (current (memory_of txn.old)) (owner secret)))
         (current (memory_of txn.new))) }
-    ensures store { SetsIn (renewal_sets secret) txn.old txn.new (result_err result) }
-    ensures counted { OnOk result (CountsCommit (renewal_writes secret) (memory_of txn.old) (memory_of txn.new)) }
-    ensures runs { InRuns (renewal_runs secret) (memory_of txn.old) (memory_of txn.new) }
+    ensures store { SetsIn (renewal_sets renewal.entry) txn.old txn.new (result_err result) }
+    ensures counted { OnOk result (CountsCommit (renewal_writes renewal.entry) (memory_of txn.old) (memory_of txn.new)) }
+    ensures runs { InRuns (renewal_runs renewal.entry) (memory_of txn.old) (memory_of txn.new) }
 {
-    if secret < PINS {
-        set_value(txn, secret, new)
-    } else {
-        set_all(txn, secret, new)
+    match renewal {
+        Renewal::Value(new) => set_value(txn, secret, new),
+        Renewal::ValueAndTries(new) => set_all(txn, secret, new),
+        Renewal::Mark(enabled) => set_mark(txn, secret, enabled),
     }
 }
 
-/// Sets what a right secret and a new value renew, in one transaction.
+/// Sets what a right secret renews of its PIN, in one transaction.
 pub(crate) fn put_renewed<B: Board>(
     store: &mut Store<B>,
     secret: u8,
-    new: &[u8; 8],
+    renewal: Renewal<'_>,
 ) -> Result<(), StoreErr>
     requires ready { IsReady store.old }
     ensures any_exit { (committed store.new ≡ committed store.old) ⊎ SetsPin (committed store.old) (owner secret)
-        (renewed_pin secret new.now (pin_in store.old secret)) (committed store.new) }
+        (renewed_pin renewal.entry (pin_in store.old secret)) (committed store.new) }
     ensures done { OnOk result (SetsPin (committed store.old) (owner secret)
-        (renewed_pin secret new.now (pin_in store.old secret)) (committed store.new)) }
+        (renewed_pin renewal.entry (pin_in store.old secret)) (committed store.new)) }
     ensures by_gate { CommitsByGate store.old store.new }
-    ensures store { Changes (renewal_writes secret) store.old store.new (result_err result) }
-    ensures counted { OnOk result (store.new.facts.writes ≡ store.old.facts.writes + renewal_writes secret) }
+    ensures store { Changes (renewal_writes renewal.entry) store.old store.new (result_err result) }
+    ensures counted { OnOk result (store.new.facts.writes ≡ store.old.facts.writes + renewal_writes renewal.entry) }
 {
     let mut txn = store.begin();
-    let work = set_renewed(&mut txn, secret, new);
+    let work = set_renewed(&mut txn, secret, renewal);
     txn.end(work)
 }

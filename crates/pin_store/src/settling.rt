@@ -6,14 +6,14 @@ ghost use Rattle.undo_journal.specs.Commits.{CommitsByGate, StaysShut};
 ghost use Rattle.undo_journal.specs.Memory.{committed, IsReady};
 ghost use Rattle.nvm_board.specs.declared.board.TheConstants.{SECRETS};
 ghost use Rattle.pin_store.specs.declared.layout.TheConstants.{PINS};
-ghost use Rattle.pin_store.specs.Pins.{changed_pin, kept, reset_pin, verified_pin};
+ghost use Rattle.pin_store.specs.Pins.{changed_pin, kept, marked_pin, reset_pin, verified_pin};
 ghost use Rattle.pin_store.specs.Renewals.{renewal_writes, renewed_pin};
 ghost use Rattle.pin_store.specs.Pages.{ArePinPages};
 ghost use Rattle.pin_store.specs.Trials.{end_writes, pin_in, Compared, ComparesOnce, EndsByOutcome, SetsByMatch};
 
 use crate::charging::{Charged, tries};
 use crate::errors::Outcome;
-use crate::putting::{put_renewed, put_tries};
+use crate::putting::{Renewal, put_renewed, put_tries};
 use crate::words::{address_of, bytes_of, kept_place};
 use undo_journal::{Board, Store, StoreErr};
 
@@ -74,7 +74,7 @@ pub fn change<B: Board>(
     ensures counted { IfOk result (λ outcome. store.new.facts.writes
         ≡ store.old.facts.writes + end_writes 5 outcome) }
 {
-    renew(store, charged, shown, new)
+    renew(store, charged, shown, Renewal::Value(new))
 }
 
 /// RESET RETRY COUNTER: compares the shown bytes with the unblocking value of the charged PIN. If they are equal, the
@@ -103,34 +103,63 @@ pub fn reset_counter<B: Board>(
     ensures counted { IfOk result (λ outcome. store.new.facts.writes
         ≡ store.old.facts.writes + end_writes 4 outcome) }
 {
-    renew(store, charged, shown, new)
+    renew(store, charged, shown, Renewal::ValueAndTries(new))
 }
 
-/// Compares the shown bytes with the kept ones of the charged secret. If they are equal, what the secret and a new
-/// value renew is set in one transaction; else nothing is written.
+/// ENABLE and DISABLE VERIFICATION REQUIREMENT: compares the shown bytes with the value of the charged PIN. If they are equal,
+/// its tries are 3 again, and the PIN is enabled, or disabled, in one transaction of five device writes; else nothing is
+/// written.
+///
+/// # Errors
+/// What the store answers: power was lost, or the device failed. The receipt is spent then, too.
+pub fn set_enabled<B: Board>(
+    store: &mut Store<B>,
+    charged: Charged,
+    shown: &[u8; 8],
+    enabled: bool,
+) -> Result<Outcome, StoreErr>
+    requires ready { IsReady store.old }
+    requires secret { charged < PINS }
+    requires pages { ArePinPages (committed store.old) }
+    ensures any_exit { (committed store.new ≡ committed store.old)
+        ⊎ SetsByMatch charged shown.now (marked_pin enabled (pin_in store.old charged)) store.old store.new }
+    ensures done { IfOk result (EndsByOutcome charged shown.now
+        (marked_pin enabled (pin_in store.old charged)) store.old store.new) }
+    ensures by_gate { CommitsByGate store.old store.new }
+    ensures pages { ArePinPages (committed store.new) }
+    ensures store { Leaves store.old store.new (result_err result) }
+    ensures spends { ComparesOnce 5 charged store.old.facts store.new.facts }
+    ensures counted { IfOk result (λ outcome. store.new.facts.writes
+        ≡ store.old.facts.writes + end_writes 5 outcome) }
+{
+    renew(store, charged, shown, Renewal::Mark(enabled))
+}
+
+/// Compares the shown bytes with the kept ones of the charged secret. If they are equal, what the secret renews is set in one
+/// transaction; else nothing is written.
 fn renew<B: Board>(
     store: &mut Store<B>,
     charged: Charged,
     shown: &[u8; 8],
-    new: &[u8; 8],
+    renewal: Renewal<'_>,
 ) -> Result<Outcome, StoreErr>
     requires ready { IsReady store.old }
     requires pages { ArePinPages (committed store.old) }
     ensures any_exit { (committed store.new ≡ committed store.old)
-        ⊎ SetsByMatch charged shown.now (renewed_pin charged new.now (pin_in store.old charged)) store.old store.new }
+        ⊎ SetsByMatch charged shown.now (renewed_pin renewal.entry (pin_in store.old charged)) store.old store.new }
     ensures done { IfOk result (EndsByOutcome charged shown.now
-        (renewed_pin charged new.now (pin_in store.old charged)) store.old store.new) }
+        (renewed_pin renewal.entry (pin_in store.old charged)) store.old store.new) }
     ensures by_gate { CommitsByGate store.old store.new }
     ensures pages { ArePinPages (committed store.new) }
     ensures store { Leaves store.old store.new (result_err result) }
-    ensures spends { ComparesOnce (renewal_writes charged) charged store.old.facts store.new.facts }
+    ensures spends { ComparesOnce (renewal_writes renewal.entry) charged store.old.facts store.new.facts }
     ensures counted { IfOk result (λ outcome. store.new.facts.writes
-        ≡ store.old.facts.writes + end_writes (renewal_writes charged) outcome) }
+        ≡ store.old.facts.writes + end_writes (renewal_writes renewal.entry) outcome) }
 {
     let secret = charged.secret();
     let outcome = compare(store, charged, shown)?;
     if let Outcome::Matched = outcome {
-        put_renewed(store, secret, new)?;
+        put_renewed(store, secret, renewal)?;
     }
     Ok(outcome)
 }

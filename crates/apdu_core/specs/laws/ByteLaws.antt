@@ -142,7 +142,10 @@ pins-of_bytes = (
   λ p1 p2 body sent. shown_value-of_bytes body.sent sent.sent,
   (
     λ p1 p2 body sent. (bytes-take 8 body.sent sent.sent, bytes-drop 8 body.sent sent.sent),
-    (λ p1 p2 body sent. shown_values-of_bytes body.sent sent.sent, tt),
+    (
+      λ p1 p2 body sent. shown_values-of_bytes body.sent sent.sent,
+      (λ p1 p2 body sent. sent.sent, (λ p1 p2 body sent. sent.sent, tt)),
+    ),
   ),
 )
 

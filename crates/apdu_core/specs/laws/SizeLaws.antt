@@ -114,6 +114,10 @@ values-sized : (sent : List ℕ) (le : Bool) → (((length sent == 0) || (length
 values-sized [] le e = tt
 values-sized (byte ∷ bytes) le e = halves-sized (byte ∷ bytes) (not-none byte bytes 16 le e)
 
+-- 8 bytes
+one-value-sized : (sent : List ℕ) (le : Bool) → ((length sent == 8) && not le) ≡ true → IsPinValue sent
+one-value-sized sent le e = eqb-true (length sent) 8 (and_parts (length sent == 8) (not le) e).0
+
 binaries-sized : EachRow IsRowSized binary_rows
 binaries-sized = (λ p1 p2 body e. tt, (λ p1 p2 body e. sent-sized body.sent (is_some body.expected) e, tt))
 
@@ -152,7 +156,13 @@ pins-sized = (
   λ p1 p2 body e. value-sized body.sent (is_some body.expected) e,
   (
     λ p1 p2 body e. change-sized body.sent (is_some body.expected) e,
-    (λ p1 p2 body e. values-sized body.sent (is_some body.expected) e, tt),
+    (
+      λ p1 p2 body e. values-sized body.sent (is_some body.expected) e,
+      (
+        λ p1 p2 body e. one-value-sized body.sent (is_some body.expected) e,
+        (λ p1 p2 body e. one-value-sized body.sent (is_some body.expected) e, tt),
+      ),
+    ),
   ),
 )
 

@@ -12,12 +12,10 @@ use Rattle.file_tree.specs.declared.space.FreeSpace.{FreeSpace}
 use Rattle.file_tree.specs.Trees.{tree_of, TreeStands}
 use Rattle.file_tree.specs.declared.layout.TheConstants.{MARK, MARK_WORD, STATE_WORD}
 use Rattle.file_tree.specs.laws.Formats.{count_same}
-use Rattle.pin_store.specs.Pages.{pin_word, ArePinPages, KeepsPins}
-use Rattle.pin_store.specs.declared.layout.TheConstants.{PINS}
-use Rattle.pin_store.specs.laws.AllPins.{pages_kept, pins_kept}
-use Rattle.migration.specs.declared.migrating.TheConstants.{PIN_MARK_WORD}
+use Rattle.pin_store.specs.Pages.{pins_of, unmarked_pins_of, ArePinPages, KeepsPins, KeepsSecrets}
+use Rattle.pin_store.specs.laws.AllPins.{marks_kept, pages_kept, pins_kept, secrets_kept}
 use Rattle.card_core.specs.Cards.{card_space}
-use Rattle.card_core.specs.Standing.{board_blocks, card_blocks, card_of, IsAnyCard, IsCard, IsOldCard}
+use Rattle.card_core.specs.Standing.{board_blocks, card_blocks, card_of, card_pins, IsAnyCard, IsCard, IsOldCard}
 
 -- in either format the files make a tree, and the PINs have no more tries than they may have
 pub any_tree : (m : List ℕ) → IsAnyCard m → TreeStands m
@@ -84,10 +82,32 @@ blocks_same m after size format =
     let pages = pages_same m after size in
     λ i. if format.mark i == MARK then count i else pages i - FIRST_BLOCK_PAGE
 
+-- by the format it has its PINs, too
+pub pins_new : (m : List ℕ) → is_format_2 m ≡ true → card_pins m ≡ pins_of m
+unfolding card_pins
+pins_new m is = ap (λ (b : Bool). if b then pins_of m else unmarked_pins_of m) is
+
+pub pins_old : (m : List ℕ) → is_format_2 m ≡ false → card_pins m ≡ unmarked_pins_of m
+unfolding card_pins
+pins_old m is = ap (λ (b : Bool). if b then pins_of m else unmarked_pins_of m) is
+
+pub card_pins_are : (m : List ℕ) → IsCard m → (card_of m).pins ≡ pins_of m
+unfolding card_of
+card_pins_are m words = pins_new m (card_format m words)
+
+-- the same header and the same words of PINs, the same PINs
+pub pins_same : (m after : List ℕ) → SameFormat m after → KeepsPins m after → card_pins after ≡ card_pins m
+unfolding card_pins is_format_2
+pins_same m after format keeps =
+    let secrets : KeepsSecrets m after =
+    record { words = λ pin place lt small. keeps.words pin place lt (omega (arith, small)) } in
+    let marked = pins_kept m after keeps in
+    let unmarked = secrets_kept m after secrets in
+    λ i. if format.mark i == MARK then marked i else unmarked i
+
 -- Two memories with the same header, but for the free chain, and the same words of PINs.
 module _ (m after : List ℕ) (size : length after ≡ length m) (format : SameFormat m after)
-    (state : word after HEADER_PAGE STATE_WORD ≡ word m HEADER_PAGE STATE_WORD) (pins : KeepsPins m after)
-    (marks : (pin : ℕ) → pin < PINS → pin_word after pin PIN_MARK_WORD ≡ pin_word m pin PIN_MARK_WORD) where
+    (state : word after HEADER_PAGE STATE_WORD ≡ word m HEADER_PAGE STATE_WORD) (pins : KeepsPins m after) where
   -- a card stays one, if its files still make a tree
   pub card_stands : IsCard m → TreeStands after → IsCard after
   card_stands words stands = record {
@@ -98,7 +118,7 @@ module _ (m after : List ℕ) (size : length after ≡ length m) (format : SameF
     };
     tree = stands;
     pins = pages_kept m after pins words.pins;
-    marks = λ pin lt. marks pin lt ∙ words.marks pin lt;
+    marks = marks_kept m after pins words.marks;
   }
 
   pub old_stands : IsOldCard m → TreeStands after → IsOldCard after
@@ -120,9 +140,10 @@ module _ (m after : List ℕ) (size : length after ≡ length m) (format : SameF
   unfolding card_of
   card_after =
       let blocks = blocks_same m after size format in
+      let same = pins_same m after format pins in
       λ i. record {
         tree = tree_of after;
-        pins = pins_kept m after pins i;
+        pins = same i;
         in_use = state i == 0;
         blocks = blocks i;
       }

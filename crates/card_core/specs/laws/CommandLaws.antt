@@ -2,7 +2,7 @@
 use Rattle.apdu_core.specs.Requests.{Request, select, read_binary, update_binary, create_file, delete_file}
 use Rattle.apdu_core.specs.Requests.{read_record, update_record, append_record, search_record, increase}
 use Rattle.apdu_core.specs.Requests.{change_life_cycle, terminate_card_usage, verify, change_reference_data}
-use Rattle.apdu_core.specs.Requests.{reset_retry_counter}
+use Rattle.apdu_core.specs.Requests.{reset_retry_counter, change_requirement}
 use Rattle.card_core.specs.laws.BinaryLaws as binaries
 use Rattle.card_core.specs.laws.FileLaws as files
 use Rattle.card_core.specs.laws.IncreaseLaws as increasing
@@ -27,3 +27,4 @@ lawful terminate_card_usage = lives.lawful-terminate
 lawful (verify pin shown) = pins.lawful-verify pin shown
 lawful (change_reference_data pin shown new) = pins.lawful-change pin shown new
 lawful (reset_retry_counter pin values) = pins.lawful-reset pin values
+lawful (change_requirement change pin shown) = pins.lawful-requirement pin change shown

@@ -25,13 +25,14 @@ use Rattle.file_tree.specs.laws.Nodes.{entry_found, used_small}
 use Rattle.file_tree.specs.laws.Paths.{identifier_path}
 use Rattle.file_tree.specs.laws.Tables.{entry_in-table, entry_of-free, entry_of-used, length-table}
 use Rattle.pin_store.specs.declared.layout.TheConstants.{PINS}
-use Rattle.pin_store.specs.Pages.{pin_at, pins_of, ArePinPages}
-use Rattle.pin_store.specs.Pins.{HasFewTries}
+use Rattle.pin_store.specs.Pages.{pin_at, pins_of, unmarked_pins_of, ArePinPages}
+use Rattle.pin_store.specs.Pins.{Pin, HasFewTries, enabled_pin}
+use Rattle.file_tree.specs.Formats.{is_format_2}
 use Rattle.pin_store.specs.laws.PinPages.{few_tries}
 use Rattle.card_core.specs.Finding.{HasCard, found, words_found}
 use Rattle.card_core.specs.Proper.{AreRecords, IsProper, IsProperBody, IsProperFile, IsProperKind, IsProperName}
 use Rattle.card_core.specs.Proper.{IsProperShort, IsRecord}
-use Rattle.card_core.specs.Standing.{card_of, IsAnyCard}
+use Rattle.card_core.specs.Standing.{card_of, card_pins, IsAnyCard}
 use Rattle.card_core.specs.laws.CardLaws.{any_pins, any_tree}
 
 abbrev byte : ℕ → Type 0
@@ -220,16 +221,29 @@ small-identifier m stands path file is =
       small,
     ) in z)
 
--- the PINs of a memory
-proper-pins : (m : List ℕ) → ArePinPages m → All HasFewTries (pins_of m)
-unfolding pins_of
-proper-pins m pages =
+-- the PINs of a memory, whose marks are told or not
+proper-each : (m : List ℕ) (told : ℕ → Pin) → ((k : ℕ) → HasFewTries (pin_at m k) → HasFewTries (told k)) → ArePinPages m
+    → All HasFewTries (map told (range_with_len 0 PINS))
+proper-each m told few pages =
     let long = length-range_with_len 0 PINS in
-    All-map HasFewTries (pin_at m) (range_with_len 0 PINS) (λ k d lt.
+    All-map HasFewTries told (range_with_len 0 PINS) (λ k d lt.
     let below : k < PINS = omega (arith, lt, long) in
     let place = get_or-range_with_len 0 PINS k d below in
     let small : get_or (range_with_len 0 PINS) k d < PINS = omega (arith, place, below) in
-    few_tries m (get_or (range_with_len 0 PINS) k d) (pages.each (get_or (range_with_len 0 PINS) k d) small))
+    few (get_or (range_with_len 0 PINS) k d) (few_tries m (get_or (range_with_len 0 PINS) k d) (pages.each (get_or
+    (range_with_len 0 PINS) k d) small)))
+
+proper-pins : (m : List ℕ) → ArePinPages m → All HasFewTries (card_pins m)
+unfolding card_pins pins_of unmarked_pins_of
+proper-pins m pages = by (is_format_2 m)
+  where
+    enabled_few : (pin : Pin) → HasFewTries pin → HasFewTries (enabled_pin pin)
+    enabled_few pin few = record { tries = few.tries; unblocking_tries = few.unblocking_tries }
+
+    by : (new : Bool) → All HasFewTries (if new then map (pin_at m) (range_with_len 0 PINS) else
+        map (λ pin. enabled_pin (pin_at m pin)) (range_with_len 0 PINS))
+    by true = proper-each m (pin_at m) (λ k few. few) pages
+    by false = proper-each m (λ pin. enabled_pin (pin_at m pin)) (λ k few. enabled_few (pin_at m k) few) pages
 
 pub proper-card : (m : List ℕ) → IsAnyCard m → IsProper (card_of m)
 unfolding card_of

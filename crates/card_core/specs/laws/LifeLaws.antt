@@ -14,7 +14,7 @@ use Rattle.apdu_core.specs.OfBytes.{IsStatusWord}
 use Rattle.apdu_core.specs.Requests.{change_life_cycle, terminate_card_usage}
 use Rattle.file_tree.specs.States.{life_at, with_life}
 use Rattle.card_core.specs.Cards.{Card, File, Path, file_at, identifier}
-use Rattle.card_core.specs.Guards.{allowed}
+use Rattle.card_core.specs.Guards.{allowed, disabled_of}
 use Rattle.card_core.specs.LifeCycles.{card_terminated, change_bit, change_refusals, changed_life, changed_path, life_changed}
 use Rattle.card_core.specs.LifeCycles.{changed_card, no_subject, on_change_life_cycle, on_terminate_card_usage, with_life_at}
 use Rattle.card_core.specs.Outcomes.{refused_by}
@@ -36,7 +36,7 @@ module _ (c : Card) (s : Session) (proper : IsProper c) where
   -- where a rule allows something there is a file, whose identifier is two bytes
   allowed-identifier : (path : Path) (bit : AccessBit) → allowed c s path bit ≡ true → identifier path < 65536
   allowed-identifier path bit is =
-      there-identifier c path (λ (file : File). allows file.rule bit file.life (marks_of s.verified)) proper refl is
+      there-identifier c path (λ (file : File). allows file.rule bit file.life (marks_of s.verified) (disabled_of c)) proper refl is
 
   pub fine-life_changed : (change : LifeCycleChange) (subject : Subject)
       → refused_by (change_refusals c s change subject) ≡ None → IsFine (life_changed c s change subject)

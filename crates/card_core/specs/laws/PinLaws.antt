@@ -5,20 +5,23 @@ use Rattle.std.proofs.Common.{arith, refl, inl, inr, lit<}
 use Rattle.std.proofs.lemmas.List.Elements.{All-set}
 use Rattle.card_rules.specs.declared.status.TheConstants.Sw.{DONE}
 use Rattle.apdu_core.specs.OfBytes.{IsStatusWord}
-use Rattle.apdu_core.specs.Requests.{Request, verify, change_reference_data, reset_retry_counter}
+use Rattle.apdu_core.specs.declared.pins.RequirementChange.{RequirementChange}
+use Rattle.apdu_core.specs.declared.pins.RequirementChange.TheVariants.{Disable, Enable}
+use Rattle.apdu_core.specs.Requests.{Request, verify, change_reference_data, reset_retry_counter, change_requirement}
 use Rattle.pin_store.specs.Pins.{HasFewTries, charged_pin, is_unblocking, tries_left}
-use Rattle.pin_store.specs.laws.AllPins.{changed_few, reset_few, verified_few, with_few}
+use Rattle.pin_store.specs.laws.AllPins.{changed_few, marked_few, reset_few, verified_few, with_few}
 use Rattle.card_core.specs.declared.machine.TheConstants.{COMMAND_WRITES}
 use Rattle.card_core.specs.Cards.{Card, Pin}
 use Rattle.card_core.specs.Attempts.{Attempt, charged_card, is_right, no_pin, pin_of}
 use Rattle.card_core.specs.Pins.{attempted, attempted_as}
 use Rattle.card_core.specs.Pins.{told_tries, tries_told}
 use Rattle.card_core.specs.Attempts.{tries_of, with_pin_of}
-use Rattle.card_core.specs.Pins.{change_writes, changing, reset_writes, resetting, shows, verify_writes, verifying}
+use Rattle.card_core.specs.Pins.{change_writes, changing, mark_writes, marking, reset_writes, resetting, shows, verify_writes, verifying}
+use Rattle.card_core.specs.Pins.{is_enabled_by, unusable_by, while_disabled, while_enabled}
 use Rattle.card_core.specs.Attempts.{unblocking_of, value_of}
 use Rattle.card_core.specs.Proper.{IsProper}
 use Rattle.card_core.specs.Sessions.{Session}
-use Rattle.card_core.specs.laws.Lawful.{IsLawful, IsOfItsPin, Lawful, same-none}
+use Rattle.card_core.specs.laws.Lawful.{AreWords, IsLawful, IsOfItsPin, Lawful, same-none}
 use Rattle.card_core.specs.laws.ProperLaws.{IsFine, at-or, short-status}
 
 -- each PIN of a proper card, and one that stands for none
@@ -105,10 +108,10 @@ module _ (request : Request) (n secret most : ℕ) where
     by_words = λ c s. refl;
   }
 
-  lawful-showing : (a : Attempt) → most ≤ COMMAND_WRITES → KeepsFew a → IsOfItsPin a
-      → IsLawful request (shows n secret (Some a) most)
-  lawful-showing a few keeps of_pin = record {
-    words = λ c s. (lit< tt, tt);
+  lawful-showing : (a : Attempt) → most ≤ COMMAND_WRITES → KeepsFew a → ((pin : Pin) → AreWords (a.unusable pin))
+      → IsOfItsPin a → IsLawful request (shows n secret (Some a) most)
+  lawful-showing a few keeps words of_pin = record {
+    words = λ c s. (lit< tt, words (pin_of c a.pin));
     fine = λ c s proper all unrefused. fine-attempted c s proper a keeps;
     few = λ sized. few;
     of_pin = of_pin;
@@ -116,20 +119,36 @@ module _ (request : Request) (n secret most : ℕ) where
     by_words = λ c s. by-words (is_right c a) a.renews _ _;
   }
 
+-- what refuses a command by the mark of a PIN has status words
+words-enabled : (pin : Pin) → AreWords (while_enabled pin)
+words-enabled pin = (lit< tt, tt)
+
+words-disabled : (pin : Pin) → AreWords (while_disabled pin)
+words-disabled pin = (lit< tt, tt)
+
+words-by : (change : RequirementChange) (pin : Pin) → AreWords (unusable_by change pin)
+words-by Disable = words-enabled
+words-by Enable = words-disabled
+
 module _ (n : ℕ) where
   pub lawful-verify : (shown : Option (List ℕ)) → Lawful (verify n shown)
   lawful-verify None = lawful-asking (verify n None) n (value_of n) verify_writes
   lawful-verify (Some shown) =
       lawful-showing (verify n (Some shown)) n (value_of n) verify_writes (verifying n shown) (omega arith) verified_few
-      (inl refl)
+      words-enabled (inl refl)
 
   pub lawful-change : (shown new : List ℕ) → Lawful (change_reference_data n shown new)
   lawful-change shown new =
       lawful-showing (change_reference_data n shown new) n (value_of n) change_writes (changing n shown new)
-      (omega arith) (changed_few new) (inl refl)
+      (omega arith) (changed_few new) words-enabled (inl refl)
 
   pub lawful-reset : (values : Option (List ℕ × List ℕ)) → Lawful (reset_retry_counter n values)
   lawful-reset None = lawful-asking (reset_retry_counter n None) n (unblocking_of n) reset_writes
   lawful-reset (Some values) =
       lawful-showing (reset_retry_counter n (Some values)) n (unblocking_of n) reset_writes
-      (resetting n values.0 values.1) (omega arith) (λ was few. reset_few values.1 was) (inr refl)
+      (resetting n values.0 values.1) (omega arith) (λ was few. reset_few values.1 was) (λ pin. tt) (inr refl)
+
+  pub lawful-requirement : (change : RequirementChange) (shown : List ℕ) → Lawful (change_requirement change n shown)
+  lawful-requirement change shown =
+      lawful-showing (change_requirement change n shown) n (value_of n) mark_writes (marking change n shown) (omega arith)
+      (marked_few (is_enabled_by change)) (words-by change) (inl refl)

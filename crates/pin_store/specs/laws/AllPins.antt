@@ -5,12 +5,15 @@ use Rattle.std.proofs.Common.{◌≡◌, ◌≢◌, ◌⊎◌, ◌<◌, ◌≤�
 use Rattle.std.proofs.Common.{◌∙◌, ap, ap₂, subst, inl, inr, arith}
 use Rattle.std.proofs.lemmas.Bool.{cases_order}
 use Rattle.nvm_board.specs.Facts.{address}
-use Rattle.pin_store.specs.declared.layout.TheConstants.{PINS, PIN_WORDS}
+use Rattle.pin_store.specs.declared.layout.TheConstants.{PINS, PIN_MARK_WORD, PIN_WORDS, TRIES, UNBLOCKING_TRIES}
+use Rattle.pin_store.specs.declared.putting.Renewal.{Renewal}
+use Rattle.pin_store.specs.declared.putting.Renewal.TheVariants.{Value, ValueAndTries, Mark}
 use Rattle.pin_store.specs.Pins.{Pin, HasFewTries, changed_pin, is_unblocking, owner, reset_pin, tries_left, verified_pin}
-use Rattle.pin_store.specs.Pins.{with_tries}
+use Rattle.pin_store.specs.Pins.{enabled_pin, marked_pin, with_tries}
 use Rattle.pin_store.specs.Renewals.{renewed_pin}
-use Rattle.pin_store.specs.Pages.{pin_page, pin_at, pins_of, IsPinPage, ArePinPages, KeepsPins, SetsPin}
-use Rattle.pin_store.specs.laws.PinPages.{pin_same, few_tries, page_of_few}
+use Rattle.pin_store.specs.Pages.{pin_page, pin_at, pins_of, unmarked_pins_of, IsPinPage, ArePinPages, AreEnabled}
+use Rattle.pin_store.specs.Pages.{AreMarks, IsMark, KeepsPins, KeepsSecrets, SetsPin}
+use Rattle.pin_store.specs.laws.PinPages.{pin_same, secrets_same, marked_enabled, few_tries, page_of_few}
 
 -- the same PINs at successive places
 pins-same : (old new : ℕ → Pin) (a n : ℕ) → ((j : ℕ) → a ≤ j → j < a + n → new j ≡ old j)
@@ -61,6 +64,43 @@ pages_kept m after keeps pages = record {
       page_of_few after pin (subst (λ (p : Pin). HasFewTries p) (sym same) (few_tries m pin (pages.each pin small)));
 }
 
+-- and their marks
+pub marks_kept : (m after : List ℕ) → KeepsPins m after → AreMarks m → AreMarks after
+marks_kept m after keeps marks = record {
+  each = λ pin small. subst (λ (w : ℕ). w ≤ 1) (sym (keeps.words pin PIN_MARK_WORD small (omega arith))) (marks.each pin small);
+}
+
+-- the words of the PINs stay, but for their marks: so do the PINs without them
+pub secrets_kept : (m after : List ℕ) → KeepsSecrets m after → unmarked_pins_of after ≡ unmarked_pins_of m
+unfolding unmarked_pins_of
+secrets_kept m after keeps =
+    pins-same (λ pin. enabled_pin (pin_at m pin)) (λ pin. enabled_pin (pin_at after pin)) 0 PINS (λ j low high.
+    secrets_same m after j (λ place small. keeps.words j place high small))
+
+-- and their pages are as they may be
+pub secrets_pages : (m after : List ℕ) → KeepsSecrets m after → ArePinPages m → ArePinPages after
+secrets_pages m after keeps pages = record {
+  each = λ pin small.
+      let tries = keeps.words pin 0 small (omega arith) in
+      let unblocking_tries = keeps.words pin 1 small (omega arith) in
+      let page = pages.each pin small in record {
+        tries = subst (λ (w : ℕ). w ≤ TRIES) (sym tries) page.tries;
+        unblocking_tries = subst (λ (w : ℕ). w ≤ UNBLOCKING_TRIES) (sym unblocking_tries) page.unblocking_tries;
+      };
+}
+
+-- where each PIN is enabled, they are those of a memory without marks
+pub enabled_unmarked : (m : List ℕ) → AreEnabled m → pins_of m ≡ unmarked_pins_of m
+unfolding pins_of unmarked_pins_of
+enabled_unmarked m enabled =
+    pins-same (λ pin. enabled_pin (pin_at m pin)) (pin_at m) 0 PINS (λ j low high. marked_enabled m j (enabled.each j high))
+
+-- and each mark is one
+pub enabled_marks : (m : List ℕ) → AreEnabled m → AreMarks m
+enabled_marks m enabled = record {
+  each = λ pin small. let is = enabled.each pin small in omega (arith, is);
+}
+
 -- one PIN is set: another one stays
 pub other_pin : (m after : List ℕ) (pin other : ℕ) (now : Pin) → SetsPin m pin now after → other ≢ pin
     → pin_at after other ≡ pin_at m other
@@ -100,6 +140,21 @@ pages_set m after pin now sets few pages = record {
         subst (λ (p : Pin). HasFewTries p) (sym (other_pin m after pin other now sets differ))
         (few_tries m other (pages.each other small))
 
+-- and so are all marks
+pub marks_set : (m after : List ℕ) (pin : ℕ) (now : Pin) → SetsPin m pin now after → AreMarks m → AreMarks after
+marks_set m after pin now sets marks = record {
+  each = λ other small. elim (cases_order other pin) [
+    | inl same ↦ subst (λ (k : ℕ). IsMark after k) (sym same)
+        (sets.mark (subst (λ (k : ℕ). IsMark m k) same (marks.each other small)))
+    | inr (inl before) ↦
+        let lt : address (pin_page other) PIN_MARK_WORD < address (pin_page pin) 0 = omega (arith, before) in
+        subst (λ (w : ℕ). w ≤ 1) (sym (sets.elsewhere _ (inl lt))) (marks.each other small)
+    | inr (inr past) ↦
+        let le : address (pin_page pin) PIN_WORDS ≤ address (pin_page other) PIN_MARK_WORD = omega (arith, past) in
+        subst (λ (w : ℕ). w ≤ 1) (sym (sets.elsewhere _ (inr le))) (marks.each other small)
+  ];
+}
+
 -- no change of a PIN gives it more tries than there may be
 pub with_few : (secret n : ℕ) (pin : Pin) → n ≤ tries_left secret pin → HasFewTries pin
     → HasFewTries (with_tries secret n pin)
@@ -110,6 +165,7 @@ with_few secret n pin fewer few = by (is_unblocking secret) fewer
       tries = if unblocking then pin.tries else n;
       unblocking = pin.unblocking;
       unblocking_tries = if unblocking then n else pin.unblocking_tries;
+      enabled = pin.enabled;
     })
     by true least = record {
       tries = few.tries;
@@ -129,6 +185,9 @@ changed_few new pin few = record { tries = omega arith; unblocking_tries = few.u
 pub reset_few : (new : List ℕ) (pin : Pin) → HasFewTries (reset_pin new pin)
 reset_few new pin = record { tries = omega arith; unblocking_tries = omega arith }
 
+pub marked_few : (enabled : Bool) (pin : Pin) → HasFewTries pin → HasFewTries (marked_pin enabled pin)
+marked_few enabled pin few = record { tries = omega arith; unblocking_tries = few.unblocking_tries }
+
 -- the page of a secret's PIN
 pub owner_page : (m : List ℕ) (secret : ℕ) → ArePinPages m → IsPinPage m (owner secret)
 owner_page m secret pages = let small : owner secret < PINS = omega arith in pages.each (owner secret) small
@@ -147,16 +206,14 @@ pub verified_pages : (m after : List ℕ) (secret : ℕ) → ArePinPages m
 verified_pages m after secret pages sets =
     pages_set m after (owner secret) _ sets (verified_few _ (owner_few m secret pages)) pages
 
-pub renewed_few : (secret : ℕ) (new : List ℕ) (pin : Pin) → HasFewTries pin → HasFewTries (renewed_pin secret new pin)
-renewed_few secret new pin few = by (is_unblocking secret)
-  where
-    by : (unblocking : Bool) → HasFewTries (if unblocking then reset_pin new pin else changed_pin new pin)
-    by true = reset_few new pin
-    by false = changed_few new pin few
+pub renewed_few : (renewal : Renewal) (pin : Pin) → HasFewTries pin → HasFewTries (renewed_pin renewal pin)
+renewed_few (Value new) pin few = changed_few new.now pin few
+renewed_few (ValueAndTries new) pin few = reset_few new.now pin
+renewed_few (Mark enabled) pin few = marked_few enabled pin few
 
-pub renewed_pages : (m after new : List ℕ) (secret : ℕ) → ArePinPages m
-    → (after ≡ m) ⊎ SetsPin m (owner secret) (renewed_pin secret new (pin_at m (owner secret))) after
+pub renewed_pages : (m after : List ℕ) (renewal : Renewal) (secret : ℕ) → ArePinPages m
+    → (after ≡ m) ⊎ SetsPin m (owner secret) (renewed_pin renewal (pin_at m (owner secret))) after
     → ArePinPages after
-renewed_pages m after new secret pages (inl same) = subst (λ (l : List ℕ). ArePinPages l) (sym same) pages
-renewed_pages m after new secret pages (inr sets) =
-    pages_set m after (owner secret) _ sets (renewed_few secret new _ (owner_few m secret pages)) pages
+renewed_pages m after renewal secret pages (inl same) = subst (λ (l : List ℕ). ArePinPages l) (sym same) pages
+renewed_pages m after renewal secret pages (inr sets) =
+    pages_set m after (owner secret) _ sets (renewed_few renewal _ (owner_few m secret pages)) pages

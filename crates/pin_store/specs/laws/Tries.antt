@@ -1,13 +1,13 @@
 -- The PIN law: what a charge and the end after it leave, at whatever exit. A comparison costs a lasting try.
 use Rattle.std.specs.Prelude.{◌-◌, if◌then◌else◌}
-use Rattle.std.proofs.Common.{◌≡◌, ◌⊎◌, ◌<◌, ◌≤◌, ◌+◌, ℕ, Bool, true, false, List, slice_index, refl, sym, ◌∙◌, ap, inl, inr, arith}
+use Rattle.std.proofs.Common.{◌≡◌, ◌⊎◌, ◌<◌, ◌≤◌, ◌+◌, ℕ, Bool, true, false, List, slice_index, refl, sym, ◌∙◌, ap, subst, inl, inr, arith}
 use Rattle.nvm_board.specs.Facts.{raised}
 use Rattle.undo_journal.specs.Memory.{Memory, committed}
 use Rattle.undo_journal.specs.Spending.{WritesAtMost}
 use Rattle.pin_store.specs.declared.layout.TheConstants.{PINS, TRIES, UNBLOCKING_TRIES}
 use Rattle.pin_store.specs.Pins.{Pin, is_unblocking, owner, kept, tries_left, full_tries, charged_pin, verified_pin}
-use Rattle.pin_store.specs.Pins.{changed_pin, reset_pin}
-use Rattle.pin_store.specs.Pages.{pin_at}
+use Rattle.pin_store.specs.Pins.{changed_pin, marked_pin, reset_pin}
+use Rattle.pin_store.specs.Pages.{pin_at, IsMark}
 use Rattle.pin_store.specs.Trials.{pin_in, Charges, ComparesOnce, IsMatch, SetsByMatch, FillsByMatch}
 use Rattle.pin_store.specs.Trials.{KeepsPinLaw}
 
@@ -30,6 +30,10 @@ charged_left secret pin = by (is_unblocking secret) pin.tries pin.unblocking_tri
 -- what is committed stays, and so does a PIN
 same_pin : (a b : Memory) (secret : ℕ) → committed b ≡ committed a → pin_in b secret ≡ pin_in a secret
 same_pin a b secret same = ap (λ (m : List ℕ). pin_at m (owner secret)) same
+
+same_mark : (a b : Memory) (secret : ℕ) → committed b ≡ committed a → IsMark (committed a) (owner secret)
+    → IsMark (committed b) (owner secret)
+same_mark a b secret same mark = subst (λ (m : List ℕ). IsMark m (owner secret)) (sym same) mark
 
 one_fewer : (a c : Memory) (secret : ℕ) → 0 < tries_left secret (pin_in a secret)
     → pin_in c secret ≡ charged_pin secret (pin_in a secret)
@@ -55,6 +59,7 @@ charge_keeps_law secret shown a b (inl same) spends =
       unblocking = ap (λ (p : Pin). p.unblocking) pin;
       unblocking_tries = λ small. ap (λ (p : Pin). p.unblocking_tries) pin;
       elsewhere = λ k apart. ap (λ (l : List ℕ). slice_index l k) same;
+      mark = same_mark a b secret same;
     }
 charge_keeps_law secret shown a b (inr charged) spends =
     let pin = charged.charged.becomes in
@@ -66,6 +71,7 @@ charge_keeps_law secret shown a b (inr charged) spends =
       unblocking = ap (λ (p : Pin). p.unblocking) pin;
       unblocking_tries = λ small. ap (λ (p : Pin). p.unblocking_tries) pin ∙ other_tries secret (pin_in a secret) small;
       elsewhere = charged.charged.elsewhere;
+      mark = charged.charged.mark;
     }
 
 -- what an end makes of a PIN: all tries of what was shown; of the rest, nothing that unblocks, but by RESET RETRY COUNTER
@@ -99,6 +105,7 @@ unset_keeps_law n secret shown a b c charged spends same once =
       unblocking = ap (λ (p : Pin). p.unblocking) pin;
       unblocking_tries = λ small. ap (λ (p : Pin). p.unblocking_tries) pin ∙ other_tries secret (pin_in a secret) small;
       elsewhere = λ k apart. ap (λ (l : List ℕ). slice_index l k) same ∙ charged.charged.elsewhere k apart;
+      mark = λ was. same_mark b c secret same (charged.charged.mark was);
     }
 
 -- of a charge, and an end that sets the PIN
@@ -127,6 +134,7 @@ set_keeps_law secret shown now a b c charged spends set ends =
       unblocking_tries = λ small. ap (λ (p : Pin). p.unblocking_tries) after ∙ ends.unblocking_tries small
           ∙ ap (λ (p : Pin). p.unblocking_tries) before ∙ other_tries secret (pin_in a secret) small;
       elsewhere = λ k apart. set.sets.elsewhere k apart ∙ charged.charged.elsewhere k apart;
+      mark = λ was. set.sets.mark (charged.charged.mark was);
     }
 
 -- of a charge and an end, at whatever exit
@@ -157,6 +165,13 @@ verified_ends secret pin small = record {
 
 pub changed_ends : (secret : ℕ) (new : List ℕ) (pin : Pin) → secret < PINS → IsEnd secret pin (changed_pin new pin)
 changed_ends secret new pin small = record {
+  full = value_full secret pin.unblocking_tries small;
+  unblocking = refl;
+  unblocking_tries = λ _. refl;
+}
+
+pub marked_ends : (secret : ℕ) (enabled : Bool) (pin : Pin) → secret < PINS → IsEnd secret pin (marked_pin enabled pin)
+marked_ends secret enabled pin small = record {
   full = value_full secret pin.unblocking_tries small;
   unblocking = refl;
   unblocking_tries = λ _. refl;

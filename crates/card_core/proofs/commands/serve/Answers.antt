@@ -9,7 +9,7 @@ use Rattle.apdu_core.specs.Requests.{request_of}
 use Rattle.card_core.specs.declared.current.Current.{Current}
 use Rattle.card_core.specs.Served.{Serves}
 use Rattle.card_core.specs.Working.{card_in}
-use Rattle.card_core.specs.Pins.{changing}
+use Rattle.card_core.specs.Pins.{changing, marking}
 use Rattle.card_core.specs.Stages.{commits}
 use Rattle.card_core.proofs.Looking.{attempt-files, pin-files, space_left}
 use Rattle.card_core.proofs.Serves.{index_left, space_kept}
@@ -190,6 +190,20 @@ unfolding commits
 returns-in-ResetRetryCounter-clause-space g c =
     space_left _ _ _ _ _ _ _ _ c.reset_retry_counter.ensures (pin-files _ _) c.requires.whole.space
 
+pub change_requirement-requires-clause-pin : goal.change_requirement-requires-clause-pin
+change_requirement-requires-clause-pin g c = subst IsInRange c.in-ChangeRequirement.is c.requires.in_range
+
+pub returns-in-ChangeRequirement-clause-serves : goal.returns-in-ChangeRequirement-clause-serves
+returns-in-ChangeRequirement-clause-serves g c =
+    silent _ _ _ _ _ _ _ c.in-ChangeRequirement.is _ c.requires.empty c.change_requirement.ensures
+
+pub returns-in-ChangeRequirement-clause-space : goal.returns-in-ChangeRequirement-clause-space
+unfolding commits
+returns-in-ChangeRequirement-clause-space g c =
+    let attempt = marking c.in-ChangeRequirement.change c.in-ChangeRequirement.pin c.in-ChangeRequirement.shown.now in
+    space_left _ _ _ _ _ _ _ _ c.change_requirement.ensures (attempt-files (card_in c.args.lent.now.store) attempt)
+    c.requires.whole.space
+
 pub returns-in-Select-clause-index : goal.returns-in-Select-clause-index
 returns-in-Select-clause-index g c = index_left _ _ _ _ _ _ _ _ c.select_file.ensures refl c.requires.whole.index
 
@@ -235,4 +249,8 @@ returns-in-ChangeReferenceData-clause-index g c = index_left _ _ _ _ _ _ _ _ c.c
 
 pub returns-in-ResetRetryCounter-clause-index : goal.returns-in-ResetRetryCounter-clause-index
 returns-in-ResetRetryCounter-clause-index g c = index_left _ _ _ _ _ _ _ _ c.reset_retry_counter.ensures refl
+    c.requires.whole.index
+
+pub returns-in-ChangeRequirement-clause-index : goal.returns-in-ChangeRequirement-clause-index
+returns-in-ChangeRequirement-clause-index g c = index_left _ _ _ _ _ _ _ _ c.change_requirement.ensures refl
     c.requires.whole.index

@@ -1,4 +1,4 @@
-use Rattle.std.proofs.Common.{refl, ◌∙◌, sym}
+use Rattle.std.proofs.Common.{◌∙◌, sym}
 use Rattle.undo_journal.specs.Memory.{committed}
 use Rattle.undo_journal.specs.laws.Told.{reads_on, reads_handed}
 use Rattle.file_tree.specs.Table.{table}
@@ -6,7 +6,7 @@ use Rattle.card_core.specs.Files.{creation_bit}
 use Rattle.card_core.specs.Working.{card_in, session_in}
 use Rattle.card_core.proofs.Creations.{barred-is, permits-is, unread-step}
 use Rattle.card_core.proofs.FileSteps.{create-barred, create-denied}
-use Rattle.card_core.proofs.Readings.{df_used, tree_still, used_still}
+use Rattle.card_core.proofs.Readings.{card_still, current_still, df_used, used_still}
 use Rattle.card_core.proofs.files.find_new_file.Goals as goal
 
 pub is_barred-requires-clause-used : goal.is_barred-requires-clause-used
@@ -28,19 +28,24 @@ returns-in_default-clause-found g c =
     (barred-is (committed old) x c.in_ok-is_barred.field-0 c.in_ok-is_barred.ensures.barred ∙ c.if-branch.false)
     c.parse.result (sym c.parse.ensures.value) c.in_default.not-Ok
 
-pub is_allowed-requires-clause-tree : goal.is_allowed-requires-clause-tree
-is_allowed-requires-clause-tree g c =
-    tree_still c.args.store.now c.is_barred.new.store c.is_barred.ensures.store.only c.requires.kept.card
+pub allows-requires-clause-card : goal.allows-requires-clause-card
+allows-requires-clause-card g c =
+    card_still c.args.store.now c.is_barred.new.store c.is_barred.ensures.store.only c.requires.kept.card
 
-pub is_allowed-requires-clause-used : goal.is_allowed-requires-clause-used
-is_allowed-requires-clause-used g c =
+pub allows-requires-clause-current : goal.allows-requires-clause-current
+allows-requires-clause-current g c =
+    current_still c.args.store.now c.is_barred.new.store c.args.current.now c.is_barred.ensures.store.only
+    c.requires.kept.current
+
+pub allows-requires-clause-used : goal.allows-requires-clause-used
+allows-requires-clause-used g c =
     used_still c.args.store.now c.is_barred.new.store c.args.current.now.df c.is_barred.ensures.store.only
     (df_used (table (committed c.args.store.now)) c.args.current.now c.requires.kept.current)
 
-pub returns-in_err-is_allowed-clause-store : goal.returns-in_err-is_allowed-clause-store
-returns-in_err-is_allowed-clause-store g c =
-    reads_handed _ _ _ _ c.from_residual-in_err-is_allowed.ensures.1
-    (reads_on _ _ _ _ c.is_barred.ensures.store.only c.in_err-is_allowed.ensures.store)
+pub returns-in_err-allows-clause-store : goal.returns-in_err-allows-clause-store
+returns-in_err-allows-clause-store g c =
+    reads_handed _ _ _ _ c.from_residual-in_err-allows.ensures.1
+    (reads_on _ _ _ _ c.is_barred.ensures.store.only c.in_err-allows.ensures.store)
 
 pub returns-then-not-branch-clause-found : goal.returns-then-not-branch-clause-found
 returns-then-not-branch-clause-found g c =
@@ -50,14 +55,14 @@ returns-then-not-branch-clause-found g c =
     create-denied (card_in old) (session_in old x) c.args.template.now
     (barred-is (committed old) x c.in_ok-is_barred.field-0 c.in_ok-is_barred.ensures.barred ∙ c.if-branch.false)
     fcp (sym c.parse.ensures.value ∙ c.in-Ok.is)
-    (permits-is (committed old) (committed c.is_barred.new.store) x c.requires.kept.current.marks
+    (permits-is (committed old) (committed c.is_barred.new.store) x
     c.is_barred.ensures.store.only.keeps.committed_words c.creation_bit-bit.result (creation_bit fcp.kind)
-    c.creation_bit-bit.ensures _ refl c.in_ok-is_allowed.field-0
-    c.in_ok-is_allowed.ensures.allowed ∙ c.if-not-branch.true)
+    c.creation_bit-bit.ensures c.in_ok-allows.field-0
+    c.in_ok-allows.ensures.allowed ∙ c.if-not-branch.true)
 
 pub returns-then-not-branch-clause-store : goal.returns-then-not-branch-clause-store
 returns-then-not-branch-clause-store g c =
-    reads_on _ _ _ _ c.is_barred.ensures.store.only c.in_ok-is_allowed.ensures.store
+    reads_on _ _ _ _ c.is_barred.ensures.store.only c.in_ok-allows.ensures.store
 
 pub returns-clause-found : goal.returns-clause-found
 returns-clause-found g c =
@@ -69,12 +74,12 @@ returns-clause-found g c =
       creatable = c.in-Ok.ensures.ranges;
       unbarred = barred-is (committed old) x c.in_ok-is_barred.field-0 c.in_ok-is_barred.ensures.barred
           ∙ c.if-branch.false;
-      permitted = permits-is (committed old) (committed c.is_barred.new.store) x c.requires.kept.current.marks
+      permitted = permits-is (committed old) (committed c.is_barred.new.store) x
           c.is_barred.ensures.store.only.keeps.committed_words c.creation_bit-bit.result (creation_bit fcp.kind)
-          c.creation_bit-bit.ensures _ refl c.in_ok-is_allowed.field-0
-          c.in_ok-is_allowed.ensures.allowed ∙ c.if-not-branch.false;
+          c.creation_bit-bit.ensures c.in_ok-allows.field-0
+          c.in_ok-allows.ensures.allowed ∙ c.if-not-branch.false;
     }
 
 pub returns-clause-store : goal.returns-clause-store
 returns-clause-store g c =
-    reads_on _ _ _ _ c.is_barred.ensures.store.only c.in_ok-is_allowed.ensures.store
+    reads_on _ _ _ _ c.is_barred.ensures.store.only c.in_ok-allows.ensures.store

@@ -9,7 +9,7 @@ use Rattle.card_core.specs.Standing.{card_of}
 use Rattle.card_core.specs.Working.{session_of}
 use Rattle.card_core.proofs.Living.{found-is}
 use Rattle.card_core.proofs.Missing.{change-missed}
-use Rattle.card_core.proofs.Readings.{card_still, used_still}
+use Rattle.card_core.proofs.Readings.{kept_still, used_still}
 use Rattle.undo_journal.specs.laws.Told.{reads_on}
 use Rattle.card_core.proofs.life_cycles.find_change.Goals as goal
 
@@ -31,9 +31,10 @@ pub returns-clause-store : goal.returns-clause-store
 returns-clause-store g c =
     reads_on _ _ _ _ c.find_changed.ensures.store.only c.read_change.ensures.store
 
-pub read_change-requires-clause-card : goal.read_change-requires-clause-card
-read_change-requires-clause-card g c =
-    card_still c.args.store.now c.find_changed.new.store c.find_changed.ensures.store.only c.requires.kept.card
+pub read_change-requires-clause-kept : goal.read_change-requires-clause-kept
+read_change-requires-clause-kept g c =
+    kept_still c.args.store.now c.find_changed.new.store c.args.current.now c.find_changed.ensures.store.only
+    c.in_ok-number.ensures.store.ready c.requires.kept
 
 pub read_change-requires-clause-used : goal.read_change-requires-clause-used
 read_change-requires-clause-used g c =

@@ -2,14 +2,16 @@ use Rattle.undo_journal.specs.Memory.{committed}
 use Rattle.undo_journal.specs.laws.Calls.{reads_then}
 use Rattle.file_tree.specs.laws.Nodes.{used_small}
 use Rattle.std.proofs.Common.{◌≡◌, ◌∙◌, ap}
-use Rattle.card_core.proofs.Readings.{tree_still, used_still}
+use Rattle.card_core.proofs.Readings.{card_still, current_still, used_still}
 use Rattle.card_rules.specs.declared.life_cycle.LifeCycleCommand.{LifeCycleCommand}
-use Rattle.file_tree.specs.States.{is_allowed, next_life}
+use Rattle.file_tree.specs.States.{next_life}
 use Rattle.file_tree.specs.Table.{table, entry_in, path_of}
 use Rattle.file_tree.specs.Trees.{tree_of}
 use Rattle.card_core.specs.Changing.{changed_by}
 use Rattle.card_core.specs.LifeCycles.{change_bit, command_of}
-use Rattle.card_core.specs.Working.{verified_in}
+use Rattle.card_core.specs.Guards.{allowed}
+use Rattle.card_core.specs.Standing.{card_of}
+use Rattle.card_core.specs.Working.{session_of}
 use Rattle.undo_journal.specs.laws.Told.{reads_on, reads_handed}
 use Rattle.card_core.proofs.life_cycles.read_change.Goals as goal
 
@@ -19,14 +21,19 @@ read_entry-requires-clause-within g c = used_small (committed c.args.store.now) 
 pub returns-in_err-entry-clause-store : goal.returns-in_err-entry-clause-store
 returns-in_err-entry-clause-store g c =
     reads_handed _ _ _ _ c.from_residual-in_err-entry.ensures.1
-    (reads_on _ _ _ _ (reads_then _ _ _ c.next_life_cycle.ensures.store.only c.is_allowed.ensures.store.only) c.in_err-entry.ensures.store)
+    (reads_on _ _ _ _ (reads_then _ _ _ c.next_life_cycle.ensures.store.only c.allows.ensures.store.only) c.in_err-entry.ensures.store)
 
-pub is_allowed-requires-clause-tree : goal.is_allowed-requires-clause-tree
-is_allowed-requires-clause-tree g c =
-    tree_still c.args.store.now c.next_life_cycle.new.store c.next_life_cycle.ensures.store.only c.requires.card
+pub allows-requires-clause-card : goal.allows-requires-clause-card
+allows-requires-clause-card g c =
+    card_still c.args.store.now c.next_life_cycle.new.store c.next_life_cycle.ensures.store.only c.requires.kept.card
 
-pub is_allowed-requires-clause-used : goal.is_allowed-requires-clause-used
-is_allowed-requires-clause-used g c =
+pub allows-requires-clause-current : goal.allows-requires-clause-current
+allows-requires-clause-current g c =
+    current_still c.args.store.now c.next_life_cycle.new.store c.args.current.now c.next_life_cycle.ensures.store.only
+    c.requires.kept.current
+
+pub allows-requires-clause-used : goal.allows-requires-clause-used
+allows-requires-clause-used g c =
     used_still c.args.store.now c.next_life_cycle.new.store c.args.number c.next_life_cycle.ensures.store.only c.requires.used
 
 pub returns-in_err-allowed-clause-store : goal.returns-in_err-allowed-clause-store
@@ -36,21 +43,22 @@ returns-in_err-allowed-clause-store g c =
 
 pub returns-clause-store : goal.returns-clause-store
 returns-clause-store g c =
-    reads_on _ _ _ _ (reads_then _ _ _ c.next_life_cycle.ensures.store.only c.is_allowed.ensures.store.only) c.in_ok-entry.ensures.store
+    reads_on _ _ _ _ (reads_then _ _ _ c.next_life_cycle.ensures.store.only c.allows.ensures.store.only) c.in_ok-entry.ensures.store
 
 pub returns-clause-found : goal.returns-clause-found
 returns-clause-found g c =
     let m = committed c.args.store.now in
     let e = c.args.number in
+    let x = c.args.current.now in
     let same = c.next_life_cycle.ensures.store.only.keeps.committed_words in
-    let still = c.is_allowed.ensures.store.only.keeps.committed_words ∙ same in
+    let still = c.allows.ensures.store.only.keeps.committed_words ∙ same in
     let next : c.in_ok-next.next ≡ next_life (tree_of m) (path_of (table m) e) (command_of c.args.change) =
     c.in_ok-next.ensures.next
     ∙ ap (λ (k : LifeCycleCommand). next_life (tree_of m) (path_of (table m) e) k) c.command_of.ensures in
-    let allowed : c.in_ok-allowed.allowed
-    ≡ is_allowed (tree_of m) (path_of (table m) e) (change_bit c.args.change) (verified_in c.args.current.now) =
+    let permitted : c.in_ok-allowed.allowed
+    ≡ allowed (card_of m) (session_of (table m) x) (path_of (table m) e) (change_bit c.args.change) =
     c.in_ok-allowed.ensures.allowed
-    ∙ (λ i. is_allowed (tree_of (same i)) (path_of (table (same i)) e) (c.bit_of.ensures i) (verified_in c.args.current.now)) in
+    ∙ (λ i. allowed (card_of (same i)) (session_of (table (same i)) x) (path_of (table (same i)) e) (c.bit_of.ensures i)) in
     let entry : c.in_ok-entry.entry ≡ entry_in (table m) e =
     c.in_ok-entry.ensures.entry ∙ (λ i. entry_in (table (still i)) e) in
-    c.changed_by.ensures ∙ (λ i. changed_by c.args.change e (entry i) (next i) (allowed i))
+    c.changed_by.ensures ∙ (λ i. changed_by c.args.change e (entry i) (next i) (permitted i))

@@ -15,43 +15,43 @@ pub returns-then-not-branch : goal.returns-then-not-branch
 returns-then-not-branch g c =
     let old = c.args.store.now in
     let x = c.args.current.now in
-    let denied : c.in_ok-is_allowed.field-0 ≡ false = c.if-not-branch.true in
-    declined terminate_card_usage old x c.is_allowed.new.store (λ _. tt) c.requires.kept.card ACCESS_DENIED
-    c.is_allowed.ensures.store.only
-    c.in_ok-is_allowed.ensures.store.ready c.requires.kept.current
-    (end-refused (committed old) x c.requires.kept.current _ refl c.in_ok-is_allowed.field-0
-    c.in_ok-is_allowed.ensures.allowed denied)
+    let denied : c.in_ok-allows.field-0 ≡ false = c.if-not-branch.true in
+    declined terminate_card_usage old x c.allows.new.store (λ _. tt) c.requires.kept.card ACCESS_DENIED
+    c.allows.ensures.store.only
+    c.in_ok-allows.ensures.store.ready c.requires.kept.current
+    (end-refused (committed old) x c.in_ok-allows.field-0
+    c.in_ok-allows.ensures.allowed denied)
 
 pub returns-in_err-terminate_card : goal.returns-in_err-terminate_card
 returns-in_err-terminate_card g c =
     let old = c.args.store.now in
-    let mid = c.is_allowed.new.store in
+    let mid = c.allows.new.store in
     let new = c.terminate_card.new.store in
-    let granted : c.in_ok-is_allowed.field-0 ≡ true = c.if-not-branch.false in
+    let granted : c.in_ok-allows.field-0 ≡ true = c.if-not-branch.false in
     let tells = c.in_err-terminate_card.ensures.store.tells ∙ sym (ap (λ (r : Result Sw StoreErr). result_err r)
     (err-is _ _ c.from_residual-in_err-terminate_card.ensures.1)) in
-    end-torn old mid new c.requires.kept.ready c.requires.kept.card c.args.current.now c.requires.kept.current _
-    refl (sym granted ∙ c.in_ok-is_allowed.ensures.allowed) c.is_allowed.ensures.store.only
+    end-torn old mid new c.requires.kept.ready c.requires.kept.card c.args.current.now c.requires.kept.current
+    (sym granted ∙ c.in_ok-allows.ensures.allowed) c.allows.ensures.store.only
     c.terminate_card.ensures.any_exit c.terminate_card.ensures.by_gate c.terminate_card.ensures.store.reports c.terminate_card.ensures.store.writes
     c.from_residual-in_err-terminate_card.result c.from_residual-in_err-terminate_card.ensures.0 tells
 
 pub returns : goal.returns
 returns g c =
     let old = c.args.store.now in
-    let mid = c.is_allowed.new.store in
+    let mid = c.allows.new.store in
     let new = c.terminate_card.new.store in
-    let granted : c.in_ok-is_allowed.field-0 ≡ true = c.if-not-branch.false in
-    end-made old mid new c.requires.kept.ready c.requires.kept.card c.args.current.now c.requires.kept.current _
-    refl (sym granted ∙ c.in_ok-is_allowed.ensures.allowed) c.is_allowed.ensures.store.only
+    let granted : c.in_ok-allows.field-0 ≡ true = c.if-not-branch.false in
+    end-made old mid new c.requires.kept.ready c.requires.kept.card c.args.current.now c.requires.kept.current
+    (sym granted ∙ c.in_ok-allows.ensures.allowed) c.allows.ensures.store.only
     c.terminate_card.ensures.any_exit c.terminate_card.ensures.by_gate c.terminate_card.ensures.store.reports c.terminate_card.ensures.store.writes
     c.in_ok-terminate_card.ensures.done c.in_ok-terminate_card.ensures.store.ready
 
-pub returns-in_err-is_allowed : goal.returns-in_err-is_allowed
-returns-in_err-is_allowed g c =
+pub returns-in_err-allows : goal.returns-in_err-allows
+returns-in_err-allows g c =
     let old = c.args.store.now in
     let x = c.args.current.now in
-    let mid = c.is_allowed.new.store in
+    let mid = c.allows.new.store in
     subst (λ (r : Result Sw StoreErr). Serves terminate_card_usage old x mid x [] r) (sym (err-is _ _
     c.from_residual.ensures.1))
-    (stopped terminate_card_usage old x mid c.requires.kept.card x [] c.in_err-is_allowed.field-0.0 c.is_allowed.ensures.store.only
-    c.in_err-is_allowed.ensures.store.tells (omega arith))
+    (stopped terminate_card_usage old x mid c.requires.kept.card x [] c.in_err-allows.field-0.0 c.allows.ensures.store.only
+    c.in_err-allows.ensures.store.tells (omega arith))

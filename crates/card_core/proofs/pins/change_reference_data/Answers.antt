@@ -1,6 +1,6 @@
 use Rattle.std.proofs.Common.{◌<◌, ◌-◌, refl, arith}
 use Rattle.pin_store.specs.laws.Tries.{changed_ends}
-use Rattle.card_core.proofs.Attempts.{charge-blocked, charge-torn, end-made, end-torn, changes}
+use Rattle.card_core.proofs.Attempts.{charge-refused, charge-torn, end-made, end-torn, changes}
 use Rattle.card_core.proofs.pins.change_reference_data.Goals as goal
 
 pub returns-in_err-charged : goal.returns-in_err-charged
@@ -11,11 +11,11 @@ returns-in_err-charged g c =
     c.take_try.ensures.pages c.take_try.ensures.store.reports c.in_err-charged.ensures.store.tells c.take_try.ensures.store.writes
     c.take_try.ensures.shut
 
-pub returns-in-None : goal.returns-in-None
-returns-in-None g c =
-    charge-blocked _ _ (changes c.args.pin c.requires.pin c.args.values.shown.now c.args.values.new.now) 5 refl c.args.store.now c.args.current.now
-    c.requires.kept.ready c.requires.kept.card c.requires.kept.current c.take_try.new.store c.in_ok-charged.field-0 c.in-None.is
-    c.in_ok-charged.ensures.done c.take_try.ensures.kept c.in_ok-charged.ensures.store.ready
+pub returns-in-Err : goal.returns-in-Err
+returns-in-Err g c =
+    charge-refused _ _ (changes c.args.pin c.requires.pin c.args.values.shown.now c.args.values.new.now) 5 refl c.args.store.now c.args.current.now
+    c.requires.kept.ready c.requires.kept.card c.requires.kept.current c.take_try.new.store c.in_ok-charged.field-0 c.in-Err.refusal
+    c.in-Err.is c.in_ok-charged.ensures.done c.take_try.ensures.kept
 
 pub returns-in_err-outcome : goal.returns-in_err-outcome
 returns-in_err-outcome g c =
@@ -24,7 +24,7 @@ returns-in_err-outcome g c =
     let small : c.args.pin - 1 < 8 = omega (arith, first, last) in
     end-torn _ _ (changes c.args.pin c.requires.pin c.args.values.shown.now c.args.values.new.now) 5 refl c.args.store.now c.args.current.now
     c.requires.kept.ready c.requires.kept.card c.requires.kept.current c.take_try.new.store c.change.new.store c.in_ok-charged.field-0
-    c.in-Some.charged c.in-Some.is c.in_ok-charged.ensures.done c.take_try.ensures.pages c.take_try.ensures.store.writes
+    c.in-Ok.charged c.in-Ok.is c.in_ok-charged.ensures.done c.take_try.ensures.pages c.take_try.ensures.store.writes
     c.take_try.ensures.store.reports (λ p. changed_ends (c.args.pin - 1) c.args.values.new.now p small) c.change.ensures.any_exit
     c.change.ensures.spends c.change.ensures.pages c.change.ensures.store.reports c.take_try.ensures.shut
     c.change.ensures.by_gate c.from_residual-in_err-outcome.result
@@ -37,7 +37,7 @@ returns g c =
     let small : c.args.pin - 1 < 8 = omega (arith, first, last) in
     end-made _ _ (changes c.args.pin c.requires.pin c.args.values.shown.now c.args.values.new.now) 5 refl c.args.store.now c.args.current.now
     c.requires.kept.ready c.requires.kept.card c.requires.kept.current c.take_try.new.store c.change.new.store c.in_ok-charged.field-0
-    c.in-Some.charged c.in-Some.is c.in_ok-charged.ensures.done c.take_try.ensures.pages c.take_try.ensures.store.writes
+    c.in-Ok.charged c.in-Ok.is c.in_ok-charged.ensures.done c.take_try.ensures.pages c.take_try.ensures.store.writes
     c.take_try.ensures.store.reports (λ p. changed_ends (c.args.pin - 1) c.args.values.new.now p small) c.change.ensures.any_exit
     c.change.ensures.spends c.change.ensures.pages c.change.ensures.store.reports c.take_try.ensures.shut
     c.change.ensures.by_gate c.in_ok-outcome.outcome

@@ -2,7 +2,7 @@ use Rattle.std.proofs.Common.{inl}
 use Rattle.pin_store.specs.Renewals.{renewal_writes, renewed_pin}
 use Rattle.pin_store.specs.Trials.{pin_in}
 use Rattle.pin_store.specs.laws.AllPins.{renewed_pages}
-use Rattle.pin_store.proofs.Settled.{pages_stay, compares_more, compares_renewal, match_told, matched_sets}
+use Rattle.pin_store.proofs.Settled.{pages_stay, compares_more, compares_then, match_told, matched_sets}
 use Rattle.pin_store.proofs.Settled.{matched_sets_or_not, end_told}
 use Rattle.undo_journal.specs.laws.Transactions.{by_gate_after}
 use Rattle.undo_journal.specs.laws.Told.{leaves_on, leaves_handed, changes_leave}
@@ -15,12 +15,12 @@ pub returns-in_err-outcome-clause-pages : goal.returns-in_err-outcome-clause-pag
 returns-in_err-outcome-clause-pages g c = pages_stay _ _ c.compare.ensures.kept c.requires.pages
 
 pub returns-in_err-outcome-clause-spends : goal.returns-in_err-outcome-clause-spends
-returns-in_err-outcome-clause-spends g c = compares_more (renewal_writes c.args.charged) _ _ _ c.compare.ensures.spends
+returns-in_err-outcome-clause-spends g c = compares_more (renewal_writes c.args.renewal) _ _ _ c.compare.ensures.spends
 
 pub returns-in_err-put_renewed-clause-any_exit : goal.returns-in_err-put_renewed-clause-any_exit
 returns-in_err-put_renewed-clause-any_exit g c =
-    matched_sets_or_not (renewal_writes c.secret-secret.result) c.args.charged c.secret-secret.result c.args.shown.now
-    (λ s. renewed_pin s c.args.new.now) _ _ _
+    matched_sets_or_not (renewal_writes c.args.renewal) c.args.charged c.secret-secret.result c.args.shown.now
+    (renewed_pin c.args.renewal) _ _ _
     c.secret-secret.ensures.secret (match_told c.args.charged c.args.shown.now c.args.store.now c.compare.new.store
     c.in_ok-outcome.outcome c.in-Matched.is c.in_ok-outcome.ensures.done) c.compare.ensures.kept
     c.put_renewed.ensures.store.writes
@@ -28,7 +28,7 @@ returns-in_err-put_renewed-clause-any_exit g c =
 
 pub returns-in_err-put_renewed-clause-pages : goal.returns-in_err-put_renewed-clause-pages
 returns-in_err-put_renewed-clause-pages g c =
-    renewed_pages _ _ c.args.new.now c.secret-secret.result (pages_stay _ _ c.compare.ensures.kept c.requires.pages)
+    renewed_pages _ _ c.args.renewal c.secret-secret.result (pages_stay _ _ c.compare.ensures.kept c.requires.pages)
     c.put_renewed.ensures.any_exit
 
 pub returns-in_err-put_renewed-clause-store : goal.returns-in_err-put_renewed-clause-store
@@ -38,12 +38,12 @@ returns-in_err-put_renewed-clause-store g c =
 
 pub returns-in_err-put_renewed-clause-spends : goal.returns-in_err-put_renewed-clause-spends
 returns-in_err-put_renewed-clause-spends g c =
-    compares_renewal _ _ _ _ _ c.secret-secret.ensures.secret c.compare.ensures.spends c.put_renewed.ensures.store.writes
+    compares_then (renewal_writes c.args.renewal) _ _ _ _ c.compare.ensures.spends c.put_renewed.ensures.store.writes
 
 pub returns-in_ok-put_renewed-clause-any_exit : goal.returns-in_ok-put_renewed-clause-any_exit
 returns-in_ok-put_renewed-clause-any_exit g c =
-    matched_sets_or_not (renewal_writes c.secret-secret.result) c.args.charged c.secret-secret.result c.args.shown.now
-    (λ s. renewed_pin s c.args.new.now) _ _ _
+    matched_sets_or_not (renewal_writes c.args.renewal) c.args.charged c.secret-secret.result c.args.shown.now
+    (renewed_pin c.args.renewal) _ _ _
     c.secret-secret.ensures.secret (match_told c.args.charged c.args.shown.now c.args.store.now c.compare.new.store
     c.in_ok-outcome.outcome c.in-Matched.is c.in_ok-outcome.ensures.done) c.compare.ensures.kept
     c.put_renewed.ensures.store.writes
@@ -52,10 +52,10 @@ returns-in_ok-put_renewed-clause-any_exit g c =
 pub returns-in_ok-put_renewed-clause-done : goal.returns-in_ok-put_renewed-clause-done
 returns-in_ok-put_renewed-clause-done g c =
     end_told c.args.charged c.args.shown.now
-    (renewed_pin c.args.charged c.args.new.now (pin_in c.args.store.now c.args.charged))
+    (renewed_pin c.args.renewal (pin_in c.args.store.now c.args.charged))
     c.args.store.now c.put_renewed.new.store c.in_ok-outcome.outcome c.in-Matched.is
-    (matched_sets (renewal_writes c.secret-secret.result) c.args.charged c.secret-secret.result c.args.shown.now
-    (λ s. renewed_pin s c.args.new.now) _ _ _
+    (matched_sets (renewal_writes c.args.renewal) c.args.charged c.secret-secret.result c.args.shown.now
+    (renewed_pin c.args.renewal) _ _ _
     c.secret-secret.ensures.secret (match_told c.args.charged c.args.shown.now c.args.store.now c.compare.new.store
     c.in_ok-outcome.outcome c.in-Matched.is c.in_ok-outcome.ensures.done) c.compare.ensures.kept
     c.put_renewed.ensures.store.writes
@@ -63,7 +63,7 @@ returns-in_ok-put_renewed-clause-done g c =
 
 pub returns-in_ok-put_renewed-clause-pages : goal.returns-in_ok-put_renewed-clause-pages
 returns-in_ok-put_renewed-clause-pages g c =
-    renewed_pages _ _ c.args.new.now c.secret-secret.result (pages_stay _ _ c.compare.ensures.kept c.requires.pages)
+    renewed_pages _ _ c.args.renewal c.secret-secret.result (pages_stay _ _ c.compare.ensures.kept c.requires.pages)
     c.put_renewed.ensures.any_exit
 
 pub returns-in_ok-put_renewed-clause-store : goal.returns-in_ok-put_renewed-clause-store
@@ -72,7 +72,7 @@ returns-in_ok-put_renewed-clause-store g c =
 
 pub returns-in_ok-put_renewed-clause-spends : goal.returns-in_ok-put_renewed-clause-spends
 returns-in_ok-put_renewed-clause-spends g c =
-    compares_renewal _ _ _ _ _ c.secret-secret.ensures.secret c.compare.ensures.spends c.put_renewed.ensures.store.writes
+    compares_then (renewal_writes c.args.renewal) _ _ _ _ c.compare.ensures.spends c.put_renewed.ensures.store.writes
 
 pub returns-in_default-clause-any_exit : goal.returns-in_default-clause-any_exit
 returns-in_default-clause-any_exit g c = inl c.compare.ensures.kept
@@ -81,7 +81,7 @@ pub returns-in_default-clause-pages : goal.returns-in_default-clause-pages
 returns-in_default-clause-pages g c = pages_stay _ _ c.compare.ensures.kept c.requires.pages
 
 pub returns-in_default-clause-spends : goal.returns-in_default-clause-spends
-returns-in_default-clause-spends g c = compares_more (renewal_writes c.args.charged) _ _ _ c.compare.ensures.spends
+returns-in_default-clause-spends g c = compares_more (renewal_writes c.args.renewal) _ _ _ c.compare.ensures.spends
 
 pub returns-in_err-put_renewed-clause-by_gate : goal.returns-in_err-put_renewed-clause-by_gate
 returns-in_err-put_renewed-clause-by_gate g c =

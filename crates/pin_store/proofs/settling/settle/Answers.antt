@@ -20,7 +20,7 @@ put_tries-requires-clause-pages g c = pages_stay _ _ c.compare.ensures.kept c.re
 
 pub returns-in_err-put_tries-clause-any_exit : goal.returns-in_err-put_tries-clause-any_exit
 returns-in_err-put_tries-clause-any_exit g c =
-    matched_sets_or_not 1 c.args.charged c.secret-secret.result c.args.shown.now (λ s. verified_pin) _ _ _
+    matched_sets_or_not 1 c.args.charged c.secret-secret.result c.args.shown.now verified_pin _ _ _
     c.secret-secret.ensures.secret (match_told c.args.charged c.args.shown.now c.args.store.now c.compare.new.store
     c.in_ok-outcome.outcome c.in-Matched.is c.in_ok-outcome.ensures.done) c.compare.ensures.kept
     c.put_tries.ensures.store.writes
@@ -37,7 +37,7 @@ returns-in_err-put_tries-clause-spends g c =
 
 pub returns-in_ok-put_tries-clause-any_exit : goal.returns-in_ok-put_tries-clause-any_exit
 returns-in_ok-put_tries-clause-any_exit g c =
-    matched_sets_or_not 1 c.args.charged c.secret-secret.result c.args.shown.now (λ s. verified_pin) _ _ _
+    matched_sets_or_not 1 c.args.charged c.secret-secret.result c.args.shown.now verified_pin _ _ _
     c.secret-secret.ensures.secret (match_told c.args.charged c.args.shown.now c.args.store.now c.compare.new.store
     c.in_ok-outcome.outcome c.in-Matched.is c.in_ok-outcome.ensures.done) c.compare.ensures.kept
     c.put_tries.ensures.store.writes
@@ -47,7 +47,7 @@ pub returns-in_ok-put_tries-clause-done : goal.returns-in_ok-put_tries-clause-do
 returns-in_ok-put_tries-clause-done g c =
     end_told c.args.charged c.args.shown.now (verified_pin (pin_in c.args.store.now c.args.charged)) c.args.store.now
     c.put_tries.new.store c.in_ok-outcome.outcome c.in-Matched.is
-    (matched_sets 1 c.args.charged c.secret-secret.result c.args.shown.now (λ s. verified_pin) _ _ _
+    (matched_sets 1 c.args.charged c.secret-secret.result c.args.shown.now verified_pin _ _ _
     c.secret-secret.ensures.secret (match_told c.args.charged c.args.shown.now c.args.store.now c.compare.new.store
     c.in_ok-outcome.outcome c.in-Matched.is c.in_ok-outcome.ensures.done) c.compare.ensures.kept
     c.put_tries.ensures.store.writes
