@@ -121,18 +121,17 @@ pub fn allows(
             }
         }
     }
+}
 
-    /// The condition of the bit, where it is set.
-    fn condition(&self, bit: AccessBit) -> Option<Condition>
-        ensures { result ≡ condition_at self.now bit }
-    {
-        let bytes = self.as_bytes();
-        let mode = AccessMode::from_bits_retain(*bytes.first()?);
-        if !mode.has(bit) {
-            return None;
-        }
-        Condition::from_byte(*bytes.get(mode.set_down_to(bit))?)
+/// The condition of the bit, where it is set.
+fn condition_at(bytes: &[u8], bit: AccessBit) -> Option<Condition>
+    ensures { result ≡ condition_at bytes.now bit }
+{
+    let mode = AccessMode::from_bits_retain(*bytes.first()?);
+    if !mode.has(bit) {
+        return None;
     }
+    Condition::from_byte(*bytes.get(mode.set_down_to(bit))?)
 }
 
 /// Whether the bytes are a rule.

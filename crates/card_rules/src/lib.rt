@@ -11,7 +11,7 @@ mod pins;
 mod status;
 
 pub use access_mode::{AccessBit, AccessMode};
-pub use compact::Compact;
+pub use compact::{Compact, allows};
 pub use life_cycle::{LifeCycle, LifeCycleCommand};
 pub use pins::{PINS, PinNumber, PinSet};
 pub use status::Sw;

@@ -1,5 +1,5 @@
 use Rattle.std.proofs.Common.{rules}
-use Rattle.card_rules.proofs.compact.Compact.allows.Goals as goal
+use Rattle.card_rules.proofs.compact.allows.Goals as goal
 
 pub returns-in-None : goal.returns-in-None
 returns-in-None c = search rules
