@@ -88,7 +88,9 @@ const MEMORIES: &[(&[(u16, u32)], Option<StartFault>)] = &[
     (&[(3, 1023)], DAMAGED),
     (&[(3, 1025)], DAMAGED),
     (&[(3, 0xFFFF_FFFF)], DAMAGED),
-    (&[(1046, 0)], DAMAGED),
+    (&[(1046, 2)], DAMAGED),
+    // PIN 1 is disabled.
+    (&[(1046, 0)], None),
     (&[(1158, 2)], DAMAGED),
     (&[(33, 0x0102_0003)], DAMAGED),
     (&[(1040, 4)], DAMAGED),

@@ -100,13 +100,13 @@ fn has_header(words: &[u32]) -> bool {
         && word(words, 2) <= 1
 }
 
-/// Tries are at most 3, unblocking tries at most 10; and in format 2 there is the mark.
+/// Tries are at most 3, unblocking tries at most 10; and in format 2 the mark is 1, enabled, or 0, disabled.
 fn are_pins(words: &[u32]) -> bool {
     for page in 65..=72 {
         if word(words, 16 * page) > 3 || word(words, 16 * page + 1) > 10 {
             return false;
         }
-        if is_new(words) && word(words, 16 * page + 6) != 1 {
+        if is_new(words) && word(words, 16 * page + 6) > 1 {
             return false;
         }
     }
