@@ -23,6 +23,6 @@ pub fn formatted_old<B: Board + Drop>(board: B) -> Result<B, Fail>
 {
     match format_old(board) {
         Ok(board) => Ok(board),
-        Err((_, error)) => Err(Fail::from(error)),
+        Err((_, fault)) => Err(Fail::from(fault)),
     }
 }
