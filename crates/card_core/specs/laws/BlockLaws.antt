@@ -8,7 +8,7 @@ use Rattle.apdu_core.specs.Asked.{asked}
 use Rattle.apdu_core.specs.Requests.{Request, select, read_binary, update_binary, create_file, delete_file}
 use Rattle.apdu_core.specs.Requests.{read_record, update_record, append_record, search_record, increase}
 use Rattle.apdu_core.specs.Requests.{change_life_cycle, terminate_card_usage, verify, change_reference_data}
-use Rattle.apdu_core.specs.Requests.{reset_retry_counter}
+use Rattle.apdu_core.specs.Requests.{reset_retry_counter, change_requirement}
 use Rattle.card_rules.specs.LifeCycle.{life_cycle_byte}
 use Rattle.file_tree.specs.States.{life_at}
 use Rattle.card_core.specs.Attempts.{Attempt, charged_card, is_right, settled_card, unblocking_of, value_of}
@@ -17,7 +17,7 @@ use Rattle.card_core.specs.Cards.{Card}
 use Rattle.card_core.specs.Commands.{behaviour_of}
 use Rattle.card_core.specs.LifeCycles.{changed_card, changed_life, changed_path}
 use Rattle.card_core.specs.Outcomes.{Outcome, refused_by, unless_refused}
-use Rattle.card_core.specs.Pins.{attempted_as, change_writes, changing, pin_commits, pin_effect, reset_writes, resetting}
+use Rattle.card_core.specs.Pins.{attempted_as, change_writes, changing, mark_writes, marking, pin_commits, pin_effect, reset_writes, resetting}
 use Rattle.card_core.specs.Pins.{shows, verify_writes, verifying}
 use Rattle.card_core.specs.Sessions.{Session}
 use Rattle.card_core.specs.Stages.{IsStage, commits, commits_asked, commits_served, commits_unless}
@@ -105,6 +105,8 @@ keeps terminate_card_usage = by-one (behaviour_of terminate_card_usage) (λ c s.
 keeps (verify pin shown) = keeps-shows pin (value_of pin) (option_map (verifying pin) shown) verify_writes
 keeps (change_reference_data pin shown new) =
     keeps-shows pin (value_of pin) (Some (changing pin shown new)) change_writes
+keeps (change_requirement change pin shown) =
+    keeps-shows pin (value_of pin) (Some (marking change pin shown)) mark_writes
 keeps (reset_retry_counter pin values) =
     keeps-shows pin (unblocking_of pin) (option_map (λ values. resetting pin values.0 values.1) values) reset_writes
 
