@@ -21,7 +21,7 @@ use Rattle.card_bench.specs.Exchanges.{following, printed_by, toward_card, towar
 use Rattle.card_bench.specs.Lasting.{HasLeft}
 use Rattle.card_bench.specs.Performing.{Performs, PerformsCommand, shown, free_shown}
 use Rattle.card_bench.specs.Printouts.{prints_dark}
-use Rattle.card_bench.specs.Turns.{dark_of}
+use Rattle.card_bench.specs.Turns.{dark_of, turn_steps}
 use Rattle.card_bench.proofs.Wearing.{LINE_STEPS, arrives-last, block-due, due-spent, fewer, turn-left}
 
 -- 1 where power was lost, else 0
@@ -135,7 +135,8 @@ pub dark-spends : (order : Order) (old new : Desk) → Performs order old new pr
     → HasLeft LINE_STEPS (bench_facts old.bench) → (bench_facts old.bench).due ≡ (bench_facts new.bench).due + 1
 dark-spends Nothing old new performs left = absurd cc
 dark-spends On old new performs left =
-    let spent = due-spent old.bench new.bench turn.On performs.came performs.turn (turn-left 0 old.bench left) in
+    let spent = due-spent old.bench new.bench turn.On performs.came performs.turn (fewer (0 + turn_steps old.bench)
+    (turn_steps old.bench) (bench_facts old.bench) (omega arith) (turn-left 0 old.bench left)) in
     let lost = one-dark performs.came performs.printed in
     omega (arith, spent, lost)
 dark-spends Off old new performs left = let printed = performs.printed in absurd cc

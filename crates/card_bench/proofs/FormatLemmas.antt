@@ -22,7 +22,7 @@ use Rattle.card_bench.specs.Prints.{IsFirstDesk, IsJustWritten}
 pub new_pages : (old : Facts) → old ≡ new_board LEAST_PAGES → pages_of old.words ≡ LEAST_PAGES
 new_pages old is =
     let size : length old.words ≡ PAGE_WORDS * LEAST_PAGES =
-    ap (λ (f : Facts). length f.words) is ∙ length-replicate (PAGE_WORDS * LEAST_PAGES) 0 in
+    ap (λ (f : Facts). length f.words) is ∙ length-replicate {A = ℕ} (PAGE_WORDS * LEAST_PAGES) 0 in
     omega (arith, size)
 
 pub new_blocks : (old new : Facts) → old ≡ new_board LEAST_PAGES → length new.words ≡ length old.words

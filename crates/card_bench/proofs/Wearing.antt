@@ -194,7 +194,8 @@ due-so lost old new spends left = elim spends.due [
 pub due-spent : (old new : BenchState) (t : Turn) (i : Item) → GoodTurn old t i new → HasLeft (turn_steps old) (bench_facts old)
     → (bench_facts old).due ≡ (bench_facts new).due + dark_of i
 due-spent old new t i good left =
-    due-so (dark_of i) (bench_facts old) (bench_facts new) good.counts (turn-lasts 0 old new t i good left)
+    due-so (dark_of i) (bench_facts old) (bench_facts new) good.counts (turn-lasts 0 old new t i good
+    (fewer (turn_steps old) (0 + turn_steps old) (bench_facts old) (omega arith) left))
 
 pub block-due : (old new : BenchState) (got : List ℕ) (i : Item) → GoodBlock old got i new
     → HasLeft COMMAND_WRITES (bench_facts old) → (bench_facts old).due ≡ (bench_facts new).due + dark_of i

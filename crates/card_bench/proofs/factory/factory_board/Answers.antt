@@ -1,6 +1,5 @@
 use Rattle.std.proofs.Common.{ℕ, refl, subst}
 use Rattle.nvm_board.specs.Cut.{cut_facts}
-use Rattle.nvm_board.specs.declared.board.TheConstants.{LEAST_PAGES}
 use Rattle.undo_journal.specs.Spending.{WritesAtMost}
 use Rattle.card_core.specs.Factory.{factory_card}
 use Rattle.card_core.specs.Finding.{Finds}
@@ -10,21 +9,23 @@ use Rattle.card_bench.proofs.factory.factory_board.Goals as goal
 pub unreachable-unreachable : goal.unreachable-unreachable
 unreachable-unreachable c =
     let is = c.in_ok-new.ensures.facts in
+    let old = cut_facts c.in_ok-new.field-0 in
     let new = cut_facts c.in-Err.field-0.0 in
-    format_succeeds _ new c.in-Err.field-0.1 is refl
-    (subst (λ (n : ℕ). WritesAtMost n _ new) (new_pages _ is) c.in-Err.ensures.counts_err) c.in-Err.ensures.power_err
+    format_succeeds old new c.in-Err.field-0.1 is refl
+    (subst (λ (n : ℕ). WritesAtMost n old new) (new_pages old is) c.in-Err.ensures.counts_err) c.in-Err.ensures.power_err
 
 pub returns-clause-card : goal.returns-clause-card
 returns-clause-card c =
     let new = cut_facts c.in-Ok.board in
-    subst (λ (n : ℕ). Finds new.words (factory_card n)) (new_blocks _ new c.in_ok-new.ensures.facts c.in-Ok.ensures.written.size)
+    subst (λ (n : ℕ). Finds new.words (factory_card n)) (new_blocks (cut_facts c.in_ok-new.field-0) new c.in_ok-new.ensures.facts c.in-Ok.ensures.written.size)
     c.in-Ok.ensures.found
 
 pub returns-clause-counts : goal.returns-clause-counts
 returns-clause-counts c =
     let is = c.in_ok-new.ensures.facts in
-    just_written _ (cut_facts c.in-Ok.board) is c.in-Ok.ensures.power
-    (subst (λ (n : ℕ). WritesAtMost n _ (cut_facts c.in-Ok.board)) (new_pages _ is) c.in-Ok.ensures.counts)
+    let old = cut_facts c.in_ok-new.field-0 in
+    just_written old (cut_facts c.in-Ok.board) is c.in-Ok.ensures.power
+    (subst (λ (n : ℕ). WritesAtMost n old (cut_facts c.in-Ok.board)) (new_pages old is) c.in-Ok.ensures.counts)
 
 pub returns-clause-uncut : goal.returns-clause-uncut
 returns-clause-uncut c = none_due _ (returns-clause-counts c).due
