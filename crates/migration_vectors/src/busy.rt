@@ -138,7 +138,14 @@ impl Busy {
     /// The tries of a PIN, which not all have; and what queries of them answer.
     fn put_pin(&mut self, alloc: Global, pin: u8) -> Result<(), Fail> {
         let [tries, more] = [pin % 4, pin % 8 + 2];
-        let words = [u32::from(tries), u32::from(more), 0x3132_3334, 0xFFFF_FFFF, 0x3132_3334, 0x3536_3738];
+        let words = [
+            u32::from(tries),
+            u32::from(more),
+            0x3132_3334,
+            0xFFFF_FFFF,
+            0x3132_3334,
+            0x3536_3738,
+        ];
         put_run(&mut self.words, 16 * (65 + usize::from(pin)), &words);
         let query = Vec::from_array(alloc, [0x00, 0x20, 0x00, pin % 8 + 1])?;
         self.expect(query, Vec::new(alloc), [0x63, 0xC0 | tries])?;
@@ -155,7 +162,12 @@ impl Busy {
     }
 
     /// A command is to be answered with these bytes and this status.
-    fn expect(&mut self, command: Vec<u8>, mut answer: Vec<u8>, status: [u8; 2]) -> Result<(), Fail> {
+    fn expect(
+        &mut self,
+        command: Vec<u8>,
+        mut answer: Vec<u8>,
+        status: [u8; 2],
+    ) -> Result<(), Fail> {
         answer.extend_from_slice(&status)?;
         match self.exchanges.push(Exchange { command, answer }) {
             Ok(()) => Ok(()),
@@ -181,7 +193,10 @@ impl Busy {
             let content = file.content(alloc, begin, size.saturating_sub(begin).min(250))?;
             if !content.is_empty() {
                 let [high, low] = begin.to_be_bytes();
-                let command = Vec::from_array(alloc, [0x00, 0xB0, high, low, (content.len() & 0xFF) as u8])?;
+                let command = Vec::from_array(
+                    alloc,
+                    [0x00, 0xB0, high, low, (content.len() & 0xFF) as u8],
+                )?;
                 self.expect(command, content, [0x90, 0x00])?;
             }
         }
@@ -201,23 +216,24 @@ impl Busy {
     }
 
     /// Sets a word in a transaction: the pair has the word as it is, and the gate counts the pair.
-    fn set(&mut self, at: usize, new: u32) {
-        let gate = word(&self.words, GATE).min(431);
-        let pair = 1184 + 2 * gate as usize;
-        let earlier = word(&self.words, at);
-        put_run(&mut self.words, pair, &[at as u32, earlier]);
+    fn set(&mut self, at: u16, new: u32) {
+        let place = usize::from(at);
+        let gate = word(&self.words, GATE) & 0xFF;
+        let pair = [u32::from(at), word(&self.words, place)];
+        put_run(&mut self.words, 1184 + 2 * gate as usize, &pair);
         put(&mut self.words, GATE, gate + 1);
-        put(&mut self.words, at, new);
+        put(&mut self.words, place, new);
     }
 
-    /// Begins a transaction, and leaves it under way: the head of the free chain, a file in a free entry, bytes of the block that
-    /// was last in the free chain, its link twice, the state of the card, and tries that were gone.
+    /// Begins a transaction, and leaves it under way: the head of the free chain, a file in a free entry, the link of the block
+    /// that was last in the free chain, twice, and a word of it; the state of the card; and tries that were gone.
     pub(crate) fn begin(&mut self) {
-        let last = 16 * self.free.last().copied().map_or(0, usize::from);
+        let page = self.free.last().copied().unwrap_or(0);
+        let last = page.saturating_mul(16);
         self.set(1, 0);
         self.set(16 * 9, 0x0205_6F99);
         self.set(last, 128);
-        self.set(last + 15, 7);
+        self.set(last | 15, 7);
         self.set(last, 129);
         self.set(2, 1);
         self.set(16 * 65, 3);

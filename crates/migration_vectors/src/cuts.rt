@@ -1,10 +1,11 @@
 //! A factory card of format 1: how many writes its first start makes, and what each of them leaves that is cut, and each of the
 //! start behind it.
+ghost use Rattle.std.specs.Prelude.{◌≤◌};
 
 use crate::ends::{Ends, words_of};
 use crate::starts::{cut_board, is_factory_card, makes_writes, old_board, started};
 use card_core::MemoryFormat;
-use nvm_board::CutBoard;
+use nvm_board::{Board, CutBoard};
 use std::alloc::Global;
 use std::process::Abort;
 use std::test::Fail;
@@ -16,12 +17,18 @@ const SIZES: &[(u16, u32, u16)] = &[(1024, 15, 895), (1030, 21, 901), (4096, 308
 fn first_start_writes_the_links_and_fifteen_more(rt: HostRuntime) -> Result<(), Fail> {
     for &(pages, writes, blocks) in SIZES {
         let board = old_board(rt.alloc(), pages)?;
-        assert!(rt; makes_writes(rt.alloc(), &board, writes)?, "on {pages} pages");
+        assert!(rt;
+            makes_writes(rt.alloc(), &board, writes)?,
+            "on {pages} pages"
+        );
         let mut card = started(board)?;
         assert!(rt; is_factory_card(&mut card, blocks), "on {pages} pages");
         let board = card.into_board();
         assert!(rt; makes_writes(rt.alloc(), &board, 0)?, "on {pages} pages");
-        assert!(rt; is_factory_card(&mut started(board)?, blocks), "on {pages} pages");
+        assert!(rt;
+            is_factory_card(&mut started(board)?, blocks),
+            "on {pages} pages"
+        );
     }
     Ok(())
 }
@@ -31,7 +38,9 @@ fn first_start_writes_the_links_and_fifteen_more(rt: HostRuntime) -> Result<(), 
 const WRITES: u32 = 21;
 
 /// How many writes the rollback behind so many of them makes: a write for each pair that counts, and the gate.
-fn rollback_writes(made: u32) -> u32 {
+fn rollback_writes(made: u32) -> u32
+    ensures { result ≤ 12 }
+{
     match made {
         0..=7 => 0,
         8..=17 => 8 + 1,
@@ -64,7 +73,7 @@ impl Trial {
     /// The factory's card on 1,030 pages.
     fn new(alloc: Global) -> Result<Trial, Fail> {
         let mut board = old_board(alloc, 1030)?;
-        let ends = Ends::of(alloc, &words_of(alloc, &mut board)?)?;
+        let ends = Ends::of(alloc, &words_of(alloc, &mut board)?, 1030)?;
         Ok(Trial {
             board,
             ends,
@@ -74,8 +83,9 @@ impl Trial {
     }
 
     /// Cuts a write of the first start by each mask.
-    fn cut_write<R: Abort + AllocGlobal>(&mut self, rt: &R, write: u32) -> Result<(), Fail> {
-        let write = write.max(1);
+    fn cut_write<R: Abort + AllocGlobal>(&mut self, rt: &R, write: u32) -> Result<(), Fail>
+        requires { 1 ≤ write }
+    {
         let torn = cut_board(self.board.copy(rt.alloc())?, write, 0x0000)?;
         for &mask in &masks(rt.alloc(), torn.torn_words())? {
             let board = cut_board(self.board.copy(rt.alloc())?, write, mask)?;
@@ -87,7 +97,12 @@ impl Trial {
     }
 
     /// A first start was cut, behind so many writes: what is found then, and after each cut of the start behind it.
-    fn check_first<R: Abort + AllocGlobal>(&mut self, rt: &R, board: CutBoard, made: u32) -> Result<(), Fail> {
+    fn check_first<R: Abort + AllocGlobal>(
+        &mut self,
+        rt: &R,
+        board: CutBoard,
+        made: u32,
+    ) -> Result<(), Fail> {
         let is_new = made == WRITES;
         self.check_found(rt, board.copy(rt.alloc())?, is_new)?;
         let writes = rollback_writes(made) + if is_new { 0 } else { WRITES };
@@ -102,12 +117,23 @@ impl Trial {
     }
 
     /// What is found, undone, is the memory as it was, or the new one, and a start that isn't cut finds the card.
-    fn check_found<R: Abort + AllocGlobal>(&self, rt: &R, mut board: CutBoard, is_new: bool) -> Result<(), Fail> {
-        let want = if is_new { MemoryFormat::Two } else { MemoryFormat::One };
-        assert!(rt; self.ends.found(rt.alloc(), &mut board)? == Some(want), "not found so");
+    fn check_found<R: Abort + AllocGlobal>(
+        &self,
+        rt: &R,
+        mut board: CutBoard,
+        is_new: bool,
+    ) -> Result<(), Fail> {
+        let want = if is_new {
+            MemoryFormat::Two
+        } else {
+            MemoryFormat::One
+        };
+        let found = self.ends.found(rt.alloc(), &mut board)?;
+        assert!(rt; found == Some(want), "found {found:?}");
         let mut card = started(board)?;
         assert!(rt; is_factory_card(&mut card, 901), "another card");
-        assert!(rt; self.ends.found(rt.alloc(), &mut card.into_board())? == Some(MemoryFormat::Two), "not migrated");
+        let mark = card.into_board().read(0)?;
+        assert!(rt; mark == 0x5453_4332, "not migrated");
         Ok(())
     }
 }
@@ -120,6 +146,11 @@ fn each_write_of_two_starts_is_cut(rt: HostRuntime) -> Result<(), Fail> {
         trial.cut_write(&rt, write)?;
     }
     let second_cuts = 2 * (31 * 21 + 26 * 30 + 8 * 33);
-    assert!(rt; trial.first_cuts == 66 && trial.second_cuts == second_cuts, "{} {}", trial.first_cuts, trial.second_cuts);
+    assert!(rt;
+        trial.first_cuts == 66 && trial.second_cuts == second_cuts,
+        "{} {}",
+        trial.first_cuts,
+        trial.second_cuts
+    );
     Ok(())
 }

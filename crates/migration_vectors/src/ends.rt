@@ -41,18 +41,22 @@ pub(crate) struct Ends {
 }
 
 impl Ends {
-    /// Those of a memory of format 1 whose words, as many as its board has, are undone.
-    pub(crate) fn of(alloc: Global, words: &[u32]) -> Result<Ends, Fail> {
+    /// Those of a memory of format 1 whose words are undone, on a board of so many pages.
+    pub(crate) fn of(alloc: Global, words: &[u32], pages: u16) -> Result<Ends, Fail> {
         let mut before = Vec::new(alloc);
         before.extend_from_slice(words)?;
         let mut after = Vec::new(alloc);
         after.extend_from_slice(words)?;
-        rename(&mut after);
+        rename(&mut after, pages);
         Ok(Ends { before, after })
     }
 
     /// In which format a board's memory is, undone, if its words are those of one of the two ends.
-    pub(crate) fn found(&self, alloc: Global, board: &mut CutBoard) -> Result<Option<MemoryFormat>, Fail> {
+    pub(crate) fn found(
+        &self,
+        alloc: Global,
+        board: &mut CutBoard,
+    ) -> Result<Option<MemoryFormat>, Fail> {
         let mut words = words_of(alloc, board)?;
         undo(&mut words);
         if word(&words, 0) == MARK {
@@ -63,18 +67,26 @@ impl Ends {
 }
 
 /// Makes format 2 of words of format 1: the links of the new blocks, their head, the page where the blocks end, the marks.
-fn rename(words: &mut [u32]) {
-    let end = words.len() / 16;
+fn rename(words: &mut [u32], pages: u16) {
     let free = word(words, 1);
-    for page in 1024..end {
-        let next = if page + 1 == end { free } else { page as u32 + 1 };
-        put(words, 16 * page, next);
+    for page in 1024..pages {
+        let next = if page + 1 == pages {
+            free
+        } else {
+            u32::from(page) + 1
+        };
+        put(words, 16 * usize::from(page), next);
     }
-    if end > 1024 {
+    if pages > 1024 {
         put(words, 1, 1024);
     }
     put(words, 0, MARK);
-    put(words, 3, end as u32);
+    put(words, 3, u32::from(pages));
+    mark_pins(words);
+}
+
+/// Gives each PIN its mark.
+fn mark_pins(words: &mut [u32]) {
     for pin in 0..8 {
         put(words, 16 * (65 + pin) + 6, 1);
     }

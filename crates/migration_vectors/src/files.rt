@@ -60,7 +60,11 @@ pub(crate) fn file_of(generator: &mut Generator, entry: u8) -> Option<File> {
         kind,
         entry,
         parent,
-        short: if 4 <= entry && entry < 32 { entry / 4 } else { 0 },
+        short: if 4 <= entry && entry < 32 {
+            entry / 4
+        } else {
+            0
+        },
         records: records_of(generator, kind),
     })
 }
@@ -81,7 +85,11 @@ fn records_of(generator: &mut Generator, kind: Kind) -> Records {
             size: length.saturating_mul(capacity),
             length: (length & 0xFF) as u8,
             number: (number & 0xFF) as u8,
-            start: if matches!(kind, Kind::Linear) { 0 } else { (start & 0xFF) as u8 },
+            start: if matches!(kind, Kind::Linear) {
+                0
+            } else {
+                (start & 0xFF) as u8
+            },
         },
     }
 }
@@ -172,8 +180,12 @@ impl File {
         match self.kind {
             Kind::Directory => objects.extend_from_slice(&[0x82, 0x02, 0x78, 0x21])?,
             Kind::Transparent => objects.extend_from_slice(&[0x82, 0x02, 0x41, 0x21])?,
-            Kind::Linear => objects.extend_from_slice(&[0x82, 0x05, 0x42, 0x21, 0x00, length, number])?,
-            Kind::Cyclic => objects.extend_from_slice(&[0x82, 0x05, 0x46, 0x21, 0x00, length, number])?,
+            Kind::Linear => objects.extend_from_slice(&[
+                0x82, 0x05, 0x42, 0x21, 0x00, length, number,
+            ])?,
+            Kind::Cyclic => objects.extend_from_slice(&[
+                0x82, 0x05, 0x46, 0x21, 0x00, length, number,
+            ])?,
         }
         Ok(())
     }
@@ -183,9 +195,19 @@ impl File {
         let [high, low] = self.records.size.to_be_bytes();
         match (self.kind, self.short) {
             (Kind::Directory, _) if self.is_master() => {}
-            (Kind::Directory, _) => objects.extend_from_slice(&[0x84, 0x04, 0xA0, 0x00, 0x00, self.entry])?,
+            (Kind::Directory, _) => objects.extend_from_slice(&[
+                0x84, 0x04, 0xA0, 0x00, 0x00, self.entry,
+            ])?,
             (_, 0) => objects.extend_from_slice(&[0x88, 0x00, 0x80, 0x02, high, low])?,
-            (_, short) => objects.extend_from_slice(&[0x88, 0x01, short % 32 * 8, 0x80, 0x02, high, low])?,
+            (_, short) => objects.extend_from_slice(&[
+                0x88,
+                0x01,
+                short % 32 * 8,
+                0x80,
+                0x02,
+                high,
+                low,
+            ])?,
         }
         Ok(())
     }
@@ -214,7 +236,10 @@ impl File {
             ..
         } = self.records;
         let slot = u32::from(start) + u32::from(record.saturating_sub(1));
-        let begin = slot * u32::from(length) % u32::from(size.max(1));
-        begin as u16
+        let begin = slot * u32::from(length);
+        match begin.checked_rem(u32::from(size)) {
+            Some(begin) => (begin & 0xFFFF) as u16,
+            None => 0,
+        }
     }
 }

@@ -25,8 +25,8 @@ fn creation(number: u16, size: u16) -> [u8; 29] {
     let [first, second] = identifier(number);
     let [high, low] = size.to_be_bytes();
     [
-        0x00, 0xE0, 0x00, 0x00, 0x18, 0x62, 0x16, 0x82, 0x02, 0x41, 0x21, 0x83, 0x02, first, second, 0x88, 0x00, 0x80,
-        0x02, high, low, 0x8A, 0x01, 0x05, 0x8C, 0x03, 0x03, 0x00, 0x00,
+        0x00, 0xE0, 0x00, 0x00, 0x18, 0x62, 0x16, 0x82, 0x02, 0x41, 0x21, 0x83, 0x02, first,
+        second, 0x88, 0x00, 0x80, 0x02, high, low, 0x8A, 0x01, 0x05, 0x8C, 0x03, 0x03, 0x00, 0x00,
     ]
 }
 
@@ -73,7 +73,10 @@ impl Filling {
         let mut number = 1;
         for &(size, refused) in sizes {
             assert!(rt; self.creates(number, size), "file {number} of {size} bytes");
-            assert!(rt; refused == 0 || self.refuses(refused), "{refused} bytes after file {number}");
+            assert!(rt;
+                refused == 0 || self.refuses(refused),
+                "{refused} bytes after file {number}"
+            );
             number = number.saturating_add(1);
         }
     }
@@ -82,7 +85,10 @@ impl Filling {
     fn empty<R: Abort>(&mut self, rt: &R, sizes: &[(u16, u16)], odd: u16) {
         let mut number = 1;
         for &(size, _) in sizes {
-            assert!(rt; number & 1 != odd || self.deletes(number, size), "file {number} of {size} bytes");
+            assert!(rt;
+                number & 1 != odd || self.deletes(number, size),
+                "file {number} of {size} bytes"
+            );
             number = number.saturating_add(1);
         }
     }

@@ -34,7 +34,10 @@ fn another_mark_is_damaged(rt: HostRuntime) -> Result<(), Fail> {
 
 /// A memory of which one pair counts, that names this address.
 fn with_pair(board: CutBoard, address: u16) -> Result<CutBoard, Fail> {
-    with_words(board, &[(1168, 1), (1184, u32::from(address)), (1185, 1025)])
+    with_words(
+        board,
+        &[(1168, 1), (1184, u32::from(address)), (1185, 1025)],
+    )
 }
 
 // Pages of a board, and the first address behind its last word.
@@ -55,8 +58,14 @@ fn pair_behind_the_last_word_is_a_bad_journal(rt: HostRuntime) -> Result<(), Fai
 fn pair_behind_page_1023_is_good_on_more_pages(rt: HostRuntime) -> Result<(), Fail> {
     for address in [16_384u16, 16_479] {
         let board = with_pair(old_board(rt.alloc(), 1030)?, address)?;
-        assert!(rt; makes_writes(rt.alloc(), &board, 2 + 21)?, "format 1, {address}");
-        assert!(rt; is_factory_card(&mut started(board)?, 901), "format 1, {address}");
+        assert!(rt;
+            makes_writes(rt.alloc(), &board, 2 + 21)?,
+            "format 1, {address}"
+        );
+        assert!(rt;
+            is_factory_card(&mut started(board)?, 901),
+            "format 1, {address}"
+        );
     }
     // The link of the first block of those that the board has more, as it was.
     let board = with_pair(new_board(rt.alloc(), 1030)?, 16_384)?;
@@ -76,7 +85,12 @@ fn on_more_pages(alloc: Global, pages: u16, more: u16) -> Result<CutBoard, Fail>
 }
 
 // Pages for which a memory was made, pages that its board has, and blocks that are free.
-const SMALLER: &[(u16, u16, u16)] = &[(1024, 1030, 895), (1030, 1031, 901), (1030, 4096, 901), (4095, 4096, 3966)];
+const SMALLER: &[(u16, u16, u16)] = &[
+    (1024, 1030, 895),
+    (1030, 1031, 901),
+    (1030, 4096, 901),
+    (4095, 4096, 3966),
+];
 
 #[test]
 fn smaller_memory_of_format_2_stays_so(rt: HostRuntime) -> Result<(), Fail> {
@@ -85,7 +99,10 @@ fn smaller_memory_of_format_2_stays_so(rt: HostRuntime) -> Result<(), Fail> {
         assert!(rt; makes_writes(rt.alloc(), &board, 0)?, "{pages} on {more}");
         let mut card = started(board)?;
         assert!(rt; is_factory_card(&mut card, blocks), "{pages} on {more}");
-        assert!(rt; card.into_board().read(3)? == u32::from(pages), "{pages} on {more}");
+        assert!(rt;
+            card.into_board().read(3)? == u32::from(pages),
+            "{pages} on {more}"
+        );
     }
     Ok(())
 }

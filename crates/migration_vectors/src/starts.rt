@@ -20,7 +20,7 @@ pub(crate) const DONE: &[u8] = &[0x90, 0x00];
 
 /// How a start ended that may have been cut.
 #[derive(Drop)]
-pub(crate) enum Started {
+pub(crate) enum Ending {
     /// No write of it was the one to be cut.
     Whole(Card<CutBoard>),
     /// It was cut, and there is power again.
@@ -38,15 +38,15 @@ pub(crate) fn old_board(alloc: Global, pages: u16) -> Result<CutBoard, Fail> {
 }
 
 /// Starts a card, cut at this write of the start by this mask if it makes so many.
-pub(crate) fn start_cut(mut board: CutBoard, write: u32, mask: u16) -> Result<Started, Fail>
+pub(crate) fn start_cut(mut board: CutBoard, write: u32, mask: u16) -> Result<Ending, Fail>
     requires { 1 ≤ write }
 {
     board.arm(write, mask);
     match Card::start(board) {
-        Ok(card) => Ok(Started::Whole(card)),
+        Ok(card) => Ok(Ending::Whole(card)),
         Err((mut board, StartFault::PowerLost)) => {
             board.light()?;
-            Ok(Started::Cut(board))
+            Ok(Ending::Cut(board))
         }
         Err(_) => Err(Fail::from("a start that isn't cut doesn't end well")),
     }
@@ -57,8 +57,8 @@ pub(crate) fn cut_board(board: CutBoard, write: u32, mask: u16) -> Result<CutBoa
     requires { 1 ≤ write }
 {
     match start_cut(board, write, mask)? {
-        Started::Cut(board) => Ok(board),
-        Started::Whole(_) => Err(Fail::from("no such write")),
+        Ending::Cut(board) => Ok(board),
+        Ending::Whole(_) => Err(Fail::from("no such write")),
     }
 }
 
@@ -72,13 +72,16 @@ pub(crate) fn started(board: CutBoard) -> Result<Card<CutBoard>, Fail> {
 
 /// Whether a start makes so many writes: it is cut at the last one, and not at one more.
 pub(crate) fn makes_writes(alloc: Global, board: &CutBoard, writes: u32) -> Result<bool, Fail> {
-    let Started::Whole(_) = start_cut(board.copy(alloc)?, writes.saturating_add(1), 0x0000)? else {
+    let Ending::Whole(_) = start_cut(board.copy(alloc)?, writes.saturating_add(1), 0x0000)? else {
         return Ok(false);
     };
     if writes == 0 {
         return Ok(true);
     }
-    Ok(matches!(start_cut(board.copy(alloc)?, writes, 0x0000)?, Started::Cut(_)))
+    Ok(matches!(
+        start_cut(board.copy(alloc)?, writes, 0x0000)?,
+        Ending::Cut(_)
+    ))
 }
 
 /// Whether a card answers a command so.
