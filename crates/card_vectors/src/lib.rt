@@ -1,5 +1,5 @@
 //! Tests of the card on boards without a link: the factory's memory, memories of which words are changed, starts that fail. The
-//! factory's memory is public, for the tests of the bench.
+//! factory's memory is public, for the tests of the bench, and so is the plain check of a memory, for those of the migration.
 #![tactic(auto)]
 
 #[cfg(test)]
@@ -7,8 +7,7 @@ mod cards;
 pub mod fixtures;
 #[cfg(test)]
 mod pins;
-#[cfg(test)]
-mod standing;
+pub mod standing;
 #[cfg(test)]
 mod starts;
 #[cfg(test)]

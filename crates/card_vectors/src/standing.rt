@@ -28,7 +28,7 @@ pub fn start_of(alloc: Global, words: &[u32]) -> Result<Start, AllocError> {
     }
     let mut undone = Vec::new(alloc);
     undone.extend_from_slice(words)?;
-    undo(&mut undone, gate);
+    undo(&mut undone);
     Ok(standing(&undone))
 }
 
@@ -42,8 +42,15 @@ fn standing(words: &[u32]) -> Start {
 }
 
 /// The word at an address; behind the last one all are 0.
-fn word(words: &[u32], at: usize) -> u32 {
+pub fn word(words: &[u32], at: usize) -> u32 {
     words.get(at).copied().unwrap_or(0)
+}
+
+/// Changes the word at an address, where there is one.
+pub fn put(words: &mut [u32], at: usize, word: u32) {
+    if let Some(place) = words.get_mut(at) {
+        *place = word;
+    }
 }
 
 /// The upper and the lower half of a word.
@@ -68,14 +75,14 @@ fn are_pairs(words: &[u32], gate: u32) -> bool {
     true
 }
 
-/// Puts the earlier words back. Of the pairs that name one word the first counts, so it comes last.
-fn undo(words: &mut [u32], gate: u32) {
+/// Puts the earlier words back, and lets no pair count. Of the pairs that name one word the first counts, so it comes last.
+pub fn undo(words: &mut [u32]) {
+    let gate = word(words, GATE).min(432);
     for number in (0..gate).rev() {
         let (address, earlier) = pair(words, number);
-        if let Some(at) = words.get_mut(address as usize) {
-            *at = earlier;
-        }
+        put(words, address as usize, earlier);
     }
+    put(words, GATE, 0);
 }
 
 /// The mark of format 2.

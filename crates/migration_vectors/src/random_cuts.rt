@@ -1,0 +1,140 @@
+//! A card with many files, whose migration is cut at random, and the starts behind it, until one is done.
+
+use crate::busy::{Busy, Exchange};
+use crate::ends::{Ends, with_all_words, words_of};
+use crate::generator::Generator;
+use crate::starts::{Ending, answers, makes_writes, start_cut, started};
+use card_core::{Card, FreeSpace, MemoryFormat};
+use card_vectors::standing::{Start, put, start_of};
+use nvm_board::CutBoard;
+use std::process::Abort;
+use std::test::Fail;
+
+/// A card of format 1 on 1,030 pages, and what its migration is to keep.
+#[derive(Drop)]
+struct Trial {
+    board: CutBoard,
+    ends: Ends,
+    exchanges: Vec<Exchange>,
+    free: FreeSpace,
+}
+
+impl Trial {
+    /// The card with many files, a transaction of which is under way. Format 1 has 896 blocks, and this board six more.
+    fn new<R: Abort + AllocGlobal>(rt: &R, state: u32) -> Result<Trial, Fail> {
+        let alloc = rt.alloc();
+        let mut busy = Busy::new(alloc, 1030)?;
+        put(&mut busy.words, 2, state);
+        let ends = Ends::of(alloc, &busy.words, 1030)?;
+        busy.begin();
+        assert!(rt; start_of(alloc, &busy.words)? == Start::Starts);
+        let board = with_all_words(CutBoard::with_pages(alloc, 1030)?, &busy.words)?;
+        let Busy {
+            exchanges,
+            free,
+            ..
+        } = busy;
+        let blocks = (free.len() & 0xFFFF) as u16;
+        Ok(Trial {
+            board,
+            ends,
+            exchanges,
+            free: FreeSpace {
+                blocks: blocks.saturating_add(6),
+                entries: 64 - 57,
+            },
+        })
+    }
+
+    /// Cuts starts until one is done, and counts them. In between the words are, undone, as before or as after the migration.
+    fn migrate<R: Abort + AllocGlobal>(
+        &self,
+        rt: &R,
+        generator: &mut Generator,
+        is_asked: bool,
+    ) -> Result<u32, Fail> {
+        let mut board = self.board.copy(rt.alloc())?;
+        for cuts in 0..1000 {
+            let write = u32::from(generator.below(24)) + 1;
+            match start_cut(board, write, generator.next_number())? {
+                Ending::Cut(left) => board = left,
+                Ending::Whole(card) => {
+                    self.check_card(rt, card, is_asked)?;
+                    return Ok(cuts);
+                }
+            }
+            assert!(rt;
+                self.ends.found(rt.alloc(), &mut board)?.is_some(),
+                "after {cuts} cuts"
+            );
+        }
+        Err(Fail::from("no start was done"))
+    }
+
+    /// The card is the same, in a memory of format 2, and no later start writes. It may be asked for all its files.
+    fn check_card<R: Abort + AllocGlobal>(
+        &self,
+        rt: &R,
+        card: Card<CutBoard>,
+        is_asked: bool,
+    ) -> Result<(), Fail> {
+        let mut card = card;
+        assert!(rt; card.free() == self.free);
+        if is_asked {
+            self.check_answers(rt, &mut card);
+        }
+        let mut board = card.into_board();
+        assert!(rt; self.ends.found(rt.alloc(), &mut board)? == Some(MemoryFormat::Two));
+        assert!(rt; makes_writes(rt.alloc(), &board, 0)?);
+        Ok(())
+    }
+
+    /// It answers as it is to.
+    fn check_answers<R: Abort>(&self, rt: &R, card: &mut Card<CutBoard>) {
+        for exchange in &self.exchanges {
+            let command = exchange.command.as_slice();
+            assert!(rt;
+                answers(card, command, exchange.answer.as_slice()),
+                "of {command:?}"
+            );
+        }
+    }
+}
+
+/// How often the card is brought to format 2.
+const TRIALS: u32 = 1000;
+
+/// As all words are looked at each time, the card is asked for its files in each tenth trial alone.
+#[test]
+fn many_files_stay_under_random_cuts(rt: HostRuntime) -> Result<(), Fail> {
+    let trial = Trial::new(&rt, 0)?;
+    let mut generator = Generator::new(1);
+    let mut cuts: u32 = 0;
+    for number in 0..TRIALS {
+        let more = trial.migrate(&rt, &mut generator, number % 10 == 0)?;
+        cuts = cuts.saturating_add(more);
+    }
+    assert!(rt; cuts >= 10_000, "{cuts} cuts");
+    Ok(())
+}
+
+/// A card whose use has ended answers SELECT so.
+const ENDED: &[u8] = &[0x69, 0x85];
+
+#[test]
+fn card_whose_use_has_ended_stays_so(rt: HostRuntime) -> Result<(), Fail> {
+    let trial = Trial::new(&rt, 1)?;
+    let mut generator = Generator::new(2);
+    for _ in 0..20 {
+        trial.migrate(&rt, &mut generator, false)?;
+    }
+    let mut card = started(trial.board.copy(rt.alloc())?)?;
+    assert!(rt;
+        answers(
+            &mut card,
+            &[0x00, 0xA4, 0x00, 0x0C, 0x02, 0x3F, 0x00],
+            ENDED
+        )
+    );
+    Ok(())
+}
