@@ -5,8 +5,9 @@ use Rattle.std.proofs.lemmas.List.{length-set}
 use Rattle.std.proofs.lemmas.List.FromFn.{length-map-range_with_len}
 use Rattle.nvm_board.specs.Facts.{raised}
 use Rattle.pin_store.specs.declared.layout.TheConstants.{PINS}
-use Rattle.pin_store.specs.Pages.{pin_at, pins_of}
-use Rattle.pin_store.specs.Pins.{HasFewTries}
+use Rattle.file_tree.specs.Formats.{is_format_2}
+use Rattle.pin_store.specs.Pages.{pin_at, pins_of, unmarked_pins_of}
+use Rattle.pin_store.specs.Pins.{enabled_pin, HasFewTries, Pin}
 use Rattle.t1_link.specs.CardTable.{Reaction, replies, runs}
 use Rattle.card_core.specs.Cards.{Card}
 use Rattle.card_core.specs.Comparing.{Comparisons, comparisons}
@@ -14,18 +15,21 @@ use Rattle.card_core.specs.Finding.{HasCard, found, words_found}
 use Rattle.card_core.specs.Pins.{no_pin, pin_of}
 use Rattle.card_core.specs.Proper.{IsProper}
 use Rattle.card_core.specs.Running.{card_found}
-use Rattle.card_core.specs.Standing.{card_of}
+use Rattle.card_core.specs.Standing.{card_of, card_pins}
 use Rattle.card_core.specs.laws.FoundLaws.{found_is_proper}
-use Rattle.card_core.specs.laws.ProperLaws.{at-or}
+use Rattle.card_core.specs.laws.ProperLaws.{at-or, either-if}
 use Rattle.card_core.specs.laws.ShownLaws.{ComparesOrStays, compares-or-stays}
 use Rattle.card_bench.specs.BenchViews.{CountsEach}
 use Rattle.card_bench.specs.CardBlocks.{BlockCompares, IsBlockStage, Powered}
 use Rattle.card_bench.proofs.GuessesPaid.{ArePaid, attempt-paid, nothing-paid}
 
--- a card that is found has eight PINs
+-- a card that is found has eight PINs, in either format
 eight-pins : (m : List ℕ) → length (found m).pins ≡ PINS
-unfolding card_of pins_of
-eight-pins m = length-map-range_with_len (pin_at (words_found m)) 0 PINS
+unfolding card_of card_pins pins_of unmarked_pins_of
+eight-pins m =
+    let l = words_found m in
+    either-if (λ (pins : List Pin). length pins ≡ PINS) (is_format_2 l) (pins_of l) (unmarked_pins_of l)
+    (length-map-range_with_len (pin_at l) 0 PINS) (length-map-range_with_len (λ pin. enabled_pin (pin_at l pin)) 0 PINS)
 
 -- and no PIN of a proper card has more tries left than there may be
 pub few-tries : (d : Card) (n : ℕ) → IsProper d → HasFewTries (pin_of d n)

@@ -114,7 +114,10 @@ fn has_as_many_pages_as_it_is_made_with(rt: HostRuntime) -> Result<(), Fail> {
     for pages in [1024u16, 1030, 4096] {
         let mut board = CutBoard::with_pages(rt.alloc(), pages)?;
         board.write(pages - 1, 15, &[7])?;
-        assert!(rt; board.pages() == pages && board.read(16 * (pages - 1) + 15) == Ok(7), "{pages}");
+        assert!(rt;
+            board.pages() == pages && board.read(16 * (pages - 1) + 15) == Ok(7),
+            "{pages}"
+        );
     }
     Ok(())
 }
