@@ -9,12 +9,13 @@ use std::test::Fail;
 use store_vectors::fixtures::with_words;
 
 /// Why a card isn't started, if a start writes nothing, and it is so.
-fn refusal(mut board: CutBoard) -> Option<StartFault> {
+fn refusal(board: CutBoard) -> Option<StartFault> {
+    let mut board = board;
     board.arm(1, 0x0000);
-    match Card::start(board) {
-        Err((board, fault)) if board.pending() => Some(fault),
-        _ => None,
-    }
+    let Err((board, fault)) = Card::start(board) else {
+        return None;
+    };
+    if board.pending() { Some(fault) } else { None }
 }
 
 const DAMAGED: Option<StartFault> = Some(StartFault::Damaged);
