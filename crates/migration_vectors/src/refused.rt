@@ -79,8 +79,10 @@ fn pair_behind_page_1023_is_good_on_more_pages(rt: HostRuntime) -> Result<(), Fa
 fn on_more_pages(alloc: Global, pages: u16, more: u16) -> Result<CutBoard, Fail> {
     let words = words_of(alloc, &mut new_board(alloc, pages)?)?;
     let mut board = CutBoard::with_pages(alloc, more.clamp(1024, 4096))?;
-    for page in 0..board.pages() {
-        board.write(page, 0, &[0xFFFF_FFFF; 16])?;
+    for page in 0..4096 {
+        if page < board.pages() {
+            board.write(page, 0, &[0xFFFF_FFFF; 16])?;
+        }
     }
     with_all_words(board, &words)
 }
