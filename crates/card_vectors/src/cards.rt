@@ -40,9 +40,8 @@ const OLD: &[(u16, u32)] = &[
 
 /// The first of these words that a board doesn't have.
 fn other_word(mut board: RamBoard, words: &[(u16, u32)]) -> Option<u16> {
-    let size = u32::from(board.pages()) * 16;
     for &(at, want) in words {
-        if u32::from(at) >= size || board.read(at) != Ok(want) {
+        if at / 16 >= board.pages() || board.read(at) != Ok(want) {
             return Some(at);
         }
     }
