@@ -1,6 +1,6 @@
 -- A board of which a cut may be set to come, over one of which none can.
-use Rattle.std.specs.Prelude.{ℕ, zero, suc, ◌≡◌, ◌+◌, Bool, true, false, if◌then◌else◌, is_some, List, Option, Some, None}
-use Rattle.std.specs.Prelude.{option_map, Result, Ok, Err, IsErrAnd}
+use Rattle.std.specs.Prelude.{ℕ, zero, suc, ◌≡◌, ◌+◌, Bool, true, false, if◌then◌else◌, is_some, List, Option}
+use Rattle.std.specs.Prelude.{Some, None, option_map, Result, Ok, Err, IsErrAnd}
 use Rattle.std.proofs.Common.{refl, sym, ◌∙◌, ap, inl, inr, subst, arith}
 use Rattle.std.proofs.Math.Logic.{⊎_map, ⊎_elim}
 use Rattle.nvm_board.specs.declared.board.Arm.{Arm}
@@ -112,8 +112,9 @@ spared_ok at run a b old new x was_lit unarmed nearer never = record {
 }
 
 -- a write of a board of which no cut is set to come leaves it so
-pub unarmed_after : {T : Type 0} (at : ℕ) (run : List ℕ) (a : Option Arm) (old new : Facts) (result : Result T DeviceErr)
-    → a ≡ None → old.due ≡ 0 → new.faults ≡ 0 → Answered old new result → IsLostRightly old new result
+pub unarmed_after : {T : Type 0} (at : ℕ) (run : List ℕ) (a : Option Arm)
+    (old new : Facts) (result : Result T DeviceErr) → a ≡ None → old.due ≡ 0 → new.faults ≡ 0 → Answered old new result
+    → IsLostRightly old new result
     → ArmAfter at run (with_arm a old) (with_arm a new) result
 unarmed_after at run a old new (Ok x) unarmed none fine told rightly =
     spared_ok at run a a old new x (told.ok refl).was_lit (λ same. same)
@@ -144,10 +145,10 @@ mask_of None = 0
 mask_of (Some a) = a.mask
 
 -- it spends the arm
-pub spent : {T : Type 0} (at : ℕ) (run : List ℕ) (a : Option Arm) (old new : Facts) (mask : ℕ) → a ≡ fires_by mask
+pub arm_spent : {T : Type 0} (at : ℕ) (run : List ℕ) (a : Option Arm) (old new : Facts) (mask : ℕ) → a ≡ fires_by mask
     → old.dark ≡ false → IsTornBy mask old.words at run new.words
     → ArmAfter {T = T} at run (with_arm a old) (with_arm None new) (Err PowerLost)
-spent at run a old new mask fires was_lit torn = record {
+arm_spent at run a old new mask fires was_lit torn = record {
   dark = λ off. let dark : old.dark ≡ true = off in absurd cc;
   unarmed = λ lit none. let unarmed : a ≡ None = none in absurd cc;
   before = λ left other lit some.

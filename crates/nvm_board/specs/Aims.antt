@@ -1,10 +1,11 @@
 -- Where the cut that is set on a board falls.
-use Rattle.std.specs.Prelude.{◌≡◌, ◌⊎◌, ◌+◌, ◌==◌, ℕ, true, if◌then◌else◌, Option, None, Some, option_map, is_some, IfSome}
+use Rattle.std.specs.Prelude.{◌≡◌, ◌⊎◌, ◌+◌, ◌==◌, ℕ, true, if◌then◌else◌, Option, None, Some, option_map}
+use Rattle.std.specs.Prelude.{is_some, IfSome}
 use Rattle.nvm_board.specs.declared.board.Arm.{Arm}
 use Rattle.nvm_board.specs.Facts.{Facts}
 
--- The write that a cut falls into, counted from 1 at the board's first, and the mask that was set with it. That the run is torn
--- by it a board says that can be armed.
+-- The write that a cut falls into, counted from 1 at the board's first, and the mask that was set with it. That the run
+-- is torn by it a board says that can be armed.
 pub record Aim : Type 0 where
   pub write : ℕ
   pub mask : ℕ
@@ -13,12 +14,14 @@ pub record Aim : Type 0 where
 abbrev pub due_of : Option Arm → ℕ
 due_of arm = if is_some arm then 1 else 0
 
--- Where the cut falls that is set on a board: so many whole writes come before it. An arm of which no cut is due sets none.
+-- Where the cut falls that is set on a board: so many whole writes come before it.
+-- An arm of which no cut is due sets none.
 abbrev pub aim : Facts → Option Aim
 aim f = if f.due == 0 then None else
     option_map (λ arm. record { write = f.writes + arm.whole_writes + 1; mask = arm.mask }) f.pending
 
--- The cut fell into its write: all writes before it were counted, and at most it besides; power is off, and no cut is set.
+-- The cut fell into its write: all writes before it were counted, and at most it besides;
+-- power is off, and no cut is set.
 pub record HasFallen (old new : Facts) : Type 0 where
   pub dark : new.dark ≡ true
   pub none : aim new ≡ None
@@ -46,8 +49,8 @@ pub record AimsAtWrite (old new : Facts) : Type 0 where
   pub off : old.dark ≡ true → new ≡ old
   pub cut : (aim new ≡ aim old) ⊎ FallsNext old new
 
--- What calls on a board do to a cut that is set: nothing but that their writes bring it nearer, until it falls. A dark board
--- stays as it is.
+-- What calls on a board do to a cut that is set: nothing but that their writes bring it nearer,
+-- until it falls. A dark board stays as it is.
 pub record AimsOn (old new : Facts) : Type 0 where
   pub off : old.dark ≡ true → new ≡ old
   pub cut : KeepsAim old new

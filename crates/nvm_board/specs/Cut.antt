@@ -14,8 +14,8 @@ use Rattle.nvm_board.specs.Torn.{IsTornBy}
 abbrev pub cut_facts : CutBoard → Facts
 cut_facts b = record (ram_facts b.ram) { due = due_of b.arm; pending = b.arm }
 
--- A write that no cut falls into. It leaves this arm pending; or power is lost in it for a count at its end, and the arm
--- stays.
+-- A write that no cut falls into. It leaves this arm pending;
+-- or power is lost in it for a count at its end, and the arm stays.
 pub record IsSpared {T : Type 0} (next : Option Arm) (old new : Facts) (result : Result T DeviceErr) : Type 0 where
   pub done : IsOk result → new.pending ≡ next
   pub worn : IsErr result → IsWorn old
@@ -28,8 +28,8 @@ pub record IsCut {T : Type 0} (mask at : ℕ) (run : List ℕ) (old new : Facts)
   pub torn : IsTornBy mask old.words at run new.words
   pub spent : new.pending ≡ None
 
--- What a write of this run does to the cut that is to come: on a dark board nothing; on a lit one it brings the cut nearer
--- by one write, until none is left before it.
+-- What a write of this run does to the cut that is to come: on a dark board nothing; on a lit one it brings the cut
+-- nearer by one write, until none is left before it.
 pub record ArmAfter {T : Type 0} (at : ℕ) (run : List ℕ) (old new : Facts) (result : Result T DeviceErr) : Type 0 where
   pub dark : old.dark ≡ true → new.pending ≡ old.pending
   pub unarmed : old.dark ≡ false → old.pending ≡ None → IsSpared None old new result

@@ -1,5 +1,6 @@
 -- What contracts know of a board, and what its calls do to it.
-use Rattle.std.specs.Prelude.{◌≡◌, ◌⊎◌, ℕ, ◌≤◌, ◌<◌, ◌+◌, ◌*◌, ◌/◌, ◌^◌, Bool, true, false, List, replicate, slice_index}
+use Rattle.std.specs.Prelude.{◌≡◌, ◌⊎◌, ℕ, ◌≤◌, ◌<◌, ◌+◌, ◌*◌, ◌/◌, ◌^◌, Bool, true, false, List}
+use Rattle.std.specs.Prelude.{replicate, slice_index}
 use Rattle.std.specs.Prelude.{slice_set, length, All, Contains, Option, None, Result, IsOk, IsErrOf}
 use Rattle.nvm_board.specs.declared.board.Arm.{Arm}
 use Rattle.nvm_board.specs.declared.board.DeviceErr.{DeviceErr}

@@ -1,5 +1,6 @@
 -- What contracts know of a board that fails at a call of one's choice.
-use Rattle.std.specs.Prelude.{◌≡◌, ◌+◌, ◌<◌, ℕ, List, Option, Some, None, Result, IsOk, IsErr, IsErrAnd, IsErrOf, true, false}
+use Rattle.std.specs.Prelude.{◌≡◌, ◌+◌, ◌<◌, ℕ, List, Option, Some, None, Result, IsOk, IsErr, IsErrAnd, IsErrOf}
+use Rattle.std.specs.Prelude.{true, false}
 use Rattle.nvm_board.specs.declared.board.TheConstants.{COUNT_END}
 use Rattle.nvm_board.specs.declared.board.Arm.{Arm}
 use Rattle.nvm_board.specs.declared.board.DeviceErr.{DeviceErr}
@@ -37,7 +38,8 @@ pub record IsFaulty (old new : Facts) (answer : DeviceErr) : Type 0 where
   pub fault : old.faults < COUNT_END
       → (answer ≡ Fault) × (new ≡ record old { words = new.words; pending = None; faults = old.faults + 1 })
   pub worn : old.faults ≡ COUNT_END
-      → (answer ≡ PowerLost) × (new ≡ record old { words = new.words; pending = None; dark = true; cuts = old.cuts + 1 })
+      → (answer ≡ PowerLost)
+      × (new ≡ record old { words = new.words; pending = None; dark = true; cuts = old.cuts + 1 })
 
 -- What a call does to a fault that is to come and counts the call: on a dark board nothing; on a lit one it brings the
 -- fault nearer by one call, until none is left before it.

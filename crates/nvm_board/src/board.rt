@@ -110,7 +110,8 @@ pub trait Board {
     ghost words_fit: { (board : Self) → AreWords (facts board).words };
 
     /// Each board counts the comparisons of each secret, and its matches.
-    ghost counted: { (board : Self) → (length (facts board).compares ≡ SECRETS) × (length (facts board).matches ≡ SECRETS) };
+    ghost counted: { (board : Self)
+        → (length (facts board).compares ≡ SECRETS) × (length (facts board).matches ≡ SECRETS) };
 
     /// No count is past its end.
     ghost counts_fit: { (board : Self) → CountsFit (facts board) };

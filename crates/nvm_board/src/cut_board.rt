@@ -84,8 +84,8 @@ impl CutBoard {
         self.torn_words
     }
 
-    /// A write on a board of which a cut is set to come: the cut falls into it, or comes nearer by one. It stands apart, and
-    /// is called: so a write with no cut to come, as nearly all are, pays for none of this.
+    /// A write on a board of which a cut is set to come: the cut falls into it, or comes nearer by one. It stands
+    /// apart, and is called: so a write with no cut to come, as nearly all are, pays for none of this.
     #[inline(never)]
     #[tactic(auto, unfolding(crate::specs::Facts::IsLostRightly))]
     fn write_armed(&mut self, page: u16, first: u8, words: &[u32]) -> Result<(), DeviceErr>
@@ -104,7 +104,8 @@ impl CutBoard {
         ensures compares { (cut_facts self.new).compares ≡ (cut_facts self.old).compares }
         ensures matches { (cut_facts self.new).matches ≡ (cut_facts self.old).matches }
         ensures arm { ArmAfter (address page first) words.now (cut_facts self.old) (cut_facts self.new) result }
-        ensures torn_words { TornAfter (length words.now) (cut_facts self.old) (last_torn self.old) (last_torn self.new) }
+        ensures torn_words { TornAfter (length words.now) (cut_facts self.old)
+            (last_torn self.old) (last_torn self.new) }
     {
         if let Some(mask) = firing(self.arm, self.ram.is_dark()) {
             self.arm = None;
@@ -169,7 +170,8 @@ impl Board for CutBoard {
         ensures compares { (cut_facts self.new).compares ≡ (cut_facts self.old).compares }
         ensures matches { (cut_facts self.new).matches ≡ (cut_facts self.old).matches }
         ensures arm { ArmAfter (address page first) words.now (cut_facts self.old) (cut_facts self.new) result }
-        ensures torn_words { TornAfter (length words.now) (cut_facts self.old) (last_torn self.old) (last_torn self.new) }
+        ensures torn_words { TornAfter (length words.now) (cut_facts self.old)
+            (last_torn self.old) (last_torn self.new) }
     {
         match self.arm {
             None => self.ram.write(page, first, words),
@@ -187,7 +189,8 @@ impl Board for CutBoard {
         ensures words { (cut_facts self.new).words ≡ (cut_facts self.old).words }
         ensures writes { (cut_facts self.new).writes ≡ (cut_facts self.old).writes }
         ensures compared { OnOk result ((cut_facts self.new).compares ≡ raised (cut_facts self.old).compares secret) }
-        ensures compared_err { OnErr result (RisesAt (cut_facts self.old).compares secret (cut_facts self.new).compares) }
+        ensures compared_err { OnErr result
+            (RisesAt (cut_facts self.old).compares secret (cut_facts self.new).compares) }
         ensures matched { IfOk result (λ e. (cut_facts self.new).matches
             ≡ (if e then raised (cut_facts self.old).matches secret else (cut_facts self.old).matches)) }
         ensures matched_err { OnErr result (RisesAt (cut_facts self.old).matches secret (cut_facts self.new).matches) }

@@ -4,8 +4,8 @@ ghost use Rattle.nvm_board.specs.declared.board.TheConstants.{LEAST_PAGES, MOST_
 ghost use Rattle.nvm_board.specs.Facts.{IsMemory, pages_of};
 ghost use Rattle.nvm_board.specs.Torn.{Torn, IsMixture};
 
-/// The numbers of a board: its pages at least and at most, the words of a page and of the least board, its secrets, and where a
-/// count ends.
+/// The numbers of a board: its pages at least and at most, the words of a page and of the least board,
+/// its secrets, and where a count ends.
 pub fn layout()
     ensures least { LEAST_PAGES ≡ 1024 }
     ensures most { MOST_PAGES ≡ 4096 }

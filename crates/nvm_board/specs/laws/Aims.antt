@@ -34,8 +34,8 @@ aims_written old new counted aims = record {
   cut = ⊎_map (λ same. same) (λ falls. record {
     dark = falls.dark;
     none = falls.none;
-    there = subst (λ (o : Option Aim). IfSome o (λ a. (new.writes + 1 ≡ a.write) ⊎ (new.writes ≡ a.write))) (sym falls.was)
-        (let next = falls.next in ⊎_map (λ (same : new.writes ≡ old.writes). omega (arith, same, next))
+    there = subst (λ (o : Option Aim). IfSome o (λ a. (new.writes + 1 ≡ a.write) ⊎ (new.writes ≡ a.write)))
+        (sym falls.was) (let next = falls.next in ⊎_map (λ (same : new.writes ≡ old.writes). omega (arith, same, next))
         (λ (more : new.writes ≡ old.writes + 1). omega (arith, more, next)) counted);
   }) aims.cut;
 }

@@ -36,8 +36,8 @@ pub page_of_run : (m : List ℕ) (page first some : ℕ) → IsMemory m → 0 < 
 page_of_run m page first some memory any inside = omega (arith, memory.whole, any, inside)
 
 -- as many words as so many pages have are a memory
-pub memory_of_pages : (words : List ℕ) (pages : ℕ) → LEAST_PAGES ≤ pages → pages ≤ MOST_PAGES → length words ≡ PAGE_WORDS * pages
-    → IsMemory words × (pages_of words ≡ pages)
+pub memory_of_pages : (words : List ℕ) (pages : ℕ) → LEAST_PAGES ≤ pages → pages ≤ MOST_PAGES
+    → length words ≡ PAGE_WORDS * pages → IsMemory words × (pages_of words ≡ pages)
 memory_of_pages words pages least most size =
     let same : pages_of words ≡ pages = omega (arith, size) in (
       record {

@@ -4,7 +4,7 @@ use Rattle.nvm_board.specs.Facts.{Facts, address, Answered, IsLostRightly}
 use Rattle.nvm_board.specs.laws.Torn.{Torn-IsTornBy}
 use Rattle.nvm_board.specs.Ram.{ram_facts}
 use Rattle.nvm_board.proofs.WithArm.{with_arm, answered_armed, lost_armed, error_armed, spared_err, answered_spared}
-use Rattle.nvm_board.proofs.WithArm.{spared_ok, answered_torn, spent, aims_armed, aims_nearer}
+use Rattle.nvm_board.proofs.WithArm.{spared_ok, answered_torn, arm_spent, aims_armed, aims_nearer}
 use Rattle.nvm_board.proofs.cut_board.CutBoard.write_armed.Goals as goal
 
 pub returns-in-Some-clause-torn : goal.returns-in-Some-clause-torn
@@ -24,7 +24,7 @@ returns-in-Some-clause-light c =
 
 pub returns-in-Some-clause-arm : goal.returns-in-Some-clause-arm
 returns-in-Some-clause-arm c =
-    spent _ _ c.args.self.now.arm (ram_facts c.args.self.now.ram) (ram_facts c.tear.new.self) c.in-Some.mask
+    arm_spent _ _ c.args.self.now.arm (ram_facts c.args.self.now.ram) (ram_facts c.tear.new.self) c.in-Some.mask
     c.in-Some.ensures.fires.1 (sym c.is_dark.ensures ∙ c.in-Some.ensures.fires.0) c.tear.ensures.torn
 
 pub returns-in_err-write-clause-light : goal.returns-in_err-write-clause-light
@@ -55,8 +55,8 @@ returns-in_err-write-clause-arm c =
 
 pub returns-clause-light : goal.returns-clause-light
 returns-clause-light c =
-    answered_spared c.args.self.now.arm c.nearer-self.result (ram_facts c.args.self.now.ram) (ram_facts c.write.new.self)
-    _ c.nearer-self.ensures.due (c.in_ok-write.ensures.light.ok refl)
+    answered_spared c.args.self.now.arm c.nearer-self.result (ram_facts c.args.self.now.ram)
+    (ram_facts c.write.new.self) _ c.nearer-self.ensures.due (c.in_ok-write.ensures.light.ok refl)
 
 pub returns-clause-arm : goal.returns-clause-arm
 returns-clause-arm c =
