@@ -39,7 +39,8 @@ module _ (size : ℕ) (new : Waiting) (used : ℕ) (whole : used % BATCH ≡ 0) 
       ≤ batch_writes ps + run_writes (used + length (joined new ps))
   join-goes_on [] h few inside (inl begun) = omega (arith, whole, begins-one 0 new.at, begun.1)
   join-goes_on [] h few inside (inr waits) = absurd cc
-  join-goes_on (s ∷ rest) h few inside (inl begun) = absurd (let e : suc (length rest) ≡ 0 = ap (λ (l : List Waiting). length l) begun.0 in omega (arith, e))
+  join-goes_on (s ∷ rest) h few inside (inl begun) = absurd
+      (let e : suc (length rest) ≡ 0 = ap (λ (l : List Waiting). length l) begun.0 in omega (arith, e))
   join-goes_on (s ∷ rest) h few inside (inr waits) =
       let ps : List Waiting = s ∷ rest in
       let more = length-joined new ps in
@@ -67,15 +68,17 @@ pub full-length : (n : ℕ) → (n == 8) ≡ true → n ≡ 8
 full-length n is = grind (arith, nat_tests)
 
 -- A commit: of no set, and of some.
-pub commit-none : (m : Memory) (used after : ℕ) → used ≡ taken m → used ≡ 0 → after ≡ m.facts.writes + batch_writes m.waiting
-    → after ≡ m.facts.writes + commit_writes m
+pub commit-none : (m : Memory) (used after : ℕ) → used ≡ taken m → used ≡ 0
+    → after ≡ m.facts.writes + batch_writes m.waiting → after ≡ m.facts.writes + commit_writes m
 commit-none m used after all none flushed =
     let nothing : taken m ≡ 0 = omega (arith, all, none) in
-    let waiting : m.waiting ≡ [] = nil_from_length m.waiting (let z : length m.waiting ≡ 0 = omega (arith, nothing) in z) in
+    let waiting : m.waiting ≡ [] =
+    nil_from_length m.waiting (let z : length m.waiting ≡ 0 = omega (arith, nothing) in z) in
     let test : (taken m == 0) ≡ true = ap (λ (n : ℕ). n == 0) nothing in
     let cost : commit_writes m ≡ 0 = ap (λ (b : Bool). if b then 0 else batch_writes m.waiting + 1) test in
     omega (arith, flushed, cost, ap batch_writes waiting)
 
 pub commit-some : (m : Memory) (used after : ℕ) → used ≡ taken m → used ≢ 0
     → after ≡ m.facts.writes + batch_writes m.waiting + 1 → after ≡ m.facts.writes + commit_writes m
-commit-some m used after all some written = omega (arith, written, commit_of_some m (let s : 1 ≤ taken m = omega (arith, all, some) in s))
+commit-some m used after all some written =
+    omega (arith, written, commit_of_some m (let s : 1 ≤ taken m = omega (arith, all, some) in s))

@@ -22,9 +22,11 @@ set-back m a w within =
     let inside : a < length (slice_set m a w) = omega (arith, length-set m a w, within) in
     elim (eqb_tells k a) [
       | inl same ↦
-          let at : ℕ → Type 0 = λ j. slice_index (slice_set (slice_set m a w) a (slice_index m a)) j ≡ slice_index m j in
+          let at : ℕ → Type 0 =
+          λ j. slice_index (slice_set (slice_set m a w) a (slice_index m a)) j ≡ slice_index m j in
           subst at (sym same.1) (get_or-set_same (slice_set m a w) a (slice_index m a) 0 inside)
-      | inr other ↦ get_or-set_other (slice_set m a w) a k (slice_index m a) 0 other.1 ∙ get_or-set_other m a k w 0 other.1
+      | inr other ↦ get_or-set_other (slice_set m a w) a k (slice_index m a) 0 other.1
+          ∙ get_or-set_other m a k w 0 other.1
     ])
 
 -- the gate set to 0: what was current is committed

@@ -10,8 +10,8 @@ use Rattle.nvm_board.specs.Facts.{Facts, AreWords, IsMemory, Answered}
 use Rattle.undo_journal.specs.declared.error.StoreErr.{StoreErr}
 use Rattle.undo_journal.specs.declared.error.StoreErr.TheVariants.{PowerLost}
 use Rattle.undo_journal.specs.Undo.{gate, undo, data_words, IsSound}
-use Rattle.undo_journal.specs.Memory.{Memory, IsOpen, IsIdle, IsReady, IsTrueToBoard, Reports, FailsBy, committed, current, taken}
-use Rattle.undo_journal.specs.Memory.{store_err_of, store_result_of}
+use Rattle.undo_journal.specs.Memory.{Memory, IsOpen, IsIdle, IsReady, IsTrueToBoard, Reports, FailsBy, committed}
+use Rattle.undo_journal.specs.Memory.{current, taken, store_err_of, store_result_of}
 use Rattle.undo_journal.specs.Spending.{KeepsBoard, WritesAtMost}
 use Rattle.undo_journal.specs.Calls.{OnlyReads, UnlessFailed, Changes}
 use Rattle.undo_journal.specs.laws.Calls.{reads_same, reads_spend}
@@ -68,15 +68,16 @@ module _ {T : Type 0} (answer : Result T DeviceErr) (result : Result T StoreErr)
   on_err P h = subst (λ (r : Result T StoreErr). OnErr r P) (sym is) (err-as P answer h)
 
 -- A store that had failed, from within and as its caller has it: the error is told again, and only the room may change.
-pub stuck : {T : Type 0} (inside m : Memory) (n used : ℕ) (waiting : List Waiting) (result : Result T StoreErr) (e : StoreErr)
-    → inside ≡ m → used + length waiting ≡ 0 → IsErrAnd result (λ f. f ≡ e) → m.failed ≡ Some e
+pub failed_before : {T : Type 0} (inside m : Memory) (n used : ℕ) (waiting : List Waiting) (result : Result T StoreErr)
+    (e : StoreErr) → inside ≡ m → used + length waiting ≡ 0 → IsErrAnd result (λ f. f ≡ e) → m.failed ≡ Some e
     → Changes n m (record inside { used = used; waiting = waiting }) (result_err result)
-stuck inside m n used waiting result e seen idle is failed = record {
+failed_before inside m n used waiting result e seen idle is failed = record {
   reports = reports_unused inside m used waiting seen;
   idle = idle;
   ready = none_ready result e _ is;
   tells = error_tells inside.failed result e is (ap (λ (x : Memory). x.failed) seen ∙ failed);
-  writes = subst (λ (x : Memory). WritesAtMost n x.facts inside.facts) seen (reads_spend n inside inside (reads_same inside));
+  writes = subst (λ (x : Memory). WritesAtMost n x.facts inside.facts) seen
+      (reads_spend n inside inside (reads_same inside));
 }
 
 -- A store that worked, from within and as its caller has it, before a call and after it.
@@ -162,8 +163,8 @@ module _ (inside m new : Memory) (seen : inside ≡ m) (held : IsTrueToBoard ins
         → OnOk answer (Fits (length new.facts.words) new.used new.waiting) → IsTrueToBoard new
     noted-true sound counts batch = true-as answer told light sound counts batch
 
-    pub noted-open : IsMemory new.facts.words → AreWords new.facts.words → OnOk answer (Fits (length new.facts.words) new.used new.waiting)
-        → OnOk result (IsOpen new)
+    pub noted-open : IsMemory new.facts.words → AreWords new.facts.words
+        → OnOk answer (Fits (length new.facts.words) new.used new.waiting) → OnOk result (IsOpen new)
     noted-open size fit batch =
         subst (λ (r : Result T StoreErr). OnOk r (IsOpen new)) (sym is) (open-as answer told light size fit batch)
 

@@ -106,21 +106,24 @@ all_named-more ps qs (s ∷ rest) more named = (more s.at named.0, all_named-mor
 
 all_named-pairs_of : (m : List ℕ) (sets : List Waiting) → AllNamed (pairs_of m sets) sets
 all_named-pairs_of m [] = tt
-all_named-pairs_of m (s ∷ rest) =
-    (inl refl, all_named-more (pairs_of m rest) (pairs_of m (s ∷ rest)) rest (λ a named. inr named) (all_named-pairs_of m rest))
+all_named-pairs_of m (s ∷ rest) = (
+  inl refl,
+  all_named-more (pairs_of m rest) (pairs_of m (s ∷ rest)) rest (λ a named. inr named)
+      (all_named-pairs_of m rest),
+)
 
 pub all_named-after : (qs : List Pair) (m : List ℕ) (sets : List Waiting) → AllNamed (qs ++ pairs_of m sets) sets
 all_named-after qs m sets =
-    all_named-more (pairs_of m sets) (qs ++ pairs_of m sets) sets (names-after qs (pairs_of m sets)) (all_named-pairs_of m sets)
+    all_named-more (pairs_of m sets) (qs ++ pairs_of m sets) sets (names-after qs (pairs_of m sets))
+    (all_named-pairs_of m sets)
 
 -- of data words
 pub pairs_of-places : (m l : List ℕ) (sets : List Waiting) (least : ℕ) → AreSets (length l) least sets
     → All (λ p. IsDataAddress l p.address) (pairs_of m sets)
 pairs_of-places m l [] least h = All-nil (λ p. IsDataAddress l p.address)
 pairs_of-places m l (s ∷ rest) least h =
-    All-cons (λ p. IsDataAddress l p.address) (record { address = s.at; earlier = slice_index m s.at }) (pairs_of m rest)
-    (h.0.outside, h.0.within)
-    (pairs_of-places m l rest (s.at + 1) h.1)
+    All-cons (λ p. IsDataAddress l p.address) (record { address = s.at; earlier = slice_index m s.at })
+    (pairs_of m rest) (h.0.outside, h.0.within) (pairs_of-places m l rest (s.at + 1) h.1)
 
 -- as words of the journal
 pub length-pair_words : (m : List ℕ) (sets : List Waiting) → length (pair_words m sets) ≡ 2 * length sets

@@ -138,7 +138,8 @@ module _ (m : List ℕ) (sound : IsSound m) where
             other.0)
       ])
 
--- A rollback of the words m: of the pairs from the one numbered `left` on the earlier words are put back, which gives now.
+-- A rollback of the words m: of the pairs from the one numbered `left` on the earlier words are put back,
+-- which gives now.
 module _ (m now : List ℕ) (sound : IsSound m) (left : ℕ) (so_far : now ≡ put_back_from m left) where
   pair-now : (i : ℕ) → i < gate m → pair_at now i ≡ pair_at m i
   pair-now i lt =

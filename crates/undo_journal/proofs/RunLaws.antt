@@ -33,7 +33,11 @@ module _ (size : ℕ) (new : Waiting) where
           runs-joined rest (s.at + 1) (s.at + 1) h.1 low,
         )
     | same b e is ↦
-        omega (arith, ap (λ (l : List Waiting). runs_from next l) (joined-same new s rest b e), runs-equal s rest next is)
+        omega (
+          arith,
+          ap (λ (l : List Waiting). runs_from next l) (joined-same new s rest b e),
+          runs-equal s rest next is,
+        )
     | above b e lt ↦
         let made = ap (λ (l : List Waiting). runs_from next l) (joined-above new s rest b e) in
         elim (going next s.at) [
@@ -52,7 +56,11 @@ module _ (size : ℕ) (new : Waiting) where
   runs-first (s ∷ rest) h inside = elim (order s.at new.at) [
     | below b lt ↦ absurd (omega (arith, lt, h.0.from))
     | same b e is ↦
-        omega (arith, ap (λ (l : List Waiting). runs_from new.at l) (joined-same new s rest b e), runs-equal s rest new.at is)
+        omega (
+          arith,
+          ap (λ (l : List Waiting). runs_from new.at l) (joined-same new s rest b e),
+          runs-equal s rest new.at is,
+        )
     | above b e lt ↦
         let made = ap (λ (l : List Waiting). runs_from new.at l) (joined-above new s rest b e) in
         elim (going new.at s.at) [
@@ -87,7 +95,11 @@ module _ (size : ℕ) (new : Waiting) where
               omega (arith, made, runs-goes_on rest (s.at + 1) (s.at + 1) h.1 low inside waits_on)
         ]
     | same b e is ↦
-        omega (arith, ap (λ (l : List Waiting). runs_from next l) (joined-same new s rest b e), runs-equal s rest next is)
+        omega (
+          arith,
+          ap (λ (l : List Waiting). runs_from next l) (joined-same new s rest b e),
+          runs-equal s rest next is,
+        )
     | above b e lt ↦
         let low : new.at - 1 < s.at = omega (arith, lt) in
         let here : AreSets size s.at (s ∷ rest) = (
@@ -104,15 +116,15 @@ module _ (size : ℕ) (new : Waiting) where
   ]
 
 -- The words of the run that goes on at `next`: they are words of successive addresses.
-pub run-written : (ps : List Waiting) (next : ℕ) (m : List ℕ)
+pub run_words-written : (ps : List Waiting) (next : ℕ) (m : List ℕ)
     → overlay ps m ≡ overlay (drop (length (run_words next ps)) ps) (written m next (run_words next ps))
-run-written [] next m = refl
-run-written (s ∷ rest) next m = elim (going next s.at) [
+run_words-written [] next m = refl
+run_words-written (s ∷ rest) next m = elim (going next s.at) [
   | goes t e p is ↦
       let run : run_words next (s ∷ rest) ≡ s.word ∷ run_words (s.at + 1) rest =
       ap (λ (b : Bool). if b then s.word ∷ run_words (s.at + 1) rest else []) t in
       let family : List ℕ → List ℕ = λ ws. overlay (drop (length ws) (s ∷ rest)) (written m next ws) in
-      run-written rest (s.at + 1) (slice_set m s.at s.word)
+      run_words-written rest (s.at + 1) (slice_set m s.at s.word)
       ∙ ap (λ (a : ℕ). overlay (drop (length (run_words (s.at + 1) rest)) rest)
       (written (slice_set m a s.word) (a + 1) (run_words (s.at + 1) rest))) e
       ∙ sym (ap family run)
@@ -142,10 +154,12 @@ pub run-runs : (ps : List Waiting) (next : ℕ) → runs_from 0 (drop (length (r
 run-runs [] next = refl
 run-runs (s ∷ rest) next = elim (going next s.at) [
   | goes t e p is ↦
-      let run = ap (λ (b : Bool). runs_from 0 (drop (length (if b then s.word ∷ run_words (s.at + 1) rest else [])) (s ∷ rest))) t in
+      let run = ap (λ (b : Bool). runs_from 0
+      (drop (length (if b then s.word ∷ run_words (s.at + 1) rest else [])) (s ∷ rest))) t in
       omega (arith, run, run-runs rest (s.at + 1), is)
   | stops t o is ↦
-      let run = ap (λ (b : Bool). runs_from 0 (drop (length (if b then s.word ∷ run_words (s.at + 1) rest else [])) (s ∷ rest))) t in
+      let run = ap (λ (b : Bool). runs_from 0
+      (drop (length (if b then s.word ∷ run_words (s.at + 1) rest else [])) (s ∷ rest))) t in
       omega (arith, run, is, begins-first s.at)
 ]
 
@@ -237,9 +251,10 @@ turn-inside (s ∷ rest) d some = omega (arith, run-inside rest s.at)
 pub turn-written : (ps : List Waiting) (d : Waiting) (m : List ℕ) → 0 < length ps
     → overlay (drop (length (first_words ps)) ps) (written m (get_or ps 0 d).at (first_words ps)) ≡ overlay ps m
 turn-written [] d m some = absurd (omega arith)
-turn-written (s ∷ rest) d m some = sym (run-written rest (s.at + 1) (slice_set m s.at s.word))
+turn-written (s ∷ rest) d m some = sym (run_words-written rest (s.at + 1) (slice_set m s.at s.word))
 
-pub turn-runs : (ps : List Waiting) → 0 < length ps → runs_from 0 (drop (length (first_words ps)) ps) + 1 ≡ runs_from 0 ps
+pub turn-runs : (ps : List Waiting) → 0 < length ps
+    → runs_from 0 (drop (length (first_words ps)) ps) + 1 ≡ runs_from 0 ps
 turn-runs [] some = absurd (omega arith)
 turn-runs (s ∷ rest) some = omega (arith, run-runs rest (s.at + 1), begins-first s.at)
 

@@ -13,8 +13,8 @@ use Rattle.undo_journal.specs.Undo.{Pair, gate, pair_at, pairs_from, pairs, earl
 use Rattle.undo_journal.specs.Undo.{IsDataAddress, IsSound}
 use Rattle.undo_journal.specs.laws.Undo.{committed-same, data_words-same, data_words-set, data_words-outside, undo_shut}
 use Rattle.undo_journal.proofs.Pairs.{length-pairs_from, pairs_from-at, pairs_from-same, pairs_from-add, earlier-append}
-use Rattle.undo_journal.proofs.Pairs.{earlier-named, earlier-pairs_of, all_named-after, pairs_of-places, length-pair_words}
-use Rattle.undo_journal.proofs.Pairs.{pairs_from-written}
+use Rattle.undo_journal.proofs.Pairs.{earlier-named, earlier-pairs_of, all_named-after}
+use Rattle.undo_journal.proofs.Pairs.{pairs_of-places, length-pair_words, pairs_from-written}
 use Rattle.undo_journal.proofs.RunLaws.{IsSaved}
 use Rattle.std.proofs.lemmas.List.Elements.{All-append, All-weaker}
 use Rattle.undo_journal.specs.declared.batch.Waiting.{Waiting}
@@ -204,7 +204,8 @@ saved-torn m (w ∷ run) n a sound saved (inl old) =
 saved-torn m (w ∷ run) n a sound saved (inr new) =
     let some : 0 < suc (length run) = omega arith in
     let z : a + 0 ≡ a = omega arith in
-    let here : IsSaved m (pairs m) a = let family : ℕ → Type 0 = λ j. IsSaved m (pairs m) j in subst family z (saved 0 some) in
+    let here : IsSaved m (pairs m) a = let family : ℕ → Type 0 = λ j. IsSaved m (pairs m) j in
+    subst family z (saved 0 some) in
     let first : SameUndo m (slice_set m a w) = same-set m a w sound here in
     same-then m (slice_set m a w) n first
     (saved-torn (slice_set m a w) run n (a + 1) first.sound (λ k lt.
@@ -214,12 +215,13 @@ saved-torn m (w ∷ run) n a sound saved (inr new) =
     saved-stays m (slice_set m a w) (a + 1 + k) first (subst family place (saved (suc k) next))) new)
 
 -- sets make the same of the same data words
-pub overlay-current : (sets : List Waiting) (least : ℕ) (m n : List ℕ) → AreSets (length m) least sets → length n ≡ length m
-    → data_words m ≡ data_words n → data_words (overlay sets m) ≡ data_words (overlay sets n)
+pub overlay-current : (sets : List Waiting) (least : ℕ) (m n : List ℕ) → AreSets (length m) least sets
+    → length n ≡ length m → data_words m ≡ data_words n → data_words (overlay sets m) ≡ data_words (overlay sets n)
 overlay-current [] least m n h size same = same
 overlay-current (s ∷ rest) least m n h size same =
     let place : IsDataAddress m s.at = (h.0.outside, h.0.within) in
-    let place_n : IsDataAddress n s.at = (h.0.outside, (let w : s.at < length n = omega (arith, h.0.within, size) in w)) in
+    let place_n : IsDataAddress n s.at =
+    (h.0.outside, (let w : s.at < length n = omega (arith, h.0.within, size) in w)) in
     overlay-current rest (s.at + 1) (slice_set m s.at s.word) (slice_set n s.at s.word)
     (subst (λ (k : ℕ). AreSets k (s.at + 1) rest) (sym (length-set m s.at s.word)) h.1)
     (length-set n s.at s.word ∙ size ∙ sym (length-set m s.at s.word))
@@ -241,7 +243,8 @@ module _ (m r run : List ℕ) (sets : List Waiting) (g : ℕ) (read : r ≡ m) (
       let fits : JOURNAL + 2 * g + length run ≤ length m = omega (arith, length-run, room, size) in
       let mixture : IsMixture m (JOURNAL + 2 * g) run n = IsMixture-Torn m run n (JOURNAL + 2 * g) fits torn_m in
       past-pairs m n (sym mixture.size) (λ k outside. elim outside [
-        | inl before ↦ let lt : k < JOURNAL + 2 * g = omega (arith, before, counts) in sym (mixture.elsewhere k (inl lt))
+        | inl before ↦ let lt : k < JOURNAL + 2 * g = omega (arith, before, counts) in
+            sym (mixture.elsewhere k (inl lt))
         | inr past ↦ let le : JOURNAL + 2 * g + length run ≤ k = omega (arith, past, length-run, room) in
             sym (mixture.elsewhere k (inr le))
       ])
@@ -282,7 +285,8 @@ module _ (m r run : List ℕ) (sets : List Waiting) (g : ℕ) (read : r ≡ m) (
         ∙ ap (λ (l : List ℕ). pairs_from l g (length sets)) in_m
         ∙ pairs_from-written m m sets g fits in
         ap (λ (c : ℕ). pairs_from q 0 c) gate-raised
-        ∙ pairs_from-same q p 0 (g + length sets) (λ k above below. let le : JOURNAL ≤ k = omega arith in journal-raised k le)
+        ∙ pairs_from-same q p 0 (g + length sets)
+        (λ k above below. let le : JOURNAL ≤ k = omega arith in journal-raised k le)
         ∙ pairs_from-add p 0 g (length sets)
         ∙ ap (λ (ps : List Pair). ps ++ pairs_from p (0 + g) (length sets)) front
         ∙ ap (λ (ps : List Pair). pairs m ++ ps) back

@@ -24,7 +24,8 @@ joined_run-more (w ∷ words) at (suc i) sets lt =
     let more : suc i + 1 ≡ suc (i + 1) = omega arith in
     let below : i < length words = omega (arith, lt) in
     let first : List Waiting = joined (record { at = at; word = w }) sets in
-    ap (λ (j : ℕ). joined (record { at = j; word = slice_index words i }) (joined_run (at + 1) (take i words) first)) place
+    ap (λ (j : ℕ). joined (record { at = j; word = slice_index words i })
+    (joined_run (at + 1) (take i words) first)) place
     ∙ joined_run-more words (at + 1) i first below ∙ ap (λ (n : ℕ). joined_run at (take n (w ∷ words)) sets) (sym more)
 
 joined_run-length : (words : List ℕ) (at : ℕ) (sets : List Waiting)
@@ -37,8 +38,9 @@ joined_run-length (w ∷ words) at sets =
     omega (arith, rest, one)
 
 -- so few of them fill no batch
-pub fills-none : (set : Waiting) (words : List ℕ) (at i : ℕ) (old now : List Waiting) → now ≡ joined_run at (take i words) old
-    → i < length words → length (joined set now) ≡ BATCH → length old + (i + 1) < BATCH → ⊥
+pub fills-none : (set : Waiting) (words : List ℕ) (at i : ℕ) (old now : List Waiting)
+    → now ≡ joined_run at (take i words) old → i < length words → length (joined set now) ≡ BATCH
+    → length old + (i + 1) < BATCH → ⊥
 fills-none set words at i old now is lt full few =
     let run = joined_run-length (take i words) at old in
     let taken = length-take-le i words (let le : i ≤ length words = omega (arith, lt) in le) in

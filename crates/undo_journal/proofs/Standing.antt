@@ -50,7 +50,8 @@ open-from m works lit size fit batch = record {
   committed_size = memory_same m.facts.words (committed m) (length-committed m) size;
   current_size = memory_same m.facts.words (current m) (length-current m) size;
   committed_fit = data_words-fits (undo m.facts.words) (undo-fits m.facts.words fit);
-  current_fit = data_words-fits (overlay m.waiting m.facts.words) (overlay-fits (length m.facts.words) m.waiting m.facts.words 0 batch.sets fit);
+  current_fit = data_words-fits (overlay m.waiting m.facts.words)
+      (overlay-fits (length m.facts.words) m.waiting m.facts.words 0 batch.sets fit);
 }
 
 pub ready-from : (m : Memory) → m.failed ≡ None → m.facts.dark ≡ false → IsMemory m.facts.words

@@ -64,13 +64,24 @@ answered_after a b c result first told = record {
 }
 
 -- what a write costs
-pub write_costs : {T : Type 0} (old new : Facts) (result : Result T DeviceErr) → AimsAtWrite old new → OnOk result (new.writes ≡ old.writes + 1)
+pub write_costs : {T : Type 0} (old new : Facts) (result : Result T DeviceErr)
+    → AimsAtWrite old new → OnOk result (new.writes ≡ old.writes + 1)
     → OnErr result ((new.writes ≡ old.writes) ⊎ (new.writes ≡ old.writes + 1)) → new.compares ≡ old.compares
     → new.matches ≡ old.matches → WritesAtMost 1 old new
-write_costs old new (Ok x) cut ok err compares matches = record
-    { writes = omega (arith, ok); more = omega (arith, ok); cut = aims_written old new (inr ok) cut; compares = compares; matches = matches }
-write_costs old new (Err e) cut ok err compares matches = record
-    { writes = omega (arith, err); more = omega (arith, err); cut = aims_written old new err cut; compares = compares; matches = matches }
+write_costs old new (Ok x) cut ok err compares matches = record {
+  writes = omega (arith, ok);
+  more = omega (arith, ok);
+  cut = aims_written old new (inr ok) cut;
+  compares = compares;
+  matches = matches;
+}
+write_costs old new (Err e) cut ok err compares matches = record {
+  writes = omega (arith, err);
+  more = omega (arith, err);
+  cut = aims_written old new err cut;
+  compares = compares;
+  matches = matches;
+}
 
 -- what an error tells of a lit board
 pub fails_by : {T : Type 0} (e : DeviceErr) (old new : Facts) → old.dark ≡ false → Answered {T = T} old new (Err e)

@@ -63,14 +63,16 @@ overlay-set size (s ∷ rest) m a w h =
     ∙ overlay-set size rest (slice_set m s.at s.word) a w (sets-lower size (a + 1) (s.at + 1) rest le h.1)
 
 -- words of 32 bits
-pub overlay-fits : (size : ℕ) (ps : List Waiting) (m : List ℕ) (least : ℕ) → AreSets size least ps → AreWords m → AreWords (overlay ps m)
+pub overlay-fits : (size : ℕ) (ps : List Waiting) (m : List ℕ) (least : ℕ) → AreSets size least ps → AreWords m
+    → AreWords (overlay ps m)
 overlay-fits size [] m least h fit = fit
 overlay-fits size (s ∷ rest) m least h fit =
-    overlay-fits size rest (slice_set m s.at s.word) (s.at + 1) h.1 (All-set (λ w. w < 2 ^ 32) m s.at s.word h.0.fits fit)
+    overlay-fits size rest (slice_set m s.at s.word) (s.at + 1) h.1
+    (All-set (λ w. w < 2 ^ 32) m s.at s.word h.0.fits fit)
 
 -- the word that waits is the one that is read
-pub look_up-found : (size : ℕ) (a w : ℕ) (ps : List Waiting) (m : List ℕ) (least : ℕ) → AreSets size least ps → a < length m
-    → look_up a ps ≡ Some w → slice_index (overlay ps m) a ≡ w
+pub look_up-found : (size : ℕ) (a w : ℕ) (ps : List Waiting) (m : List ℕ) (least : ℕ) → AreSets size least ps
+    → a < length m → look_up a ps ≡ Some w → slice_index (overlay ps m) a ≡ w
 look_up-found size a w [] m least h lt found = absurd cc
 look_up-found size a w (s ∷ rest) m least h lt found = elim (eqb_tells s.at a) [
   | inl e ↦
@@ -105,7 +107,8 @@ look_up-none a (s ∷ rest) m none = elim (eqb_tells s.at a) [
 ]
 
 -- nothing waits below the least address
-pub look_up-below : (size : ℕ) (a least : ℕ) (ps : List Waiting) → AreSets size least ps → a < least → look_up a ps ≡ None
+pub look_up-below : (size : ℕ) (a least : ℕ) (ps : List Waiting) → AreSets size least ps
+    → a < least → look_up a ps ≡ None
 look_up-below size a least [] h lt = refl
 look_up-below size a least (s ∷ rest) h lt =
     let other : s.at ≢ a = omega (arith, lt, h.0.from) in
@@ -126,7 +129,8 @@ module _ (size : ℕ) (new : Waiting) where
     | below b lt ↦ ap (λ (l : List Waiting). overlay l m) (joined-below new s rest b)
         ∙ overlay-joined rest (slice_set m s.at s.word) (s.at + 1) h.1
     | same b e is ↦
-        let moved : AreSets size (new.at + 1) rest = let family : ℕ → Type 0 = λ k. AreSets size (k + 1) rest in subst family is h.1 in
+        let moved : AreSets size (new.at + 1) rest = let family : ℕ → Type 0 =
+        λ k. AreSets size (k + 1) rest in subst family is h.1 in
         ap (λ (l : List Waiting). overlay l m) (joined-same new s rest b e)
         ∙ ap (λ (l : List ℕ). overlay rest l) (sym (ap (λ (j : ℕ). slice_set (slice_set m j s.word) new.at new.word) is
         ∙ set-set_same m new.at s.word new.word))
@@ -145,7 +149,8 @@ module _ (size : ℕ) (new : Waiting) where
         )
   ]
 
-  pub sets-joined : (ps : List Waiting) (least : ℕ) → AreSets size least ps → IsSet size least new → AreSets size least (joined new ps)
+  pub sets-joined : (ps : List Waiting) (least : ℕ) → AreSets size least ps → IsSet size least new
+      → AreSets size least (joined new ps)
   sets-joined [] least h is_set = (is_set, tt)
   sets-joined (s ∷ rest) least h is_set = elim (order s.at new.at) [
     | below b lt ↦
@@ -156,7 +161,8 @@ module _ (size : ℕ) (new : Waiting) where
               (record { from = from; outside = is_set.outside; within = is_set.within; fits = is_set.fits }),
         )
     | same b e is ↦
-        let moved : AreSets size (new.at + 1) rest = let family : ℕ → Type 0 = λ k. AreSets size (k + 1) rest in subst family is h.1 in
+        let moved : AreSets size (new.at + 1) rest = let family : ℕ → Type 0 =
+        λ k. AreSets size (k + 1) rest in subst family is h.1 in
         subst (λ (l : List Waiting). AreSets size least l) (sym (joined-same new s rest b e)) (is_set, moved)
     | above b e lt ↦
         let from : new.at + 1 ≤ s.at = omega (arith, lt) in

@@ -1,6 +1,6 @@
 -- The sets of a transaction that wait: what they make of the words, and how many device writes they take.
-use Rattle.std.specs.Prelude.{◌==◌, ◌<◌, ◌≤◌, ◌+◌, ◌-◌, ◌/◌, ◌%◌, ◌^◌, ◌&&◌, ℕ, not, if◌then◌else◌, List, [], ◌∷◌, slice_set}
-use Rattle.std.specs.Prelude.{zero, suc, nat_lt, Option, Some, None}
+use Rattle.std.specs.Prelude.{◌==◌, ◌<◌, ◌≤◌, ◌+◌, ◌-◌, ◌/◌, ◌%◌, ◌^◌, ◌&&◌, ℕ, not, if◌then◌else◌, List, []}
+use Rattle.std.specs.Prelude.{◌∷◌, slice_set, zero, suc, nat_lt, Option, Some, None}
 use Rattle.nvm_board.specs.declared.board.TheConstants.{PAGE_WORDS}
 use Rattle.undo_journal.specs.declared.batch.Waiting.{Waiting}
 use Rattle.undo_journal.specs.Undo.{IsOutside}
@@ -18,7 +18,8 @@ look_up a (s ∷ rest) = if s.at == a then Some s.word else look_up a rest
 -- the sets with one more: it takes the place of one of its address
 abbrev pub joined : Waiting → List Waiting → List Waiting
 joined new [] = new ∷ []
-joined new (s ∷ rest) = if nat_lt s.at new.at then s ∷ joined new rest else (if s.at == new.at then new ∷ rest else new ∷ s ∷ rest)
+joined new (s ∷ rest) = if nat_lt s.at new.at then s
+    ∷ joined new rest else (if s.at == new.at then new ∷ rest else new ∷ s ∷ rest)
 
 -- the sets with those of words from an address on, one by one
 abbrev pub joined_run : ℕ → List ℕ → List Waiting → List Waiting

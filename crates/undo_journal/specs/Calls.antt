@@ -3,7 +3,8 @@ use Rattle.std.specs.Prelude.{◌≡◌, ◌+◌, ◌≤◌, ℕ, Option, Some, 
 use Rattle.undo_journal.specs.declared.error.StoreErr.{StoreErr}
 use Rattle.undo_journal.specs.declared.txn.Txn.{Txn}
 use Rattle.undo_journal.specs.Lent.{memory_of, store_of}
-use Rattle.undo_journal.specs.Memory.{Memory, KeepsWords, Reports, IsOpen, IsIdle, IsReady, InRuns, committed, taken, room}
+use Rattle.undo_journal.specs.Memory.{Memory, KeepsWords, Reports, IsOpen, IsIdle, IsReady, InRuns, committed}
+use Rattle.undo_journal.specs.Memory.{taken, room}
 use Rattle.undo_journal.specs.Spending.{KeepsBoard, WritesAtMost}
 
 -- Only reads were made of a store: no word and no count of its board changed, but for cuts and faults.
@@ -17,8 +18,8 @@ pub record TxnReads {B : Type 0} (old new : Txn B) : Type 0 where
   pub same_store : (store_of new).ghost_name ≡ (store_of old).ghost_name
   pub reads : OnlyReads (memory_of old) (memory_of new)
 
--- At most n sets were made in a transaction, and nothing else but reads: what was committed stays, the store is the same. They
--- lie in at most n runs; a function whose sets lie in fewer says so beside it.
+-- At most n sets were made in a transaction, and nothing else but reads: what was committed stays, the store is the
+-- same. They lie in at most n runs; a function whose sets lie in fewer says so beside it.
 pub record Sets {B : Type 0} (n : ℕ) (old new : Txn B) : Type 0 where
   pub same_store : (store_of new).ghost_name ≡ (store_of old).ghost_name
   pub kept : committed (memory_of new) ≡ committed (memory_of old)

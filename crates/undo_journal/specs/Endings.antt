@@ -1,4 +1,5 @@
--- How a transaction ends by what became of its work: it is committed where that was done, and abandoned where it failed.
+-- How a transaction ends by what became of its work: it is committed where that was done,
+-- and abandoned where it failed.
 use Rattle.std.specs.Prelude.{ℕ, Option, Some, None, Result, Ok, Err}
 use Rattle.undo_journal.specs.declared.error.StoreErr.{StoreErr}
 use Rattle.undo_journal.specs.Memory.{Memory, commit_writes}

@@ -56,13 +56,13 @@ EndsAt m a = ((m.waiting ≡ []) × (0 < m.used)) ⊎ IsSome (look_up a m.waitin
 abbrev pub GoesOn : Memory → ℕ → Type 0
 GoesOn m a = (a % PAGE_WORDS ≢ 0) × EndsAt m (a - 1)
 
--- Device writes of so many sets that lie in one run, but for the gate of their commit: three for each eight, of their pairs, of
--- the gate and of their words. The words of the first eight are counted by `InRuns`.
+-- Device writes of so many sets that lie in one run, but for the gate of their commit: three for each eight, of their
+-- pairs, of the gate and of their words. The words of the first eight are counted by `InRuns`.
 abbrev pub run_writes : ℕ → ℕ
 run_writes sets = 3 * ((sets + 7) / 8) - 1
 
--- Costs no more than sets that are made in so many runs of successive addresses of a page, each word of a run right after the one
--- before it: each run more costs one device write more.
+-- Costs no more than sets that are made in so many runs of successive addresses of a page, each word of a run right
+-- after the one before it: each run more costs one device write more.
 pub record InRuns (runs : ℕ) (old new : Memory) : Type 0 where
   pub writes : spent new + run_writes (taken old) ≤ spent old + run_writes (taken new) + runs
   pub more : old.facts.writes ≤ new.facts.writes
@@ -105,7 +105,8 @@ pub record IsOpen (m : Memory) : Type 0 where
 abbrev pub IsIdle : Memory → Type 0
 IsIdle m = taken m ≡ 0
 
--- A transaction that begins with these calls makes so many device writes with its commit: those so far, and those of the commit.
+-- A transaction that begins with these calls makes so many device writes with its commit:
+-- those so far, and those of the commit.
 abbrev pub CountsCommit : ℕ → Memory → Memory → Type 0
 CountsCommit writes old new = IsIdle old → new.facts.writes + commit_writes new ≡ old.facts.writes + writes
 
@@ -123,8 +124,8 @@ pub record KeepsWords (old new : Memory) : Type 0 where
   pub taken : taken new ≡ taken old
   pub waiting : new.waiting ≡ old.waiting
 
--- What the invariant of a store says while it has not failed: the gate counts the pairs in use, which are whole batches; those
--- that wait are less than one, and find room.
+-- What the invariant of a store says while it has not failed: the gate counts the pairs in use, which are whole
+-- batches; those that wait are less than one, and find room.
 pub record IsHeld (facts : Facts) (used : ℕ) (waiting : List Waiting) : Type 0 where
   pub sound : IsSound facts.words
   pub counts : gate facts.words ≡ used
@@ -165,9 +166,9 @@ abbrev pub FailsBy : StoreErr → Facts → Facts → Type 0
 FailsBy PowerLost old new = GoesDark old new
 FailsBy Fault old new = Fails old new
 
--- What one call, or several in a row, do to a store's failure, to its board's light and to its journal: a store that has
--- failed stays so and leaves its board alone, one that works has had neither cut nor fault, and one that fails in them had
--- just one. Whatever they do, undo stays defined, so that the next opening finds no bad journal.
+-- What one call, or several in a row, do to a store's failure, to its board's light and to its journal: a store that
+-- has failed stays so and leaves its board alone, one that works has had neither cut nor fault, and one that fails in
+-- them had just one. Whatever they do, undo stays defined, so that the next opening finds no bad journal.
 pub record Reports (old new : Memory) : Type 0 where
   pub stuck : (e : StoreErr) → old.failed ≡ Some e → (new.failed ≡ Some e) × (new.facts ≡ old.facts)
   pub works : new.failed ≡ None → (old.failed ≡ None) × SameLight old.facts new.facts

@@ -13,7 +13,8 @@ before a (s ∷ rest) = if nat_lt s.at a then suc (before a rest) else 0
 -- the words that go on with a run
 abbrev pub run_words : ℕ → List Waiting → List ℕ
 run_words next [] = []
-run_words next (s ∷ rest) = if (s.at == next) && not (s.at % PAGE_WORDS == 0) then s.word ∷ run_words (s.at + 1) rest else []
+run_words next (s ∷ rest) = if (s.at == next) && not (s.at % PAGE_WORDS == 0) then s.word
+    ∷ run_words (s.at + 1) rest else []
 
 -- the words of the first run
 abbrev pub first_words : List Waiting → List ℕ

@@ -37,7 +37,7 @@ rollback_writes pairs = if pairs == 0 then 0 else pairs + 1
 abbrev pub start_writes : Facts → ℕ
 start_writes facts = rollback_writes (gate facts.words)
 
--- device writes at most of a transaction of so many sets in so many runs, with its commit: for each eight sets one of their
--- pairs, one of the gate and one of their words, and for each run but the first one more
+-- device writes at most of a transaction of so many sets in so many runs, with its commit: for each eight sets one of
+-- their pairs, one of the gate and one of their words, and for each run but the first one more
 abbrev pub transaction_writes : ℕ → ℕ → ℕ
 transaction_writes sets runs = 3 * ((sets + 7) / 8) + runs

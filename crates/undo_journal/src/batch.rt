@@ -1,6 +1,6 @@
 //! The sets of a transaction that wait, and how they are written, eight together.
-ghost use Rattle.std.specs.Prelude.{◌≡◌, ◌⊎◌, ◌↔◌, ◌+◌, ◌-◌, ◌*◌, ◌<◌, ◌≤◌, ◌%◌, ◌==◌, ◌&&◌, not, ℕ, [], length, take, drop, false, IsTrue};
-ghost use Rattle.std.specs.Prelude.{IfOk, OnOk, slice_set};
+ghost use Rattle.std.specs.Prelude.{◌≡◌, ◌⊎◌, ◌↔◌, ◌+◌, ◌-◌, ◌*◌, ◌<◌, ◌≤◌, ◌%◌, ◌==◌, ◌&&◌, not, ℕ, [], length, take};
+ghost use Rattle.std.specs.Prelude.{drop, false, IsTrue, IfOk, OnOk, slice_set};
 ghost use Rattle.arrayvec.specs.ArrayVec.{array_vec_len};
 ghost use Rattle.nvm_board.specs.Facts.{Answered};
 ghost use Rattle.nvm_board.specs.Torn.{Torn, written};
@@ -188,8 +188,8 @@ fn save_and_write<B: Board>(board: &mut B, used: u16, sets: &[Waiting]) -> Resul
     write_words(board, sets)
 }
 
-/// Writes what waits, if anything. Whatever comes of it, nothing waits any more, and its pairs are in use: the gate may have
-/// risen over them.
+/// Writes what waits, if anything. Whatever comes of it, nothing waits any more, and its pairs are in use:
+/// the gate may have risen over them.
 fn flush<B: Board>(board: &mut B, batch: &mut Batch) -> Result<(), DeviceErr>
     requires lit { (B.facts board.old).dark ≡ false }
     requires sound { IsSound (B.facts board.old).words }
@@ -239,7 +239,8 @@ pub(crate) fn add<B: Board>(board: &mut B, batch: &mut Batch, new: Waiting) -> R
     ensures next { OnOk result (EndsAt (working (B.facts board.new) batch.new) new.at) }
     ensures spends { WritesAtMost (set_writes new (working (B.facts board.old) batch.old)) (B.facts board.old)
         (B.facts board.new) }
-    ensures joins { OnOk result (Joins new (working (B.facts board.old) batch.old) (working (B.facts board.new) batch.new)) }
+    ensures joins { OnOk result
+        (Joins new (working (B.facts board.old) batch.old) (working (B.facts board.new) batch.new)) }
 {
     join(&mut batch.waiting, new);
     if batch.waiting.is_full() {

@@ -12,8 +12,10 @@ ghost use Rattle.undo_journal.specs.declared.error.StoreErr.TheVariants.{PowerLo
 ghost use Rattle.undo_journal.specs.Undo.{undo, data_words, IsDataAddress, IsDataRun, IsSound};
 ghost use Rattle.undo_journal.specs.Spending.{KeepsShut, WritesAtMost, rollback_writes, start_writes};
 ghost use Rattle.undo_journal.specs.Commits.{StaysShut, TurnsGate};
-ghost use Rattle.undo_journal.specs.Memory.{committed, current, commit_writes, room, set_writes, store_result_of, taken};
-ghost use Rattle.undo_journal.specs.Memory.{EndsAt, GoesOn, InRuns, IsIdle, IsOpen, IsReady, Joins, KeepsWords, OpensNot, Reports};
+ghost use Rattle.undo_journal.specs.Memory.{committed, current, commit_writes, room, set_writes};
+ghost use Rattle.undo_journal.specs.Memory.{store_result_of, taken};
+ghost use Rattle.undo_journal.specs.Memory.{EndsAt, GoesOn, InRuns, IsIdle, IsOpen, IsReady, Joins, KeepsWords};
+ghost use Rattle.undo_journal.specs.Memory.{OpensNot, Reports};
 
 use crate::address::Address;
 use crate::batch::{Batch, Waiting, add, finish, waiting_word};
@@ -253,7 +255,8 @@ impl<B: Board> Store<B> {
         ensures runs { InRuns 1 self.old self.new }
         ensures goes_on { GoesOn self.old at → InRuns 0 self.old self.new }
         ensures next { OnOk result (EndsAt self.new at) }
-        ensures spends { WritesAtMost (set_writes (record { at = at; word = word }) self.old) self.old.facts self.new.facts }
+        ensures spends { WritesAtMost (set_writes (record { at = at; word = word }) self.old)
+            self.old.facts self.new.facts }
         ensures joins { OnOk result (Joins (record { at = at; word = word }) self.old self.new) }
     {
         self.check()?;
@@ -261,7 +264,8 @@ impl<B: Board> Store<B> {
         noted(&mut self.failed, answer)
     }
 
-    /// Makes the current words the committed ones: what waits is written, and the gate turns to 0, and that word alone decides.
+    /// Makes the current words the committed ones: what waits is written, and the gate turns to 0,
+    /// and that word alone decides.
     pub(crate) fn commit(&mut self) -> Result<(), StoreErr>
         ensures any_exit { (committed self.new ≡ committed self.old)
             ⊎ ((committed self.new ≡ current self.old) × TurnsGate (committed self.old) self.new) }

@@ -1,6 +1,6 @@
 //! A transaction.
-ghost use Rattle.std.specs.Prelude.{◌≡◌, ◌⊎◌, ◌+◌, ◌*◌, ◌<◌, ◌≤◌, length, IfOk, OnOk, IsErrOf, IsOk, None, Some, true, slice_index};
-ghost use Rattle.std.specs.Prelude.{slice_set};
+ghost use Rattle.std.specs.Prelude.{◌≡◌, ◌⊎◌, ◌+◌, ◌*◌, ◌<◌, ◌≤◌, length, IfOk, OnOk, IsErrOf, IsOk, None, Some};
+ghost use Rattle.std.specs.Prelude.{true, slice_index, slice_set};
 ghost use Rattle.std.specs.Result.{result_err};
 ghost use Rattle.nvm_board.specs.Torn.{written};
 ghost use Rattle.undo_journal.specs.declared.error.StoreErr.TheVariants.{PowerLost};
@@ -10,14 +10,15 @@ ghost use Rattle.undo_journal.specs.Undo.{IsDataAddress, IsDataRun};
 ghost use Rattle.undo_journal.specs.Spending.{rollback_writes, WritesAtMost};
 ghost use Rattle.undo_journal.specs.Batches.{joined_run, touched_pages};
 ghost use Rattle.undo_journal.specs.declared.batch.TheConstants.{BATCH};
-ghost use Rattle.undo_journal.specs.Memory.{committed, current, commit_writes, room, set_writes, EndsAt, GoesOn, InRuns, Joins, Waits};
+ghost use Rattle.undo_journal.specs.Memory.{committed, current, commit_writes, room, set_writes, EndsAt, GoesOn};
+ghost use Rattle.undo_journal.specs.Memory.{InRuns, Joins, Waits};
 
 use crate::error::StoreErr;
 use crate::store::Store;
 use nvm_board::Board;
 
-/// A transaction on a store: its sets become lasting together by `commit`, or none of them by `abandon`. It must be spent: by `end`,
-/// which is the one or the other by what became of the work, or by one of the two.
+/// A transaction on a store: its sets become lasting together by `commit`, or none of them by `abandon`. It must be
+/// spent: by `end`, which is the one or the other by what became of the work, or by one of the two.
 pub struct Txn<'a, B: Board> {
     pub(crate) store: &'a mut Store<B>,
 }
@@ -46,8 +47,9 @@ impl<B: Board> Txn<'_, B> {
         self.store.read(at)
     }
 
-    /// Sets the current word at an address. It waits until eight sets do, or the commit comes: then they are written together,
-    /// in one device write for their pairs, one for the gate that counts these, and one for each run of words. An abandon drops it.
+    /// Sets the current word at an address. It waits until eight sets do, or the commit comes: then they are written
+    /// together, in one device write for their pairs, one for the gate that counts these, and one for each run of
+    /// words. An abandon drops it.
     ///
     /// # Errors
     /// The store's failure: power was lost, or the device failed, in this call or in an earlier one.
@@ -60,7 +62,8 @@ impl<B: Board> Txn<'_, B> {
         ensures next { OnOk result (EndsAt (memory_of self.new) at) }
         ensures spends { WritesAtMost (set_writes (record { at = at; word = word }) (memory_of self.old))
             (memory_of self.old).facts (memory_of self.new).facts }
-        ensures joins { OnOk result (Joins (record { at = at; word = word }) (memory_of self.old) (memory_of self.new)) }
+        ensures joins { OnOk result
+            (Joins (record { at = at; word = word }) (memory_of self.old) (memory_of self.new)) }
         ensures dark { IsErrOf result PowerLost → (memory_of self.new).facts.dark ≡ true }
     {
         self.store.set(at, word)
@@ -73,7 +76,8 @@ impl<B: Board> Txn<'_, B> {
     pub fn set_run(&mut self, at: u16, words: &[u32]) -> Result<(), StoreErr>
         requires room { length words.now ≤ room (memory_of self.old) }
         requires place { IsDataRun (current (memory_of self.old)) at (length words.now) }
-        ensures done { OnOk result (current (memory_of self.new) ≡ written (current (memory_of self.old)) at words.now) }
+        ensures done { OnOk result
+            (current (memory_of self.new) ≡ written (current (memory_of self.old)) at words.now) }
         ensures store { SetsIn (length words.now) self.old self.new (result_err result) }
         ensures runs { InRuns (touched_pages at (length words.now)) (memory_of self.old) (memory_of self.new) }
         ensures waits { OnOk result (length (memory_of self.old).waiting + length words.now < BATCH
@@ -87,8 +91,8 @@ impl<B: Board> Txn<'_, B> {
         Ok(())
     }
 
-    /// Makes the current words lasting: what waits is written, and then the gate turns to 0, in one device write. While that
-    /// word is old the words before stand, with it new these. Where no set was made it writes nothing.
+    /// Makes the current words lasting: what waits is written, and then the gate turns to 0, in one device write. While
+    /// that word is old the words before stand, with it new these. Where no set was made it writes nothing.
     ///
     /// # Errors
     /// The store's failure: power was lost, or the device failed, in this call or in an earlier one.
@@ -98,10 +102,11 @@ impl<B: Board> Txn<'_, B> {
             × TurnsGate (committed (memory_of self.entry)) self.exit.0.now) }
         // Other words are committed by its last write alone.
         ensures last { (committed self.exit.0.now ≡ committed (memory_of self.entry))
-            ⊎ ((memory_of self.entry).facts.writes + commit_writes (memory_of self.entry) ≤ self.exit.0.now.facts.writes + 1) }
+            ⊎ ((memory_of self.entry).facts.writes + commit_writes (memory_of self.entry)
+            ≤ self.exit.0.now.facts.writes + 1) }
         ensures done { OnOk result (committed self.exit.0.now ≡ current (memory_of self.entry)) }
-        ensures store { Changes (commit_writes (memory_of self.entry)) (memory_of self.entry) self.exit.0.now (result_err
-            result) }
+        ensures store { Changes (commit_writes (memory_of self.entry)) (memory_of self.entry)
+            self.exit.0.now (result_err result) }
         ensures counted { OnOk result (self.exit.0.now.facts.writes
             ≡ (memory_of self.entry).facts.writes + commit_writes (memory_of self.entry)) }
         ensures dark { IsErrOf result PowerLost → self.exit.0.now.facts.dark ≡ true }
@@ -110,8 +115,8 @@ impl<B: Board> Txn<'_, B> {
         store.commit()
     }
 
-    /// Takes the sets back: what waits is dropped, and earlier words are put back from the last pair to the first, and then the
-    /// gate. Where nothing was written it writes nothing.
+    /// Takes the sets back: what waits is dropped, and earlier words are put back from the last pair to the first, and
+    /// then the gate. Where nothing was written it writes nothing.
     ///
     /// # Errors
     /// The store's failure: power was lost, or the device failed, in this call or in an earlier one.
@@ -128,17 +133,19 @@ impl<B: Board> Txn<'_, B> {
         store.abandon()
     }
 
-    /// Ends the transaction by what became of its work: commits it where that was done, and abandons it where it failed. Then the
-    /// work's error is answered, also where the words could not be put back.
+    /// Ends the transaction by what became of its work: commits it where that was done, and abandons it where it
+    /// failed. Then the work's error is answered, also where the words could not be put back.
     ///
     /// # Errors
-    /// The work's error; or the store's failure in the commit: power was lost, or the device failed, in it or in an earlier call.
+    /// The work's error; or the store's failure in the commit:
+    /// power was lost, or the device failed, in it or in an earlier call.
     pub fn end(self, work: Result<(), StoreErr>) -> Result<(), StoreErr>
         ensures any_exit { (committed self.exit.0.now ≡ committed (memory_of self.entry))
             ⊎ (IsOk work × (committed self.exit.0.now ≡ current (memory_of self.entry))
             × TurnsGate (committed (memory_of self.entry)) self.exit.0.now) }
         ensures last { (committed self.exit.0.now ≡ committed (memory_of self.entry))
-            ⊎ ((memory_of self.entry).facts.writes + commit_writes (memory_of self.entry) ≤ self.exit.0.now.facts.writes + 1) }
+            ⊎ ((memory_of self.entry).facts.writes + commit_writes (memory_of self.entry)
+            ≤ self.exit.0.now.facts.writes + 1) }
         ensures done { OnOk result (committed self.exit.0.now ≡ current (memory_of self.entry)) }
         ensures answered { result ≡ ended work self.exit.0.now.failed }
         ensures store { Changes (end_writes work (memory_of self.entry)) (memory_of self.entry) self.exit.0.now

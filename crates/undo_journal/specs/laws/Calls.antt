@@ -1,5 +1,6 @@
 -- Laws of calls in a row: reads, and the sets of a transaction.
-use Rattle.std.proofs.Common.{◌≡◌, ◌+◌, ◌-◌, ◌≤◌, ◌<◌, ℕ, zero, suc, List, length, IsSome, refl, sym, ap, subst, ◌∙◌, arith}
+use Rattle.std.proofs.Common.{◌≡◌, ◌+◌, ◌-◌, ◌≤◌, ◌<◌, ℕ, zero, suc, List, length, IsSome, refl, sym, ap, subst}
+use Rattle.std.proofs.Common.{◌∙◌, arith}
 use Rattle.std.proofs.Math.Logic.{⊎_map}
 use Rattle.nvm_board.specs.Facts.{address, Facts}
 use Rattle.nvm_board.specs.declared.board.TheConstants.{PAGE_WORDS}
@@ -80,7 +81,8 @@ within_more n k f g fits costs = record {
 }
 
 -- reads before cost nothing
-pub writes_after : (n : ℕ) (a b : Memory) (f : Facts) → OnlyReads a b → WritesAtMost n b.facts f → WritesAtMost n a.facts f
+pub writes_after : (n : ℕ) (a b : Memory) (f : Facts) → OnlyReads a b → WritesAtMost n b.facts f
+    → WritesAtMost n a.facts f
 writes_after n a b f reads costs = spends_after n a.facts b.facts f reads.board costs
 
 -- no read at all
@@ -122,7 +124,12 @@ runs_then i k n a b c fits first rest = record {
 -- reads make none
 pub reads_runs : (n : ℕ) (a b : Memory) → OnlyReads a b → InRuns n a b
 reads_runs n a b reads = record {
-  writes = omega (arith, reads.board.writes, ap batch_writes reads.keeps.waiting, ap (λ (t : ℕ). run_writes t) reads.keeps.taken);
+  writes = omega (
+    arith,
+    reads.board.writes,
+    ap batch_writes reads.keeps.waiting,
+    ap (λ (t : ℕ). run_writes t) reads.keeps.taken,
+  );
   more = omega (arith, reads.board.writes);
   cut = aims_kept a.facts b.facts reads.board.cut;
   compares = reads.board.compares;
@@ -153,7 +160,8 @@ pub ends_kept : (a b : Memory) (at : ℕ) → OnlyReads a b → EndsAt a at → 
 ends_kept a b at reads ends = ⊎_map
     (λ begun. (
       reads.keeps.waiting ∙ begun.0,
-      (let u : 0 < b.used = omega (arith, reads.keeps.taken, ap (λ (l : List Waiting). length l) reads.keeps.waiting, begun.1) in u),
+      (let u : 0 < b.used =
+          omega (arith, reads.keeps.taken, ap (λ (l : List Waiting). length l) reads.keeps.waiting, begun.1) in u),
     ))
     (λ waits. subst (λ (l : List Waiting). IsSome (look_up at l)) (sym reads.keeps.waiting) waits) ends
 

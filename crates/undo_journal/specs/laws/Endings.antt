@@ -1,17 +1,19 @@
--- Laws of a transaction that is begun on a ready store, worked in and ended: `a` is the store before it, `b` as it is begun, `t` after
--- the work, `c` as the end leaves it, and `x` the store afterwards.
+-- Laws of a transaction that is begun on a ready store, worked in and ended: `a` is the store before it, `b` as it is
+-- begun, `t` after the work, `c` as the end leaves it, and `x` the store afterwards.
 use Rattle.std.specs.Prelude.{Option, Some, None, Result, Ok, Err, OnOk, IsOk}
 use Rattle.std.specs.Result.{result_err}
 use Rattle.std.specs.Prelude.{if◌then◌else◌}
 use Rattle.std.proofs.lemmas.Bool.Decides.{eqb_tells}
-use Rattle.std.proofs.Common.{◌≡◌, ◌≢◌, ◌⊎◌, ◌≤◌, ◌+◌, ℕ, Bool, List, refl, sym, ◌∙◌, ap, subst, inl, inr, arith, ⊎_elim, true≢false}
+use Rattle.std.proofs.Common.{◌≡◌, ◌≢◌, ◌⊎◌, ◌≤◌, ◌+◌, ℕ, Bool, List, refl, sym, ◌∙◌, ap, subst, inl, inr, arith}
+use Rattle.std.proofs.Common.{⊎_elim, true≢false}
 use Rattle.nvm_board.specs.laws.Aims.{aims_then}
 use Rattle.undo_journal.specs.declared.error.StoreErr.{StoreErr}
 use Rattle.undo_journal.specs.Calls.{Changes}
 use Rattle.undo_journal.specs.Commits.{CommitsByGate, TurnsGate}
 use Rattle.undo_journal.specs.Endings.{ended, end_writes}
 use Rattle.undo_journal.specs.Batches.{batch_writes}
-use Rattle.undo_journal.specs.Memory.{Memory, committed, current, commit_writes, CountsCommit, InRuns, IsIdle, IsReady, Reports, taken}
+use Rattle.undo_journal.specs.Memory.{Memory, committed, current, commit_writes, CountsCommit, InRuns, IsIdle, IsReady}
+use Rattle.undo_journal.specs.Memory.{Reports, taken}
 use Rattle.undo_journal.specs.Spending.{transaction_writes}
 use Rattle.undo_journal.specs.laws.Memory.{reports_then}
 use Rattle.undo_journal.specs.laws.Told.{idle_waits}
@@ -32,8 +34,8 @@ done_work P Q (Ok v) made is f = f made
 done_work P Q (Err e) made is f = absurd (true≢false (sym is))
 
 -- at every exit the words are as before, or the work's
-pub ends : {T : Type 0} (P : List ℕ → List ℕ → Type 0) (G : Type 0) (work : Result T StoreErr) (a b t c x : Memory) → b ≡ a → x ≡ c
-    → IsReady a → committed t ≡ committed b → OnOk work (P (current b) (current t))
+pub ends : {T : Type 0} (P : List ℕ → List ℕ → Type 0) (G : Type 0) (work : Result T StoreErr) (a b t c x : Memory)
+    → b ≡ a → x ≡ c → IsReady a → committed t ≡ committed b → OnOk work (P (current b) (current t))
     → (committed c ≡ committed t) ⊎ (IsOk work × (committed c ≡ current t) × G)
     → (committed x ≡ committed a) ⊎ P (committed a) (committed x)
 ends P G work a b t c x same last ready kept made exit = ⊎_elim
@@ -48,11 +50,12 @@ pub ends_by_gate : (W P : Type 0) (a b t c x : Memory) → b ≡ a → x ≡ c �
 ends_by_gate W P a b t c x same last kept exit =
     let before : committed t ≡ committed a = kept ∙ ap committed same in
     subst (λ (m : Memory). CommitsByGate a m) (sym last)
-    (⊎_elim (λ still. inl (still ∙ before)) (λ turned. inr (subst (λ (l : List ℕ). TurnsGate l c) before turned.2)) exit)
+    (⊎_elim (λ still. inl (still ∙ before))
+    (λ turned. inr (subst (λ (l : List ℕ). TurnsGate l c) before turned.2)) exit)
 
 -- where it is answered they are the work's
-pub ends_done : {T : Type 0} (P : List ℕ → List ℕ → Type 0) (work result : Result T StoreErr) (a b t c x : Memory) → b ≡ a → x ≡ c
-    → IsReady a → OnOk work (P (current b) (current t)) → result ≡ ended work c.failed
+pub ends_done : {T : Type 0} (P : List ℕ → List ℕ → Type 0) (work result : Result T StoreErr) (a b t c x : Memory)
+    → b ≡ a → x ≡ c → IsReady a → OnOk work (P (current b) (current t)) → result ≡ ended work c.failed
     → OnOk result (committed c ≡ current t) → OnOk result (P (committed a) (committed x))
 ends_done {T} P (Err e) result a b t c x same last ready made told is =
     subst (λ (r : Result T StoreErr). OnOk r (P (committed a) (committed x))) (sym told) tt
@@ -60,8 +63,8 @@ ends_done P (Ok v) (Err e) a b t c x same last ready made told is = tt
 ends_done P (Ok v) (Ok w) a b t c x same last ready made told is = lasts P a b t c x same last ready made is
 
 -- and then its device writes are those that the work counts
-pub ends_counted : {T : Type 0} (n : ℕ) (work result : Result T StoreErr) (a b t c x : Memory) → b ≡ a → x ≡ c → IsReady a
-    → OnOk work (CountsCommit n b t) → result ≡ ended work c.failed
+pub ends_counted : {T : Type 0} (n : ℕ) (work result : Result T StoreErr) (a b t c x : Memory) → b ≡ a → x ≡ c
+    → IsReady a → OnOk work (CountsCommit n b t) → result ≡ ended work c.failed
     → (c.failed ≡ None → c.facts.writes ≡ t.facts.writes + end_writes work t)
     → OnOk result (x.facts.writes ≡ a.facts.writes + n)
 ends_counted {T} n (Err e) result a b t c x same last ready counts told counted =
@@ -97,9 +100,9 @@ transaction_costs n r b t idle few runs =
     ]
 
 -- one that is committed
-spent : (r k : ℕ) (a b t c x : Memory) (told : Option StoreErr) → t.facts.writes + commit_writes t ≤ b.facts.writes + k → b ≡ a
-    → x ≡ c → Reports b t → InRuns r b t → Changes (commit_writes t) t c told → Changes k a x told
-spent r k a b t c x told costs begun last first runs rest =
+spent_done : (r k : ℕ) (a b t c x : Memory) (told : Option StoreErr) → t.facts.writes + commit_writes t ≤ b.facts.writes
+    + k → b ≡ a → x ≡ c → Reports b t → InRuns r b t → Changes (commit_writes t) t c told → Changes k a x told
+spent_done r k a b t c x told costs begun last first runs rest =
     subst (λ (m : Memory). Changes k m x told) begun
     (subst (λ (m : Memory). Changes k b m told) (sym last) (record {
       reports = reports_then b t c first rest.reports;
@@ -116,8 +119,9 @@ spent r k a b t c x told costs begun last first runs rest =
     }))
 
 -- one whose work failed: what abandoning it does is nothing
-spent_failed : (r k i : ℕ) (a b t c x : Memory) (told : Option StoreErr) (e : StoreErr) → t.facts.writes ≤ b.facts.writes + k
-    → b ≡ a → x ≡ c → Reports b t → InRuns r b t → t.failed ≡ Some e → Changes i t c told → Changes k a x told
+spent_failed : (r k i : ℕ) (a b t c x : Memory) (told : Option StoreErr) (e : StoreErr)
+    → t.facts.writes ≤ b.facts.writes + k → b ≡ a → x ≡ c → Reports b t → InRuns r b t → t.failed ≡ Some e
+    → Changes i t c told → Changes k a x told
 spent_failed r k i a b t c x told e costs begun last first runs failed rest =
     let same = stays_spends t.facts c.facts (rest.reports.stuck e failed).1 in
     subst (λ (m : Memory). Changes k m x told) begun
@@ -142,25 +146,26 @@ ended_tells (Err e) result failed told stuck = stuck e refl ∙ sym (ap result_e
 ended_tells {T} (Ok v) result None told stuck = sym (ap result_err told)
 ended_tells {T} (Ok v) result (Some e) told stuck = sym (ap result_err told)
 
--- What they cost where it is known, of work that is done and of work that failed, and what the store is then: one whose work failed
--- has failed, and what the end does is nothing.
+-- What they cost where it is known, of work that is done and of work that failed, and what the store is then: one whose
+-- work failed has failed, and what the end does is nothing.
 pub ends_within : {T : Type 0} (r k : ℕ) (work result : Result T StoreErr) (a b t c x : Memory)
-    → OnOk work (t.facts.writes + commit_writes t ≤ b.facts.writes + k) → t.facts.writes ≤ b.facts.writes + k → b ≡ a → x ≡ c
-    → Reports b t → InRuns r b t → t.failed ≡ result_err work → Changes (end_writes work t) t c c.failed
+    → OnOk work (t.facts.writes + commit_writes t ≤ b.facts.writes + k) → t.facts.writes ≤ b.facts.writes + k → b ≡ a
+    → x ≡ c → Reports b t → InRuns r b t → t.failed ≡ result_err work → Changes (end_writes work t) t c c.failed
     → result ≡ ended work c.failed → Changes k a x (result_err result)
 ends_within {T} r k work result a b t c x costs so_far same last first runs failed rest told =
     let tells : c.failed ≡ result_err result =
     ended_tells work result c.failed told (λ e is. (rest.reports.stuck e (failed ∙ is)).0) in
     subst (λ (o : Option StoreErr). Changes k a x o) tells (by_work work costs failed rest)
   where
-    by_work : (w : Result T StoreErr) → OnOk w (t.facts.writes + commit_writes t ≤ b.facts.writes + k) → t.failed ≡ result_err w
-        → Changes (end_writes w t) t c c.failed → Changes k a x c.failed
-    by_work (Ok v) costs works rest = spent r k a b t c x c.failed costs same last first runs rest
+    by_work : (w : Result T StoreErr) → OnOk w (t.facts.writes + commit_writes t ≤ b.facts.writes + k)
+        → t.failed ≡ result_err w → Changes (end_writes w t) t c c.failed → Changes k a x c.failed
+    by_work (Ok v) costs works rest = spent_done r k a b t c x c.failed costs same last first runs rest
     by_work (Err e) none fails rest = spent_failed r k _ a b t c x c.failed e so_far same last first runs fails rest
 
 -- the same by how many sets the work makes, in how many runs
-pub ends_answered : {T : Type 0} (n r k : ℕ) (work result : Result T StoreErr) (a b t c x : Memory) → transaction_writes n r ≤ k → b ≡ a
-    → x ≡ c → IsReady a → taken t ≤ taken b + n → Reports b t → InRuns r b t → t.failed ≡ result_err work
+pub ends_answered : {T : Type 0} (n r k : ℕ) (work result : Result T StoreErr) (a b t c x : Memory)
+    → transaction_writes n r ≤ k → b ≡ a → x ≡ c → IsReady a → taken t ≤ taken b + n → Reports b t → InRuns r b t
+    → t.failed ≡ result_err work
     → Changes (end_writes work t) t c c.failed → result ≡ ended work c.failed → Changes k a x (result_err result)
 ends_answered {T} n r k work result a b t c x fits same last ready few first runs failed rest told =
     let idle : IsIdle b = subst (λ (m : Memory). IsIdle m) (sym same) ready.idle in

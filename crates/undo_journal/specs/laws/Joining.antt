@@ -1,5 +1,5 @@
--- What a set costs that stands alone, by what it makes of those that wait: none of its address waits yet, nor of the one behind it.
--- It is the first of a batch, or it goes on with the run of the word before it, or it begins a run.
+-- What a set costs that stands alone, by what it makes of those that wait: none of its address waits yet, nor of the
+-- one behind it. It is the first of a batch, or it goes on with the run of the word before it, or it begins a run.
 use Rattle.std.proofs.Common.{◌≡◌, ◌≢◌, ◌⊎◌, ◌≤◌, ◌+◌, ◌-◌, ◌%◌, List, [], ◌∷◌, length, refl, ap, inl, inr, arith}
 use Rattle.std.proofs.Common.{IsSome, None, Bool}
 use Rattle.std.specs.Prelude.{if◌then◌else◌}
@@ -56,12 +56,14 @@ module _ (set : Waiting) (old new : Memory) (joins : Joins set old new) where
       -- one that goes on with a run
       pub joins-goes_on : set.at % PAGE_WORDS ≢ 0 → IsSome (look_up (set.at - 1) old.waiting) → spent new ≡ spent old
       joins-goes_on inside waits =
-          let runs = runs-same set old.waiting 0 ascending (let le : 0 ≤ set.at = omega arith in le) free behind inside waits in
+          let runs = runs-same set old.waiting 0 ascending (let le : 0 ≤ set.at = omega arith in le)
+          free behind inside waits in
           omega (arith, spends-joined, more, writes-some old.waiting some, runs)
 
       -- one that begins a run
       pub joins-begins : (set.at % PAGE_WORDS ≡ 0) ⊎ ((0 ≢ set.at) × (look_up (set.at - 1) old.waiting ≡ None))
           → spent new ≡ spent old + 1
       joins-begins apart =
-          let runs = runs-one_more set old.waiting 0 ascending (let le : 0 ≤ set.at = omega arith in le) free behind apart in
+          let runs =
+          runs-one_more set old.waiting 0 ascending (let le : 0 ≤ set.at = omega arith in le) free behind apart in
           omega (arith, spends-joined, more, writes-some old.waiting some, runs)

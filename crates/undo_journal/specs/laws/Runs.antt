@@ -1,5 +1,6 @@
 -- The runs of sets, with one more of them that stands alone: none of its address waits yet, nor of the one behind it.
-use Rattle.std.proofs.Common.{◌≡◌, ◌≢◌, ◌==◌, ◌⊎◌, ◌<◌, ◌≤◌, ◌+◌, ◌-◌, ◌%◌, ◌&&◌, not, ℕ, Bool, true, false, List, [], ◌∷◌}
+use Rattle.std.proofs.Common.{◌≡◌, ◌≢◌, ◌==◌, ◌⊎◌, ◌<◌, ◌≤◌, ◌+◌, ◌-◌, ◌%◌, ◌&&◌, not, ℕ, Bool, true, false, List}
+use Rattle.std.proofs.Common.{[], ◌∷◌}
 use Rattle.std.proofs.Common.{refl, sym, ◌∙◌, ap, subst, inl, inr, arith, None, IsSome, is_some, Option, true≢false}
 use Rattle.std.specs.Prelude.{if◌then◌else◌}
 use Rattle.std.proofs.lemmas.Bool.Decides.{eqb_tells}
@@ -11,7 +12,8 @@ use Rattle.undo_journal.specs.laws.Waits.{look_up-past, not-first, none-behind, 
 
 -- a word goes on with a run, or begins one
 pub data Going (next a : ℕ) : Type 0 where
-  goes : ((a == next) && not (a % PAGE_WORDS == 0)) ≡ true → a ≡ next → a % PAGE_WORDS ≢ 0 → begins next a ≡ 0 → Going next a
+  goes : ((a == next) && not (a % PAGE_WORDS == 0)) ≡ true → a ≡ next → a % PAGE_WORDS ≢ 0
+      → begins next a ≡ 0 → Going next a
   stops : ((a == next) && not (a % PAGE_WORDS == 0)) ≡ false → (a ≢ next) ⊎ (a % PAGE_WORDS ≡ 0) → begins next a ≡ 1
       → Going next a
 
@@ -28,7 +30,8 @@ going next a = elim (eqb_tells a next) [
         goes test e.1 other.1 (ap (λ (b : Bool). if b then 0 else 1) test)
   ]
   | inr other ↦
-      let test : ((a == next) && not (a % PAGE_WORDS == 0)) ≡ false = ap (λ (b : Bool). b && not (a % PAGE_WORDS == 0)) other.0 in
+      let test : ((a == next) && not (a % PAGE_WORDS == 0)) ≡ false =
+      ap (λ (b : Bool). b && not (a % PAGE_WORDS == 0)) other.0 in
       stops test (inl other.1) (ap (λ (b : Bool). if b then 0 else 1) test)
 ]
 
@@ -113,8 +116,8 @@ module _ (new : Waiting) where
 
   -- it begins a run: the word before it, in its page, does not wait
   pub runs-one_more : (ps : List Waiting) (next : ℕ) → AreAscending next ps → next ≤ new.at → look_up new.at ps ≡ None
-      → look_up (new.at + 1) ps ≡ None → (new.at % PAGE_WORDS ≡ 0) ⊎ ((next ≢ new.at) × (look_up (new.at - 1) ps ≡ None))
-      → runs_from next (joined new ps) ≡ runs_from next ps + 1
+      → look_up (new.at + 1) ps ≡ None → (new.at % PAGE_WORDS ≡ 0)
+      ⊎ ((next ≢ new.at) × (look_up (new.at - 1) ps ≡ None)) → runs_from next (joined new ps) ≡ runs_from next ps + 1
   runs-one_more [] next h le free behind apart =
       let alone = first-alone next (elim apart [ inl first ↦ inl first | inr other ↦ inr other.0 ]) in
       omega (arith, alone)
@@ -122,7 +125,8 @@ module _ (new : Waiting) where
     | below b lt ↦
         let made = ap (λ (l : List Waiting). runs_from next l) (joined-below new s rest b) in
         let low : s.at + 1 ≤ new.at = omega (arith, lt) in
-        let still : (new.at % PAGE_WORDS ≡ 0) ⊎ ((s.at + 1 ≢ new.at) × (look_up (new.at - 1) rest ≡ None)) = elim apart [
+        let still : (new.at % PAGE_WORDS ≡ 0) ⊎ ((s.at + 1 ≢ new.at) × (look_up (new.at - 1) rest ≡ None)) =
+        elim apart [
           | inl first ↦ inl first
           | inr other ↦
               let away : s.at ≢ new.at - 1 = not-first s rest (new.at - 1) other.1 in

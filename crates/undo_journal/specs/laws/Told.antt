@@ -1,5 +1,5 @@
--- Laws of what calls tell: a call after others, and an error that is handed on. `a` is the store before them, `b` between
--- them, `c` after them; `r` is what is answered.
+-- Laws of what calls tell: a call after others, and an error that is handed on. `a` is the store before them, `b`
+-- between them, `c` after them; `r` is what is answered.
 use Rattle.std.specs.Prelude.{Option, Some, None, Result, Ok, Err, IsErrAnd}
 use Rattle.std.specs.Result.{result_err}
 use Rattle.std.proofs.Common.{◌≡◌, ◌≤◌, ◌+◌, ℕ, [], length, sym, ap, subst, ◌∙◌, arith}

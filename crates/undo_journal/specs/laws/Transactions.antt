@@ -1,5 +1,5 @@
--- Laws of a transaction that is begun on a ready store: `a` is the store before it, `b` as it is begun, `t` after the work, `c` as its
--- end leaves it, and `x` the store afterwards. What it leaves by its end stands in `Endings`.
+-- Laws of a transaction that is begun on a ready store: `a` is the store before it, `b` as it is begun, `t` after the
+-- work, `c` as its end leaves it, and `x` the store afterwards. What it leaves by its end stands in `Endings`.
 use Rattle.std.proofs.Common.{◌≡◌, ℕ, List, refl, sym, ◌∙◌, ap, subst, arith}
 use Rattle.std.proofs.Math.Logic.{⊎_map}
 use Rattle.nvm_board.specs.Facts.{Facts}

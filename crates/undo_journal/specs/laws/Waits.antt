@@ -1,5 +1,6 @@
 -- One more set among those that wait: where it stands, what waits then, and how many they are.
-use Rattle.std.proofs.Common.{◌≡◌, ◌≢◌, ◌==◌, ◌<◌, ◌≤◌, ◌+◌, ℕ, Bool, true, false, List, [], ◌∷◌, length, refl, sym, ◌∙◌}
+use Rattle.std.proofs.Common.{◌≡◌, ◌≢◌, ◌==◌, ◌<◌, ◌≤◌, ◌+◌, ℕ, Bool, true, false, List, [], ◌∷◌, length, refl}
+use Rattle.std.proofs.Common.{sym, ◌∙◌}
 use Rattle.std.proofs.Common.{ap, subst, inl, inr, arith, suc, nat_lt, Some, None, Option, is_some, true≢false}
 use Rattle.std.specs.Prelude.{if◌then◌else◌}
 use Rattle.std.proofs.lemmas.Bool.Decides.{eqb_tells, leb_tells}
@@ -58,20 +59,24 @@ none-low a least (s ∷ rest) h lt =
 
 -- One more set.
 module _ (new : Waiting) where
-  pub joined-below : (s : Waiting) (rest : List Waiting) → nat_lt s.at new.at ≡ true → joined new (s ∷ rest) ≡ s ∷ joined new rest
+  pub joined-below : (s : Waiting) (rest : List Waiting) → nat_lt s.at new.at ≡ true
+      → joined new (s ∷ rest) ≡ s ∷ joined new rest
   joined-below s rest lower =
-      ap (λ (b : Bool). if b then s ∷ joined new rest else (if s.at == new.at then new ∷ rest else new ∷ s ∷ rest)) lower
+      ap (λ (b : Bool). if b then s
+      ∷ joined new rest else (if s.at == new.at then new ∷ rest else new ∷ s ∷ rest)) lower
 
   pub joined-same : (s : Waiting) (rest : List Waiting) → nat_lt s.at new.at ≡ false → (s.at == new.at) ≡ true
       → joined new (s ∷ rest) ≡ new ∷ rest
   joined-same s rest lower is =
-      ap (λ (b : Bool). if b then s ∷ joined new rest else (if s.at == new.at then new ∷ rest else new ∷ s ∷ rest)) lower
+      ap (λ (b : Bool). if b then s
+      ∷ joined new rest else (if s.at == new.at then new ∷ rest else new ∷ s ∷ rest)) lower
       ∙ ap (λ (b : Bool). if b then new ∷ rest else new ∷ s ∷ rest) is
 
   pub joined-above : (s : Waiting) (rest : List Waiting) → nat_lt s.at new.at ≡ false → (s.at == new.at) ≡ false
       → joined new (s ∷ rest) ≡ new ∷ s ∷ rest
   joined-above s rest lower is =
-      ap (λ (b : Bool). if b then s ∷ joined new rest else (if s.at == new.at then new ∷ rest else new ∷ s ∷ rest)) lower
+      ap (λ (b : Bool). if b then s
+      ∷ joined new rest else (if s.at == new.at then new ∷ rest else new ∷ s ∷ rest)) lower
       ∙ ap (λ (b : Bool). if b then new ∷ rest else new ∷ s ∷ rest) is
 
   -- it waits
@@ -86,8 +91,10 @@ module _ (new : Waiting) where
           | inr differs ↦ ap (λ (b : Bool). if b then Some s.word else look_up new.at (joined new rest)) differs.0
               ∙ look_up-joined rest
         ]
-    | same b e is ↦ ap (λ (l : List Waiting). look_up new.at l) (joined-same s rest b e) ∙ look_up-here new rest new.at refl
-    | above b e lt ↦ ap (λ (l : List Waiting). look_up new.at l) (joined-above s rest b e) ∙ look_up-here new (s ∷ rest) new.at refl
+    | same b e is ↦ ap (λ (l : List Waiting). look_up new.at l) (joined-same s rest b e)
+        ∙ look_up-here new rest new.at refl
+    | above b e lt ↦ ap (λ (l : List Waiting). look_up new.at l) (joined-above s rest b e)
+        ∙ look_up-here new (s ∷ rest) new.at refl
   ]
 
   -- any other address has what it had

@@ -1,4 +1,5 @@
-use Rattle.std.proofs.Common.{Bool, true, ◌==◌, ◌≡◌, ◌+◌, ◌∙◌, ℕ, List, length, inl, inr, sym, refl, ap, subst, arith, IsSome}
+use Rattle.std.proofs.Common.{Bool, true, ◌==◌, ◌≡◌, ◌+◌, ◌∙◌, ℕ, List, length, inl, inr, sym, refl, ap, subst}
+use Rattle.std.proofs.Common.{arith, IsSome}
 use Rattle.std.proofs.lemmas.Result.{on_ok_weaker}
 use Rattle.nvm_board.specs.laws.Aims.{aims_same}
 use Rattle.undo_journal.specs.declared.batch.Waiting.{Waiting}
@@ -18,7 +19,8 @@ use Rattle.undo_journal.proofs.batch.add.Goals as goal
 pub flush-requires-clause-sets : goal.flush-requires-clause-sets
 flush-requires-clause-sets g c =
     let size = length (g.B.Board.facts c.args.board.now).words in
-    subst (λ (l : List Waiting). AreSets size 0 l) (sym c.join.ensures) (sets-joined size c.args.new _ 0 c.requires.held.sets (record {
+    subst (λ (l : List Waiting). AreSets size 0 l) (sym c.join.ensures)
+    (sets-joined size c.args.new _ 0 c.requires.held.sets (record {
       from = omega arith;
       outside = c.requires.place.0;
       within = c.requires.place.1;
@@ -47,7 +49,8 @@ returns-then-is_full-clause-taken g c =
 
 pub returns-then-is_full-clause-runs : goal.returns-then-is_full-clause-runs
 returns-then-is_full-clause-runs g c =
-    let costs = join-costs _ c.args.new c.args.batch.now.used c.requires.held.whole _ c.requires.held.sets c.requires.held.few in
+    let costs = join-costs _ c.args.new c.args.batch.now.used c.requires.held.whole _
+    c.requires.held.sets c.requires.held.few in
     let wrote = c.flush.ensures.writes in
     let used = c.flush.ensures.used ∙ ap (λ (l : List Waiting). c.args.batch.now.used + length l) c.join.ensures in
     let none = ap (λ (l : List Waiting). length l) c.flush.ensures.empty in
@@ -63,8 +66,8 @@ returns-then-is_full-clause-runs g c =
 
 pub returns-then-is_full-clause-goes_on : goal.returns-then-is_full-clause-goes_on
 returns-then-is_full-clause-goes_on g c = λ goes.
-    let costs = join-goes_on _ c.args.new c.args.batch.now.used c.requires.held.whole _ c.requires.held.sets c.requires.held.few
-    goes.0 goes.1 in
+    let costs = join-goes_on _ c.args.new c.args.batch.now.used c.requires.held.whole _ c.requires.held.sets
+    c.requires.held.few goes.0 goes.1 in
     let wrote = c.flush.ensures.writes in
     let used = c.flush.ensures.used ∙ ap (λ (l : List Waiting). c.args.batch.now.used + length l) c.join.ensures in
     let none = ap (λ (l : List Waiting). length l) c.flush.ensures.empty in
@@ -94,14 +97,16 @@ returns-clause-held g c =
       counts = held.counts;
       lit = held.lit;
       whole = held.whole;
-      few = below-full (length c.join.new.sets.items) (sym c.is_full.ensures.value ∙ c.if-is_full.false) (omega (arith, size, more, held.few));
+      few = below-full (length c.join.new.sets.items) (sym c.is_full.ensures.value ∙ c.if-is_full.false)
+          (omega (arith, size, more, held.few));
       fits = omega (arith, size, more, c.requires.room);
-      sets = subst (λ (l : List Waiting). AreSets words 0 l) (sym c.join.ensures) (sets-joined words c.args.new _ 0 held.sets (record {
-        from = omega arith;
-        outside = c.requires.place.0;
-        within = c.requires.place.1;
-        fits = omega arith;
-      }));
+      sets = subst (λ (l : List Waiting). AreSets words 0 l) (sym c.join.ensures)
+          (sets-joined words c.args.new _ 0 held.sets (record {
+            from = omega arith;
+            outside = c.requires.place.0;
+            within = c.requires.place.1;
+            fits = omega arith;
+          }));
     }
 
 pub returns-clause-taken : goal.returns-clause-taken
@@ -111,7 +116,8 @@ returns-clause-taken g c =
 
 pub returns-clause-runs : goal.returns-clause-runs
 returns-clause-runs g c =
-    let costs = join-costs _ c.args.new c.args.batch.now.used c.requires.held.whole _ c.requires.held.sets c.requires.held.few in
+    let costs = join-costs _ c.args.new c.args.batch.now.used c.requires.held.whole _
+    c.requires.held.sets c.requires.held.few in
     let size = ap (λ (l : List Waiting). length l) c.join.ensures in
     let batch = ap batch_writes c.join.ensures in
     record {
@@ -124,8 +130,8 @@ returns-clause-runs g c =
 
 pub returns-clause-goes_on : goal.returns-clause-goes_on
 returns-clause-goes_on g c = λ goes.
-    let costs = join-goes_on _ c.args.new c.args.batch.now.used c.requires.held.whole _ c.requires.held.sets c.requires.held.few
-    goes.0 goes.1 in
+    let costs = join-goes_on _ c.args.new c.args.batch.now.used c.requires.held.whole _ c.requires.held.sets
+    c.requires.held.few goes.0 goes.1 in
     let size = ap (λ (l : List Waiting). length l) c.join.ensures in
     let batch = ap batch_writes c.join.ensures in
     record {
@@ -146,9 +152,11 @@ returns-then-is_full-clause-joins g c =
     let before = c.args.batch.now in
     let sets : c.join.new.sets.items ≡ joined c.args.new before.waiting.items = c.join.ensures in
     on_ok_weaker c.flush.result (λ counted. inr (record {
-      full = ap (λ (l : List Waiting). length l) (sym sets) ∙ full-length _ (sym c.is_full.ensures.value ∙ c.if-is_full.true);
+      full = ap (λ (l : List Waiting). length l) (sym sets)
+          ∙ full-length _ (sym c.is_full.ensures.value ∙ c.if-is_full.true);
       waiting = c.flush.ensures.empty;
-      used = c.flush.ensures.used ∙ ap (λ (n : ℕ). before.used + n) (full-length _ (sym c.is_full.ensures.value ∙ c.if-is_full.true));
+      used = c.flush.ensures.used
+          ∙ ap (λ (n : ℕ). before.used + n) (full-length _ (sym c.is_full.ensures.value ∙ c.if-is_full.true));
       writes = counted ∙ ap (λ (l : List Waiting). (g.B.Board.facts c.args.board.now).writes + batch_writes l) sets;
     })) c.flush.ensures.counted
 
@@ -169,7 +177,8 @@ returns-then-is_full-clause-spends g c =
     let before = working (g.B.Board.facts c.args.board.now) c.args.batch.now in
     let sets = joined c.args.new c.args.batch.now.waiting.items in
     let full : (length sets == BATCH) ≡ true =
-    ap (λ (l : List Waiting). length l == BATCH) (sym c.join.ensures) ∙ (sym c.is_full.ensures.value ∙ c.if-is_full.true) in
+    ap (λ (l : List Waiting). length l == BATCH) (sym c.join.ensures)
+    ∙ (sym c.is_full.ensures.value ∙ c.if-is_full.true) in
     let cost : set_writes c.args.new before ≡ batch_writes c.join.new.sets.items =
     ap (λ (b : Bool). if b then batch_writes sets else 0) full ∙ ap batch_writes (sym c.join.ensures) in
     subst (λ (n : ℕ). WritesAtMost n (g.B.Board.facts c.args.board.now) (g.B.Board.facts c.flush.new.board)) (sym cost)

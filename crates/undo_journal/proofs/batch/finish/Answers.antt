@@ -26,8 +26,8 @@ returns-clause-any_exit g c =
       record {
         shut = ap gate new ∙ gate-shut flushed within;
         pairs = gate flushed;
-        sound = subst IsSound (sym (ap (λ (l : List ℕ). slice_set l GATE (gate flushed)) new ∙ set-back flushed GATE 0 within))
-            c.in_ok-flush.ensures.sound;
+        sound = subst IsSound (sym (ap (λ (l : List ℕ). slice_set l GATE (gate flushed)) new
+            ∙ set-back flushed GATE 0 within)) c.in_ok-flush.ensures.sound;
         former = ap (λ (l : List ℕ). data_words (undo (slice_set l GATE (gate flushed)))) new
             ∙ ap (λ (l : List ℕ). data_words (undo l)) (set-back flushed GATE 0 within) ∙ c.in_ok-flush.ensures.kept;
       },
@@ -38,7 +38,8 @@ pub returns-clause-done : goal.returns-clause-done
 returns-clause-done g c =
     let flushed = (g.B.Board.facts c.flush.new.board).words in
     let within : GATE < length flushed = omega (arith, least_words _ (g.met.B.Board.sized c.flush.new.board)) in
-    on_ok_weaker c.write_gate.result (λ new. gate-commits flushed _ within new ∙ c.in_ok-flush.ensures.done) c.write_gate.ensures.done
+    on_ok_weaker c.write_gate.result (λ new. gate-commits flushed _ within new ∙ c.in_ok-flush.ensures.done)
+    c.write_gate.ensures.done
 
 pub returns-clause-sound : goal.returns-clause-sound
 returns-clause-sound g c =

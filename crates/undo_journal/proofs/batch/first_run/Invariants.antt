@@ -6,7 +6,8 @@ abbrev pub invariant-loop-words : goal.invariant-loop-words
 invariant-loop-words l = record {
   some : 1 ≤ length l.words.items;
   within : length l.words.items ≤ length l.sets;
-  so_far : l.words.items ++ run_words (l.first.at + length l.words.items) (drop (length l.words.items) l.sets) ≡ first_words l.sets;
+  so_far : l.words.items ++ run_words (l.first.at + length l.words.items) (drop (length l.words.items) l.sets)
+      ≡ first_words l.sets;
 }
 
 abbrev pub decreases-loop-words : goal.decreases-loop-words

@@ -1,4 +1,5 @@
-use Rattle.std.proofs.Common.{◌≡◌, ◌<◌, ◌+◌, ◌++◌, ◌∷◌, [], ℕ, List, length, drop, get_or, slice_index, sym, ◌∙◌, ap, ap₂, arith, refl, append_assoc, subst}
+use Rattle.std.proofs.Common.{◌≡◌, ◌<◌, ◌+◌, ◌++◌, ◌∷◌, [], ℕ, List, length, drop, get_or, slice_index, sym, ◌∙◌, ap}
+use Rattle.std.proofs.Common.{ap₂, arith, refl, append_assoc, subst}
 use Rattle.std.proofs.lemmas.List.{drop_more}
 use Rattle.nvm_board.specs.laws.Aims.{aims_stay}
 use Rattle.undo_journal.specs.declared.batch.Waiting.{Waiting}
@@ -24,7 +25,8 @@ loop-set-preserved g c =
     let lt : i < length ps = omega (arith, c.loop-set-test.true) in
     let next : drop i ps ≡ s ∷ drop (i + 1) ps = drop_more ps i d lt in
     let read = c.in_ok-earlier.ensures in
-    let word : c.in_ok-earlier.earlier ≡ slice_index m s.at = read.word ∙ ap (λ (l : List ℕ). slice_index l s.at) kept.reads.words in
+    let word : c.in_ok-earlier.earlier ≡ slice_index m s.at = read.word
+    ∙ ap (λ (l : List ℕ). slice_index l s.at) kept.reads.words in
     let pushed : c.push-in-loop-set.new.self.items ≡ c.loop-set.words.items ++ s.at ∷ slice_index m s.at ∷ [] =
     c.push-in-loop-set.ensures.items
     ∙ ap₂ (λ (l : List ℕ) (w : ℕ). l ++ w ∷ []) c.push.ensures.items word

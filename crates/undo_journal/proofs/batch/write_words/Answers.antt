@@ -21,7 +21,8 @@ returns-in_err-write-clause-kept g c =
     let kept = c.loop-rest.invariant in
     (turn-torn (g.B.Board.facts c.args.board.now).words (g.B.Board.facts c.loop-rest.board).words c.loop-rest.rest.now
     (record { at = 0; word = 0 }) c.deref.result.now _ some kept.sets kept.named kept.same
-    (c.deref.ensures.0 ∙ c.first_run-run.ensures) c.page_and_place-page.ensures.same _ c.in_err-write.ensures.torn).committed
+    (c.deref.ensures.0 ∙ c.first_run-run.ensures) c.page_and_place-page.ensures.same _
+    c.in_err-write.ensures.torn).committed
 
 pub returns-in_err-write-clause-sound : goal.returns-in_err-write-clause-sound
 returns-in_err-write-clause-sound g c =
@@ -29,7 +30,8 @@ returns-in_err-write-clause-sound g c =
     let kept = c.loop-rest.invariant in
     (turn-torn (g.B.Board.facts c.args.board.now).words (g.B.Board.facts c.loop-rest.board).words c.loop-rest.rest.now
     (record { at = 0; word = 0 }) c.deref.result.now _ some kept.sets kept.named kept.same
-    (c.deref.ensures.0 ∙ c.first_run-run.ensures) c.page_and_place-page.ensures.same _ c.in_err-write.ensures.torn).sound
+    (c.deref.ensures.0 ∙ c.first_run-run.ensures) c.page_and_place-page.ensures.same _
+    c.in_err-write.ensures.torn).sound
 
 pub returns-in_err-write-clause-counts : goal.returns-in_err-write-clause-counts
 returns-in_err-write-clause-counts g c =
@@ -37,7 +39,8 @@ returns-in_err-write-clause-counts g c =
     let kept = c.loop-rest.invariant in
     (turn-torn (g.B.Board.facts c.args.board.now).words (g.B.Board.facts c.loop-rest.board).words c.loop-rest.rest.now
     (record { at = 0; word = 0 }) c.deref.result.now _ some kept.sets kept.named kept.same
-    (c.deref.ensures.0 ∙ c.first_run-run.ensures) c.page_and_place-page.ensures.same _ c.in_err-write.ensures.torn).gates
+    (c.deref.ensures.0 ∙ c.first_run-run.ensures) c.page_and_place-page.ensures.same _
+    c.in_err-write.ensures.torn).gates
 
 pub returns-in_err-write-clause-writes : goal.returns-in_err-write-clause-writes
 returns-in_err-write-clause-writes g c =
@@ -76,14 +79,21 @@ loop-rest-preserved g c =
     record {
       steady = steady_then _ _ _ kept.steady (wrote.light.ok refl);
       few = omega (arith, c.split_at.ensures.back_len, kept.few);
-      sets = subst (λ (l : List Waiting). AreSets (length first) 0 l) (sym after) (sets-drop (length first) (length (first_words ps)) ps 0 kept.sets);
+      sets = subst (λ (l : List Waiting). AreSets (length first) 0 l) (sym after)
+          (sets-drop (length first) (length (first_words ps)) ps 0 kept.sets);
       named = turn-named first now ps d c.deref.result.now _ some kept.sets kept.named kept.same is
           c.page_and_place-page.ensures.same n wrote.done c.split_at.result.1.now after;
       same = turn-same first now ps d c.deref.result.now _ some kept.sets kept.named kept.same is
           c.page_and_place-page.ensures.same n wrote.done c.split_at.result.1.now after;
       left = turn-left first now ps d c.deref.result.now _ some kept.sets kept.named kept.same is
           c.page_and_place-page.ensures.same n wrote.done c.split_at.result.1.now after ∙ kept.left;
-      writes = omega (arith, wrote.counted, turn-runs ps some, ap (λ (l : List Waiting). runs_from 0 l) after, kept.writes);
+      writes = omega (
+        arith,
+        wrote.counted,
+        turn-runs ps some,
+        ap (λ (l : List Waiting). runs_from 0 l) after,
+        kept.writes,
+      );
       more = omega (arith, wrote.counted, kept.more);
       cut = aims_then _ _ _ kept.cut (aims_written _ _ (inr wrote.counted) wrote.cut);
       compares = wrote.compares ∙ kept.compares;

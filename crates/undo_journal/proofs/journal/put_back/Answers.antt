@@ -68,5 +68,5 @@ returns-in_err-earlier-clause-writes g c =
 
 pub returns-clause-counted : goal.returns-clause-counted
 returns-clause-counted g c =
-    on_ok_weaker c.write_word.result (λ one. omega (arith, one, c.in_ok-earlier.ensures.writes, c.in_ok-at.ensures.writes))
-    c.write_word.ensures.counted
+    on_ok_weaker c.write_word.result
+    (λ one. omega (arith, one, c.in_ok-earlier.ensures.writes, c.in_ok-at.ensures.writes)) c.write_word.ensures.counted

@@ -84,7 +84,8 @@ returns-clause-done g c =
     let none : c.loop-left.left ≡ 0 = omega arith in
     on_ok_weaker c.write_gate.result
     (λ done.
-    end-done m _ c.requires.sound c.loop-left.left c.loop-left.invariant.so_far _ within none done) c.write_gate.ensures.done
+    end-done m _ c.requires.sound c.loop-left.left c.loop-left.invariant.so_far _ within none done)
+    c.write_gate.ensures.done
 
 pub returns-in_err-put_back-clause-sound : goal.returns-in_err-put_back-clause-sound
 returns-in_err-put_back-clause-sound g c =

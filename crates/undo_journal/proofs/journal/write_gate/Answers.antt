@@ -7,7 +7,8 @@ pub returns-clause-done : goal.returns-clause-done
 returns-clause-done g c =
     let before = (g.B.Board.facts c.args.board.now).words in
     let after = (g.B.Board.facts c.write_word.new.board).words in
-    subst (λ (w : ℕ). OnOk c.write_word.result (after ≡ slice_set before GATE w)) c.from.ensures c.write_word.ensures.done
+    subst (λ (w : ℕ). OnOk c.write_word.result (after ≡ slice_set before GATE w)) c.from.ensures
+    c.write_word.ensures.done
 
 pub returns-clause-torn : goal.returns-clause-torn
 returns-clause-torn g c =

@@ -5,13 +5,14 @@ use Rattle.undo_journal.specs.Spending.{WritesAtMost, rollback_writes}
 use Rattle.undo_journal.specs.laws.Undo.{gate_undone}
 use Rattle.std.proofs.lemmas.Result.{on_ok_weaker}
 use Rattle.undo_journal.proofs.Standing.{new-idle, new-fits}
-use Rattle.undo_journal.proofs.Noted.{always, on_ok, on_dark, stuck, noted-true, noted-changes}
+use Rattle.undo_journal.proofs.Noted.{always, on_ok, on_dark, failed_before, noted-true, noted-changes}
 use Rattle.undo_journal.proofs.store.Store.abandon.Goals as goal
 
 pub returns-in_err-checked-clause-store : goal.returns-in_err-checked-clause-store
 returns-in_err-checked-clause-store g c =
     let fresh = c.new-self-inside.ensures in
-    stuck _ _ _ _ _ _ _ c.self.view_is (new-idle _ _ fresh.used fresh.waiting) c.from_residual.ensures.1 c.in_err-checked.ensures.tells
+    failed_before _ _ _ _ _ _ _ c.self.view_is (new-idle _ _ fresh.used fresh.waiting) c.from_residual.ensures.1
+    c.in_err-checked.ensures.tells
 
 pub invariant_of-self-2 : goal.invariant_of-self-2
 invariant_of-self-2 g c =

@@ -4,14 +4,14 @@ use Rattle.undo_journal.specs.Memory.{Memory, committed, current, commit_writes}
 use Rattle.undo_journal.specs.Spending.{WritesAtMost}
 use Rattle.std.proofs.lemmas.Result.{on_ok_weaker}
 use Rattle.undo_journal.proofs.Standing.{new-idle, new-fits}
-use Rattle.undo_journal.proofs.Noted.{always, on_ok, on_dark, stuck, noted-true, noted-changes}
+use Rattle.undo_journal.proofs.Noted.{always, on_ok, on_dark, failed_before, noted-true, noted-changes}
 use Rattle.undo_journal.proofs.store.Store.commit.Goals as goal
 
 pub returns-in-Err-clause-store : goal.returns-in-Err-clause-store
 returns-in-Err-clause-store g c =
     let fresh = c.new-self-inside-in-Err.ensures in
-    stuck {T = Unit {0}} _ _ _ _ _ (Err c.in-Err.e) c.in-Err.e c.self.view_is (new-idle _ _ fresh.used fresh.waiting) refl
-    c.in-Err.ensures.tells
+    failed_before {T = Unit {0}} _ _ _ _ _ (Err c.in-Err.e) c.in-Err.e c.self.view_is
+    (new-idle _ _ fresh.used fresh.waiting) refl c.in-Err.ensures.tells
 
 pub invariant_of-self : goal.invariant_of-self
 invariant_of-self g c =
@@ -60,7 +60,8 @@ returns-in-Ok-clause-dark g c = on_dark _ _ c.noted.ensures.answer _ _ c.finish-
 pub returns-in-Ok-clause-counted : goal.returns-in-Ok-clause-counted
 returns-in-Ok-clause-counted g c =
     on_ok _ _ c.noted.ensures.answer _ _
-    (λ counted. counted ∙ ap (λ (m : Memory). m.facts.writes + commit_writes m) c.self.view_is) c.finish-answer.ensures.counted
+    (λ counted. counted ∙ ap (λ (m : Memory). m.facts.writes + commit_writes m) c.self.view_is)
+    c.finish-answer.ensures.counted
 
 pub returns-in-Ok-clause-last : goal.returns-in-Ok-clause-last
 returns-in-Ok-clause-last g c =

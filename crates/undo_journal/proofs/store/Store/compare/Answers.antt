@@ -55,8 +55,8 @@ returns-clause-reports g c =
     let works = c.in_ok-check.ensures.ready.works in
     let kept = c.compare-answer.ensures in
     let held = c.self.invariant.works (ap (λ (m : Memory). m.failed) c.self.view_is ∙ works) in
-    noted-reports _ _ _ c.self.view_is c.self.invariant works _ _ c.noted.ensures.answer c.noted.ensures.failed kept.light
-    (subst (λ (l : List ℕ). IsSound l) (sym kept.words) held.sound)
+    noted-reports _ _ _ c.self.view_is c.self.invariant works _ _ c.noted.ensures.answer c.noted.ensures.failed
+    kept.light (subst (λ (l : List ℕ). IsSound l) (sym kept.words) held.sound)
 
 pub returns-clause-tells : goal.returns-clause-tells
 returns-clause-tells g c =
@@ -83,8 +83,8 @@ returns-clause-compared_err g c =
 
 pub returns-clause-matched : goal.returns-clause-matched
 returns-clause-matched g c = if_ok _ _ c.noted.ensures.answer _ _
-    (λ e more. more ∙ ap (λ (m : Memory). if e then raised m.facts.matches c.args.secret else m.facts.matches) c.self.view_is)
-    c.compare-answer.ensures.matched
+    (λ e more. more ∙ ap (λ (m : Memory). if e then raised m.facts.matches c.args.secret else m.facts.matches)
+    c.self.view_is) c.compare-answer.ensures.matched
 
 pub returns-clause-matched_err : goal.returns-clause-matched_err
 returns-clause-matched_err g c =

@@ -3,9 +3,10 @@ use Rattle.undo_journal.specs.Undo.{gate, IsDataAddress}
 use Rattle.undo_journal.specs.Memory.{Memory}
 use Rattle.undo_journal.proofs.Lasting.{unused-within, place-within, one-gate, one-sound, one-torn, one-written}
 use Rattle.std.proofs.Math.Logic.{⊎_elim}
-use Rattle.undo_journal.proofs.Lasting.{unused-within, idle-within, fits-within, place-within, one-gate, one-sound, one-torn, one-written}
+use Rattle.undo_journal.proofs.Lasting.{unused-within, idle-within, fits-within, place-within, one-gate, one-sound}
+use Rattle.undo_journal.proofs.Lasting.{one-torn, one-written}
 use Rattle.std.proofs.lemmas.Result.{on_ok_weaker}
-use Rattle.undo_journal.proofs.Noted.{always, on_ok, on_dark, stuck, noted-true, noted-changes}
+use Rattle.undo_journal.proofs.Noted.{always, on_ok, on_dark, failed_before, noted-true, noted-changes}
 use Rattle.undo_journal.proofs.store.Store.put_alone.Goals as goal
 
 pub write_word-answer-requires : goal.write_word-answer-requires
@@ -17,7 +18,7 @@ write_word-answer-requires g c =
 
 pub returns-in_err-check-clause-store : goal.returns-in_err-check-clause-store
 returns-in_err-check-clause-store g c =
-    stuck _ _ _ _ _ _ _ refl c.requires.idle c.from_residual.ensures.1 c.in_err-check.ensures.tells
+    failed_before _ _ _ _ _ _ _ refl c.requires.idle c.from_residual.ensures.1 c.in_err-check.ensures.tells
 
 pub invariant_of-self : goal.invariant_of-self
 invariant_of-self g c =
@@ -29,7 +30,8 @@ invariant_of-self g c =
     c.write_word-answer.ensures.torn)
     (on_ok_weaker c.write_word-answer.result
     (λ done. one-gate _ _ c.self.view_is
-    c.self.invariant works c.requires.idle c.args.at c.args.word c.requires.place _ done ∙ sym unused) c.write_word-answer.ensures.done)
+    c.self.invariant works c.requires.idle c.args.at c.args.word c.requires.place _ done ∙ sym unused)
+    c.write_word-answer.ensures.done)
     (always _ _ (fits-within _ _ c.self.view_is c.self.invariant works c.requires.idle _))
 
 pub returns-clause-any_exit : goal.returns-clause-any_exit
@@ -52,8 +54,9 @@ returns-clause-store g c =
     c.write_word-answer.ensures.torn)
     (on_ok_weaker c.write_word-answer.result
     (λ done. one-gate _ _ c.self.view_is
-    c.self.invariant works c.requires.idle c.args.at c.args.word c.requires.place _ done) c.write_word-answer.ensures.done)
-    (idle-within _ _ c.self.view_is c.self.invariant works c.requires.idle) c.write_word-answer.ensures.writes
+    c.self.invariant works c.requires.idle c.args.at c.args.word c.requires.place _ done)
+    c.write_word-answer.ensures.done) (idle-within _ _ c.self.view_is c.self.invariant works c.requires.idle)
+    c.write_word-answer.ensures.writes
 
 pub returns-clause-dark : goal.returns-clause-dark
 returns-clause-dark g c = on_dark _ _ c.noted.ensures.answer _ _ c.write_word-answer.ensures.light
@@ -68,5 +71,5 @@ returns-clause-shut g c = λ shut.
     let works = c.in_ok-check.ensures.ready.works in
     let within = ap (λ (m : Memory). gate m.facts.words) c.self.view_is ∙ shut in
     ⊎_elim (λ old. ap gate old ∙ within)
-    (λ new. one-gate _ _ c.self.view_is c.self.invariant works c.requires.idle c.args.at c.args.word c.requires.place _ new)
-    c.write_word-answer.ensures.torn
+    (λ new. one-gate _ _ c.self.view_is c.self.invariant works c.requires.idle c.args.at c.args.word c.requires.place
+    _ new) c.write_word-answer.ensures.torn

@@ -10,7 +10,8 @@ use Rattle.undo_journal.specs.declared.batch.Waiting.{Waiting}
 use Rattle.undo_journal.specs.Batches.{overlay, look_up}
 use Rattle.undo_journal.specs.laws.Memory.{length-overlay}
 use Rattle.undo_journal.proofs.Waits.{look_up-found, look_up-none}
-use Rattle.undo_journal.proofs.Noted.{always, if_ok, on_dark, noted_tells, noted-true, noted-open, noted-ready, noted-reads}
+use Rattle.undo_journal.proofs.Noted.{always, if_ok, on_dark, noted_tells, noted-true, noted-open}
+use Rattle.undo_journal.proofs.Noted.{noted-ready, noted-reads}
 use Rattle.undo_journal.proofs.store.Store.read.Goals as goal
 
 pub read-answer-requires : goal.read-answer-requires

@@ -125,5 +125,5 @@ returns-in_err-check-clause-spends g c = within_more 0 _ _ _ (omega arith) (stay
 pub returns-clause-spends : goal.returns-clause-spends
 returns-clause-spends g c =
     let set : Waiting = record { at = c.args.at; word = c.args.word } in
-    subst (λ (m : Memory). WritesAtMost (set_writes set m) m.facts (g.B.Board.facts c.add-answer.new.board)) c.self.view_is
-    c.add-answer.ensures.spends
+    subst (λ (m : Memory). WritesAtMost (set_writes set m) m.facts (g.B.Board.facts c.add-answer.new.board))
+    c.self.view_is c.add-answer.ensures.spends

@@ -4,9 +4,10 @@ use Rattle.nvm_board.specs.laws.Torn.{Torn-none}
 use Rattle.nvm_board.specs.laws.Sizes.{page_of_run}
 use Rattle.undo_journal.specs.Memory.{Memory}
 use Rattle.undo_journal.proofs.Standing.{board-run}
-use Rattle.undo_journal.proofs.Lasting.{unused-within, idle-within, fits-within, run-gate, run-sound, run-torn, run-written}
+use Rattle.undo_journal.proofs.Lasting.{unused-within, idle-within, fits-within, run-gate, run-sound}
+use Rattle.undo_journal.proofs.Lasting.{run-torn, run-written}
 use Rattle.undo_journal.proofs.Telling.{write_costs}
-use Rattle.undo_journal.proofs.Noted.{always, on_ok, on_dark, stuck, noted-true, noted-changes}
+use Rattle.undo_journal.proofs.Noted.{always, on_ok, on_dark, failed_before, noted-true, noted-changes}
 use Rattle.undo_journal.proofs.store.Store.write_plain.Goals as goal
 
 pub write-answer-requires-clause-page : goal.write-answer-requires-clause-page
@@ -21,7 +22,7 @@ returns-in_err-check-clause-any_exit g c = Torn-none _ _ _
 
 pub returns-in_err-check-clause-store : goal.returns-in_err-check-clause-store
 returns-in_err-check-clause-store g c =
-    stuck _ _ _ _ _ _ _ refl c.requires.idle c.from_residual.ensures.1 c.in_err-check.ensures.tells
+    failed_before _ _ _ _ _ _ _ refl c.requires.idle c.from_residual.ensures.1 c.in_err-check.ensures.tells
 
 pub invariant_of-self : goal.invariant_of-self
 invariant_of-self g c =
@@ -44,8 +45,8 @@ returns-clause-any_exit g c =
 pub returns-clause-done : goal.returns-clause-done
 returns-clause-done g c =
     on_ok _ _ c.noted.ensures.answer _ _ (λ done. run-written _ _ c.self.view_is c.self.invariant
-    c.in_ok-check.ensures.ready.works c.requires.idle (address c.args.page c.args.first) c.args.words.now c.requires.place
-    _ done) c.write-answer.ensures.done
+    c.in_ok-check.ensures.ready.works c.requires.idle (address c.args.page c.args.first) c.args.words.now
+    c.requires.place _ done) c.write-answer.ensures.done
 
 pub returns-clause-store : goal.returns-clause-store
 returns-clause-store g c =

@@ -88,6 +88,7 @@ loop-i-preserved g c =
               used = waits.used ∙ so.used;
               facts = waits.facts ∙ so.facts;
             }
-            | inr fills ↦ absurd (fills-none set c.args.words.now c.args.at c.loop-i.i old _ so.waiting lt fills.full few)
+            | inr fills ↦
+                absurd (fills-none set c.args.words.now c.args.at c.loop-i.i old _ so.waiting lt fills.full few)
           ];
     }
