@@ -86,8 +86,8 @@ impl Compact {
         self.bytes.as_slice()
     }
 
-    /// Whether the rule of a file in `state` allows what the bit stands for, where these PINs are verified, and these are
-    /// disabled.
+    /// Whether the rule of a file in `state` allows what the bit stands for, where these PINs are verified,
+    /// and these are disabled.
     pub fn allows(
         &self,
         bit: AccessBit,
@@ -101,8 +101,8 @@ impl Compact {
     }
 }
 
-/// Whether the bytes of a rule, of a file in `state`, allow what the bit stands for, where these PINs are verified, and these
-/// are disabled.
+/// Whether the bytes of a rule, of a file in `state`, allow what the bit stands for,
+/// where these PINs are verified, and these are disabled.
 pub fn allows(
     bytes: &[u8],
     bit: AccessBit,
