@@ -30,8 +30,8 @@ is_class class = (class == 0x00) || (class == 0x80)
 abbrev pub asked_by_body : Row → ℕ → ℕ → Option Body → Result Request Sw
 asked_by_body row p1 p2 None = Err WRONG_LENGTH
 asked_by_body row p1 p2 (Some body) =
-    if row.lengths p1 p2 (length body.sent) (is_some body.expected) then Ok (row.meaning p1 p2 body) else Err
-    WRONG_LENGTH
+    if row.lengths p1 p2 (length body.sent) (is_some body.expected)
+    then Ok (row.meaning p1 p2 body) else Err WRONG_LENGTH
 
 -- what is asked for under a known instruction
 abbrev pub asked_by_row : Option Row → ℕ → ℕ → List ℕ → Result Request Sw

@@ -6,8 +6,8 @@ use Rattle.apdu_core.specs.Numbers.{two_bytes}
 use Rattle.apdu_core.specs.Requests.{read_binary, update_binary}
 use Rattle.apdu_core.specs.Rows.{Row}
 
--- P1 of a binary command with bit 8 set holds a short identifier in its bits 5 to 1, and then P2 is the offset; else P1 P2
--- is the offset
+-- P1 of a binary command with bit 8 set holds a short identifier in its bits 5 to 1,
+-- and then P2 is the offset; else P1 P2 is the offset
 abbrev pub names_short : ℕ → Bool
 names_short p1 = nat_le 0x80 p1
 

@@ -1,7 +1,8 @@
 -- The rows of the commands on life cycles (ISO/IEC 7816-9).
 use Rattle.std.specs.Prelude.{ℕ, ◌==◌, not, ◌&&◌, ◌||◌, List, [], ◌∷◌}
 use Rattle.apdu_core.specs.declared.life_cycles.LifeCycleChange.{LifeCycleChange}
-use Rattle.apdu_core.specs.declared.life_cycles.LifeCycleChange.TheVariants.{Deactivate, Activate, TerminateDf, TerminateEf}
+use Rattle.apdu_core.specs.declared.life_cycles.LifeCycleChange.TheVariants.{Deactivate, Activate, TerminateDf}
+use Rattle.apdu_core.specs.declared.life_cycles.LifeCycleChange.TheVariants.{TerminateEf}
 use Rattle.apdu_core.specs.FileRows.{is_no_parameter, subject_named}
 use Rattle.apdu_core.specs.Requests.{change_life_cycle, terminate_card_usage}
 use Rattle.apdu_core.specs.Rows.{Row}
@@ -13,8 +14,8 @@ change_instruction Activate = 0x44
 change_instruction TerminateDf = 0xE6
 change_instruction TerminateEf = 0xE8
 
--- DEACTIVATE FILE, ACTIVATE FILE, TERMINATE DF, TERMINATE EF: by identifier or, without data, the current file; Le must not
--- stand
+-- DEACTIVATE FILE, ACTIVATE FILE, TERMINATE DF, TERMINATE EF:
+-- by identifier or, without data, the current file; Le must not stand
 abbrev pub life_cycle_row : LifeCycleChange → Row
 life_cycle_row change = record {
   class = 0x00;

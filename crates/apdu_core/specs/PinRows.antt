@@ -39,8 +39,8 @@ change_reference_data_row = record {
   meaning = λ p1 p2 body. change_reference_data p2 (take 8 body.sent) (drop 8 body.sent);
 }
 
--- RESET RETRY COUNTER: the PIN's unblocking value and the new value, or nothing to ask for the unblocking tries that are
--- left; Le must not stand
+-- RESET RETRY COUNTER: the PIN's unblocking value and the new value, or nothing to ask for the unblocking tries that
+-- are left; Le must not stand
 abbrev pub reset_retry_counter_row : Row
 reset_retry_counter_row = record {
   class = 0x00;
@@ -67,4 +67,5 @@ requirement_row change = record {
 
 abbrev pub pin_rows : List Row
 pin_rows =
-    verify_row ∷ change_reference_data_row ∷ reset_retry_counter_row ∷ requirement_row Disable ∷ requirement_row Enable ∷ []
+    verify_row ∷ change_reference_data_row ∷ reset_retry_counter_row ∷ requirement_row Disable
+    ∷ requirement_row Enable ∷ []

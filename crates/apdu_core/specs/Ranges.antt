@@ -53,8 +53,8 @@ IsRecordChoice (At place) = IsRecordPlace place
 abbrev pub IsInRange : Command → Type 0
 IsInRange (Select selector returned expected) = IsSelector selector
 IsInRange (ReadBinary target offset expected) = IsTarget target × (offset ≤ 32767)
-IsInRange (UpdateBinary target offset bytes) = IsTarget target × (offset ≤ 32767) × (1 ≤ length bytes.now) × (length
-    bytes.now ≤ 255)
+IsInRange (UpdateBinary target offset bytes) = IsTarget target × (offset ≤ 32767) × (1 ≤ length bytes.now)
+    × (length bytes.now ≤ 255)
 IsInRange (CreateFile template) = (1 ≤ length template.now) × (length template.now ≤ 255)
 IsInRange (DeleteFile subject) = Unit {0}
 IsInRange (ReadRecord target choice expected) = IsTarget target × IsRecordChoice choice

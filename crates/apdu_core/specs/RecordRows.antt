@@ -23,7 +23,8 @@ record_file p2 = if p2 / 8 == 0 then Current else Short (p2 / 8)
 abbrev pub record_place : ℕ → RecordPlace
 record_place p1 = if p1 == 0 then CurrentRecord else Number p1
 
--- the lower three bits of P2 are a mode: the next record 2, the previous one 3, each with P1 0; the record that P1 names 4
+-- the lower three bits of P2 are a mode: the next record 2, the previous one 3, each with P1 0;
+-- the record that P1 names 4
 abbrev pub is_choice : ℕ → ℕ → Bool
 is_choice p1 p2 = ((p2 % 8 == 2) && (p1 == 0)) || ((p2 % 8 == 3) && (p1 == 0)) || (p2 % 8 == 4)
 

@@ -1,4 +1,5 @@
--- A row of the table of commands (ISO/IEC 7816-4, clause 5.4): what is allowed under a class and an instruction, and what it means.
+-- A row of the table of commands (ISO/IEC 7816-4, clause 5.4):
+-- what is allowed under a class and an instruction, and what it means.
 use Rattle.std.specs.Prelude.{ℕ, Bool}
 use Rattle.apdu_core.specs.Bodies.{Body}
 use Rattle.apdu_core.specs.Requests.{Request}

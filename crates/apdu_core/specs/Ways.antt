@@ -1,7 +1,8 @@
 -- The P1 of each way of SELECT that the code knows.
 use Rattle.std.specs.Prelude.{ℕ}
 use Rattle.apdu_core.specs.declared.select.Way.{Way}
-use Rattle.apdu_core.specs.declared.select.Way.TheVariants.{ByIdentifier, ToParent, ByName, DownFromMaster, DownFromCurrent}
+use Rattle.apdu_core.specs.declared.select.Way.TheVariants.{ByIdentifier, ToParent, ByName}
+use Rattle.apdu_core.specs.declared.select.Way.TheVariants.{DownFromMaster, DownFromCurrent}
 
 abbrev pub byte_of : Way → ℕ
 byte_of ByIdentifier = 0x00

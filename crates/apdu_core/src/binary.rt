@@ -51,7 +51,8 @@ impl Place {
     }
 }
 
-/// Reads P1, P2 and what follows the header of READ BINARY. P1 and P2 that name no place are 6A86; data, or no Le, are 6700.
+/// Reads P1, P2 and what follows the header of READ BINARY. P1 and P2 that name no place are 6A86;
+/// data, or no Le, are 6700.
 pub(crate) fn parse_read_binary<'a>(p1: u8, p2: u8, rest: &'a [u8]) -> Result<Command<'a>, Sw>
     ensures asked { Gives result (asked_by_row (Some read_binary_row) p1 p2 rest.now) }
     ensures ranges { IfOk result IsInRange }
@@ -69,8 +70,8 @@ pub(crate) fn parse_read_binary<'a>(p1: u8, p2: u8, rest: &'a [u8]) -> Result<Co
     }
 }
 
-/// Reads P1, P2 and what follows the header of UPDATE BINARY. P1 and P2 that name no place are 6A86; no data, or Le, are
-/// 6700.
+/// Reads P1, P2 and what follows the header of UPDATE BINARY. P1 and P2 that name no place are 6A86;
+/// no data, or Le, are 6700.
 pub(crate) fn parse_update_binary<'a>(p1: u8, p2: u8, rest: &'a [u8]) -> Result<Command<'a>, Sw>
     ensures asked { Gives result (asked_by_row (Some update_binary_row) p1 p2 rest.now) }
     ensures ranges { IfOk result IsInRange }

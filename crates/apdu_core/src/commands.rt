@@ -84,7 +84,8 @@ pub enum Command<'a> {
     },
     /// TERMINATE CARD USAGE (ISO/IEC 7816-9).
     TerminateCardUsage,
-    /// VERIFY (ISO/IEC 7816-4, 11.5.6) of a PIN, 1 to 8: by the value shown, or with none to ask for the tries that are left.
+    /// VERIFY (ISO/IEC 7816-4, 11.5.6) of a PIN, 1 to 8: by the value shown,
+    /// or with none to ask for the tries that are left.
     Verify {
         pin: u8,
         shown: Option<&'a [u8; 8]>,
@@ -94,8 +95,8 @@ pub enum Command<'a> {
         pin: u8,
         values: Replacement<'a>,
     },
-    /// RESET RETRY COUNTER (ISO/IEC 7816-4, 11.5.10) of a PIN, 1 to 8: by its unblocking value, or with none to ask for the
-    /// unblocking tries that are left.
+    /// RESET RETRY COUNTER (ISO/IEC 7816-4, 11.5.10) of a PIN, 1 to 8: by its unblocking value, or with none to ask for
+    /// the unblocking tries that are left.
     ResetRetryCounter {
         pin: u8,
         values: Option<Replacement<'a>>,
@@ -134,8 +135,8 @@ impl<'a> Command<'a> {
     ///
     /// # Errors
     ///
-    /// The status word of a refusal is the first in this order: too few bytes for a header 6700, class 6E00, instruction
-    /// 6D00, P1 and P2 6A86, and then lengths 6700.
+    /// The status word of a refusal is the first in this order: too few bytes for a header 6700, class 6E00,
+    /// instruction 6D00, P1 and P2 6A86, and then lengths 6700.
     pub fn parse(bytes: &'a [u8]) -> Result<Command<'a>, Sw>
         ensures asked { Gives result (asked bytes.now) }
         ensures ranges { IfOk result IsInRange }

@@ -51,8 +51,8 @@ pub(crate) fn parse_create_file<'a>(p1: u8, p2: u8, rest: &'a [u8]) -> Result<Co
     }
 }
 
-/// Reads P1, P2 and what follows the header of DELETE FILE. Other P1 and P2 than 00 00 are 6A86, other lengths than 0 and
-/// 2 are 6700, and so is Le.
+/// Reads P1, P2 and what follows the header of DELETE FILE. Other P1 and P2 than 00 00 are 6A86, other lengths than 0
+/// and 2 are 6700, and so is Le.
 pub(crate) fn parse_delete_file<'a>(p1: u8, p2: u8, rest: &'a [u8]) -> Result<Command<'a>, Sw>
     ensures asked { Gives result (asked_by_row (Some delete_file_row) p1 p2 rest.now) }
     ensures ranges { IfOk result IsInRange }

@@ -1,6 +1,6 @@
 //! Laws of the definitions, as contracts of functions that do nothing.
-ghost use Rattle.std.specs.Prelude.{◌≡◌, ◌+◌, ◌*◌, ◌++◌, ◌∷◌, ◌==◌, ◌&&◌, ◌||◌, [], ℕ, List, Bool, true, false, Ok, Some, None, map};
-ghost use Rattle.std.specs.Prelude.{MatchResult, IfOk};
+ghost use Rattle.std.specs.Prelude.{◌≡◌, ◌+◌, ◌*◌, ◌++◌, ◌∷◌, ◌==◌, ◌&&◌, ◌||◌, [], ℕ, List, Bool, true, false, Ok};
+ghost use Rattle.std.specs.Prelude.{Some, None, map, MatchResult, IfOk};
 ghost use Rattle.apdu_core.specs.declared.binary.Target.TheVariants.{Current as current_file, Short as short_file};
 ghost use Rattle.apdu_core.specs.declared.files.Subject.TheVariants.{Identifier as by_identifier};
 ghost use Rattle.apdu_core.specs.declared.life_cycles.LifeCycleChange.{LifeCycleChange};
@@ -79,8 +79,8 @@ pub fn binary_numbers()
         × (lengths_allowed update_binary_row p1 p2 false ≡ range_with_len 1 255) }
 {}
 
-/// The numbers of CREATE FILE and DELETE FILE (ISO/IEC 7816-9): P1 and P2 are 00 and Le doesn't stand; the one sends 1 to
-/// 255 bytes, the other none or 2.
+/// The numbers of CREATE FILE and DELETE FILE (ISO/IEC 7816-9): P1 and P2 are 00 and Le doesn't stand; the one sends 1
+/// to 255 bytes, the other none or 2.
 pub fn file_numbers()
     ensures parameters { (p1 p2 : ℕ) → (create_file_row.parameters p1 p2 ≡ ((p1 == 0x00) && (p2 == 0x00)))
         × (delete_file_row.parameters p1 p2 ≡ ((p1 == 0x00) && (p2 == 0x00))) }
@@ -104,8 +104,8 @@ pub fn record_parameters()
         → append_record_row.parameters p1 p2 ≡ (is_record_file p2 && ((p1 == 0x00) && (mode p2 == 0))) }
 {}
 
-/// How much the commands on records send: READ RECORD nothing, with Le; UPDATE RECORD and APPEND RECORD 1 to 255 bytes, with
-/// no Le; SEARCH RECORD and INCREASE 1 to 255 bytes, and Le may stand. INCREASE has P1 and P2 00.
+/// How much the commands on records send: READ RECORD nothing, with Le; UPDATE RECORD and APPEND RECORD 1 to 255 bytes,
+/// with no Le; SEARCH RECORD and INCREASE 1 to 255 bytes, and Le may stand. INCREASE has P1 and P2 00.
 pub fn record_lengths()
     ensures read { (p1 p2 : ℕ) → (lengths_allowed read_record_row p1 p2 true ≡ 0 ∷ [])
         × (lengths_allowed read_record_row p1 p2 false ≡ []) }
@@ -130,8 +130,8 @@ pub fn life_cycle_numbers()
         × (lengths_allowed terminate_card_usage_row p1 p2 false ≡ 0 ∷ []) }
 {}
 
-/// The numbers of the commands on PINs (ISO/IEC 7816-4, 11.5): P1 is 00, P2 is a PIN, 1 to 8, and Le doesn't stand; VERIFY
-/// sends no byte or 8, CHANGE REFERENCE DATA 16, RESET RETRY COUNTER none or 16.
+/// The numbers of the commands on PINs (ISO/IEC 7816-4, 11.5): P1 is 00, P2 is a PIN, 1 to 8, and Le doesn't stand;
+/// VERIFY sends no byte or 8, CHANGE REFERENCE DATA 16, RESET RETRY COUNTER none or 16.
 pub fn pin_numbers()
     ensures parameters { (p1 p2 : ℕ) → (verify_row.parameters p1 p2 ≡ is_pin p1 p2)
         × (change_reference_data_row.parameters p1 p2 ≡ is_pin p1 p2)
@@ -146,11 +146,13 @@ pub fn pin_numbers()
         × (lengths_allowed reset_retry_counter_row p1 p2 true ≡ []) }
 {}
 
-/// The numbers of DISABLE and ENABLE VERIFICATION REQUIREMENT (ISO/IEC 7816-4, 11.5): P1 is 00, P2 is a PIN, 1 to 8, 8 bytes
-/// are sent, and Le doesn't stand.
+/// The numbers of DISABLE and ENABLE VERIFICATION REQUIREMENT (ISO/IEC 7816-4, 11.5): P1 is 00, P2 is a PIN, 1 to 8, 8
+/// bytes are sent, and Le doesn't stand.
 pub fn requirement_numbers()
-    ensures parameters { (change : RequirementChange) (p1 p2 : ℕ) → (requirement_row change).parameters p1 p2 ≡ is_pin p1 p2 }
-    ensures lengths { (change : RequirementChange) (p1 p2 : ℕ) → (lengths_allowed (requirement_row change) p1 p2 true ≡ [])
+    ensures parameters { (change : RequirementChange) (p1 p2 : ℕ)
+        → (requirement_row change).parameters p1 p2 ≡ is_pin p1 p2 }
+    ensures lengths { (change : RequirementChange) (p1 p2 : ℕ)
+        → (lengths_allowed (requirement_row change) p1 p2 true ≡ [])
         × (lengths_allowed (requirement_row change) p1 p2 false ≡ 8 ∷ []) }
 {}
 

@@ -25,7 +25,7 @@ pub use records::{Direction, RecordChoice, RecordPlace};
 pub use select::{Returned, Selector};
 
 /// The most bytes of an answer: its data, and a status word.
-pub const LONGEST_ANSWER: usize = MOST_ANSWER_DATA + 2;
+pub const MOST_ANSWER_BYTES: usize = MOST_ANSWER_DATA + 2;
 
 /// The data and the status word of an answer: 2 to 258 bytes.
-pub type Answer = ArrayVec<u8, LONGEST_ANSWER>;
+pub type Answer = ArrayVec<u8, MOST_ANSWER_BYTES>;

@@ -23,8 +23,8 @@ pub enum LifeCycleChange {
     TerminateEf,
 }
 
-/// Reads P1, P2 and what follows the header of a command that changes a life cycle. Other P1 and P2 than 00 00 are 6A86,
-/// other lengths than 0 and 2 are 6700, and so is Le.
+/// Reads P1, P2 and what follows the header of a command that changes a life cycle. Other P1 and P2 than 00 00 are
+/// 6A86, other lengths than 0 and 2 are 6700, and so is Le.
 pub(crate) fn parse_life_cycle_change<'a>(
     change: LifeCycleChange,
     p1: u8,
@@ -43,8 +43,8 @@ pub(crate) fn parse_life_cycle_change<'a>(
     }
 }
 
-/// Reads P1, P2 and what follows the header of TERMINATE CARD USAGE. Other P1 and P2 than 00 00 are 6A86; data, or Le, are
-/// 6700.
+/// Reads P1, P2 and what follows the header of TERMINATE CARD USAGE. Other P1 and P2 than 00 00 are 6A86;
+/// data, or Le, are 6700.
 pub(crate) fn parse_terminate_card_usage<'a>(
     p1: u8,
     p2: u8,

@@ -46,8 +46,8 @@ fn names_pin(p1: u8, p2: u8) -> bool
     p1 == 0x00 && (1..=PINS).contains(&p2)
 }
 
-/// Reads P1, P2 and what follows the header of VERIFY (ISO/IEC 7816-4, 11.5.6). P1 and P2 that name no PIN are 6A86, other
-/// lengths than 0 and 8 are 6700, and so is Le.
+/// Reads P1, P2 and what follows the header of VERIFY (ISO/IEC 7816-4, 11.5.6). P1 and P2 that name no PIN are 6A86,
+/// other lengths than 0 and 8 are 6700, and so is Le.
 pub(crate) fn parse_verify<'a>(p1: u8, p2: u8, rest: &'a [u8]) -> Result<Command<'a>, Sw>
     ensures asked { Gives result (asked_by_row (Some verify_row) p1 p2 rest.now) }
     ensures ranges { IfOk result IsInRange }
@@ -65,8 +65,8 @@ pub(crate) fn parse_verify<'a>(p1: u8, p2: u8, rest: &'a [u8]) -> Result<Command
     Ok(Command::Verify { pin: p2, shown })
 }
 
-/// Reads P1, P2 and what follows the header of CHANGE REFERENCE DATA (ISO/IEC 7816-4, 11.5.7). P1 and P2 that name no PIN
-/// are 6A86, another length than 16 is 6700, and so is Le.
+/// Reads P1, P2 and what follows the header of CHANGE REFERENCE DATA (ISO/IEC 7816-4, 11.5.7). P1 and P2 that name no
+/// PIN are 6A86, another length than 16 is 6700, and so is Le.
 pub(crate) fn parse_change_reference_data<'a>(
     p1: u8,
     p2: u8,
@@ -90,8 +90,8 @@ pub(crate) fn parse_change_reference_data<'a>(
     }
 }
 
-/// Reads P1, P2 and what follows the header of RESET RETRY COUNTER (ISO/IEC 7816-4, 11.5.10). P1 and P2 that name no PIN are
-/// 6A86, other lengths than 0 and 16 are 6700, and so is Le.
+/// Reads P1, P2 and what follows the header of RESET RETRY COUNTER (ISO/IEC 7816-4, 11.5.10). P1 and P2 that name no
+/// PIN are 6A86, other lengths than 0 and 16 are 6700, and so is Le.
 pub(crate) fn parse_reset_retry_counter<'a>(
     p1: u8,
     p2: u8,

@@ -138,8 +138,8 @@ pub(crate) fn parse_read_record<'a>(p1: u8, p2: u8, rest: &'a [u8]) -> Result<Co
     }
 }
 
-/// Reads P1, P2 and what follows the header of UPDATE RECORD (ISO/IEC 7816-4, 11.4.5). P1 and P2 that name no record are
-/// 6A86; no data, or Le, are 6700.
+/// Reads P1, P2 and what follows the header of UPDATE RECORD (ISO/IEC 7816-4, 11.4.5). P1 and P2 that name no record
+/// are 6A86; no data, or Le, are 6700.
 pub(crate) fn parse_update_record<'a>(p1: u8, p2: u8, rest: &'a [u8]) -> Result<Command<'a>, Sw>
     ensures asked { Gives result (asked_by_row (Some update_record_row) p1 p2 rest.now) }
     ensures ranges { IfOk result IsInRange }
@@ -157,8 +157,8 @@ pub(crate) fn parse_update_record<'a>(p1: u8, p2: u8, rest: &'a [u8]) -> Result<
     }
 }
 
-/// Reads P1, P2 and what follows the header of APPEND RECORD (ISO/IEC 7816-4, 11.4.6). P1 other than 00 and P2 that name
-/// more than a file are 6A86; no data, or Le, are 6700.
+/// Reads P1, P2 and what follows the header of APPEND RECORD (ISO/IEC 7816-4, 11.4.6). P1 other than 00 and P2 that
+/// name more than a file are 6A86; no data, or Le, are 6700.
 pub(crate) fn parse_append_record<'a>(p1: u8, p2: u8, rest: &'a [u8]) -> Result<Command<'a>, Sw>
     ensures asked { Gives result (asked_by_row (Some append_record_row) p1 p2 rest.now) }
     ensures ranges { IfOk result IsInRange }

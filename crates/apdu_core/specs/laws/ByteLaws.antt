@@ -105,7 +105,8 @@ identifiers-of_bytes (high ∷ low ∷ bytes) all (suc k) d lt =
 by_identifier-of_bytes : (sent : List ℕ) → AreBytes sent → IsNamedByBytes (by_identifier sent)
 by_identifier-of_bytes [] all = tt
 by_identifier-of_bytes (high ∷ bytes) all =
-    two_bytes-below high (slice_index bytes 0) (byte-at (high ∷ bytes) 0 all) (byte-at bytes 0 (bytes-rest high bytes all))
+    two_bytes-below high (slice_index bytes 0) (byte-at (high ∷ bytes) 0 all)
+    (byte-at bytes 0 (bytes-rest high bytes all))
 
 -- a file that is named in any way
 named_file-of_bytes : (p1 : ℕ) (sent : List ℕ) → AreBytes sent → IsNamedByBytes (named_file p1 sent)
