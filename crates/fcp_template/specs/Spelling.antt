@@ -28,7 +28,8 @@ two_bytes n = n / 256 ∷ n % 256 ∷ []
 abbrev pub data_object : ℕ → List ℕ → DataObject
 data_object tag value = record { tag = tag; value = value }
 
--- the value of object 82: 78, 41, 42 or 46, the byte 21, and of a record EF the record length and how many records exist
+-- the value of object 82: 78, 41, 42 or 46, the byte 21,
+-- and of a record EF the record length and how many records exist
 abbrev pub descriptor_value : FileKind → List ℕ
 descriptor_value (Df name) = 0x78 ∷ 0x21 ∷ []
 descriptor_value (Transparent short size) = 0x41 ∷ 0x21 ∷ []

@@ -27,7 +27,8 @@ use card_rules::{Compact, LifeCycle};
 /// # Errors
 ///
 /// The least fault that the text has: `Shape` where it is no template, `Missing` where an object that must be there
-/// isn't, `Twice` where a tag of the table comes again, and `Value` where a tag, a length or a value isn't of the table.
+/// isn't, `Twice` where a tag of the table comes again, and `Value` where a tag,
+/// a length or a value isn't of the table.
 pub fn parse(text: &[u8]) -> Result<Fcp<'_>, FcpFault>
     ensures reads { FcpReads text.now result }
 
