@@ -11,9 +11,9 @@ use Rattle.t1_link.specs.declared.sequence_number.SequenceNumber.{SequenceNumber
 use Rattle.t1_link.specs.declared.sequence_number.SequenceNumber.TheVariants.{Zero, One}
 use Rattle.t1_link.specs.SequenceNumbers.{at_bit}
 
--- What a block says (11.3.2.2). An I-block has its number N(S), the bit M that says that more blocks of the chain follow,
--- and its information field; an R-block has the number N(R) of the I-block that is expected, and the kind of error;
--- S-blocks request RESYNCH or an information field size, or respond to such a request.
+-- What a block says (11.3.2.2). An I-block has its number N(S), the bit M that says that more blocks of the chain
+-- follow, and its information field; an R-block has the number N(R) of the I-block that is expected, and the kind of
+-- error; S-blocks request RESYNCH or an information field size, or respond to such a request.
 pub data Block : Type 0 where
   information : SequenceNumber → Bool → List ℕ → Block
   receive_ready : SequenceNumber → ErrorKind → Block
@@ -54,7 +54,8 @@ exclusive_or bytes = fold bit_xor 0 bytes
 abbrev pub front : Block → List ℕ
 front b = 0x00 ∷ control_byte b ∷ length (field_of b) ∷ field_of b
 
--- the bytes of a block (11.3.1): prologue, information field, and the check byte, with which the exclusive-or of all bytes is 00
+-- the bytes of a block (11.3.1): prologue, information field, and the check byte,
+-- with which the exclusive-or of all bytes is 00
 abbrev pub frame : Block → List ℕ
 frame b = front b ++ exclusive_or (front b) ∷ []
 

@@ -92,7 +92,8 @@ takes_information l number more field = first_of (
 
 -- The reaction to what was heard, row by row.
 unfoldable pub card_takes : Link → Result Block Fault → Taken
--- 1 to 3. no block, of a wrong length, of a wrong check byte or of an unknown kind: R-block, other, redundancy or other error
+-- 1 to 3. no block, of a wrong length, of a wrong check byte or of an unknown kind:
+-- R-block, other, redundancy or other error
 card_takes l (Err fault) = refusing l (told_as fault)
 -- 4. RESYNCH is requested: all is as after power-on
 card_takes l (Ok resynch_request) = replying fresh resynch_response

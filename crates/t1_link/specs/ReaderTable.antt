@@ -15,9 +15,10 @@ use Rattle.t1_link.specs.Blocks.{Block, information, receive_ready, resynch_requ
 use Rattle.t1_link.specs.Blocks.{ifs_response, heard, first_of, told_as}
 use Rattle.t1_link.specs.SequenceNumbers.{other_number, same}
 
--- What the reader's end holds: the number of the next I-block that it sends and of the one that it expects, how often it
--- tried in vain, the information field of its last I-block, the bytes of the command that are not sent yet, the bytes of
--- the answer that have come, how often it requested RESYNCH, and whether a command is in hand or the link is given up.
+-- What the reader's end holds: the number of the next I-block that it sends and of the one that it expects, how often
+-- it tried in vain, the information field of its last I-block, the bytes of the command that are not sent yet, the
+-- bytes of the answer that have come, how often it requested RESYNCH,
+-- and whether a command is in hand or the link is given up.
 pub record Reader : Type 0 where
   pub ns : SequenceNumber
   pub nr : SequenceNumber
@@ -42,7 +43,8 @@ fresh_reader = record {
       Idle;
 }
 
--- What the reader's end says: a block to be sent, the answer, that it isn't known whether the command was run, or a failure.
+-- What the reader's end says: a block to be sent, the answer,
+-- that it isn't known whether the command was run, or a failure.
 pub data Outcome : Type 0 where
   sends : Block → Outcome
   gives : List ℕ → Outcome

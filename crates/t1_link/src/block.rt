@@ -82,9 +82,9 @@ const IFS_REQUEST: u8 = 0xC1;
 /// The control byte of the S-block that answers it with the same size.
 const IFS_RESPONSE: u8 = 0xE1;
 
-/// The bytes of a block: prologue, information field and check byte. A type of its own, since an answer may have as many
-/// bytes (`AnswerBytes`), and must not be sent as a block. It holds nothing, or a block that an end of the link wrote, whole
-/// or garbled. What is heard may be any bytes, and is a slice.
+/// The bytes of a block: prologue, information field and check byte. A type of its own, since an answer may have as
+/// many bytes (`AnswerBytes`), and must not be sent as a block. It holds nothing, or a block that an end of the link
+/// wrote, whole or garbled. What is heard may be any bytes, and is a slice.
 #[derive(Drop)]
 pub struct BlockBytes {
     bytes: ArrayVec<u8, LONGEST_BLOCK>,

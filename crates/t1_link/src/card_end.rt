@@ -2,7 +2,8 @@
 
 ghost use Rattle.std.specs.Prelude.{◌≡◌, ◌++◌, ◌&&◌, not, None, IsSome, IsTrue, ◌↔◌, Some, take, Ok};
 ghost use Rattle.t1_link.specs.Blocks.{IsSpellable, frame, receive_ready};
-ghost use Rattle.t1_link.specs.CardTable.{CardLink, link_step, action_of, after, answers, reply_bytes, card_takes, fresh};
+ghost use Rattle.t1_link.specs.CardTable.{CardLink, link_step, action_of, after, answers, reply_bytes};
+ghost use Rattle.t1_link.specs.CardTable.{card_takes, fresh};
 ghost use Rattle.t1_link.specs.CardTable.{sending, sent_block, sent_more, takes_information, takes_receive_ready};
 ghost use Rattle.t1_link.specs.SequenceNumbers.{same};
 ghost use Rattle.t1_link.specs.Spoken.{block_of};
@@ -16,8 +17,8 @@ use std::marker::Model;
 /// The most bytes of an answer: 256 of data and a status word.
 pub const LONGEST_ANSWER: usize = 258;
 
-/// The bytes of an answer. It is the card that fills them, and it knows no link: so this is the plain buffer that the card takes,
-/// and no type of this crate, as that of a block is (`BlockBytes`).
+/// The bytes of an answer. It is the card that fills them, and it knows no link: so this is the plain buffer that the
+/// card takes, and no type of this crate, as that of a block is (`BlockBytes`).
 pub type AnswerBytes = ArrayVec<u8, LONGEST_ANSWER>;
 
 /// The most bytes of a command that are kept: one more than it may have, which is enough to refuse it.

@@ -6,7 +6,8 @@ ghost use Rattle.t1_link.specs.Cut.{cut};
 use arrayvec::ArrayVec;
 use std::marker::Model;
 
-/// The most bytes of a command: header, Lc, 255 bytes of data and Le. No more are sent in pieces, as an answer has fewer.
+/// The most bytes of a command: header, Lc, 255 bytes of data and Le.
+/// No more are sent in pieces, as an answer has fewer.
 pub const LONGEST_COMMAND: usize = 261;
 
 /// Bytes that are sent in pieces: the last piece, and what is left.

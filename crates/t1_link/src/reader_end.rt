@@ -122,7 +122,8 @@ impl ReaderEnd {
         self.phase = Phase::Idle;
     }
 
-    /// The bytes of the answer that have come: after `Done` the answer, until a command is sent or the reader's end is reset.
+    /// The bytes of the answer that have come: after `Done` the answer,
+    /// until a command is sent or the reader's end is reset.
     pub fn answer(&self) -> &[u8]
         ensures bytes { result.now ≡ self.now.answer }
         ensures fits { length result.now ≤ LONGEST_ANSWER }
@@ -151,7 +152,8 @@ impl ReaderEnd {
         self.advance(out)
     }
 
-    /// Takes a block, of whatever bytes. A block to be sent goes to the buffer; with nothing to be sent that stays as it is.
+    /// Takes a block, of whatever bytes. A block to be sent goes to the buffer;
+    /// with nothing to be sent that stays as it is.
     #[tactic(auto, unfolding(crate::specs::ReaderTable::turns_block))]
     pub fn got(&mut self, got: &[u8], out: &mut BlockBytes) -> Next
         requires { self.old.phase ≡ Phase.Busy }

@@ -65,7 +65,8 @@ module _ (r : Reader) (busy : r.phase ≡ Busy) where
       } in
       let whole : Turned = if nat_lt (length bytes) 2 then failing r BadAnswer else done in
       agrees-if (nat_lt 258 (length bytes)) (failing r BadAnswer) (if more then joined else whole) (refl, tt)
-      (agrees-if more joined whole in_hand (agrees-if (nat_lt (length bytes) 2) (failing r BadAnswer) done (refl, tt) (refl, refl)))
+      (agrees-if more joined whole in_hand
+      (agrees-if (nat_lt (length bytes) 2) (failing r BadAnswer) done (refl, tt) (refl, refl)))
 
   agrees-information : (number : SequenceNumber) (more : Bool) (field : List ℕ)
       → Agrees (turns_information r number more field)
