@@ -18,7 +18,8 @@ value_batch page first second third = grind (arith, nat_tests)
 
 -- the tries, and the mark behind all else
 mark_batch : (page first second : ℕ)
-    → batch_writes (joined_run (address page PIN_MARK_WORD) (second ∷ []) (joined_run (address page 0) (first ∷ []) [])) ≡ 4
+    → batch_writes (joined_run (address page PIN_MARK_WORD) (second ∷ []) (joined_run (address page 0) (first ∷ []) []))
+    ≡ 4
 mark_batch page first second = grind (arith, nat_tests)
 
 all_batch : (page first second third fourth : ℕ)
@@ -36,7 +37,8 @@ commit_some m some = elim (eqb_tells (taken m) 0) [
 ]
 
 -- sets that wait and are committed
-module _ (page first second third : ℕ) (a b c : Memory) (at other : ℕ) (idle : IsIdle a) (is : at ≡ address page 0) where
+module _ (page first second third : ℕ) (a b c : Memory) (at other : ℕ) (idle : IsIdle a)
+    (is : at ≡ address page 0) where
   nothing : a.waiting ≡ []
   nothing = idle_waits a idle
 

@@ -13,7 +13,8 @@ page_told m pin tries unblocking_tries most first second is few = (
     tries = omega (arith, first, few);
     unblocking_tries = omega (arith, second, within, is);
   },
-  λ page. let most_tries = page.unblocking_tries in le-leb unblocking_tries most (omega (arith, second, is, most_tries)),
+  λ page. let most_tries = page.unblocking_tries in
+      le-leb unblocking_tries most (omega (arith, second, is, most_tries)),
 )
 
 -- there are more tries than there may be

@@ -58,8 +58,8 @@ charges secret left a b c reads told some sets =
 -- or nothing was
 pub charges_or_not : (secret left : ℕ) (a b c : Memory) → OnlyReads a b → left ≡ tries_left secret (pin_in a secret)
     → 0 < left
-    → (committed c ≡ committed b) ⊎ SetsPin (committed b) (owner secret) (with_tries secret (left - 1) (pin_in b secret))
-    (committed c)
+    → (committed c ≡ committed b)
+    ⊎ SetsPin (committed b) (owner secret) (with_tries secret (left - 1) (pin_in b secret)) (committed c)
     → (committed c ≡ committed a) ⊎ Charges secret a c
 charges_or_not secret left a b c reads told some either =
     ⊎_map (λ stays. stays ∙ reads.keeps.committed_words) (λ sets. charges secret left a b c reads told some sets) either
@@ -123,15 +123,16 @@ rises_if true secret old new counted = inr counted
 rises_if false secret old new counted = inl counted
 
 -- what was read is what was shown, or it isn't
-pub compared : (right : Bool) (secret named left : ℕ) (shown bytes : List ℕ) (a b c : Memory) → named ≡ secret → OnlyReads a b
-    → bytes ≡ kept named (pin_in a named) → (right ≡ true ↔ (bytes ≡ shown)) → left ≡ tries_left named (pin_in a named)
+pub compared_by : (right : Bool) (secret named left : ℕ) (shown bytes : List ℕ) (a b c : Memory)
+    → named ≡ secret → OnlyReads a b → bytes ≡ kept named (pin_in a named) → (right ≡ true ↔ (bytes ≡ shown))
+    → left ≡ tries_left named (pin_in a named)
     → c.facts.compares ≡ raised b.facts.compares named
     → c.facts.matches ≡ (if right then raised b.facts.matches named else b.facts.matches)
     → c.facts.writes ≡ b.facts.writes → committed c ≡ committed b
     → Compared secret shown a c (if right then Matched else Wrong left)
-compared true secret named left shown bytes a b c is reads read equal told counted matched writes same =
+compared_by true secret named left shown bytes a b c is reads read equal told counted matched writes same =
     is_match secret named shown bytes a b c is reads read (equal.0 refl) counted matched
-compared false secret named left shown bytes a b c is reads read equal told counted matched writes same =
+compared_by false secret named left shown bytes a b c is reads read equal told counted matched writes same =
     is_wrong secret named left shown bytes a b c is reads read (λ right. true≢false (sym (equal.1 right))) told counted
     matched writes same
 

@@ -3,7 +3,8 @@ use Rattle.std.specs.Prelude.{◌≡◌, ◌⊎◌, ◌<◌, ◌≤◌, ◌+◌,
 use Rattle.std.specs.List.{range_with_len}
 use Rattle.std.specs.Int.{w32, to_be_bytes}
 use Rattle.nvm_board.specs.Facts.{address}
-use Rattle.pin_store.specs.declared.layout.TheConstants.{FIRST_PIN_PAGE, PINS, PIN_MARK_WORD, PIN_WORDS, TRIES, UNBLOCKING_TRIES}
+use Rattle.pin_store.specs.declared.layout.TheConstants.{FIRST_PIN_PAGE, PINS, PIN_MARK_WORD, PIN_WORDS}
+use Rattle.pin_store.specs.declared.layout.TheConstants.{TRIES, UNBLOCKING_TRIES}
 use Rattle.pin_store.specs.Pins.{Pin, enabled_pin}
 
 -- the page of a PIN; PIN 1 is at 0

@@ -2,7 +2,8 @@
 use Rattle.std.specs.Prelude.{ℕ, ◌≤◌, ◌-◌, ◌%◌, Bool, true, nat_le, if◌then◌else◌, List}
 use Rattle.pin_store.specs.declared.layout.TheConstants.{PINS, TRIES, UNBLOCKING_TRIES}
 
--- a PIN: its value and the tries that are left, the same of the value that unblocks it, and whether its verification is required
+-- a PIN: its value and the tries that are left, the same of the value that unblocks it,
+-- and whether its verification is required
 pub record Pin : Type 0 where
   pub value : List ℕ
   pub tries : ℕ
@@ -60,7 +61,8 @@ changed_pin new pin = record pin { value = new; tries = TRIES }
 abbrev pub reset_pin : List ℕ → Pin → Pin
 reset_pin new pin = record pin { value = new; tries = TRIES; unblocking_tries = UNBLOCKING_TRIES }
 
--- the value was shown, and its verification is required from now on, or no longer, by ENABLE and DISABLE VERIFICATION REQUIREMENT
+-- the value was shown, and its verification is required from now on, or no longer,
+-- by ENABLE and DISABLE VERIFICATION REQUIREMENT
 abbrev pub marked_pin : Bool → Pin → Pin
 marked_pin enabled pin = record pin { tries = TRIES; enabled = enabled }
 

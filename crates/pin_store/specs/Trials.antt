@@ -1,4 +1,5 @@
--- What a charge and the ends that follow it leave of a store, and the law that binds them: a comparison costs a lasting try.
+-- What a charge and the ends that follow it leave of a store, and the law that binds them:
+-- a comparison costs a lasting try.
 use Rattle.std.specs.Prelude.{◌≡◌, ◌⊎◌, ◌<◌, ◌≤◌, ◌+◌, ℕ, List, slice_index, Option, Some, None, Result, Ok, Err}
 use Rattle.nvm_board.specs.Aims.{AimsOn}
 use Rattle.nvm_board.specs.Facts.{Facts, RisesAt, raised}
@@ -27,7 +28,8 @@ pub record Charges (secret : ℕ) (old new : Memory) : Type 0 where
   pub left : 0 < tries_left secret (pin_in old secret)
   pub charged : SetsPin (committed old) (owner secret) (charged_pin secret (pin_in old secret)) (committed new)
 
--- at most n device writes, none taken back, which bring a cut that is set nearer, and at most one comparison, of this secret
+-- at most n device writes, none taken back, which bring a cut that is set nearer,
+-- and at most one comparison, of this secret
 pub record ComparesOnce (n secret : ℕ) (old new : Facts) : Type 0 where
   pub writes : new.writes ≤ old.writes + n
   pub more : old.writes ≤ new.writes
@@ -82,10 +84,10 @@ pub record PaysForOne (secret : ℕ) (shown : List ℕ) (old new : Memory) : Typ
   pub paid : (tries_left secret (pin_in new secret) + 1 ≡ tries_left secret (pin_in old secret))
       ⊎ FillsByMatch secret shown old new
 
--- The PIN law, of the store before the charge and after the end, or where either stopped. The tries of what is shown stay, or
--- are one fewer, or all of them after a match; where a comparison was counted, it was paid for. The PIN changes but for these
--- tries by a match alone, its unblocking value never, its unblocking tries by no command that shows its value. No word apart
--- from the PIN changes, and its mark stays one.
+-- The PIN law, of the store before the charge and after the end, or where either stopped. The tries of what is shown
+-- stay, or are one fewer, or all of them after a match; where a comparison was counted, it was paid for. The PIN
+-- changes but for these tries by a match alone, its unblocking value never, its unblocking tries by no command that
+-- shows its value. No word apart from the PIN changes, and its mark stays one.
 pub record KeepsPinLaw (secret : ℕ) (shown : List ℕ) (old new : Memory) : Type 0 where
   pub tries : (tries_left secret (pin_in new secret) ≡ tries_left secret (pin_in old secret))
       ⊎ (tries_left secret (pin_in new secret) + 1 ≡ tries_left secret (pin_in old secret))

@@ -17,8 +17,8 @@ use crate::words::{address_of, tries_place};
 use std::marker::Model;
 use undo_journal::{Board, Store, StoreErr};
 
-/// The receipt of a charge: a try of this secret is gone. It is spent by `settle`, `change`, `reset_counter` or `set_enabled`,
-/// which alone compare; it can't be copied or dropped.
+/// The receipt of a charge: a try of this secret is gone. It is spent by `settle`, `change`, `reset_counter` or
+/// `set_enabled`, which alone compare; it can't be copied or dropped.
 pub struct Charged {
     pub(crate) secret: u8,
 }
@@ -73,12 +73,12 @@ pub fn is_enabled<B: Board>(store: &mut Store<B>, secret: u8) -> Result<bool, St
     Ok(mark == 1)
 }
 
-/// Takes a try of a secret away, lastingly, in one device write (`counted`). Nothing is compared, at no exit: the counts
-/// of comparisons and of matches stay (`store`).
+/// Takes a try of a secret away, lastingly, in one device write (`counted`). Nothing is compared, at no exit: the
+/// counts of comparisons and of matches stay (`store`).
 ///
 /// # Errors
-/// `Blocked` exactly where no try is left (`blocked`, `done`): then nothing is written, at no exit (`kept`). Else what the
-/// store answers: power was lost, or the device failed. The try may be gone then, and no receipt is given.
+/// `Blocked` exactly where no try is left (`blocked`, `done`): then nothing is written, at no exit (`kept`). Else what
+/// the store answers: power was lost, or the device failed. The try may be gone then, and no receipt is given.
 pub fn charge<B: Board>(store: &mut Store<B>, secret: u8) -> Result<Charged, PinErr>
     requires ready { IsReady store.old }
     requires secret { secret < SECRETS }

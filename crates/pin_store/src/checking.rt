@@ -51,8 +51,8 @@ fn is_mark<B: Board>(store: &mut Store<B>, pin: u8) -> Result<bool, StoreErr>
     Ok(mark <= 1)
 }
 
-/// Whether each PIN has a mark: 1 where it is enabled, 0 where it is disabled. A memory whose pages have no marks is not to be
-/// asked.
+/// Whether each PIN has a mark: 1 where it is enabled, 0 where it is disabled.
+/// A memory whose pages have no marks is not to be asked.
 ///
 /// # Errors
 /// What the store answers: power was lost, or the device failed.

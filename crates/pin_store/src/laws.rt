@@ -5,12 +5,12 @@ ghost use Rattle.undo_journal.specs.Spending.{WritesAtMost};
 ghost use Rattle.pin_store.specs.declared.layout.TheConstants.{FIRST_PIN_PAGE, PINS, PIN_MARK_WORD, PIN_WORDS, TRIES};
 ghost use Rattle.pin_store.specs.declared.layout.TheConstants.{UNBLOCKING_TRIES};
 ghost use Rattle.pin_store.specs.Pins.{Pin, HasFewTries, changed_pin, marked_pin, reset_pin, verified_pin};
-ghost use Rattle.pin_store.specs.Pages.{pins_of, unmarked_pins_of, AreEnabled, AreMarks, ArePinPages, KeepsPins, KeepsSecrets};
-ghost use Rattle.pin_store.specs.Pages.{SetsPin};
+ghost use Rattle.pin_store.specs.Pages.{pins_of, unmarked_pins_of, AreEnabled, AreMarks, ArePinPages};
+ghost use Rattle.pin_store.specs.Pages.{KeepsPins, KeepsSecrets, SetsPin};
 ghost use Rattle.pin_store.specs.Trials.{pin_in, Charges, ComparesOnce, KeepsPinLaw, SetsByMatch};
 
-/// The numbers of PINs: the pages of 8 PINs from page 65 on, of which 7 words are looked at, the last of them the mark; 3
-/// tries, 10 unblocking tries.
+/// The numbers of PINs: the pages of 8 PINs from page 65 on, of which 7 words are looked at, the last of them the mark;
+/// 3 tries, 10 unblocking tries.
 pub fn layout()
     ensures pages { (FIRST_PIN_PAGE ≡ 65) × (PINS ≡ 8) × (PIN_WORDS ≡ 7) × (PIN_MARK_WORD ≡ 6) }
     ensures tries { (TRIES ≡ 3) × (UNBLOCKING_TRIES ≡ 10) }
@@ -38,8 +38,8 @@ pub fn pins_marked_as_enabled_are_so()
     ensures marks { (m : List ℕ) → AreEnabled m → AreMarks m }
 {}
 
-/// Where one PIN is set, the list of PINs has it in the place of the old one, and no other PIN changes. The pages stay as they
-/// may be, if the new PIN has no more tries than there may be, and marks stay marks.
+/// Where one PIN is set, the list of PINs has it in the place of the old one, and no other PIN changes. The pages stay
+/// as they may be, if the new PIN has no more tries than there may be, and marks stay marks.
 #[tactic(auto, using(crate::specs::laws::AllPins::pins_set, crate::specs::laws::AllPins::pages_set, crate::specs::laws::AllPins::marks_set))]
 pub fn one_pin_is_set()
     ensures pins { (m after : List ℕ) (pin : ℕ) (now : Pin) → pin < PINS → SetsPin m pin now after
@@ -49,8 +49,8 @@ pub fn one_pin_is_set()
     ensures marks { (m after : List ℕ) (pin : ℕ) (now : Pin) → SetsPin m pin now after → AreMarks m → AreMarks after }
 {}
 
-/// The PIN law: a comparison costs a lasting try. It holds of the store before a charge and at each of its exits, and of the
-/// store before a charge and at each exit of the end that spends its receipt: what `charge`, `settle`, `change`,
+/// The PIN law: a comparison costs a lasting try. It holds of the store before a charge and at each of its exits, and
+/// of the store before a charge and at each exit of the end that spends its receipt: what `charge`, `settle`, `change`,
 /// `reset_counter` and `set_enabled` leave, by their clauses `any_exit`, `store` and `spends`, is all that it asks.
 pub fn a_comparison_costs_a_try()
     ensures charge { (secret : ℕ) (shown : List ℕ) (a b : Memory) → (committed b ≡ committed a) ⊎ Charges secret a b

@@ -1,5 +1,5 @@
-//! PINs over a store: a try is taken away, lastingly, before anything is compared. Only the receipt of a charge leads to
-//! a comparison, and each receipt is spent by one end.
+//! PINs over a store: a try is taken away, lastingly, before anything is compared. Only the receipt of a charge leads
+//! to a comparison, and each receipt is spent by one end.
 #![tactic(auto)]
 
 mod charging;

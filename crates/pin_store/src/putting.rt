@@ -40,8 +40,8 @@ fn set_value<B: Board>(txn: &mut Txn<'_, B>, secret: u8, new: &[u8; 8]) -> Resul
     txn.set_run(address_of(secret, 2), &[first, second])
 }
 
-/// Sets the tries of a PIN to 3, its unblocking tries to 10, and its value, within a transaction: words 0 to 3 of its page,
-/// in this order.
+/// Sets the tries of a PIN to 3, its unblocking tries to 10, and its value, within a transaction:
+/// words 0 to 3 of its page, in this order.
 fn set_all<B: Board>(txn: &mut Txn<'_, B>, secret: u8, new: &[u8; 8]) -> Result<(), StoreErr>
     requires ready { IsOpen (memory_of txn.old) }
     requires room { 4 ≤ room (memory_of txn.old) }
@@ -124,7 +124,8 @@ fn set_renewed<B: Board>(
         (renewed_pin renewal.entry (pin_at (current (memory_of txn.old)) (owner secret)))
         (current (memory_of txn.new))) }
     ensures store { SetsIn (renewal_sets renewal.entry) txn.old txn.new (result_err result) }
-    ensures counted { OnOk result (CountsCommit (renewal_writes renewal.entry) (memory_of txn.old) (memory_of txn.new)) }
+    ensures counted { OnOk result
+        (CountsCommit (renewal_writes renewal.entry) (memory_of txn.old) (memory_of txn.new)) }
     ensures runs { InRuns (renewal_runs renewal.entry) (memory_of txn.old) (memory_of txn.new) }
 {
     match renewal {

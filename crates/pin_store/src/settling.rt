@@ -49,8 +49,9 @@ pub fn settle<B: Board>(
     Ok(outcome)
 }
 
-/// CHANGE REFERENCE DATA: compares the shown bytes with the value of the charged PIN. If they are equal, its tries are 3
-/// again and the new value takes the place of the old one, in one transaction of five device writes; else nothing is written.
+/// CHANGE REFERENCE DATA: compares the shown bytes with the value of the charged PIN. If they are equal, its tries are
+/// 3 again and the new value takes the place of the old one, in one transaction of five device writes;
+/// else nothing is written.
 ///
 /// # Errors
 /// What the store answers: power was lost, or the device failed. The receipt is spent then, too.
@@ -106,9 +107,9 @@ pub fn reset_counter<B: Board>(
     renew(store, charged, shown, Renewal::ValueAndTries(new))
 }
 
-/// ENABLE and DISABLE VERIFICATION REQUIREMENT: compares the shown bytes with the value of the charged PIN. If they are equal,
-/// its tries are 3 again, and the PIN is enabled, or disabled, in one transaction of five device writes; else nothing is
-/// written.
+/// ENABLE and DISABLE VERIFICATION REQUIREMENT: compares the shown bytes with the value of the charged PIN. If they are
+/// equal, its tries are 3 again, and the PIN is enabled, or disabled, in one transaction of five device writes; else
+/// nothing is written.
 ///
 /// # Errors
 /// What the store answers: power was lost, or the device failed. The receipt is spent then, too.
@@ -135,8 +136,8 @@ pub fn set_enabled<B: Board>(
     renew(store, charged, shown, Renewal::Mark(enabled))
 }
 
-/// Compares the shown bytes with the kept ones of the charged secret. If they are equal, what the secret renews is set in one
-/// transaction; else nothing is written.
+/// Compares the shown bytes with the kept ones of the charged secret. If they are equal, what the secret renews is set
+/// in one transaction; else nothing is written.
 fn renew<B: Board>(
     store: &mut Store<B>,
     charged: Charged,

@@ -1,15 +1,16 @@
--- Laws of all PINs of a memory: where they stay, and where one of them is set. Crates above cite these, and open no page.
+-- Laws of all PINs of a memory: where they stay, and where one of them is set.
+-- Crates above cite these, and open no page.
 use Rattle.std.specs.Prelude.{if◌then◌else◌, map}
 use Rattle.std.specs.List.{range_with_len}
-use Rattle.std.proofs.Common.{◌≡◌, ◌≢◌, ◌⊎◌, ◌<◌, ◌≤◌, ◌+◌, ℕ, zero, suc, Bool, true, false, List, ◌∷◌, slice_set, refl, sym}
-use Rattle.std.proofs.Common.{◌∙◌, ap, ap₂, subst, inl, inr, arith}
+use Rattle.std.proofs.Common.{◌≡◌, ◌≢◌, ◌⊎◌, ◌<◌, ◌≤◌, ◌+◌, ℕ, zero, suc, Bool, true, false, List, ◌∷◌, slice_set}
+use Rattle.std.proofs.Common.{refl, sym, ◌∙◌, ap, ap₂, subst, inl, inr, arith}
 use Rattle.std.proofs.lemmas.Bool.{cases_order}
 use Rattle.nvm_board.specs.Facts.{address}
 use Rattle.pin_store.specs.declared.layout.TheConstants.{PINS, PIN_MARK_WORD, PIN_WORDS, TRIES, UNBLOCKING_TRIES}
 use Rattle.pin_store.specs.declared.putting.Renewal.{Renewal}
 use Rattle.pin_store.specs.declared.putting.Renewal.TheVariants.{Value, ValueAndTries, Mark}
-use Rattle.pin_store.specs.Pins.{Pin, HasFewTries, changed_pin, is_unblocking, owner, reset_pin, tries_left, verified_pin}
-use Rattle.pin_store.specs.Pins.{enabled_pin, marked_pin, with_tries}
+use Rattle.pin_store.specs.Pins.{Pin, HasFewTries, changed_pin, is_unblocking, owner, reset_pin}
+use Rattle.pin_store.specs.Pins.{tries_left, verified_pin, enabled_pin, marked_pin, with_tries}
 use Rattle.pin_store.specs.Renewals.{renewed_pin}
 use Rattle.pin_store.specs.Pages.{pin_page, pin_at, pins_of, unmarked_pins_of, IsPinPage, ArePinPages, AreEnabled}
 use Rattle.pin_store.specs.Pages.{AreMarks, IsMark, KeepsPins, KeepsSecrets, SetsPin}
@@ -67,7 +68,8 @@ pages_kept m after keeps pages = record {
 -- and their marks
 pub marks_kept : (m after : List ℕ) → KeepsPins m after → AreMarks m → AreMarks after
 marks_kept m after keeps marks = record {
-  each = λ pin small. subst (λ (w : ℕ). w ≤ 1) (sym (keeps.words pin PIN_MARK_WORD small (omega arith))) (marks.each pin small);
+  each = λ pin small. subst (λ (w : ℕ). w ≤ 1)
+      (sym (keeps.words pin PIN_MARK_WORD small (omega arith))) (marks.each pin small);
 }
 
 -- the words of the PINs stay, but for their marks: so do the PINs without them
@@ -93,7 +95,8 @@ secrets_pages m after keeps pages = record {
 pub enabled_unmarked : (m : List ℕ) → AreEnabled m → pins_of m ≡ unmarked_pins_of m
 unfolding pins_of unmarked_pins_of
 enabled_unmarked m enabled =
-    pins-same (λ pin. enabled_pin (pin_at m pin)) (pin_at m) 0 PINS (λ j low high. marked_enabled m j (enabled.each j high))
+    pins-same (λ pin. enabled_pin (pin_at m pin)) (pin_at m) 0 PINS
+    (λ j low high. marked_enabled m j (enabled.each j high))
 
 -- and each mark is one
 pub enabled_marks : (m : List ℕ) → AreEnabled m → AreMarks m
@@ -109,7 +112,8 @@ other_pin m after pin other now sets differ = pin_same m after other (λ place s
       | inl same ↦ absurd (differ same)
       | inr (inl before) ↦ let lt : address (pin_page other) place < address (pin_page pin) 0 =
           omega (arith, before, small) in inl lt
-      | inr (inr past) ↦ let le : address (pin_page pin) PIN_WORDS ≤ address (pin_page other) place = omega (arith, past) in
+      | inr (inr past) ↦
+          let le : address (pin_page pin) PIN_WORDS ≤ address (pin_page other) place = omega (arith, past) in
           inr le
     ]))
 
@@ -119,7 +123,8 @@ pub pins_set : (m after : List ℕ) (pin : ℕ) (now : Pin) → pin < PINS → S
 unfolding pins_of
 pins_set m after pin now small sets =
     let place : 0 + pin ≡ pin = omega arith in
-    pins-set (pin_at m) (pin_at after) now 0 PINS pin small (ap (pin_at after) place ∙ sets.becomes) (λ j low high other.
+    pins-set (pin_at m) (pin_at after) now 0 PINS pin small
+    (ap (pin_at after) place ∙ sets.becomes) (λ j low high other.
     let differ : j ≢ pin = omega (arith, other) in
     other_pin m after pin j now sets differ)
 

@@ -8,8 +8,8 @@ use Rattle.nvm_board.specs.Facts.{address, IsMemory}
 use Rattle.nvm_board.specs.Torn.{written}
 use Rattle.undo_journal.specs.laws.Torn.{length-written, written-elsewhere, written-inside}
 use Rattle.pin_store.specs.declared.layout.TheConstants.{PINS, PIN_MARK_WORD, PIN_WORDS, TRIES, UNBLOCKING_TRIES}
-use Rattle.pin_store.specs.Pins.{HasFewTries, owner, is_unblocking, kept, tries_left, with_tries, changed_pin, reset_pin, verified_pin}
-use Rattle.pin_store.specs.Pins.{enabled_pin, marked_pin}
+use Rattle.pin_store.specs.Pins.{HasFewTries, owner, is_unblocking, kept, tries_left, with_tries, changed_pin}
+use Rattle.pin_store.specs.Pins.{reset_pin, verified_pin, enabled_pin, marked_pin}
 use Rattle.pin_store.specs.Pages.{pin_page, pin_word, bytes_of_words, pin_at, IsPinPage}
 use Rattle.pin_store.specs.Pages.{IsApart, IsMark, SetsPin}
 
@@ -60,7 +60,8 @@ unfolding pin_at
 enabled_at m pin = refl
 
 -- a PIN that its mark enables
-pub marked_enabled : (m : List ℕ) (pin : ℕ) → pin_word m pin PIN_MARK_WORD ≡ 1 → pin_at m pin ≡ enabled_pin (pin_at m pin)
+pub marked_enabled : (m : List ℕ) (pin : ℕ) → pin_word m pin PIN_MARK_WORD ≡ 1
+    → pin_at m pin ≡ enabled_pin (pin_at m pin)
 unfolding pin_at
 marked_enabled m pin is =
     let enabled : (pin_word m pin PIN_MARK_WORD == 1) ≡ true = ap (λ (w : ℕ). w == 1) is in
@@ -168,7 +169,8 @@ unfolding pin_at
 kept-at true m pin = refl
 kept-at false m pin = refl
 
-pub kept_at : (m : List ℕ) (secret : ℕ) → bytes_of_words (pin_word m (owner secret) (if is_unblocking secret then 4 else 2))
+pub kept_at : (m : List ℕ) (secret : ℕ)
+    → bytes_of_words (pin_word m (owner secret) (if is_unblocking secret then 4 else 2))
     (pin_word m (owner secret) ((if is_unblocking secret then 4 else 2) + 1)) ≡ kept secret (pin_at m (owner secret))
 kept_at m secret = kept-at (is_unblocking secret) m (owner secret)
 
@@ -220,13 +222,16 @@ sets_value m new pin first second sized small bytes =
     let value : List ℕ = first ∷ second ∷ [] in
     let between : List ℕ = slice_set m (address (pin_page pin) 0) TRIES in
     let size : length between ≡ length m = length-set m (address (pin_page pin) 0) TRIES in
-    let tries = run-beside between value pin 2 0 (inl (lit< tt)) ∙ run-within m run pin 0 0 sized small (lit< tt) (lit< tt) in
-    let unblocking_tries = run-beside between value pin 2 1 (inl (lit< tt)) ∙ run-beside m run pin 0 1 (inr (lit< tt)) in
+    let tries = run-beside between value pin 2 0 (inl (lit< tt))
+    ∙ run-within m run pin 0 0 sized small (lit< tt) (lit< tt) in
+    let unblocking_tries = run-beside between value pin 2 1 (inl (lit< tt))
+    ∙ run-beside m run pin 0 1 (inr (lit< tt)) in
     let first_is = run-within between value pin 2 0 (memory_same m between size sized) small (lit< tt) (lit< tt) in
     let second_is = run-within between value pin 2 1 (memory_same m between size sized) small (lit< tt) (lit< tt) in
     let third = run-beside between value pin 2 4 (inr (lit< tt)) ∙ run-beside m run pin 0 4 (inr (lit< tt)) in
     let fourth = run-beside between value pin 2 5 (inr (lit< tt)) ∙ run-beside m run pin 0 5 (inr (lit< tt)) in
-    let mark = run-beside between value pin 2 PIN_MARK_WORD (inr (lit< tt)) ∙ run-beside m run pin 0 PIN_MARK_WORD (inr (lit< tt)) in
+    let mark = run-beside between value pin 2 PIN_MARK_WORD (inr (lit< tt))
+    ∙ run-beside m run pin 0 PIN_MARK_WORD (inr (lit< tt)) in
     let value_is = (λ i. bytes_of_words (first_is i) (second_is i)) ∙ bytes in
     record {
       size = length-written between value (address (pin_page pin) 2) ∙ size;
@@ -254,7 +259,8 @@ sets_mark m enabled pin sized small =
     let between : List ℕ = slice_set m (address (pin_page pin) 0) TRIES in
     let size : length between ≡ length m = length-set m (address (pin_page pin) 0) TRIES in
     let still : IsMemory between = memory_same m between size sized in
-    let before = λ (place : ℕ) (below : place < PIN_MARK_WORD). run-beside between marks pin PIN_MARK_WORD place (inl below) in
+    let before = λ (place : ℕ) (below : place < PIN_MARK_WORD). run-beside between marks pin
+    PIN_MARK_WORD place (inl below) in
     let tries = before 0 (lit< tt) ∙ run-within m run pin 0 0 sized small (lit< tt) (lit< tt) in
     let unblocking_tries = before 1 (lit< tt) ∙ run-beside m run pin 0 1 (inr (lit< tt)) in
     let first = before 2 (lit< tt) ∙ run-beside m run pin 0 2 (inr (lit< tt)) in
@@ -265,7 +271,8 @@ sets_mark m enabled pin sized small =
     let enabled_is = ap (λ (w : ℕ). w == 1) mark ∙ mark-tells enabled in
     record {
       size = length-written between marks (address (pin_page pin) PIN_MARK_WORD) ∙ size;
-      elsewhere = λ k apart. run-apart between marks pin PIN_MARK_WORD k (lit< tt) apart ∙ run-apart m run pin 0 k (lit< tt) apart;
+      elsewhere = λ k apart. run-apart between marks pin PIN_MARK_WORD k (lit< tt) apart
+          ∙ run-apart m run pin 0 k (lit< tt) apart;
       becomes = λ i. record {
         value = bytes_of_words (first i) (second i);
         tries = tries i;

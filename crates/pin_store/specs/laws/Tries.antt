@@ -1,6 +1,7 @@
 -- The PIN law: what a charge and the end after it leave, at whatever exit. A comparison costs a lasting try.
 use Rattle.std.specs.Prelude.{◌-◌, if◌then◌else◌}
-use Rattle.std.proofs.Common.{◌≡◌, ◌⊎◌, ◌<◌, ◌≤◌, ◌+◌, ℕ, Bool, true, false, List, slice_index, refl, sym, ◌∙◌, ap, subst, inl, inr, arith}
+use Rattle.std.proofs.Common.{◌≡◌, ◌⊎◌, ◌<◌, ◌≤◌, ◌+◌, ℕ, Bool, true, false, List, slice_index, refl, sym, ◌∙◌, ap}
+use Rattle.std.proofs.Common.{subst, inl, inr, arith}
 use Rattle.nvm_board.specs.Facts.{raised}
 use Rattle.undo_journal.specs.Memory.{Memory, committed}
 use Rattle.undo_journal.specs.Spending.{WritesAtMost}
@@ -42,7 +43,8 @@ one_fewer a c secret some charged =
     let left = ap (tries_left secret) charged ∙ charged_left secret (pin_in a secret) in omega (arith, left, some)
 
 -- a charge leaves the unblocking tries, but where these are charged
-other_tries : (secret : ℕ) (pin : Pin) → secret < PINS → (charged_pin secret pin).unblocking_tries ≡ pin.unblocking_tries
+other_tries : (secret : ℕ) (pin : Pin) → secret < PINS
+    → (charged_pin secret pin).unblocking_tries ≡ pin.unblocking_tries
 other_tries secret pin small = ap (λ (b : Bool). if b then tries_left secret pin - 1 else pin.unblocking_tries)
     (is_value secret small)
 
@@ -74,7 +76,8 @@ charge_keeps_law secret shown a b (inr charged) spends =
       mark = charged.charged.mark;
     }
 
--- what an end makes of a PIN: all tries of what was shown; of the rest, nothing that unblocks, but by RESET RETRY COUNTER
+-- what an end makes of a PIN: all tries of what was shown;
+-- of the rest, nothing that unblocks, but by RESET RETRY COUNTER
 pub record IsEnd (secret : ℕ) (pin now : Pin) : Type 0 where
   pub full : tries_left secret now ≡ full_tries secret
   pub unblocking : now.unblocking ≡ pin.unblocking

@@ -1,6 +1,7 @@
 use Rattle.pin_store.specs.Pins.{changed_pin, marked_pin, reset_pin, verified_pin}
 use Rattle.pin_store.specs.Trials.{pin_in}
-use Rattle.pin_store.specs.laws.Tries.{charge_keeps_law, end_keeps_law, verified_ends, changed_ends, marked_ends, reset_ends}
+use Rattle.pin_store.specs.laws.Tries.{charge_keeps_law, end_keeps_law, verified_ends, changed_ends}
+use Rattle.pin_store.specs.laws.Tries.{marked_ends, reset_ends}
 use Rattle.pin_store.proofs.laws.a_comparison_costs_a_try.Goals as goal
 
 pub returns-clause-charge : goal.returns-clause-charge

@@ -18,15 +18,17 @@ pub returns-clause-any_exit : goal.returns-clause-any_exit
 returns-clause-any_exit g c =
     let set = c.set_renewed-work.ensures in
     let last = c.store-1.given.1 (sym (set.store.sets.same_store ∙ c.begin-txn.ensures.same_store)) in
-    ends (λ m after. SetsPin m (owner c.args.secret) (renewed_pin c.args.renewal (pin_at m (owner c.args.secret))) after) _ c.set_renewed-work.result _ _ (memory_of c.set_renewed-work.new.txn) _ _ c.begin-txn.ensures.same last
+    ends (λ m after. SetsPin m (owner c.args.secret) (renewed_pin c.args.renewal (pin_at m (owner c.args.secret)))
+    after) _ c.set_renewed-work.result _ _ (memory_of c.set_renewed-work.new.txn) _ _ c.begin-txn.ensures.same last
     c.requires.ready set.store.sets.kept set.done c.end.ensures.any_exit
 
 pub returns-clause-done : goal.returns-clause-done
 returns-clause-done g c =
     let set = c.set_renewed-work.ensures in
     let last = c.store-1.given.1 (sym (set.store.sets.same_store ∙ c.begin-txn.ensures.same_store)) in
-    ends_done (λ m after. SetsPin m (owner c.args.secret) (renewed_pin c.args.renewal (pin_at m (owner c.args.secret))) after) c.set_renewed-work.result c.end.result _ _ (memory_of c.set_renewed-work.new.txn) _ _ c.begin-txn.ensures.same last
-    c.requires.ready set.done c.end.ensures.answered c.end.ensures.done
+    ends_done (λ m after. SetsPin m (owner c.args.secret) (renewed_pin c.args.renewal (pin_at m (owner c.args.secret)))
+    after) c.set_renewed-work.result c.end.result _ _ (memory_of c.set_renewed-work.new.txn) _ _
+    c.begin-txn.ensures.same last c.requires.ready set.done c.end.ensures.answered c.end.ensures.done
 
 pub returns-clause-by_gate : goal.returns-clause-by_gate
 returns-clause-by_gate g c =
@@ -39,7 +41,8 @@ pub returns-clause-store : goal.returns-clause-store
 returns-clause-store g c =
     let set = c.set_renewed-work.ensures in
     let last = c.store-1.given.1 (sym (set.store.sets.same_store ∙ c.begin-txn.ensures.same_store)) in
-    ends_answered (renewal_sets c.args.renewal) (renewal_runs c.args.renewal) (renewal_writes c.args.renewal) c.set_renewed-work.result c.end.result _ _ (memory_of c.set_renewed-work.new.txn) _ _ (omega arith)
+    ends_answered (renewal_sets c.args.renewal) (renewal_runs c.args.renewal) (renewal_writes c.args.renewal)
+    c.set_renewed-work.result c.end.result _ _ (memory_of c.set_renewed-work.new.txn) _ _ (omega arith)
     c.begin-txn.ensures.same last c.requires.ready set.store.sets.taken set.store.sets.reports set.runs set.store.tells
     c.end.ensures.store c.end.ensures.answered
 
@@ -47,5 +50,6 @@ pub returns-clause-counted : goal.returns-clause-counted
 returns-clause-counted g c =
     let set = c.set_renewed-work.ensures in
     let last = c.store-1.given.1 (sym (set.store.sets.same_store ∙ c.begin-txn.ensures.same_store)) in
-    ends_counted (renewal_writes c.args.renewal) c.set_renewed-work.result c.end.result _ _ (memory_of c.set_renewed-work.new.txn) _ _ c.begin-txn.ensures.same last
+    ends_counted (renewal_writes c.args.renewal)
+    c.set_renewed-work.result c.end.result _ _ (memory_of c.set_renewed-work.new.txn) _ _ c.begin-txn.ensures.same last
     c.requires.ready set.counted c.end.ensures.answered c.end.ensures.counted

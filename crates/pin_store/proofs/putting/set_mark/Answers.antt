@@ -46,10 +46,11 @@ returns-clause-runs g c =
     let page = pin_page (owner c.args.secret) in
     runs_then 1 1 2 _ _ _ (lit< tt)
     (runs_in_page page 0 c.address_of.result 1 _ _ c.address_of.ensures (omega arith) c.set_run.ensures.runs)
-    (runs_in_page page PIN_MARK_WORD c.address_of-2.result 1 _ _ c.address_of-2.ensures (omega arith) c.set_run-2.ensures.runs)
+    (runs_in_page page PIN_MARK_WORD c.address_of-2.result 1 _ _ c.address_of-2.ensures (omega arith)
+    c.set_run-2.ensures.runs)
 
 pub returns-clause-counted : goal.returns-clause-counted
 returns-clause-counted g c = on_then _ _ c.set_run-2.result
-    (λ waits idle. mark_counts (pin_page (owner c.args.secret)) c.from.result c.mark_of.result 0 _ _ _ c.address_of.result
-    c.address_of-2.result idle c.address_of.ensures c.address_of-2.ensures c.in_ok-set_run.ensures.waits waits)
-    c.set_run-2.ensures.waits
+    (λ waits idle. mark_counts (pin_page (owner c.args.secret)) c.from.result
+    c.mark_of.result 0 _ _ _ c.address_of.result c.address_of-2.result idle c.address_of.ensures c.address_of-2.ensures
+    c.in_ok-set_run.ensures.waits waits) c.set_run-2.ensures.waits

@@ -4,7 +4,7 @@ use Rattle.pin_store.specs.declared.errors.Outcome.{Outcome}
 use Rattle.pin_store.specs.Pins.{kept, owner}
 use Rattle.pin_store.specs.Pages.{pin_at}
 use Rattle.pin_store.specs.Trials.{pin_in, Compared}
-use Rattle.pin_store.proofs.Settled.{compare_ends, compared, compares_after, compares_none, rises_if}
+use Rattle.pin_store.proofs.Settled.{compare_ends, compared_by, compares_after, compares_none, rises_if}
 use Rattle.undo_journal.specs.laws.Told.{reads_handed, reads_on, reads_leave, leaves_handed}
 use Rattle.pin_store.proofs.settling.compare.Goals as goal
 
@@ -47,7 +47,8 @@ pub returns-in_err-right-clause-spends : goal.returns-in_err-right-clause-spends
 returns-in_err-right-clause-spends g c =
     compares_after c.args.charged c.charged.inside.secret _ _ c.compare.new.self c.charged.view_is
     (reads_then _ _ _ c.tries.ensures.store.only c.kept.ensures.store.only)
-    c.compare.ensures.writes c.compare.ensures.cut c.in_err-right.ensures.compared_err c.in_err-right.ensures.matched_err
+    c.compare.ensures.writes c.compare.ensures.cut c.in_err-right.ensures.compared_err
+    c.in_err-right.ensures.matched_err
 
 pub returns-clause-kept : goal.returns-clause-kept
 returns-clause-kept g c =
@@ -76,7 +77,7 @@ returns-clause-done g c =
     c.tries.ensures.store.only.keeps.committed_words in
     subst (λ (o : Outcome). Compared c.args.charged c.args.shown.now c.args.store.now c.compare.new.self o)
     (sym c.outcome_of.ensures)
-    (compared c.in_ok-right.right c.args.charged c.charged.inside.secret c.in_ok-left.left c.args.shown.now
+    (compared_by c.in_ok-right.right c.args.charged c.charged.inside.secret c.in_ok-left.left c.args.shown.now
     c.in_ok-kept.kept _ _ _ c.charged.view_is
     (reads_then _ _ _ c.tries.ensures.store.only c.kept.ensures.store.only) read c.in_ok-right.ensures.equal
     c.in_ok-left.ensures.left c.in_ok-right.ensures.compared c.in_ok-right.ensures.matched c.compare.ensures.writes

@@ -85,4 +85,5 @@ returns-in_default-clause-spends g c = compares_more (renewal_writes c.args.rene
 
 pub returns-in_err-put_renewed-clause-by_gate : goal.returns-in_err-put_renewed-clause-by_gate
 returns-in_err-put_renewed-clause-by_gate g c =
-    by_gate_after c.args.store.now c.compare.new.store c.put_renewed.new.store c.compare.ensures.kept c.put_renewed.ensures.by_gate
+    by_gate_after c.args.store.now c.compare.new.store c.put_renewed.new.store c.compare.ensures.kept
+    c.put_renewed.ensures.by_gate
