@@ -1,5 +1,6 @@
 -- The device writes of the migration's transaction, set by set.
-use Rattle.std.specs.Prelude.{◌≡◌, ◌==◌, ◌<◌, ◌≤◌, ◌+◌, ℕ, zero, suc, Bool, false, List, [], ◌∷◌, ◌++◌, length, if◌then◌else◌}
+use Rattle.std.specs.Prelude.{◌≡◌, ◌==◌, ◌<◌, ◌≤◌, ◌+◌, ℕ, zero, suc, Bool, false, List, [], ◌∷◌, ◌++◌}
+use Rattle.std.specs.Prelude.{length, if◌then◌else◌}
 use Rattle.std.proofs.Common.{refl, ◌∙◌, ap, arith, inl, inr, length-append}
 use Rattle.nvm_board.specs.Facts.{Facts, address}
 use Rattle.undo_journal.specs.declared.batch.TheConstants.{BATCH}
@@ -21,8 +22,8 @@ pub record NowWait (sets : List Waiting) (old new : Memory) : Type 0 where
   pub used : new.used ≡ old.used
   pub writes : new.facts.writes ≡ old.facts.writes
 
-pub now_wait : (set : Waiting) (old new : Memory) (sets : List Waiting) → Joins set old new → joined set old.waiting ≡ sets
-    → length sets < BATCH → NowWait sets old new
+pub now_wait : (set : Waiting) (old new : Memory) (sets : List Waiting) → Joins set old new
+    → joined set old.waiting ≡ sets → length sets < BATCH → NowWait sets old new
 now_wait set old new sets joins is few = elim joins [
   | inl waits ↦ record {
     waiting = waits.waiting ∙ is;
@@ -37,20 +38,22 @@ pub spends_none : (set : Waiting) (old new : Memory) (sets : List Waiting) → j
     → (length sets == BATCH) ≡ false → WritesAtMost (set_writes set old) old.facts new.facts
     → new.facts.writes ≤ old.facts.writes
 spends_none set old new sets is few spends =
-    let size : (length (joined set old.waiting) == BATCH) ≡ false = ap (λ (l : List Waiting). length l == BATCH) is ∙ few in
-    let none : set_writes set old ≡ 0 = ap (λ (b : Bool). if b then batch_writes (joined set old.waiting) else 0) size in
+    let size : (length (joined set old.waiting) == BATCH) ≡ false =
+    ap (λ (l : List Waiting). length l == BATCH) is ∙ few in
+    let none : set_writes set old ≡ 0 =
+    ap (λ (b : Bool). if b then batch_writes (joined set old.waiting) else 0) size in
     omega (arith, spends.writes, none)
 
 -- the mark of a PIN as a set, and those of the first i PINs
-abbrev pub mark : ℕ → Waiting
-mark pin = record { at = address (FIRST_PIN_PAGE + pin) PIN_MARK_WORD; word = 1 }
+abbrev pub mark_set : ℕ → Waiting
+mark_set pin = record { at = address (FIRST_PIN_PAGE + pin) PIN_MARK_WORD; word = 1 }
 
 abbrev pub marks : ℕ → List Waiting
 marks zero = []
-marks (suc i) = marks i ++ mark i ∷ []
+marks (suc i) = marks i ++ mark_set i ∷ []
 
 -- one mark more
-marks_joined : (i : ℕ) → i < 8 → joined (mark i) (marks i) ≡ marks (i + 1)
+marks_joined : (i : ℕ) → i < 8 → joined (mark_set i) (marks i) ≡ marks (i + 1)
 marks_joined zero lt = refl
 marks_joined (suc zero) lt = refl
 marks_joined (suc (suc zero)) lt = refl
@@ -63,7 +66,8 @@ marks_joined (suc (suc (suc (suc (suc (suc (suc (suc i)))))))) lt = absurd (omeg
 
 length-marks : (i : ℕ) → length (marks i) ≡ i
 length-marks zero = refl
-length-marks (suc i) = length-append (marks i) (mark i ∷ []) ∙ ap (λ (n : ℕ). n + 1) (length-marks i) ∙ (let e : i + 1 ≡ suc i = omega arith in e)
+length-marks (suc i) = length-append (marks i) (mark_set i ∷ []) ∙ ap (λ (n : ℕ). n + 1) (length-marks i)
+    ∙ (let e : i + 1 ≡ suc i = omega arith in e)
 
 -- What the marks of the first i PINs make of a store that was idle: they wait, and the eighth fills the batch.
 pub record AreMarked (i : ℕ) (first now : Memory) : Type 0 where
@@ -80,7 +84,7 @@ module _ (i at : ℕ) (first now after : Memory) (lt : i < 8) (is : at ≡ addre
     (so_far : AreMarked i first now) where
   all : joined (record { at = at; word = 1 }) now.waiting ≡ marks (i + 1)
   all = ap (λ (a : ℕ). joined (record { at = a; word = 1 }) now.waiting) is
-      ∙ ap (λ (l : List Waiting). joined (mark i) l) (so_far.waits lt).0 ∙ marks_joined i lt
+      ∙ ap (λ (l : List Waiting). joined (mark_set i) l) (so_far.waits lt).0 ∙ marks_joined i lt
 
   pub marked_more : Joins (record { at = at; word = 1 }) now after → AreMarked (i + 1) first after
   marked_more joins =
@@ -126,7 +130,8 @@ module _ (i at : ℕ) (first now after : Memory) (lt : i < 8) (is : at ≡ addre
       marks_cost (suc (suc (suc (suc (suc (suc (suc zero))))))) less = omega arith
       marks_cost (suc (suc (suc (suc (suc (suc (suc (suc k)))))))) less = absurd (omega (arith, less))
 
--- The sets of the header: of the first free block, if there are new ones, then of the page where the blocks end, and of the mark.
+-- The sets of the header: of the first free block, if there are new ones,
+-- then of the page where the blocks end, and of the mark.
 abbrev pub first_set : Waiting
 first_set = record { at = FREE_HEAD; word = OLD_END_PAGE }
 
@@ -167,13 +172,14 @@ wait_then sets more a b c first rest = record {
 module _ (end : ℕ) (old mid new : Memory) (first : FirstWaits old mid) where
   pub pages_wait : Joins (pages_set end) mid new → PagesWait end old new
   pages_wait joins = elim first [
-    | with_first w ↦ two_wait (wait_then _ _ old mid new w (now_wait (pages_set end) mid new (first_set ∷ pages_set end ∷ []) joins
-        (ap (λ (l : List Waiting). joined (pages_set end) l) w.waiting) (omega arith)))
+    | with_first w ↦ two_wait (wait_then _ _ old mid new w (now_wait (pages_set end) mid new (first_set ∷ pages_set end
+        ∷ []) joins (ap (λ (l : List Waiting). joined (pages_set end) l) w.waiting) (omega arith)))
     | without w ↦ one_waits (wait_then _ _ old mid new w (now_wait (pages_set end) mid new (pages_set end ∷ []) joins
         (ap (λ (l : List Waiting). joined (pages_set end) l) w.waiting) (omega arith)))
   ]
 
-  pub pages_spend : WritesAtMost (set_writes (pages_set end) mid) mid.facts new.facts → new.facts.writes ≤ old.facts.writes
+  pub pages_spend : WritesAtMost (set_writes (pages_set end) mid) mid.facts new.facts
+      → new.facts.writes ≤ old.facts.writes
   pages_spend spends = elim first [
     | with_first w ↦
         let none = spends_none (pages_set end) mid new (first_set ∷ pages_set end ∷ [])

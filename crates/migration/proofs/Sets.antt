@@ -20,13 +20,16 @@ use Rattle.pin_store.specs.declared.layout.TheConstants.{PIN_MARK_WORD}
 use Rattle.migration.specs.Migrating.{MarksPins, RenamesHeader, IsRenamed, KeepsCard, IsNew, IsMigrated, Migrates}
 
 pub marks_none : (m : List ℕ) → MarksPins 0 m m
-marks_none m = record { size = refl; marked = λ pin lt. absurd (omega (arith, lt)); others = λ page place small apart. refl }
+marks_none m =
+    record { size = refl; marked = λ pin lt. absurd (omega (arith, lt)); others = λ page place small apart. refl }
 
 -- one mark more
-pub marks_more : (m now after : List ℕ) (i at : ℕ) → IsMemory m → i < 8 → at ≡ address (FIRST_PIN_PAGE + i) PIN_MARK_WORD
+pub marks_more : (m now after : List ℕ) (i at : ℕ)
+    → IsMemory m → i < 8 → at ≡ address (FIRST_PIN_PAGE + i) PIN_MARK_WORD
     → MarksPins i m now → after ≡ slice_set now at 1 → MarksPins (i + 1) m after
 marks_more m now after i at sized lt place before done =
-    let set : after ≡ slice_set now (address (FIRST_PIN_PAGE + i) PIN_MARK_WORD) 1 = done ∙ ap (λ (k : ℕ). slice_set now k 1) place in
+    let set : after ≡ slice_set now (address (FIRST_PIN_PAGE + i) PIN_MARK_WORD) 1 = done
+    ∙ ap (λ (k : ℕ). slice_set now k 1) place in
     let family : List ℕ → Type 0 = λ l. MarksPins (i + 1) m l in
     subst family (sym set) (record {
       size = length-set now (address (FIRST_PIN_PAGE + i) PIN_MARK_WORD) 1 ∙ before.size;
@@ -34,12 +37,13 @@ marks_more m now after i at sized lt place before done =
         | inl same ↦
             let inside : address (FIRST_PIN_PAGE + i) PIN_MARK_WORD < length now =
             let long = least_words m sized in let size = before.size in omega (arith, long, size, lt) in
-            ap (λ (k : ℕ). word (slice_set now (address (FIRST_PIN_PAGE + i) PIN_MARK_WORD) 1) (FIRST_PIN_PAGE + k) PIN_MARK_WORD) same.1
+            ap (λ (k : ℕ). word (slice_set now (address (FIRST_PIN_PAGE + i) PIN_MARK_WORD) 1)
+            (FIRST_PIN_PAGE + k) PIN_MARK_WORD) same.1
             ∙ word-set_same now (FIRST_PIN_PAGE + i) PIN_MARK_WORD 1 inside
         | inr other ↦
             let o = other.1 in
-            word-set_other now (FIRST_PIN_PAGE + i) PIN_MARK_WORD (FIRST_PIN_PAGE + pin) PIN_MARK_WORD 1 (omega arith) (omega arith)
-            (inl (λ is. let z : ⊥ = omega (arith, is, o) in z))
+            word-set_other now (FIRST_PIN_PAGE + i) PIN_MARK_WORD (FIRST_PIN_PAGE + pin) PIN_MARK_WORD 1 (omega arith)
+            (omega arith) (inl (λ is. let z : ⊥ = omega (arith, is, o) in z))
             ∙ before.marked pin (omega (arith, below, o))
       ];
       others = λ page place small apart.
@@ -54,7 +58,8 @@ marks_more m now after i at sized lt place before done =
 
 -- the header, after its two last sets; `mid` has the first free block set, or not
 pub header_set : (end : ℕ) (m mid after : List ℕ) → IsMemory m
-    → ((end ≢ OLD_END_PAGE) × (mid ≡ slice_set m (address HEADER_PAGE FREE_HEAD_WORD) OLD_END_PAGE)) ⊎ ((end ≡ OLD_END_PAGE) × (mid ≡ m))
+    → ((end ≢ OLD_END_PAGE) × (mid ≡ slice_set m (address HEADER_PAGE FREE_HEAD_WORD) OLD_END_PAGE))
+    ⊎ ((end ≡ OLD_END_PAGE) × (mid ≡ m))
     → after ≡ slice_set (slice_set mid (address HEADER_PAGE PAGES_WORD) end) (address HEADER_PAGE MARK_WORD) MARK
     → RenamesHeader end m after
 header_set end m mid after sized first done =
@@ -108,7 +113,8 @@ header_set end m mid after sized first done =
     })
 
 -- the marks of the PINs, and then the header
-pub both_renamed : (end : ℕ) (m mid after : List ℕ) → MarksPins 8 m mid → RenamesHeader end mid after → IsRenamed end m after
+pub both_renamed : (end : ℕ) (m mid after : List ℕ) → MarksPins 8 m mid
+    → RenamesHeader end mid after → IsRenamed end m after
 both_renamed end m mid after marks header = record {
   renames = record {
     size = header.size ∙ marks.size;
@@ -125,7 +131,8 @@ both_renamed end m mid after marks header = record {
         header.others page place small (inl (omega (arith, from)))
         ∙ marks.others page place small (inr (inr (omega (arith, from))));
   };
-  marked = λ pin lt. header.others (FIRST_PIN_PAGE + pin) PIN_MARK_WORD (omega arith) (inl (omega arith)) ∙ marks.marked pin lt;
+  marked = λ pin lt. header.others (FIRST_PIN_PAGE + pin) PIN_MARK_WORD (omega arith) (inl (omega arith))
+      ∙ marks.marked pin lt;
   pins = record {
     words = λ pin place lt small.
         header.others (FIRST_PIN_PAGE + pin) place (omega (arith, small)) (inl (omega arith))

@@ -10,7 +10,8 @@ pub record FillsBatch (old new : Memory) : Type 0 where
   pub used : new.used ≡ 8
   pub writes : new.facts.writes ≡ old.facts.writes + 10
 
--- The set of the first free block joins those that wait, where there are blocks from page 1,024 on; else nothing is set.
+-- The set of the first free block joins those that wait, where there are blocks from page 1,024 on;
+-- else nothing is set.
 abbrev pub JoinsFirst : ℕ → Memory → Memory → Type 0
 JoinsFirst end old new = ((end ≢ OLD_END_PAGE) × Joins (record { at = FREE_HEAD; word = OLD_END_PAGE }) old new)
     ⊎ ((end ≡ OLD_END_PAGE) × (new ≡ old))

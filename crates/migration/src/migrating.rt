@@ -3,7 +3,8 @@ ghost use Rattle.std.specs.Prelude.{◌≡◌, ◌≢◌, ◌⊎◌, ◌+◌, �
 ghost use Rattle.std.specs.Result.{result_err};
 ghost use Rattle.nvm_board.specs.Facts.{pages_of};
 ghost use Rattle.undo_journal.specs.Commits.{CommitsByGate};
-ghost use Rattle.undo_journal.specs.Memory.{committed, commit_writes, current, room, CountsCommit, IsIdle, IsReady, IsOpen};
+ghost use Rattle.undo_journal.specs.Memory.{committed, commit_writes, current, room, CountsCommit, IsIdle};
+ghost use Rattle.undo_journal.specs.Memory.{IsReady, IsOpen};
 ghost use Rattle.undo_journal.specs.Lent.{memory_of};
 ghost use Rattle.undo_journal.specs.Calls.{Changes, SetsIn};
 ghost use Rattle.block_chain.specs.Words.{word};
@@ -90,7 +91,8 @@ fn rename<B: Board>(txn: &mut Txn<'_, B>, end: u16) -> Result<(), StoreErr>
 /// Renames the memory in one transaction.
 fn become_new<B: Board>(store: &mut Store<B>, end: u16) -> Result<(), StoreErr>
     requires ready { IsReady store.old }
-    ensures any_exit { (committed store.new ≡ committed store.old) ⊎ IsRenamed end (committed store.old) (committed store.new) }
+    ensures any_exit { (committed store.new ≡ committed store.old)
+        ⊎ IsRenamed end (committed store.old) (committed store.new) }
     ensures done { OnOk result (IsRenamed end (committed store.old) (committed store.new)) }
     ensures store { Changes RENAME_WRITES store.old store.new (result_err result) }
     ensures counted { OnOk result (store.new.facts.writes ≡ store.old.facts.writes + RENAME_WRITES) }
@@ -102,8 +104,8 @@ fn become_new<B: Board>(store: &mut Store<B>, end: u16) -> Result<(), StoreErr>
     txn.end(work)
 }
 
-/// Makes a memory of format 1 one of format 2 that has all pages of its board. At every exit it stands for the same files,
-/// PINs and state, in format 1 or in format 2: in this one only after its last write.
+/// Makes a memory of format 1 one of format 2 that has all pages of its board. At every exit it stands for the same
+/// files, PINs and state, in format 1 or in format 2: in this one only after its last write.
 ///
 /// # Errors
 /// What the store answers: power was lost, or the device failed.
@@ -113,7 +115,8 @@ pub fn migrate<B: Board>(store: &mut Store<B>) -> Result<(), StoreErr>
     requires old { word (committed store.old) HEADER_PAGE MARK_WORD ≢ MARK }
     ensures any_exit { Migrates (committed store.old) (committed store.new) }
     ensures done { OnOk result (IsMigrated (committed store.old) (committed store.new)) }
-    ensures store { Changes (migration_writes (pages_of (committed store.old))) store.old store.new (result_err result) }
+    ensures store { Changes (migration_writes (pages_of (committed store.old))) store.old
+        store.new (result_err result) }
     ensures counted { OnOk result (store.new.facts.writes
         ≡ store.old.facts.writes + migration_writes (pages_of (committed store.old))) }
     ensures last { (word (committed store.new) HEADER_PAGE MARK_WORD ≡ word (committed store.old) HEADER_PAGE MARK_WORD)

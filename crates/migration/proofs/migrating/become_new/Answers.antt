@@ -24,8 +24,9 @@ pub returns-clause-done : goal.returns-clause-done
 returns-clause-done g c =
     let set = c.rename-work.ensures in
     let last = c.store-1.given.1 (sym (set.store.sets.same_store ∙ c.begin-txn.ensures.same_store)) in
-    ends_done (λ m after. IsRenamed c.args.end m after) c.rename-work.result c.end.result _ _ (memory_of c.rename-work.new.txn)
-    _ _ c.begin-txn.ensures.same last c.requires.ready set.done c.end.ensures.answered c.end.ensures.done
+    ends_done (λ m after. IsRenamed c.args.end m after) c.rename-work.result
+    c.end.result _ _ (memory_of c.rename-work.new.txn) _ _ c.begin-txn.ensures.same last c.requires.ready set.done
+    c.end.ensures.answered c.end.ensures.done
 
 pub returns-clause-counted : goal.returns-clause-counted
 returns-clause-counted g c =

@@ -10,7 +10,8 @@ use Rattle.migration.proofs.migrating.mark_pins.Goals as goal
 pub returns-in_err-set-clause-store : goal.returns-in_err-set-clause-store
 returns-in_err-set-clause-store g c =
     sets_in_handed _ _ _ _ _ c.from_residual.ensures.1
-    (sets_in_on _ 1 8 _ _ _ _ (omega (arith, c.loop-pin-test.true)) c.loop-pin.invariant.sets c.in_err-set.ensures.store)
+    (sets_in_on _ 1 8 _ _ _ _ (omega (arith, c.loop-pin-test.true)) c.loop-pin.invariant.sets
+    c.in_err-set.ensures.store)
 
 pub loop-pin-preserved : goal.loop-pin-preserved
 loop-pin-preserved g c =
@@ -29,7 +30,8 @@ loop-pin-preserved g c =
 pub returns-in_err-set-clause-spends : goal.returns-in_err-set-clause-spends
 returns-in_err-set-clause-spends g c = λ idle.
     marks_spend c.loop-pin.pin _ (memory_of c.args.txn.now) (memory_of c.loop-pin.txn)
-    (memory_of c.set.new.self) (omega (arith, c.loop-pin-test.true)) refl (c.loop-pin.invariant.waits idle) c.in_err-set.ensures.spends
+    (memory_of c.set.new.self) (omega (arith, c.loop-pin-test.true)) refl (c.loop-pin.invariant.waits idle)
+    c.in_err-set.ensures.spends
 
 pub returns-clause-fills : goal.returns-clause-fills
 returns-clause-fills g c = λ idle.
@@ -37,5 +39,6 @@ returns-clause-fills g c = λ idle.
 
 pub returns-clause-spends : goal.returns-clause-spends
 returns-clause-spends g c = λ idle.
-    let fills = (c.loop-pin.invariant.waits idle).full (omega (arith, c.loop-pin.invariant.within, c.loop-pin-test.false)) in
+    let fills =
+    (c.loop-pin.invariant.waits idle).full (omega (arith, c.loop-pin.invariant.within, c.loop-pin-test.false)) in
     omega (arith, fills.writes)

@@ -8,7 +8,8 @@ use Rattle.migration.proofs.migrating.rename.Goals as goal
 
 pub returns-in_err-mark_pins-clause-store : goal.returns-in_err-mark_pins-clause-store
 returns-in_err-mark_pins-clause-store g c =
-    sets_in_handed _ _ _ _ _ c.from_residual.ensures.1 (sets_in_within 8 11 _ _ _ (omega arith) c.in_err-mark_pins.ensures.store)
+    sets_in_handed _ _ _ _ _ c.from_residual.ensures.1
+    (sets_in_within 8 11 _ _ _ (omega arith) c.in_err-mark_pins.ensures.store)
 
 pub returns-clause-store : goal.returns-clause-store
 returns-clause-store g c =

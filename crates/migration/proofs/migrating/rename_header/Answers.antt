@@ -14,7 +14,8 @@ use Rattle.migration.proofs.migrating.rename_header.Goals as goal
 
 pub returns-in_err-set_first-clause-store : goal.returns-in_err-set_first-clause-store
 returns-in_err-set_first-clause-store g c =
-    sets_in_handed _ _ _ _ _ c.from_residual.ensures.1 (sets_in_within 1 3 _ _ _ (omega arith) c.in_err-set_first.ensures.store)
+    sets_in_handed _ _ _ _ _ c.from_residual.ensures.1
+    (sets_in_within 1 3 _ _ _ (omega arith) c.in_err-set_first.ensures.store)
 
 pub returns-in_err-set-clause-store : goal.returns-in_err-set-clause-store
 returns-in_err-set-clause-store g c =
@@ -58,4 +59,5 @@ returns-clause-spends g c = λ none.
     let paged = memory_of c.set.new.self in
     header_spends c.from.result (memory_of c.args.txn.now) paged (memory_of c.set-2.new.self)
     (pages_wait c.from.result (memory_of c.args.txn.now) first paged
-    (first_waits c.args.end _ first none c.in_ok-set_first.ensures.joins) c.in_ok-set.ensures.joins) c.set-2.ensures.spends
+    (first_waits c.args.end _ first none c.in_ok-set_first.ensures.joins)
+    c.in_ok-set.ensures.joins) c.set-2.ensures.spends
