@@ -143,8 +143,8 @@ added_all old sent now n carry is all fits = elim (eqb_tells carry 0) [
       omega (arith, sums, no, e)
   | inr some ↦
       let one : carry ≡ 1 = (let small = is.carry_small in let s = some.1 in omega (arith, small, s)) in
-      let p : carry * 256 ^ n ≡ 256 ^ length old = ap₂ (λ (k l : ℕ). k * 256 ^ l) one all ∙ omega_one (256 ^ length
-      old) in
+      let p : carry * 256 ^ n ≡ 256 ^ length old = ap₂ (λ (k l : ℕ). k * 256 ^ l) one all
+      ∙ omega_one (256 ^ length old) in
       let e : (if not (carry == 0) then 256 ^ length old else 0) ≡ 256 ^ length old = ap (λ (k : ℕ). if not (k == 0)
       then 256 ^ length old else 0) one in
       omega (arith, sums, p, e)

@@ -15,7 +15,8 @@ use Rattle.ef_body.specs.Bodies.{counts_word, number_told, start_told, linear_re
 use Rattle.ef_body.specs.Bodies.{IsCyclic}
 use Rattle.ef_body.specs.Changes.{LinearBecomes, CyclicBecomes, RecordsBecome, PutsRecord}
 use Rattle.ef_body.specs.laws.Lists.{length-in_order, slot_before, slot_before-small}
-use Rattle.ef_body.specs.laws.Lists.{newest_first-front, newest_first-put, newest_first-back, length-newest_first, at-newest_first, in_order-ring}
+use Rattle.ef_body.specs.laws.Lists.{newest_first-front, newest_first-put, newest_first-back, length-newest_first}
+use Rattle.ef_body.specs.laws.Lists.{at-newest_first, in_order-ring}
 use Rattle.ef_body.specs.Bodies.{ring_of}
 use Rattle.ef_body.specs.laws.Slots.{slot-within, slot-take, length-slot}
 use Rattle.std.proofs.Math.Nat.{mod-lt}
@@ -149,7 +150,8 @@ ring_put m after ring number bytes sized is long some most slot offset lies at o
     let few = is.slots.few in
     let small : ring.start < 0x10000 = (let start = is.start in omega (arith, few, start)) in
     let blocks = chain_kept m after ring.chain offset bytes sized is.slots.chain over in
-    let told = before_kept m after ring.chain offset bytes sized is.slots.chain over ring.told_at is.slots.entry ∙ is.told in
+    let told =
+    before_kept m after ring.chain offset bytes sized is.slots.chain over ring.told_at is.slots.entry ∙ is.told in
     let first = told_start after ring.told_at ring.records ring.start told small in
     let count = told_number after ring.told_at ring.records ring.start told small in
     let place : ring.start + number - 1 ≡ ring.start + (number - 1) = omega (arith, some) in

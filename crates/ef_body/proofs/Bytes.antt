@@ -38,10 +38,10 @@ chain_whole m body sized is =
     omega (arith, all, fits)
 
 -- as many bytes of a body as are asked for, or all that are left
-pub taken : (m : List ℕ) (body : Transparent) → IsMemory m → IsTransparent m body → (offset most count : ℕ)
+pub taken_within : (m : List ℕ) (body : Transparent) → IsMemory m → IsTransparent m body → (offset most count : ℕ)
     → offset < body.size → count ≡ min most (body.size - offset)
     → take count (drop offset (chain_bytes m body.chain)) ≡ take most (drop offset (transparent_bytes m body))
-taken m body sized is_body offset most count inside is =
+taken_within m body sized is_body offset most count inside is =
     let bytes = chain_bytes m body.chain in
     let size = body.size in
     let rest = size - offset in

@@ -1,6 +1,7 @@
 -- Searching: the numbers that are looked at, and the records that hold the text.
 use Rattle.std.proofs.Common.{refl, sym, ◌∙◌, ap, arith}
-use Rattle.std.proofs.lemmas.List.{get_or-reverse, length-reverse, take-append-drop, take-append-le, take_all, take_more}
+use Rattle.std.proofs.lemmas.List.{get_or-reverse, length-reverse, take-append-drop, take-append-le}
+use Rattle.std.proofs.lemmas.List.{take_all, take_more}
 use Rattle.std.proofs.lemmas.List.Elements.{filter-append}
 use Rattle.std.proofs.lemmas.List.Folds.{list_any_at, list_any_none}
 use Rattle.std.proofs.lemmas.List.FromFn.{get_or-range_with_len, length-range_with_len}
@@ -95,8 +96,10 @@ filter-some test numbers step =
     let back = filter test (drop step numbers) in
     let all : length front ≤ length front = omega arith in
     let whole : filter test numbers ≡ front ++ back =
-    ap (filter test) (sym (take-append-drop step numbers)) ∙ filter-append test (take step numbers) (drop step numbers) in
-    sym (ap (take (length front)) whole ∙ take-append-le (length front) front back all ∙ take_all (length front) front all)
+    ap (filter test) (sym (take-append-drop step numbers))
+    ∙ filter-append test (take step numbers) (drop step numbers) in
+    sym (ap (take (length front)) whole ∙ take-append-le (length front) front back all
+    ∙ take_all (length front) front all)
 
 -- the numbers found so far, as an error leaves the buffer
 pub found_some : (direction : Direction) (first last step : ℕ) (text : List ℕ) (records : List (List ℕ))

@@ -45,7 +45,8 @@ unraised_unfound size records sent status is =
     by_test (has_record records 1)
     (if nat_le (256 ^ size) (raised_number records sent) then Some MAXIMUM_REACHED else None) is
   where
-    by_test : (h : Bool) (raised : Option Sw) → (let missing : Option Sw = if h then None else Some RECORD_NOT_FOUND in missing) ≡ Some status
+    by_test : (h : Bool) (raised : Option Sw)
+        → (let missing : Option Sw = if h then None else Some RECORD_NOT_FOUND in missing) ≡ Some status
         → (let status : Option Sw = if h then raised else Some RECORD_NOT_FOUND in status) ≡ Some status
     by_test true raised is = cc
     by_test false raised is = is

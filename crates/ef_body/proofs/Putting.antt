@@ -68,7 +68,8 @@ module _ (m mid : List ℕ) (c : Chain) (offset : ℕ) (bytes : List ℕ) (sized
 
     bytes_kept : bytes_of after (chain_of m c) ≡ bytes_of mid (chain_of m c)
     bytes_kept =
-        let blocks = blocks_same m mid (chain_of m c) over.only.size (leads_blocks m c.first 0 (chain_of m c) is.leads) in
+        let blocks =
+        blocks_same m mid (chain_of m c) over.only.size (leads_blocks m c.first 0 (chain_of m c) is.leads) in
         bytes_same mid after (chain_of m c) mid_sized (length-set mid told_at told) blocks (λ j lt.
         let within : j / BLOCK_WORDS < length (chain_of m c) = omega (arith, lt) in
         in_block (slice_index (chain_of m c) (j / BLOCK_WORDS)) (1 + j % BLOCK_WORDS)

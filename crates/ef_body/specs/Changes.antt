@@ -65,7 +65,8 @@ Increases m body sent after =
     CyclicBecomes m body (front (length records) (spelled body.record_length (raised_number records sent)) records)
     after
 
--- Device writes at most of an UPDATE BINARY of so many bytes: they touch at most ceil(count / 4) + 1 words; for each eight of these
--- one write of pairs, one of the gate and one of words; one write more at each of at most ceil(count / 60) ends of a block; one commit.
+-- Device writes at most of an UPDATE BINARY of so many bytes: they touch at most ceil(count / 4) + 1 words; for each
+-- eight of these one write of pairs, one of the gate and one of words; one write more at each of at most ceil(count /
+-- 60) ends of a block; one commit.
 abbrev pub update_writes : ℕ → ℕ
 update_writes count = 3 * (((count + 3) / 4 + 1 + 7) / 8) + (count + 59) / 60 + 1

@@ -80,8 +80,8 @@ impl Cyclic {
         ensures bytes { OnOk result (bytes.new.items ≡ record_of (cyclic_records (committed store.old) self) number) }
         ensures any_exit { AppendsSome [] (record_of (cyclic_records (committed store.old) self) number)
             bytes.new.items }
-        ensures refusal { Decides (missing_record (cyclic_records (committed store.old) self) number) (result_err
-            result) }
+        ensures refusal { Decides (missing_record (cyclic_records (committed store.old) self) number)
+            (result_err result) }
         ensures refused { IfRefused (result_err result) ((bytes.new.items ≡ []) × (store.new ≡ store.old)) }
         ensures store { Reads store.old store.new (failure (result_err result)) }
     {
@@ -102,8 +102,9 @@ impl Cyclic {
         ensures any_exit { (committed store.new ≡ committed store.old)
             ⊎ CyclicBecomes (committed store.old) self (front (length (cyclic_records (committed store.old) self))
             bytes.now (cyclic_records (committed store.old) self)) (committed store.new) }
-        ensures done { OnOk result (CyclicBecomes (committed store.old) self (front (length (cyclic_records (committed
-            store.old) self)) bytes.now (cyclic_records (committed store.old) self)) (committed store.new)) }
+        ensures done { OnOk result
+            (CyclicBecomes (committed store.old) self (front (length (cyclic_records (committed store.old) self))
+            bytes.now (cyclic_records (committed store.old) self)) (committed store.new)) }
         ensures refusal { Decides (missing_record (cyclic_records (committed store.old) self) 1) (result_err result) }
         ensures refused { IfRefused (result_err result) (store.new ≡ store.old) }
         ensures by_gate { CommitsByGate store.old store.new }
@@ -123,8 +124,8 @@ impl Cyclic {
         requires body { IsCyclic (committed store.old) self }
         requires size { length bytes.now ≡ self.record_length }
         ensures any_exit { (committed store.new ≡ committed store.old)
-            ⊎ CyclicBecomes (committed store.old) self (front self.capacity bytes.now (cyclic_records (committed
-            store.old) self)) (committed store.new) }
+            ⊎ CyclicBecomes (committed store.old) self
+            (front self.capacity bytes.now (cyclic_records (committed store.old) self)) (committed store.new) }
         ensures done { OnOk result (CyclicBecomes (committed store.old) self (front self.capacity bytes.now
             (cyclic_records (committed store.old) self)) (committed store.new)) }
         ensures refusal { Decides None (result_err result) }
@@ -143,8 +144,8 @@ impl Cyclic {
         requires body { IsCyclic (committed store.old) self }
         requires size { length bytes.now ≡ self.record_length }
         ensures any_exit { (committed store.new ≡ committed store.old)
-            ⊎ CyclicBecomes (committed store.old) self (front self.capacity bytes.now (cyclic_records (committed
-            store.old) self)) (committed store.new) }
+            ⊎ CyclicBecomes (committed store.old) self
+            (front self.capacity bytes.now (cyclic_records (committed store.old) self)) (committed store.new) }
         ensures done { OnOk result (CyclicBecomes (committed store.old) self (front self.capacity bytes.now
             (cyclic_records (committed store.old) self)) (committed store.new)) }
         ensures by_gate { CommitsByGate store.old store.new }
@@ -184,8 +185,8 @@ impl Cyclic {
         ensures buffer { AppendsSome [] (record_of (cyclic_records (committed store.old) self) 1) bytes.new.items
             ⊎ (bytes.new.items ≡ spelled self.record_length (raised_number (cyclic_records (committed store.old) self)
             sent.now)) }
-        ensures refusal { DecidesUnlessFailed (unraised self.record_length (cyclic_records (committed store.old) self) sent.now)
-            (result_err result) }
+        ensures refusal { DecidesUnlessFailed (unraised self.record_length
+            (cyclic_records (committed store.old) self) sent.now) (result_err result) }
         ensures store { Reads store.old store.new (failure (result_err result)) }
     {
         self.raise(store, sent, bytes)?;
@@ -233,7 +234,8 @@ impl Cyclic {
     ///
     /// # Errors
     /// 6A83 where there is no record, 9850 where the sum doesn't fit a record: then the buffer is empty. What the store
-    /// answers: then the records are as before, or with the new one, and the buffer holds it, or a first part of record 1.
+    /// answers: then the records are as before, or with the new one, and the buffer holds it,
+    /// or a first part of record 1.
     pub fn increase<B: Board, const N: usize>(
         self,
         store: &mut Store<B>,
@@ -253,8 +255,8 @@ impl Cyclic {
         ensures buffer { AppendsSome [] (record_of (cyclic_records (committed store.old) self) 1) bytes.new.items
             ⊎ (bytes.new.items ≡ spelled self.record_length (raised_number (cyclic_records (committed store.old) self)
             sent.now)) }
-        ensures refusal { DecidesUnlessFailed (unraised self.record_length (cyclic_records (committed store.old) self) sent.now)
-            (result_err result) }
+        ensures refusal { DecidesUnlessFailed (unraised self.record_length
+            (cyclic_records (committed store.old) self) sent.now) (result_err result) }
         ensures refused { (status : Sw) → unraised self.record_length (cyclic_records (committed store.old) self)
             sent.now
             ≡ Some status → OnlyReads store.old store.new }
@@ -287,8 +289,8 @@ impl Cyclic {
             ≡ found direction first text.now (cyclic_records (committed store.old) self)) }
         ensures any_exit { AppendsSome [] (found direction first text.now (cyclic_records (committed store.old) self))
             numbers.new.items }
-        ensures refusal { Decides (missing_record (cyclic_records (committed store.old) self) first) (result_err
-            result) }
+        ensures refusal { Decides (missing_record (cyclic_records (committed store.old) self) first)
+            (result_err result) }
         ensures refused { IfRefused (result_err result) ((numbers.new.items ≡ []) × (store.new ≡ store.old)) }
         ensures store { Reads store.old store.new (failure (result_err result)) }
     {

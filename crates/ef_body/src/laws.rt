@@ -12,8 +12,8 @@ pub fn numbers()
     ensures record_writes { RECORD_WRITES ≡ 34 }
 {}
 
-/// The device writes of an UPDATE BINARY, which its offset and the number of its bytes say exactly, are no more than its bounds:
-/// that by the number of bytes alone, and 33 of up to 255 bytes.
+/// The device writes of an UPDATE BINARY, which its offset and the number of its bytes say exactly, are no more than
+/// its bounds: that by the number of bytes alone, and 33 of up to 255 bytes.
 #[tactic(auto, using(crate::proofs::Putting::updates_most, crate::proofs::Putting::updates_few))]
 pub fn updates_write_little()
     ensures most { (offset count : ℕ) → put_writes offset count ≤ update_writes count }

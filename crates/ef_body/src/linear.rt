@@ -100,8 +100,8 @@ impl Linear {
         ensures bytes { OnOk result (bytes.new.items ≡ record_of (linear_records (committed store.old) self) number) }
         ensures any_exit { AppendsSome [] (record_of (linear_records (committed store.old) self) number)
             bytes.new.items }
-        ensures refusal { Decides (missing_record (linear_records (committed store.old) self) number) (result_err
-            result) }
+        ensures refusal { Decides (missing_record (linear_records (committed store.old) self) number)
+            (result_err result) }
         ensures refused { IfRefused (result_err result) ((bytes.new.items ≡ []) × (store.new ≡ store.old)) }
         ensures store { Reads store.old store.new (failure (result_err result)) }
     {
@@ -124,10 +124,10 @@ impl Linear {
         ensures any_exit { (committed store.new ≡ committed store.old)
             ⊎ LinearBecomes (committed store.old) self (slice_set (linear_records (committed store.old) self)
             (number - 1) bytes.now) (committed store.new) }
-        ensures done { OnOk result (LinearBecomes (committed store.old) self (slice_set (linear_records (committed
-            store.old) self) (number - 1) bytes.now) (committed store.new)) }
-        ensures refusal { Decides (missing_record (linear_records (committed store.old) self) number) (result_err
-            result) }
+        ensures done { OnOk result (LinearBecomes (committed store.old) self
+            (slice_set (linear_records (committed store.old) self) (number - 1) bytes.now) (committed store.new)) }
+        ensures refusal { Decides (missing_record (linear_records (committed store.old) self) number)
+            (result_err result) }
         ensures refused { IfRefused (result_err result) (store.new ≡ store.old) }
         ensures by_gate { CommitsByGate store.old store.new }
         ensures store { Changes UPDATE_WRITES store.old store.new (failure (result_err result)) }
@@ -150,8 +150,7 @@ impl Linear {
             (committed store.new) }
         ensures done { OnOk result (LinearBecomes (committed store.old) self (linear_records (committed store.old) self
             ++ bytes.now ∷ []) (committed store.new)) }
-        ensures refusal { Decides (full self.capacity (linear_records (committed store.old) self)) (result_err
-            result) }
+        ensures refusal { Decides (full self.capacity (linear_records (committed store.old) self)) (result_err result) }
         ensures refused { IfRefused (result_err result) (store.new ≡ store.old) }
         ensures by_gate { CommitsByGate store.old store.new }
         ensures store { Changes RECORD_WRITES store.old store.new (failure (result_err result)) }
@@ -182,8 +181,8 @@ impl Linear {
             ≡ found direction first text.now (linear_records (committed store.old) self)) }
         ensures any_exit { AppendsSome [] (found direction first text.now (linear_records (committed store.old) self))
             numbers.new.items }
-        ensures refusal { Decides (missing_record (linear_records (committed store.old) self) first) (result_err
-            result) }
+        ensures refusal { Decides (missing_record (linear_records (committed store.old) self) first)
+            (result_err result) }
         ensures refused { IfRefused (result_err result) ((numbers.new.items ≡ []) × (store.new ≡ store.old)) }
         ensures store { Reads store.old store.new (failure (result_err result)) }
     {

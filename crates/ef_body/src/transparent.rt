@@ -62,8 +62,7 @@ impl Transparent {
             ≡ take most (drop offset (transparent_bytes (committed store.old) self))) }
         ensures any_exit { AppendsSome [] (take most (drop offset (transparent_bytes (committed store.old) self)))
             bytes.new.items }
-        ensures refusal { Decides (past_end (transparent_bytes (committed store.old) self) offset) (result_err
-            result) }
+        ensures refusal { Decides (past_end (transparent_bytes (committed store.old) self) offset) (result_err result) }
         ensures refused { IfRefused (result_err result) ((bytes.new.items ≡ []) × (store.new ≡ store.old)) }
         ensures store { Reads store.old store.new (failure (result_err result)) }
     {
@@ -75,8 +74,8 @@ impl Transparent {
         from_store(read_anew(store, self.chain, offset, count, bytes))
     }
 
-    /// Puts bytes, 255 at most, in place of those from an offset on, in one transaction, of as many device writes as the
-    /// offset and their number say (UPDATE BINARY, ISO/IEC 7816-4, 11.3.5).
+    /// Puts bytes, 255 at most, in place of those from an offset on, in one transaction, of as many device writes as
+    /// the offset and their number say (UPDATE BINARY, ISO/IEC 7816-4, 11.3.5).
     ///
     /// # Errors
     /// 6B00 where the offset is at the end of the body or past it, 6A84 where they reach past the end. What the store
@@ -94,15 +93,13 @@ impl Transparent {
             ⊎ TransparentBecomes (committed store.old) self (overwrite (transparent_bytes (committed store.old) self)
             offset bytes.now) (committed store.new) }
         ensures done { OnOk result (TransparentBecomes (committed store.old) self (overwrite (transparent_bytes
-            (committed
-            store.old) self) offset bytes.now) (committed store.new)) }
+            (committed store.old) self) offset bytes.now) (committed store.new)) }
         ensures refusal { Decides (overlong (transparent_bytes (committed store.old) self) offset bytes.now)
-            (result_err
-            result) }
+            (result_err result) }
         ensures refused { IfRefused (result_err result) (store.new ≡ store.old) }
         ensures by_gate { CommitsByGate store.old store.new }
-        ensures store { Changes (transaction_writes (touched_words offset (length bytes.now)) (touched_blocks offset (length
-            bytes.now))) store.old store.new (failure (result_err result)) }
+        ensures store { Changes (transaction_writes (touched_words offset (length bytes.now))
+            (touched_blocks offset (length bytes.now))) store.old store.new (failure (result_err result)) }
         ensures counted { OnOk result (store.new.facts.writes
             ≡ store.old.facts.writes + put_writes offset (length bytes.now)) }
         ensures writes { WritesAtMost (update_writes (length bytes.now)) store.old.facts store.new.facts }

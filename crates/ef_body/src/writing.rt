@@ -41,13 +41,13 @@ pub(crate) fn put_bytes<B: Board>(
     requires small { offset + length bytes.now ≤ FILE_BYTES }
     requires few { length bytes.now ≤ 255 }
     ensures any_exit { (committed store.new ≡ committed store.old)
-        ⊎ Overwrites (committed store.old) (blocks_of_chain (committed store.old) chain) offset bytes.now (committed
-        store.new) }
+        ⊎ Overwrites (committed store.old) (blocks_of_chain (committed store.old) chain) offset
+        bytes.now (committed store.new) }
     ensures done { OnOk result (Overwrites (committed store.old) (blocks_of_chain (committed store.old) chain) offset
         bytes.now (committed store.new)) }
     ensures by_gate { CommitsByGate store.old store.new }
-    ensures store { Changes (transaction_writes (touched_words offset (length bytes.now)) (touched_blocks offset (length
-        bytes.now))) store.old store.new (result_err result) }
+    ensures store { Changes (transaction_writes (touched_words offset (length bytes.now))
+        (touched_blocks offset (length bytes.now))) store.old store.new (result_err result) }
     ensures counted { OnOk result (store.new.facts.writes
         ≡ store.old.facts.writes + put_writes offset (length bytes.now)) }
 {
@@ -74,8 +74,8 @@ fn put_record<B: Board>(
     requires entry { told_at < GATE }
     ensures any_exit { (committed store.new ≡ committed store.old)
         ⊎ PutsRecord (committed store.old) chain offset bytes.now told_at told (committed store.new) }
-    ensures done { OnOk result (PutsRecord (committed store.old) chain offset bytes.now told_at told (committed
-        store.new)) }
+    ensures done { OnOk result
+        (PutsRecord (committed store.old) chain offset bytes.now told_at told (committed store.new)) }
     ensures by_gate { CommitsByGate store.old store.new }
     ensures store { Changes RECORD_WRITES store.old store.new (result_err result) }
 {
@@ -151,8 +151,8 @@ impl RecordSlot {
         ensures any_exit { (committed store.new ≡ committed store.old)
             ⊎ RecordsBecome (committed store.old) self.ring (slice_set (cyclic_records (committed store.old) self.ring)
             (self.number - 1) bytes.now) (committed store.new) }
-        ensures done { OnOk result (RecordsBecome (committed store.old) self.ring (slice_set (cyclic_records (committed
-            store.old) self.ring) (self.number - 1) bytes.now) (committed store.new)) }
+        ensures done { OnOk result (RecordsBecome (committed store.old) self.ring (slice_set
+            (cyclic_records (committed store.old) self.ring) (self.number - 1) bytes.now) (committed store.new)) }
         ensures by_gate { CommitsByGate store.old store.new }
         ensures store { Changes UPDATE_WRITES store.old store.new (result_err result) }
     {
@@ -178,8 +178,8 @@ impl RecordSlot {
             ⊎ CyclicBecomes (committed store.old) self.ring (front (length (cyclic_records (committed store.old)
             self.ring)) bytes.now (cyclic_records (committed store.old) self.ring)) (committed store.new) }
         ensures done { OnOk result (CyclicBecomes (committed store.old) self.ring (front (length (cyclic_records
-            (committed store.old) self.ring)) bytes.now (cyclic_records (committed store.old) self.ring)) (committed
-            store.new)) }
+            (committed store.old) self.ring)) bytes.now (cyclic_records (committed store.old) self.ring))
+            (committed store.new)) }
         ensures by_gate { CommitsByGate store.old store.new }
         ensures store { Changes RECORD_WRITES store.old store.new (result_err result) }
     {

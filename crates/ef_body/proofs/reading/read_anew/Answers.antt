@@ -9,7 +9,10 @@ pub read_bytes-requires : goal.read_bytes-requires
 read_bytes-requires g c =
     let empty : length c.args.bytes.now.items ≡ 0 = ap (λ (l : List ℕ). length l) c.requires.empty in (
       search rules,
-      (c.requires.ready, (c.requires.leads, (c.requires.within, (c.requires.small, omega (arith, empty, c.requires.room))))),
+      (
+        c.requires.ready,
+        (c.requires.leads, (c.requires.within, (c.requires.small, omega (arith, empty, c.requires.room)))),
+      ),
     )
 
 pub returns-clause-bytes : goal.returns-clause-bytes
@@ -26,4 +29,5 @@ pub returns-clause-any_exit : goal.returns-clause-any_exit
 returns-clause-any_exit g c =
     let m = committed c.args.store.now in
     let bytes = take c.args.count (drop c.args.offset (chain_bytes m c.args.chain)) in
-    subst (λ (l : List ℕ). AppendsSome l bytes c.read_bytes.new.out.items) c.requires.empty c.read_bytes.ensures.any_exit
+    subst (λ (l : List ℕ). AppendsSome l bytes c.read_bytes.new.out.items) c.requires.empty
+    c.read_bytes.ensures.any_exit

@@ -35,14 +35,16 @@ pub returns-clause-any_exit : goal.returns-clause-any_exit
 returns-clause-any_exit g c =
     let set = c.set_bytes-work.ensures in
     let last = c.store-1.given.1 (sym (set.store.sets.same_store ∙ c.begin-txn.ensures.same_store)) in
-    ends (λ m after. Overwrites m (chain_of m c.args.chain) c.args.offset c.args.bytes.now after) _ c.set_bytes-work.result _ _ (memory_of c.set_bytes-work.new.txn) _ _ c.begin-txn.ensures.same last
+    ends (λ m after. Overwrites m (chain_of m c.args.chain) c.args.offset c.args.bytes.now after)
+    _ c.set_bytes-work.result _ _ (memory_of c.set_bytes-work.new.txn) _ _ c.begin-txn.ensures.same last
     c.requires.ready set.store.sets.kept set.done c.end.ensures.any_exit
 
 pub returns-clause-done : goal.returns-clause-done
 returns-clause-done g c =
     let set = c.set_bytes-work.ensures in
     let last = c.store-1.given.1 (sym (set.store.sets.same_store ∙ c.begin-txn.ensures.same_store)) in
-    ends_done (λ m after. Overwrites m (chain_of m c.args.chain) c.args.offset c.args.bytes.now after) c.set_bytes-work.result c.end.result _ _ (memory_of c.set_bytes-work.new.txn) _ _ c.begin-txn.ensures.same last
+    ends_done (λ m after. Overwrites m (chain_of m c.args.chain) c.args.offset c.args.bytes.now after)
+    c.set_bytes-work.result c.end.result _ _ (memory_of c.set_bytes-work.new.txn) _ _ c.begin-txn.ensures.same last
     c.requires.ready set.done c.end.ensures.answered c.end.ensures.done
 
 pub returns-clause-by_gate : goal.returns-clause-by_gate
@@ -56,13 +58,16 @@ pub returns-clause-store : goal.returns-clause-store
 returns-clause-store g c =
     let set = c.set_bytes-work.ensures in
     let last = c.store-1.given.1 (sym (set.store.sets.same_store ∙ c.begin-txn.ensures.same_store)) in
-    ends_answered (touched_words c.args.offset (length c.args.bytes.now)) (touched_blocks c.args.offset (length c.args.bytes.now)) (transaction_writes (touched_words c.args.offset (length c.args.bytes.now)) (touched_blocks c.args.offset (length c.args.bytes.now))) c.set_bytes-work.result c.end.result _ _ (memory_of c.set_bytes-work.new.txn) _ _ (omega arith)
-    c.begin-txn.ensures.same last c.requires.ready set.store.sets.taken set.store.sets.reports set.runs set.store.tells
-    c.end.ensures.store c.end.ensures.answered
+    ends_answered (touched_words c.args.offset (length c.args.bytes.now)) (touched_blocks c.args.offset
+    (length c.args.bytes.now)) (transaction_writes (touched_words c.args.offset (length c.args.bytes.now))
+    (touched_blocks c.args.offset (length c.args.bytes.now))) c.set_bytes-work.result c.end.result _
+    _ (memory_of c.set_bytes-work.new.txn) _ _ (omega arith) c.begin-txn.ensures.same last c.requires.ready
+    set.store.sets.taken set.store.sets.reports set.runs set.store.tells c.end.ensures.store c.end.ensures.answered
 
 pub returns-clause-counted : goal.returns-clause-counted
 returns-clause-counted g c =
     let set = c.set_bytes-work.ensures in
     let last = c.store-1.given.1 (sym (set.store.sets.same_store ∙ c.begin-txn.ensures.same_store)) in
-    ends_counted (put_writes c.args.offset (length c.args.bytes.now)) c.set_bytes-work.result c.end.result _ _ (memory_of c.set_bytes-work.new.txn) _ _ c.begin-txn.ensures.same last
+    ends_counted (put_writes c.args.offset (length c.args.bytes.now)) c.set_bytes-work.result
+    c.end.result _ _ (memory_of c.set_bytes-work.new.txn) _ _ c.begin-txn.ensures.same last
     c.requires.ready set.counted c.end.ensures.answered c.end.ensures.counted

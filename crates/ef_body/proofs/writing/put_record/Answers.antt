@@ -36,14 +36,16 @@ pub returns-clause-any_exit : goal.returns-clause-any_exit
 returns-clause-any_exit g c =
     let set = c.set_record-work.ensures in
     let last = c.store-1.given.1 (sym (set.store.sets.same_store ∙ c.begin-txn.ensures.same_store)) in
-    ends (λ m after. PutsRecord m c.args.chain c.args.offset c.args.bytes.now c.args.told_at c.args.told after) _ c.set_record-work.result _ _ (memory_of c.set_record-work.new.txn) _ _ c.begin-txn.ensures.same last
+    ends (λ m after. PutsRecord m c.args.chain c.args.offset c.args.bytes.now c.args.told_at c.args.told after)
+    _ c.set_record-work.result _ _ (memory_of c.set_record-work.new.txn) _ _ c.begin-txn.ensures.same last
     c.requires.ready set.store.sets.kept set.done c.end.ensures.any_exit
 
 pub returns-clause-done : goal.returns-clause-done
 returns-clause-done g c =
     let set = c.set_record-work.ensures in
     let last = c.store-1.given.1 (sym (set.store.sets.same_store ∙ c.begin-txn.ensures.same_store)) in
-    ends_done (λ m after. PutsRecord m c.args.chain c.args.offset c.args.bytes.now c.args.told_at c.args.told after) c.set_record-work.result c.end.result _ _ (memory_of c.set_record-work.new.txn) _ _ c.begin-txn.ensures.same last
+    ends_done (λ m after. PutsRecord m c.args.chain c.args.offset c.args.bytes.now c.args.told_at c.args.told after)
+    c.set_record-work.result c.end.result _ _ (memory_of c.set_record-work.new.txn) _ _ c.begin-txn.ensures.same last
     c.requires.ready set.done c.end.ensures.answered c.end.ensures.done
 
 pub returns-clause-by_gate : goal.returns-clause-by_gate
@@ -59,6 +61,8 @@ returns-clause-store g c =
     let last = c.store-1.given.1 (sym (set.store.sets.same_store ∙ c.begin-txn.ensures.same_store)) in
     let most = touched_few c.args.offset (length c.args.bytes.now) c.requires.few in
     let blocks = touched_few_blocks c.args.offset (length c.args.bytes.now) c.requires.few in
-    ends_answered (touched_words c.args.offset (length c.args.bytes.now) + 1) (touched_blocks c.args.offset (length c.args.bytes.now) + 1) RECORD_WRITES c.set_record-work.result c.end.result _ _ (memory_of c.set_record-work.new.txn) _ _ (omega (arith, most, blocks))
+    ends_answered (touched_words c.args.offset (length c.args.bytes.now) + 1)
+    (touched_blocks c.args.offset (length c.args.bytes.now) + 1) RECORD_WRITES
+    c.set_record-work.result c.end.result _ _ (memory_of c.set_record-work.new.txn) _ _ (omega (arith, most, blocks))
     c.begin-txn.ensures.same last c.requires.ready set.store.sets.taken set.store.sets.reports set.runs set.store.tells
     c.end.ensures.store c.end.ensures.answered

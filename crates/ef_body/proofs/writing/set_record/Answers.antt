@@ -37,7 +37,8 @@ returns-clause-done g c =
 
 pub returns-in_err-set_bytes-clause-runs : goal.returns-in_err-set_bytes-clause-runs
 returns-in_err-set_bytes-clause-runs g c =
-    runs_weaker (touched_blocks c.args.offset (length c.args.bytes.now)) _ _ _ (omega arith) c.in_err-set_bytes.ensures.runs
+    runs_weaker (touched_blocks c.args.offset (length c.args.bytes.now)) _ _ _ (omega arith)
+    c.in_err-set_bytes.ensures.runs
 
 pub returns-clause-runs : goal.returns-clause-runs
 returns-clause-runs g c =

@@ -26,6 +26,6 @@ returns-clause-done g c =
     let is : c.appended.result ≡ min (length rs + 1) c.args.self.capacity =
     c.appended.ensures ∙ ap (λ (n : ℕ). min (n + 1) c.args.self.capacity) (sym (length-cyclic m c.args.self
     c.requires.body)) in
-    subst (λ (l : List (List ℕ)). OnOk c.put_front.result (CyclicBecomes m c.args.self l (committed
-    c.put_front.new.store))) (front-most c.appended.result c.args.self.capacity c.args.bytes.now rs is)
-    c.put_front.ensures.done
+    subst (λ (l : List (List ℕ)).
+    OnOk c.put_front.result (CyclicBecomes m c.args.self l (committed c.put_front.new.store)))
+    (front-most c.appended.result c.args.self.capacity c.args.bytes.now rs is) c.put_front.ensures.done

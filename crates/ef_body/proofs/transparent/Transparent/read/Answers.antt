@@ -3,7 +3,7 @@ use Rattle.undo_journal.specs.Calls.{Reads}
 use Rattle.undo_journal.specs.Memory.{committed}
 use Rattle.block_chain.specs.Changes.{AppendsSome}
 use Rattle.ef_body.specs.Bodies.{transparent_bytes}
-use Rattle.ef_body.proofs.Bytes.{length-transparent, inside, offset_past, offset_inside, taken}
+use Rattle.ef_body.proofs.Bytes.{length-transparent, inside, offset_past, offset_inside, taken_within}
 use Rattle.ef_body.proofs.Refusing.{store_decides, store_done, store_refuses, store_told}
 use Rattle.undo_journal.specs.laws.Told.{reads_none}
 use Rattle.ef_body.proofs.transparent.Transparent.read.Goals as goal
@@ -52,7 +52,7 @@ returns-clause-any_exit g c =
     (length-transparent m c.args.self c.requires.ready.usable.committed_size c.requires.body) c.ends_at.ensures
     c.if-ends_at.false in
     subst (λ (l : List ℕ). AppendsSome [] l c.read_anew.new.bytes.items)
-    (taken m c.args.self c.requires.ready.usable.committed_size c.requires.body c.args.offset c.args.most
+    (taken_within m c.args.self c.requires.ready.usable.committed_size c.requires.body c.args.offset c.args.most
     c.smaller-count.result low c.smaller-count.ensures)
     c.read_anew.ensures.any_exit
 
@@ -64,7 +64,7 @@ returns-clause-bytes g c =
     c.if-ends_at.false in
     store_done c.read_anew.result c.from_store.result c.from_store.ensures _
     (subst (λ (l : List ℕ). OnOk c.read_anew.result (c.read_anew.new.bytes.items ≡ l))
-    (taken m c.args.self c.requires.ready.usable.committed_size c.requires.body c.args.offset c.args.most
+    (taken_within m c.args.self c.requires.ready.usable.committed_size c.requires.body c.args.offset c.args.most
     c.smaller-count.result low c.smaller-count.ensures) c.read_anew.ensures.bytes)
 
 pub returns-clause-refusal : goal.returns-clause-refusal
