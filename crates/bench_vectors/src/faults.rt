@@ -1,5 +1,5 @@
-//! Boards that fail once, at a call or at a write, in a command: it is answered 6581, and what the next start finds is as before
-//! the command or as after it.
+//! Boards that fail once, at a call or at a write, in a command: it is answered 6581, and what the next start finds is
+//! as before the command or as after it.
 
 use crate::replies::is_reply;
 use card_bench::{Bench, Item, Turn};

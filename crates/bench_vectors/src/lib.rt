@@ -1,5 +1,5 @@
-//! Tests of what a bench plays, by blocks that were worked out by hand: turns of every kind, commands in chains that are cut,
-//! commands of which a call of the device fails.
+//! Tests of what a bench plays, by blocks that were worked out by hand: turns of every kind, commands in chains that
+//! are cut, commands of which a call of the device fails.
 #![tactic(auto)]
 
 #[cfg(test)]
