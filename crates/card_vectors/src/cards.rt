@@ -7,8 +7,9 @@ use std::alloc::Global;
 use std::test::Fail;
 use store_vectors::fixtures::with_words;
 
-// What `format` writes: the mark, the first free block, the card state and the page where the blocks end; the first words of
-// both files; the tries and the mark of PIN 1; the end of the file's chain and its first bytes; the free chain and its end.
+// What `format` writes: the mark, the first free block, the card state and the page where the blocks end; the first
+// words of both files; the tries and the mark of PIN 1; the end of the file's chain and its first bytes;
+// the free chain and its end.
 const FACTORY: &[(u16, u32)] = &[
     (0, 0x5453_4332),
     (1, 129),
@@ -107,7 +108,8 @@ const MEMORIES: &[(&[(u16, u32)], Option<StartFault>)] = &[
     // The state of the card is 1, terminated, or none.
     (&[(2, 1)], None),
     (&[(2, 2)], DAMAGED),
-    // The free chain: none, though blocks are in no file; it ends early; it is a ring; it goes on into the file's block.
+    // The free chain: none, though blocks are in no file; it ends early; it is a ring;
+    // it goes on into the file's block.
     (&[(1, 0)], DAMAGED),
     (&[(2064, 0)], DAMAGED),
     (&[(16_368, 129)], DAMAGED),
@@ -163,7 +165,8 @@ fn starts_what_stands_for_a_card(rt: HostRuntime) -> Result<(), Fail> {
     Ok(())
 }
 
-/// The words of the header and of the mark of PIN 8 after a start of the factory's memory of format 1, and what is free.
+/// The words of the header and of the mark of PIN 8 after a start of the factory's memory of format 1,
+/// and what is free.
 fn after_start(alloc: Global, pages: u16) -> Result<Option<([u32; 4], FreeSpace)>, Fail> {
     let board = formatted_old(RamBoard::with_pages(alloc, pages.clamp(1024, 4096))?)?;
     let Ok(card) = Card::start(board) else {

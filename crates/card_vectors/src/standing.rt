@@ -75,7 +75,8 @@ fn are_pairs(words: &[u32], gate: u32) -> bool {
     true
 }
 
-/// Puts the earlier words back, and lets no pair count. Of the pairs that name one word the first counts, so it comes last.
+/// Puts the earlier words back, and lets no pair count.
+/// Of the pairs that name one word the first counts, so it comes last.
 pub fn undo(words: &mut [u32]) {
     let gate = word(words, GATE).min(432);
     for number in (0..gate).rev() {
