@@ -1,5 +1,5 @@
-//! The bytes of short commands (ISO/IEC 7816-4, clause 5) that no script can say, or whose values no answer shows. All else
-//! stands in rows.
+//! The bytes of short commands (ISO/IEC 7816-4, clause 5) that no script can say,
+//! or whose values no answer shows. All else stands in rows.
 
 use apdu_core::{Command, Returned, Selector, Sw, Target};
 
@@ -30,8 +30,8 @@ fn reads_longest(bytes: &[u8]) -> Option<bool> {
     }
 }
 
-/// Whether it is read where all its bytes come, and is of a wrong length where none, no whole header, or one too few does,
-/// with an Le, and with two bytes more than Lc says.
+/// Whether it is read where all its bytes come, and is of a wrong length where none, no whole header, or one too few
+/// does, with an Le, and with two bytes more than Lc says.
 fn is_read_whole(bytes: &[u8; 262]) -> bool {
     reads_longest(&bytes[..260]) == Some(true)
         && reads_longest(&[]) == Some(false)

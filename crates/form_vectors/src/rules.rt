@@ -1,4 +1,5 @@
-//! Access rules in the compact format (ISO/IEC 7816-4): what a rule allows, in states of a file that no command meets too.
+//! Access rules in the compact format (ISO/IEC 7816-4):
+//! what a rule allows, in states of a file that no command meets too.
 
 use card_rules::AccessBit::{Activate, CreateDf, DeleteChild, DeleteSelf, Terminate};
 use card_rules::LifeCycle::{Activated, Creation, Deactivated, Initialisation};
@@ -15,8 +16,8 @@ fn set_of(pins: &[u8]) -> PinSet {
     set
 }
 
-// What the rule of the factory card's master file allows, with these PINs verified and these disabled: bit 6 asks for PIN 8,
-// bits 3 to 1 are always allowed, all else never.
+// What the rule of the factory card's master file allows, with these PINs verified and these disabled: bit 6 asks for
+// PIN 8, bits 3 to 1 are always allowed, all else never.
 const ASKED: &[(AccessBit, LifeCycle, &[u8], &[u8], bool)] = &[
     (Terminate, Activated, &[], &[], false),
     (

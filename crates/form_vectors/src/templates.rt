@@ -1,4 +1,5 @@
-//! Texts of file control parameters (ISO/IEC 7816-4, tag 62), as CREATE FILE sends them. What SELECT answers stands in rows.
+//! Texts of file control parameters (ISO/IEC 7816-4, tag 62), as CREATE FILE sends them.
+//! What SELECT answers stands in rows.
 
 use fcp_template::{FcpFault, parse};
 use std::test::Fail;
