@@ -45,8 +45,8 @@ fn tell(
     }
 }
 
-/// Whether the end says this, with these bytes where it says a block or an answer, and has a command in hand exactly where
-/// it says a block.
+/// Whether the end says this, with these bytes where it says a block or an answer,
+/// and has a command in hand exactly where it says a block.
 fn is_said(next: Next, reader: &ReaderEnd, block: &BlockBytes, says: Says, bytes: &[u8]) -> bool {
     match (next, says) {
         (Next::Send, Says::Block) => reader.busy() && block.as_slice() == bytes,
