@@ -1,5 +1,5 @@
-//! A memory of format 1 that was worked out word by word: 57 files, whose chains and the free one go to and fro, PINs with tries
-//! gone, and a transaction under way.
+//! A memory of format 1 that was worked out word by word: 57 files, whose chains and the free one go to and fro, PINs
+//! with tries gone, and a transaction under way.
 
 use crate::files::{File, Kind, Records, file_of};
 use crate::generator::Generator;
@@ -225,8 +225,9 @@ impl Busy {
         put(&mut self.words, place, new);
     }
 
-    /// Begins a transaction, and leaves it under way: the head of the free chain, a file in a free entry, the link of the block
-    /// that was last in the free chain, twice, and a word of it; the state of the card; and tries that were gone.
+    /// Begins a transaction, and leaves it under way: the head of the free chain, a file in a free entry, the link of
+    /// the block that was last in the free chain, twice, and a word of it; the state of the card;
+    /// and tries that were gone.
     pub(crate) fn begin(&mut self) {
         let page = self.free.last().copied().unwrap_or(0);
         let last = page.saturating_mul(16);

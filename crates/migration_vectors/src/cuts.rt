@@ -1,5 +1,5 @@
-//! A factory card of format 1: how many writes its first start makes, and what each of them leaves that is cut, and each of the
-//! start behind it.
+//! A factory card of format 1: how many writes its first start makes, and what each of them leaves that is cut, and
+//! each of the start behind it.
 ghost use Rattle.std.specs.Prelude.{◌≤◌};
 
 use crate::ends::{Ends, words_of};
@@ -33,8 +33,8 @@ fn first_start_writes_the_links_and_fifteen_more(rt: HostRuntime) -> Result<(), 
     Ok(())
 }
 
-/// The first start on 1,030 pages: six links; the pairs of eight marks, the gate, the marks; the pairs of three words of the
-/// header, the gate, these words in two runs; and the gate.
+/// The first start on 1,030 pages: six links; the pairs of eight marks, the gate, the marks; the pairs of three words
+/// of the header, the gate, these words in two runs; and the gate.
 const WRITES: u32 = 21;
 
 /// How many writes the rollback behind so many of them makes: a write for each pair that counts, and the gate.

@@ -66,7 +66,8 @@ impl Ends {
     }
 }
 
-/// Makes format 2 of words of format 1: the links of the new blocks, their head, the page where the blocks end, the marks.
+/// Makes format 2 of words of format 1: the links of the new blocks, their head,
+/// the page where the blocks end, the marks.
 fn rename(words: &mut [u32], pages: u16) {
     let free = word(words, 1);
     for page in 1024..pages {

@@ -42,8 +42,8 @@ const NONE: Records = Records {
     start: 0,
 };
 
-/// The file of an entry, if it has one. Entry 0 is the master file, the entries 1 to 3 are directories, each below the one before;
-/// the files of the others are spread over these four.
+/// The file of an entry, if it has one. Entry 0 is the master file, the entries 1 to 3 are directories, each below the
+/// one before; the files of the others are spread over these four.
 pub(crate) fn file_of(generator: &mut Generator, entry: u8) -> Option<File> {
     let kind = match entry {
         0..=3 => Kind::Directory,
@@ -109,8 +109,8 @@ impl File {
         }
     }
 
-    /// The two words of its entry that tell its kind and its parent, and the first word of its rule. Directories but the master
-    /// file have names of four bytes.
+    /// The two words of its entry that tell its kind and its parent, and the first word of its rule. Directories but
+    /// the master file have names of four bytes.
     fn head(&self) -> [u32; 3] {
         let first = 0x0005_0000 | u32::from(self.identifier());
         let second = u32::from(self.parent) << 24 | u32::from(self.short) << 16;

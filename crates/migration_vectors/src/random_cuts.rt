@@ -46,7 +46,8 @@ impl Trial {
         })
     }
 
-    /// Cuts starts until one is done, and counts them. In between the words are, undone, as before or as after the migration.
+    /// Cuts starts until one is done, and counts them. In between the words are, undone,
+    /// as before or as after the migration.
     fn migrate<R: Abort + AllocGlobal>(
         &self,
         rt: &R,

@@ -1,4 +1,5 @@
-//! Memories of both formats that start as they are, and such as don't start: no start here writes a word, but where it rolls back.
+//! Memories of both formats that start as they are, and such as don't start:
+//! no start here writes a word, but where it rolls back.
 
 use crate::ends::{with_all_words, words_of};
 use crate::starts::{is_factory_card, makes_writes, new_board, old_board, started};
@@ -110,8 +111,8 @@ fn smaller_memory_of_format_2_stays_so(rt: HostRuntime) -> Result<(), Fail> {
     Ok(())
 }
 
-// Where the blocks end, of a memory of format 2 on 1,030 pages: behind the board, also where the free chain goes on; before page
-// 1,024, where the chain ends there too; nowhere.
+// Where the blocks end, of a memory of format 2 on 1,030 pages: behind the board, also where the free chain goes on;
+// before page 1,024, where the chain ends there too; nowhere.
 const OTHER_ENDS: &[&[(u16, u32)]] = &[
     &[(3, 1031)],
     &[(3, 1031), (16_464, 1030)],
