@@ -96,8 +96,8 @@ macro_rules! on_pin {
 }
 
 const SPACES: &[Torn] = &[
-    // DELETE FILE of the factory's file: the pairs of a word of its entry, of its chain and of the header, the gate, each of these
-    // words, since none lies beside another, and the commit.
+    // DELETE FILE of the factory's file: the pairs of a word of its entry, of its chain and of the header, the gate,
+    // each of these words, since none lies beside another, and the commit.
     Torn {
         prepare: "on\n",
         command: "apdu 00E40000022FE2\n",
@@ -108,7 +108,8 @@ const SPACES: &[Torn] = &[
         look: "on\nfree\n",
         found: ["free 895 62\n", "free 895 62\n", "free 896 63\n"],
     },
-    // And of a dedicated file with two files and a dedicated file in it: words of four entries, of two chains, and of the header.
+    // And of a dedicated file with two files and a dedicated file in it:
+    // words of four entries, of two chains, and of the header.
     Torn {
         prepare: "on\napdu 00E000001362118202782183027F108A01058C0407000000\n\
             apdu 00E000001962178202412183026F018801088002000A8A01058C03030000\n\
@@ -123,8 +124,8 @@ const SPACES: &[Torn] = &[
         look: "on\nfree\n",
         found: ["free 892 58\n", "free 892 58\n", "free 895 62\n"],
     },
-    // CREATE FILE of a file of two blocks: they are filled; then the pairs of eight words, the gate, the header's word, six of the
-    // entry, and a link; then the pairs of five, the gate, and the other five of the entry; and the commit.
+    // CREATE FILE of a file of two blocks: they are filled; then the pairs of eight words, the gate, the header's word,
+    // six of the entry, and a link; then the pairs of five, the gate, and the other five of the entry; and the commit.
     Torn {
         prepare: "on\n",
         command: "apdu 00E000001862168202412183026F0588008002003D8A01058C03030000\n",
@@ -138,7 +139,8 @@ const SPACES: &[Torn] = &[
 ];
 
 const UPDATES: &[Torn] = &[
-    // UPDATE BINARY of eight bytes from byte 1 on, which lie in three words: their pairs, the gate, the words, and the commit.
+    // UPDATE BINARY of eight bytes from byte 1 on, which lie in three words:
+    // their pairs, the gate, the words, and the commit.
     Torn {
         prepare: "on\napdu 00E000001962178202412183026F018801088002000A8A01058C03030000\n",
         command: "apdu 00D68101080102030405060708\n",
@@ -153,7 +155,8 @@ const UPDATES: &[Torn] = &[
             "< FF0102030405060708FF9000\n",
         ],
     },
-    // UPDATE RECORD of a cyclic file, whose slot 1 touches two words; one word of the entry is set too, and written first.
+    // UPDATE RECORD of a cyclic file, whose slot 1 touches two words;
+    // one word of the entry is set too, and written first.
     Torn {
         prepare: "on\napdu 00E000001A621882044621000383026F038800800200098A01058C03030000\n\
             apdu 00DC000303010203\n",
@@ -172,8 +175,8 @@ const UPDATES: &[Torn] = &[
 ];
 
 const COMPARISONS: &[Torn] = &[
-    // VERIFY, wrong and right; CHANGE REFERENCE DATA, whose tries and value are two runs, and RESET RETRY COUNTER, which sets one:
-    // the first write decides that a try is gone.
+    // VERIFY, wrong and right; CHANGE REFERENCE DATA, whose tries and value are two runs, and RESET RETRY COUNTER,
+    // which sets one: the first write decides that a try is gone.
     on_pin!(
         "apdu 002000010835363738FFFFFFFF\n",
         1,

@@ -8,8 +8,8 @@ use std::io::{self, BufRead, Error, ErrorKind, Read, Write};
 use std::process::Abort;
 use std::test::Fail;
 
-/// A script of parts: the first, then a line again and again, for so many bytes in all, and then a tail again and again. It
-/// fails where the part is empty.
+/// A script of parts: the first, then a line again and again, for so many bytes in all, and then a tail again and
+/// again. It fails where the part is empty.
 #[derive(Drop)]
 struct Parts<'a> {
     rest: &'a [u8],
@@ -78,9 +78,9 @@ const COMMENTS: &[(usize, &str, u8, u8)] = &[
     (1024, "\r", 2, 3),
 ];
 
-/// A line has at most 1,024 bytes, without its line feed and a carriage return before it. A begun line that is too long is a
-/// bad one before its end has come: the reader isn't asked for more. One whose 1,025th byte is a carriage return may still
-/// turn out good.
+/// A line has at most 1,024 bytes, without its line feed and a carriage return before it. A begun line that is too long
+/// is a bad one before its end has come: the reader isn't asked for more. One whose 1,025th byte is a carriage return
+/// may still turn out good.
 #[test]
 fn long_lines(rt: HostRuntime) -> Result<(), Fail> {
     for &(size, end, ended, failed) in COMMENTS {
@@ -173,7 +173,8 @@ fn broken_at(alloc: Global, piece: usize, fails_at: usize) -> Result<Option<u8>,
     Ok(if is_right { Some(status) } else { None })
 }
 
-/// The read at which a run isn't stopped any more, of those that each fail in turn; it then is at the end of the script.
+/// The read at which a run isn't stopped any more, of those that each fail in turn;
+/// it then is at the end of the script.
 fn reads_of(alloc: Global, piece: usize) -> Result<Option<usize>, Fail> {
     for fails_at in 1..=200 {
         match broken_at(alloc, piece, fails_at)? {
@@ -216,7 +217,8 @@ fn is_endless(alloc: Global, [line, tail]: [&[u8]; 2], whole: usize, wanted: u8)
     ends_so(alloc, &mut reader, "", wanted) && reader.given == 16_777_216
 }
 
-/// Past 16,777,216 bytes a script is a read fault, after good lines; but a begun line that is too long by then is a bad one.
+/// Past 16,777,216 bytes a script is a read fault, after good lines;
+/// but a begun line that is too long by then is a bad one.
 #[test]
 fn endless_scripts(rt: HostRuntime) {
     let mut line = [b'#'; 1000];
