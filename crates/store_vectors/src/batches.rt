@@ -1,4 +1,5 @@
-//! Sets that wait and are written eight together: device writes, counted, and words before or after a cut at each of them.
+//! Sets that wait and are written eight together: device writes, counted,
+//! and words before or after a cut at each of them.
 ghost use Rattle.std.specs.Prelude.{◌≤◌, OnOk};
 ghost use Rattle.undo_journal.specs.Memory.{room, IsOpen, IsReady};
 ghost use Rattle.undo_journal.specs.Lent.{memory_of};
@@ -32,8 +33,8 @@ enum End {
     Abandons,
 }
 
-// The pairs of a batch, the gate and its four runs; the pairs of the other five words, the gate and their run; the commit. Taken
-// back, it is the eight pairs of the batch, and the gate.
+// The pairs of a batch, the gate and its four runs; the pairs of the other five words, the gate and their run; the
+// commit. Taken back, it is the eight pairs of the batch, and the gate.
 const ENDS: &[(End, u32)] = &[(End::Commits, 6 + 3 + 1), (End::Abandons, 6 + 8 + 1)];
 
 const MASKS: &[u16] = &[0x0000, 0xFFFF, 0x0001, 0x0002];

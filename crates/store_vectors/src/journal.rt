@@ -1,4 +1,5 @@
-//! The store: words before or after a cut at each write, of a change and of the openings after it; errors. Which journals are bad stands in `card_vectors`.
+//! The store: words before or after a cut at each write, of a change and of the openings after it; errors. Which
+//! journals are bad stands in `card_vectors`.
 ghost use Rattle.std.specs.Prelude.{◌≤◌, OnOk};
 ghost use Rattle.undo_journal.specs.Memory.{room, IsOpen, IsReady};
 ghost use Rattle.undo_journal.specs.Lent.{memory_of};
@@ -15,8 +16,8 @@ const BEFORE: [u32; 3] = [50, 60, 61];
 
 const AFTER: [u32; 3] = [3, 2, 4];
 
-// The words as they are before. The first pair of the journal, which doesn't count, is an old one: it names no word of the
-// data.
+// The words as they are before. The first pair of the journal, which doesn't count, is an old one:
+// it names no word of the data.
 const WORDS: &[(u16, u32)] = &[
     (5, 50),
     (1184, 0xFFFF_FFFF),
@@ -102,8 +103,8 @@ fn words_after(alloc: Global, end: End, cut: Cut, next: u32) -> Result<[u32; 3],
     }
 }
 
-/// The pairs, the gate, word 5, words 2048 and 2049, and the gate again: the words are those after the change exactly where this
-/// fifth write was made.
+/// The pairs, the gate, word 5, words 2048 and 2049, and the gate again: the words are those after the change exactly
+/// where this fifth write was made.
 fn is_after(end: End, cut: Cut) -> bool {
     match end {
         End::Commits => cut.write > 5 || cut.write == 5 && cut.mask & 1 == 1,
@@ -207,8 +208,8 @@ fn standing(board: &mut CutBoard) -> Result<[u32; 3], Fail> {
     Ok([board.read(5)?, board.read(2048)?, board.read(2049)?])
 }
 
-// The words where the change is cut at device write 1, 2 and so on, of which no word is new: of the pairs, the gate, word 5 as it
-// was set last, words 2048 and 2049, and the gate.
+// The words where the change is cut at device write 1, 2 and so on, of which no word is new: of the pairs, the gate,
+// word 5 as it was set last, words 2048 and 2049, and the gate.
 const SET: &[[u32; 3]] = &[
     [50, 60, 61],
     [50, 60, 61],
@@ -227,8 +228,8 @@ fn words_come_in_the_order_of_their_addresses(rt: HostRuntime) -> Result<(), Fai
     Ok(())
 }
 
-// The words where the opening after a commit whose gate stayed old is cut at device write 1, 2 and so on: the earlier words come
-// back from the last pair to the first. The fourth write is the gate.
+// The words where the opening after a commit whose gate stayed old is cut at device write 1, 2 and so on: the earlier
+// words come back from the last pair to the first. The fourth write is the gate.
 const ROLLED_BACK: &[[u32; 3]] = &[[3, 2, 4], [3, 2, 61], [3, 60, 61], [50, 60, 61]];
 
 #[test]
