@@ -1,5 +1,5 @@
-//! Commands that are cut at each of their device writes, with the starts behind them: how many runs there are, and how many of
-//! them gave each result.
+//! Commands that are cut at each of their device writes, with the starts behind them: how many runs there are, and how
+//! many of them gave each result.
 
 ghost use Rattle.std.specs.Prelude.{◌≡◌, None, IfOk};
 ghost use Rattle.nvm_board.specs.Cut.{cut_facts};
