@@ -13,8 +13,8 @@ use Rattle.sweep_cli.specs.declared.cases.Case.{Case}
 abbrev pub counts_text : ℕ → List Seen → List ℕ
 counts_text runs seen = decimal runs ++ 58 ∷ flat_map (λ s. 32 ∷ decimal s.count) seen ++ 10 ∷ []
 
--- The counts of a sweep on a board with the factory's card. What was seen is the tally of all runs that there are, in their order,
--- unless their count came to its end.
+-- The counts of a sweep on a board with the factory's card. What was seen is the tally of all runs that there are, in
+-- their order, unless their count came to its end.
 pub record IsCountOf (case : Case) (text : List ℕ) : Type 0 where
   pub board : Facts
   pub card : Finds board.words (factory_card 896)

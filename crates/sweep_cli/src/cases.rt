@@ -14,7 +14,8 @@ pub struct Case {
     pub depth: u8,
 }
 
-/// VERIFY by the right value of PIN 1, with one try left. It takes the try away by one write, and gives all back by another.
+/// VERIFY by the right value of PIN 1, with one try left.
+/// It takes the try away by one write, and gives all back by another.
 pub const RIGHT_AT_LAST: Case = Case {
     prepare: &[
         Turn::On,

@@ -1,5 +1,5 @@
-//! Two commands of the factory's card, cut at each of their device writes: how many runs there were, and how many gave each
-//! result. `tools/test-growths` runs it with each growth of its memory refused in turn.
+//! Two commands of the factory's card, cut at each of their device writes: how many runs there were, and how many gave
+//! each result. `tools/test-growths` runs it with each growth of its memory refused in turn.
 #![tactic(auto)]
 
 ghost use Rattle.std.specs.Prelude.{◌≡◌, ◌++◌, ℕ, List, Err, IfOk, OnOk};
@@ -84,7 +84,8 @@ fn both(alloc: Global, first: &Case, second: &Case) -> Result<Vec<u8>, AllocErro
     Ok(text)
 }
 
-/// Sweeps, and prints what came. The exit status is 5 where there is too little memory, and 4 where it can't be printed.
+/// Sweeps, and prints what came. The exit status is 5 where there is too little memory,
+/// and 4 where it can't be printed.
 fn main(rt: HostRuntime) -> ExitCode {
     match report(
         rt.alloc(),
