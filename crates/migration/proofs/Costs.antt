@@ -45,15 +45,15 @@ spends_none set old new sets is few spends =
     omega (arith, spends.writes, none)
 
 -- the mark of a PIN as a set, and those of the first i PINs
-abbrev pub mark_set : ℕ → Waiting
-mark_set pin = record { at = address (FIRST_PIN_PAGE + pin) PIN_MARK_WORD; word = 1 }
+abbrev pub pin_mark : ℕ → Waiting
+pin_mark pin = record { at = address (FIRST_PIN_PAGE + pin) PIN_MARK_WORD; word = 1 }
 
 abbrev pub marks : ℕ → List Waiting
 marks zero = []
-marks (suc i) = marks i ++ mark_set i ∷ []
+marks (suc i) = marks i ++ pin_mark i ∷ []
 
 -- one mark more
-marks_joined : (i : ℕ) → i < 8 → joined (mark_set i) (marks i) ≡ marks (i + 1)
+marks_joined : (i : ℕ) → i < 8 → joined (pin_mark i) (marks i) ≡ marks (i + 1)
 marks_joined zero lt = refl
 marks_joined (suc zero) lt = refl
 marks_joined (suc (suc zero)) lt = refl
@@ -66,7 +66,7 @@ marks_joined (suc (suc (suc (suc (suc (suc (suc (suc i)))))))) lt = absurd (omeg
 
 length-marks : (i : ℕ) → length (marks i) ≡ i
 length-marks zero = refl
-length-marks (suc i) = length-append (marks i) (mark_set i ∷ []) ∙ ap (λ (n : ℕ). n + 1) (length-marks i)
+length-marks (suc i) = length-append (marks i) (pin_mark i ∷ []) ∙ ap (λ (n : ℕ). n + 1) (length-marks i)
     ∙ (let e : i + 1 ≡ suc i = omega arith in e)
 
 -- What the marks of the first i PINs make of a store that was idle: they wait, and the eighth fills the batch.
@@ -84,7 +84,7 @@ module _ (i at : ℕ) (first now after : Memory) (lt : i < 8) (is : at ≡ addre
     (so_far : AreMarked i first now) where
   all : joined (record { at = at; word = 1 }) now.waiting ≡ marks (i + 1)
   all = ap (λ (a : ℕ). joined (record { at = a; word = 1 }) now.waiting) is
-      ∙ ap (λ (l : List Waiting). joined (mark_set i) l) (so_far.waits lt).0 ∙ marks_joined i lt
+      ∙ ap (λ (l : List Waiting). joined (pin_mark i) l) (so_far.waits lt).0 ∙ marks_joined i lt
 
   pub marked_more : Joins (record { at = at; word = 1 }) now after → AreMarked (i + 1) first after
   marked_more joins =
