@@ -14,6 +14,17 @@ use Rattle.ef_body.proofs.Refusing.{store_decides, store_done, store_refuses, st
 use Rattle.undo_journal.specs.laws.Told.{reads_change, reads_none}
 use Rattle.ef_body.proofs.transparent.Transparent.update.Goals as goal
 
+pub returns-clause-any_exit : goal.returns-clause-any_exit
+returns-clause-any_exit g c =
+    let m = committed c.args.store.now in
+    let n = committed c.put_bytes.new.store in
+    let within = new_fits (transparent_bytes m c.args.self) c.args.self.size c.args.offset c.ends_at.result
+    (length-transparent m c.args.self c.requires.ready.usable.committed_size c.requires.body) c.ends_at.ensures
+    c.args.bytes.now c.ends_before.result c.ends_before.ensures c.if-ends_at.false c.if-ends_before.false in
+    ⊎_map (λ kept. kept) (λ (over : Overwrites m (chain_of m c.args.self.chain) c.args.offset c.args.bytes.now n).
+    bytes_put m n c.args.self c.args.offset c.args.bytes.now c.requires.ready.usable.committed_size c.requires.body
+    within over) c.put_bytes.ensures.any_exit
+
 pub returns-then-ends_at-clause-refusal : goal.returns-then-ends_at-clause-refusal
 returns-then-ends_at-clause-refusal g c =
     let m = committed c.args.store.now in
@@ -36,17 +47,6 @@ put_bytes-requires-clause-within g c =
     c.args.bytes.now c.ends_before.result c.ends_before.ensures c.if-ends_at.false c.if-ends_before.false in
     let fits = c.requires.body.fits in
     omega (arith, within, fits)
-
-pub returns-clause-any_exit : goal.returns-clause-any_exit
-returns-clause-any_exit g c =
-    let m = committed c.args.store.now in
-    let n = committed c.put_bytes.new.store in
-    let within = new_fits (transparent_bytes m c.args.self) c.args.self.size c.args.offset c.ends_at.result
-    (length-transparent m c.args.self c.requires.ready.usable.committed_size c.requires.body) c.ends_at.ensures
-    c.args.bytes.now c.ends_before.result c.ends_before.ensures c.if-ends_at.false c.if-ends_before.false in
-    ⊎_map (λ kept. kept) (λ (over : Overwrites m (chain_of m c.args.self.chain) c.args.offset c.args.bytes.now n).
-    bytes_put m n c.args.self c.args.offset c.args.bytes.now c.requires.ready.usable.committed_size c.requires.body
-    within over) c.put_bytes.ensures.any_exit
 
 pub returns-clause-done : goal.returns-clause-done
 returns-clause-done g c =
