@@ -41,7 +41,21 @@ pub fn read_entry<B: Board>(store: &mut Store<B>, e: u8) -> Result<Entry, StoreE
     Ok(Entry::from_words(&words))
 }
 
-/// All entries, in the order of their numbers. It reads eleven words of each.
+/// The same, of which no more is read than its first word where that tells that it is free.
+fn read_used<B: Board>(store: &mut Store<B>, e: u8) -> Result<Entry, StoreErr>
+    requires ready { IsReady store.old }
+    requires within { e < 64 }
+    ensures entry { IfOk result (λ entry. entry ≡ entry_in (table (committed store.old)) e) }
+    ensures store { Reads store.old store.new (result_err result) }
+{
+    let first = store.read(entry_address(e))?;
+    if first == 0 {
+        return Ok(Entry::free());
+    }
+    read_entry(store, e)
+}
+
+/// All entries, in the order of their numbers. It reads the first word of each, and eleven of those that a file has.
 ///
 /// # Errors
 /// What the store answers: power was lost, or the device failed.
@@ -52,7 +66,7 @@ pub(crate) fn read_table<B: Board>(store: &mut Store<B>) -> Result<Table, StoreE
 {
     let mut entries = Table::new();
     for e in 0..ENTRIES_END {
-        entries.push(read_entry(store, e)?);
+        entries.push(read_used(store, e)?);
     }
     Ok(entries)
 }

@@ -18,8 +18,8 @@ loop-e-preserved g c =
     let e = c.loop-e.e in
     let small : e < 64 = search rules in
     let within : e < length t = let l = length-table m in omega (arith, small, l) in
-    let read : c.in_ok-read_entry.field-0 ≡ entry_in t e =
-    c.in_ok-read_entry.ensures.entry
+    let read : c.in_ok-read_used.field-0 ≡ entry_in t e =
+    c.in_ok-read_used.ensures.entry
     ∙ ap (λ (l : List ℕ). entry_in (table l) e) c.loop-e.invariant.reads.keeps.committed_words in
     record {
       ready = search rules;
@@ -37,15 +37,15 @@ returns-clause-table g c =
     (arith, l, e) in
     c.loop-e.invariant.so_far ∙ ap (λ (n : ℕ). take n (table m)) all ∙ take-length (table m)
 
-pub read_entry-requires-clause-ready : goal.read_entry-requires-clause-ready
-read_entry-requires-clause-ready g c = c.loop-e.invariant.ready
+pub read_used-requires-clause-ready : goal.read_used-requires-clause-ready
+read_used-requires-clause-ready g c = c.loop-e.invariant.ready
 
-pub returns-in_err-read_entry-clause-table : goal.returns-in_err-read_entry-clause-table
-returns-in_err-read_entry-clause-table g c = none_ok _ _ _ c.from_residual.ensures.1
+pub returns-in_err-read_used-clause-table : goal.returns-in_err-read_used-clause-table
+returns-in_err-read_used-clause-table g c = none_ok _ _ _ c.from_residual.ensures.1
 
-pub returns-in_err-read_entry-clause-store : goal.returns-in_err-read_entry-clause-store
-returns-in_err-read_entry-clause-store g c =
-    reads_handed _ _ _ _ c.from_residual.ensures.1 (reads_on _ _ _ _ c.loop-e.invariant.reads c.in_err-read_entry.ensures.store)
+pub returns-in_err-read_used-clause-store : goal.returns-in_err-read_used-clause-store
+returns-in_err-read_used-clause-store g c =
+    reads_handed _ _ _ _ c.from_residual.ensures.1 (reads_on _ _ _ _ c.loop-e.invariant.reads c.in_err-read_used.ensures.store)
 
 pub returns-clause-store : goal.returns-clause-store
 returns-clause-store g c =
