@@ -1,6 +1,6 @@
 //! The check of the layout: a walk over each chain that marks its blocks.
 ghost use Rattle.std.specs.Prelude.{◌≡◌, ◌+◌, ◌-◌, ◌<◌, ◌≤◌, ◌↔◌, IfOk, IsTrue, IfSome, Some, None};
-ghost use Rattle.std.specs.Prelude.{length, slice_set};
+ghost use Rattle.std.specs.Prelude.{false, length, slice_set};
 ghost use Rattle.std.specs.Result.{result_err};
 ghost use Rattle.nvm_board.specs.declared.board.TheConstants.{MOST_PAGES};
 ghost use Rattle.undo_journal.specs.Memory.{committed, IsReady};
@@ -31,6 +31,7 @@ fn mark(page: u32, end: u16, seen: &mut [u8]) -> bool
     requires marks { AreMarks end seen.old }
     ensures new { IsTrue result ↔ (((FIRST_BLOCK_PAGE ≤ page) × (page < end)) × (marked seen.old page ≡ 0)) }
     ensures marks { IsTrue result → seen.new ≡ slice_set seen.old (page - FIRST_BLOCK_PAGE) 1 }
+    ensures kept { result ≡ false → seen.new ≡ seen.old }
 {
     if !(u32::from(FIRST_BLOCK_PAGE)..u32::from(end)).contains(&page) {
         return false;
@@ -45,6 +46,7 @@ fn mark(page: u32, end: u16, seen: &mut [u8]) -> bool
 
 /// Walks over the chain from a page on, and marks its blocks. The answer is None where it does not end, leads out of the
 /// blocks before the page `end`, or comes to one that was marked. The marks alone end a ring.
+#[inline(always)]
 fn walk_over<B: Board>(
     store: &mut Store<B>,
     first: u32,
@@ -62,13 +64,14 @@ fn walk_over<B: Board>(
     let mut page = first;
     let mut blocks = 0;
     let mut last = 0;
-    while page != 0 {
-        if !mark(page, end, seen) {
-            return Ok(None);
-        }
+    // Page 0 is no block's, so what can't be marked is the end of the chain as well.
+    while mark(page, end, seen) {
         last = page as u16;
         page = store.read(PAGE_WORDS * last)?;
         blocks += 1;
+    }
+    if page != 0 {
+        return Ok(None);
     }
     Ok(Some(Walked { blocks, last }))
 }
@@ -115,7 +118,8 @@ fn lay_many<B: Board>(
     lay_marked(store, extents, count, &mut seen)
 }
 
-/// The same over marks that are all blank.
+/// The same over marks that are all blank. As a part of its caller it has marks whose address nothing else knows.
+#[inline(always)]
 fn lay_marked<B: Board>(
     store: &mut Store<B>,
     extents: &[Extent],

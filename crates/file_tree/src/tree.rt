@@ -8,10 +8,10 @@ ghost use Rattle.file_tree.specs.Table.{table, IsTable};
 ghost use Rattle.file_tree.specs.Trees.{TellsSpace};
 ghost use Rattle.file_tree.specs.Surveys.{TellsTree};
 
-use crate::entry::Entry;
+use crate::entry::{Entry, Table};
 use crate::format::read_block_count;
 use crate::index::Index;
-use crate::reading::read_table;
+use crate::reading::fill_table;
 use crate::space::FreeSpace;
 use crate::table::{count_free, extents_of, is_table};
 use block_chain::lay;
@@ -37,7 +37,8 @@ pub fn survey<B: Board>(store: &mut Store<B>) -> Result<Option<Survey>, StoreErr
     ensures tree { IfOk result (TellsTree (committed store.old)) }
     ensures store { Reads store.old store.new (result_err result) }
 {
-    let entries = read_table(store)?;
+    let mut entries = Table::new();
+    fill_table(store, &mut entries)?;
     if !is_table(entries.as_slice()) {
         return Ok(None);
     }

@@ -5,7 +5,7 @@ use Rattle.nvm_board.specs.Facts.{pages_of}
 use Rattle.undo_journal.specs.Memory.{Memory, committed, current, IsReady}
 use Rattle.undo_journal.specs.laws.Calls.{reads_then, reads_same}
 use Rattle.block_chain.specs.Counts.{count}
-use Rattle.block_chain.specs.Parts.{marked}
+use Rattle.block_chain.specs.Parts.{marked, IsWalked}
 use Rattle.block_chain.specs.Words.{link}
 use Rattle.block_chain.specs.declared.layout.TheConstants.{MOST_BLOCKS, FIRST_BLOCK_PAGE}
 use Rattle.block_chain.specs.laws.Walking.{HasWalked, walked_none, walked_less, walked_more, walked_all, walked_fresh}
@@ -36,12 +36,12 @@ loop-page-preserved g c =
     let m = committed c.args.store.now in
     let page = c.loop-page.page in
     let invariant = c.loop-page.invariant in
-    let some : page ≢ 0 = c.loop-page-test.true in
     let fit : ((FIRST_BLOCK_PAGE ≤ page) × (page < c.args.end)) × (marked c.loop-page.seen page ≡ 0) =
-    c.mark.ensures.new.0 c.if-not-mark.false in
+    c.mark.ensures.new.0 c.loop-page-test.true in
+    let some : page ≢ 0 = let least = fit.0.0 in λ e. let z : ⊥ = omega (arith, e, least) in z in
     let fits = fits_at _ _ _ _ _ _ _ _ invariant.walked c.requires.ready c.requires.inside fit in
     let seen : c.mark.new.seen ≡ slice_set c.loop-page.seen (page - FIRST_BLOCK_PAGE) 1 =
-    c.mark.ensures.marks c.if-not-mark.false in
+    c.mark.ensures.marks c.loop-page-test.true in
     let next : c.in_ok-page.page ≡ link m page =
     (let at : PAGE_WORDS * page ≡ address page 0 = omega arith in c.in_ok-page.ensures.word
     ∙ ap (λ (k : ℕ). slice_index (current c.loop-page.store) k) at)
@@ -59,29 +59,32 @@ loop-page-preserved g c =
           fits some;
     }
 
-pub returns-then-not-mark-clause-stale : goal.returns-then-not-mark-clause-stale
-returns-then-not-mark-clause-stale g c = λ _.
+pub returns-then-page-ne0-clause-stale : goal.returns-then-page-ne0-clause-stale
+returns-then-page-ne0-clause-stale g c = λ _.
     let m = committed c.args.store.now in
     let page = c.loop-page.page in
-    let some : page ≢ 0 = c.loop-page-test.true in
+    let some : page ≢ 0 = c.if-page-ne0.true in
     stale_there c.args.end m c.args.first c.loop-page.blocks page c.args.seen.now c.loop-page.seen
     c.loop-page.invariant.walked c.requires.ready.usable.committed_size c.loop-page.invariant.within some
-    (λ fit. true≢false (sym (c.mark.ensures.new.1 fit) ∙ c.if-not-mark.true))
+    (λ fit. true≢false (sym (c.mark.ensures.new.1 fit) ∙ c.loop-page-test.false))
 
 pub returns-clause-walked : goal.returns-clause-walked
 returns-clause-walked g c =
-    let none : c.loop-page.page ≡ 0 = c.loop-page-test.false in
+    let m = committed c.args.store.now in
+    let none : c.loop-page.page ≡ 0 = c.if-page-ne0.false in
     let invariant = c.loop-page.invariant in
-    let all = walked_all c.args.end
-    (committed c.args.store.now) c.args.first c.loop-page.blocks _ _ _ invariant.walked invariant.within none in
-    record {
-      fresh = walked_fresh _ _ _ c.loop-page.blocks _ _ _ invariant.walked invariant.within none;
+    let blocks = c.loop-page.blocks in
+    let all = walked_all c.args.end m c.args.first blocks _ _ _ invariant.walked invariant.within none in
+    let family : List ℕ → Type 0 = λ seen. IsWalked c.args.end m c.args.first c.args.seen.now
+    (record { blocks = blocks; last = c.loop-page.last }) seen in
+    subst family (sym (c.mark.ensures.kept c.loop-page-test.false)) (record {
+      fresh = walked_fresh _ _ _ blocks _ _ _ invariant.walked invariant.within none;
       blocks = sym (ap (λ (ps : List ℕ). length ps) all ∙ invariant.walked.long);
-      last = invariant.last ∙ sym (ap (λ (ps : List ℕ). slice_index ps (c.loop-page.blocks - 1)) all);
+      last = invariant.last ∙ sym (ap (λ (ps : List ℕ). slice_index ps (blocks - 1)) all);
       marks = λ q block. invariant.walked.marks q block
           ∙ sym (ap (λ (ps : List ℕ). marked c.args.seen.now q + count q ps) all);
       fine = invariant.walked.fine;
-    }
+    })
 
 pub returns-in_err-page-clause-walked : goal.returns-in_err-page-clause-walked
 returns-in_err-page-clause-walked g c = none_ok _ _ _ c.from_residual.ensures.1
@@ -94,27 +97,27 @@ returns-in_err-page-clause-store g c =
     reads_handed _ _ _ _ c.from_residual.ensures.1 (reads_on _ _ _ _ c.loop-page.invariant.reads
     (c.in_err-page.ensures.store c.loop-page.invariant.ready.idle))
 
-pub returns-then-not-mark-clause-walked : goal.returns-then-not-mark-clause-walked
-returns-then-not-mark-clause-walked g c = tt
+pub returns-then-page-ne0-clause-walked : goal.returns-then-page-ne0-clause-walked
+returns-then-page-ne0-clause-walked g c = tt
 
-pub returns-then-not-mark-clause-store : goal.returns-then-not-mark-clause-store
-returns-then-not-mark-clause-store g c = reads_so_far _ _ c.loop-page.invariant.reads c.loop-page.invariant.ready
+pub returns-then-page-ne0-clause-store : goal.returns-then-page-ne0-clause-store
+returns-then-page-ne0-clause-store g c = reads_so_far _ _ c.loop-page.invariant.reads c.loop-page.invariant.ready
 
 pub returns-clause-store : goal.returns-clause-store
 returns-clause-store g c = reads_so_far _ _ c.loop-page.invariant.reads c.loop-page.invariant.ready
 
 pub loop-page-smaller : goal.loop-page-smaller
 loop-page-smaller g c = let fits = fits_at _ _ _ _ _ _ _ _ c.loop-page.invariant.walked c.requires.ready c.requires.inside
-    (c.mark.ensures.new.0 c.if-not-mark.false) in omega (arith, fits)
+    (c.mark.ensures.new.0 c.loop-page-test.true) in omega (arith, fits)
 
 pub overflow_add-blocks : goal.overflow_add-blocks
 overflow_add-blocks g c = let fits = fits_at _ _ _ _ _ _ _ _ c.loop-page.invariant.walked c.requires.ready c.requires.inside
-    (c.mark.ensures.new.0 c.if-not-mark.false) in omega (arith, fits)
+    (c.mark.ensures.new.0 c.loop-page-test.true) in omega (arith, fits)
 
 pub overflow_cast-last : goal.overflow_cast-last
-overflow_cast-last g c = let block = (c.mark.ensures.new.0 c.if-not-mark.false).0 in
+overflow_cast-last g c = let block = (c.mark.ensures.new.0 c.loop-page-test.true).0 in
     let most = c.requires.ready.usable.committed_size.most in omega (arith, block.1, c.requires.inside, most)
 
 pub overflow_mul-last : goal.overflow_mul-last
-overflow_mul-last g c = let block = (c.mark.ensures.new.0 c.if-not-mark.false).0 in
+overflow_mul-last g c = let block = (c.mark.ensures.new.0 c.loop-page-test.true).0 in
     let most = c.requires.ready.usable.committed_size.most in omega (arith, block.1, c.requires.inside, most)

@@ -12,13 +12,13 @@ use Rattle.file_tree.proofs.tree.survey.Goals as goal
 
 pub is_table-requires : goal.is_table-requires
 is_table-requires g c =
-    ap (λ (t : List Entry). length t) (c.as_slice.ensures.value ∙ c.in_ok-entries.ensures.table)
+    ap (λ (t : List Entry). length t) (c.as_slice.ensures.value ∙ c.in_ok-fill_table.ensures.table)
     ∙ length-table (committed c.args.store.now)
 
 pub find_free-requires-clause-read : goal.find_free-requires-clause-read
 find_free-requires-clause-read g c =
-    c.as_slice-2.ensures.value ∙ c.in_ok-entries.ensures.table
-    ∙ ap table (sym c.read_table.ensures.store.only.keeps.committed_words)
+    c.as_slice-2.ensures.value ∙ c.in_ok-fill_table.ensures.table
+    ∙ ap table (sym c.fill_table.ensures.store.only.keeps.committed_words)
 
 pub find_free-requires-clause-rules : goal.find_free-requires-clause-rules
 find_free-requires-clause-rules g c =
@@ -27,7 +27,7 @@ find_free-requires-clause-rules g c =
 
 pub of-index-requires-clause-size : goal.of-index-requires-clause-size
 of-index-requires-clause-size g c =
-    ap (λ (t : List Entry). length t) (c.as_slice-3.ensures.value ∙ c.in_ok-entries.ensures.table)
+    ap (λ (t : List Entry). length t) (c.as_slice-3.ensures.value ∙ c.in_ok-fill_table.ensures.table)
     ∙ length-table (committed c.args.store.now)
 
 pub of-index-requires-clause-apart : goal.of-index-requires-clause-apart
@@ -46,24 +46,24 @@ told_before m now o answer same is told =
 pub returns-clause-tree : goal.returns-clause-tree
 returns-clause-tree g c =
     let m = committed c.args.store.now in
-    let told = told_before m _ _ _ c.read_table.ensures.store.only.keeps.committed_words c.in-Some.is c.in_ok-free.ensures.tree in
+    let told = told_before m _ _ _ c.fill_table.ensures.store.only.keeps.committed_words c.in-Some.is c.in_ok-free.ensures.tree in
     let indexed : List Entry → Type 0 = λ t. IsIndex t c.of-index.result in
-    (told.0, told.1, subst indexed (c.as_slice-3.ensures.value ∙ c.in_ok-entries.ensures.table) c.of-index.ensures.index)
+    (told.0, told.1, subst indexed (c.as_slice-3.ensures.value ∙ c.in_ok-fill_table.ensures.table) c.of-index.ensures.index)
 
 pub returns-in_default-clause-tree : goal.returns-in_default-clause-tree
 returns-in_default-clause-tree g c =
-    told_before (committed c.args.store.now) _ _ None c.read_table.ensures.store.only.keeps.committed_words c.in_default.is
+    told_before (committed c.args.store.now) _ _ None c.fill_table.ensures.store.only.keeps.committed_words c.in_default.is
     c.in_ok-free.ensures.tree
 
-pub returns-in_err-entries-clause-tree : goal.returns-in_err-entries-clause-tree
-returns-in_err-entries-clause-tree g c = none_ok _ _ _ c.from_residual.ensures.1
+pub returns-in_err-fill_table-clause-tree : goal.returns-in_err-fill_table-clause-tree
+returns-in_err-fill_table-clause-tree g c = none_ok _ _ _ c.from_residual.ensures.1
 
-pub returns-in_err-entries-clause-store : goal.returns-in_err-entries-clause-store
-returns-in_err-entries-clause-store g c =
-    reads_handed _ _ _ _ c.from_residual.ensures.1 c.in_err-entries.ensures.store
+pub returns-in_err-fill_table-clause-store : goal.returns-in_err-fill_table-clause-store
+returns-in_err-fill_table-clause-store g c =
+    reads_handed _ _ _ _ c.from_residual.ensures.1 c.in_err-fill_table.ensures.store
 
 pub returns-then-not-is_table-clause-store : goal.returns-then-not-is_table-clause-store
-returns-then-not-is_table-clause-store g c = c.in_ok-entries.ensures.store
+returns-then-not-is_table-clause-store g c = c.in_ok-fill_table.ensures.store
 
 pub returns-in_err-free-clause-tree : goal.returns-in_err-free-clause-tree
 returns-in_err-free-clause-tree g c = none_ok _ _ _ c.from_residual-in_err-free.ensures.1
@@ -71,4 +71,4 @@ returns-in_err-free-clause-tree g c = none_ok _ _ _ c.from_residual-in_err-free.
 pub returns-in_err-free-clause-store : goal.returns-in_err-free-clause-store
 returns-in_err-free-clause-store g c =
     reads_handed _ _ _ _ c.from_residual-in_err-free.ensures.1
-    (reads_on _ _ _ _ c.read_table.ensures.store.only c.in_err-free.ensures.store)
+    (reads_on _ _ _ _ c.fill_table.ensures.store.only c.in_err-free.ensures.store)
