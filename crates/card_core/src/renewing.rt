@@ -12,7 +12,7 @@ ghost use Rattle.card_core.specs.Standing.{IsOldCard, card_of};
 ghost use Rattle.card_core.specs.Cards.{card_space};
 ghost use Rattle.card_core.specs.Working.{TellsSurvey};
 
-use crate::check::{Checked, find_card};
+use crate::check::find_card;
 use crate::memory_format::MemoryFormat;
 use file_tree::{FreeSpace, OLD_END_PAGE, Survey};
 use migration::migrate;
@@ -46,17 +46,14 @@ pub(crate) fn survey_card<B: Board>(store: &mut Store<B>) -> Result<Option<Surve
     ensures store { Changes (if is_format_2 (committed store.old) then 0 else migration_writes (pages_of (committed
         store.old))) store.old store.new (result_err result) }
 {
-    let Some(Checked { format, tree }) = find_card(store)? else {
+    let Some(found) = find_card(store)? else {
         return Ok(None);
     };
-    match format {
-        MemoryFormat::Two => Ok(Some(tree)),
-        MemoryFormat::One => {
-            let free = renew(store, tree.free)?;
-            Ok(Some(Survey {
-                free,
-                index: tree.index,
-            }))
-        }
+    match found.format {
+        MemoryFormat::Two => Ok(Some(found.tree)),
+        MemoryFormat::One => Ok(Some(Survey {
+            free: renew(store, found.tree.free)?,
+            index: found.tree.index,
+        })),
     }
 }
