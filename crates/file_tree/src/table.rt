@@ -89,8 +89,10 @@ fn is_alone(entries: &[Entry], e: usize) -> bool
     requires { e < length entries.now }
     ensures { IsTrue result ↔ IsAlone entries.now e }
 {
+    let one = entries[e];
     for f in e + 1..entries.len() {
-        if entries[f].kind != kinds::FREE && are_alike(e, &entries[e], &entries[f]) {
+        let other = entries[f];
+        if other.kind != kinds::FREE && are_alike(e, &one, &other) {
             return false;
         }
     }
