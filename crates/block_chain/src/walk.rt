@@ -67,7 +67,7 @@ fn walk_over<B: Board>(
     // Page 0 is no block's, so what can't be marked is the end of the chain as well.
     while mark(page, end, seen) {
         last = page as u16;
-        page = store.read(PAGE_WORDS * last)?;
+        page = store.read_committed(PAGE_WORDS * last)?;
         blocks += 1;
     }
     if page != 0 {

@@ -2,7 +2,7 @@ use Rattle.std.proofs.Common.{◌≡◌, ◌≢◌, ◌+◌, ◌-◌, ◌*◌, �
 use Rattle.std.proofs.Common.{true≢false, sym, ◌∙◌, ap, subst, arith}
 use Rattle.nvm_board.specs.Facts.{address}
 use Rattle.nvm_board.specs.Facts.{pages_of}
-use Rattle.undo_journal.specs.Memory.{Memory, committed, current, IsReady}
+use Rattle.undo_journal.specs.Memory.{Memory, committed, IsReady}
 use Rattle.undo_journal.specs.laws.Calls.{reads_then, reads_same}
 use Rattle.block_chain.specs.Counts.{count}
 use Rattle.block_chain.specs.Parts.{marked, IsWalked}
@@ -44,13 +44,13 @@ loop-page-preserved g c =
     c.mark.ensures.marks c.loop-page-test.true in
     let next : c.in_ok-page.page ≡ link m page =
     (let at : PAGE_WORDS * page ≡ address page 0 = omega arith in c.in_ok-page.ensures.word
-    ∙ ap (λ (k : ℕ). slice_index (current c.loop-page.store) k) at)
-    ∙ ap (λ (l : List ℕ). link l page) (sym invariant.ready.same ∙ invariant.reads.keeps.committed_words) in
+    ∙ ap (λ (k : ℕ). slice_index (committed c.loop-page.store) k) at)
+    ∙ ap (λ (l : List ℕ). link l page) invariant.reads.keeps.committed_words in
     let more = walked_more c.args.end m c.args.first c.loop-page.blocks page c.args.seen.now c.loop-page.seen invariant.walked
     c.requires.ready.usable.committed_size c.requires.inside fits some fit.0 fit.1 in
     record {
-      ready = (c.in_ok-page.ensures.store invariant.ready.idle).ready;
-      reads = reads_then _ _ _ invariant.reads c.read.ensures.reads;
+      ready = c.in_ok-page.ensures.store.ready;
+      reads = reads_then _ _ _ invariant.reads c.read_committed.ensures.store.only;
       within = omega (arith, fits);
       walked = (let family : ℕ → List ℕ
           → Type 0 = λ p l. HasWalked c.args.end m c.args.first (c.loop-page.blocks + 1) p c.args.seen.now l in
@@ -95,7 +95,7 @@ returns-in_err-page-clause-stale g c = none_ok _ _ _ c.from_residual.ensures.1
 pub returns-in_err-page-clause-store : goal.returns-in_err-page-clause-store
 returns-in_err-page-clause-store g c =
     reads_handed _ _ _ _ c.from_residual.ensures.1 (reads_on _ _ _ _ c.loop-page.invariant.reads
-    (c.in_err-page.ensures.store c.loop-page.invariant.ready.idle))
+    c.in_err-page.ensures.store)
 
 pub returns-then-page-ne0-clause-walked : goal.returns-then-page-ne0-clause-walked
 returns-then-page-ne0-clause-walked g c = tt
