@@ -48,7 +48,7 @@ fn read_used<B: Board>(store: &mut Store<B>, e: u8) -> Result<Entry, StoreErr>
     ensures entry { IfOk result (λ entry. entry ≡ entry_in (table (committed store.old)) e) }
     ensures store { Reads store.old store.new (result_err result) }
 {
-    let first = store.read(entry_address(e))?;
+    let first = store.read_committed(entry_address(e))?;
     if first == 0 {
         return Ok(Entry::free());
     }
