@@ -22,8 +22,8 @@ fits_at store m end from n page old new walked ready inside fit =
     let most = ready.usable.committed_size.most in
     walked_less end m from n page old new walked (omega (arith, inside, most)) fit.0 fit.1
 
-pub loop-page-init : goal.loop-page-init
-loop-page-init g c = record {
+pub loop-last-init : goal.loop-last-init
+loop-last-init g c = record {
   ready = c.requires.ready;
   reads = reads_same _;
   within = omega arith;
@@ -31,53 +31,53 @@ loop-page-init g c = record {
   last = sym (ap (λ (ps : List ℕ). slice_index ps 0) (pages_zero (committed c.args.store.now) c.args.first));
 }
 
-pub loop-page-preserved : goal.loop-page-preserved
-loop-page-preserved g c =
+pub loop-last-preserved : goal.loop-last-preserved
+loop-last-preserved g c =
     let m = committed c.args.store.now in
-    let page = c.loop-page.page in
-    let invariant = c.loop-page.invariant in
-    let fit : ((FIRST_BLOCK_PAGE ≤ page) × (page < c.args.end)) × (marked c.loop-page.seen page ≡ 0) =
-    c.mark.ensures.new.0 c.loop-page-test.true in
+    let page = c.loop-last.page in
+    let invariant = c.loop-last.invariant in
+    let fit : ((FIRST_BLOCK_PAGE ≤ page) × (page < c.args.end)) × (marked c.loop-last.seen page ≡ 0) =
+    c.mark.ensures.new.0 c.loop-last-test.true in
     let some : page ≢ 0 = let least = fit.0.0 in λ e. let z : ⊥ = omega (arith, e, least) in z in
     let fits = fits_at _ _ _ _ _ _ _ _ invariant.walked c.requires.ready c.requires.inside fit in
-    let seen : c.mark.new.seen ≡ slice_set c.loop-page.seen (page - FIRST_BLOCK_PAGE) 1 =
-    c.mark.ensures.marks c.loop-page-test.true in
+    let seen : c.mark.new.seen ≡ slice_set c.loop-last.seen (page - FIRST_BLOCK_PAGE) 1 =
+    c.mark.ensures.marks c.loop-last-test.true in
     let next : c.in_ok-page.page ≡ link m page =
     (let at : PAGE_WORDS * page ≡ address page 0 = omega arith in c.in_ok-page.ensures.word
-    ∙ ap (λ (k : ℕ). slice_index (committed c.loop-page.store) k) at)
+    ∙ ap (λ (k : ℕ). slice_index (committed c.loop-last.store) k) at)
     ∙ ap (λ (l : List ℕ). link l page) invariant.reads.keeps.committed_words in
-    let more = walked_more c.args.end m c.args.first c.loop-page.blocks page c.args.seen.now c.loop-page.seen invariant.walked
+    let more = walked_more c.args.end m c.args.first c.loop-last.blocks page c.args.seen.now c.loop-last.seen invariant.walked
     c.requires.ready.usable.committed_size c.requires.inside fits some fit.0 fit.1 in
     record {
       ready = c.in_ok-page.ensures.store.ready;
       reads = reads_then _ _ _ invariant.reads c.read_committed.ensures.store.only;
       within = omega (arith, fits);
       walked = (let family : ℕ → List ℕ
-          → Type 0 = λ p l. HasWalked c.args.end m c.args.first (c.loop-page.blocks + 1) p c.args.seen.now l in
+          → Type 0 = λ p l. HasWalked c.args.end m c.args.first (c.loop-last.blocks + 1) p c.args.seen.now l in
           subst (λ (p : ℕ). family p c.mark.new.seen) (sym next) (subst (family (link m page)) (sym seen) more));
-      last = last_more c.args.end m c.args.first c.loop-page.blocks page c.args.seen.now c.loop-page.seen invariant.walked
+      last = last_more c.args.end m c.args.first c.loop-last.blocks page c.args.seen.now c.loop-last.seen invariant.walked
           fits some;
     }
 
 pub returns-then-page-ne0-clause-stale : goal.returns-then-page-ne0-clause-stale
 returns-then-page-ne0-clause-stale g c = λ _.
     let m = committed c.args.store.now in
-    let page = c.loop-page.page in
+    let page = c.loop-last.page in
     let some : page ≢ 0 = c.if-page-ne0.true in
-    stale_there c.args.end m c.args.first c.loop-page.blocks page c.args.seen.now c.loop-page.seen
-    c.loop-page.invariant.walked c.requires.ready.usable.committed_size c.loop-page.invariant.within some
-    (λ fit. true≢false (sym (c.mark.ensures.new.1 fit) ∙ c.loop-page-test.false))
+    stale_there c.args.end m c.args.first c.loop-last.blocks page c.args.seen.now c.loop-last.seen
+    c.loop-last.invariant.walked c.requires.ready.usable.committed_size c.loop-last.invariant.within some
+    (λ fit. true≢false (sym (c.mark.ensures.new.1 fit) ∙ c.loop-last-test.false))
 
 pub returns-clause-walked : goal.returns-clause-walked
 returns-clause-walked g c =
     let m = committed c.args.store.now in
-    let none : c.loop-page.page ≡ 0 = c.if-page-ne0.false in
-    let invariant = c.loop-page.invariant in
-    let blocks = c.loop-page.blocks in
+    let none : c.loop-last.page ≡ 0 = c.if-page-ne0.false in
+    let invariant = c.loop-last.invariant in
+    let blocks = c.loop-last.blocks in
     let all = walked_all c.args.end m c.args.first blocks _ _ _ invariant.walked invariant.within none in
     let family : List ℕ → Type 0 = λ seen. IsWalked c.args.end m c.args.first c.args.seen.now
-    (record { blocks = blocks; last = c.loop-page.last }) seen in
-    subst family (sym (c.mark.ensures.kept c.loop-page-test.false)) (record {
+    (record { blocks = blocks; last = c.loop-last.last }) seen in
+    subst family (sym (c.mark.ensures.kept c.loop-last-test.false)) (record {
       fresh = walked_fresh _ _ _ blocks _ _ _ invariant.walked invariant.within none;
       blocks = sym (ap (λ (ps : List ℕ). length ps) all ∙ invariant.walked.long);
       last = invariant.last ∙ sym (ap (λ (ps : List ℕ). slice_index ps (blocks - 1)) all);
@@ -94,30 +94,30 @@ returns-in_err-page-clause-stale g c = none_ok _ _ _ c.from_residual.ensures.1
 
 pub returns-in_err-page-clause-store : goal.returns-in_err-page-clause-store
 returns-in_err-page-clause-store g c =
-    reads_handed _ _ _ _ c.from_residual.ensures.1 (reads_on _ _ _ _ c.loop-page.invariant.reads
+    reads_handed _ _ _ _ c.from_residual.ensures.1 (reads_on _ _ _ _ c.loop-last.invariant.reads
     c.in_err-page.ensures.store)
 
 pub returns-then-page-ne0-clause-walked : goal.returns-then-page-ne0-clause-walked
 returns-then-page-ne0-clause-walked g c = tt
 
 pub returns-then-page-ne0-clause-store : goal.returns-then-page-ne0-clause-store
-returns-then-page-ne0-clause-store g c = reads_so_far _ _ c.loop-page.invariant.reads c.loop-page.invariant.ready
+returns-then-page-ne0-clause-store g c = reads_so_far _ _ c.loop-last.invariant.reads c.loop-last.invariant.ready
 
 pub returns-clause-store : goal.returns-clause-store
-returns-clause-store g c = reads_so_far _ _ c.loop-page.invariant.reads c.loop-page.invariant.ready
+returns-clause-store g c = reads_so_far _ _ c.loop-last.invariant.reads c.loop-last.invariant.ready
 
-pub loop-page-smaller : goal.loop-page-smaller
-loop-page-smaller g c = let fits = fits_at _ _ _ _ _ _ _ _ c.loop-page.invariant.walked c.requires.ready c.requires.inside
-    (c.mark.ensures.new.0 c.loop-page-test.true) in omega (arith, fits)
+pub loop-last-smaller : goal.loop-last-smaller
+loop-last-smaller g c = let fits = fits_at _ _ _ _ _ _ _ _ c.loop-last.invariant.walked c.requires.ready c.requires.inside
+    (c.mark.ensures.new.0 c.loop-last-test.true) in omega (arith, fits)
 
 pub overflow_add-blocks : goal.overflow_add-blocks
-overflow_add-blocks g c = let fits = fits_at _ _ _ _ _ _ _ _ c.loop-page.invariant.walked c.requires.ready c.requires.inside
-    (c.mark.ensures.new.0 c.loop-page-test.true) in omega (arith, fits)
+overflow_add-blocks g c = let fits = fits_at _ _ _ _ _ _ _ _ c.loop-last.invariant.walked c.requires.ready c.requires.inside
+    (c.mark.ensures.new.0 c.loop-last-test.true) in omega (arith, fits)
 
 pub overflow_cast-last : goal.overflow_cast-last
-overflow_cast-last g c = let block = (c.mark.ensures.new.0 c.loop-page-test.true).0 in
+overflow_cast-last g c = let block = (c.mark.ensures.new.0 c.loop-last-test.true).0 in
     let most = c.requires.ready.usable.committed_size.most in omega (arith, block.1, c.requires.inside, most)
 
 pub overflow_mul-last : goal.overflow_mul-last
-overflow_mul-last g c = let block = (c.mark.ensures.new.0 c.loop-page-test.true).0 in
+overflow_mul-last g c = let block = (c.mark.ensures.new.0 c.loop-last-test.true).0 in
     let most = c.requires.ready.usable.committed_size.most in omega (arith, block.1, c.requires.inside, most)

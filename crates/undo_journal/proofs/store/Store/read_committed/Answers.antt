@@ -1,4 +1,4 @@
-use Rattle.std.proofs.Common.{◌≡◌, ◌<◌, Some, None, [], ◌∷◌, length, slice_index, ℕ, List, subst, refl, sym, ap, ◌∙◌, arith}
+use Rattle.std.proofs.Common.{◌≡◌, ◌<◌, None, [], ◌∷◌, length, slice_index, ℕ, List, subst, refl, sym, ap, ◌∙◌, arith}
 use Rattle.undo_journal.specs.Undo.{gate, IsDataAddress, IsSound}
 use Rattle.undo_journal.specs.laws.Undo.{data_words-outside}
 use Rattle.undo_journal.specs.Memory.{Memory, current, taken}
