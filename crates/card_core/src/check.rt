@@ -12,7 +12,7 @@ use crate::memory_format::MemoryFormat;
 use block_chain::HEADER_PAGE;
 use file_tree::{
     CARD_TERMINATED, MARK, MARK_WORD, OLD_END_PAGE, OLD_MARK, PAGES_WORD, STATE_WORD, Survey,
-    survey,
+    survey_tree,
 };
 use pin_store::{are_marks, are_pins};
 use undo_journal::{Board, PAGE_WORDS, Store, StoreErr};
@@ -91,7 +91,7 @@ pub(crate) fn find_card<B: Board>(store: &mut Store<B>) -> Result<Option<Checked
     if !has_pins(store, format)? {
         return Ok(None);
     }
-    let Some(tree) = survey(store)? else {
+    let Some(tree) = survey_tree(store)? else {
         return Ok(None);
     };
     Ok(Some(Checked { format, tree }))

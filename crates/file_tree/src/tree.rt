@@ -32,7 +32,7 @@ pub struct Survey {
 ///
 /// # Errors
 /// What the store answers: power was lost, or the device failed.
-pub fn survey<B: Board>(store: &mut Store<B>) -> Result<Option<Survey>, StoreErr>
+pub fn survey_tree<B: Board>(store: &mut Store<B>) -> Result<Option<Survey>, StoreErr>
     requires ready { IsReady store.old }
     ensures tree { IfOk result (TellsTree (committed store.old)) }
     ensures store { Reads store.old store.new (result_err result) }

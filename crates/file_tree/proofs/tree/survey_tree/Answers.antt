@@ -8,7 +8,7 @@ use Rattle.file_tree.specs.Indexes.{IsIndex}
 use Rattle.file_tree.specs.Table.{table, HaveIdentifiers, IsTable}
 use Rattle.file_tree.specs.Trees.{TreeStands, TellsSpace}
 use Rattle.file_tree.specs.laws.Tables.{length-table}
-use Rattle.file_tree.proofs.tree.survey.Goals as goal
+use Rattle.file_tree.proofs.tree.survey_tree.Goals as goal
 
 pub is_table-requires : goal.is_table-requires
 is_table-requires g c =
