@@ -9,7 +9,7 @@ use Rattle.block_chain.specs.Chains.{Leads, chain, free_chain}
 use Rattle.block_chain.specs.Counts.{count, IsNotIn}
 use Rattle.block_chain.specs.Words.{word, link, IsBlock, word_bytes}
 use Rattle.block_chain.specs.declared.chain.Chain.{Chain}
-use Rattle.block_chain.specs.declared.layout.TheConstants.{FREE_HEAD, MOST_BLOCKS, FIRST_BLOCK_PAGE, BLOCK_WORDS}
+use Rattle.block_chain.specs.declared.layout.TheConstants.{FREE_HEAD, FIRST_BLOCK_PAGE, BLOCK_WORDS}
 use Rattle.block_chain.specs.declared.walk.Walked.{Walked}
 
 -- the byte at a place, where bytes are put from an offset on

@@ -15,6 +15,11 @@ use Rattle.file_tree.specs.Trees.{TreeStands}
 use Rattle.file_tree.specs.laws.Formats.{count_is}
 use Rattle.file_tree.proofs.tree.find_free.Goals as goal
 
+pub extents_of-extents-requires : goal.extents_of-extents-requires
+extents_of-extents-requires g c =
+    let size = ap (λ (t : List Entry). length t) c.requires.read ∙ length-table (committed c.args.store.now) in
+    omega (arith, size)
+
 pub count_free-entries-requires : goal.count_free-entries-requires
 count_free-entries-requires g c =
     ap (λ (t : List Entry). length t) c.requires.read ∙ length-table (committed c.args.store.now)

@@ -1,4 +1,4 @@
-use Rattle.std.proofs.Common.{rules, ◌≡◌, ◌<◌, ◌≤◌, ◌+◌, ℕ, List, length, sym, ◌∙◌, ap, subst, arith}
+use Rattle.std.proofs.Common.{rules, ◌≡◌, ◌<◌, ◌≤◌, ◌+◌, ℕ, List, [], length, sym, ◌∙◌, ap, subst, arith}
 use Rattle.std.specs.Prelude.{slice_index_or}
 use Rattle.file_tree.specs.declared.entry.Entry.{Entry}
 use Rattle.file_tree.specs.declared.steps.Key.{Key}
@@ -12,6 +12,13 @@ use Rattle.file_tree.specs.laws.Indexes.{places_none, places_skip, places_stored
 use Rattle.file_tree.specs.laws.Tables.{entry_within}
 use Rattle.file_tree.proofs.index.Index.of.Goals as goal
 use Rattle.file_tree.proofs.index.Index.of.Goals.{then-entry-ne-FREE, else-entry-ne-FREE}
+
+-- what a list of entries has past its end
+abbrev unread : Entry
+unread = record {
+  kind = 0; life = 0; identifier = 0; parent = 0; short = 0; name_length = 0; rule_length = 0; rule = []; name = [];
+  size = 0; record_length = 0; first = 0; last = 0; records = 0; start = 0;
+}
 
 pub loop-e-init : goal.loop-e-init
 loop-e-init c =
@@ -35,7 +42,8 @@ loop-e-preserved c =
     let size = c.loop-e.invariant.size in
     let below : 0 < e = search rules in
     let small : e < 64 = search rules in
-    let read = entry_within t e _ (let all = c.requires.size in omega (arith, all, small)) in
+    let read = ap (λ (k : ℕ). slice_index_or t k unread) c.from.ensures
+    ∙ entry_within t e unread (let all = c.requires.size in omega (arith, all, small)) in
     let told : Index → Type 0 = λ i. (length i.places.items < e + 1) × ArePlacesTo t (e + 1) i.places.items in
     let next : told c.if-entry-ne-FREE.index = elim c.if-entry-ne-FREE.branch [
       | then-entry-ne-FREE w ↦
