@@ -21,7 +21,6 @@ use Rattle.file_tree.specs.Table.{table, entry_in, IsUsed, IsTable, HaveIdentifi
 use Rattle.file_tree.specs.Indexes.{place_of, IsPlace, AreSorted, IsIndex, IsFreeIn, AddsEntry, TellsChild}
 use Rattle.file_tree.specs.IndexParts.{key_at, AreBefore, AreBehind, TellsSearch, halved, Puts, ArePlacesTo, parent_by, leads_by}
 use Rattle.file_tree.specs.laws.Tables.{entry_past}
-use Rattle.file_tree.specs.laws.Nodes.{used_small}
 use Rattle.file_tree.specs.laws.Alikes.{used_within}
 
 -- a key, whatever stands past the end

@@ -1,4 +1,4 @@
-use Rattle.std.proofs.Common.{◌≡◌, ◌+◌, ℕ, slice_index, sym, ◌∙◌, ap, arith}
+use Rattle.std.proofs.Common.{◌≡◌, ◌+◌, slice_index, sym, ◌∙◌, ap, arith}
 use Rattle.undo_journal.specs.Memory.{committed}
 use Rattle.block_chain.specs.Words.{page_words}
 use Rattle.block_chain.specs.laws.Words.{index-page_words}

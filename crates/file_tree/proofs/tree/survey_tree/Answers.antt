@@ -1,12 +1,12 @@
 use Rattle.undo_journal.specs.laws.Exits.{none_ok}
-use Rattle.std.proofs.Common.{◌≡◌, ℕ, List, Option, Some, None, IsTrue, length, refl, sym, ◌∙◌, ap, subst}
+use Rattle.std.proofs.Common.{◌≡◌, ℕ, List, Option, None, length, sym, ◌∙◌, ap, subst}
 use Rattle.undo_journal.specs.Memory.{committed}
 use Rattle.undo_journal.specs.laws.Told.{reads_handed, reads_on}
 use Rattle.file_tree.specs.declared.entry.Entry.{Entry}
 use Rattle.file_tree.specs.declared.space.FreeSpace.{FreeSpace}
 use Rattle.file_tree.specs.Indexes.{IsIndex}
 use Rattle.file_tree.specs.Table.{table, HaveIdentifiers, IsTable}
-use Rattle.file_tree.specs.Trees.{TreeStands, TellsSpace}
+use Rattle.file_tree.specs.Trees.{TellsSpace}
 use Rattle.file_tree.specs.laws.Tables.{length-table}
 use Rattle.file_tree.proofs.tree.survey_tree.Goals as goal
 

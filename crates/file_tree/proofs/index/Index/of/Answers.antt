@@ -5,7 +5,7 @@ use Rattle.file_tree.specs.declared.steps.Key.{Key}
 use Rattle.file_tree.specs.declared.index.Place.{Place}
 use Rattle.file_tree.specs.declared.index.Index.{Index}
 use Rattle.file_tree.specs.Keys.{key_for}
-use Rattle.file_tree.specs.Table.{entry_in, IsUsed}
+use Rattle.file_tree.specs.Table.{IsUsed}
 use Rattle.file_tree.specs.Indexes.{place_of}
 use Rattle.file_tree.specs.IndexParts.{ArePlacesTo}
 use Rattle.file_tree.specs.laws.Indexes.{places_none, places_skip, places_stored, places_whole}
