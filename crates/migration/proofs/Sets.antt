@@ -15,9 +15,8 @@ use Rattle.file_tree.specs.Trees.{TreeStands}
 use Rattle.file_tree.specs.laws.Footprints.{tree_kept}
 use Rattle.file_tree.specs.laws.Migrating.{links_keep, migrated_tree, same-entries}
 use Rattle.pin_store.specs.declared.layout.TheConstants.{FIRST_PIN_PAGE}
-use Rattle.pin_store.specs.Pages.{KeepsSecrets}
 use Rattle.pin_store.specs.declared.layout.TheConstants.{PIN_MARK_WORD}
-use Rattle.migration.specs.Migrating.{MarksPins, RenamesHeader, IsRenamed, KeepsCard, IsNew, IsMigrated, Migrates}
+use Rattle.migration.specs.Migrating.{MarksPins, RenamesHeader, IsRenamed, IsMigrated, Migrates}
 
 pub marks_none : (m : List ℕ) → MarksPins 0 m m
 marks_none m = record { size = refl; marked = λ pin lt. absurd (omega (arith, lt)); others = λ page place small apart. refl }
