@@ -1,5 +1,5 @@
 -- What the code keeps of a session, and what it makes of a step. No public clause names these.
-use Rattle.std.specs.Prelude.{◌≡◌, ◌≢◌, ◌⊎◌, ◌<◌, ◌≤◌, ◌+◌, ◌*◌, ◌==◌, ◌&&◌, ℕ, Bool, true, false, not, nat_lt}
+use Rattle.std.specs.Prelude.{◌≡◌, ◌≢◌, ◌⊎◌, ◌≤◌, ◌+◌, ◌*◌, ◌==◌, ◌&&◌, ℕ, Bool, true, false, not, nat_lt}
 use Rattle.std.specs.Prelude.{nat_le, if◌then◌else◌}
 use Rattle.std.specs.Prelude.{◌||◌, ◌-◌, ◌++◌, ◌∷◌, slice_set, IsTrue, List, [], length, Option, Some}
 use Rattle.std.specs.Prelude.{None, map, option_map, unwrap_or, IfSome}
