@@ -9,7 +9,7 @@ use Rattle.block_chain.specs.Chains.{Leads, chain, free_chain}
 use Rattle.block_chain.specs.Counts.{count, IsNotIn}
 use Rattle.block_chain.specs.Words.{word, link, IsBlock, word_bytes}
 use Rattle.block_chain.specs.declared.chain.Chain.{Chain}
-use Rattle.block_chain.specs.declared.layout.TheConstants.{FREE_HEAD, MOST_BLOCKS, FIRST_BLOCK_PAGE, BLOCK_WORDS}
+use Rattle.block_chain.specs.declared.layout.TheConstants.{FREE_HEAD, FIRST_BLOCK_PAGE, BLOCK_WORDS}
 use Rattle.block_chain.specs.declared.walk.Walked.{Walked}
 
 -- the byte at a place, where bytes are put from an offset on
@@ -62,9 +62,13 @@ IsPlace page = (FIRST_BLOCK_PAGE ≤ page) × (page < MOST_PAGES)
 abbrev pub marked : List ℕ → ℕ → ℕ
 marked seen page = slice_index seen (page - FIRST_BLOCK_PAGE)
 
--- a mark for each page that may be a block's, 0 or 1
-pub record AreMarks (seen : List ℕ) : Type 0 where
-  pub size : length seen ≡ MOST_BLOCKS
+-- no page is marked
+abbrev pub AreBlank : List ℕ → Type 0
+AreBlank seen = (place : ℕ) → slice_index seen place ≡ 0
+
+-- a mark for each block before the page `end`, 0 or 1
+pub record AreMarks (end : ℕ) (seen : List ℕ) : Type 0 where
+  pub room : end ≤ FIRST_BLOCK_PAGE + length seen
   pub each : (page : ℕ) → IsPlace page → marked seen page ≤ 1
 
 -- the chain from a page on ends, all of it are blocks before the page `end`, and none was marked or stands in it twice
@@ -83,4 +87,4 @@ pub record IsWalked (end : ℕ) (m : List ℕ) (from : ℕ) (old : List ℕ) (w 
   pub blocks : w.blocks ≡ length (chain m from)
   pub last : w.last ≡ slice_index (chain m from) (w.blocks - 1)
   pub marks : Marks old (chain m from) new
-  pub fine : AreMarks new
+  pub fine : AreMarks end new

@@ -1,19 +1,22 @@
 //! The check of the layout: a walk over each chain that marks its blocks.
 ghost use Rattle.std.specs.Prelude.{◌≡◌, ◌+◌, ◌-◌, ◌<◌, ◌≤◌, ◌↔◌, IfOk, IsTrue, IfSome, Some, None};
-ghost use Rattle.std.specs.Prelude.{slice_set};
+ghost use Rattle.std.specs.Prelude.{false, length, slice_set};
 ghost use Rattle.std.specs.Result.{result_err};
 ghost use Rattle.nvm_board.specs.declared.board.TheConstants.{MOST_PAGES};
 ghost use Rattle.undo_journal.specs.Memory.{committed, IsReady};
 ghost use Rattle.undo_journal.specs.Calls.{Reads};
 ghost use Rattle.block_chain.specs.Chains.{chain};
 ghost use Rattle.block_chain.specs.Layout.{TellsFree};
-ghost use Rattle.block_chain.specs.Parts.{marked, AreMarks, IsFresh, IsWalked};
+ghost use Rattle.block_chain.specs.Parts.{marked, AreBlank, AreMarks, IsFresh, IsWalked};
 ghost use Rattle.nvm_board.specs.Facts.{pages_of};
 ghost use Rattle.block_chain.specs.declared.layout.TheConstants.{FIRST_BLOCK_PAGE};
 
 use crate::chain::Extent;
 use crate::layout::{FIRST_BLOCK_PAGE, FREE_HEAD, MOST_BLOCKS};
 use undo_journal::{Board, PAGE_WORDS, Store, StoreErr};
+
+/// So many marks at most are blanked in a few instructions; more of them a byte at a time.
+const FEW_BLOCKS: u16 = 1_984;
 
 /// How long a chain is, and its last block, or 0.
 #[derive(Clone, Copy)]
@@ -23,11 +26,12 @@ pub(crate) struct Walked {
 }
 
 /// Marks a block before the page `end`, if it is one that was not marked before.
-fn mark(page: u32, end: u16, seen: &mut [u8; MOST_BLOCKS as usize]) -> bool
+fn mark(page: u32, end: u16, seen: &mut [u8]) -> bool
     requires most { end ≤ MOST_PAGES }
-    requires marks { AreMarks seen.old }
+    requires marks { AreMarks end seen.old }
     ensures new { IsTrue result ↔ (((FIRST_BLOCK_PAGE ≤ page) × (page < end)) × (marked seen.old page ≡ 0)) }
     ensures marks { IsTrue result → seen.new ≡ slice_set seen.old (page - FIRST_BLOCK_PAGE) 1 }
+    ensures kept { result ≡ false → seen.new ≡ seen.old }
 {
     if !(u32::from(FIRST_BLOCK_PAGE)..u32::from(end)).contains(&page) {
         return false;
@@ -41,16 +45,17 @@ fn mark(page: u32, end: u16, seen: &mut [u8; MOST_BLOCKS as usize]) -> bool
 }
 
 /// Walks over the chain from a page on, and marks its blocks. The answer is None where it does not end, leads out of the
-/// blocks before the page `end`, or comes to one that was marked.
+/// blocks before the page `end`, or comes to one that was marked. The marks alone end a ring.
+#[inline(always)]
 fn walk_over<B: Board>(
     store: &mut Store<B>,
     first: u32,
     end: u16,
-    seen: &mut [u8; MOST_BLOCKS as usize],
+    seen: &mut [u8],
 ) -> Result<Option<Walked>, StoreErr>
     requires ready { IsReady store.old }
     requires inside { end ≤ pages_of (committed store.old) }
-    requires marks { AreMarks seen.old }
+    requires marks { AreMarks end seen.old }
     ensures walked { IfOk result (λ walked. IfSome walked (λ w. IsWalked
         end (committed store.old) first seen.old w seen.new)) }
     ensures stale { IfOk result (λ walked. walked ≡ None → ¬ IsFresh end (committed store.old) seen.old first) }
@@ -59,12 +64,10 @@ fn walk_over<B: Board>(
     let mut page = first;
     let mut blocks = 0;
     let mut last = 0;
-    while blocks < MOST_BLOCKS && page != 0 {
-        if !mark(page, end, seen) {
-            return Ok(None);
-        }
+    // Page 0 is no block's, so what can't be marked is the end of the chain as well.
+    while mark(page, end, seen) {
         last = page as u16;
-        page = store.read(PAGE_WORDS * last)?;
+        page = store.read_committed(PAGE_WORDS * last)?;
         blocks += 1;
     }
     if page != 0 {
@@ -91,16 +94,54 @@ pub fn lay<B: Board>(
     ensures found { IfOk result (λ free. TellsFree count (committed store.old) extents.now free) }
     ensures store { Reads store.old store.new (result_err result) }
 {
+    if count <= FEW_BLOCKS {
+        let mut seen = [0; FEW_BLOCKS as usize];
+        lay_marked(store, extents, count, &mut seen)
+    } else {
+        lay_many(store, extents, count)
+    }
+}
+
+/// The same of a memory of more blocks. It is no part of `lay`, which would else blank all these marks for few blocks too.
+#[inline(never)]
+fn lay_many<B: Board>(
+    store: &mut Store<B>,
+    extents: &[Extent],
+    count: u16,
+) -> Result<Option<u16>, StoreErr>
+    requires ready { IsReady store.old }
+    requires inside { FIRST_BLOCK_PAGE + count ≤ pages_of (committed store.old) }
+    ensures found { IfOk result (λ free. TellsFree count (committed store.old) extents.now free) }
+    ensures store { Reads store.old store.new (result_err result) }
+{
     let mut seen = [0; MOST_BLOCKS as usize];
+    lay_marked(store, extents, count, &mut seen)
+}
+
+/// The same over marks that are all blank. As a part of its caller it has marks whose address nothing else knows.
+#[inline(always)]
+fn lay_marked<B: Board>(
+    store: &mut Store<B>,
+    extents: &[Extent],
+    count: u16,
+    seen: &mut [u8],
+) -> Result<Option<u16>, StoreErr>
+    requires ready { IsReady store.old }
+    requires inside { FIRST_BLOCK_PAGE + count ≤ pages_of (committed store.old) }
+    requires room { count ≤ length seen.old }
+    requires blank { AreBlank seen.old }
+    ensures found { IfOk result (λ free. TellsFree count (committed store.old) extents.now free) }
+    ensures store { Reads store.old store.new (result_err result) }
+{
     let end = FIRST_BLOCK_PAGE + count;
     let head = store.read(FREE_HEAD)?;
-    let free = match walk_over(store, head, end, &mut seen)? {
+    let free = match walk_over(store, head, end, seen)? {
         Some(walked) => walked.blocks,
         None => return Ok(None),
     };
     let mut blocks = free;
     for (_i, extent) in extents.iter().enumerate() {
-        let walked = match walk_over(store, u32::from(extent.chain.first), end, &mut seen)? {
+        let walked = match walk_over(store, u32::from(extent.chain.first), end, seen)? {
             Some(walked) => walked,
             None => return Ok(None),
         };

@@ -15,8 +15,7 @@ use Rattle.file_tree.specs.declared.layout.TheConstants.{MARK_WORD, PAGES_WORD, 
 use Rattle.file_tree.specs.Changes.{KeepsTree}
 use Rattle.file_tree.specs.laws.Footprints.{tree_kept}
 use Rattle.card_core.specs.Cards.{Card}
-use Rattle.pin_store.specs.Pages.{pin_page, pin_word, KeepsPins}
-use Rattle.pin_store.specs.declared.layout.TheConstants.{PINS}
+use Rattle.pin_store.specs.Pages.{pin_page, KeepsPins}
 use Rattle.card_core.specs.Standing.{StandsFor, card_of}
 use Rattle.card_core.specs.Finding.{words_found, Finds}
 use Rattle.card_core.specs.laws.CardLaws.{any_stands, any_tree, card_after}

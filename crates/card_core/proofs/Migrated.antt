@@ -15,6 +15,9 @@ use Rattle.file_tree.specs.Formats.{block_count, is_format_2}
 use Rattle.file_tree.specs.declared.layout.TheConstants.{MARK_WORD, OLD_END_PAGE}
 use Rattle.file_tree.specs.Spaces.{free_space}
 use Rattle.file_tree.specs.Trees.{tree_of}
+use Rattle.file_tree.specs.Table.{table}
+use Rattle.file_tree.specs.Indexes.{IsIndex}
+use Rattle.file_tree.specs.declared.entry.Entry.{Entry}
 use Rattle.file_tree.specs.declared.space.FreeSpace.{FreeSpace}
 use Rattle.file_tree.specs.laws.Costs.{costs_fit}
 use Rattle.file_tree.specs.laws.Formats.{count_is, end_new}
@@ -29,7 +32,7 @@ use Rattle.card_core.specs.declared.check.Checked.{Checked}
 use Rattle.card_core.specs.declared.memory_format.MemoryFormat.{MemoryFormat}
 use Rattle.card_core.specs.declared.memory_format.MemoryFormat.TheVariants.{One, Two}
 use Rattle.card_core.specs.Starting.{KeepsFormat, TakesAllPages, power_on_writes}
-use Rattle.card_core.specs.laws.CardLaws.{blocks_new, blocks_old, card_format, card_space_is, marked_new, marked_old, old_format, old_mark}
+use Rattle.card_core.specs.laws.CardLaws.{blocks_new, blocks_old, card_format, card_space_is, marked_new, old_format, old_mark}
 use Rattle.card_core.specs.laws.CardLaws.{pins_new, pins_old}
 
 -- the memory is as it was, or that of a card of format 1 which is still one, or is one of format 2
@@ -135,11 +138,18 @@ pub found-one : (m : List ℕ) (told : Option Checked) (checked : Checked) → t
 found-one m told checked there is tells = told-one m checked is (subst (λ (o : Option Checked). TellsCard m o) there tells)
 
 pub found-two : (m : List ℕ) (told : Option Checked) (checked : Checked) → told ≡ Some checked → checked.format ≡ Two
-    → TellsCard m told → IsCard m × (checked.free ≡ card_space (card_of m))
+    → TellsCard m told → IsCard m × (checked.tree.free ≡ card_space (card_of m)) × IsIndex (table m) checked.tree.index
 found-two m told checked there is tells =
     let says = subst (λ (o : Option Checked). TellsCard m o) there tells in
     let card = subst (λ (format : MemoryFormat). IsCardIn format m) is says.0 in
-    (card, says.1 ∙ sym (card_space_is m card))
+    (card, says.1 ∙ sym (card_space_is m card), says.2)
+
+-- each file is where it was, once the memory was migrated
+pub found-where : (m mid after : List ℕ) (told : Option Checked) (checked : Checked) → mid ≡ m → told ≡ Some checked
+    → TellsCard m told → Migrates mid after → IsIndex (table after) checked.tree.index
+found-where m mid after told checked same there tells migrates =
+    let says = subst (λ (o : Option Checked). TellsCard m o) there tells in
+    subst (λ (t : List Entry). IsIndex t checked.tree.index) (sym (migrates.keeps.table ∙ ap table same)) says.2
 
 -- the writes of a renewal, of a memory that was only read before
 pub renewal-writes : (m mid : List ℕ) → mid ≡ m → IsOldCard m

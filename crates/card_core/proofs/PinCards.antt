@@ -1,5 +1,5 @@
 -- A PIN is set in a memory that stands for a card.
-use Rattle.std.proofs.Common.{◌≡◌, ◌⊎◌, ◌<◌, ◌≤◌, ◌+◌, ◌-◌, ◌==◌, ℕ, List, length, slice_set, sym, ◌∙◌, ap, arith, inl, inr, lit<, ⊎_elim}
+use Rattle.std.proofs.Common.{◌≡◌, ◌⊎◌, ◌<◌, ◌≤◌, ◌+◌, ◌-◌, ◌==◌, ℕ, List, slice_set, sym, ◌∙◌, ap, arith, inl, inr, lit<}
 use Rattle.std.proofs.Common.{slice_index_or}
 use Rattle.std.proofs.lemmas.List.FromFn.{get_or-map-range_with_len}
 use Rattle.nvm_board.specs.Facts.{address}

@@ -13,7 +13,7 @@ use Rattle.undo_journal.specs.Memory.{committed, FailsBy as StoreFailsBy, IsRead
 use Rattle.undo_journal.specs.Calls.{Changes, UnlessFailed}
 use Rattle.undo_journal.specs.Undo.{IsSound}
 use Rattle.file_tree.specs.Indexes.{IsIndex}
-use Rattle.card_core.specs.declared.surveying.Survey.{Survey}
+use Rattle.file_tree.specs.declared.tree.Survey.{Survey}
 use Rattle.card_core.specs.declared.faults.StartFault.TheVariants.{Damaged}
 use Rattle.card_core.specs.Finding.{words_found, HasCard}
 use Rattle.card_core.specs.Standing.{IsAnyCard}

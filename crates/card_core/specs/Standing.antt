@@ -1,7 +1,7 @@
 -- When the words of a memory stand for a card, and for which. Page 0 is the header, pages 1 to 64 hold file entries, pages
 -- 65 to 72 the PINs, and blocks begin at page 128; gate and journal, between them, are the store's. There are two formats: of
 -- format 1 the blocks end at page 1,024, of format 2 where the header says.
-use Rattle.std.specs.Prelude.{◌≡◌, ◌⊎◌, ℕ, ◌<◌, ◌≤◌, ◌-◌, ◌==◌, if◌then◌else◌, List}
+use Rattle.std.specs.Prelude.{◌≡◌, ◌⊎◌, ℕ, ◌≤◌, ◌-◌, ◌==◌, if◌then◌else◌, List}
 use Rattle.nvm_board.specs.Facts.{pages_of}
 use Rattle.undo_journal.specs.Undo.{gate}
 use Rattle.block_chain.specs.Words.{word}

@@ -1,5 +1,5 @@
 -- What the code keeps of a session, and what it makes of a step. No public clause names these.
-use Rattle.std.specs.Prelude.{◌≡◌, ◌≢◌, ◌⊎◌, ◌<◌, ◌≤◌, ◌+◌, ◌*◌, ◌==◌, ◌&&◌, ℕ, Bool, true, false, not, nat_lt}
+use Rattle.std.specs.Prelude.{◌≡◌, ◌≢◌, ◌⊎◌, ◌≤◌, ◌+◌, ◌*◌, ◌==◌, ◌&&◌, ℕ, Bool, true, false, not, nat_lt}
 use Rattle.std.specs.Prelude.{nat_le, if◌then◌else◌}
 use Rattle.std.specs.Prelude.{◌||◌, ◌-◌, ◌++◌, ◌∷◌, slice_set, IsTrue, List, [], length, Option, Some}
 use Rattle.std.specs.Prelude.{None, map, option_map, unwrap_or, IfSome}
@@ -44,7 +44,7 @@ use Rattle.fcp_template.specs.declared.fcp.ShortIdentifier.{ShortIdentifier}
 use Rattle.fcp_template.specs.declared.fcp.ShortIdentifier.TheVariants as shorts
 use Rattle.fcp_template.specs.Spelling.{fcp_text}
 use Rattle.file_tree.specs.Indexes.{IsIndex}
-use Rattle.card_core.specs.declared.surveying.Survey.{Survey}
+use Rattle.file_tree.specs.declared.tree.Survey.{Survey}
 use Rattle.card_core.specs.declared.card_state.CardState.{CardState}
 use Rattle.card_core.specs.declared.card_state.CardState.TheVariants.{Working, Failed, Dark}
 use Rattle.card_core.specs.declared.current.Current.{Current}
@@ -328,17 +328,14 @@ abbrev pub TellsHeader : List ℕ → Option MemoryFormat → Type 0
 TellsHeader m None = ¬ IsHeader m × ¬ IsOldHeader m
 TellsHeader m (Some format) = IsHeaderIn format m
 
--- what a check of a memory answers: its format and its free space as it is, or None exactly where it is no card's
+-- what a check of a memory answers: its format, its free space as it is, and the index of its files, or None exactly where it is no card's
 abbrev pub TellsCard : List ℕ → Option Checked → Type 0
 TellsCard m None = ¬ IsAnyCard m
-TellsCard m (Some checked) = IsCardIn checked.format m × (checked.free ≡ free_space (block_count m) (tree_of m))
+TellsCard m (Some checked) = IsCardIn checked.format m × (checked.tree.free ≡ free_space (block_count m) (tree_of m))
+    × IsIndex (table m) checked.tree.index
 
--- what is told of a memory that was made one of format 2 if it was a card's: the free space of the card, or None where it was none's
-abbrev pub TellsRenewed : List ℕ → List ℕ → Option FreeSpace → Type 0
-TellsRenewed m after None = ¬ IsAnyCard m
-TellsRenewed m after (Some free) = IsAnyCard m × IsCard after × (free ≡ card_space (card_of after))
-
--- and what a start finds of it: where its files are, too
+-- What is told of a memory that was made one of format 2 if it was a card's: the free space of the card, and where its files are,
+-- or None where it was none's.
 abbrev pub TellsSurvey : List ℕ → List ℕ → Option Survey → Type 0
 TellsSurvey m after None = ¬ IsAnyCard m
 TellsSurvey m after (Some survey) =

@@ -11,17 +11,17 @@ ghost use Rattle.card_core.specs.Working.{AreHeaderWords, HoldsPins, TellsCard, 
 use crate::memory_format::MemoryFormat;
 use block_chain::HEADER_PAGE;
 use file_tree::{
-    CARD_TERMINATED, FreeSpace, MARK, MARK_WORD, OLD_END_PAGE, OLD_MARK, PAGES_WORD, STATE_WORD,
-    is_tree,
+    CARD_TERMINATED, MARK, MARK_WORD, OLD_END_PAGE, OLD_MARK, PAGES_WORD, STATE_WORD, Survey,
+    survey_tree,
 };
 use pin_store::{are_marks, are_pins};
 use undo_journal::{Board, PAGE_WORDS, Store, StoreErr};
 
-/// What a check finds of a card: the format of its memory, and the space that is free in it.
+/// What a check finds of a card: the format of its memory, and its tree: what is free in it, and where each file is.
 #[derive(Drop)]
 pub(crate) struct Checked {
     pub format: MemoryFormat,
-    pub free: FreeSpace,
+    pub tree: Survey,
 }
 
 /// A word of the header.
@@ -91,8 +91,8 @@ pub(crate) fn find_card<B: Board>(store: &mut Store<B>) -> Result<Option<Checked
     if !has_pins(store, format)? {
         return Ok(None);
     }
-    let Some(free) = is_tree(store)? else {
+    let Some(tree) = survey_tree(store)? else {
         return Ok(None);
     };
-    Ok(Some(Checked { format, free }))
+    Ok(Some(Checked { format, tree }))
 }

@@ -24,7 +24,6 @@ mod record_file;
 mod records;
 mod renewing;
 mod select;
-mod surveying;
 mod templates;
 
 pub use apdu_core::Answer;

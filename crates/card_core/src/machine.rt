@@ -25,9 +25,9 @@ use crate::commands::carry_out;
 use crate::current::Current;
 use crate::faults::{PowerLost, StartFault};
 use crate::lent::Lent;
-use crate::surveying::{Survey, survey_card};
+use crate::renewing::survey_card;
 use apdu_core::{Answer, Sw};
-use file_tree::FreeSpace;
+use file_tree::{FreeSpace, Survey};
 use std::marker::Model;
 use undo_journal::{Armed, Board, Faultless, Store, StoreErr};
 

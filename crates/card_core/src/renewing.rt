@@ -1,4 +1,4 @@
-//! A memory that stands for a card becomes one of format 2, if it isn't yet.
+//! What a start finds of a card, whose memory becomes one of format 2 if it isn't yet.
 ghost use Rattle.std.specs.Prelude.{◌≡◌, ◌⊎◌, IfOk, if◌then◌else◌, OnOk};
 ghost use Rattle.std.specs.Result.{result_err};
 ghost use Rattle.nvm_board.specs.Facts.{pages_of};
@@ -10,11 +10,11 @@ ghost use Rattle.file_tree.specs.Trees.{tree_of};
 ghost use Rattle.migration.specs.Migrating.{IsMigrated, Migrates, migration_writes};
 ghost use Rattle.card_core.specs.Standing.{IsOldCard, card_of};
 ghost use Rattle.card_core.specs.Cards.{card_space};
-ghost use Rattle.card_core.specs.Working.{TellsRenewed};
+ghost use Rattle.card_core.specs.Working.{TellsSurvey};
 
 use crate::check::find_card;
 use crate::memory_format::MemoryFormat;
-use file_tree::{FreeSpace, OLD_END_PAGE};
+use file_tree::{FreeSpace, OLD_END_PAGE, Survey};
 use migration::migrate;
 use undo_journal::{Board, Store, StoreErr};
 
@@ -35,13 +35,13 @@ fn renew<B: Board>(store: &mut Store<B>, free: FreeSpace) -> Result<FreeSpace, S
     })
 }
 
-/// The free space of the card that the memory stands for, made one of format 2 where it isn't, or None where it stands for
-/// none. At every exit it is the same card, in the format that its header tells.
-pub(crate) fn find_renewed<B: Board>(store: &mut Store<B>) -> Result<Option<FreeSpace>, StoreErr>
+/// What a start finds of the card that the memory stands for, made one of format 2 where it isn't, or None where it stands
+/// for none. At every exit it is the same card, in the format that its header tells, and its files are where they were.
+pub(crate) fn survey_card<B: Board>(store: &mut Store<B>) -> Result<Option<Survey>, StoreErr>
     requires ready { IsReady store.old }
     ensures any_exit { (committed store.new ≡ committed store.old)
         ⊎ (IsOldCard (committed store.old) × Migrates (committed store.old) (committed store.new)) }
-    ensures card { IfOk result (TellsRenewed (committed store.old) (committed store.new)) }
+    ensures card { IfOk result (TellsSurvey (committed store.old) (committed store.new)) }
     ensures idle { ¬ IsOldCard (committed store.old) → OnlyReads store.old store.new }
     ensures store { Changes (if is_format_2 (committed store.old) then 0 else migration_writes (pages_of (committed
         store.old))) store.old store.new (result_err result) }
@@ -50,7 +50,10 @@ pub(crate) fn find_renewed<B: Board>(store: &mut Store<B>) -> Result<Option<Free
         return Ok(None);
     };
     match found.format {
-        MemoryFormat::Two => Ok(Some(found.free)),
-        MemoryFormat::One => Ok(Some(renew(store, found.free)?)),
+        MemoryFormat::Two => Ok(Some(found.tree)),
+        MemoryFormat::One => Ok(Some(Survey {
+            free: renew(store, found.tree.free)?,
+            index: found.tree.index,
+        })),
     }
 }

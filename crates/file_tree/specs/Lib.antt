@@ -18,5 +18,6 @@ pub mod CreationParts
 pub mod DeletionParts
 pub mod Keys
 pub mod Indexes
+pub mod Surveys
 pub mod IndexParts
 pub mod laws

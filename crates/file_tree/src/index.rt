@@ -1,25 +1,21 @@
 //! Where each file is by its parent and identifier, held in working memory, so that no store is read to find it.
 
-ghost use Rattle.std.specs.Prelude.{◌≡◌, ◌≢◌, ◌<◌, ◌≤◌, ℕ, List, All, length, filter, option_map, IfOk};
+ghost use Rattle.std.specs.Prelude.{◌≡◌, ◌≢◌, ◌<◌, ◌≤◌, ℕ, List, All, length, filter, option_map};
 ghost use Rattle.std.specs.List.Sorted.{IsSearchInRange};
-ghost use Rattle.std.specs.Result.{result_err};
-ghost use Rattle.undo_journal.specs.Memory.{committed, IsReady};
-ghost use Rattle.undo_journal.specs.Calls.{Reads};
 ghost use Rattle.file_tree.specs.declared.entry.Entry.{Entry};
-ghost use Rattle.file_tree.specs.Table.{table, entry_in, path_of, IsUsed, IsTable};
+ghost use Rattle.file_tree.specs.Table.{table, entry_in, path_of, HaveIdentifiers, IsUsed, IsTable};
 ghost use Rattle.file_tree.specs.Trees.{tree_of, TreeStands};
 ghost use Rattle.file_tree.specs.Changes.{Deletes};
 ghost use Rattle.file_tree.specs.Indexes.{AreSorted, IsIndex, IsFreeIn, AddsEntry, TellsChild, child_by_identifier};
 ghost use Rattle.file_tree.specs.IndexParts.{TellsSearch, Puts, parent_by, leads_by, is_outside};
 
+use crate::entry::Entry;
 use crate::kinds;
 use crate::layout::{DEEPEST, ENTRIES_END};
 use crate::look_up::Reached;
-use crate::reading::read_entry;
 use crate::steps::{Key, Steps};
 use arrayvec::ArrayVec;
 use std::cmp::Ordering;
-use undo_journal::{Board, Store, StoreErr};
 
 /// The most places: one for each entry but the master file's.
 const MOST_PLACES: usize = 63;
@@ -103,21 +99,17 @@ fn places_outside(places: &[Place], top: u8) -> PlaceList
 }
 
 impl Index {
-    /// The index of the tree that a store holds. It reads each entry but the master file's once.
-    ///
-    /// # Errors
-    /// What the store answers: power was lost, or the device failed.
-    pub fn of<B: Board>(store: &mut Store<B>) -> Result<Index, StoreErr>
-        requires ready { IsReady store.old }
-        requires tree { TreeStands (committed store.old) }
-        ensures index { IfOk result (IsIndex (table (committed store.old))) }
-        ensures store { Reads store.old store.new (result_err result) }
+    /// The index of a table of entries.
+    pub(crate) fn of(entries: &[Entry]) -> Index
+        requires size { length entries.now ≡ 64 }
+        requires apart { HaveIdentifiers entries.now }
+        ensures index { IsIndex entries.now result }
     {
         let mut index = Index {
             places: PlaceList::new(),
         };
         for e in 1..ENTRIES_END {
-            let entry = read_entry(store, e)?;
+            let entry = entries[usize::from(e)];
             if entry.kind != kinds::FREE {
                 index.put(Place {
                     key: Key::new(entry.parent, entry.identifier),
@@ -125,7 +117,7 @@ impl Index {
                 });
             }
         }
-        Ok(index)
+        index
     }
 
     /// The entry of the child of a dedicated file with an identifier, if it has one, and how many comparisons that took.

@@ -37,4 +37,4 @@ pub use naming::{find_name, find_parent, find_path, find_path_from_master};
 pub use reading::read_entry;
 pub use space::FreeSpace;
 pub use steps::Steps;
-pub use tree::is_tree;
+pub use tree::{Survey, survey_tree};

@@ -1,6 +1,6 @@
 //! Entries read from a store.
 
-ghost use Rattle.std.specs.Prelude.{◌≡◌, ◌+◌, ◌<◌, ℕ, slice_index, IfOk};
+ghost use Rattle.std.specs.Prelude.{◌≡◌, ◌+◌, ◌<◌, ℕ, [], slice_index, IfOk, OnOk};
 ghost use Rattle.std.specs.Result.{result_err};
 ghost use Rattle.undo_journal.specs.Memory.{committed, IsReady};
 ghost use Rattle.undo_journal.specs.Calls.{Reads};
@@ -41,7 +41,41 @@ pub fn read_entry<B: Board>(store: &mut Store<B>, e: u8) -> Result<Entry, StoreE
     Ok(Entry::from_words(&words))
 }
 
-/// All entries, in the order of their numbers. It reads eleven words of each.
+/// The same, of which no more is read than its first word where that tells that it is free.
+fn read_used<B: Board>(store: &mut Store<B>, e: u8) -> Result<Entry, StoreErr>
+    requires ready { IsReady store.old }
+    requires within { e < 64 }
+    ensures entry { IfOk result (λ entry. entry ≡ entry_in (table (committed store.old)) e) }
+    ensures store { Reads store.old store.new (result_err result) }
+{
+    let first = store.read_committed(entry_address(e))?;
+    if first == 0 {
+        return Ok(Entry::free());
+    }
+    read_entry(store, e)
+}
+
+/// Puts all entries, in the order of their numbers, into an empty table. It reads the first word of each, and eleven of those
+/// that a file has. The table stays where it is: 2,816 bytes aren't moved.
+///
+/// # Errors
+/// What the store answers: power was lost, or the device failed.
+pub(crate) fn fill_table<B: Board>(
+    store: &mut Store<B>,
+    entries: &mut Table,
+) -> Result<(), StoreErr>
+    requires ready { IsReady store.old }
+    requires empty { entries.old.items ≡ [] }
+    ensures table { OnOk result (entries.new.items ≡ table (committed store.old)) }
+    ensures store { Reads store.old store.new (result_err result) }
+{
+    for e in 0..ENTRIES_END {
+        entries.push(read_used(store, e)?);
+    }
+    Ok(())
+}
+
+/// All entries, in the order of their numbers.
 ///
 /// # Errors
 /// What the store answers: power was lost, or the device failed.
@@ -51,8 +85,6 @@ pub(crate) fn read_table<B: Board>(store: &mut Store<B>) -> Result<Table, StoreE
     ensures store { Reads store.old store.new (result_err result) }
 {
     let mut entries = Table::new();
-    for e in 0..ENTRIES_END {
-        entries.push(read_entry(store, e)?);
-    }
+    fill_table(store, &mut entries)?;
     Ok(entries)
 }

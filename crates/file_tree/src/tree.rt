@@ -1,39 +1,70 @@
-//! Whether a memory stands for a tree of files.
+//! Whether a memory stands for a tree of files, and what a start keeps of the tree.
 
-ghost use Rattle.std.specs.Prelude.{IfOk};
+ghost use Rattle.std.specs.Prelude.{◌≡◌, IfOk};
 ghost use Rattle.std.specs.Result.{result_err};
 ghost use Rattle.undo_journal.specs.Memory.{committed, IsReady};
 ghost use Rattle.undo_journal.specs.Calls.{Reads};
+ghost use Rattle.file_tree.specs.Table.{table, IsTable};
 ghost use Rattle.file_tree.specs.Trees.{TellsSpace};
+ghost use Rattle.file_tree.specs.Surveys.{TellsTree};
 
+use crate::entry::{Entry, Table};
 use crate::format::read_block_count;
-use crate::reading::read_table;
+use crate::index::Index;
+use crate::reading::fill_table;
 use crate::space::FreeSpace;
 use crate::table::{count_free, extents_of, is_table};
 use block_chain::lay;
 use undo_journal::{Board, Store, StoreErr};
 
-/// What is free in a memory that stands for a tree of files, or None where it stands for none. It reads eleven words of
-/// each entry, one link of each block, and the header's words of the format and of the free chain, and nothing twice.
+/// What a start finds of a tree of files.
+#[derive(Drop)]
+pub struct Survey {
+    /// What is free for new files.
+    pub free: FreeSpace,
+    /// Where each file is.
+    pub index: Index,
+}
+
+/// What a start finds of a memory that stands for a tree of files, or None where it stands for none. It reads the first word
+/// of each entry, eleven more of each that a file has, one link of each block, and the header's words of the format and of the
+/// free chain. The index is made of the entries that were read.
 ///
 /// # Errors
 /// What the store answers: power was lost, or the device failed.
-pub fn is_tree<B: Board>(store: &mut Store<B>) -> Result<Option<FreeSpace>, StoreErr>
+pub fn survey_tree<B: Board>(store: &mut Store<B>) -> Result<Option<Survey>, StoreErr>
     requires ready { IsReady store.old }
-    ensures tree { IfOk result (TellsSpace (committed store.old)) }
+    ensures tree { IfOk result (TellsTree (committed store.old)) }
     ensures store { Reads store.old store.new (result_err result) }
 {
-    let entries = read_table(store)?;
+    let mut entries = Table::new();
+    fill_table(store, &mut entries)?;
     if !is_table(entries.as_slice()) {
         return Ok(None);
     }
+    let Some(free) = find_free(store, entries.as_slice())? else {
+        return Ok(None);
+    };
+    let index = Index::of(entries.as_slice());
+    Ok(Some(Survey { free, index }))
+}
+
+/// The free space of a memory whose entries hold to their rules, or None where their blocks are not laid out as they should
+/// be.
+fn find_free<B: Board>(store: &mut Store<B>, all: &[Entry]) -> Result<Option<FreeSpace>, StoreErr>
+    requires ready { IsReady store.old }
+    requires read { all.now ≡ table (committed store.old) }
+    requires rules { IsTable all.now }
+    ensures tree { IfOk result (TellsSpace (committed store.old)) }
+    ensures store { Reads store.old store.new (result_err result) }
+{
     let Some(count) = read_block_count(store)? else {
         return Ok(None);
     };
-    let extents = extents_of(entries.as_slice());
+    let extents = extents_of(all);
     let Some(blocks) = lay(store, extents.as_slice(), count)? else {
         return Ok(None);
     };
-    let entries = count_free(entries.as_slice());
+    let entries = count_free(all);
     Ok(Some(FreeSpace { blocks, entries }))
 }

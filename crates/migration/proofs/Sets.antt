@@ -13,11 +13,10 @@ use Rattle.block_chain.specs.laws.Words.{word-set_other, word-set_same}
 use Rattle.file_tree.specs.declared.layout.TheConstants.{MARK_WORD, PAGES_WORD, MARK, OLD_END_PAGE, STATE_WORD}
 use Rattle.file_tree.specs.Trees.{TreeStands}
 use Rattle.file_tree.specs.laws.Footprints.{tree_kept}
-use Rattle.file_tree.specs.laws.Migrating.{links_keep, migrated_tree}
+use Rattle.file_tree.specs.laws.Migrating.{links_keep, migrated_tree, same-entries}
 use Rattle.pin_store.specs.declared.layout.TheConstants.{FIRST_PIN_PAGE}
-use Rattle.pin_store.specs.Pages.{KeepsSecrets}
 use Rattle.pin_store.specs.declared.layout.TheConstants.{PIN_MARK_WORD}
-use Rattle.migration.specs.Migrating.{MarksPins, RenamesHeader, IsRenamed, KeepsCard, IsNew, IsMigrated, Migrates}
+use Rattle.migration.specs.Migrating.{MarksPins, RenamesHeader, IsRenamed, IsMigrated, Migrates}
 
 pub marks_none : (m : List ℕ) → MarksPins 0 m m
 marks_none m =
@@ -150,6 +149,7 @@ links_migrate end m after sized stands old only =
         size = only.size;
         stands = kept.0;
         tree = kept.2;
+        table = kept.1;
         pins = record {
           words = λ pin place lt small. only.others (FIRST_PIN_PAGE + pin) place (omega (arith, small))
               (inr (inl (omega (arith, lt))));
@@ -171,6 +171,7 @@ all_migrated end m mid after sized stands old least is only linked renamed =
         size = size;
         stands = tree.0;
         tree = tree.1;
+        table = same-entries end m mid after sized stands old least (omega (arith, is)) only linked renamed.renames;
         pins = record {
           words = λ pin place lt small. renamed.pins.words pin place lt small
               ∙ only.others (FIRST_PIN_PAGE + pin) place (omega (arith, small)) (inr (inl (omega (arith, lt))));

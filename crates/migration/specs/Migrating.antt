@@ -6,6 +6,7 @@ use Rattle.block_chain.specs.Words.{word}
 use Rattle.block_chain.specs.declared.layout.TheConstants.{HEADER_PAGE, FREE_HEAD_WORD}
 use Rattle.file_tree.specs.declared.layout.TheConstants.{MARK_WORD, PAGES_WORD, MARK, OLD_END_PAGE, STATE_WORD}
 use Rattle.file_tree.specs.Migration.{Renames}
+use Rattle.file_tree.specs.Table.{table}
 use Rattle.file_tree.specs.Trees.{tree_of, TreeStands}
 use Rattle.pin_store.specs.declared.layout.TheConstants.{FIRST_PIN_PAGE, PIN_MARK_WORD}
 use Rattle.pin_store.specs.Pages.{KeepsSecrets}
@@ -42,11 +43,12 @@ pub record IsRenamed (end : ℕ) (m after : List ℕ) : Type 0 where
   pub marked : (pin : ℕ) → pin < 8 → word after (FIRST_PIN_PAGE + pin) PIN_MARK_WORD ≡ 1
   pub pins : KeepsSecrets m after
 
--- The memory stands for the same files, PINs and state.
+-- The memory stands for the same files, PINs and state, and each file's entry is where it was.
 pub record KeepsCard (m after : List ℕ) : Type 0 where
   pub size : length after ≡ length m
   pub stands : TreeStands after
   pub tree : tree_of after ≡ tree_of m
+  pub table : table after ≡ table m
   pub pins : KeepsSecrets m after
   pub state : word after HEADER_PAGE STATE_WORD ≡ word m HEADER_PAGE STATE_WORD
 

@@ -31,7 +31,11 @@ fn found<B: Board>(store: &mut Store<B>) -> Result<[u32; 3], StoreErr>
     requires { IsReady store.old }
     ensures { OnOk result (IsReady store.new) }
 {
-    Ok([store.read(5)?, store.read(2048)?, store.read(2049)?])
+    Ok([
+        store.read_committed(5)?,
+        store.read(2048)?,
+        store.read_committed(2049)?,
+    ])
 }
 
 /// Four sets, of which two are of one word, so that three wait. A read before them makes no device write.

@@ -128,6 +128,21 @@ impl<B: Board> Store<B> {
         noted(&mut self.failed, answer)
     }
 
+    /// The word at an address of a store that is ready. No set waits then, and no call has failed, so the board alone is asked:
+    /// a start reads hundreds of words so.
+    ///
+    /// # Errors
+    /// What the device answers: power was lost, or it failed.
+    pub fn read_committed(&mut self, at: u16) -> Result<u32, StoreErr>
+        requires ready { IsReady self.old }
+        requires place { IsDataAddress (committed self.old) at }
+        ensures word { IfOk result (λ w. w ≡ slice_index (committed self.old) at) }
+        ensures store { Reads self.old self.new (result_err result) }
+    {
+        let told = self.board.read(at);
+        noted(&mut self.failed, told)
+    }
+
     /// Begins a transaction.
     pub fn begin(&mut self) -> Txn<'_, B>
         requires { IsIdle self.old }

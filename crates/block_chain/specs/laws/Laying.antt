@@ -5,14 +5,14 @@ use Rattle.std.proofs.Math.Seq.{take-length}
 use Rattle.std.proofs.lemmas.Bool.{cases_lt}
 use Rattle.std.proofs.lemmas.Bool.Decides.{eqb_tells}
 use Rattle.std.proofs.lemmas.Grind.{flat_map-append}
-use Rattle.std.proofs.lemmas.List.{length-append, take_more, take-append-drop, get_or_push}
+use Rattle.std.proofs.lemmas.List.{length-append, take_more, take-append-drop, get_or_past, get_or_push}
 use Rattle.std.specs.Prelude.{◌≡◌, ◌≢◌, ◌<◌, ◌≤◌, ◌+◌, ℕ, zero, suc, Bool, if◌then◌else◌, List, [], ◌∷◌, ◌++◌}
-use Rattle.std.specs.Prelude.{length, slice_index, slice_index_or, take, drop, All}
+use Rattle.std.specs.Prelude.{length, slice_index, slice_index_or, replicate, take, drop, All}
 use Rattle.block_chain.specs.Chains.{Leads, pages_from, free_chain}
 use Rattle.block_chain.specs.Counts.{count}
 use Rattle.nvm_board.specs.Facts.{IsMemory, pages_of}
 use Rattle.block_chain.specs.Layout.{IsOf, blocks_of, laid_out, IsExtent, AreLaid}
-use Rattle.block_chain.specs.Parts.{IsPlace, marked, AreMarks, Marks, IsFresh}
+use Rattle.block_chain.specs.Parts.{AreBlank, IsPlace, marked, AreMarks, Marks, IsFresh}
 use Rattle.block_chain.specs.Words.{link, IsBlock}
 use Rattle.block_chain.specs.declared.chain.Extent.{Extent}
 use Rattle.block_chain.specs.declared.layout.TheConstants.{FREE_HEAD, FIRST_BLOCK_PAGE}
@@ -38,6 +38,12 @@ pages_most m (suc n) page = elim (eqb_tells page 0) [
       ap (λ (b : Bool). length (if b then [] else page ∷ pages_from m n (link m page))) other.0 in
       let rest = pages_most m n (link m page) in omega (arith, e, rest)
 ]
+
+-- new marks are blank
+pub blank_marks : (n : ℕ) → AreBlank (replicate n 0)
+blank_marks zero place = get_or_past [] place 0 (omega arith)
+blank_marks (suc n) zero = refl
+blank_marks (suc n) (suc place) = blank_marks n place
 
 pub laid_out-nil : (m : List ℕ) → laid_out m [] ≡ []
 unfolding laid_out
@@ -88,7 +94,7 @@ pub record AreLaidSoFar (end : ℕ) (m : List ℕ) (es : List Extent) (i : ℕ) 
   pub each : All (IsExtent m) (take i es)
   pub below : (q : ℕ) → end ≤ q → count q (free_chain m ++ laid_out m (take i es)) ≡ 0
   pub marks : (q : ℕ) → IsPlace q → marked seen q ≡ count q (free_chain m ++ laid_out m (take i es))
-  pub fine : AreMarks seen
+  pub fine : AreMarks end seen
   pub blocks_are : blocks ≡ length (free_chain m ++ laid_out m (take i es))
 
 module _ (n : ℕ) (m : List ℕ) (es : List Extent) where
@@ -97,7 +103,7 @@ module _ (n : ℕ) (m : List ℕ) (es : List Extent) where
 
   -- the free chain alone
   pub laid_free : (none seen : List ℕ) (blocks : ℕ) → IsFresh end m none (slice_index m FREE_HEAD)
-      → ((q : ℕ) → IsPlace q → marked none q ≡ 0) → Marks none (free_chain m) seen → AreMarks seen
+      → ((q : ℕ) → IsPlace q → marked none q ≡ 0) → Marks none (free_chain m) seen → AreMarks end seen
       → blocks ≡ length (free_chain m) → AreLaidSoFar end m es 0 seen blocks
   laid_free none seen blocks fresh blank marks fine long =
       let all : free_chain m ++ laid_out m [] ≡ free_chain m ++ [] =
@@ -143,7 +149,7 @@ module _ (n : ℕ) (m : List ℕ) (es : List Extent) where
         omega (arith, a, b, c)
 
     -- one extent more
-    pub laid_more : (new : List ℕ) → IsExtent m e → IsFresh end m seen e.chain.first → Marks seen (blocks_of m e) new → AreMarks new
+    pub laid_more : (new : List ℕ) → IsExtent m e → IsFresh end m seen e.chain.first → Marks seen (blocks_of m e) new → AreMarks end new
         → AreLaidSoFar end m es (i + 1) new (blocks + e.blocks)
     laid_more new extent fresh marks fine = record {
       free = so_far.free;

@@ -7,13 +7,15 @@ use Rattle.std.proofs.lemmas.List.{length-append, get_or_push}
 use Rattle.std.specs.Prelude.{◌≡◌, ◌≢◌, ◌<◌, ◌≤◌, ◌+◌, ◌-◌, ℕ, zero, suc, Bool, if◌then◌else◌, List, [], ◌∷◌, ◌++◌}
 use Rattle.std.specs.Prelude.{length, slice_index, slice_set}
 use Rattle.block_chain.specs.Chains.{Leads, pages_from, chain}
-use Rattle.block_chain.specs.Counts.{count}
+use Rattle.block_chain.specs.Counts.{count, NoneTwice}
 use Rattle.nvm_board.specs.Facts.{IsMemory, pages_of}
 use Rattle.block_chain.specs.Parts.{IsPlace, marked, AreMarks, IsFresh, Marks}
 use Rattle.block_chain.specs.Words.{link, IsBlock}
+use Rattle.nvm_board.specs.declared.board.TheConstants.{MOST_PAGES}
 use Rattle.block_chain.specs.declared.layout.TheConstants.{FIRST_BLOCK_PAGE, MOST_BLOCKS}
 use Rattle.block_chain.specs.laws.Chains.{leads_then, leads_on}
-use Rattle.block_chain.specs.laws.Counts.{count-append, count-here, count-other, count-nil}
+use Rattle.block_chain.specs.laws.Counts.{count-append, count-here, count-other, count-nil, pages_fit}
+use Rattle.block_chain.specs.laws.Laying.{leads_count}
 
 -- n blocks before the page `end` were walked over and marked, up to this page
 pub record HasWalked (end : ℕ) (m : List ℕ) (from n page : ℕ) (old new : List ℕ) : Type 0 where
@@ -21,7 +23,7 @@ pub record HasWalked (end : ℕ) (m : List ℕ) (from n page : ℕ) (old new : L
   pub long : length (pages_from m n from) ≡ n
   pub below : (q : ℕ) → end ≤ q → count q (pages_from m n from) ≡ 0
   pub marks : Marks old (pages_from m n from) new
-  pub fine : AreMarks new
+  pub fine : AreMarks end new
 
 pub pages_zero : (m : List ℕ) (from : ℕ) → pages_from m 0 from ≡ []
 unfolding pages_from
@@ -74,7 +76,7 @@ leads_one m from [] to end a b = sym a ∙ b
 leads_one m from (p ∷ ps) to end a b = leads_one m (link m p) ps to end a.2 b.2
 
 -- no block yet
-pub walked_none : (end : ℕ) (m : List ℕ) (from : ℕ) (seen : List ℕ) → AreMarks seen
+pub walked_none : (end : ℕ) (m : List ℕ) (from : ℕ) (seen : List ℕ) → AreMarks end seen
     → HasWalked end m from 0 from seen seen
 walked_none end m from seen fine = record {
   leads = (let family : List ℕ → Type 0 = λ ps. Leads m from ps from in subst family (sym (pages_zero m from)) refl);
@@ -141,6 +143,54 @@ module _ (end : ℕ) (m : List ℕ) (from n page : ℕ) (old new : List ℕ) (wa
         let most = fresh.once page block in
         omega (arith, whole, parts, here, marks, most, mark)
 
+    -- what was walked over is before the page `end`, and none of it twice
+    walked_place : (q : ℕ) → 1 ≤ count q (pages_from m n from) → (FIRST_BLOCK_PAGE ≤ q) × (q < end)
+    walked_place q some = (
+      (leads_count m from page q (pages_from m n from) walked.leads some).0,
+      ⊎_elim
+          (λ (lt : q < end). lt)
+          (λ (past : end ≤ q). absurd (let none = walked.below q past in omega (arith, none, some)))
+          (cases_lt q end),
+    )
+
+    walked_once : end ≤ MOST_PAGES → NoneTwice (pages_from m n from)
+    walked_once most q = ⊎_elim
+        (λ (some : 1 < count q (pages_from m n from)). absurd (
+        let place = walked_place q (omega (arith, some)) in
+        let is : IsPlace q = (place.0, omega (arith, place.1, most)) in
+        let marks = walked.marks q is in
+        let once = walked.fine.each q is in
+        omega (arith, marks, once, some)))
+        (λ (few : count q (pages_from m n from) ≤ 1). few)
+        (cases_lt 1 (count q (pages_from m n from)))
+
+    -- so while a block is not marked, not all were walked over
+    pub walked_less : end ≤ MOST_PAGES → (FIRST_BLOCK_PAGE ≤ page) × (page < end) → marked new page ≡ 0 → n < MOST_BLOCKS
+    walked_less most fit free =
+        let is : IsPlace page = (fit.0, omega (arith, fit.1, most)) in
+        let marks = walked.marks page is in
+        let none : count page (pages_from m n from) ≡ 0 = omega (arith, marks, free) in
+        let span : ℕ = end - FIRST_BLOCK_PAGE in
+        let all : List ℕ = page ∷ pages_from m n from in
+        let size = pages_fit FIRST_BLOCK_PAGE span all
+        (λ q. elim (eqb_tells q page) [
+          | inl same ↦
+              let here = ap (λ (k : ℕ). count k all) same.1 ∙ count-here page (pages_from m n from) in
+              omega (arith, here, none)
+          | inr other ↦
+              let there = count-other q page (pages_from m n from) other.1 in let once = walked_once most q in
+              omega (arith, there, once)
+        ])
+        (λ q some. elim (eqb_tells q page) [
+          | inl same ↦ let e = same.1 in (omega (arith, e, fit.0), omega (arith, e, fit.0, fit.1))
+          | inr other ↦
+              let there = count-other q page (pages_from m n from) other.1 in
+              let place = walked_place q (omega (arith, there, some)) in
+              (place.0, omega (arith, place.0, place.1))
+        ]) in
+        let long = walked.long in
+        omega (arith, size, long, most)
+
     -- one block more
     pub walked_more : IsMemory m → end ≤ pages_of m → n < MOST_BLOCKS → page ≢ 0
         → (FIRST_BLOCK_PAGE ≤ page) × (page < end) → marked new page ≡ 0
@@ -153,8 +203,8 @@ module _ (end : ℕ) (m : List ℕ) (from n page : ℕ) (old new : List ℕ) (wa
         let more : pages_from m (n + 1) from ≡ pages_from m n from ++ page ∷ [] =
         pages_on m n 1 from page walked.leads walked.long ∙ ap (λ (ps : List ℕ). pages_from m n from ++ ps) one in
         let family : List ℕ → Type 0 = λ ps. Leads m from ps (link m page) in
-        let size = walked.fine.size in
-        let inside : page - FIRST_BLOCK_PAGE < length new = omega (arith, size, place.0, place.1) in
+        let room = walked.fine.room in
+        let inside : page - FIRST_BLOCK_PAGE < length new = omega (arith, room, fit.0, fit.1) in
         let each : (q : ℕ) → IsPlace q
         → marked (slice_set new (page - FIRST_BLOCK_PAGE) 1) q ≡ marked old q + count q (pages_from m (n + 1) from) =
         λ q is.
@@ -194,7 +244,7 @@ module _ (end : ℕ) (m : List ℕ) (from n page : ℕ) (old new : List ℕ) (wa
               omega (arith, whole, before, none);
           marks = each;
           fine = record {
-            size = length-set new (page - FIRST_BLOCK_PAGE) 1 ∙ size;
+            room = (let size = length-set new (page - FIRST_BLOCK_PAGE) 1 in omega (arith, size, room));
             each = λ q is. elim (eqb_tells q page) [
               | inl same ↦
                   let there : marked (slice_set new (page - FIRST_BLOCK_PAGE) 1) q ≡ 1 =
@@ -213,7 +263,7 @@ module _ (end : ℕ) (m : List ℕ) (from n page : ℕ) (old new : List ℕ) (wa
         }
 
     -- the next is no block, or one that was marked
-    pub stale_next : IsMemory m → n < MOST_BLOCKS → page ≢ 0
+    stale_next : IsMemory m → n < MOST_BLOCKS → page ≢ 0
         → (((FIRST_BLOCK_PAGE ≤ page) × (page < end)) × (marked new page ≡ 0) → ⊥) → (IsFresh end m old from → ⊥)
     stale_next sized fits some unfit fresh =
         let family : List ℕ → Type 0 = λ ps. Leads m from ps 0 in
@@ -230,6 +280,13 @@ module _ (end : ℕ) (m : List ℕ) (from n page : ℕ) (old new : List ℕ) (wa
         omega (arith, none, whole, parts, here)))
         (cases_lt page end) in
         stale_mark fits some place (λ free. unfit ((block.0, inner), free)) fresh
+
+    pub stale_there : IsMemory m → n ≤ MOST_BLOCKS → page ≢ 0
+        → (((FIRST_BLOCK_PAGE ≤ page) × (page < end)) × (marked new page ≡ 0) → ⊥) → (IsFresh end m old from → ⊥)
+    stale_there sized within some unfit = ⊎_elim
+        (λ (fits : n < MOST_BLOCKS). stale_next sized fits some unfit)
+        (λ (all : MOST_BLOCKS ≤ n). stale_long (omega (arith, all, within)) some)
+        (cases_lt n MOST_BLOCKS)
 
     -- the last block that was walked over, and one more
     pub last_more : n < MOST_BLOCKS → page ≢ 0 → page ≡ slice_index (pages_from m (n + 1) from) (n + 1 - 1)

@@ -21,7 +21,7 @@ use Rattle.file_tree.specs.Table.{table, entry_in, IsUsed, IsTable, HaveIdentifi
 use Rattle.file_tree.specs.Indexes.{place_of, IsPlace, AreSorted, IsIndex, IsFreeIn, AddsEntry, TellsChild}
 use Rattle.file_tree.specs.IndexParts.{key_at, AreBefore, AreBehind, TellsSearch, halved, Puts, ArePlacesTo, parent_by, leads_by}
 use Rattle.file_tree.specs.laws.Tables.{entry_past}
-use Rattle.file_tree.specs.laws.Nodes.{used_small}
+use Rattle.file_tree.specs.laws.Alikes.{used_within}
 
 -- a key, whatever stands past the end
 pub same_key : (xs : List Place) (k : ℕ) (d e : Place) → k < length xs → key_at xs k d ≡ key_at xs k e
@@ -277,10 +277,10 @@ places_stored t e places new place so_far apart below used own small put =
     let long = length_put places (place_of t e) new puts in
     (omega (arith, long, small), places_put t e places so_far new below used puts)
 
-pub places_all : (m : List ℕ) (index : Index) (end : ℕ) → 64 ≤ end → ArePlacesTo (table m) end index.places.items → IsIndex (table m) index
-places_all m index end most all = record {
+pub places_whole : (t : List Entry) (index : Index) (end : ℕ) → length t ≤ end → ArePlacesTo t end index.places.items → IsIndex t index
+places_whole t index end most all = record {
   each = all.each;
-  all = λ e some used. let small = used_small m e used in all.all e some (omega (arith, small, most)) used;
+  all = λ e some used. let small = used_within t e used in all.all e some (omega (arith, small, most)) used;
   sorted = all.sorted;
 }
 

@@ -51,7 +51,8 @@ module _ (end : ℕ) (m mid after : List ℕ) (sized : IsMemory m) (stands : Tre
   size : length after ≡ length m
   size = renames.size ∙ only.size
 
-  same-entries : table after ≡ table m
+  -- each entry is where it was
+  pub same-entries : table after ≡ table m
   same-entries = table-same m after (λ page from below.
       page_words_same m after page (let long = least_words m sized in omega (arith, long, below)) size (λ place small.
       renames.entries page place from below small

@@ -6,8 +6,8 @@ use Rattle.block_chain.specs.declared.layout.TheConstants.{MOST_BLOCKS}
 use Rattle.block_chain.specs.laws.Walking.{HasWalked}
 use Rattle.block_chain.proofs.walk.walk_over.Given as goal
 
-abbrev pub invariant-loop-blocks : goal.invariant-loop-blocks
-invariant-loop-blocks g l = let m = committed l.fn.store in record {
+abbrev pub invariant-loop-last : goal.invariant-loop-last
+invariant-loop-last g l = let m = committed l.fn.store in record {
   ready : IsReady l.store;
   reads : OnlyReads l.fn.store l.store;
   within : l.blocks ≤ MOST_BLOCKS;
@@ -15,5 +15,5 @@ invariant-loop-blocks g l = let m = committed l.fn.store in record {
   last : l.last ≡ slice_index (pages_from m l.blocks l.first) (l.blocks - 1);
 }
 
-abbrev pub decreases-loop-blocks : goal.decreases-loop-blocks
-decreases-loop-blocks g l = MOST_BLOCKS - l.blocks
+abbrev pub decreases-loop-last : goal.decreases-loop-last
+decreases-loop-last g l = MOST_BLOCKS - l.blocks

@@ -1,52 +1,10 @@
 use Rattle.undo_journal.specs.laws.Exits.{none_ok}
-use Rattle.std.proofs.Common.{rules, ◌≡◌, ◌<◌, ℕ, List, [], ◌∷◌, ◌++◌, length, take, sym, ◌∙◌, ap, ap₂, arith}
-use Rattle.std.proofs.lemmas.List.{take_more}
-use Rattle.std.proofs.Math.Seq.{take-length}
-use Rattle.undo_journal.specs.Memory.{committed}
-use Rattle.undo_journal.specs.laws.Calls.{reads_then}
-use Rattle.file_tree.specs.declared.entry.Entry.{Entry}
-use Rattle.file_tree.specs.Entries.{free_entry}
-use Rattle.file_tree.specs.Table.{table, entry_in}
-use Rattle.file_tree.specs.laws.Tables.{length-table}
-use Rattle.undo_journal.specs.laws.Told.{reads_so_far, reads_handed, reads_on}
+use Rattle.undo_journal.specs.laws.Told.{reads_handed}
 use Rattle.file_tree.proofs.reading.read_table.Goals as goal
 
-pub loop-e-preserved : goal.loop-e-preserved
-loop-e-preserved g c =
-    let m = committed c.args.store.now in
-    let t = table m in
-    let e = c.loop-e.e in
-    let small : e < 64 = search rules in
-    let within : e < length t = let l = length-table m in omega (arith, small, l) in
-    let read : c.in_ok-read_entry.field-0 ≡ entry_in t e =
-    c.in_ok-read_entry.ensures.entry
-    ∙ ap (λ (l : List ℕ). entry_in (table l) e) c.loop-e.invariant.reads.keeps.committed_words in
-    record {
-      ready = search rules;
-      reads = search (rules, reads_then);
-      size = omega (arith, c.push.ensures.len);
-      so_far = c.push.ensures.items
-          ∙ ap₂ (λ (front : List Entry) (x : Entry). front ++ x ∷ []) c.loop-e.invariant.so_far read
-          ∙ sym (take_more t e free_entry within);
-    }
+pub returns-in_err-fill_table-clause-table : goal.returns-in_err-fill_table-clause-table
+returns-in_err-fill_table-clause-table g c = none_ok _ _ _ c.from_residual.ensures.1
 
-pub returns-clause-table : goal.returns-clause-table
-returns-clause-table g c =
-    let m = committed c.args.store.now in
-    let all : c.loop-e.e ≡ length (table m) = let l = length-table m in let e : c.loop-e.e ≡ 64 = search rules in omega
-    (arith, l, e) in
-    c.loop-e.invariant.so_far ∙ ap (λ (n : ℕ). take n (table m)) all ∙ take-length (table m)
-
-pub read_entry-requires-clause-ready : goal.read_entry-requires-clause-ready
-read_entry-requires-clause-ready g c = c.loop-e.invariant.ready
-
-pub returns-in_err-read_entry-clause-table : goal.returns-in_err-read_entry-clause-table
-returns-in_err-read_entry-clause-table g c = none_ok _ _ _ c.from_residual.ensures.1
-
-pub returns-in_err-read_entry-clause-store : goal.returns-in_err-read_entry-clause-store
-returns-in_err-read_entry-clause-store g c =
-    reads_handed _ _ _ _ c.from_residual.ensures.1 (reads_on _ _ _ _ c.loop-e.invariant.reads c.in_err-read_entry.ensures.store)
-
-pub returns-clause-store : goal.returns-clause-store
-returns-clause-store g c =
-    reads_so_far _ _ c.loop-e.invariant.reads c.loop-e.invariant.ready
+pub returns-in_err-fill_table-clause-store : goal.returns-in_err-fill_table-clause-store
+returns-in_err-fill_table-clause-store g c =
+    reads_handed _ _ _ _ c.from_residual.ensures.1 c.in_err-fill_table.ensures.store

@@ -6,7 +6,7 @@ use Rattle.undo_journal.specs.Memory.{committed}
 use Rattle.undo_journal.specs.Spending.{KeepsBoard, WritesAtMost}
 use Rattle.undo_journal.specs.Undo.{data_words}
 use Rattle.card_core.specs.Finding.{FindsAgain}
-use Rattle.card_core.specs.declared.surveying.Survey.{Survey}
+use Rattle.file_tree.specs.declared.tree.Survey.{Survey}
 use Rattle.card_core.specs.Standing.{IsAnyCard}
 use Rattle.card_core.specs.declared.card_state.CardState.TheVariants.{Working, Dark}
 use Rattle.card_core.specs.declared.current.Current.{Current}

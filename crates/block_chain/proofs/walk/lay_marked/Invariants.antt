@@ -4,7 +4,7 @@ use Rattle.undo_journal.specs.Calls.{OnlyReads}
 use Rattle.block_chain.specs.declared.layout.TheConstants.{FIRST_BLOCK_PAGE, MOST_BLOCKS}
 use Rattle.block_chain.specs.Chains.{free_chain}
 use Rattle.block_chain.specs.laws.Laying.{AreLaidSoFar}
-use Rattle.block_chain.proofs.walk.lay.Given as goal
+use Rattle.block_chain.proofs.walk.lay_marked.Given as goal
 
 abbrev pub invariant-loop-i : goal.invariant-loop-i
 invariant-loop-i g l = let m = committed l.fn.store in record {

@@ -2,7 +2,7 @@ use Rattle.std.proofs.Common.{◌≡◌, length, take}
 use Rattle.undo_journal.specs.Memory.{committed, IsReady}
 use Rattle.undo_journal.specs.Calls.{OnlyReads}
 use Rattle.file_tree.specs.Table.{table}
-use Rattle.file_tree.proofs.reading.read_table.Given as goal
+use Rattle.file_tree.proofs.reading.fill_table.Given as goal
 
 abbrev pub invariant-loop-e : goal.invariant-loop-e
 invariant-loop-e g l = record {

@@ -1,11 +1,13 @@
-use Rattle.std.proofs.Common.{ℕ, List, Some, None, sym, ◌∙◌, ap, subst, inl}
+use Rattle.std.proofs.Common.{ℕ, List, Some, None, sym, ◌∙◌, ap, subst, inl, inr}
 use Rattle.undo_journal.specs.Calls.{Changes}
 use Rattle.undo_journal.specs.Memory.{committed}
 use Rattle.undo_journal.specs.laws.Told.{changes_after, changes_handed}
+use Rattle.file_tree.specs.Table.{table}
+use Rattle.file_tree.specs.Indexes.{IsIndex}
 use Rattle.card_core.specs.Cards.{card_space}
-use Rattle.card_core.specs.Standing.{card_of, IsCard}
-use Rattle.card_core.proofs.Migrated.{found-one, found-two, renewal-writes}
-use Rattle.card_core.proofs.renewing.find_renewed.Goals as goal
+use Rattle.card_core.specs.Standing.{card_of, IsCard, IsOldCard}
+use Rattle.card_core.proofs.Migrated.{found-one, found-two, found-where, renewal-writes, renewed-card}
+use Rattle.card_core.proofs.renewing.survey_card.Goals as goal
 
 pub returns-in_err-renew-in-One-clause-store : goal.returns-in_err-renew-in-One-clause-store
 returns-in_err-renew-in-One-clause-store g c =
@@ -25,7 +27,8 @@ returns-in-Two-clause-card g c =
     let m = committed c.args.store.now in
     let same = sym c.find_card.ensures.store.only.keeps.committed_words in
     let there = found-two m _ c.in-Some.found c.in-Some.is c.in-Two.is c.in_ok-found.ensures.card in
-    (inl there.0, subst IsCard same there.0, there.1 ∙ ap (λ (l : List ℕ). card_space (card_of l)) same)
+    (inl there.0, subst IsCard same there.0, there.1 ∙ ap (λ (l : List ℕ). card_space (card_of l)) same,
+      subst (λ (l : List ℕ). IsIndex (table l) c.in-Some.found.tree.index) same there.2)
 
 pub returns-in_ok-renew-in-One-clause-store : goal.returns-in_ok-renew-in-One-clause-store
 returns-in_ok-renew-in-One-clause-store g c =
@@ -37,3 +40,20 @@ returns-in_ok-renew-in-One-clause-store g c =
     let changes = changes_after _ first c.find_card.new.store last None c.find_card.ensures.store.only
     c.in_ok-renew-in-One.ensures.store in
     subst (λ (n : ℕ). Changes n first last None) (renewal-writes m (committed c.find_card.new.store) same old) changes
+
+pub returns-in_ok-renew-in-One-clause-card : goal.returns-in_ok-renew-in-One-clause-card
+returns-in_ok-renew-in-One-clause-card g c =
+    let m = committed c.args.store.now in
+    let mid = committed c.find_card.new.store in
+    let after = committed c.renew.new.store in
+    let same = c.find_card.ensures.store.only.keeps.committed_words in
+    let told = c.in_ok-found.ensures.card in
+    let old = found-one m _ c.in-Some.found c.in-Some.is c.in-One.is told in
+    let migrates = c.in_ok-renew-in-One.ensures.any_exit in
+    (
+      inr old,
+      renewed-card mid after c.in_ok-found.ensures.store.ready.usable.committed_size (subst IsOldCard (sym same) old) migrates
+          c.in_ok-renew-in-One.ensures.done.new,
+      c.in_ok-renew-in-One.ensures.free,
+      found-where m mid after _ c.in-Some.found same c.in-Some.is told migrates,
+    )

@@ -1,56 +1,39 @@
 use Rattle.undo_journal.specs.laws.Exits.{none_ok}
-use Rattle.std.proofs.Common.{◌≡◌, rules, ℕ, List, Option, Some, None, length, IsTrue, sym, ◌∙◌, ap, subst}
+use Rattle.std.proofs.Common.{◌≡◌, ℕ, List, Option, Some, None, length, refl, ◌∙◌, ap, subst}
 use Rattle.undo_journal.specs.Memory.{committed}
 use Rattle.block_chain.specs.declared.chain.Extent.{Extent}
 use Rattle.block_chain.specs.Layout.{TellsFree}
 use Rattle.file_tree.specs.declared.entry.Entry.{Entry}
-use Rattle.file_tree.specs.Table.{extents, free_entries}
 use Rattle.file_tree.specs.laws.Tables.{length-table}
 use Rattle.file_tree.specs.laws.Telling.{space_told}
 use Rattle.undo_journal.specs.laws.Told.{reads_handed, reads_on}
 use Rattle.std.specs.Prelude.{◌<◌, ℕ, None, MatchOption}
 use Rattle.std.proofs.Common.{arith}
-use Rattle.undo_journal.specs.laws.Calls.{reads_then}
 use Rattle.nvm_board.specs.Facts.{pages_of}
 use Rattle.file_tree.specs.Formats.{end_page, block_count}
 use Rattle.file_tree.specs.Trees.{TreeStands}
 use Rattle.file_tree.specs.laws.Formats.{count_is}
-use Rattle.file_tree.proofs.tree.is_tree.Goals as goal
+use Rattle.file_tree.proofs.tree.find_free.Goals as goal
 
-pub is_table-requires : goal.is_table-requires
-is_table-requires g c =
-    ap (λ (t : List Entry). length t) (c.as_slice.ensures.value ∙ c.in_ok-entries.ensures.table)
-    ∙ length-table (committed c.args.store.now)
+pub extents_of-extents-requires : goal.extents_of-extents-requires
+extents_of-extents-requires g c =
+    let size = ap (λ (t : List Entry). length t) c.requires.read ∙ length-table (committed c.args.store.now) in
+    omega (arith, size)
 
 pub count_free-entries-requires : goal.count_free-entries-requires
 count_free-entries-requires g c =
-    ap (λ (t : List Entry). length t) (c.as_slice-4.ensures.value ∙ c.in_ok-entries.ensures.table)
-    ∙ length-table (committed c.args.store.now)
+    ap (λ (t : List Entry). length t) c.requires.read ∙ length-table (committed c.args.store.now)
 
 -- what was found of the blocks, where they lie as they should and where not
 found_is : (n : ℕ) (now : List ℕ) (es : List Extent) (o answer : Option ℕ) → o ≡ answer → TellsFree n now es o → TellsFree n now es answer
 found_is n now es o answer is told = subst (λ (r : Option ℕ). TellsFree n now es r) is told
-
-pub read_table-requires : goal.read_table-requires
-read_table-requires g c = record { ready = c.requires.ready }
-
-pub returns-in_err-entries-clause-tree : goal.returns-in_err-entries-clause-tree
-returns-in_err-entries-clause-tree g c = none_ok _ _ _ c.from_residual.ensures.1
-
-pub returns-in_err-entries-clause-store : goal.returns-in_err-entries-clause-store
-returns-in_err-entries-clause-store g c =
-    reads_handed _ _ _ _ c.from_residual.ensures.1 c.in_err-entries.ensures.store
-
-pub returns-then-not-is_table-clause-store : goal.returns-then-not-is_table-clause-store
-returns-then-not-is_table-clause-store g c = c.in_ok-entries.ensures.store
 
 pub returns-in_err-blocks-clause-tree : goal.returns-in_err-blocks-clause-tree
 returns-in_err-blocks-clause-tree g c = none_ok _ _ _ c.from_residual-in_err-blocks.ensures.1
 
 pub returns-in_err-count-clause-store : goal.returns-in_err-count-clause-store
 returns-in_err-count-clause-store g c =
-    reads_handed _ _ _ _ c.from_residual-in_err-count.ensures.1
-    (reads_on _ _ _ _ c.read_table.ensures.store.only c.in_err-count.ensures.store)
+    reads_handed _ _ _ _ c.from_residual.ensures.1 c.in_err-count.ensures.store
 
 -- blocks that do not all lie in the memory are not laid out
 too_many : (m now : List ℕ) (o : Option ℕ) (P : ℕ → Type 0) → now ≡ m → o ≡ None
@@ -66,14 +49,13 @@ too_many m now o P same is told stands =
 
 pub returns-in_default-clause-tree : goal.returns-in_default-clause-tree
 returns-in_default-clause-tree g c =
-    too_many (committed c.args.store.now) _ _ _ c.read_table.ensures.store.only.keeps.committed_words c.in_default.is
+    too_many (committed c.args.store.now) _ _ _ refl c.in_default.is
     c.in_ok-count.ensures.count
 
 pub returns-in_err-blocks-clause-store : goal.returns-in_err-blocks-clause-store
 returns-in_err-blocks-clause-store g c =
     reads_handed _ _ _ _ c.from_residual-in_err-blocks.ensures.1
-    (reads_on _ _ _ _ (reads_then _ _ _ c.read_table.ensures.store.only c.read_block_count.ensures.store.only)
-    c.in_err-blocks.ensures.store)
+    (reads_on _ _ _ _ c.read_block_count.ensures.store.only c.in_err-blocks.ensures.store)
 
 -- so many blocks were counted
 counted : (m now : List ℕ) (o : Option ℕ) (n : ℕ) (P : Type 0) (Q : ℕ → Type 0) → now ≡ m → o ≡ Some n
@@ -85,20 +67,11 @@ counted m now o n P Q same is told =
 pub returns-clause-tree : goal.returns-clause-tree
 returns-clause-tree g c =
     let m = committed c.args.store.now in
-    let passes : IsTrue c.is_table.result = search rules in
-    let same = c.as_slice-4.ensures.value ∙ sym c.as_slice.ensures.value in
-    let table_kept = c.read_table.ensures.store.only.keeps.committed_words in
-    let count : c.in-Some.count ≡ block_count m =
-    counted m (committed c.read_table.new.store) _ _ _ _ table_kept c.in-Some.is c.in_ok-count.ensures.count in
+    let count : c.in-Some.count ≡ block_count m = counted m m _ _ _ _ refl c.in-Some.is c.in_ok-count.ensures.count in
     let family : ℕ → Type 0 =
-    λ n. TellsFree n (committed c.read_block_count.new.store) c.as_slice-3.result.now (Some c.in-Some-2.blocks) in
-    space_told m (committed c.read_block_count.new.store) c.as_slice.result.now c.as_slice-3.result.now
-    (Some c.in-Some-2.blocks) _
-    c.requires.ready.usable.committed_size
-    (c.read_block_count.ensures.store.only.keeps.committed_words ∙ table_kept)
-    (c.as_slice.ensures.value ∙ c.in_ok-entries.ensures.table)
-    (c.as_slice-3.ensures.value ∙ c.extents_of-extents.ensures ∙ ap extents (c.as_slice-2.ensures.value
-    ∙ sym c.as_slice.ensures.value))
-    (c.is_table.ensures.0 passes)
+    λ n. TellsFree n (committed c.read_block_count.new.store) c.as_slice.result.now (Some c.in-Some-2.blocks) in
+    space_told m (committed c.read_block_count.new.store) c.args.all.now c.as_slice.result.now (Some c.in-Some-2.blocks) _
+    c.requires.ready.usable.committed_size c.read_block_count.ensures.store.only.keeps.committed_words c.requires.read
+    (c.as_slice.ensures.value ∙ c.extents_of-extents.ensures) c.requires.rules
     (subst family count (found_is _ _ _ _ _ c.in-Some-2.is c.in_ok-blocks.ensures.found))
-    (λ i. Some (record { blocks = c.in-Some-2.blocks; entries = (c.count_free-entries.ensures ∙ ap free_entries same) i }))
+    (λ i. Some (record { blocks = c.in-Some-2.blocks; entries = c.count_free-entries.ensures i }))
