@@ -7,6 +7,7 @@ use Rattle.card_rules.specs.declared.life_cycle.LifeCycle.TheVariants.{Activated
 use Rattle.block_chain.specs.declared.chain.Extent.{Extent}
 use Rattle.block_chain.specs.Words.{word_bytes}
 use Rattle.file_tree.specs.declared.entry.Entry.{Entry}
+use Rattle.file_tree.specs.declared.entry.EntryHead.{EntryHead}
 use Rattle.file_tree.specs.Cards.{transparent, linear, cyclic, dedicated, elementary, Body, Kind, File}
 use Rattle.file_tree.specs.Spaces.{blocks_for}
 
@@ -126,3 +127,7 @@ extent_told entry = record {
 -- the entry of an elementary file names blocks, and no other entry does
 unfoldable pub extent_of : Entry → Option Extent
 extent_of entry = if nat_le 2 entry.kind then Some (extent_told entry) else None
+
+-- what the first two words of an entry tell
+abbrev pub head_of : Entry → EntryHead
+head_of x = record { kind = x.kind; life = x.life; parent = x.parent }

@@ -3,6 +3,7 @@
 ghost use Rattle.std.specs.Prelude.{◌≡◌, ◌++◌};
 ghost use Rattle.block_chain.specs.Words.{word_bytes};
 ghost use Rattle.file_tree.specs.Entries.{high, low, free_entry, entry_of, name_of, rule_of, extent_of};
+ghost use Rattle.file_tree.specs.Parts.{head_in};
 
 use crate::kinds;
 use crate::layout::{ENTRIES, ENTRY_WORDS, RECORDS_WORD};
@@ -44,6 +45,35 @@ pub struct Entry {
     pub records: u16,
     /// The slot of record 1 of a cyclic file; of other files 0.
     pub start: u16,
+}
+
+/// What the first two words of an entry tell of its file. A step to the parent asks for no more.
+#[derive(Clone, Copy)]
+pub struct EntryHead {
+    /// One of `kinds`.
+    pub kind: u8,
+    /// The life cycle status byte (ISO/IEC 7816-4, 7.4.10).
+    pub life: u8,
+    /// The number of the parent's entry; the master file's is its own, 0.
+    pub parent: u8,
+}
+
+impl EntryHead {
+    /// The head of the entry that begins with these words.
+    pub(crate) fn from_words(first: u32, second: u32) -> EntryHead
+        ensures { result ≡ head_in first second }
+    {
+        if first == 0 {
+            return EntryHead {
+                kind: 0,
+                life: 0,
+                parent: 0,
+            };
+        }
+        let [kind, life, _, _] = first.to_be_bytes();
+        let [parent, _, _, _] = second.to_be_bytes();
+        EntryHead { kind, life, parent }
+    }
 }
 
 /// The most elements of a list that has at most one for each entry.
