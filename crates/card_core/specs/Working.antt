@@ -128,13 +128,16 @@ pub record IsKept (m : Memory) (x : Current) : Type 0 where
 abbrev pub fresh_current : Current
 fresh_current = record { df = 0; ef = None; pointer = None; verified = no_pins }
 
--- the current files after an entry's file became current; the PINs that are verified stay
-abbrev pub current_at : Current → ℕ → Entry → Current
-current_at x e entry = record x {
-  df = if entry.kind == 1 then e else entry.parent;
-  ef = if entry.kind == 1 then None else Some e;
+-- the current files after an entry's file became current, by its kind and its parent; the PINs that are verified stay
+abbrev pub current_by : Current → ℕ → ℕ → ℕ → Current
+current_by x e kind parent = record x {
+  df = if kind == 1 then e else parent;
+  ef = if kind == 1 then None else Some e;
   pointer = None;
 }
+
+abbrev pub current_at : Current → ℕ → Entry → Current
+current_at x e entry = current_by x e entry.kind entry.parent
 
 -- and after a binary command that named an elementary file
 abbrev pub named_from : Current → Target → ℕ → Current

@@ -1,16 +1,11 @@
--- What single steps of the checks, the look-ups and the life cycles find. Of these a public clause names `is_allowed_by` alone.
+-- What single steps of the checks, the look-ups and the life cycles find. No public clause names these.
 use Rattle.std.specs.Prelude.{◌≡◌, ◌≢◌, ◌==◌, ◌⊎◌, ◌<◌, ◌&&◌, ◌||◌, ℕ, zero, suc, Bool, false, not, if◌then◌else◌}
 use Rattle.std.specs.Prelude.{List, length, Option, None, Some, unwrap_or}
-use Rattle.card_rules.specs.LifeCycle.{life_cycle_at}
-use Rattle.card_rules.specs.Rule.{allows}
-use Rattle.card_rules.specs.declared.access_mode.AccessBit.{AccessBit}
 use Rattle.card_rules.specs.declared.life_cycle.LifeCycle.{LifeCycle}
-use Rattle.card_rules.specs.declared.life_cycle.LifeCycle.TheVariants.{Activated}
 use Rattle.file_tree.specs.declared.entry.Entry.{Entry}
-use Rattle.file_tree.specs.declared.entry.EntryHead.{EntryHead}
 use Rattle.file_tree.specs.Cards.{master_file}
 use Rattle.file_tree.specs.States.{bars}
-use Rattle.file_tree.specs.Entries.{byte_of, low, name_of, rule_of, free_entry, head_of}
+use Rattle.file_tree.specs.Entries.{byte_of, life_told, low, name_of}
 use Rattle.file_tree.specs.Table.{entry_in, IsUsed, IsBelowMaster, IsChild}
 
 -- two entries have the same name, which has bytes
@@ -76,22 +71,6 @@ IsNamed t text f = BearsName (entry_in t f) text
 abbrev pub TellsNamed : List Entry → List ℕ → Option ℕ → Type 0
 TellsNamed t name None = (f : ℕ) → IsNamed t name f → ⊥
 TellsNamed t name (Some f) = IsNamed t name f
-
--- the head of an entry that begins with these words
-abbrev pub head_in : ℕ → ℕ → EntryHead
-head_in first second = if first == 0 then head_of free_entry else
-    record { kind = byte_of first 0; life = byte_of first 1; parent = byte_of second 0 }
-
--- the state that a life cycle status byte tells, and an entry
-abbrev pub state_told : ℕ → LifeCycle
-state_told life = unwrap_or (life_cycle_at life) Activated
-
-abbrev pub life_told : Entry → LifeCycle
-life_told x = state_told x.life
-
--- whether the access rule of an entry allows an operation in its state, where these PINs are verified, and these are disabled
-abbrev pub is_allowed_by : Entry → AccessBit → List Bool → List Bool → Bool
-is_allowed_by x bit verified disabled = allows (rule_of x) bit (life_told x) verified disabled
 
 -- whether at most so many steps to parents lead by a file that bars
 unfoldable pub barred_up : List Entry → ℕ → ℕ → Bool

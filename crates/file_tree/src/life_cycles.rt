@@ -9,7 +9,8 @@ ghost use Rattle.undo_journal.specs.Calls.{OnlyReads, Reads, Changes};
 ghost use Rattle.file_tree.specs.States.{bars, is_allowed, is_barred, life_at, next_life, with_card_terminated, ChangesLife};
 ghost use Rattle.file_tree.specs.Table.{table, entry_in, path_of, IsUsed};
 ghost use Rattle.file_tree.specs.Trees.{tree_of, TreeStands};
-ghost use Rattle.file_tree.specs.Parts.{barred_up, is_allowed_by, life_told, state_told, TellsLife};
+ghost use Rattle.file_tree.specs.Entries.{is_allowed_by};
+ghost use Rattle.file_tree.specs.Parts.{barred_up, TellsLife};
 
 use crate::entry::Entry;
 use crate::layout::{CARD_TERMINATED, DEEPEST, STATE_WORD, entry_address};
@@ -24,20 +25,6 @@ fn bars(life: LifeCycle) -> bool
     ensures { result ≡ bars life }
 {
     matches!(life, LifeCycle::Deactivated | LifeCycle::Terminated)
-}
-
-/// The state that a life cycle status byte tells.
-fn state_of(life: u8) -> LifeCycle
-    ensures { result ≡ state_told life }
-{
-    LifeCycle::from_byte(life).unwrap_or(LifeCycle::Activated)
-}
-
-/// The state that an entry tells.
-fn life_of(entry: &Entry) -> LifeCycle
-    ensures { result ≡ life_told entry.now }
-{
-    state_of(entry.life)
 }
 
 /// A file above that of an entry is deactivated or terminated. By at most seven steps from child to parent all files above
@@ -58,7 +45,7 @@ fn is_below_barred<B: Board>(store: &mut Store<B>, e: u8, parent: u8) -> Result<
             return Ok(false);
         }
         let head = read_entry_head(store, above)?;
-        if bars(state_of(head.life)) {
+        if bars(head.life_cycle()) {
             return Ok(true);
         }
         at = above;
@@ -100,7 +87,7 @@ pub fn is_barred_at<B: Board>(
         ≡ is_barred (tree_of (committed store.old)) (path_of (table (committed store.old)) e)) }
     ensures store { Reads store.old store.new (result_err result) }
 {
-    if bars(life_of(entry)) {
+    if bars(entry.life_cycle()) {
         return Ok(true);
     }
     is_below_barred(store, e, entry.parent)
@@ -128,7 +115,7 @@ pub fn next_life_cycle<B: Board>(
     if barred {
         return Ok(None);
     }
-    Ok(LifeCycle::next_state(command, life_of(&entry)))
+    Ok(LifeCycle::next_state(command, entry.life_cycle()))
 }
 
 /// The first word of an entry in another state.
@@ -215,7 +202,7 @@ pub fn is_allowed_at(
 ) -> bool
     ensures { result ≡ is_allowed_by entry.now bit verified.now disabled.now }
 {
-    allows(entry.rule(), bit, life_of(entry), verified, disabled)
+    allows(entry.rule(), bit, entry.life_cycle(), verified, disabled)
 }
 
 /// Ends the use of the card: the state of the card in the header is "terminated". No other word changes. A card whose use

@@ -12,11 +12,11 @@ use Rattle.card_rules.specs.Rule.{is_rule, allows}
 use Rattle.card_rules.specs.declared.access_mode.AccessBit.{AccessBit}
 use Rattle.file_tree.specs.declared.entry.Entry.{Entry}
 use Rattle.file_tree.specs.Cards.{Path, File, Tree, file_at}
-use Rattle.file_tree.specs.Entries.{free_entry, file_of, rule_of}
+use Rattle.file_tree.specs.Entries.{free_entry, file_of, is_allowed_by, life_told, rule_of}
 use Rattle.file_tree.specs.States.{bars, above, life_at, has_barred_above, is_allowed}
 use Rattle.file_tree.specs.Table.{table, entry_in, ancestor, path_of, IsUsed, IsTable}
 use Rattle.file_tree.specs.Trees.{content, tree_of}
-use Rattle.file_tree.specs.Parts.{life_told, barred_up, is_allowed_by}
+use Rattle.file_tree.specs.Parts.{barred_up}
 use Rattle.file_tree.specs.laws.Paths.{path-zero, path_of-child, parent_used, reaches_master}
 use Rattle.file_tree.specs.laws.Nodes.{used_small, file_at_entry}
 use Rattle.file_tree.specs.laws.Tables.{length-table}

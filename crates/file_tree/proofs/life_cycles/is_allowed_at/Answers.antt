@@ -4,4 +4,4 @@ use Rattle.file_tree.proofs.life_cycles.is_allowed_at.Goals as goal
 
 pub returns : goal.returns
 returns c =
-    c.allows.ensures ∙ (λ i. allows (c.rule.ensures i) c.args.bit (c.life_of.ensures i) c.args.verified.now c.args.disabled.now)
+    c.allows.ensures ∙ (λ i. allows (c.rule.ensures i) c.args.bit (c.life_cycle.ensures i) c.args.verified.now c.args.disabled.now)

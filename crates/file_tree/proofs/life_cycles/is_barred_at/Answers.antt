@@ -5,7 +5,8 @@ use Rattle.file_tree.specs.declared.entry.Entry.{Entry}
 use Rattle.file_tree.specs.States.{bars, is_barred}
 use Rattle.file_tree.specs.Table.{table, entry_in, path_of, IsUsed}
 use Rattle.file_tree.specs.Trees.{tree_of, TreeStands}
-use Rattle.file_tree.specs.Parts.{barred_up, life_told}
+use Rattle.file_tree.specs.Entries.{life_told}
+use Rattle.file_tree.specs.Parts.{barred_up}
 use Rattle.file_tree.specs.laws.Barring.{barred_told, life_told_there}
 use Rattle.undo_journal.specs.laws.Told.{reads_none}
 use Rattle.file_tree.proofs.life_cycles.is_barred_at.Goals as goal
@@ -22,14 +23,14 @@ pub returns-then-bars-clause-barred : goal.returns-then-bars-clause-barred
 returns-then-bars-clause-barred g c =
     let m = committed c.args.store.now in
     told m c.args.e c.args.entry.now true (barred_up (table m) 7 c.args.e) c.requires.tree c.requires.used
-    c.requires.entry (sym c.if-bars.true ∙ c.bars.ensures ∙ ap bars c.life_of.ensures)
+    c.requires.entry (sym c.if-bars.true ∙ c.bars.ensures ∙ ap bars c.life_cycle.ensures)
     (λ i. barred_up (table m) 7 c.args.e)
 
 pub returns-clause-barred : goal.returns-clause-barred
 returns-clause-barred g c =
     let m = committed c.args.store.now in
     IfOk-weaker _ _ _ (λ barred is. told m c.args.e c.args.entry.now false barred c.requires.tree c.requires.used
-    c.requires.entry (sym c.if-bars.false ∙ c.bars.ensures ∙ ap bars c.life_of.ensures) is) c.is_below_barred.ensures.barred
+    c.requires.entry (sym c.if-bars.false ∙ c.bars.ensures ∙ ap bars c.life_cycle.ensures) is) c.is_below_barred.ensures.barred
 
 pub returns-then-bars-clause-store : goal.returns-then-bars-clause-store
 returns-then-bars-clause-store g c = reads_none _ c.requires.ready

@@ -4,10 +4,10 @@ use Rattle.undo_journal.specs.Memory.{committed}
 use Rattle.undo_journal.specs.laws.Calls.{reads_then}
 use Rattle.file_tree.specs.declared.entry.Entry.{Entry}
 use Rattle.file_tree.specs.declared.entry.EntryHead.{EntryHead}
-use Rattle.file_tree.specs.Entries.{head_of}
+use Rattle.file_tree.specs.Entries.{head_of, life_told, state_told}
 use Rattle.file_tree.specs.States.{bars}
 use Rattle.file_tree.specs.Table.{table, entry_in, IsUsed, IsTable}
-use Rattle.file_tree.specs.Parts.{barred_up, life_told, state_told}
+use Rattle.file_tree.specs.Parts.{barred_up}
 use Rattle.file_tree.specs.laws.Barring.{barred_up-master, barred_up-none, barred_up-step}
 use Rattle.file_tree.specs.laws.Nodes.{used_small}
 use Rattle.file_tree.specs.laws.Paths.{parent_used}
@@ -55,7 +55,7 @@ returns-then-bars-clause-barred g c =
     sym (c.loop-step.invariant.left
     ∙ step_up (table m) _ (7 - (c.loop-step._step + 1)) c.loop-step.at c.loop-step.above c.in_ok-head.head c.bars.result true
     one
-    c.if-at-eq0.false c.loop-step.invariant.parent there (c.bars.ensures ∙ ap bars c.state_of.ensures) c.if-bars.true)
+    c.if-at-eq0.false c.loop-step.invariant.parent there (c.bars.ensures ∙ ap bars c.life_cycle.ensures) c.if-bars.true)
 
 pub loop-step-preserved : goal.loop-step-preserved
 loop-step-preserved g c =
@@ -72,7 +72,7 @@ loop-step-preserved g c =
       left = c.loop-step.invariant.left
           ∙ step_up (table m) _ (7 - (c.loop-step._step + 1)) c.loop-step.at c.loop-step.above c.in_ok-head.head
           c.bars.result false
-          one c.if-at-eq0.false c.loop-step.invariant.parent there (c.bars.ensures ∙ ap bars c.state_of.ensures) c.if-bars.false;
+          one c.if-at-eq0.false c.loop-step.invariant.parent there (c.bars.ensures ∙ ap bars c.life_cycle.ensures) c.if-bars.false;
     }
 
 pub returns-clause-barred : goal.returns-clause-barred

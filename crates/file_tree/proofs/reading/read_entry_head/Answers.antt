@@ -7,15 +7,14 @@ use Rattle.block_chain.specs.Words.{word, page_words}
 use Rattle.block_chain.specs.laws.Words.{index-page_words}
 use Rattle.file_tree.specs.declared.entry.Entry.{Entry}
 use Rattle.file_tree.specs.declared.entry.EntryHead.{EntryHead}
-use Rattle.file_tree.specs.Entries.{byte_of, entry_of, free_entry, head_of}
-use Rattle.file_tree.specs.Parts.{head_in}
+use Rattle.file_tree.specs.Entries.{byte_of, entry_of, free_entry, head_of, head_told}
 use Rattle.file_tree.specs.laws.Tables.{entry_of-free, entry_of-used, entry_in-table}
 use Rattle.undo_journal.specs.laws.Told.{reads_handed, reads_on}
 use Rattle.file_tree.proofs.reading.read_entry_head.Goals as goal
 
 -- the head of the entry that a page's words are
-head_told : (words : List ℕ) → head_in (slice_index words 0) (slice_index words 1) ≡ head_of (entry_of words)
-head_told words =
+head-page : (words : List ℕ) → head_told (slice_index words 0) (slice_index words 1) ≡ head_of (entry_of words)
+head-page words =
     let first = slice_index words 0 in
     let told : EntryHead =
     record { kind = byte_of first 0; life = byte_of first 1; parent = byte_of (slice_index words 1) 0 } in
@@ -39,9 +38,9 @@ returns-clause-head g c =
     let two : c.in_ok-second.second ≡ word m page 1 =
     c.in_ok-second.ensures.word ∙ ap₂ (λ (l : List ℕ) (i : ℕ). slice_index l i) kept next in
     c.from_words.ensures
-    ∙ ap₂ (λ (a b : ℕ). head_in a b)
+    ∙ ap₂ (λ (a b : ℕ). head_told a b)
     (one ∙ sym (index-page_words m page 0 (omega arith))) (two ∙ sym (index-page_words m page 1 (omega arith)))
-    ∙ head_told words ∙ ap (λ (x : Entry). head_of x) (sym (entry_in-table m c.args.e c.requires.within))
+    ∙ head-page words ∙ ap (λ (x : Entry). head_of x) (sym (entry_in-table m c.args.e c.requires.within))
 
 pub returns-in_err-first-clause-head : goal.returns-in_err-first-clause-head
 returns-in_err-first-clause-head g c = none_ok _ _ _ c.from_residual.ensures.1
