@@ -74,11 +74,7 @@ pub fn is_barred<B: Board>(store: &mut Store<B>, e: u8) -> Result<bool, StoreErr
 ///
 /// # Errors
 /// What the store answers: power was lost, or the device failed.
-pub fn is_barred_at<B: Board>(
-    store: &mut Store<B>,
-    e: u8,
-    entry: &Entry,
-) -> Result<bool, StoreErr>
+pub fn is_barred_at<B: Board>(store: &mut Store<B>, e: u8, entry: &Entry) -> Result<bool, StoreErr>
     requires ready { IsReady store.old }
     requires tree { TreeStands (committed store.old) }
     requires used { IsUsed (table (committed store.old)) e }
@@ -194,12 +190,7 @@ pub fn is_allowed<B: Board>(
 }
 
 /// The same, where the entry is at hand: its rule is asked where it lies.
-pub fn is_allowed_at(
-    entry: &Entry,
-    bit: AccessBit,
-    verified: &PinSet,
-    disabled: &PinSet,
-) -> bool
+pub fn is_allowed_at(entry: &Entry, bit: AccessBit, verified: &PinSet, disabled: &PinSet) -> bool
     ensures { result ≡ is_allowed_by entry.now bit verified.now disabled.now }
 {
     allows(entry.rule(), bit, entry.life_cycle(), verified, disabled)

@@ -1,11 +1,9 @@
-use Rattle.std.proofs.Common.{◌≡◌, ℕ, List, [], length, Option, Some, None, IfSome, option_map, Unit, tt, refl, sym, ◌∙◌, ap, subst, arith}
-use Rattle.std.proofs.Common.{Result, Ok, Err}
-use Rattle.undo_journal.specs.declared.errors.StoreErr.{StoreErr}
+use Rattle.std.proofs.Common.{◌≡◌, ℕ, List, [], length, Option, Result, Ok, IfSome, option_map, subst, sym, ◌∙◌, ap, arith}
 use Rattle.undo_journal.specs.Memory.{committed}
 use Rattle.undo_journal.specs.laws.Calls.{reads_then}
+use Rattle.undo_journal.specs.declared.error.StoreErr.{StoreErr}
 use Rattle.card_rules.specs.declared.status.Sw.{Sw}
 use Rattle.card_rules.specs.declared.status.TheConstants.Sw.{FILE_NOT_FOUND}
-use Rattle.file_tree.specs.declared.entry.Entry.{Entry}
 use Rattle.file_tree.specs.declared.entry.EntryHead.{EntryHead}
 use Rattle.file_tree.specs.Entries.{head_of, state_told}
 use Rattle.file_tree.specs.Table.{table, entry_in, path_of, IsUsed}
@@ -16,7 +14,7 @@ use Rattle.card_core.specs.declared.current.Current.{Current}
 use Rattle.card_core.specs.Selecting.{selection_status}
 use Rattle.card_core.specs.Served.{Serves}
 use Rattle.card_core.specs.Standing.{card_of}
-use Rattle.card_core.specs.Working.{current_by, data_in, life_of, outcome, session_of, IsCurrent, IsGiven, IsToldEntry}
+use Rattle.card_core.specs.Working.{current_by, data_in, outcome, session_of, IsCurrent, IsGiven, IsToldEntry}
 use Rattle.card_core.proofs.Entries.{current-entry, select-entry, select-entry-less}
 use Rattle.card_core.proofs.SelectSteps.{select-missed}
 use Rattle.card_core.proofs.Serves.{answered, declined, stopped}

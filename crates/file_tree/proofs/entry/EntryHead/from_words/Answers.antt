@@ -21,7 +21,10 @@ returns c =
     let second : c.to_be_bytes-2.result ≡ word_bytes c.args.second = search rules in
     elim (eqb_tells c.args.first 0) [
       | inl same ↦ absurd (c.if-first-eq0.false same.1)
-      | inr other ↦ (λ i. record { kind = slice_index_or (first i) 0 0; life = slice_index_or (first i) 1 0;
-          parent = slice_index_or (second i) 0 0 })
+      | inr other ↦ (λ i. record {
+        kind = slice_index_or (first i) 0 0;
+        life = slice_index_or (first i) 1 0;
+        parent = slice_index_or (second i) 0 0;
+      })
           ∙ sym (ap (λ (b : Bool). if b then head_of free_entry else told c.args.first c.args.second) other.0)
     ]
