@@ -1,5 +1,5 @@
 -- File entries: what the words of a page tell of a file, and the files that they mean.
-use Rattle.std.specs.Prelude.{ℕ, ◌+◌, ◌*◌, ◌/◌, ◌%◌, ◌==◌, nat_le, if◌then◌else◌, List, map, take, replicate}
+use Rattle.std.specs.Prelude.{Bool, ℕ, ◌+◌, ◌*◌, ◌/◌, ◌%◌, ◌==◌, nat_le, if◌then◌else◌, List, map, take, replicate}
 use Rattle.std.specs.Prelude.{slice_index, slice_range, Option, None, Some, unwrap_or}
 use Rattle.std.specs.List.{flat_map, range_with_len}
 use Rattle.card_rules.specs.LifeCycle.{life_cycle_at}

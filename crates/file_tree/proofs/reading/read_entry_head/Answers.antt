@@ -1,5 +1,5 @@
 use Rattle.undo_journal.specs.laws.Exits.{none_ok}
-use Rattle.std.proofs.Common.{◌≡◌, ◌≢◌, ◌+◌, ◌==◌, ℕ, Bool, List, if◌then◌else◌, slice_index, sym, ◌∙◌, ap, ap₂, arith}
+use Rattle.std.proofs.Common.{◌≡◌, ◌≢◌, ◌+◌, ◌==◌, ℕ, Bool, List, if◌then◌else◌, slice_index, inl, inr, sym, ◌∙◌, ap, ap₂, arith}
 use Rattle.std.proofs.lemmas.Bool.Decides.{eqb_tells}
 use Rattle.nvm_board.specs.Facts.{address}
 use Rattle.undo_journal.specs.Memory.{committed}
@@ -46,7 +46,7 @@ pub returns-in_err-first-clause-head : goal.returns-in_err-first-clause-head
 returns-in_err-first-clause-head g c = none_ok _ _ _ c.from_residual.ensures.1
 
 pub returns-in_err-second-clause-head : goal.returns-in_err-second-clause-head
-returns-in_err-second-clause-head g c = none_ok _ _ _ c.from_residual.ensures.1
+returns-in_err-second-clause-head g c = none_ok _ _ _ c.from_residual-in_err-second.ensures.1
 
 pub returns-in_err-first-clause-store : goal.returns-in_err-first-clause-store
 returns-in_err-first-clause-store g c =
@@ -55,7 +55,7 @@ returns-in_err-first-clause-store g c =
 pub returns-in_err-second-clause-store : goal.returns-in_err-second-clause-store
 returns-in_err-second-clause-store g c =
     let after = c.in_ok-first.ensures.store c.requires.ready.idle in
-    reads_handed _ _ _ _ c.from_residual.ensures.1
+    reads_handed _ _ _ _ c.from_residual-in_err-second.ensures.1
     (reads_on _ _ _ _ c.read.ensures.reads (c.in_err-second.ensures.store after.ready.idle))
 
 pub returns-clause-store : goal.returns-clause-store

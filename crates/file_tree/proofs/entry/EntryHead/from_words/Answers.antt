@@ -1,6 +1,7 @@
-use Rattle.std.proofs.Common.{rules, ◌≡◌, ◌==◌, ℕ, Bool, true, false, if◌then◌else◌, slice_index_or, refl, sym, ◌∙◌, ap}
+use Rattle.std.proofs.Common.{rules, ◌≡◌, ◌==◌, ℕ, Bool, true, false, if◌then◌else◌, slice_index_or, inl, inr, sym, ◌∙◌, ap}
 use Rattle.std.proofs.lemmas.Bool.Decides.{eqb_tells}
 use Rattle.block_chain.specs.Words.{word_bytes}
+use Rattle.file_tree.specs.declared.entry.Entry.{Entry}
 use Rattle.file_tree.specs.declared.entry.EntryHead.{EntryHead}
 use Rattle.file_tree.specs.Entries.{byte_of, free_entry, head_of}
 use Rattle.file_tree.proofs.entry.EntryHead.from_words.Goals as goal
@@ -11,7 +12,8 @@ told first second = record { kind = byte_of first 0; life = byte_of first 1; par
 
 pub returns-then-first-eq0 : goal.returns-then-first-eq0
 returns-then-first-eq0 c = elim (eqb_tells c.args.first 0) [
-  | inl same ↦ sym (ap (λ (b : Bool). if b then head_of free_entry else told c.args.first c.args.second) same.0)
+  | inl same ↦ c.head.ensures ∙ ap (λ (x : Entry). head_of x) c.free.ensures
+      ∙ sym (ap (λ (b : Bool). if b then head_of free_entry else told c.args.first c.args.second) same.0)
   | inr other ↦ absurd (other.1 c.if-first-eq0.true)
 ]
 
