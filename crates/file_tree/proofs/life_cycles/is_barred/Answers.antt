@@ -1,4 +1,5 @@
-use Rattle.std.proofs.Common.{◌≡◌, ℕ, List, subst, sym, ◌∙◌, ap}
+use Rattle.std.specs.Prelude.{IfOk}
+use Rattle.std.proofs.Common.{◌≡◌, ℕ, Bool, List, subst, sym, ◌∙◌, ap}
 use Rattle.undo_journal.specs.Memory.{committed}
 use Rattle.undo_journal.specs.laws.Exits.{none_ok}
 use Rattle.undo_journal.specs.laws.Told.{reads_handed, reads_on}
@@ -6,7 +7,6 @@ use Rattle.file_tree.specs.States.{is_barred}
 use Rattle.file_tree.specs.Table.{table, entry_in, path_of, IsUsed}
 use Rattle.file_tree.specs.Trees.{tree_of, TreeStands}
 use Rattle.file_tree.specs.laws.Nodes.{used_small}
-use Rattle.std.proofs.lemmas.Result.{IfOk-weaker}
 use Rattle.file_tree.proofs.life_cycles.is_barred.Goals as goal
 
 pub read_entry-requires-clause-within : goal.read_entry-requires-clause-within
@@ -40,8 +40,10 @@ is_barred_at-requires-clause-entry g c =
 
 pub returns-clause-barred : goal.returns-clause-barred
 returns-clause-barred g c =
-    IfOk-weaker _ _ _ (λ barred is. is ∙ ap (λ (l : List ℕ). is_barred (tree_of l) (path_of (table l) c.args.e))
-    c.read_entry.ensures.store.only.keeps.committed_words) c.is_barred_at.ensures.barred
+    subst (λ (b : Bool). IfOk c.is_barred_at.result (λ barred. barred ≡ b))
+    (ap (λ (l : List ℕ). is_barred (tree_of l) (path_of (table l) c.args.e))
+    c.read_entry.ensures.store.only.keeps.committed_words)
+    c.is_barred_at.ensures.barred
 
 pub returns-clause-store : goal.returns-clause-store
 returns-clause-store g c =
