@@ -1,7 +1,6 @@
 -- What single steps of the checks, the look-ups and the life cycles find. No public clause names these.
 use Rattle.std.specs.Prelude.{◌≡◌, ◌≢◌, ◌==◌, ◌⊎◌, ◌<◌, ◌&&◌, ◌||◌, ℕ, zero, suc, Bool, false, not, if◌then◌else◌}
-use Rattle.std.specs.Prelude.{List, length, Option, None, Some, unwrap_or}
-use Rattle.card_rules.specs.declared.life_cycle.LifeCycle.{LifeCycle}
+use Rattle.std.specs.Prelude.{List, length, Option, None, Some}
 use Rattle.file_tree.specs.declared.entry.Entry.{Entry}
 use Rattle.file_tree.specs.Cards.{master_file}
 use Rattle.file_tree.specs.States.{bars}

@@ -1,4 +1,4 @@
-use Rattle.std.proofs.Common.{rules, ◌≡◌, ◌==◌, ℕ, Bool, true, false, if◌then◌else◌, slice_index_or, inl, inr, sym, ◌∙◌, ap}
+use Rattle.std.proofs.Common.{rules, ◌≡◌, ℕ, Bool, if◌then◌else◌, slice_index_or, inl, inr, sym, ◌∙◌, ap}
 use Rattle.std.proofs.lemmas.Bool.Decides.{eqb_tells}
 use Rattle.block_chain.specs.Words.{word_bytes}
 use Rattle.file_tree.specs.declared.entry.Entry.{Entry}
