@@ -16,7 +16,7 @@ pub record TellsMarks (m : List ℕ) (n : ℕ) (marks : List Bool) : Type 0 wher
   pub told : (k : ℕ) → k < n → slice_index_or marks k false ≡ not (pin_at m k).enabled
   pub clear : (k : ℕ) → n ≤ k → slice_index_or marks k false ≡ false
 
-pub none-marked : (k : ℕ) → slice_index_or no_pins k false ≡ false
+none-marked : (k : ℕ) → slice_index_or no_pins k false ≡ false
 none-marked zero = refl
 none-marked (suc zero) = refl
 none-marked (suc (suc zero)) = refl

@@ -2,6 +2,7 @@
 ghost use Rattle.std.specs.Prelude.{◌≡◌, ◌<◌, [], option_map, IfOk, IfSome, OnErr};
 ghost use Rattle.std.specs.Result.{result_err};
 ghost use Rattle.undo_journal.specs.Calls.{Reads};
+ghost use Rattle.undo_journal.specs.Memory.{IsReady};
 ghost use Rattle.apdu_core.specs.Ranges.{IsFilePath, IsSelector};
 ghost use Rattle.apdu_core.specs.Requests.{select as selection};
 ghost use Rattle.apdu_core.specs.Selections.{identifiers_in, selection_of};

@@ -24,13 +24,20 @@ returns-in-Nothing-clause-data g c =
     subst (λ (r : Returned). IsGiven c.args.expected (data_in r entry) c.args.answer.now.items None) (sym c.in-Nothing.is)
     (nothing-given c.args.expected c.args.answer.now.items c.requires.empty)
 
-pub returns-in-Template-clause-data : goal.returns-in-Template-clause-data
-returns-in-Template-clause-data g c =
+pub returns-in_ok-entry-in-Template-clause-data : goal.returns-in_ok-entry-in-Template-clause-data
+returns-in_ok-entry-in-Template-clause-data g c =
     let m = committed c.args.store.now in
     subst (λ (r : Returned). IsGiven c.args.expected (data_in r (entry_in (table m) c.args.e)) c.give_template.new.answer.items
     c.give_template.result) (sym c.in-Template.is)
     (subst (λ (y : Entry). IsGiven c.args.expected (template_in y) c.give_template.new.answer.items c.give_template.result)
-    c.in_ok-entry.ensures.entry c.give_template.ensures)
+    c.in_ok-entry-in-Template.ensures.entry c.give_template.ensures)
 
 pub give_template-requires-clause-told : goal.give_template-requires-clause-told
-give_template-requires-clause-told g c = subst IsToldEntry (sym c.in_ok-entry.ensures.entry) c.requires.told
+give_template-requires-clause-told g c = subst IsToldEntry (sym c.in_ok-entry-in-Template.ensures.entry) c.requires.told
+
+pub returns-in_err-entry-in-Template-clause-data : goal.returns-in_err-entry-in-Template-clause-data
+returns-in_err-entry-in-Template-clause-data g c = none_ok _ _ _ c.from_residual.ensures.1
+
+pub returns-in_err-entry-in-Template-clause-store : goal.returns-in_err-entry-in-Template-clause-store
+returns-in_err-entry-in-Template-clause-store g c =
+    reads_handed _ _ _ _ c.from_residual.ensures.1 c.in_err-entry-in-Template.ensures.store

@@ -95,8 +95,8 @@ returns-in_err-refusal g c =
     c.read_entry_head.ensures.store.only) c.give_data.ensures.store.only)
     c.in_err-refusal.ensures.store.tells (omega (arith, none)))
 
-pub returns-in-Some : goal.returns-in-Some
-returns-in-Some g c =
+pub returns-in-Some-2 : goal.returns-in-Some-2
+returns-in-Some-2 g c =
     let old = c.args.store.now in
     let m = committed old in
     let t = table m in
@@ -114,10 +114,10 @@ returns-in-Some g c =
     let place = c.in_ok-e.ensures.found ∙ ap (λ (o : Option ℕ). option_map (path_of t) o) c.in-Some.is in
     let text = c.give_data.new.answer.items in
     let given = subst (λ (o : Option Sw). IsGiven expected (data_in returned (entry_in t e)) text o) c.in-Some-2.is
-    (subst (λ (l : List ℕ). IsGiven expected (data_in returned (entry_in (table l) e)) text c.in_ok-refusal.refusal) same
+    (subst (λ (l : List ℕ). IsGiven expected (data_in returned (entry_in (table l) e)) text c.in_ok-refusal.field-0) same
     c.in_ok-refusal.ensures.data) in
-    subst (λ (l : List ℕ). Serves request old x c.give_data.new.store x l (Ok c.in-Some-2.refusal)) (sym given.1.0)
-    (declined request old x c.give_data.new.store (λ _. tt) c.requires.kept.card c.in-Some-2.refusal reads
+    subst (λ (l : List ℕ). Serves request old x c.give_data.new.store x l (Ok c.in-Some-2.field-0)) (sym given.1.0)
+    (declined request old x c.give_data.new.store (λ _. tt) c.requires.kept.card c.in-Some-2.field-0 reads
     c.in_ok-refusal.ensures.store.ready
     c.requires.kept.current
     (select-entry-less m c.requires.kept.card e used c.requires.kept.ready.usable.committed_size x (selection_of c.args.selector)
@@ -142,8 +142,8 @@ returns g c =
     let used = subst (λ (o : Option ℕ). IfSome o (IsUsed t)) c.in-Some.is c.in_ok-e.ensures.used in
     let place = c.in_ok-e.ensures.found ∙ ap (λ (o : Option ℕ). option_map (path_of t) o) c.in-Some.is in
     let text = c.give_data.new.answer.items in
-    let given = subst (λ (o : Option Sw). IsGiven expected (data_in returned (entry_in t e)) text o) c.in-None.is
-    (subst (λ (l : List ℕ). IsGiven expected (data_in returned (entry_in (table l) e)) text c.in_ok-refusal.refusal) same
+    let given = subst (λ (o : Option Sw). IsGiven expected (data_in returned (entry_in t e)) text o) c.in_default-2.is
+    (subst (λ (l : List ℕ). IsGiven expected (data_in returned (entry_in (table l) e)) text c.in_ok-refusal.field-0) same
     c.in_ok-refusal.ensures.data) in
     let head = c.in_ok-head.ensures.head
     ∙ ap (λ (l : List ℕ). head_of (entry_in (table l) e)) c.find_selected.ensures.store.only.keeps.committed_words in
