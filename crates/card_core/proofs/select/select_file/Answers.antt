@@ -116,13 +116,13 @@ returns-in-Some-2 g c =
     let given = subst (λ (o : Option Sw). IsGiven expected (data_in returned (entry_in t e)) text o) c.in-Some-2.is
     (subst (λ (l : List ℕ). IsGiven expected (data_in returned (entry_in (table l) e)) text c.in_ok-refusal.field-0) same
     c.in_ok-refusal.ensures.data) in
-    subst (λ (l : List ℕ). Serves request old x c.give_data.new.store x l (Ok c.in-Some-2.field-0)) (sym given.1.0)
-    (declined request old x c.give_data.new.store (λ _. tt) c.requires.kept.card c.in-Some-2.field-0 reads
+    subst (λ (l : List ℕ). Serves request old x c.give_data.new.store x l (Ok c.in-Some-2.refusal)) (sym given.1)
+    (declined request old x c.give_data.new.store (λ _. tt) c.requires.kept.card c.in-Some-2.refusal reads
     c.in_ok-refusal.ensures.store.ready
     c.requires.kept.current
     (select-entry-less m c.requires.kept.card e used c.requires.kept.ready.usable.committed_size x (selection_of c.args.selector)
     returned expected place given.0
-    ∙ ap (λ (sw : Sw). outcome (card_of m) (session_of t x) [] sw) (sym given.1.1)))
+    ∙ ap (λ (sw : Sw). outcome (card_of m) (session_of t x) [] sw) (sym given.2)))
 
 pub returns : goal.returns
 returns g c =
@@ -153,7 +153,7 @@ returns g c =
     answered request old x c.give_data.new.store (λ _. tt) c.requires.kept.card c.at_head.result text c.status_of.result
     reads c.in_ok-refusal.ensures.store.ready
     (subst (λ (y : Current). IsCurrent t y) current (current-entry m c.requires.kept.card e used x c.requires.kept.current.marks))
-    given.1.1
+    given.2
     (select-entry m c.requires.kept.card e used c.requires.kept.ready.usable.committed_size x (selection_of c.args.selector)
     returned expected place given.0
-    ∙ (λ i. outcome (card_of m) (session_of t (current i)) (sym given.1.0 i) (status i)))
+    ∙ (λ i. outcome (card_of m) (session_of t (current i)) (sym given.1 i) (status i)))
