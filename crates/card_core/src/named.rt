@@ -4,19 +4,19 @@ ghost use Rattle.std.specs.Result.{result_err};
 ghost use Rattle.undo_journal.specs.Calls.{Reads};
 ghost use Rattle.undo_journal.specs.Memory.{committed};
 ghost use Rattle.apdu_core.specs.Ranges.{IsTarget};
-ghost use Rattle.file_tree.specs.States.{is_barred as is_barred_at};
-ghost use Rattle.file_tree.specs.Table.{path_of, IsUsed};
+ghost use Rattle.file_tree.specs.States.{is_barred};
+ghost use Rattle.file_tree.specs.Table.{entry_in, path_of, IsUsed};
 ghost use Rattle.card_core.specs.Elementary.{file_refusals, missing as missing_status};
 ghost use Rattle.card_core.specs.Guards.{allowed};
 ghost use Rattle.card_core.specs.Outcomes.{refused_by};
 ghost use Rattle.card_core.specs.Reaching.{target_of};
 ghost use Rattle.card_core.specs.Working.{card_in, file_refusal, fits, fits_kind, session_in, table_in, IsElementary, IsKept, IsNamed};
 
-use crate::access::allows;
+use crate::access::allows_at;
 use crate::current::Current;
 use apdu_core::{Sw, Target};
 use card_rules::AccessBit;
-use file_tree::{Entry, find_short, is_barred, kinds, read_entry};
+use file_tree::{Entry, find_short, is_barred_at, kinds, read_entry};
 use undo_journal::{Board, Store, StoreErr};
 
 /// The structures that a command is for.
@@ -67,32 +67,33 @@ pub(crate) fn find_file<B: Board>(
         return Ok(Err(missing(target)));
     };
     let entry = read_entry(store, number)?;
-    match refusal_of(store, current, number, entry.kind, need)? {
+    match refusal_of(store, current, number, &entry, need)? {
         Some(refusal) => Ok(Err(refusal)),
         None => Ok(Ok(Named { number, entry })),
     }
 }
 
-/// What refuses a command by the file that it names, of an entry of this kind.
+/// What refuses a command by the file that it names, whose entry is at hand.
 #[tactic(auto, using(undo_journal::specs::laws::Calls::reads_then))]
 fn refusal_of<B: Board>(
     store: &mut Store<B>,
     current: &Current,
     number: u8,
-    kind: u8,
+    entry: &Entry,
     need: Need,
 ) -> Result<Option<Sw>, StoreErr>
     requires kept { IsKept store.old current.now }
     requires used { IsUsed (table_in store.old) number }
+    requires entry { entry.now ≡ entry_in (table_in store.old) number }
     ensures found { IfOk result (λ refusal. refusal ≡ file_refusal
-        (is_barred_at (card_in store.old).tree (path_of (table_in store.old) number)) (fits_kind need.structure kind)
+        (is_barred (card_in store.old).tree (path_of (table_in store.old) number)) (fits_kind need.structure entry.now.kind)
         (allowed (card_in store.old) (session_in store.old current.now) (path_of (table_in store.old) number) need.bit)) }
     ensures store { Reads store.old store.new (result_err result) }
 {
     let findings = Findings {
-        barred: is_barred(store, number)?,
-        fits: need.structure.fits(kind),
-        allowed: allows(store, current, number, need.bit)?,
+        barred: is_barred_at(store, number, entry)?,
+        fits: need.structure.fits(entry.kind),
+        allowed: allows_at(store, current, entry, need.bit)?,
     };
     Ok(findings.refusal())
 }

@@ -85,6 +85,11 @@ refusal_of-requires-clause-used g c =
     c.in-Some.is c.in_ok-number.ensures.child in
     subst (λ (l : List ℕ). IsUsed (table l) c.in-Some.number) (sym same) file.child.used
 
+pub refusal_of-requires-clause-entry : goal.refusal_of-requires-clause-entry
+refusal_of-requires-clause-entry g c =
+    c.in_ok-entry.ensures.entry
+    ∙ ap (λ (l : List ℕ). entry_in (table l) c.in-Some.number) (sym c.read_entry.ensures.store.only.keeps.committed_words)
+
 pub returns-in_err-entry-clause-store : goal.returns-in_err-entry-clause-store
 returns-in_err-entry-clause-store g c =
     reads_handed _ _ _ _ c.from_residual-in_err-entry.ensures.1
