@@ -8,8 +8,9 @@ ghost use Rattle.card_bench.specs.Exchanges.{Exchanged, Exchanges, GoesOn, Passe
 ghost use Rattle.card_bench.specs.ExchangeViews.{ended_of, flow_of, follows_of, next_block};
 ghost use Rattle.card_bench.specs.Plays.{IsGood};
 
+use crate::came::Came;
 use crate::line::Line;
-use crate::playing::{Bench, Sent};
+use crate::playing::{Bench, Turn};
 use nvm_board::{Faultless, Socket};
 use std::ops::ControlFlow;
 use t1_link::{BlockBytes, Next, ReaderEnd};
@@ -129,10 +130,10 @@ fn pass<B: Socket + Faultless>(
             if !line.put(&mut blocks.toward_card) {
                 return wait(reader, blocks);
             }
-            match bench.good_send(&blocks.toward_card, &mut blocks.toward_reader) {
-                Sent::Reply => ControlFlow::Continue(Toward::Reader),
-                Sent::Dark => ControlFlow::Break(Ending::Dark),
-                Sent::Mute => unreachable!(),
+            match bench.turn_well(Turn::Block(&blocks.toward_card), &mut blocks.toward_reader) {
+                Came::Block => ControlFlow::Continue(Toward::Reader),
+                Came::Dark => ControlFlow::Break(Ending::Dark),
+                _ => unreachable!(),
             }
         }
         Toward::Reader => {
