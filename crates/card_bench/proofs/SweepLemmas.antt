@@ -10,9 +10,11 @@ use Rattle.card_bench.specs.declared.playing.Item.{Item}
 use Rattle.file_tree.specs.declared.space.FreeSpace.{FreeSpace}
 use Rattle.card_bench.specs.BenchStates.{BenchState, IsWell}
 use Rattle.card_core.specs.Finding.{HasCard}
-use Rattle.card_bench.specs.Plays.{IsGood}
+use Rattle.card_bench.specs.declared.came.Came.{Came}
+use Rattle.card_bench.specs.Plays.{IsGood, TellsItem}
 use Rattle.card_bench.specs.Turns.{GoodTurn, Runs}
 use Rattle.card_bench.specs.Tallies.{Finding}
+use Rattle.card_bench.proofs.TurnsTold.{tells-then}
 use Rattle.card_bench.specs.Sweeps.{CutsStart, CutsStarts, SparesStart, EndsIn, EndsBehindStarts, CutsCommand, GivenByRun, off_with, free_of}
 
 -- no start is to be cut
@@ -51,23 +53,24 @@ behind_more depth number mask board between probe given more cut rest = record {
 }
 
 -- a look at a board
-pub ends-in : (board : Facts) (probe : List Turn) (first started last : BenchState) (item : Item) (trace : List Item) (free : FreeSpace)
-    → board.faults ≡ 0 → board.due ≡ due_of board.pending → first ≡ off_with board
-    → (IsGood first → IsGood started × GoodTurn first turn.On item started)
+pub ends-in : (board : Facts) (probe : List Turn) (first started last : BenchState) (told : Came) (reply : List ℕ)
+    (trace : List Item) (free : FreeSpace) → board.faults ≡ 0 → board.due ≡ due_of board.pending → first ≡ off_with board
+    → (IsGood first → IsGood started × TellsItem told reply (λ i. GoodTurn first turn.On i started))
     → (IsWell started → free ≡ free_of started)
     → (IsGood started → IsGood last × Runs started probe trace last)
     → HasCard board.words → EndsIn board probe (record { trace = trace; free = free })
-ends-in board probe first started last item trace free fine due is start told played card =
+ends-in board probe first started last told reply trace free fine due is start shown played card =
     let good : IsGood first = subst (λ (b : BenchState). IsGood b) (sym is) (record { has_card = card; faults = fine; due = due; well = tt }) in
     let on = start good in
-    record {
-      item = item;
+    tells-then told reply (λ i. GoodTurn first turn.On i started) (EndsIn board probe (record { trace = trace; free = free }))
+    (λ i turned. record {
+      item = i;
       started = started;
       last = last;
-      start = subst (λ (b : BenchState). GoodTurn b turn.On item started) is on.1;
-      free = told on.0.well;
+      start = subst (λ (b : BenchState). GoodTurn b turn.On i started) is turned;
+      free = shown on.0.well;
       probed = (played on.0).1;
-    }
+    }) on.1
 
 -- a run put together
 pub given-by-run : (depth number mask : ℕ) (board left : Facts) (prepare : List Turn) (command : List ℕ) (probe : List Turn) (given : Finding)

@@ -16,6 +16,17 @@ abbrev pub reader_there : Bool → Reader → Option Reader
 reader_there false reader = None
 reader_there true reader = Some reader
 
+-- whether a card started
+abbrev pub is_started : Came → Bool
+is_started Nothing = false
+is_started Atr = true
+is_started Mute = false
+is_started Dark = false
+is_started Lost = false
+is_started Answer = false
+is_started Block = false
+is_started (Free free) = false
+
 -- what is printed of what came, with the answer to the last command, and the block that came back last
 abbrev pub print_of : Came → List ℕ → List ℕ → Print
 print_of Nothing answer block = prints_nothing

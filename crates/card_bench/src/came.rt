@@ -1,4 +1,6 @@
 //! What comes of a line of a script, or of a turn at the bench.
+ghost use Rattle.std.specs.Prelude.{◌≡◌};
+
 use card_core::FreeSpace;
 
 /// What comes of a line. Bytes of the card aren't in it: they stand where they came to.
@@ -20,4 +22,15 @@ pub(crate) enum Came {
     Block,
     /// So much is free.
     Free(FreeSpace),
+}
+
+impl Came {
+    ghost use Rattle.card_bench.specs.DeskViews.{is_started};
+
+    /// Whether a card started.
+    pub(crate) fn is_started(&self) -> bool
+        ensures { result ≡ is_started self.now }
+    {
+        matches!(self, Came::Atr)
+    }
 }

@@ -82,6 +82,7 @@ impl<B: Socket> Desk<B> {
     /// # Errors
     ///
     /// `Write` where the writer fails, or takes nothing.
+    #[inline(always)]
     pub(crate) fn print<W: Write>(&self, writer: &mut W, text: &mut PrintedText) -> Result<(), RunFault>
         ensures wrote { OnOk result (Appends (W.contents writer.old) (W.contents writer.new) (text_of self.now.prints)) }
         ensures began { OnErr result ((size : ℕ)
@@ -124,7 +125,7 @@ impl<B: Armed + Faultless> Desk<B> {
         }
     }
 
-    /// Power off if it is on, and then a start. A card that starts has a reader's end before it.
+    /// Power off if it is on, and then a start. A card that starts has a fresh reader's end before it.
     fn turn_on(&mut self)
         requires good { IsGood self.old.desk.bench }
         ensures good { IsGood self.new.desk.bench }
@@ -132,10 +133,8 @@ impl<B: Armed + Faultless> Desk<B> {
     {
         self.came = self.bench
             .turn_well(Turn::On, &mut self.blocks.toward_reader);
-        self.in_step = matches!(self.came, Came::Atr);
-        if self.in_step {
-            self.reader.reset();
-        }
+        self.in_step = self.came.is_started();
+        self.reader.reset();
     }
 
     /// Power off. No command is sent any more.

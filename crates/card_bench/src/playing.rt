@@ -140,6 +140,7 @@ impl<B: Socket> Bench<B> {
 
     /// Plays a turn: every one, of a list or of a line of a script. A block that comes back is put into the buffer,
     /// whatever that held.
+    #[inline(always)]
     fn turn(&mut self, turn: Turn<'_>, reply: &mut BlockBytes) -> Came
         ensures { TellsItem result reply.new (λ item. Plays self.old turn.entry item self.new) }
     {
@@ -168,6 +169,7 @@ impl<B: Socket> Bench<B> {
     }
 
     /// A block straight to the card's end.
+    #[inline(always)]
     fn send(&mut self, block: &[u8], reply: &mut BlockBytes) -> Came
         ensures { TellsItem result reply.new (λ item. PlaysBlock self.old block.now item self.new) }
     {
@@ -245,6 +247,7 @@ impl<B: Socket + Faultless> Bench<B> {
     }
 
     /// Plays a turn on a board without faults (`turn`).
+    #[inline(always)]
     pub(crate) fn turn_well(&mut self, turn: Turn<'_>, reply: &mut BlockBytes) -> Came
         ensures { IsGood self.old
             → IsGood self.new × TellsItem result reply.new (λ item. GoodTurn self.old turn.entry item self.new) }
