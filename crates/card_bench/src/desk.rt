@@ -165,10 +165,10 @@ impl<B: Armed + Faultless> Desk<B> {
         ensures same { self.new.desk ≡ self.old.desk }
         ensures free { self.new.prints ≡ free_shown self.old.desk.bench }
     {
-        self.came = match self.bench.free() {
-            Some(free) => Came::Free(free),
-            None => Came::Mute,
-        };
+        match self.bench.free() {
+            Some(free) => self.came = Came::Free(free),
+            None => self.came = Came::Mute,
+        }
     }
 
     /// A command through both ends of the link, where power is on and the reader's end is there.
