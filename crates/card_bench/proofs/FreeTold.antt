@@ -1,5 +1,5 @@
 -- What is told of the free space is printed.
-use Rattle.std.proofs.Common.{◌≡◌, None, Option, Some, ap, refl}
+use Rattle.std.proofs.Common.{◌≡◌, None, Option, Some, ap}
 use Rattle.file_tree.specs.declared.space.FreeSpace.{FreeSpace}
 use Rattle.card_bench.specs.BenchStates.{BenchState, off, on, TellsFree}
 use Rattle.card_bench.specs.Performing.{free_shown}
@@ -18,4 +18,4 @@ free-told (on powered) free good tells = ap told_print (tells.1 good.well)
 -- with power off nothing is told
 pub none-told : (b : BenchState) → TellsFree b None → prints_mute ≡ free_shown b
 none-told (off facts) tells = ap (λ (o : Option FreeSpace). prints_mute) tells
-none-told (on powered) tells = absurd tells.0
+none-told (on powered) tells = let none = tells.0 in absurd cc

@@ -1,9 +1,8 @@
 -- What came of a turn, as it is told.
-use Rattle.std.specs.Prelude.{◌≡◌, List, None, ℕ}
+use Rattle.std.specs.Prelude.{◌≡◌, List, ℕ}
 use Rattle.std.proofs.Common.{◌∙◌, refl, sym}
 use Rattle.core.specs.Borrow.{Bor}
 use Rattle.nvm_board.specs.Aims.{due_of}
-use Rattle.t1_link.specs.ReaderTable.{fresh_reader}
 use Rattle.card_bench.specs.declared.came.Came.{Came}
 use Rattle.card_bench.specs.declared.came.Came.TheVariants as came
 use Rattle.card_bench.specs.declared.playing.Item.{Item}
@@ -11,9 +10,6 @@ use Rattle.card_bench.specs.declared.playing.Item.TheVariants as item
 use Rattle.card_bench.specs.declared.playing.Turn.{Turn}
 use Rattle.card_bench.specs.declared.playing.Turn.TheVariants as turn
 use Rattle.card_bench.specs.BenchStates.{BenchState, off, on, bench_facts, IsOn}
-use Rattle.card_bench.specs.DeskViews.{is_started, print_of, reader_there}
-use Rattle.card_bench.specs.Exchanges.{Desk}
-use Rattle.card_bench.specs.Performing.{PerformsBlock, PerformsOff, PerformsOn}
 use Rattle.card_bench.specs.Plays.{HasNoFault, IsGood, Plays, PlaysBlock, TellsItem}
 use Rattle.card_bench.specs.Turns.{GoodBlock, GoodTurn, TakesBlock}
 
@@ -99,44 +95,3 @@ heard-so came.Lost block got (on powered) new power takes other lit = takes
 heard-so came.Answer block got (on powered) new power takes other lit = takes
 heard-so came.Block block got (on powered) new power takes other lit = other refl
 heard-so (came.Free free) block got (on powered) new power takes other lit = takes
-
--- turns at the desk
-module _ (answer block : List ℕ) (old new : Desk) (line : new.line ≡ old.line) where
-  pub performs-on : (told : Came) → TellsItem told block (λ i. GoodTurn old.bench turn.On i new.bench)
-      → new.reader ≡ reader_there (is_started told) fresh_reader → PerformsOn old new (print_of told answer block)
-  performs-on came.Nothing good reader = record { came = item.Quiet; turn = good; reader = reader; line = line; printed = refl }
-  performs-on came.Atr good reader = record { came = item.Atr; turn = good; reader = reader; line = line; printed = refl }
-  performs-on came.Mute good reader = record { came = item.Mute; turn = good; reader = reader; line = line; printed = refl }
-  performs-on came.Dark good reader = record { came = item.Dark; turn = good; reader = reader; line = line; printed = refl }
-  performs-on came.Lost good reader = absurd good
-  performs-on came.Answer good reader = absurd good
-  performs-on came.Block good reader =
-      record { came = item.Reply block; turn = good; reader = reader; line = line; printed = refl }
-  performs-on (came.Free free) good reader = absurd good
-
-  pub performs-off : (told : Came) → TellsItem told block (λ i. GoodTurn old.bench turn.Off i new.bench)
-      → new.reader ≡ None → PerformsOff old new (print_of told answer block)
-  performs-off came.Nothing good reader = record { turn = good; reader = reader; line = line; printed = refl }
-  performs-off came.Atr good reader = absurd good.one
-  performs-off came.Mute good reader = absurd good.one
-  performs-off came.Dark good reader = absurd good.one
-  performs-off came.Lost good reader = absurd good
-  performs-off came.Answer good reader = absurd good
-  performs-off came.Block good reader = absurd good.one
-  performs-off (came.Free free) good reader = absurd good
-
-  pub performs-block : (told : Came) (got : List ℕ) → TellsItem told block (λ i. GoodBlock old.bench got i new.bench)
-      → new.reader ≡ None → PerformsBlock old got new (print_of told answer block)
-  performs-block came.Nothing got good reader =
-      record { came = item.Quiet; turn = good; reader = reader; line = line; printed = refl }
-  performs-block came.Atr got good reader =
-      record { came = item.Atr; turn = good; reader = reader; line = line; printed = refl }
-  performs-block came.Mute got good reader =
-      record { came = item.Mute; turn = good; reader = reader; line = line; printed = refl }
-  performs-block came.Dark got good reader =
-      record { came = item.Dark; turn = good; reader = reader; line = line; printed = refl }
-  performs-block came.Lost got good reader = absurd good
-  performs-block came.Answer got good reader = absurd good
-  performs-block came.Block got good reader =
-      record { came = item.Reply block; turn = good; reader = reader; line = line; printed = refl }
-  performs-block (came.Free free) got good reader = absurd good
