@@ -13,7 +13,7 @@ ghost use Rattle.card_bench.specs.Plays.{IsGood};
 ghost use Rattle.card_bench.specs.Printouts.{prints_nothing, text_of};
 
 use crate::came::Came;
-use crate::exchange::{Blocks, Ending, exchange};
+use crate::exchange::{Blocks, Ending, Ends, exchange};
 use crate::fault::RunFault;
 use crate::line::Line;
 use crate::order::Order;
@@ -27,13 +27,9 @@ use t1_link::{BlockBytes, ReaderEnd};
 /// A bench, the reader's end, and the line. What is pending on the line outlives power.
 #[derive(Drop)]
 pub(crate) struct Desk<B: Socket> {
-    bench: Bench<B>,
-    /// It keeps the answer to the last command that has one.
-    reader: ReaderEnd,
+    ends: Ends<B>,
     /// Whether a command may be sent: no more where the two ends may have parted.
     in_step: bool,
-    line: Line,
-    blocks: Blocks,
     /// What came of the last line.
     came: Came,
 }
@@ -50,11 +46,11 @@ impl<B: Socket> Model for Desk<B> {
     ghost coded = { Prim.hlevel (codes, session_code) };
 
     ghost view = { λ d. record {
-      desk = record { bench = d.bench; reader = reader_there d.in_step d.reader; line = d.line };
-      prints = print_of d.came d.reader.answer d.blocks.toward_reader;
+      desk = record { bench = d.ends.bench; reader = reader_there d.in_step d.ends.reader; line = d.ends.line };
+      prints = print_of d.came d.ends.reader.answer d.ends.blocks.toward_reader;
     } };
 
-    ghost invariant = { λ d. IsTrue d.in_step → d.reader.phase ≢ Busy };
+    ghost invariant = { λ d. IsTrue d.in_step → d.ends.reader.phase ≢ Busy };
 }
 
 impl<B: Socket> Desk<B> {
@@ -65,14 +61,16 @@ impl<B: Socket> Desk<B> {
         ensures line { result.desk.line ≡ record { lose = None; garble = None } }
     {
         Desk {
-            bench: Bench::new(board),
-            reader: ReaderEnd::new(),
-            in_step: false,
-            line: Line::new(),
-            blocks: Blocks {
-                toward_card: BlockBytes::new(),
-                toward_reader: BlockBytes::new(),
+            ends: Ends {
+                bench: Bench::new(board),
+                reader: ReaderEnd::new(),
+                line: Line::new(),
+                blocks: Blocks {
+                    toward_card: BlockBytes::new(),
+                    toward_reader: BlockBytes::new(),
+                },
             },
+            in_step: false,
             came: Came::Nothing,
         }
     }
@@ -96,8 +94,8 @@ impl<B: Socket> Desk<B> {
             Came::Mute => write_line(writer, b"mute\n"),
             Came::Dark => write_line(writer, b"dark\n"),
             Came::Lost => write_line(writer, b"lost\n"),
-            Came::Answer => print_bytes(writer, self.reader.answer(), text),
-            Came::Block => print_bytes(writer, &self.blocks.toward_reader, text),
+            Came::Answer => print_bytes(writer, self.ends.reader.answer(), text),
+            Came::Block => print_bytes(writer, &self.ends.blocks.toward_reader, text),
             Came::Free(free) => print_free(writer, free, text),
         }
     }
@@ -119,9 +117,9 @@ impl<B: Armed + Faultless> Desk<B> {
             Order::Free => self.tell_free(),
             Order::Apdu => self.command(given),
             Order::Block => self.take_block(given),
-            Order::Cut { number, mask } => self.bench.arm_well(number, mask),
-            Order::Lose(number) => self.line.lose(number),
-            Order::Garble(number) => self.line.garble(number),
+            Order::Cut { number, mask } => self.ends.bench.arm_well(number, mask),
+            Order::Lose(number) => self.ends.line.lose(number),
+            Order::Garble(number) => self.ends.line.garble(number),
         }
     }
 
@@ -131,10 +129,10 @@ impl<B: Armed + Faultless> Desk<B> {
         ensures good { IsGood self.new.desk.bench }
         ensures performs { PerformsOn self.old.desk self.new.desk self.new.prints }
     {
-        self.came = self.bench
-            .turn_well(Turn::On, &mut self.blocks.toward_reader);
+        self.came = self.ends.bench
+            .turn_well(Turn::On, &mut self.ends.blocks.toward_reader);
         self.in_step = self.came.is_started();
-        self.reader.reset();
+        self.ends.reader.reset();
     }
 
     /// Power off. No command is sent any more.
@@ -143,8 +141,8 @@ impl<B: Armed + Faultless> Desk<B> {
         ensures good { IsGood self.new.desk.bench }
         ensures performs { PerformsOff self.old.desk self.new.desk self.new.prints }
     {
-        self.came = self.bench
-            .turn_well(Turn::Off, &mut self.blocks.toward_reader);
+        self.came = self.ends.bench
+            .turn_well(Turn::Off, &mut self.ends.blocks.toward_reader);
         self.in_step = false;
     }
 
@@ -154,8 +152,8 @@ impl<B: Armed + Faultless> Desk<B> {
         ensures good { IsGood self.new.desk.bench }
         ensures performs { PerformsBlock self.old.desk block.now self.new.desk self.new.prints }
     {
-        self.came = self.bench
-            .turn_well(Turn::Block(block), &mut self.blocks.toward_reader);
+        self.came = self.ends.bench
+            .turn_well(Turn::Block(block), &mut self.ends.blocks.toward_reader);
         self.in_step = false;
     }
 
@@ -165,7 +163,7 @@ impl<B: Armed + Faultless> Desk<B> {
         ensures same { self.new.desk ≡ self.old.desk }
         ensures free { self.new.prints ≡ free_shown self.old.desk.bench }
     {
-        match self.bench.free() {
+        match self.ends.bench.free() {
             Some(free) => self.came = Came::Free(free),
             None => self.came = Came::Mute,
         }
@@ -179,7 +177,7 @@ impl<B: Armed + Faultless> Desk<B> {
         ensures good { IsGood self.new.desk.bench }
         ensures performs { PerformsCommand self.old.desk.bench self.old.desk command.now self.new.desk self.new.prints }
     {
-        if !self.bench.is_on() {
+        if !self.ends.bench.is_on() {
             self.came = Came::Mute;
             return;
         }
@@ -187,13 +185,7 @@ impl<B: Armed + Faultless> Desk<B> {
             self.came = Came::Lost;
             return;
         }
-        let ending = exchange(
-            &mut self.bench,
-            &mut self.reader,
-            &mut self.line,
-            &mut self.blocks,
-            command,
-        );
+        let ending = exchange(&mut self.ends, command);
         self.in_step = match ending {
             Ending::Answered | Ending::SetBack => true,
             Ending::Lost | Ending::Dark => false,

@@ -4,7 +4,7 @@ use Rattle.card_bench.specs.declared.playing.Item.TheVariants as item
 use Rattle.card_bench.specs.declared.playing.Turn.TheVariants as turn
 use Rattle.card_bench.specs.Exchanges.{power_lost, toward_reader}
 use Rattle.card_bench.specs.declared.exchange.Toward.{Toward}
-use Rattle.card_bench.specs.ExchangeViews.{next_block}
+use Rattle.card_bench.specs.ExchangeViews.{ends_of, next_block}
 use Rattle.card_bench.specs.Exchanges.{Passes}
 use Rattle.card_bench.specs.Turns.{GoodTurn, TakesBlock}
 use Rattle.card_bench.proofs.ExchangeRuns.{takes_there}
@@ -17,8 +17,8 @@ returns-in-Block-clause-passes g c =
     let came = sym c.put.ensures.arrives ∙ ap (λ (b : Bool). if b then Some put else None) c.if-not-put.false
     ∙ ap (λ (got : List ℕ). Some got) (sym c.deref.ensures.0) in
     subst (λ (t : Toward). Passes
-    (record { bench = c.args.bench.now; reader = c.args.reader.now; line = c.args.line.now }) (next_block t c.args.blocks.now)
-    (record { bench = c.turn_well.new.self; reader = c.args.reader.now; line = c.put.new.self })
+    (ends_of c.args.ends.now) (next_block t c.args.ends.now.blocks)
+    (record { bench = c.turn_well.new.self; reader = c.args.ends.now.reader; line = c.put.new.self })
     (Ok (toward_reader c.turn_well.new.reply)))
     (sym c.in-Card.is)
     (takes_there _ _ _ _ _ _ c.deref.result.now (Ok (toward_reader c.turn_well.new.reply)) c.put.ensures.after came
@@ -34,8 +34,8 @@ returns-in-Dark-clause-passes g c =
     let came = sym c.put.ensures.arrives ∙ ap (λ (b : Bool). if b then Some put else None) c.if-not-put.false
     ∙ ap (λ (got : List ℕ). Some got) (sym c.deref.ensures.0) in
     subst (λ (t : Toward). Passes
-    (record { bench = c.args.bench.now; reader = c.args.reader.now; line = c.args.line.now }) (next_block t c.args.blocks.now)
-    (record { bench = c.turn_well.new.self; reader = c.args.reader.now; line = c.put.new.self }) (Err power_lost))
+    (ends_of c.args.ends.now) (next_block t c.args.ends.now.blocks)
+    (record { bench = c.turn_well.new.self; reader = c.args.ends.now.reader; line = c.put.new.self }) (Err power_lost))
     (sym c.in-Card.is)
     (takes_there _ _ _ _ _ _ c.deref.result.now (Err power_lost) c.put.ensures.after came
     (good-block _ _ c.deref.result _ (c.in-Dark.ensures c.requires.good).1))

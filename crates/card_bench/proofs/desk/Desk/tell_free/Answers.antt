@@ -11,9 +11,9 @@ pub returns-in-Some-clause-free : goal.returns-in-Some-clause-free
 returns-in-Some-clause-free g c =
     let good = subst (λ (d : DeskState). IsGood d.desk.bench) (sym c.self.view_is) c.requires.good in
     subst (λ (d : DeskState). prints_free c.in-Some.free ≡ free_shown d.desk.bench) c.self.view_is
-    (free-told c.self.inside.bench c.in-Some.free good c.in-Some.ensures)
+    (free-told c.self.inside.ends.bench c.in-Some.free good c.in-Some.ensures)
 
 pub returns-in-None-clause-free : goal.returns-in-None-clause-free
 returns-in-None-clause-free g c =
     subst (λ (d : DeskState). prints_mute ≡ free_shown d.desk.bench) c.self.view_is
-    (none-told c.self.inside.bench c.in-None.ensures)
+    (none-told c.self.inside.ends.bench c.in-None.ensures)
