@@ -135,8 +135,8 @@ pub dark-spends : (order : Order) (old new : Desk) → Performs order old new pr
     → HasLeft LINE_STEPS (bench_facts old.bench) → (bench_facts old.bench).due ≡ (bench_facts new.bench).due + 1
 dark-spends Nothing old new performs left = absurd cc
 dark-spends On old new performs left =
-    let spent = due-spent old.bench new.bench turn.On performs.came performs.turn (fewer (0 + turn_steps old.bench)
-    (turn_steps old.bench) (bench_facts old.bench) (omega arith) (turn-left 0 old.bench left)) in
+    let spent = due-spent old.bench new.bench turn.On performs.came performs.turn (fewer (0 + turn_steps old.bench turn.On)
+    (turn_steps old.bench turn.On) (bench_facts old.bench) (omega arith) (turn-left 0 old.bench turn.On left)) in
     let lost = one-dark performs.came performs.printed in
     omega (arith, spent, lost)
 dark-spends Off old new performs left = let printed = performs.printed in absurd cc

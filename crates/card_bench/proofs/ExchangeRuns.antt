@@ -1,16 +1,14 @@
 -- Blocks that pass one after another.
-use Rattle.std.specs.Prelude.{◌≡◌, ◌<◌, ◌-◌, ℕ, zero, suc, List, Option, Some, Ok, Err, refl}
+use Rattle.std.specs.Prelude.{◌≡◌, ◌<◌, ◌-◌, ℕ, zero, suc, List, Option, Result, Some, Ok, Err, refl}
 use Rattle.std.proofs.Common.{arith, inl, inr, subst, sym}
 use Rattle.t1_link.specs.ReaderTable.{Reader}
 use Rattle.card_bench.specs.BenchStates.{BenchState, off, on, IsOn}
-use Rattle.card_bench.specs.Exchanges.{Arrives, Commands, Desk, Ends, Exchanged, Exchanges, Passes, NextBlock}
+use Rattle.card_bench.specs.Exchanges.{Arrives, CardTakes, Commands, Desk, Ends, Exchanged, Exchanges, Passes, NextBlock}
 use Rattle.card_bench.specs.Exchanges.{left_by, printed_by, toward_card}
 use Rattle.card_bench.specs.Exchanges.{Ended}
 use Rattle.card_bench.specs.Exchanges.{link_lost, power_lost}
 use Rattle.card_bench.specs.declared.line.Line.{Line}
-use Rattle.card_bench.specs.declared.playing.Item.TheVariants as item
 use Rattle.card_bench.specs.Lines.{arriving, line_after}
-use Rattle.card_bench.specs.Turns.{GoodBlock}
 use Rattle.card_bench.specs.Performing.{PerformsCommand}
 use Rattle.card_bench.specs.Printouts.{Print}
 
@@ -65,13 +63,14 @@ pub powered_command : (b : BenchState) (old new : Desk) (command : List ℕ) (pr
 powered_command (off facts) old new command prints power commands = absurd power
 powered_command (on powered) old new command prints power commands = commands
 
--- a block arrives at the card's end, and power is lost there
-pub cut_there : (bench after : BenchState) (reader : Reader) (old new : Line) (block got : List ℕ) → new ≡ line_after 1 old
-    → arriving old 0 block ≡ Some got → GoodBlock bench got item.Dark after
+-- a block arrives at the card's end: it replies, or power is lost there
+pub takes_there : (bench after : BenchState) (reader : Reader) (old new : Line) (block got : List ℕ)
+    (follows : Result NextBlock Ended) → new ≡ line_after 1 old → arriving old 0 block ≡ Some got
+    → CardTakes bench got after follows
     → Passes (record { bench = bench; reader = reader; line = old }) (toward_card block)
-    (record { bench = after; reader = reader; line = new }) (Err power_lost)
-cut_there bench after reader old new block got line came turn = record {
+    (record { bench = after; reader = reader; line = new }) follows
+takes_there bench after reader old new block got follows line came takes = record {
   block = line;
   arrives = subst (λ (o : Option (List ℕ)). Arrives (record { bench = bench; reader = reader; line = old }) (toward_card block) o
-      (record { bench = after; reader = reader; line = new }) (Err power_lost)) (sym came) (refl, turn);
+      (record { bench = after; reader = reader; line = new }) follows) (sym came) (refl, takes);
 }

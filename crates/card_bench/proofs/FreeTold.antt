@@ -1,12 +1,21 @@
 -- What is told of the free space is printed.
-use Rattle.std.proofs.Common.{◌≡◌, Option, ap}
+use Rattle.std.proofs.Common.{◌≡◌, None, Option, Some, ap}
 use Rattle.file_tree.specs.declared.space.FreeSpace.{FreeSpace}
 use Rattle.card_bench.specs.BenchStates.{BenchState, off, on, TellsFree}
 use Rattle.card_bench.specs.Performing.{free_shown}
 use Rattle.card_bench.specs.Plays.{IsGood}
-use Rattle.card_bench.specs.Printouts.{free_print}
+use Rattle.card_bench.specs.Printouts.{Print, prints_free, prints_mute}
+
+abbrev told_print : Option FreeSpace → Print
+told_print None = prints_mute
+told_print (Some free) = prints_free free
 
 -- with power on the card works, since the board counts no fault
-pub free-told : (b : BenchState) (told : Option FreeSpace) → IsGood b → TellsFree b told → free_print told ≡ free_shown b
-free-told (off facts) told good tells = ap free_print tells
-free-told (on powered) told good tells = ap free_print (tells.1 good.well)
+pub free-told : (b : BenchState) (free : FreeSpace) → IsGood b → TellsFree b (Some free) → prints_free free ≡ free_shown b
+free-told (off facts) free good tells = absurd cc
+free-told (on powered) free good tells = ap told_print (tells.1 good.well)
+
+-- with power off nothing is told
+pub none-told : (b : BenchState) → TellsFree b None → prints_mute ≡ free_shown b
+none-told (off facts) tells = ap (λ (o : Option FreeSpace). prints_mute) tells
+none-told (on powered) tells = let none = tells.0 in absurd cc

@@ -24,6 +24,7 @@ pub mod SoundBlocks
 pub mod SoundWorlds
 pub mod Spelled
 pub mod TreeAnswers
+pub mod TurnsTold
 pub mod Wearing
 pub mod Written
 mod WorldLawful

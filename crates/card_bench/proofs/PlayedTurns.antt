@@ -120,7 +120,6 @@ plays_cut old new got out cut found stage paid shown writes advances stands = re
   wears = λ good.
       wears-shown COMMAND_WRITES (card_found old.card) (card_found new.card) old.card.facts
       (record new.card.facts { dark = true }) shown good.faults writes;
-  heard = λ powered. refl;
 }
 
 -- a block to a card without power
@@ -141,5 +140,4 @@ hears_nothing old new facts got is same =
       guesses = pays-nothing (off facts) (off facts) refl refl;
       one = λ before good. refl;
       wears = λ good. wears-writing COMMAND_WRITES facts facts refl (omega arith) refl;
-      heard = λ powered. absurd powered;
     }))

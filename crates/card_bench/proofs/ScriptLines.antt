@@ -25,9 +25,8 @@ use Rattle.card_bench.specs.Exchanges.{Desk}
 use Rattle.card_bench.specs.Orders.{order_of}
 use Rattle.card_bench.specs.Performing.{Performs}
 use Rattle.card_bench.specs.Plays.{IsGood}
-use Rattle.card_bench.specs.Printouts.{Print, print_of, text_of}
-use Rattle.card_bench.specs.declared.desk.PrintKind.{PrintKind}
-use Rattle.card_bench.specs.declared.desk.PrintKind.TheVariants as kind
+use Rattle.card_bench.specs.Printouts.{Print, text_of}
+use Rattle.card_bench.specs.Printouts as print
 use Rattle.card_bench.specs.Prints.{IsFirstDesk, LinesPrint, PrintsLines}
 use Rattle.card_bench.specs.Scripts.{AreOrders, CountsTaken, FailsAtLine, IsInLine, IsTooLong, TakesInto, TakesLine, TakesTooMuch, WhereKnown}
 
@@ -492,15 +491,14 @@ some_text : (text : List ℕ) → text ++ 10 ∷ [] ≡ [] → ⊥
 some_text [] none = absurd cc
 some_text (b ∷ text) none = absurd cc
 
-pub speaks : (printed : PrintKind) (bytes : List ℕ) → (printed ≡ kind.Nothing → ⊥) → text_of (print_of printed bytes) ≡ [] → ⊥
-speaks kind.Nothing bytes other none = other refl
-speaks kind.Atr bytes other none = some_text (codes "atr 3B808131FE458B") none
-speaks kind.Mute bytes other none = some_text (codes "mute") none
-speaks kind.Dark bytes other none = some_text (codes "dark") none
-speaks kind.Lost bytes other none = some_text (codes "lost") none
-speaks kind.Answer bytes other none = some_text (codes "< " ++ encode_upper bytes) none
-speaks kind.Block bytes other none = some_text (codes "< " ++ encode_upper bytes) none
-speaks (kind.Free free) bytes other none = some_text (codes "free " ++ decimal free.blocks ++ 32 ∷ decimal free.entries) none
+pub speaks : (prints : Print) → (prints ≡ print.prints_nothing → ⊥) → text_of prints ≡ [] → ⊥
+speaks print.prints_nothing other none = other refl
+speaks print.prints_atr other none = some_text (codes "atr 3B808131FE458B") none
+speaks print.prints_mute other none = some_text (codes "mute") none
+speaks print.prints_dark other none = some_text (codes "dark") none
+speaks print.prints_lost other none = some_text (codes "lost") none
+speaks (print.prints_bytes bytes) other none = some_text (codes "< " ++ encode_upper bytes) none
+speaks (print.prints_free free) other none = some_text (codes "free " ++ decimal free.blocks ++ 32 ∷ decimal free.entries) none
 
 -- one line
 prints_one : (old new : Desk) (line : List ℕ) (order : Order) (prints : Print) → order_of line ≡ Some order

@@ -1,18 +1,26 @@
 -- Runs put together.
-use Rattle.std.specs.Prelude.{◌≡◌, ◌-◌, ◌<◌, ℕ, suc, refl, List}
-use Rattle.std.proofs.Common.{arith, inl, inr, sym, subst}
+use Rattle.std.specs.Prelude.{◌≡◌, ◌≢◌, ◌⊎◌, ◌-◌, ◌<◌, ℕ, suc, refl, List, Bool, true, false, Option, None, Some, IfNone, is_some}
+use Rattle.std.proofs.Common.{ap, arith, inl, inr, sym, subst}
 use Rattle.std.proofs.Math.Logic.{⊎_map}
+use Rattle.core.specs.Borrow.{Bor}
+use Rattle.nvm_board.specs.declared.board.Arm.{Arm}
 use Rattle.nvm_board.specs.Aims.{due_of}
 use Rattle.nvm_board.specs.Facts.{Facts}
 use Rattle.card_bench.specs.declared.playing.Turn.{Turn}
 use Rattle.card_bench.specs.declared.playing.Turn.TheVariants as turn
 use Rattle.card_bench.specs.declared.playing.Item.{Item}
+use Rattle.card_bench.specs.declared.playing.Item.TheVariants as item
 use Rattle.file_tree.specs.declared.space.FreeSpace.{FreeSpace}
-use Rattle.card_bench.specs.BenchStates.{BenchState, IsWell}
+use Rattle.card_bench.specs.BenchStates.{BenchState, IsWell, bench_facts}
 use Rattle.card_core.specs.Finding.{HasCard}
-use Rattle.card_bench.specs.Plays.{IsGood}
+use Rattle.card_bench.specs.declared.came.Came.{Came}
+use Rattle.card_bench.specs.declared.came.Came.TheVariants as came
+use Rattle.card_bench.specs.Plays.{IsGood, TellsItem}
 use Rattle.card_bench.specs.Turns.{GoodTurn, Runs}
+use Rattle.card_bench.specs.Performing.{IsArmed}
+use Rattle.card_bench.specs.SweptRuns.{SparesCommand}
 use Rattle.card_bench.specs.Tallies.{Finding}
+use Rattle.card_bench.proofs.TurnsTold.{good-block, tells-then}
 use Rattle.card_bench.specs.Sweeps.{CutsStart, CutsStarts, SparesStart, EndsIn, EndsBehindStarts, CutsCommand, GivenByRun, off_with, free_of}
 
 -- no start is to be cut
@@ -51,23 +59,100 @@ behind_more depth number mask board between probe given more cut rest = record {
 }
 
 -- a look at a board
-pub ends-in : (board : Facts) (probe : List Turn) (first started last : BenchState) (item : Item) (trace : List Item) (free : FreeSpace)
-    → board.faults ≡ 0 → board.due ≡ due_of board.pending → first ≡ off_with board
-    → (IsGood first → IsGood started × GoodTurn first turn.On item started)
+pub ends-in : (board : Facts) (probe : List Turn) (first started last : BenchState) (told : Came) (reply : List ℕ)
+    (trace : List Item) (free : FreeSpace) → board.faults ≡ 0 → board.due ≡ due_of board.pending → first ≡ off_with board
+    → (IsGood first → IsGood started × TellsItem told reply (λ i. GoodTurn first turn.On i started))
     → (IsWell started → free ≡ free_of started)
     → (IsGood started → IsGood last × Runs started probe trace last)
     → HasCard board.words → EndsIn board probe (record { trace = trace; free = free })
-ends-in board probe first started last item trace free fine due is start told played card =
+ends-in board probe first started last told reply trace free fine due is start shown played card =
     let good : IsGood first = subst (λ (b : BenchState). IsGood b) (sym is) (record { has_card = card; faults = fine; due = due; well = tt }) in
     let on = start good in
-    record {
-      item = item;
+    tells-then told reply (λ i. GoodTurn first turn.On i started) (EndsIn board probe (record { trace = trace; free = free }))
+    (λ i turned. record {
+      item = i;
       started = started;
       last = last;
-      start = subst (λ (b : BenchState). GoodTurn b turn.On item started) is on.1;
-      free = told on.0.well;
+      start = subst (λ (b : BenchState). GoodTurn b turn.On i started) is turned;
+      free = shown on.0.well;
       probed = (played on.0).1;
-    }
+    }) on.1
+
+-- of what came, be it that power was lost or not
+spares-so : (told : Came) (reply : List ℕ) (P : Item → Type 0) (X R : Type 0) (dark : Bool)
+    → (dark ≡ false → told ≡ came.Dark → ⊥) → (dark ≡ false) ⊎ X → ((i : Item) → (i ≢ item.Dark) ⊎ X → P i → R)
+    → TellsItem told reply P → R
+spares-so came.Nothing reply P X R dark lit spared then holds = then item.Quiet (inl (λ e. cc)) holds
+spares-so came.Atr reply P X R dark lit spared then holds = then item.Atr (inl (λ e. cc)) holds
+spares-so came.Mute reply P X R dark lit spared then holds = then item.Mute (inl (λ e. cc)) holds
+spares-so came.Dark reply P X R dark lit spared then holds = elim spared [
+  | inl is ↦ absurd (lit is refl)
+  | inr more ↦ then item.Dark (inr more) holds
+]
+spares-so came.Lost reply P X R dark lit spared then holds = absurd holds
+spares-so came.Answer reply P X R dark lit spared then holds = absurd holds
+spares-so came.Block reply P X R dark lit spared then holds = then (item.Reply reply) (inl (λ e. cc)) holds
+spares-so (came.Free free) reply P X R dark lit spared then holds = absurd holds
+
+-- the board of a bench that is left
+pending-of : (last : BenchState) (left : Facts) → left ≡ record (bench_facts last) { dark = true }
+    → left.pending ≡ (bench_facts last).pending
+pending-of last left is = ap (λ (f : Facts). f.pending) is
+
+-- whether a board is left in which power was lost, with no cut to come
+module _ (board left : Facts) (first armed last : BenchState) (told : Came) (reply : List ℕ) (number mask : ℕ) (dark : Bool)
+    (fine : board.faults ≡ 0) (due : board.due ≡ due_of board.pending) (is : first ≡ off_with board)
+    (left_is : left ≡ record (bench_facts last) { dark = true }) (lit : dark ≡ false → told ≡ came.Dark → ⊥)
+    (spared : (dark ≡ false) ⊎ (is_some left.pending ≡ true)) (card : HasCard board.words) where
+  first-good : IsGood first
+  first-good = subst (λ (b : BenchState). IsGood b) (sym is)
+      (record { has_card = card; faults = fine; due = due; well = tt })
+
+  spared-so : (dark ≡ false) ⊎ (is_some (bench_facts last).pending ≡ true)
+  spared-so = subst (λ (a : Option Arm). (dark ≡ false) ⊎ (is_some a ≡ true)) (pending-of last left left_is) spared
+
+  -- the start makes fewer writes
+  pub spares-start : (IsGood first → IsGood armed) → IsArmed number mask first armed
+      → (IsGood armed → IsGood last × TellsItem told reply (λ i. GoodTurn armed turn.On i last))
+      → SparesStart number mask board
+  spares-start arms arm plays =
+      spares-so told reply (λ i. GoodTurn armed turn.On i last) (is_some (bench_facts last).pending ≡ true)
+      (SparesStart number mask board) dark lit spared-so
+      (λ i spares start. record {
+        item = i;
+        armed = armed;
+        last = last;
+        arm = subst (λ (b : BenchState). IsArmed number mask b armed) is arm;
+        start = start;
+        spared = spares;
+      }) (plays (arms first-good)).1
+
+  -- the command makes fewer writes
+  pub spares-command : (prepare : List Turn) (trace : List Item) (prepared : BenchState) (command : Bor (List ℕ))
+      → (IsGood first → IsGood prepared × Runs first prepare trace prepared) → (IsGood prepared → IsGood armed)
+      → IsArmed number mask prepared armed
+      → (IsGood armed → IsGood last × TellsItem told reply (λ i. GoodTurn armed (turn.Block command) i last))
+      → SparesCommand number mask board prepare command.now
+  spares-command prepare trace prepared command prepares arms arm plays =
+      let before = prepares first-good in
+      spares-so told reply (λ i. GoodTurn armed (turn.Block command) i last) (is_some (bench_facts last).pending ≡ true)
+      (SparesCommand number mask board prepare command.now) dark lit spared-so
+      (λ i spares sent. record {
+        trace = trace;
+        item = i;
+        prepared = prepared;
+        armed = armed;
+        last = last;
+        before = subst (λ (b : BenchState). Runs b prepare trace prepared) is before.1;
+        arm = arm;
+        sent = good-block armed last command i sent;
+        spared = spares;
+      }) (plays (arms before.0)).1
+
+-- where there is none, one fact follows from the other
+pub if-none : {T : Type 0} (o : Option T) (A B : Type 0) → (A → B) → IfNone o A → IfNone o B
+if-none None A B then holds = then holds
+if-none (Some x) A B then holds = tt
 
 -- a run put together
 pub given-by-run : (depth number mask : ℕ) (board left : Facts) (prepare : List Turn) (command : List ℕ) (probe : List Turn) (given : Finding)

@@ -1,5 +1,5 @@
 -- What turns and lines take of a board's counts, and that no count comes to its end where enough is left before.
-use Rattle.std.specs.Prelude.{◌≡◌, ◌==◌, ◌≤◌, ◌<◌, ◌+◌, ◌*◌, ℕ, zero, suc, List, [], ◌∷◌, length, slice_index, replicate}
+use Rattle.std.specs.Prelude.{◌≡◌, ◌≢◌, ◌⊎◌, ◌==◌, ◌≤◌, ◌<◌, ◌+◌, ◌*◌, ℕ, zero, suc, List, [], ◌∷◌, length, slice_index, replicate}
 use Rattle.std.specs.Prelude.{All, Bool, false, if◌then◌else◌, Option, None, Some, Result, Ok, Err}
 use Rattle.std.proofs.Common.{arith, ap, inl, inr, refl, subst, sym, true}
 use Rattle.std.proofs.lemmas.List.Elements.{All-contains, All-replicate, All-set}
@@ -37,7 +37,7 @@ use Rattle.card_bench.specs.Lasting.{HasLeft}
 use Rattle.card_bench.specs.Performing.{Performs, PerformsCommand, with_facts}
 use Rattle.card_bench.specs.Printouts.{Print}
 use Rattle.card_bench.specs.Prints.{IsFirstDesk, PrintsLines}
-use Rattle.card_bench.specs.Turns.{GoodBlock, GoodTurn, Runs, Spends, Wears, dark_of, most_renewal, turn_steps, turn_writes}
+use Rattle.card_bench.specs.Turns.{GoodBlock, GoodTurn, Runs, Spends, Wears, dark_of, most_renewal, run_steps, turn_steps, turn_writes}
 
 -- the most steps of a turn
 abbrev pub TURN_STEPS : ℕ
@@ -133,14 +133,16 @@ counts-last n most writes lost old new some few once spends wears left =
       matches = risen n most old.matches new.matches wears.secret some small wears.matches left.matches;
     }
 
-few-writes : (old : BenchState) (t : Turn) → turn_writes old t ≤ turn_steps old
+few-writes : (old : BenchState) (t : Turn) → turn_writes old t ≤ turn_steps old t
 few-writes old turn.On = omega arith
 few-writes old turn.Off = omega arith
 few-writes old (turn.Block got) = omega arith
 
--- a turn takes at most 3,787 steps, in whatever format
-pub few-steps : (old : BenchState) → turn_steps old ≤ TURN_STEPS
-few-steps old = by_format (is_format_2 (words_found (bench_facts old).words))
+-- a turn takes at most 3,787 steps, in whatever format, and some
+pub few-steps : (old : BenchState) (t : Turn) → turn_steps old t ≤ TURN_STEPS
+few-steps old turn.Off = omega arith
+few-steps old (turn.Block got) = omega arith
+few-steps old turn.On = by_format (is_format_2 (words_found (bench_facts old).words))
   where
     by_format : (new : Bool) → COMMAND_WRITES + (if new then 0 else migration_writes MOST_PAGES) ≤ TURN_STEPS
     by_format true = omega arith
@@ -153,14 +155,24 @@ one-dark item.Mute = omega arith
 one-dark item.Dark = omega arith
 one-dark (item.Reply block) = omega arith
 
--- of format 2 at most 700
-pub steps-new : (old : BenchState) → is_format_2 (words_found (bench_facts old).words) ≡ true → turn_steps old ≡ 700
-steps-new old is = ap (λ (new : Bool). COMMAND_WRITES + (if new then 0 else migration_writes MOST_PAGES)) is
+some-steps : (old : BenchState) (t : Turn) → 1 ≤ turn_steps old t
+some-steps old turn.On = omega arith
+some-steps old turn.Off = omega arith
+some-steps old (turn.Block got) = omega arith
+
+-- but for a start of another format at most 700
+pub steps-new : (old : BenchState) (t : Turn)
+    → (t ≢ turn.On) ⊎ (is_format_2 (words_found (bench_facts old).words) ≡ true) → turn_steps old t ≡ 700
+steps-new old turn.On (inl other) = absurd (other refl)
+steps-new old turn.On (inr is) =
+    ap (λ (new : Bool). COMMAND_WRITES + (if new then 0 else migration_writes MOST_PAGES)) is
+steps-new old turn.Off few = refl
+steps-new old (turn.Block got) few = refl
 
 pub turn-lasts : (n : ℕ) (old new : BenchState) (t : Turn) (i : Item) → GoodTurn old t i new
-    → HasLeft (n + turn_steps old) (bench_facts old) → HasLeft n (bench_facts new)
+    → HasLeft (n + turn_steps old t) (bench_facts old) → HasLeft n (bench_facts new)
 turn-lasts n old new t i good left =
-    counts-last n (turn_steps old) (turn_writes old t) (dark_of i) (bench_facts old) (bench_facts new) (omega arith)
+    counts-last n (turn_steps old t) (turn_writes old t) (dark_of i) (bench_facts old) (bench_facts new) (some-steps old t)
     (few-writes old t) (one-dark i) good.counts good.wears left
 
 block-lasts : (n : ℕ) (old new : BenchState) (got : List ℕ) (i : Item) → GoodBlock old got i new
@@ -191,28 +203,38 @@ due-so lost old new spends left = elim spends.due [
   | inr worn ↦ absurd (not-worn new left (inr worn.0))
 ]
 
-pub due-spent : (old new : BenchState) (t : Turn) (i : Item) → GoodTurn old t i new → HasLeft (turn_steps old) (bench_facts old)
+pub due-spent : (old new : BenchState) (t : Turn) (i : Item) → GoodTurn old t i new → HasLeft (turn_steps old t) (bench_facts old)
     → (bench_facts old).due ≡ (bench_facts new).due + dark_of i
 due-spent old new t i good left =
     due-so (dark_of i) (bench_facts old) (bench_facts new) good.counts (turn-lasts 0 old new t i good
-    (fewer (turn_steps old) (0 + turn_steps old) (bench_facts old) (omega arith) left))
+    (fewer (turn_steps old t) (0 + turn_steps old t) (bench_facts old) (omega arith) left))
 
 pub block-due : (old new : BenchState) (got : List ℕ) (i : Item) → GoodBlock old got i new
     → HasLeft COMMAND_WRITES (bench_facts old) → (bench_facts old).due ≡ (bench_facts new).due + dark_of i
 block-due old new got i good left =
     due-so (dark_of i) (bench_facts old) (bench_facts new) good.counts (block-lasts 0 old new got i good left)
 
-pub runs-last : (n : ℕ) (old new : BenchState) (turns : List Turn) (trace : List Item) → Runs old turns trace new
-    → HasLeft (n + TURN_STEPS * length turns) (bench_facts old) → HasLeft n (bench_facts new)
-unfolding Runs
-runs-last n old new [] [] run left = stays-last n (TURN_STEPS * 0) old new run left
+pub runs-last : (n : ℕ) (old new : BenchState) (turns : List Turn) (trace : List Item) (run : Runs old turns trace new)
+    → HasLeft (n + run_steps old turns trace new run) (bench_facts old) → HasLeft n (bench_facts new)
+unfolding Runs run_steps
+runs-last n old new [] [] run left = stays-last n 0 old new run left
 runs-last n old new [] (i ∷ trace) run left = absurd run
 runs-last n old new (t ∷ turns) [] run left = absurd run
 runs-last n old new (t ∷ turns) (i ∷ trace) run left =
-    runs-last n run.0 new turns trace run.2
-    (turn-lasts (n + TURN_STEPS * length turns) old run.0 t i run.1
-    (fewer (n + TURN_STEPS * length (t ∷ turns)) (n + TURN_STEPS * length turns + turn_steps old) (bench_facts old)
-    (let few = few-steps old in omega (arith, few)) left))
+    let rest = run_steps run.0 turns trace new run.2 in
+    runs-last n run.0 new turns trace run.2 (turn-lasts (n + rest) old run.0 t i run.1
+    (fewer (n + (turn_steps old t + rest)) (n + rest + turn_steps old t) (bench_facts old) (omega arith) left))
+
+-- they are no more than 3,787 a turn
+pub few-run : (old new : BenchState) (turns : List Turn) (trace : List Item) (run : Runs old turns trace new)
+    → run_steps old turns trace new run ≤ TURN_STEPS * length turns
+unfolding Runs run_steps
+few-run old new [] trace run = omega arith
+few-run old new (t ∷ turns) [] run = absurd run
+few-run old new (t ∷ turns) (i ∷ trace) run =
+    let one = few-steps old t in
+    let rest = few-run run.0 new turns trace run.2 in
+    omega (arith, one, rest)
 
 -- a block that goes on the line
 takes-last : (n : ℕ) (old new : BenchState) (got : List ℕ) (follows : Result NextBlock Ended)
@@ -292,9 +314,10 @@ armed-lasts n (on powered) due pending left = record {
 }
 
 -- with more left than a turn may take
-pub turn-left : (n : ℕ) (b : BenchState) → HasLeft (n + LINE_STEPS) (bench_facts b) → HasLeft (n + turn_steps b) (bench_facts b)
-turn-left n b left =
-    let few = few-steps b in fewer (n + LINE_STEPS) (n + turn_steps b) (bench_facts b) (omega (arith, few)) left
+pub turn-left : (n : ℕ) (b : BenchState) (t : Turn) → HasLeft (n + LINE_STEPS) (bench_facts b)
+    → HasLeft (n + turn_steps b t) (bench_facts b)
+turn-left n b t left =
+    let few = few-steps b t in fewer (n + LINE_STEPS) (n + turn_steps b t) (bench_facts b) (omega (arith, few)) left
 
 block-left : (n : ℕ) (f : Facts) → HasLeft (n + LINE_STEPS) f → HasLeft (n + COMMAND_WRITES) f
 block-left n f left = fewer (n + LINE_STEPS) (n + COMMAND_WRITES) f (omega arith) left
@@ -304,9 +327,9 @@ line-lasts : (n : ℕ) (order : Order) (old new : Desk) (prints : Print) → Per
 line-lasts n Nothing old new prints performs left =
     stays-last n LINE_STEPS old.bench new.bench (ap (λ (d : Desk). d.bench) performs.0) left
 line-lasts n On old new prints performs left =
-    turn-lasts n old.bench new.bench turn.On performs.came performs.turn (turn-left n old.bench left)
+    turn-lasts n old.bench new.bench turn.On performs.came performs.turn (turn-left n old.bench turn.On left)
 line-lasts n Off old new prints performs left =
-    turn-lasts n old.bench new.bench turn.Off item.Quiet performs.turn (turn-left n old.bench left)
+    turn-lasts n old.bench new.bench turn.Off item.Quiet performs.turn (turn-left n old.bench turn.Off left)
 line-lasts n Free old new prints performs left =
     stays-last n LINE_STEPS old.bench new.bench (ap (λ (d : Desk). d.bench) performs.0) left
 line-lasts n (Apdu command) old new prints performs left =

@@ -1,27 +1,39 @@
--- What the fields of a `Desk` stand for, and what is printed of the bytes that it keeps.
+-- What the fields of a `Desk` stand for.
 use Rattle.std.specs.Prelude.{ℕ, Bool, true, false, List, Option, None, Some}
 use Rattle.t1_link.specs.ReaderTable.{Reader}
-use Rattle.card_bench.specs.declared.desk.PrintKind.{PrintKind}
-use Rattle.card_bench.specs.declared.desk.PrintKind.TheVariants.{Block}
+use Rattle.card_bench.specs.declared.came.Came.{Came}
+use Rattle.card_bench.specs.declared.came.Came.TheVariants.{Nothing, Atr, Mute, Dark, Lost, Answer, Block, Free}
 use Rattle.card_bench.specs.Exchanges.{Desk}
-use Rattle.card_bench.specs.Printouts.{Print, print_of}
+use Rattle.card_bench.specs.Printouts.{Print, prints_atr, prints_bytes, prints_dark, prints_free, prints_lost, prints_mute, prints_nothing}
 
--- the desk, the answer to the last command that has one, and the block that came back last
+-- the desk, and what its last line prints
 pub record DeskState : Type 0 where
   pub desk : Desk
-  pub answer : List ℕ
-  pub reply : List ℕ
+  pub prints : Print
 
 -- the reader's end, if a command may be sent
 abbrev pub reader_there : Bool → Reader → Option Reader
 reader_there false reader = None
 reader_there true reader = Some reader
 
--- the bytes that are printed, where the card's bytes are
-abbrev pub bytes_of : PrintKind → DeskState → List ℕ
-bytes_of Block held = held.reply
-bytes_of _ held = held.answer
+-- whether a card started
+abbrev pub is_started : Came → Bool
+is_started Nothing = false
+is_started Atr = true
+is_started Mute = false
+is_started Dark = false
+is_started Lost = false
+is_started Answer = false
+is_started Block = false
+is_started (Free free) = false
 
--- what is printed, where the bytes stand in the desk
-abbrev pub printed_of : PrintKind → DeskState → Print
-printed_of printed held = print_of printed (bytes_of printed held)
+-- what is printed of what came, with the answer to the last command, and the block that came back last
+abbrev pub print_of : Came → List ℕ → List ℕ → Print
+print_of Nothing answer block = prints_nothing
+print_of Atr answer block = prints_atr
+print_of Mute answer block = prints_mute
+print_of Dark answer block = prints_dark
+print_of Lost answer block = prints_lost
+print_of Answer answer block = prints_bytes answer
+print_of Block answer block = prints_bytes block
+print_of (Free free) answer block = prints_free free

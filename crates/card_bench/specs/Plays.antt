@@ -3,13 +3,11 @@ use Rattle.std.specs.Prelude.{◌≡◌, ℕ, List}
 use Rattle.nvm_board.specs.Aims.{due_of}
 use Rattle.card_core.specs.declared.machine.TheConstants.{COMMAND_WRITES}
 use Rattle.card_bench.specs.declared.playing.Turn.{Turn}
-use Rattle.card_bench.specs.declared.playing.PowerOn.{PowerOn}
-use Rattle.card_bench.specs.declared.playing.PowerOn.TheVariants as power
-use Rattle.card_bench.specs.declared.playing.Sent.{Sent}
-use Rattle.card_bench.specs.declared.playing.Sent.TheVariants as sent
+use Rattle.card_bench.specs.declared.came.Came.{Came}
+use Rattle.card_bench.specs.declared.came.Came.TheVariants as came
 use Rattle.card_bench.specs.declared.playing.Item.{Item}
 use Rattle.card_bench.specs.declared.playing.Item.TheVariants.{Atr, Quiet, Mute, Dark, Reply}
-use Rattle.card_bench.specs.BenchStates.{BenchState, bench_facts, BenchHasCard, IsOff, IsOn, IsWell}
+use Rattle.card_bench.specs.BenchStates.{BenchState, bench_facts, BenchHasCard, IsWell}
 use Rattle.card_bench.specs.Guessing.{GuessesFew}
 use Rattle.card_bench.specs.Turns.{CountsLosses, OneTurn, Runs, Spends, TakesBlock, Wears, dark_of, darks, turn_writes}
 
@@ -25,25 +23,16 @@ pub record IsGood (b : BenchState) : Type 0 where
   pub due : (bench_facts b).due ≡ due_of (bench_facts b).pending
   pub well : IsWell b
 
--- what comes of a power-on
-abbrev pub powered_item : PowerOn → Item
-powered_item power.Started = Atr
-powered_item power.Mute = Mute
-powered_item power.Dark = Dark
-
--- what comes of a block; the reply stands in a buffer
-abbrev pub sent_item : Sent → List ℕ → Item
-sent_item sent.Reply out = Reply out
-sent_item sent.Mute out = Mute
-sent_item sent.Dark out = Dark
-
--- with power on a block is answered, or power is lost
-abbrev pub IsHeard : Item → BenchState → Type 0
-IsHeard Atr new = ⊥
-IsHeard Quiet new = ⊥
-IsHeard Mute new = ⊥
-IsHeard Dark new = IsOff new
-IsHeard (Reply block) new = IsOn new
+-- What came of a turn is told so, and of it this holds. A block that came back stands in a buffer.
+abbrev pub TellsItem : Came → List ℕ → (Item → Type 0) → Type 0
+TellsItem came.Nothing block Holds = Holds Quiet
+TellsItem came.Atr block Holds = Holds Atr
+TellsItem came.Mute block Holds = Holds Mute
+TellsItem came.Dark block Holds = Holds Dark
+TellsItem came.Lost block Holds = ⊥
+TellsItem came.Answer block Holds = ⊥
+TellsItem came.Block block Holds = Holds (Reply block)
+TellsItem (came.Free free) block Holds = ⊥
 
 -- A turn is played.
 pub record Plays (old : BenchState) (turn : Turn) (item : Item) (new : BenchState) : Type 0 where
@@ -62,7 +51,6 @@ pub record PlaysBlock (old : BenchState) (got : List ℕ) (item : Item) (new : B
   pub guesses : GuessesFew old new
   pub one : BenchHasCard old → HasNoFault old new → TakesBlock old got item new
   pub wears : HasNoFault old new → Wears COMMAND_WRITES (bench_facts old) (bench_facts new)
-  pub heard : IsOn old → IsHeard item new
 
 -- Turns are played.
 pub record PlaysAll (old : BenchState) (turns : List Turn) (trace : List Item) (new : BenchState) : Type 0 where

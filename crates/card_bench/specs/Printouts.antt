@@ -1,10 +1,8 @@
 -- What a line of a script prints.
-use Rattle.std.specs.Prelude.{ℕ, List, [], ◌∷◌, ◌++◌, codes, Option, None, Some}
+use Rattle.std.specs.Prelude.{ℕ, List, [], ◌∷◌, ◌++◌, codes}
 use Rattle.std.specs.Fmt.{decimal}
 use Rattle.hex.specs.Hex.{encode_upper}
 use Rattle.file_tree.specs.declared.space.FreeSpace.{FreeSpace}
-use Rattle.card_bench.specs.declared.desk.PrintKind.{PrintKind}
-use Rattle.card_bench.specs.declared.desk.PrintKind.TheVariants.{Nothing, Atr, Mute, Dark, Lost, Answer, Block, Free}
 
 -- nothing; the answer to reset; that the card doesn't answer; that power was lost; that the link was; bytes of the card; or what
 -- is free
@@ -31,19 +29,3 @@ text_of prints_dark = ended_line (codes "dark")
 text_of prints_lost = ended_line (codes "lost")
 text_of (prints_bytes bytes) = ended_line (codes "< " ++ encode_upper bytes)
 text_of (prints_free free) = ended_line (codes "free " ++ decimal free.blocks ++ 32 ∷ decimal free.entries)
-
--- what is printed of the free space; with power off the card doesn't answer
-abbrev pub free_print : Option FreeSpace → Print
-free_print None = prints_mute
-free_print (Some free) = prints_free free
-
--- what is printed, with these bytes of the card
-abbrev pub print_of : PrintKind → List ℕ → Print
-print_of Nothing bytes = prints_nothing
-print_of Atr bytes = prints_atr
-print_of Mute bytes = prints_mute
-print_of Dark bytes = prints_dark
-print_of Lost bytes = prints_lost
-print_of Answer bytes = prints_bytes bytes
-print_of Block bytes = prints_bytes bytes
-print_of (Free free) bytes = prints_free free

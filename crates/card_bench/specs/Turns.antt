@@ -120,9 +120,11 @@ turn_writes old turn.On = PAIRS + 1 + most_renewal (bench_facts old).words
 turn_writes old turn.Off = 0
 turn_writes old (turn.Block got) = COMMAND_WRITES
 
--- how many steps a turn takes of a count at most: 700, and more where the memory isn't of format 2
-abbrev pub turn_steps : BenchState → ℕ
-turn_steps old = COMMAND_WRITES + most_renewal (bench_facts old).words
+-- how many steps a turn takes of a count at most: 700, and a start of a memory that isn't of format 2 those of the way to it
+abbrev pub turn_steps : BenchState → Turn → ℕ
+turn_steps old turn.On = COMMAND_WRITES + most_renewal (bench_facts old).words
+turn_steps old turn.Off = COMMAND_WRITES
+turn_steps old (turn.Block got) = COMMAND_WRITES
 
 -- What a turn without a fault takes of the board's other counts: so many device writes at most, and at most the comparison of one
 -- secret, which may match.
@@ -152,3 +154,11 @@ Runs old [] (item ∷ items) new = ⊥
 Runs old (turn ∷ turns) [] new = ⊥
 Runs old (turn ∷ turns) (item ∷ items) new =
     (between : BenchState) × GoodTurn old turn item between × Runs between turns items new
+
+-- how many steps turns take of a count at most, each by the memory before it
+unfoldable pub run_steps : (old : BenchState) (turns : List Turn) (trace : List Item) (new : BenchState)
+    → Runs old turns trace new → ℕ
+unfolding Runs
+run_steps old [] trace new run = 0
+run_steps old (turn ∷ turns) [] new run = 0
+run_steps old (turn ∷ turns) (item ∷ items) new run = turn_steps old turn + run_steps run.0 turns items new run.2

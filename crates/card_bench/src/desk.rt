@@ -1,56 +1,37 @@
 //! The desk: a bench, the reader's end of the link, and the line between the two ends.
-ghost use Rattle.std.specs.Prelude.{◌≡◌, ◌≤◌, None, length, true};
+ghost use Rattle.std.specs.Prelude.{◌≡◌, ◌≢◌, ◌≤◌, ℕ, List, None, length, take, true, IfErr, OnErr, OnOk};
+ghost use Rattle.std.specs.Io.KnownBytes.{Appends};
 ghost use Rattle.card_bench.specs.declared.order.TheConstants.{COMMAND_LIMIT};
-ghost use Rattle.card_bench.specs.declared.printing.TheConstants.{BYTES_ROOM};
 ghost use Rattle.card_bench.specs.BenchStates.{off};
+ghost use Rattle.card_bench.specs.DeskViews.{print_of};
+ghost use Rattle.card_bench.specs.Exchanges.{printed_by};
+ghost use Rattle.card_bench.specs.ExchangeViews.{ended_of};
 ghost use Rattle.card_bench.specs.OrderViews.{order_with};
 ghost use Rattle.card_bench.specs.Orders.{IsSized};
-ghost use Rattle.card_bench.specs.Performing.{Performs, PerformsBlock, PerformsCommand, PerformsOn, free_shown, shown};
-ghost use Rattle.card_bench.specs.Plays.{IsGood, powered_item, sent_item};
-ghost use Rattle.card_bench.specs.DeskViews.{DeskState, bytes_of, printed_of};
-ghost use Rattle.card_bench.specs.ExchangeViews.{ended_of};
-ghost use Rattle.card_bench.specs.Exchanges.{printed_by};
-ghost use Rattle.card_bench.specs.Printouts.{free_print};
+ghost use Rattle.card_bench.specs.Performing.{Performs, PerformsBlock, PerformsCommand, PerformsOff, PerformsOn, free_shown};
+ghost use Rattle.card_bench.specs.Plays.{IsGood};
+ghost use Rattle.card_bench.specs.Printouts.{prints_nothing, text_of};
 
-use crate::exchange::{Blocks, Ending, exchange};
+use crate::came::Came;
+use crate::exchange::{Blocks, Ending, Ends, exchange};
+use crate::fault::RunFault;
 use crate::line::Line;
 use crate::order::Order;
-use crate::playing::{Bench, PowerOn, Sent};
-use card_core::FreeSpace;
+use crate::playing::{Bench, Turn};
+use crate::printing::{ATR, PrintedText, print_bytes, print_free, write_line};
 use nvm_board::{Armed, Faultless, Socket};
+use std::io::Write;
 use std::marker::Model;
 use t1_link::{BlockBytes, ReaderEnd};
-
-/// What kind of thing a line of a script prints. The card's bytes aren't in it: the desk lends them.
-#[derive(Clone, Copy)]
-pub(crate) enum PrintKind {
-    Nothing,
-    /// The answer to reset.
-    Atr,
-    /// The card doesn't answer.
-    Mute,
-    /// Power was lost.
-    Dark,
-    /// The link was lost.
-    Lost,
-    /// The answer to a command.
-    Answer,
-    /// The block that came back.
-    Block,
-    /// What is free.
-    Free(FreeSpace),
-}
 
 /// A bench, the reader's end, and the line. What is pending on the line outlives power.
 #[derive(Drop)]
 pub(crate) struct Desk<B: Socket> {
-    bench: Bench<B>,
-    /// It keeps the answer to the last command that has one.
-    reader: ReaderEnd,
+    ends: Ends<B>,
     /// Whether a command may be sent: no more where the two ends may have parted.
     in_step: bool,
-    line: Line,
-    blocks: Blocks,
+    /// What came of the last line.
+    came: Came,
 }
 
 impl<B: Socket> Model for Desk<B> {
@@ -58,19 +39,18 @@ impl<B: Socket> Model for Desk<B> {
     ghost use Rattle.std.specs.Prelude.{◌≢◌, IsTrue};
     ghost use Rattle.t1_link.specs.declared.reader_end.Phase.TheVariants.{Busy};
     ghost use Rattle.card_core.specs.Sessions.{session_code};
-    ghost use Rattle.card_bench.specs.DeskViews.{DeskState, reader_there};
+    ghost use Rattle.card_bench.specs.DeskViews.{DeskState, print_of, reader_there};
 
     ghost Value = { DeskState };
 
     ghost coded = { Prim.hlevel (codes, session_code) };
 
     ghost view = { λ d. record {
-      desk = record { bench = d.bench; reader = reader_there d.in_step d.reader; line = d.line };
-      answer = d.reader.answer;
-      reply = d.blocks.toward_reader;
+      desk = record { bench = d.ends.bench; reader = reader_there d.in_step d.ends.reader; line = d.ends.line };
+      prints = print_of d.came d.ends.reader.answer d.ends.blocks.toward_reader;
     } };
 
-    ghost invariant = { λ d. IsTrue d.in_step → d.reader.phase ≢ Busy };
+    ghost invariant = { λ d. IsTrue d.in_step → d.ends.reader.phase ≢ Busy };
 }
 
 impl<B: Socket> Desk<B> {
@@ -81,168 +61,146 @@ impl<B: Socket> Desk<B> {
         ensures line { result.desk.line ≡ record { lose = None; garble = None } }
     {
         Desk {
-            bench: Bench::new(board),
-            reader: ReaderEnd::new(),
-            in_step: false,
-            line: Line::new(),
-            blocks: Blocks {
-                toward_card: BlockBytes::new(),
-                toward_reader: BlockBytes::new(),
+            ends: Ends {
+                bench: Bench::new(board),
+                reader: ReaderEnd::new(),
+                line: Line::new(),
+                blocks: Blocks {
+                    toward_card: BlockBytes::new(),
+                    toward_reader: BlockBytes::new(),
+                },
             },
+            in_step: false,
+            came: Came::Nothing,
         }
     }
 
-    /// The bytes to be printed.
-    pub(crate) fn bytes(&self, printed: PrintKind) -> &[u8]
-        ensures bytes { result.now ≡ bytes_of printed self.now }
-        ensures fits { length result.now ≤ BYTES_ROOM }
+    /// Prints what came of the last line, and flushes it. Where that is nothing, the writer isn't asked.
+    ///
+    /// # Errors
+    ///
+    /// `Write` where the writer fails, or takes nothing.
+    #[inline(always)]
+    pub(crate) fn print<W: Write>(&self, writer: &mut W, text: &mut PrintedText) -> Result<(), RunFault>
+        ensures wrote { OnOk result (Appends (W.contents writer.old) (W.contents writer.new) (text_of self.now.prints)) }
+        ensures began { OnErr result ((size : ℕ)
+            × Appends (W.contents writer.old) (W.contents writer.new) (take size (text_of self.now.prints))) }
+        ensures fault { IfErr result (λ fault. fault ≡ RunFault.Write) }
+        ensures speaks { OnErr result (self.now.prints ≢ prints_nothing) }
     {
-        match printed {
-            PrintKind::Block => self.blocks.toward_reader.as_slice(),
-            _ => self.reader.answer(),
+        match self.came {
+            Came::Nothing => Ok(()),
+            Came::Atr => write_line(writer, ATR),
+            Came::Mute => write_line(writer, b"mute\n"),
+            Came::Dark => write_line(writer, b"dark\n"),
+            Came::Lost => write_line(writer, b"lost\n"),
+            Came::Answer => print_bytes(writer, self.ends.reader.answer(), text),
+            Came::Block => print_bytes(writer, &self.ends.blocks.toward_reader, text),
+            Came::Free(free) => print_free(writer, free, text),
         }
     }
 }
 
 impl<B: Armed + Faultless> Desk<B> {
-    /// Does what a line asks for, with the bytes that it gave, and tells what it prints.
-    pub(crate) fn perform(&mut self, order: Order, given: &[u8]) -> PrintKind
+    /// Does what a line asks for, with the bytes that it gave. What comes of it can then be printed.
+    pub(crate) fn perform(&mut self, order: Order, given: &[u8])
         requires sized { IsSized (order_with order given.now) }
         requires good { IsGood self.old.desk.bench }
         ensures good { IsGood self.new.desk.bench }
-        ensures performs { Performs (order_with order given.now) self.old.desk self.new.desk (printed_of result self.new) }
+        ensures performs { Performs (order_with order given.now) self.old.desk self.new.desk self.new.prints }
     {
+        self.came = Came::Nothing;
         match order {
-            Order::Nothing => PrintKind::Nothing,
-            Order::On => self.perform_on(),
-            Order::Off => {
-                self.bench.good_off();
-                self.in_step = false;
-                PrintKind::Nothing
-            }
+            Order::Nothing => {}
+            Order::On => self.turn_on(),
+            Order::Off => self.turn_off(),
             Order::Free => self.tell_free(),
             Order::Apdu => self.command(given),
-            Order::Block => self.perform_block(given),
-            Order::Cut { number, mask } => {
-                self.bench.good_arm(number, mask);
-                PrintKind::Nothing
-            }
-            Order::Lose(number) => {
-                self.line.lose(number);
-                PrintKind::Nothing
-            }
-            Order::Garble(number) => {
-                self.line.garble(number);
-                PrintKind::Nothing
-            }
+            Order::Block => self.take_block(given),
+            Order::Cut { number, mask } => self.ends.bench.arm_well(number, mask),
+            Order::Lose(number) => self.ends.line.lose(number),
+            Order::Garble(number) => self.ends.line.garble(number),
         }
     }
 
-    /// Power off if it is on, and then a start. A card that starts has a reader's end before it.
-    fn perform_on(&mut self) -> PrintKind
+    /// Power off if it is on, and then a start. A card that starts has a fresh reader's end before it.
+    fn turn_on(&mut self)
         requires good { IsGood self.old.desk.bench }
         ensures good { IsGood self.new.desk.bench }
-        ensures performs { PerformsOn self.old.desk self.new.desk (printed_of result self.new) }
+        ensures performs { PerformsOn self.old.desk self.new.desk self.new.prints }
     {
-        let power_on = self.bench.good_on();
-        self.in_step = match power_on {
-            PowerOn::Started => {
-                self.reader.reset();
-                true
-            }
-            PowerOn::Mute | PowerOn::Dark => false,
-        };
-        print_of_power(power_on)
+        self.came = self.ends.bench
+            .turn_well(Turn::On, &mut self.ends.blocks.toward_reader);
+        self.in_step = self.came.is_started();
+        self.ends.reader.reset();
+    }
+
+    /// Power off. No command is sent any more.
+    fn turn_off(&mut self)
+        requires good { IsGood self.old.desk.bench }
+        ensures good { IsGood self.new.desk.bench }
+        ensures performs { PerformsOff self.old.desk self.new.desk self.new.prints }
+    {
+        self.came = self.ends.bench
+            .turn_well(Turn::Off, &mut self.ends.blocks.toward_reader);
+        self.in_step = false;
     }
 
     /// A block straight to the card's end, of which the reader's end doesn't know.
-    fn perform_block(&mut self, block: &[u8]) -> PrintKind
+    fn take_block(&mut self, block: &[u8])
         requires good { IsGood self.old.desk.bench }
         ensures good { IsGood self.new.desk.bench }
-        ensures performs { PerformsBlock
-            self.old.desk block.now self.new.desk (printed_of result self.new) }
+        ensures performs { PerformsBlock self.old.desk block.now self.new.desk self.new.prints }
     {
+        self.came = self.ends.bench
+            .turn_well(Turn::Block(block), &mut self.ends.blocks.toward_reader);
         self.in_step = false;
-        print_of_sent(self.bench.good_send(block, &mut self.blocks.toward_reader))
     }
 
     /// The free space, which is told of every card that works, and on a board without faults each card does.
-    fn tell_free(&self) -> PrintKind
-        requires good { IsGood self.now.desk.bench }
-        ensures { (held : DeskState) → printed_of result held ≡ free_shown self.now.desk.bench }
+    fn tell_free(&mut self)
+        requires good { IsGood self.old.desk.bench }
+        ensures same { self.new.desk ≡ self.old.desk }
+        ensures free { self.new.prints ≡ free_shown self.old.desk.bench }
     {
-        print_of_free(self.bench.free())
+        match self.ends.bench.free() {
+            Some(free) => self.came = Came::Free(free),
+            None => self.came = Came::Mute,
+        }
     }
 
     /// A command through both ends of the link, where power is on and the reader's end is there.
-    fn command(&mut self, command: &[u8]) -> PrintKind
+    fn command(&mut self, command: &[u8])
         requires some { 1 ≤ length command.now }
         requires size { length command.now ≤ COMMAND_LIMIT }
         requires good { IsGood self.old.desk.bench }
         ensures good { IsGood self.new.desk.bench }
-        ensures performs { PerformsCommand self.old.desk.bench
-            self.old.desk command.now self.new.desk (printed_of result self.new) }
+        ensures performs { PerformsCommand self.old.desk.bench self.old.desk command.now self.new.desk self.new.prints }
     {
-        if !self.bench.is_on() {
-            return PrintKind::Mute;
+        if !self.ends.bench.is_on() {
+            self.came = Came::Mute;
+            return;
         }
         if !self.in_step {
-            return PrintKind::Lost;
+            self.came = Came::Lost;
+            return;
         }
-        let ending = exchange(
-            &mut self.bench,
-            &mut self.reader,
-            &mut self.line,
-            &mut self.blocks,
-            command,
-        );
+        let ending = exchange(&mut self.ends, command);
         self.in_step = match ending {
             Ending::Answered | Ending::SetBack => true,
             Ending::Lost | Ending::Dark => false,
         };
-        print_of_ending(ending)
+        self.came = came_of(ending);
     }
 }
 
-/// What is printed of a command.
-fn print_of_ending(ending: Ending) -> PrintKind
-    ensures { (held : DeskState) → printed_of result held ≡ printed_by (ended_of ending held.answer) }
+/// What comes of a command, by how its exchange ended.
+fn came_of(ending: Ending) -> Came
+    ensures { (answer reply : List ℕ) → print_of result answer reply ≡ printed_by (ended_of ending answer) }
 {
     match ending {
-        Ending::Answered => PrintKind::Answer,
-        Ending::SetBack | Ending::Lost => PrintKind::Lost,
-        Ending::Dark => PrintKind::Dark,
-    }
-}
-
-/// What is printed of a power-on.
-fn print_of_power(power_on: PowerOn) -> PrintKind
-    ensures { (held : DeskState) → printed_of result held ≡ shown (powered_item power_on) }
-{
-    match power_on {
-        PowerOn::Started => PrintKind::Atr,
-        PowerOn::Mute => PrintKind::Mute,
-        PowerOn::Dark => PrintKind::Dark,
-    }
-}
-
-/// What is printed of a block.
-fn print_of_sent(sent: Sent) -> PrintKind
-    ensures { (held : DeskState) → printed_of result held ≡ shown (sent_item sent held.reply) }
-{
-    match sent {
-        Sent::Reply => PrintKind::Block,
-        Sent::Mute => PrintKind::Mute,
-        Sent::Dark => PrintKind::Dark,
-    }
-}
-
-/// What is printed of the free space.
-fn print_of_free(free: Option<FreeSpace>) -> PrintKind
-    ensures { (held : DeskState) → printed_of result held ≡ free_print free }
-{
-    match free {
-        Some(free) => PrintKind::Free(free),
-        None => PrintKind::Mute,
+        Ending::Answered => Came::Answer,
+        Ending::SetBack | Ending::Lost => Came::Lost,
+        Ending::Dark => Came::Dark,
     }
 }

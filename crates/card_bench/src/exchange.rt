@@ -5,11 +5,12 @@ ghost use Rattle.t1_link.specs.ReaderTable.{reader_sends, reader_step, reader_ti
 ghost use Rattle.card_bench.specs.declared.order.TheConstants.{COMMAND_LIMIT};
 ghost use Rattle.card_bench.specs.BenchStates.{IsOn};
 ghost use Rattle.card_bench.specs.Exchanges.{Exchanged, Exchanges, GoesOn, Passes, ReaderTurns};
-ghost use Rattle.card_bench.specs.ExchangeViews.{ended_of, flow_of, follows_of, next_block};
+ghost use Rattle.card_bench.specs.ExchangeViews.{ended_of, ends_of, flow_of, follows_of, next_block};
 ghost use Rattle.card_bench.specs.Plays.{IsGood};
 
+use crate::came::Came;
 use crate::line::Line;
-use crate::playing::{Bench, Sent};
+use crate::playing::{Bench, Turn};
 use nvm_board::{Faultless, Socket};
 use std::ops::ControlFlow;
 use t1_link::{BlockBytes, Next, ReaderEnd};
@@ -31,6 +32,16 @@ pub(crate) struct Blocks {
     pub toward_reader: BlockBytes,
 }
 
+/// Both ends of the link at the bench, the line between them, and the blocks under way.
+#[derive(Drop)]
+pub(crate) struct Ends<B: Socket> {
+    pub bench: Bench<B>,
+    /// It keeps the answer to the last command that has one.
+    pub reader: ReaderEnd,
+    pub line: Line,
+    pub blocks: Blocks,
+}
+
 /// How an exchange ended.
 #[derive(Clone, Copy)]
 pub(crate) enum Ending {
@@ -45,58 +56,35 @@ pub(crate) enum Ending {
 }
 
 /// Sends a command, and passes blocks between the two ends, at most 1,000, until the reader's end has its answer.
-pub(crate) fn exchange<B: Socket + Faultless>(
-    bench: &mut Bench<B>,
-    reader: &mut ReaderEnd,
-    line: &mut Line,
-    blocks: &mut Blocks,
-    command: &[u8],
-) -> Ending
-    requires idle { reader.old.phase ≢ Busy }
+pub(crate) fn exchange<B: Socket + Faultless>(ends: &mut Ends<B>, command: &[u8]) -> Ending
+    requires idle { ends.old.reader.phase ≢ Busy }
     requires some { 1 ≤ length command.now }
     requires size { length command.now ≤ COMMAND_LIMIT }
-    requires good { IsGood bench.old }
-    requires power { IsOn bench.old }
-    ensures exchanged { Exchanged
-        (record { bench = bench.old; reader = reader.old; line = line.old }) command.now
-        (record { bench = bench.new; reader = reader.new; line = line.new }) (ended_of result reader.new.answer) }
-    ensures good { IsGood bench.new }
-    ensures idle { GoesOn (ended_of result reader.new.answer) → reader.new.phase ≢ Busy }
+    requires good { IsGood ends.old.bench }
+    requires power { IsOn ends.old.bench }
+    ensures exchanged { Exchanged (ends_of ends.old) command.now (ends_of ends.new) (ended_of result ends.new.reader.answer) }
+    ensures good { IsGood ends.new.bench }
+    ensures idle { GoesOn (ended_of result ends.new.reader.answer) → ends.new.reader.phase ≢ Busy }
 {
-    match begin(reader, blocks, command) {
-        ControlFlow::Continue(first) => pass_blocks(
-            bench,
-            reader,
-            line,
-            blocks,
-            first,
-            LINE_BLOCKS,
-        ),
+    match begin(&mut ends.reader, &mut ends.blocks, command) {
+        ControlFlow::Continue(first) => pass_blocks(ends, first, LINE_BLOCKS),
         ControlFlow::Break(ending) => ending,
     }
 }
 
 /// Passes blocks between the two ends until the exchange ends, at most 1,000.
-fn pass_blocks<B: Socket + Faultless>(
-    bench: &mut Bench<B>,
-    reader: &mut ReaderEnd,
-    line: &mut Line,
-    blocks: &mut Blocks,
-    first: Toward,
-    limit: u16,
-) -> Ending
-    requires busy { reader.old.phase ≡ Busy }
-    requires good { IsGood bench.old }
-    requires power { IsOn bench.old }
-    ensures run { Exchanges limit
-        (record { bench = bench.old; reader = reader.old; line = line.old }) (next_block first blocks.old)
-        (record { bench = bench.new; reader = reader.new; line = line.new }) (ended_of result reader.new.answer) }
-    ensures good { IsGood bench.new }
-    ensures idle { GoesOn (ended_of result reader.new.answer) → reader.new.phase ≢ Busy }
+fn pass_blocks<B: Socket + Faultless>(ends: &mut Ends<B>, first: Toward, limit: u16) -> Ending
+    requires busy { ends.old.reader.phase ≡ Busy }
+    requires good { IsGood ends.old.bench }
+    requires power { IsOn ends.old.bench }
+    ensures run { Exchanges limit (ends_of ends.old) (next_block first ends.old.blocks)
+        (ends_of ends.new) (ended_of result ends.new.reader.answer) }
+    ensures good { IsGood ends.new.bench }
+    ensures idle { GoesOn (ended_of result ends.new.reader.answer) → ends.new.reader.phase ≢ Busy }
 {
     let mut toward = first;
     for _ in 0..limit {
-        match pass(bench, reader, line, blocks, toward) {
+        match pass(ends, toward) {
             ControlFlow::Continue(next) => toward = next,
             ControlFlow::Break(ending) => return ending,
         }
@@ -106,40 +94,38 @@ fn pass_blocks<B: Socket + Faultless>(
 
 /// Puts a block on the line, and tells which end the next one goes to, or how the exchange ended. Where the block doesn't
 /// arrive, the reader's end waits in vain.
-fn pass<B: Socket + Faultless>(
-    bench: &mut Bench<B>,
-    reader: &mut ReaderEnd,
-    line: &mut Line,
-    blocks: &mut Blocks,
-    toward: Toward,
-) -> ControlFlow<Ending, Toward>
-    requires busy { reader.old.phase ≡ Busy }
-    requires good { IsGood bench.old }
-    requires power { IsOn bench.old }
-    ensures good { IsGood bench.new }
-    ensures power { OnOk (follows_of result blocks.new reader.new.answer) (IsOn bench.new) }
-    ensures busy { OnOk (follows_of result blocks.new reader.new.answer) (reader.new.phase ≡ Busy) }
-    ensures idle { IfErr (follows_of result blocks.new reader.new.answer) (λ ended. GoesOn ended → reader.new.phase ≢ Busy) }
-    ensures passes { Passes
-        (record { bench = bench.old; reader = reader.old; line = line.old }) (next_block toward blocks.old)
-        (record { bench = bench.new; reader = reader.new; line = line.new }) (follows_of result blocks.new reader.new.answer) }
+fn pass<B: Socket + Faultless>(ends: &mut Ends<B>, toward: Toward) -> ControlFlow<Ending, Toward>
+    requires busy { ends.old.reader.phase ≡ Busy }
+    requires good { IsGood ends.old.bench }
+    requires power { IsOn ends.old.bench }
+    ensures good { IsGood ends.new.bench }
+    ensures power { OnOk (follows_of result ends.new.blocks ends.new.reader.answer) (IsOn ends.new.bench) }
+    ensures busy { OnOk (follows_of result ends.new.blocks ends.new.reader.answer) (ends.new.reader.phase ≡ Busy) }
+    ensures idle { IfErr (follows_of result ends.new.blocks ends.new.reader.answer)
+        (λ ended. GoesOn ended → ends.new.reader.phase ≢ Busy) }
+    ensures passes { Passes (ends_of ends.old) (next_block toward ends.old.blocks)
+        (ends_of ends.new) (follows_of result ends.new.blocks ends.new.reader.answer) }
 {
     match toward {
         Toward::Card => {
-            if !line.put(&mut blocks.toward_card) {
-                return wait(reader, blocks);
+            if !ends.line.put(&mut ends.blocks.toward_card) {
+                return wait(&mut ends.reader, &mut ends.blocks);
             }
-            match bench.good_send(&blocks.toward_card, &mut blocks.toward_reader) {
-                Sent::Reply => ControlFlow::Continue(Toward::Reader),
-                Sent::Dark => ControlFlow::Break(Ending::Dark),
-                Sent::Mute => unreachable!(),
+            match ends.bench
+                .turn_well(
+                    Turn::Block(&ends.blocks.toward_card),
+                    &mut ends.blocks.toward_reader,
+                ) {
+                Came::Block => ControlFlow::Continue(Toward::Reader),
+                Came::Dark => ControlFlow::Break(Ending::Dark),
+                _ => unreachable!(),
             }
         }
         Toward::Reader => {
-            if !line.put(&mut blocks.toward_reader) {
-                return wait(reader, blocks);
+            if !ends.line.put(&mut ends.blocks.toward_reader) {
+                return wait(&mut ends.reader, &mut ends.blocks);
             }
-            hear(reader, blocks)
+            hear(&mut ends.reader, &mut ends.blocks)
         }
     }
 }

@@ -1,6 +1,6 @@
 //! Laws of the definitions: each is a function whose contract is the law.
 
-ghost use Rattle.std.specs.Prelude.{◌≡◌, ◌≢◌, ◌≤◌, ◌+◌, ◌*◌, ℕ, Bool, List, length, true, IsTrue, Ok, Err, None, Some};
+ghost use Rattle.std.specs.Prelude.{◌≡◌, ◌≢◌, ◌⊎◌, ◌≤◌, ◌+◌, ◌*◌, ℕ, Bool, List, length, true, IsTrue, Ok, Err, None, Some};
 ghost use Rattle.hex.specs.Hex.{lower_digits, upper_digits};
 ghost use Rattle.pin_store.specs.declared.layout.TheConstants.{PINS};
 ghost use Rattle.t1_link.specs.Blocks.{Block as BlockValue, heard};
@@ -32,7 +32,7 @@ ghost use Rattle.card_bench.specs.Prints.{IsFirstDesk, PrintsLines};
 ghost use Rattle.card_bench.specs.ScriptWorlds.{PowerOnLaw, LineLaw};
 ghost use Rattle.card_bench.specs.Spellings.{IsOfBytes, SpellingLaw};
 ghost use Rattle.card_bench.specs.TreeMachine.{tree_machine, IsProperState};
-ghost use Rattle.card_bench.specs.Turns.{GoodBlock, GoodTurn, Runs, dark_of, turn_steps};
+ghost use Rattle.card_bench.specs.Turns.{GoodBlock, GoodTurn, Runs, dark_of, run_steps, turn_steps};
 ghost use Rattle.file_tree.specs.Formats.{is_format_2};
 ghost use Rattle.card_core.specs.Finding.{words_found};
 ghost use Rattle.card_bench.specs.WorldLaw.{ResynchLaw, WorldLaw};
@@ -114,20 +114,22 @@ pub fn guesses_add_up()
         → GuessesFew old new }
 {}
 
-/// A board's counts last. A turn takes at most 700 steps of each, and where the memory isn't of format 2 yet at most 3,787, a line
-/// of a script 700,000; where so many are left, no power-on is mute, and power is lost, in a turn or in a block, only where a cut was due; behind a line that prints
-/// dark no cut is set any more. In a script, whose board is new, so many are left behind every line.
+/// A board's counts last. A turn takes at most 700 steps of each, and only a start of a memory that isn't of format 2 yet more,
+/// at most 3,787; turns what each of them takes; and a line of a script 700,000. Where so many are left, no power-on is mute,
+/// and power is lost, in a turn or in a block, only where a cut was due; behind a line that prints dark no cut is set any
+/// more. In a script, whose board is new, so many are left behind every line.
 pub fn counts_last()
     ensures starts { (old new : BenchState) (item : Item) → GoodTurn old On item new → HasLeft 700 (bench_facts old)
         → item ≢ Mute }
     ensures due { (old new : BenchState) (turn : Turn) (item : Item) → GoodTurn old turn item new
-        → HasLeft (turn_steps old) (bench_facts old) → (bench_facts old).due ≡ (bench_facts new).due + dark_of item }
-    ensures steps { (old : BenchState) → (turn_steps old ≤ 3787)
-        × (is_format_2 (words_found (bench_facts old).words) ≡ true → turn_steps old ≡ 700) }
+        → HasLeft (turn_steps old turn) (bench_facts old) → (bench_facts old).due ≡ (bench_facts new).due + dark_of item }
+    ensures steps { (old : BenchState) (turn : Turn) → (turn_steps old turn ≤ 3787)
+        × (turn ≢ On ⊎ (is_format_2 (words_found (bench_facts old).words) ≡ true) → turn_steps old turn ≡ 700) }
     ensures block { (old new : BenchState) (got : List ℕ) (item : Item) → GoodBlock old got item new
         → HasLeft 700 (bench_facts old) → (bench_facts old).due ≡ (bench_facts new).due + dark_of item }
-    ensures turns { (n : ℕ) (old new : BenchState) (turns : List Turn) (trace : List Item) → Runs old turns trace new
-        → HasLeft (n + 3787 * length turns) (bench_facts old) → HasLeft n (bench_facts new) }
+    ensures turns { (n : ℕ) (old new : BenchState) (turns : List Turn) (trace : List Item) → (run : Runs old turns trace new)
+        → (run_steps old turns trace new run ≤ 3787 * length turns)
+        × (HasLeft (n + run_steps old turns trace new run) (bench_facts old) → HasLeft n (bench_facts new)) }
     ensures script { (first last : Desk) (some : List (List ℕ)) (out : List ℕ) → IsFirstDesk first
         → PrintsLines first some last out → length some ≤ 16777217 → HasLeft 700000 (bench_facts last.bench) }
     ensures cut { (order : Order) (old new : Desk) → Performs order old new prints_dark → IsGood old.bench → IsGood new.bench

@@ -1,6 +1,7 @@
 //! The bench: a card behind its end of the link, and the scripts that drive it.
 #![tactic(auto)]
 
+mod came;
 mod desk;
 mod exchange;
 mod factory;

@@ -1,13 +1,14 @@
 //! A bench that plays turns: power on, power off, and blocks straight to the card's end of the link.
-ghost use Rattle.std.specs.Prelude.{◌≡◌, ◌≤◌, ◌↔◌, length, true, IsTrue};
+ghost use Rattle.std.specs.Prelude.{◌≡◌, ◌≤◌, ◌↔◌, ℕ, List, length, true, IsTrue};
 ghost use Rattle.nvm_board.specs.Aims.{due_of};
 ghost use Rattle.card_bench.specs.BenchStates.{off, bench_facts, BenchHasCard, IsOn, IsWell, TellsFree};
 ghost use Rattle.card_bench.specs.BenchViews.{power_state, IsKept};
 ghost use Rattle.card_bench.specs.Guessing.{GuessesFew};
 ghost use Rattle.card_bench.specs.Performing.{IsArmed};
-ghost use Rattle.card_bench.specs.Plays.{Plays, PlaysBlock, HasNoFault, IsGood, IsHeard, powered_item, sent_item};
-ghost use Rattle.card_bench.specs.Turns.{CountsLosses, GoodBlock, GoodTurn, Runs, darks};
+ghost use Rattle.card_bench.specs.Plays.{Plays, PlaysBlock, HasNoFault, IsGood, TellsItem};
+ghost use Rattle.card_bench.specs.Turns.{CountsLosses, GoodTurn, Runs, darks};
 
+use crate::came::Came;
 use crate::powered::Powered;
 use card_core::{FreeSpace, StartFault};
 use core::mem::replace_with;
@@ -55,28 +56,6 @@ impl Item {
             _ => false,
         }
     }
-}
-
-/// How a power-on ended.
-#[derive(Clone, Copy)]
-pub(crate) enum PowerOn {
-    /// The card started.
-    Started,
-    /// The card doesn't start, and power is off.
-    Mute,
-    /// Power was lost in the start.
-    Dark,
-}
-
-/// What a block met.
-#[derive(Clone, Copy)]
-pub(crate) enum Sent {
-    /// The card's end, whose reply stands in the buffer.
-    Reply,
-    /// No card: power is off.
-    Mute,
-    /// The card, and power was lost while it ran a command.
-    Dark,
 }
 
 /// The card's board with power off, or the card.
@@ -140,53 +119,67 @@ impl<B: Socket> Bench<B> {
         ensures runs { BenchHasCard self.old → HasNoFault self.old self.new → Runs self.old turns.now trace.new self.new }
     {
         for i in 0..turns.len() {
-            trace[i] = self.turn(turns[i]);
+            trace[i] = self.item(turns[i]);
         }
     }
 
-    /// Plays a turn.
-    fn turn(&mut self, turn: Turn<'_>) -> Item
+    /// Plays a turn, and keeps what comes of it.
+    fn item(&mut self, turn: Turn<'_>) -> Item
         ensures { Plays self.old turn.entry result self.new }
     {
-        match turn {
-            Turn::On => item_of_power_on(self.turn_on()),
-            Turn::Off => {
-                self.turn_off();
-                Item::Quiet
-            }
-            Turn::Block(block) => {
-                let mut reply = BlockBytes::new();
-                let sent = self.send(block, &mut reply);
-                item_of_sent(sent, reply)
-            }
+        let mut reply = BlockBytes::new();
+        match self.turn(turn, &mut reply) {
+            Came::Nothing => Item::Quiet,
+            Came::Atr => Item::Atr,
+            Came::Mute => Item::Mute,
+            Came::Dark => Item::Dark,
+            Came::Block => Item::Reply(reply),
+            Came::Lost | Came::Answer | Came::Free(_) => unreachable!(),
         }
     }
 
-    /// Power off if it is on, and then a start.
-    pub(crate) fn turn_on(&mut self) -> PowerOn
-        ensures { Plays self.old Turn.On (powered_item result) self.new }
+    /// Plays a turn: every one, of a list or of a line of a script. A block that comes back is put into the buffer,
+    /// whatever that held.
+    #[inline(always)]
+    fn turn(&mut self, turn: Turn<'_>, reply: &mut BlockBytes) -> Came
+        ensures { TellsItem result reply.new (λ item. Plays self.old turn.entry item self.new) }
+    {
+        match turn {
+            Turn::On => self.turn_on(),
+            Turn::Off => {
+                self.turn_off();
+                Came::Nothing
+            }
+            Turn::Block(block) => self.send(block, reply),
+        }
+    }
+
+    /// Power off if it is on, and then a start. No block comes back.
+    fn turn_on(&mut self) -> Came
+        ensures { (reply : List ℕ) → TellsItem result reply (λ item. Plays self.old Turn.On item self.new) }
     {
         replace_with(&mut self.power, (), Power::start)
     }
 
     /// Power off.
-    pub(crate) fn turn_off(&mut self)
+    fn turn_off(&mut self)
         ensures { Plays self.old Turn.Off Item.Quiet self.new }
     {
         replace_with(&mut self.power, (), Power::darken);
     }
 
-    /// A block straight to the card's end. Its reply is put into the buffer, whatever that held.
-    pub(crate) fn send(&mut self, block: &[u8], out: &mut BlockBytes) -> Sent
-        ensures { PlaysBlock self.old block.now (sent_item result out.new) self.new }
+    /// A block straight to the card's end.
+    #[inline(always)]
+    fn send(&mut self, block: &[u8], reply: &mut BlockBytes) -> Came
+        ensures { TellsItem result reply.new (λ item. PlaysBlock self.old block.now item self.new) }
     {
         match &mut self.power {
-            Power::Off(_) => Sent::Mute,
-            Power::On(powered) => match powered.block(block, out) {
-                Ok(()) => Sent::Reply,
+            Power::Off(_) => Came::Mute,
+            Power::On(powered) => match powered.block(block, reply) {
+                Ok(()) => Came::Block,
                 Err(_) => {
                     replace_with(&mut self.power, (), Power::darken);
-                    Sent::Dark
+                    Came::Dark
                 }
             },
         }
@@ -233,17 +226,6 @@ impl<B: Armed> Bench<B> {
 
 impl<B: Armed + Faultless> Bench<B> {
     /// Sets a cut to come at a later write, on a board without faults.
-    pub(crate) fn good_arm(&mut self, k: u32, mask: u16)
-        requires good { IsGood self.old }
-        requires later { 1 ≤ k }
-        ensures good { IsGood self.new }
-        ensures armed { IsArmed k mask self.old self.new }
-    {
-        self.arm(k, mask);
-        self.has_no_fault();
-    }
-
-    /// Sets a cut to come at a later write, on a board without faults.
     pub(crate) fn arm_well(&mut self, k: u32, mask: u16)
         requires { 1 ≤ k }
         ensures good { IsGood self.old → IsGood self.new }
@@ -255,39 +237,6 @@ impl<B: Armed + Faultless> Bench<B> {
 }
 
 impl<B: Socket + Faultless> Bench<B> {
-    /// Power off if it is on, and then a start, on a board without faults.
-    pub(crate) fn good_on(&mut self) -> PowerOn
-        requires { IsGood self.old }
-        ensures good { IsGood self.new }
-        ensures turn { GoodTurn self.old Turn.On (powered_item result) self.new }
-    {
-        let power_on = self.turn_on();
-        self.has_no_fault();
-        power_on
-    }
-
-    /// Power off, on a board without faults.
-    pub(crate) fn good_off(&mut self)
-        requires { IsGood self.old }
-        ensures good { IsGood self.new }
-        ensures turn { GoodTurn self.old Turn.Off Item.Quiet self.new }
-    {
-        self.turn_off();
-        self.has_no_fault();
-    }
-
-    /// A block straight to the card's end (`send`), on a board without faults.
-    pub(crate) fn good_send(&mut self, block: &[u8], out: &mut BlockBytes) -> Sent
-        requires { IsGood self.old }
-        ensures good { IsGood self.new }
-        ensures turn { GoodBlock self.old block.now (sent_item result out.new) self.new }
-        ensures heard { IsOn self.old → IsHeard (sent_item result out.new) self.new }
-    {
-        let sent = self.send(block, out);
-        self.has_no_fault();
-        sent
-    }
-
     /// Plays turns on a board without faults (`play`).
     pub(crate) fn play_well(&mut self, turns: &[Turn<'_>], trace: &mut [Item])
         requires { length turns.now ≡ length trace.old }
@@ -297,22 +246,15 @@ impl<B: Socket + Faultless> Bench<B> {
         self.has_no_fault();
     }
 
-    /// Power off if it is on, and then a start, on a board without faults.
-    pub(crate) fn start_well(&mut self) -> PowerOn
-        ensures { IsGood self.old → IsGood self.new × GoodTurn self.old Turn.On (powered_item result) self.new }
+    /// Plays a turn on a board without faults (`turn`).
+    #[inline(always)]
+    pub(crate) fn turn_well(&mut self, turn: Turn<'_>, reply: &mut BlockBytes) -> Came
+        ensures { IsGood self.old
+            → IsGood self.new × TellsItem result reply.new (λ item. GoodTurn self.old turn.entry item self.new) }
     {
-        let power_on = self.turn_on();
+        let came = self.turn(turn, reply);
         self.has_no_fault();
-        power_on
-    }
-
-    /// A block straight to the card's end (`send`), on a board without faults.
-    pub(crate) fn send_well(&mut self, block: &[u8], out: &mut BlockBytes) -> Sent
-        ensures { IsGood self.old → IsGood self.new × GoodBlock self.old block.now (sent_item result out.new) self.new }
-    {
-        let sent = self.send(block, out);
-        self.has_no_fault();
-        sent
+        came
     }
 
     /// Tells that the board counts no fault, and that a cut is due where one is set.
@@ -349,47 +291,25 @@ impl<B: Socket> Power<B> {
     }
 
     /// Power off if it is on, and then a start.
-    fn start(self, _: ()) -> (Power<B>, PowerOn)
-        ensures plays { Plays (power_state B.facts self) Turn.On (powered_item result.1) (power_state B.facts result.0) }
+    fn start(self, _: ()) -> (Power<B>, Came)
+        ensures plays { (reply : List ℕ) → TellsItem result.1 reply
+            (λ item. Plays (power_state B.facts self) Turn.On item (power_state B.facts result.0)) }
         ensures kept { IsKept B.facts result.0 }
     {
         let mut board = self.into_dark_board();
         let Ok(()) = board.light() else {
-            return (Power::Off(board), PowerOn::Mute);
+            return (Power::Off(board), Came::Mute);
         };
         match Powered::start(board) {
-            Ok(powered) => (Power::On(powered), PowerOn::Started),
+            Ok(powered) => (Power::On(powered), Came::Atr),
             Err((mut board, fault)) => {
                 board.power_off();
-                let power_on = match fault {
-                    StartFault::PowerLost => PowerOn::Dark,
-                    StartFault::Fault | StartFault::BadJournal | StartFault::Damaged =>
-                        PowerOn::Mute,
+                let came = match fault {
+                    StartFault::PowerLost => Came::Dark,
+                    StartFault::Fault | StartFault::BadJournal | StartFault::Damaged => Came::Mute,
                 };
-                (Power::Off(board), power_on)
+                (Power::Off(board), came)
             }
         }
-    }
-}
-
-/// What comes of a power-on.
-fn item_of_power_on(power_on: PowerOn) -> Item
-    ensures { result ≡ powered_item power_on }
-{
-    match power_on {
-        PowerOn::Started => Item::Atr,
-        PowerOn::Mute => Item::Mute,
-        PowerOn::Dark => Item::Dark,
-    }
-}
-
-/// What comes of a block, whose reply stood in a buffer.
-fn item_of_sent(sent: Sent, reply: BlockBytes) -> Item
-    ensures { result ≡ sent_item sent reply }
-{
-    match sent {
-        Sent::Reply => Item::Reply(reply),
-        Sent::Mute => Item::Mute,
-        Sent::Dark => Item::Dark,
     }
 }

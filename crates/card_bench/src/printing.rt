@@ -1,9 +1,8 @@
-//! What a line prints.
-ghost use Rattle.std.specs.Prelude.{◌≡◌, ◌≢◌, ◌≤◌, ℕ, length, take, IfErr, OnErr, OnOk};
+//! How what a line prints is written.
+ghost use Rattle.std.specs.Prelude.{◌≡◌, ◌≤◌, ℕ, length, take, IfErr, OnErr, OnOk};
 ghost use Rattle.std.specs.Io.KnownBytes.{Appends};
-ghost use Rattle.card_bench.specs.Printouts.{print_of, prints_bytes, prints_free, text_of};
+ghost use Rattle.card_bench.specs.Printouts.{prints_bytes, prints_free, text_of};
 
-use crate::desk::PrintKind;
 use crate::fault::RunFault;
 use arrayvec::ArrayVec;
 use card_core::FreeSpace;
@@ -12,7 +11,7 @@ use std::io::Write;
 use t1_link::LONGEST_ANSWER;
 
 /// The answer to reset of the card.
-const ATR: &[u8] = b"atr 3B808131FE458B\n";
+pub(crate) const ATR: &[u8] = b"atr 3B808131FE458B\n";
 
 /// The hexadecimal digits.
 const DIGITS: &[u8; 16] = b"0123456789ABCDEF";
@@ -26,37 +25,8 @@ const PRINTED_ROOM: usize = 2 + 2 * BYTES_ROOM + 1;
 /// Room for the text of bytes. What it holds between lines tells nothing.
 pub(crate) type PrintedText = ArrayVec<u8, PRINTED_ROOM>;
 
-/// Writes what a line prints, and flushes it. The bytes of the card are lent.
-pub(crate) fn print<W: Write>(
-    writer: &mut W,
-    printed: PrintKind,
-    bytes: &[u8],
-    text: &mut PrintedText,
-) -> Result<(), RunFault>
-    requires { length bytes.now ≤ BYTES_ROOM }
-    ensures wrote { OnOk result (Appends (W.contents writer.old) (W.contents writer.new) (text_of (print_of printed bytes.now))) }
-    ensures began { OnErr result ((size : ℕ)
-        × Appends (W.contents writer.old) (W.contents writer.new) (take size (text_of (print_of printed bytes.now)))) }
-    ensures fault { IfErr result (λ fault. fault ≡ RunFault.Write) }
-    // Where there is nothing to write, the writer isn't asked.
-    ensures speaks { OnErr result (printed ≢ PrintKind.Nothing) }
-{
-    match printed {
-        PrintKind::Nothing => Ok(()),
-        PrintKind::Atr => write_line(writer, ATR),
-        PrintKind::Mute => write_line(writer, b"mute\n"),
-        PrintKind::Dark => write_line(writer, b"dark\n"),
-        PrintKind::Lost => write_line(writer, b"lost\n"),
-        PrintKind::Answer | PrintKind::Block => print_bytes(writer, bytes, text),
-        PrintKind::Free(free) => {
-            tell(free, text);
-            write_line(writer, text)
-        }
-    }
-}
-
-/// Writes bytes as hexadecimal digits.
-fn print_bytes<W: Write>(
+/// Writes bytes of the card as hexadecimal digits.
+pub(crate) fn print_bytes<W: Write>(
     writer: &mut W,
     bytes: &[u8],
     text: &mut PrintedText,
@@ -68,6 +38,21 @@ fn print_bytes<W: Write>(
     ensures fault { IfErr result (λ fault. fault ≡ RunFault.Write) }
 {
     spell(bytes, text);
+    write_line(writer, text)
+}
+
+/// Writes what is free.
+pub(crate) fn print_free<W: Write>(
+    writer: &mut W,
+    free: FreeSpace,
+    text: &mut PrintedText,
+) -> Result<(), RunFault>
+    ensures wrote { OnOk result (Appends (W.contents writer.old) (W.contents writer.new) (text_of (prints_free free))) }
+    ensures began { OnErr result ((size : ℕ)
+        × Appends (W.contents writer.old) (W.contents writer.new) (take size (text_of (prints_free free)))) }
+    ensures fault { IfErr result (λ fault. fault ≡ RunFault.Write) }
+{
+    tell(free, text);
     write_line(writer, text)
 }
 
@@ -103,7 +88,7 @@ fn tell(free: FreeSpace, line: &mut PrintedText)
 }
 
 /// Writes a whole line, and flushes it.
-fn write_line<W: Write>(writer: &mut W, line: &[u8]) -> Result<(), RunFault>
+pub(crate) fn write_line<W: Write>(writer: &mut W, line: &[u8]) -> Result<(), RunFault>
     ensures wrote { OnOk result (Appends (W.contents writer.old) (W.contents writer.new) line.now) }
     ensures began { OnErr result ((size : ℕ) × Appends (W.contents writer.old) (W.contents writer.new) (take size line.now)) }
     ensures fault { IfErr result (λ fault. fault ≡ RunFault.Write) }

@@ -7,7 +7,7 @@ use crate::desk::Desk;
 use crate::factory::factory_board;
 use crate::fault::RunFault;
 use crate::order::{GivenBytes, Order};
-use crate::printing::{PrintedText, print};
+use crate::printing::PrintedText;
 use crate::reading::{LineBytes, LineEnd, LineFault, SCRIPT_LIMIT, read_line};
 use nvm_board::CutBoard;
 use std::alloc::Global;
@@ -76,8 +76,8 @@ fn run_lines<R: BufRead, W: Write>(
         let Some(order) = Order::parse(&line, &mut given) else {
             return Err(RunFault::BadLine(number));
         };
-        let printed = desk.perform(order, given.as_slice());
-        let Ok(()) = print(writer, printed, desk.bytes(printed), &mut text) else {
+        desk.perform(order, given.as_slice());
+        let Ok(()) = desk.print(writer, &mut text) else {
             return Err(RunFault::Write);
         };
         match end {

@@ -11,8 +11,9 @@ ghost use Rattle.card_bench.specs.declared.sweeping.Stop.TheVariants.{Memory, Fu
 ghost use Rattle.card_bench.specs.SweptRuns.{SparesCommand, IsOneLook, AreAllBehind, AreOfWrite, AreOfLastWrite, AreAllRuns};
 ghost use Rattle.card_bench.specs.Sweeps.{CutsCommand, CutsStart, SparesStart, EndsIn, EndsBehindStarts, GivenByRun, free_of};
 
+use crate::came::Came;
 use crate::masks::{mask_at, mask_count, words_to_try};
-use crate::playing::{Bench, PowerOn, Sent, Turn};
+use crate::playing::{Bench, Turn};
 use crate::tally::{Sweep, Trace, blank_trace};
 use card_core::FreeSpace;
 use nvm_board::CutBoard;
@@ -156,8 +157,8 @@ fn command_cut(
     let _ = played(alloc, &mut bench, prepare)?;
     bench.arm_well(k, mask);
     let mut reply = BlockBytes::new();
-    let sent = bench.send_well(command, &mut reply);
-    Ok(cut_board(matches!(sent, Sent::Dark), bench.into_board()))
+    let came = bench.turn_well(Turn::Block(command), &mut reply);
+    Ok(cut_board(matches!(came, Came::Dark), bench.into_board()))
 }
 
 /// The board, if power was lost and no cut is to come any more.
@@ -218,8 +219,9 @@ fn start_cut(
 {
     let mut bench = Bench::new(board.copy(alloc)?);
     bench.arm_well(k, mask);
-    let started = bench.start_well();
-    Ok(cut_board(matches!(started, PowerOn::Dark), bench.into_board()))
+    let mut reply = BlockBytes::new();
+    let came = bench.turn_well(Turn::On, &mut reply);
+    Ok(cut_board(matches!(came, Came::Dark), bench.into_board()))
 }
 
 /// Looks at the card by a start that isn't cut and the probe, and counts the run.
@@ -234,7 +236,8 @@ fn look(alloc: Global, board: &CutBoard, probe: &[Turn<'_>], sweep: &mut Sweep) 
         return Err(Stop::Full);
     }
     let mut bench = Bench::new(board.copy(alloc)?);
-    let _ = bench.start_well();
+    let mut reply = BlockBytes::new();
+    let _ = bench.turn_well(Turn::On, &mut reply);
     let free = free_space_of(&bench);
     let trace = played(alloc, &mut bench, probe)?;
     sweep.count(trace, free)?;

@@ -1,11 +1,32 @@
-use Rattle.std.specs.Prelude.{Bool, Err, List, None, Some, ℕ, if◌then◌else◌}
+use Rattle.std.specs.Prelude.{Bool, Err, List, None, Ok, Some, ℕ, if◌then◌else◌}
 use Rattle.std.proofs.Common.{◌∙◌, ap, subst, sym}
-use Rattle.card_bench.specs.Exchanges.{power_lost}
+use Rattle.card_bench.specs.declared.playing.Item.TheVariants as item
+use Rattle.card_bench.specs.declared.playing.Turn.TheVariants as turn
+use Rattle.card_bench.specs.Exchanges.{power_lost, toward_reader}
 use Rattle.card_bench.specs.declared.exchange.Toward.{Toward}
-use Rattle.card_bench.specs.ExchangeViews.{next_block}
+use Rattle.card_bench.specs.ExchangeViews.{ends_of, next_block}
 use Rattle.card_bench.specs.Exchanges.{Passes}
-use Rattle.card_bench.proofs.ExchangeRuns.{cut_there}
+use Rattle.card_bench.specs.Turns.{GoodTurn, TakesBlock}
+use Rattle.card_bench.proofs.ExchangeRuns.{takes_there}
+use Rattle.card_bench.proofs.TurnsTold.{good-block, heard-so, replies-on, tells-so}
 use Rattle.card_bench.proofs.exchange.pass.Goals as goal
+
+pub returns-in-Block-clause-passes : goal.returns-in-Block-clause-passes
+returns-in-Block-clause-passes g c =
+    let put = c.put.new.block in
+    let came = sym c.put.ensures.arrives ∙ ap (λ (b : Bool). if b then Some put else None) c.if-not-put.false
+    ∙ ap (λ (got : List ℕ). Some got) (sym c.deref.ensures.0) in
+    subst (λ (t : Toward). Passes
+    (ends_of c.args.ends.now) (next_block t c.args.ends.now.blocks)
+    (record { bench = c.turn_well.new.self; reader = c.args.ends.now.reader; line = c.put.new.self })
+    (Ok (toward_reader c.turn_well.new.reply)))
+    (sym c.in-Card.is)
+    (takes_there _ _ _ _ _ _ c.deref.result.now (Ok (toward_reader c.turn_well.new.reply)) c.put.ensures.after came
+    (good-block _ _ c.deref.result _ (c.in-Block.ensures c.requires.good).1))
+
+pub returns-in-Block-clause-power : goal.returns-in-Block-clause-power
+returns-in-Block-clause-power g c =
+    replies-on _ _ c.deref.result.now c.turn_well.new.reply c.requires.power (c.in-Block.ensures c.requires.good).1.one
 
 pub returns-in-Dark-clause-passes : goal.returns-in-Dark-clause-passes
 returns-in-Dark-clause-passes g c =
@@ -13,7 +34,17 @@ returns-in-Dark-clause-passes g c =
     let came = sym c.put.ensures.arrives ∙ ap (λ (b : Bool). if b then Some put else None) c.if-not-put.false
     ∙ ap (λ (got : List ℕ). Some got) (sym c.deref.ensures.0) in
     subst (λ (t : Toward). Passes
-    (record { bench = c.args.bench.now; reader = c.args.reader.now; line = c.args.line.now }) (next_block t c.args.blocks.now)
-    (record { bench = c.good_send.new.self; reader = c.args.reader.now; line = c.put.new.self }) (Err power_lost))
+    (ends_of c.args.ends.now) (next_block t c.args.ends.now.blocks)
+    (record { bench = c.turn_well.new.self; reader = c.args.ends.now.reader; line = c.put.new.self }) (Err power_lost))
     (sym c.in-Card.is)
-    (cut_there _ _ _ _ _ _ c.deref.result.now c.put.ensures.after came c.in-Dark.ensures.turn)
+    (takes_there _ _ _ _ _ _ c.deref.result.now (Err power_lost) c.put.ensures.after came
+    (good-block _ _ c.deref.result _ (c.in-Dark.ensures c.requires.good).1))
+
+pub unreachable-unreachable : goal.unreachable-unreachable
+unreachable-unreachable g c =
+    let block = c.turn_well.new.reply in
+    let turned = (c.turn_well.ensures c.requires.good).1 in
+    heard-so c.turn_well.result block c.deref.result.now _ _ c.requires.power
+    (tells-so c.turn_well.result block (λ i. GoodTurn _ (turn.Block c.deref.result) i _)
+    (λ i. TakesBlock _ c.deref.result.now i _) (λ i good. good.one) turned)
+    c.in_default.not-Block c.in_default.not-Dark

@@ -1,5 +1,5 @@
 use Rattle.std.proofs.Common.{◌≡◌, ◌+◌, ◌-◌, suc, arith}
-use Rattle.card_bench.specs.ExchangeViews.{next_block}
+use Rattle.card_bench.specs.ExchangeViews.{ends_of, next_block}
 use Rattle.card_bench.proofs.ExchangeRuns.{begins, ends, gives_up, goes_on}
 use Rattle.card_bench.proofs.exchange.pass_blocks.Goals as goal
 
@@ -24,7 +24,7 @@ loop-preserved g c =
       power = c.in-Continue.ensures.power;
       within = omega arith;
       run = goes_on _ _ _ _ _ _ c.loop.invariant.run
-          (record { bench = c.pass.new.bench; reader = c.pass.new.reader; line = c.pass.new.line }) (next_block c.in-Continue.next c.pass.new.blocks)
+          (ends_of c.pass.new.ends) (next_block c.in-Continue.next c.pass.new.ends.blocks)
           (c.args.limit - (c.loop.counter + 1)) one c.in-Continue.ensures.passes;
     }
 

@@ -1,5 +1,5 @@
 use Rattle.card_bench.proofs.DarkLines.{dark-spends, dark-unsets}
-use Rattle.card_bench.proofs.Wearing.{block-due, due-spent, few-steps, not-mute, runs-last, script-lasts, steps-new}
+use Rattle.card_bench.proofs.Wearing.{block-due, due-spent, few-run, few-steps, not-mute, runs-last, script-lasts, steps-new}
 use Rattle.card_bench.proofs.laws.counts_last.Goals as goal
 
 pub returns-clause-starts : goal.returns-clause-starts
@@ -12,7 +12,8 @@ pub returns-clause-block : goal.returns-clause-block
 returns-clause-block c = block-due
 
 pub returns-clause-turns : goal.returns-clause-turns
-returns-clause-turns c = runs-last
+returns-clause-turns c = λ n old new turns trace run.
+    (few-run old new turns trace run, runs-last n old new turns trace run)
 
 pub returns-clause-script : goal.returns-clause-script
 returns-clause-script c = script-lasts
@@ -24,4 +25,4 @@ pub returns-clause-cut : goal.returns-clause-cut
 returns-clause-cut c = dark-unsets
 
 pub returns-clause-steps : goal.returns-clause-steps
-returns-clause-steps c = λ old. (few-steps old, steps-new old)
+returns-clause-steps c = λ old t. (few-steps old t, steps-new old t)

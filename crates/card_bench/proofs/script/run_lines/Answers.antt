@@ -1,11 +1,9 @@
 use Rattle.std.proofs.Common.{◌≡◌, ◌+◌, ◌-◌, ℕ, List, Some, None, IfSome, Err, take, subst, sym, ◌∙◌, ap, arith}
 use Rattle.std.specs.Io.KnownBytes.{Appends}
 use Rattle.card_bench.specs.declared.reading.LineFault.TheVariants.{Read, TooLong, TooMuch}
-use Rattle.card_bench.specs.DeskViews.{bytes_of}
 use Rattle.card_bench.specs.Endings.{IsRunToLine}
 use Rattle.card_bench.specs.OrderViews.{order_with}
 use Rattle.card_bench.specs.Orders.{order_of}
-use Rattle.card_bench.specs.Printouts.{print_of, text_of}
 use Rattle.card_bench.specs.Scripts.{TakesLine}
 use Rattle.card_bench.proofs.ScriptLines.{begins_run, goes_on, is_done, is_bad, is_too_long, is_unread, is_unwritten, speaks, HasRun}
 use Rattle.card_bench.proofs.SizedOrders.{order_of-in_range}
@@ -61,20 +59,14 @@ returns-in_default-print-clause-stopped g c =
     let good : order_of c.read_line.new.line.items ≡ Some order =
     ap order_of (sym c.deref.ensures.0) ∙ sym c.in-Some.ensures
     ∙ ap (λ (l : List ℕ). Some (order_with c.in-Some.order l)) (sym c.as_slice.ensures) in
-    let printed = c.perform-printed.result in
-    let before = g.W.Write.contents c.loop-number.writer in
-    let after = g.W.Write.contents c.print.new.writer in
-    let bytes = bytes_of printed c.perform-printed.new.self in
-    let began : (size : ℕ) × Appends before after (take size (text_of (print_of printed bytes))) =
-    subst (λ (l : List ℕ). (size : ℕ) × Appends before after (take size (text_of (print_of printed l))))
-    c.bytes.ensures.bytes c.in_default-print.ensures.began in
+    let prints = c.perform.new.self.prints in
     let loud = c.in_default-print.ensures.speaks in
     is_unwritten _ _ _ _ _ _ _ c.in-Ok.end _ _ _ _ _ _ _ c.loop-number.invariant.so_far c.in-Ok.ensures.line
-    c.in-Ok.ensures.counted c.read_line.ensures.taken good c.perform-printed.ensures.performs c.perform-printed.ensures.good
-    (speaks printed bytes loud) began
+    c.in-Ok.ensures.counted c.read_line.ensures.taken good c.perform.ensures.performs c.perform.ensures.good
+    (speaks prints loud) c.in_default-print.ensures.began
 
-pub perform-printed-requires-clause-sized : goal.perform-printed-requires-clause-sized
-perform-printed-requires-clause-sized g c =
+pub perform-requires-clause-sized : goal.perform-requires-clause-sized
+perform-requires-clause-sized g c =
     let order = order_with c.in-Some.order c.as_slice.result.now in
     let good : order_of c.read_line.new.line.items ≡ Some order =
     ap order_of (sym c.deref.ensures.0) ∙ sym c.in-Some.ensures
@@ -89,15 +81,10 @@ returns-in-EndOfScript-clause-done g c =
     ∙ ap (λ (l : List ℕ). Some (order_with c.in-Some.order l)) (sym c.as_slice.ensures) in
     let old = g.R.Read.remaining c.loop-number.reader in
     let new = g.R.Read.remaining c.read_line.new.reader in
-    let printed = c.perform-printed.result in
-    let before = g.W.Write.contents c.loop-number.writer in
-    let after = g.W.Write.contents c.print.new.writer in
-    let bytes = bytes_of printed c.perform-printed.new.self in
-    let wrote : Appends before after (text_of (print_of printed bytes)) =
-    subst (λ (l : List ℕ). Appends before after (text_of (print_of printed l))) c.bytes.ensures.bytes c.in-Ok-print.ensures.wrote in
     is_done _ old new _ _ _ _ _ _ _ _ _ _ _ c.loop-number.invariant.so_far
     (subst (TakesLine old new c.read_line.new.line.items) c.in-EndOfScript.is c.in-Ok.ensures.line)
-    c.in-Ok.ensures.counted c.read_line.ensures.taken good c.perform-printed.ensures.performs c.perform-printed.ensures.good wrote
+    c.in-Ok.ensures.counted c.read_line.ensures.taken good c.perform.ensures.performs c.perform.ensures.good
+    c.in-Ok-print.ensures.wrote
 
 pub loop-number-init : goal.loop-number-init
 loop-number-init g c =
@@ -113,24 +100,19 @@ loop-number-preserved g c =
     let old = g.R.Read.remaining c.loop-number.reader in
     let new = g.R.Read.remaining c.read_line.new.reader in
     let number : (c.loop-number.number - 1) + 1 ≡ c.loop-number.number + 1 - 1 = omega arith in
-    let printed = c.perform-printed.result in
-    let before = g.W.Write.contents c.loop-number.writer in
     let after = g.W.Write.contents c.print.new.writer in
-    let bytes = bytes_of printed c.perform-printed.new.self in
-    let wrote : Appends before after (text_of (print_of printed bytes)) =
-    subst (λ (l : List ℕ). Appends before after (text_of (print_of printed l))) c.bytes.ensures.bytes c.in-Ok-print.ensures.wrote in
     let held = g.W.Write.contents c.args.writer.now in
-    let desk = c.perform-printed.new.self.desk in
+    let desk = c.perform.new.self.desk in
     record {
       taken = c.read_line.ensures.taken;
       turns =
           let fed = c.in-Ok.ensures.fed c.in-LineFeed.is in
           let turns = c.loop-number.invariant.turns in
           omega (arith, fed, turns);
-      good = c.perform-printed.ensures.good;
+      good = c.perform.ensures.good;
       so_far = subst (λ (n : ℕ). HasRun first new n c.read_line.new.taken
           desk held after) number
           (goes_on first old new _ _ _ _ _ _ _ _ _ _ _ c.loop-number.invariant.so_far
           (subst (TakesLine old new c.read_line.new.line.items) c.in-LineFeed.is c.in-Ok.ensures.line)
-          c.in-Ok.ensures.counted good c.perform-printed.ensures.performs c.perform-printed.ensures.good wrote);
+          c.in-Ok.ensures.counted good c.perform.ensures.performs c.perform.ensures.good c.in-Ok-print.ensures.wrote);
     }

@@ -1,12 +1,19 @@
-use Rattle.std.proofs.Common.{◌∙◌, ap, subst, sym}
+use Rattle.std.specs.Prelude.{◌≡◌}
+use Rattle.std.proofs.Common.{subst, sym}
 use Rattle.card_bench.specs.DeskViews.{DeskState}
 use Rattle.card_bench.specs.Performing.{free_shown}
 use Rattle.card_bench.specs.Plays.{IsGood}
-use Rattle.card_bench.proofs.FreeTold.{free-told}
+use Rattle.card_bench.specs.Printouts.{prints_free, prints_mute}
+use Rattle.card_bench.proofs.FreeTold.{free-told, none-told}
 use Rattle.card_bench.proofs.desk.Desk.tell_free.Goals as goal
 
-pub returns : goal.returns
-returns g c = λ held.
+pub returns-in-Some-clause-free : goal.returns-in-Some-clause-free
+returns-in-Some-clause-free g c =
     let good = subst (λ (d : DeskState). IsGood d.desk.bench) (sym c.self.view_is) c.requires.good in
-    c.print_of_free.ensures held ∙ free-told c.self.inside.bench c.free.result good c.free.ensures
-    ∙ ap (λ (d : DeskState). free_shown d.desk.bench) c.self.view_is
+    subst (λ (d : DeskState). prints_free c.in-Some.free ≡ free_shown d.desk.bench) c.self.view_is
+    (free-told c.self.inside.ends.bench c.in-Some.free good c.in-Some.ensures)
+
+pub returns-in-None-clause-free : goal.returns-in-None-clause-free
+returns-in-None-clause-free g c =
+    subst (λ (d : DeskState). prints_mute ≡ free_shown d.desk.bench) c.self.view_is
+    (none-told c.self.inside.ends.bench c.in-None.ensures)

@@ -2,11 +2,11 @@ use Rattle.std.proofs.Common.{ap, refl, subst, sym, ◌∙◌}
 use Rattle.nvm_board.specs.Facts.{Facts}
 use Rattle.card_bench.proofs.FewGuesses.{writing-compares}
 use Rattle.card_bench.proofs.PowerTurns.{starts, stays_mute, ends_dark, ends_mute}
-use Rattle.card_bench.specs.declared.playing.PowerOn.{PowerOn}
+use Rattle.card_bench.specs.declared.came.Came.{Came}
 use Rattle.card_bench.specs.declared.playing.Turn.TheVariants.{On}
 use Rattle.card_bench.specs.BenchStates.{off}
 use Rattle.card_bench.specs.BenchViews.{power_state, CountsEach}
-use Rattle.card_bench.specs.Plays.{Plays, powered_item}
+use Rattle.card_bench.specs.Plays.{Plays, TellsItem}
 use Rattle.card_bench.proofs.playing.Power.start.Goals as goal
 use Rattle.card_bench.proofs.playing.Power.start.Goals.{in-PowerLost, in-Fault}
 
@@ -14,7 +14,7 @@ pub returns-in-Ok-start-clause-plays : goal.returns-in-Ok-start-clause-plays
 returns-in-Ok-start-clause-plays g c =
     let dark = g.B.Board.facts c.into_dark_board-board.result in
     let lit = g.B.Board.facts c.light.new.self in
-    starts (power_state g.B.Board.facts c.args.self) dark c.into_dark_board-board.ensures lit c.in-Ok.ensures.lit
+    λ reply. starts (power_state g.B.Board.facts c.args.self) dark c.into_dark_board-board.ensures lit c.in-Ok.ensures.lit
     (g.met.B.Board.sized c.light.new.self) c.in-Ok-start.powered c.in-Ok-start.ensures.started.0 c.in-Ok-start.ensures.started.1 c.in-Ok-start.ensures.found
     c.in-Ok-start.ensures.writes
 
@@ -30,7 +30,7 @@ returns-in-Ok-start-clause-kept g c =
 pub returns-in_default-clause-plays : goal.returns-in_default-clause-plays
 returns-in_default-clause-plays g c =
     let dark = g.B.Board.facts c.into_dark_board-board.result in
-    stays_mute (power_state g.B.Board.facts c.args.self) dark c.into_dark_board-board.ensures (g.B.Board.facts c.light.new.self)
+    λ reply. stays_mute (power_state g.B.Board.facts c.args.self) dark c.into_dark_board-board.ensures (g.B.Board.facts c.light.new.self)
     (c.in_default.ensures.worn.0 refl) c.in_default.ensures.same
 
 pub returns-in_default-clause-kept : goal.returns-in_default-clause-kept
@@ -48,13 +48,13 @@ returns-after-fault-clause-plays g c =
     let new = g.B.Board.facts c.power_off.new.self in
     let lights = c.in-Ok.ensures.lit in
     let spent = c.in-Err.ensures.writes_err in
-    elim c.match-fault.branch [
+    λ reply. elim c.match-fault.branch [
       | in-PowerLost w ↦
-          subst (λ (p : PowerOn). Plays old On (powered_item p) (off new)) (sym w.power_on-is)
+          subst (λ (told : Came). TellsItem told reply (λ i. Plays old On i (off new))) (sym w.came-is)
           (ends_dark old dark c.into_dark_board-board.ensures lit lights (g.met.B.Board.sized c.light.new.self) stopped new c.in-Err.ensures.found_err c.power_off.ensures
           spent c.in-Err.fault w.in-PowerLost.is c.in-Err.ensures.stopped)
       | in-Fault w ↦
-          subst (λ (p : PowerOn). Plays old On (powered_item p) (off new)) (sym w.power_on-is)
+          subst (λ (told : Came). TellsItem told reply (λ i. Plays old On i (off new))) (sym w.came-is)
           (ends_mute old dark c.into_dark_board-board.ensures lit lights (g.met.B.Board.sized c.light.new.self) stopped new c.in-Err.ensures.found_err c.power_off.ensures
           spent c.in-Err.fault w.in-Fault.is c.in-Err.ensures.stopped)
     ]

@@ -1,0 +1,18 @@
+use Rattle.std.proofs.Common.{◌≡◌, ◌∙◌, ap, false, refl, sym, true≢false}
+use Rattle.card_bench.specs.declared.came.Came.TheVariants as came
+use Rattle.card_bench.specs.Sweeps.{off_with}
+use Rattle.card_bench.proofs.SweepLemmas.{if-none, spares-start}
+use Rattle.card_bench.proofs.sweeping.start_cut.Goals as goal
+use Rattle.card_bench.proofs.sweeping.start_cut.Goals.{in-Dark, in_default}
+
+pub returns-clause-spared : goal.returns-clause-spared
+returns-clause-spared c =
+    let lit : c.match-matches.matches ≡ false → c.turn_well-came.result ≡ came.Dark → ⊥ = elim c.match-matches.branch [
+      | in-Dark w ↦ λ is e. true≢false (sym w.matches-is ∙ is)
+      | in_default w ↦ λ is e. w.in_default.not-Dark e
+    ] in
+    if-none c.cut_board.result _ _
+    (λ spared card. spares-start _ _ _ _ _ _ _ _ _ _ refl refl
+    (c.new-bench.ensures ∙ ap off_with c.in_ok-copy.ensures.facts) c.into_board.ensures lit spared card
+    c.arm_well.ensures.good c.arm_well.ensures.armed c.turn_well-came.ensures)
+    c.cut_board.ensures.spared
