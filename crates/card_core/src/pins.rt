@@ -62,7 +62,7 @@ pub(crate) fn verify<B: Board>(
         current.new [] (reply result) }
 {
     match shown {
-        None => tell_tries(store, pin - 1),
+        None => Ok(tell_tries(store, pin - 1)?),
         Some(shown) => verify_value(store, current, pin, shown),
     }
 }
@@ -100,7 +100,7 @@ pub(crate) fn reset_retry_counter<B: Board>(
         current.old store.new current.new [] (reply result) }
 {
     match values {
-        None => tell_tries(store, PINS + (pin - 1)),
+        None => Ok(tell_tries(store, PINS + (pin - 1))?),
         Some(values) => reset_value(store, current, pin, values),
     }
 }
@@ -180,12 +180,11 @@ fn reset_value<B: Board>(
 }
 
 /// Tells the tries that are left of a secret.
-fn tell_tries<B: Board>(store: &mut Store<B>, secret: u8) -> Result<Sw, Stop>
+fn tell_tries<B: Board>(store: &mut Store<B>, secret: u8) -> Result<Sw, StoreErr>
     requires ready { IsReady store.old }
     requires secret { secret < SECRETS }
     requires pages { ArePinPages (committed store.old) }
     ensures told { IfOk result (λ status. status ≡ tries_told (tries_left secret (pin_in store.old secret))) }
-    ensures unrefused { IfErr result (λ stop. IsSome (failure_of stop)) }
     ensures store { Reads store.old store.new (result_err result) }
 {
     let left = tries(store, secret)?;
@@ -227,7 +226,7 @@ fn check_use<B: Board>(
     requires pages { ArePinPages (committed store.old) }
     ensures refusal { Finds result (λ _. refused_use usable secret (pin_in store.old secret) ≡ None)
         (λ refusal. refused_use usable secret (pin_in store.old secret) ≡ Some refusal) }
-    ensures store { Reads store.old store.new (result_err result) }
+    ensures store { Reads store.old store.new (failure result) }
 {
     if tries(store, secret)? == 0 {
         return Err(Stop::Refused(Sw::METHOD_BLOCKED));
