@@ -22,8 +22,7 @@ use crate::current::{Current, Shown};
 use crate::stop::Stop;
 use apdu_core::{Replacement, RequirementChange, Sw};
 use pin_store::{
-    Charged, Outcome, PINS, change, charge, is_enabled, reset_counter, set_enabled, settle,
-    tries,
+    Charged, Outcome, PINS, change, charge, is_enabled, reset_counter, set_enabled, settle, tries,
 };
 use undo_journal::{Board, Store, StoreErr};
 
@@ -192,11 +191,7 @@ fn tell_tries<B: Board>(store: &mut Store<B>, secret: u8) -> Result<Sw, StoreErr
 }
 
 /// Takes a try of a secret away, or tells what refuses that: none is left; the PIN is disabled, or enabled.
-fn take_try<B: Board>(
-    store: &mut Store<B>,
-    secret: u8,
-    usable: Usable,
-) -> Result<Charged, Stop>
+fn take_try<B: Board>(store: &mut Store<B>, secret: u8, usable: Usable) -> Result<Charged, Stop>
     requires ready { IsReady store.old }
     requires secret { secret < SECRETS }
     requires pages { ArePinPages (committed store.old) }
@@ -216,11 +211,7 @@ fn take_try<B: Board>(
 }
 
 /// What refuses that a secret is shown, before a try is taken away: none is left; the PIN is disabled, or enabled.
-fn check_use<B: Board>(
-    store: &mut Store<B>,
-    secret: u8,
-    usable: Usable,
-) -> Result<(), Stop>
+fn check_use<B: Board>(store: &mut Store<B>, secret: u8, usable: Usable) -> Result<(), Stop>
     requires ready { IsReady store.old }
     requires secret { secret < SECRETS }
     requires pages { ArePinPages (committed store.old) }

@@ -98,9 +98,20 @@ raise-requires g c =
     (agree (committed c.args.store.now) c.requires.kept.ready.usable.committed_size c.requires.kept.card
     c.args.current.now target.Current _ c.in_ok-file.file c.in_ok-file.ensures.found).stands in
     let short = stands.slots.short in
-    let room : ring.record_length ≤ 256 = omega (arith, short) in
-    (lit< tt, (c.in_ok-file.ensures.store.ready, (stands, (short-sent _ _ (sym c.is_too_long.ensures
-    ∙ c.if-is_too_long.false), room))))
+    let room : ring.record_length ≤ 256 = omega (arith, short) in (
+      lit< tt,
+      (
+        c.in_ok-file.ensures.store.ready,
+        (
+          stands,
+          (
+            short-sent _ _ (sym c.is_too_long.ensures
+                ∙ c.if-is_too_long.false),
+            room,
+          ),
+        ),
+      ),
+    )
 
 pub returns-in_err-slot-clause-found : goal.returns-in_err-slot-clause-found
 returns-in_err-slot-clause-found g c =
