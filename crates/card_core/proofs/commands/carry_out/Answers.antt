@@ -1,7 +1,9 @@
-use Rattle.std.proofs.Common.{OnOk, Result, sym, subst}
+use Rattle.std.proofs.Common.{◌≡◌, OnOk, Result, sym, subst}
 use Rattle.card_rules.specs.declared.status.Sw.{Sw}
 use Rattle.undo_journal.specs.declared.error.StoreErr.{StoreErr}
 use Rattle.card_core.specs.Served.{CarriesOut}
+use Rattle.file_tree.specs.Indexes.{IsIndex}
+use Rattle.card_core.specs.Working.{space_in, table_in}
 use Rattle.card_core.proofs.commands.carry_out.Goals as goal
 
 pub returns-clause-carries : goal.returns-clause-carries
@@ -12,8 +14,10 @@ returns-clause-carries g c =
 
 pub returns-clause-space : goal.returns-clause-space
 returns-clause-space g c =
-    subst (λ (r : Result Sw StoreErr). OnOk r _) (sym c.reply.ensures) c.obey.ensures.space
+    subst (λ (r : Result Sw StoreErr). OnOk r (c.obey.new.lent.free ≡ space_in c.obey.new.lent.store)) (sym c.reply.ensures)
+    c.obey.ensures.space
 
 pub returns-clause-index : goal.returns-clause-index
 returns-clause-index g c =
-    subst (λ (r : Result Sw StoreErr). OnOk r _) (sym c.reply.ensures) c.obey.ensures.index
+    subst (λ (r : Result Sw StoreErr). OnOk r (IsIndex (table_in c.obey.new.lent.store) c.obey.new.lent.index))
+    (sym c.reply.ensures) c.obey.ensures.index

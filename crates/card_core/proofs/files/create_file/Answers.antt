@@ -1,4 +1,4 @@
-use Rattle.std.proofs.Common.{[], Ok, refl, sym, subst, arith}
+use Rattle.std.proofs.Common.{[], Ok, refl, sym, ◌∙◌, subst, arith}
 use Rattle.undo_journal.specs.Memory.{committed}
 use Rattle.file_tree.specs.Creations.{TellsCreation}
 use Rattle.file_tree.specs.declared.creating.Creation.{Creation}

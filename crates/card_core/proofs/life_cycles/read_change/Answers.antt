@@ -1,7 +1,7 @@
 use Rattle.undo_journal.specs.Memory.{committed}
 use Rattle.undo_journal.specs.laws.Calls.{reads_then}
 use Rattle.file_tree.specs.laws.Nodes.{used_small}
-use Rattle.std.proofs.Common.{◌≡◌, ◌∙◌, ap}
+use Rattle.std.proofs.Common.{◌≡◌, sym, ◌∙◌, ap}
 use Rattle.card_core.proofs.Readings.{card_still, current_still, used_still}
 use Rattle.card_rules.specs.declared.life_cycle.LifeCycleCommand.{LifeCycleCommand}
 use Rattle.file_tree.specs.States.{next_life}
