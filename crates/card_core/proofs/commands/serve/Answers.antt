@@ -48,23 +48,23 @@ select_file-requires-clause-selector g c = subst IsInRange c.in-Select.is c.requ
 
 pub returns-in_ok-select_file-in-Select-clause-serves : goal.returns-in_ok-select_file-in-Select-clause-serves
 returns-in_ok-select_file-in-Select-clause-serves g c =
-    told _ _ _ _ _ _ _ c.in-Select.is _ c.in_ok-select_file.ensures
+    told _ _ _ _ _ _ _ c.in-Select.is _ c.in_ok-select_file-in-Select.ensures
 
 pub returns-in_err-select_file-in-Select-clause-serves : goal.returns-in_err-select_file-in-Select-clause-serves
 returns-in_err-select_file-in-Select-clause-serves g c =
-    failing _ _ _ _ _ _ c.in-Select.is _ _ _ c.from_residual.ensures.1 c.in_err-select_file.ensures
+    failing _ _ _ _ _ _ c.in-Select.is _ _ _ c.from_residual.ensures.1 c.in_err-select_file-in-Select.ensures
 
 pub returns-in_ok-select_file-in-Select-clause-space : goal.returns-in_ok-select_file-in-Select-clause-space
 unfolding commits
 returns-in_ok-select_file-in-Select-clause-space g c =
-    space_left _ _ _ _ _ _ _ _ c.in_ok-select_file.ensures tt c.requires.whole.space
+    space_left _ _ _ _ _ _ _ _ c.in_ok-select_file-in-Select.ensures tt c.requires.whole.space
 
 pub returns-in_err-select_file-in-Select-clause-space : goal.returns-in_err-select_file-in-Select-clause-space
 returns-in_err-select_file-in-Select-clause-space g c = none-failed _ _ _ c.from_residual.ensures.1
 
 pub returns-in_ok-select_file-in-Select-clause-index : goal.returns-in_ok-select_file-in-Select-clause-index
 returns-in_ok-select_file-in-Select-clause-index g c =
-    index_left _ _ _ _ _ _ _ _ c.in_ok-select_file.ensures refl c.requires.whole.index
+    index_left _ _ _ _ _ _ _ _ c.in_ok-select_file-in-Select.ensures refl c.requires.whole.index
 
 pub returns-in_err-select_file-in-Select-clause-index : goal.returns-in_err-select_file-in-Select-clause-index
 returns-in_err-select_file-in-Select-clause-index g c = none-failed _ _ _ c.from_residual.ensures.1

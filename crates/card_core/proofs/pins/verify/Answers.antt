@@ -11,15 +11,15 @@ pub returns-in_ok-tell_tries-in-None : goal.returns-in_ok-tell_tries-in-None
 returns-in_ok-tell_tries-in-None g c =
     let none = ap (option_map (λ (value : Bor (List ℕ)). value.now)) c.in-None.is in
     subst (λ (shown : Option (List ℕ)). Serves (verify c.args.pin shown) c.args.store.now c.args.current.now
-    c.tell_tries.new.store c.args.current.now [] (Ok c.in_ok-tell_tries.field-0)) (sym none)
+    c.tell_tries.new.store c.args.current.now [] (Ok c.in_ok-tell_tries-in-None.field-0)) (sym none)
     (question-answered _ c.args.pin (c.args.pin - 1) (asks-value c.args.pin c.requires.pin) c.args.store.now
-    c.args.current.now c.requires.kept.card c.requires.kept.current c.tell_tries.new.store (Ok c.in_ok-tell_tries.field-0)
-    c.in_ok-tell_tries.ensures.told c.in_ok-tell_tries.ensures.store)
+    c.args.current.now c.requires.kept.card c.requires.kept.current c.tell_tries.new.store (Ok c.in_ok-tell_tries-in-None.field-0)
+    c.in_ok-tell_tries-in-None.ensures.told c.in_ok-tell_tries-in-None.ensures.store)
 
 pub returns-in_err-tell_tries-in-None : goal.returns-in_err-tell_tries-in-None
 returns-in_err-tell_tries-in-None g c =
     handed (verify c.args.pin _) c.args.store.now c.args.current.now c.tell_tries.new.store c.requires.kept.card
-    c.args.current.now [] _ _ (reply-failed _ _ c.from_residual.ensures.1) c.in_err-tell_tries.ensures.store (omega arith)
+    c.args.current.now [] _ _ (reply-failed _ _ c.from_residual.ensures.1) c.in_err-tell_tries-in-None.ensures.store (omega arith)
 
 pub returns-in-Some : goal.returns-in-Some
 returns-in-Some g c =
