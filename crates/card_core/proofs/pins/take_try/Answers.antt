@@ -17,10 +17,12 @@ use Rattle.card_core.proofs.Stopping.{changes-stopped, finds-stopped}
 use Rattle.card_core.proofs.pins.take_try.Goals as goal
 
 -- what stops a charge: no try is left, or the store failed
-charge-failed : (T : Type 0) (a b : Memory) (e : PinErr) → Changes 1 a b (store_failure {T = T} (Err e))
-    → Changes 1 a b (failure_of (stop_of_pin e))
-charge-failed T a b pin_err.Blocked changes = changes
-charge-failed T a b (pin_err.Store e) changes = changes
+charge-failed : {T : Type 0} (a b : Memory) (told : Result T PinErr) (e : PinErr) → told ≡ Err e
+    → Changes 1 a b (store_failure told) → Changes 1 a b (failure_of (stop_of_pin e))
+charge-failed {T} a b told pin_err.Blocked is changes =
+    subst (λ (r : Result T PinErr). Changes 1 a b (store_failure r)) is changes
+charge-failed {T} a b told (pin_err.Store e) is changes =
+    subst (λ (r : Result T PinErr). Changes 1 a b (store_failure r)) is changes
 
 charge-said : (e : PinErr) (Q : Sw → Type 0) → (e ≡ pin_err.Blocked → Q METHOD_BLOCKED) → IfRefused (stop_of_pin e) Q
 charge-said pin_err.Blocked Q said = said refl
@@ -30,4 +32,4 @@ pub returns-in_err-charge-clause-store : goal.returns-in_err-charge-clause-store
 returns-in_err-charge-clause-store g c =
     changes-stopped _ (stop_of_pin c.in_err-charge.field-0.0) c.from_residual-in_err-charge.ensures.1 1 _ _
     (changes_after 1 _ _ _ _ c.check_use.ensures.store.only
-    (charge-failed _ _ _ c.in_err-charge.field-0.0 c.in_err-charge.ensures.store))
+    (charge-failed _ _ c.charge.result c.in_err-charge.field-0.0 c.in_err-charge.was c.charge.ensures.store))
