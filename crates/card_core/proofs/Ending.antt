@@ -45,7 +45,7 @@ use Rattle.card_core.specs.Standing.{card_of, IsCard}
 use Rattle.card_core.specs.Steps.{effect, refusals_of, served}
 use Rattle.card_core.specs.Working.{card_in, outcome, session_in, session_of, table_in, IsCurrent}
 use Rattle.card_core.proofs.Doing.{doing-one}
-use Rattle.card_core.proofs.Entries.{card-tree, master-path}
+use Rattle.card_core.proofs.Entries.{master-path}
 use Rattle.card_core.proofs.Guarding.{served-done, served-refused}
 use Rattle.card_core.proofs.Serves.{compared-none, reads-compared, torn, written}
 use Rattle.card_core.proofs.Stopping.{err-is}

@@ -1,13 +1,9 @@
-use Rattle.std.proofs.Common.{◌≡◌, ◌⊎◌, ◌<◌, ◌-◌, Bool, List, Option, refl, subst, arith}
-use Rattle.std.specs.Prelude.{IsSome, MatchResult}
-use Rattle.card_rules.specs.declared.status.Sw.{Sw}
-use Rattle.undo_journal.specs.Calls.{OnlyReads}
+use Rattle.std.proofs.Common.{◌≡◌, ◌⊎◌, ◌<◌, ◌-◌, Bool, refl, subst, arith}
 use Rattle.undo_journal.specs.Memory.{committed}
-use Rattle.pin_store.specs.Pins.{Pin, marked_pin}
+use Rattle.pin_store.specs.Pins.{marked_pin}
 use Rattle.pin_store.specs.Trials.{pin_in, EndsByOutcome, SetsByMatch}
 use Rattle.pin_store.specs.laws.Tries.{marked_ends}
-use Rattle.card_core.specs.Outcomes.{Refusal}
-use Rattle.card_core.specs.Pins.{is_enabled_by, marking, unusable_by}
+use Rattle.card_core.specs.Pins.{is_enabled_by}
 use Rattle.card_core.proofs.Attempts.{charge-stopped, end-made, end-torn, kept-by, refused-by, requires_or_not, taken-by}
 use Rattle.card_core.proofs.Stopping.{reply-failed}
 use Rattle.card_core.proofs.pins.change_requirement.Goals as goal

@@ -1,19 +1,14 @@
-use Rattle.std.proofs.Common.{◌≡◌, ◌==◌, ◌∷◌, ℕ, Err, Result, Some, None, refl, sym, ◌∙◌, ap, subst}
-use Rattle.std.specs.Prelude.{IsErrOf}
+use Rattle.std.proofs.Common.{◌≡◌, Err, Result, refl, subst}
 use Rattle.card_rules.specs.declared.status.Sw.{Sw}
 use Rattle.card_rules.specs.declared.status.TheConstants.Sw.{METHOD_BLOCKED}
-use Rattle.undo_journal.specs.declared.error.StoreErr.{StoreErr}
-use Rattle.undo_journal.specs.Calls.{Changes, Reads}
-use Rattle.undo_journal.specs.Memory.{Memory, committed}
-use Rattle.undo_journal.specs.laws.Told.{changes_after, reads_change}
-use Rattle.pin_store.specs.Pins.{tries_left}
-use Rattle.pin_store.specs.Trials.{pin_in, store_failure}
+use Rattle.undo_journal.specs.Calls.{Changes}
+use Rattle.undo_journal.specs.Memory.{Memory}
+use Rattle.undo_journal.specs.laws.Told.{changes_after}
+use Rattle.pin_store.specs.Trials.{store_failure}
 use Rattle.pin_store.specs.declared.errors.PinErr.{PinErr}
 use Rattle.pin_store.specs.declared.errors.PinErr.TheVariants as pin_err
-use Rattle.card_core.specs.declared.stop.Stop.{Stop}
-use Rattle.card_core.specs.declared.stop.Stop.TheVariants.{Refused, Failed}
 use Rattle.card_core.specs.Stops.{failure_of, stop_of_pin, IfRefused}
-use Rattle.card_core.proofs.Stopping.{changes-stopped, finds-stopped}
+use Rattle.card_core.proofs.Stopping.{changes-stopped}
 use Rattle.card_core.proofs.pins.take_try.Goals as goal
 
 -- what stops a charge: no try is left, or the store failed

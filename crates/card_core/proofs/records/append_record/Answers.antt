@@ -1,4 +1,4 @@
-use Rattle.std.proofs.Common.{[], Ok, refl, sym, subst, arith}
+use Rattle.std.proofs.Common.{[], Ok, refl, sym, subst}
 use Rattle.card_rules.specs.declared.status.TheConstants.Sw.{DONE}
 use Rattle.apdu_core.specs.Requests.{append_record}
 use Rattle.card_core.specs.declared.current.Current.{Current}

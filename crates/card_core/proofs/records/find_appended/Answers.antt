@@ -1,10 +1,7 @@
-use Rattle.std.proofs.Common.{◌≡◌, Result, IfOk, sym, ◌∙◌, ap, subst}
-use Rattle.std.specs.Result.{result_err}
-use Rattle.card_rules.specs.declared.status.Sw.{Sw}
-use Rattle.card_core.specs.declared.record_file.Room.{Room}
+use Rattle.std.proofs.Common.{sym, ◌∙◌}
 use Rattle.std.proofs.lemmas.Bool.{eqb-true}
 use Rattle.undo_journal.specs.Memory.{committed}
-use Rattle.card_core.specs.Working.{card_in, ring_room, session_in, wraps_room}
+use Rattle.card_core.specs.Working.{card_in, session_in}
 use Rattle.card_core.proofs.RecordWrites.{append-full, append-other, append-refused, not-full}
 use Rattle.card_core.proofs.Recording.{agree}
 use Rattle.card_core.specs.declared.stop.Stop.TheVariants.{Refused}

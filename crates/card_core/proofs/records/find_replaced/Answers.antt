@@ -1,7 +1,4 @@
-use Rattle.std.proofs.Common.{◌≡◌, Result, IfOk, sym, ◌∙◌, ap, subst}
-use Rattle.std.specs.Result.{result_err}
-use Rattle.card_rules.specs.declared.status.Sw.{Sw}
-use Rattle.ef_body.specs.declared.slot.RecordSlot.{RecordSlot}
+use Rattle.std.proofs.Common.{sym, ◌∙◌, ap}
 use Rattle.ef_body.specs.Refusals.{missing_record}
 use Rattle.card_core.specs.Elementary.{target_kind}
 use Rattle.card_core.specs.Records.{records_of}

@@ -1,7 +1,5 @@
-use Rattle.std.proofs.Common.{◌≡◌, ◌≤◌, lit<, ℕ, List, Result, length, refl, sym, not, ◌==◌, ◌&&◌, ◌∙◌, ap, subst, arith}
-use Rattle.card_rules.specs.declared.status.Sw.{Sw}
+use Rattle.std.proofs.Common.{◌≡◌, ◌≤◌, lit<, ℕ, List, length, refl, sym, not, ◌==◌, ◌&&◌, ◌∙◌, ap, subst, arith}
 use Rattle.card_rules.specs.declared.status.TheConstants.Sw.{DONE}
-use Rattle.undo_journal.specs.declared.error.StoreErr.{StoreErr}
 use Rattle.undo_journal.specs.Memory.{committed}
 use Rattle.undo_journal.specs.laws.Calls.{reads_then}
 use Rattle.undo_journal.specs.laws.Told.{reads_on}
@@ -11,7 +9,6 @@ use Rattle.ef_body.specs.Records.{record_of}
 use Rattle.card_core.specs.declared.current.Current.{Current}
 use Rattle.card_core.specs.Lengths.{right_length}
 use Rattle.card_core.specs.Records.{pointer_after}
-use Rattle.card_core.specs.Served.{Serves}
 use Rattle.card_core.specs.Working.{card_in, chosen_in, outcome, pointer_from, pointing_from, session_in, table_in, IsCurrent}
 use Rattle.card_core.specs.Outcomes.{refused}
 use Rattle.card_core.proofs.RecordBodies.{slot-few}

@@ -1,6 +1,4 @@
-use Rattle.std.proofs.Common.{◌≡◌, ◌≤◌, lit<, ℕ, List, Result, length, sym, ◌∙◌, ap, subst, arith}
-use Rattle.card_rules.specs.declared.status.Sw.{Sw}
-use Rattle.undo_journal.specs.declared.error.StoreErr.{StoreErr}
+use Rattle.std.proofs.Common.{◌≡◌, ◌≤◌, lit<, ℕ, List, length, sym, ◌∙◌, ap, subst, arith}
 use Rattle.undo_journal.specs.Memory.{committed}
 use Rattle.undo_journal.specs.laws.Calls.{reads_then}
 use Rattle.undo_journal.specs.laws.Told.{reads_on}
@@ -11,7 +9,6 @@ use Rattle.card_core.specs.declared.current.Current.{Current}
 use Rattle.card_core.specs.Lengths.{asks_less, given, right_length}
 use Rattle.card_core.specs.Outcomes.{refused}
 use Rattle.card_core.specs.Records.{place_number, pointer_found, search_status, searching}
-use Rattle.card_core.specs.Served.{Serves}
 use Rattle.card_core.specs.Working.{card_in, outcome, pointer_from, pointing_from, session_in, table_in, IsCurrent}
 use Rattle.card_core.proofs.Recording.{chosen-body, chosen-has, current-is, declined-empty, search-less, search-refused, search-whole}
 use Rattle.card_core.proofs.Serves.{answered, halted, handed}

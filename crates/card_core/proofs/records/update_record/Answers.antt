@@ -1,4 +1,4 @@
-use Rattle.std.proofs.Common.{[], Ok, refl, sym, ◌∙◌, ap, subst, arith, if◌then◌else◌, Some, Option, ℕ}
+use Rattle.std.proofs.Common.{[], Ok, refl, sym, ◌∙◌, ap, subst, if◌then◌else◌, Some, Option, ℕ}
 use Rattle.card_rules.specs.declared.status.TheConstants.Sw.{DONE}
 use Rattle.apdu_core.specs.Requests.{update_record}
 use Rattle.card_core.specs.declared.current.Current.{Current}
