@@ -5,7 +5,7 @@ use Rattle.std.proofs.Common.{slice_index, slice_set, Option, Some, None, Ok, Er
 use Rattle.std.proofs.lemmas.Bool.{eq-eqb}
 use Rattle.std.proofs.Math.ListN.{length-set}
 use Rattle.std.specs.Cmp.Lexicographic.{bytes_decides, pointwise}
-use Rattle.std.specs.Prelude.{nat_eq, IfOk, IsSome, MatchResult, Result}
+use Rattle.std.specs.Prelude.{nat_eq, IfOk, IsSome, Result}
 use Rattle.std.specs.Result.{result_err, IsErrAnd}
 use Rattle.std.specs.FinSet.{FinSet}
 use Rattle.std.specs.Ordering.{nat_cmp}
@@ -57,6 +57,9 @@ use Rattle.card_core.proofs.Guarding.{served-done, served-refused}
 use Rattle.card_core.proofs.PinCards.{pin-is, pin-set, pin-stands, pin-table}
 use Rattle.card_core.proofs.Serves.{counts-none, declined, stopped, torn, written}
 use Rattle.card_core.proofs.Stopping.{err-is}
+use Rattle.card_core.specs.declared.stop.Stop.{Stop}
+use Rattle.card_core.specs.declared.stop.Stop.TheVariants.{Refused, Failed}
+use Rattle.card_core.specs.Stops.{failure_of, reply, IfRefused}
 use Rattle.card_core.proofs.Words.{Went, stands-alone, stands-gated, went-reads}
 use Rattle.card_core.proofs.Verified.{marked-with, marked-without}
 
@@ -89,16 +92,19 @@ pub kept-by : (secret : ℕ) (one other : Pin → List Refusal) → one ≡ othe
 kept-by secret one other is was old b kept =
     subst (λ (unusable : Pin → List Refusal). IsSome (refused_with unusable secret was) → OnlyReads old b) is kept
 
-pub taken-by : (secret : ℕ) (one other : Pin → List Refusal) → one ≡ other → (was : Pin) (old b : Memory)
-    (taken : Result ℕ Sw)
-    → MatchResult taken (λ k. (k ≡ secret) × Charges secret old b × (refused_with one secret was ≡ None))
-    (λ refusal. (refused_with one secret was ≡ Some refusal) × IsReady b)
-    → MatchResult taken (λ k. (k ≡ secret) × Charges secret old b × (refused_with other secret was ≡ None))
-    (λ refusal. (refused_with other secret was ≡ Some refusal) × IsReady b)
-taken-by secret one other is was old b taken done =
-    subst (λ (unusable : Pin → List Refusal). MatchResult taken
-    (λ k. (k ≡ secret) × Charges secret old b × (refused_with unusable secret was ≡ None))
-    (λ refusal. (refused_with unusable secret was ≡ Some refusal) × IsReady b)) is done
+pub taken-by : (secret : ℕ) (one other : Pin → List Refusal) → one ≡ other → (was : Pin) (old b : Memory) (k : ℕ)
+    → (k ≡ secret) × Charges secret old b × (refused_with one secret was ≡ None)
+    → (k ≡ secret) × Charges secret old b × (refused_with other secret was ≡ None)
+taken-by secret one other is was old b k taken =
+    subst (λ (unusable : Pin → List Refusal). (k ≡ secret) × Charges secret old b
+    × (refused_with unusable secret was ≡ None)) is taken
+
+pub refused-by : (secret : ℕ) (one other : Pin → List Refusal) → one ≡ other → (was : Pin) (b : Memory) (stop : Stop)
+    → IfRefused stop (λ refusal. (refused_with one secret was ≡ Some refusal) × IsReady b)
+    → IfRefused stop (λ refusal. (refused_with other secret was ≡ Some refusal) × IsReady b)
+refused-by secret one other is was b stop said =
+    subst (λ (unusable : Pin → List Refusal). IfRefused stop (λ refusal. (refused_with unusable secret was ≡ Some refusal)
+    × IsReady b)) is said
 
 -- whether what is shown is right
 right-is : (xs ys : List ℕ) → xs ≡ ys → pointwise nat_eq xs ys ≡ true
@@ -466,46 +472,36 @@ module _ (request : Request) (a : Attempt) (asks : IsAttempt request a) (n : ℕ
     abbrev sized : IsMemory (committed old)
     sized = ready.usable.committed_size
 
-    -- the charge stopped
-    pub charge-torn : (b : Memory) (r : Result Sw StoreErr) (err : StoreErr) → IsErrAnd r (λ f. f ≡ err)
+    -- no try was taken: the attempt is refused, or the charge stopped
+    pub charge-stopped : (b : Memory) (r : Result Sw Stop) (stop : Stop) → IsErrAnd r (λ f. f ≡ stop)
         → (committed b ≡ committed old) ⊎ Charges a.secret old b
         → (IsSome (refused_at a (pin_in old a.secret)) → OnlyReads old b) → ArePinPages (committed b) → Reports old b
-        → b.failed ≡ Some err → WritesAtMost 1 old.facts b.facts → StaysShut old b → Serves request old x b x [] r
-    charge-torn b r err is exit kept pages reports failed spends stays =
-        let once = spends.writes in
-        let writes : b.facts.writes ≤ old.facts.writes + most_writes request = omega (arith, once, most) in
-        subst (λ (result : Result Sw StoreErr). Serves request old x b x [] result) (sym (err-is r err is))
-        (exit-charge request a asks old x sized card current b err exit kept pages reports failed spends stays writes)
-
-    -- no try was taken
-    pub charge-refused : (b : Memory) (taken : Result ℕ Sw) (status : Sw) → taken ≡ Err status
-        → MatchResult taken
-        (λ k. (k ≡ a.secret) × Charges a.secret old b × (refused_at a (pin_in old a.secret) ≡ None))
-        (λ refusal. (refused_at a (pin_in old a.secret) ≡ Some refusal) × IsReady b)
-        → (IsSome (refused_at a (pin_in old a.secret)) → OnlyReads old b)
-        → Serves request old x b x [] (Ok status)
-    charge-refused b taken status is done kept =
-        let told = subst (λ (r : Result ℕ Sw). MatchResult r
-        (λ k. (k ≡ a.secret) × Charges a.secret old b × (refused_at a (pin_in old a.secret) ≡ None))
-        (λ refusal. (refused_at a (pin_in old a.secret) ≡ Some refusal) × IsReady b)) is done in
-        exit-refused request a asks old x sized card current b status told.0
-        (kept (subst (λ (o : Option Sw). IsSome o) (sym told.0) refl)) told.1
+        → b.failed ≡ failure_of stop → WritesAtMost 1 old.facts b.facts → StaysShut old b
+        → IfRefused stop (λ refusal. (refused_at a (pin_in old a.secret) ≡ Some refusal) × IsReady b)
+        → Serves request old x b x [] (reply r)
+    charge-stopped b r stop is exit kept pages reports failed spends stays said =
+        subst (λ (result : Result Sw Stop). Serves request old x b x [] (reply result)) (sym (err-is r stop is))
+        (by stop failed said)
+      where
+        by : (stop : Stop) → b.failed ≡ failure_of stop
+            → IfRefused stop (λ refusal. (refused_at a (pin_in old a.secret) ≡ Some refusal) × IsReady b)
+            → Serves request old x b x [] (reply (Err stop))
+        by (Refused status) failed said =
+            exit-refused request a asks old x sized card current b status said.0
+            (kept (subst (λ (o : Option Sw). IsSome o) (sym said.0) refl)) said.1
+        by (Failed e) failed said =
+            let once = spends.writes in
+            let writes : b.facts.writes ≤ old.facts.writes + most_writes request = omega (arith, once, most) in
+            exit-charge request a asks old x sized card current b e exit kept pages reports failed spends stays writes
 
     -- a try was taken, and then an end came
-    module _ (b e : Memory) (taken : Result ℕ Sw) (k : ℕ) (is : taken ≡ Ok k)
-        (done : MatchResult taken
-        (λ k. (k ≡ a.secret) × Charges a.secret old b × (refused_at a (pin_in old a.secret) ≡ None))
-        (λ refusal. (refused_at a (pin_in old a.secret) ≡ Some refusal) × IsReady b))
+    module _ (b e : Memory) (k : ℕ)
+        (got : (k ≡ a.secret) × Charges a.secret old b × (refused_at a (pin_in old a.secret) ≡ None))
         (pages-b : ArePinPages (committed b)) (costs : WritesAtMost 1 old.facts b.facts) (reports-b : Reports old b)
         (ends : (p : Pin) → IsEnd a.secret p (a.becomes p))
         (exit : (committed e ≡ committed b) ⊎ SetsByMatch k a.shown (a.becomes (pin_in b k)) b e)
         (spends : ComparesOnce n k b.facts e.facts) (pages : ArePinPages (committed e)) (reports : Reports b e)
         (stays : StaysShut old b) (word : EndsByWord a.renews b e) where
-      got : (k ≡ a.secret) × Charges a.secret old b × (refused_at a (pin_in old a.secret) ≡ None)
-      got = subst (λ (r : Result ℕ Sw). MatchResult r
-          (λ k. (k ≡ a.secret) × Charges a.secret old b × (refused_at a (pin_in old a.secret) ≡ None))
-          (λ refusal. (refused_at a (pin_in old a.secret) ≡ Some refusal) × IsReady b)) is done
-
       card-b : IsCard (committed b)
       card-b = exit-card request a asks old x sized card current b got.1.charged.size pages-b
           (charge_keeps_law a.secret a.shown old b (inr got.1) costs)
@@ -528,12 +524,10 @@ module _ (request : Request) (a : Attempt) (asks : IsAttempt request a) (n : ℕ
           (reports_then old b e reports-b reports) stays word writes exit-told err failed)
 
       pub end-made : (end : AttemptEnd) → EndsByOutcome k a.shown (a.becomes (pin_in b k)) b e end → IsReady e
-          → IfOk taken (λ _. b.facts.writes ≡ old.facts.writes + 1)
+          → b.facts.writes ≡ old.facts.writes + 1
           → (y : Current) → y ≡ tried_from x a.pin a.unverifies end → (status : Sw) → status ≡ end_of_attempt end
           → Serves request old x e y [] (Ok status)
-      end-made end ended is-ready counted y at status told =
-          let charge : b.facts.writes ≡ old.facts.writes + 1 =
-          subst (λ (r : Result ℕ Sw). IfOk r (λ _. b.facts.writes ≡ old.facts.writes + 1)) is counted in
+      end-made end ended is-ready charge y at status told =
           let made = exit-done request a asks old x sized card current got.2 b got.1 card-b e n (ends _) costs spends-told pages
           (reports_then old b e reports-b reports) stays word writes exit-told end
           (subst (λ (k : ℕ). EndsByOutcome k a.shown (a.becomes (pin_in b k)) b e end) got.0 ended) is-ready charge in

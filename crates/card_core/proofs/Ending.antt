@@ -1,8 +1,8 @@
 -- The end of the use of a card: what it does to the memory, and what a call that ends it leaves.
 use Rattle.std.proofs.Common.{◌≡◌, ◌≢◌, ◌⊎◌, ◌==◌, ℕ, Bool, true, false, not, List, [], Some, None, refl}
-use Rattle.std.proofs.Common.{Result, Ok, Err, if◌then◌else◌, sym, ◌∙◌, ap, subst, arith, inl, inr, ⊎_elim, true≢false}
+use Rattle.std.proofs.Common.{Result, Ok, if◌then◌else◌, sym, ◌∙◌, ap, subst, arith, inl, inr, ⊎_elim}
 use Rattle.std.proofs.lemmas.List.{get_or-set_other, get_or-set_same, length-set}
-use Rattle.std.specs.Result.{result_err, IsErr}
+use Rattle.std.specs.Result.{IsErrAnd}
 use Rattle.nvm_board.specs.Facts.{address}
 use Rattle.nvm_board.specs.Facts.{IsMemory}
 use Rattle.nvm_board.specs.laws.Sizes.{least_words}
@@ -48,6 +48,7 @@ use Rattle.card_core.proofs.Doing.{doing-one}
 use Rattle.card_core.proofs.Entries.{master-path}
 use Rattle.card_core.proofs.Guarding.{served-done, served-refused}
 use Rattle.card_core.proofs.Serves.{compared-none, reads-compared, torn, written}
+use Rattle.card_core.proofs.Stopping.{err-is}
 use Rattle.card_core.proofs.Words.{Went, went-after}
 
 module _ (m : List ℕ) (sized : IsMemory m) (words : IsCard m) where
@@ -182,11 +183,12 @@ module _ (old mid new : Memory) (ready : IsReady old) (words : IsCard (committed
   all-reports = reports_then old mid new reads.reports reports
 
   -- it stopped, before or after its commit
-  pub end-torn : (result : Result Sw StoreErr) → IsErr result → new.failed ≡ result_err result
-      → Serves terminate_card_usage old x new x [] result
-  end-torn (Err error) stopped failed = torn terminate_card_usage old x new x [] error (inr doing) stands all-reports failed
-      (omega arith) (omega (arith, spends.writes, reads.board.writes)) went compares
-  end-torn (Ok status) stopped failed = absurd (true≢false (sym stopped))
+  pub end-torn : (result : Result Sw StoreErr) (error : StoreErr) → IsErrAnd result (λ f. f ≡ error)
+      → new.failed ≡ Some error → Serves terminate_card_usage old x new x [] result
+  end-torn result error is failed =
+      subst (λ (r : Result Sw StoreErr). Serves terminate_card_usage old x new x [] r) (sym (err-is result error is))
+      (torn terminate_card_usage old x new x [] error (inr doing) stands all-reports failed
+      (omega arith) (omega (arith, spends.writes, reads.board.writes)) went compares)
 
   -- it was made
   module _ (done : committed new ≡ with_card_terminated (committed mid)) where

@@ -1,7 +1,7 @@
 -- What a call that changes a life cycle leaves, where nothing refuses it: first it only reads, and then it writes, or not.
-use Rattle.std.proofs.Common.{refl, ◌≡◌, ◌⊎◌, ℕ, List, [], Some, Result, Ok, Err, sym, ◌∙◌, ap, subst, arith, inl, inr, ⊎_elim, true≢false}
+use Rattle.std.proofs.Common.{refl, ◌≡◌, ◌⊎◌, ℕ, List, [], Some, Result, Ok, sym, ◌∙◌, ap, subst, arith, inl, inr, ⊎_elim}
 use Rattle.std.proofs.lemmas.Bool.{cases_eq}
-use Rattle.std.specs.Result.{result_err, IsErr}
+use Rattle.std.specs.Result.{IsErrAnd}
 use Rattle.nvm_board.specs.Facts.{IsMemory}
 use Rattle.card_rules.specs.LifeCycle.{life_cycle_byte}
 use Rattle.card_rules.specs.declared.status.Sw.{Sw}
@@ -35,6 +35,7 @@ use Rattle.card_core.specs.Working.{card_in, current_at, session_in, space_in, t
 use Rattle.card_core.proofs.Guarding.{served-refused}
 use Rattle.card_core.proofs.Living.{card-is, changed-current, changed-space, changed-stands, changed-step, doing, same-state}
 use Rattle.card_core.proofs.Serves.{compared-none, reads-compared, torn, written}
+use Rattle.card_core.proofs.Stopping.{err-is}
 use Rattle.card_core.proofs.Words.{Went, went-after}
 
 -- a change that is refused
@@ -113,11 +114,12 @@ module _ (old mid new : Memory) (ready : IsReady old) (words : IsCard (committed
   all-reports = reports_then old mid new reads.reports reports
 
   -- a change that stopped, before or after its commit
-  pub change-torn : (result : Result Sw StoreErr) → IsErr result → new.failed ≡ result_err result
-      → Serves request old x new x [] result
-  change-torn (Err error) stopped failed = torn request old x new x [] error stage stands all-reports failed (omega arith)
-      (omega (arith, spends.writes, reads.board.writes)) went compares
-  change-torn (Ok status) stopped failed = absurd (true≢false (sym stopped))
+  pub change-torn : (result : Result Sw StoreErr) (error : StoreErr) → IsErrAnd result (λ f. f ≡ error)
+      → new.failed ≡ Some error → Serves request old x new x [] result
+  change-torn result error is failed =
+      subst (λ (r : Result Sw StoreErr). Serves request old x new x [] r) (sym (err-is result error is))
+      (torn request old x new x [] error stage stands all-reports failed (omega arith)
+      (omega (arith, spends.writes, reads.board.writes)) went compares)
 
   -- a change that was made
   pub change-made : ChangesLife (committed mid) e changed.life after → IsReady new

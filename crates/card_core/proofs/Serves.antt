@@ -26,9 +26,12 @@ use Rattle.card_core.specs.Served.{moves_files, IsDoing, Serves}
 use Rattle.card_core.specs.Spending.{most_writes}
 use Rattle.card_core.specs.Standing.{IsCard, card_of}
 use Rattle.card_core.specs.Steps.{served}
+use Rattle.card_core.specs.declared.stop.Stop.{Stop}
+use Rattle.card_core.specs.declared.stop.Stop.TheVariants.{Refused, Failed}
+use Rattle.card_core.specs.Stops.{failure_of, reply, IfRefused}
 use Rattle.card_core.specs.laws.CompareLaws.{compares-none}
 use Rattle.card_core.specs.Working.{card_in, outcome, session_in, session_of, table_in, IsCurrent}
-use Rattle.card_core.proofs.Stopping.{err-is}
+use Rattle.card_core.proofs.Stopping.{err-is, refused-weaker}
 use Rattle.card_core.proofs.Words.{Went, went-reads}
 
 -- at most so many writes and no comparison
@@ -120,6 +123,36 @@ module _ (request : Request) (old : Memory) (x : Current) (new : Memory) where
       → Serves request old x new x [] (Ok status)
   declined counted card status reads ready current is =
       answered counted card x [] status reads ready current (omega arith) is
+
+  -- What stops a look stops the command: a refusal is its answer, with no data, and only reads were made.
+  pub halted-with : CountsServed (card_in old) (session_in old x) request old.facts new.facts
+      → IsCard (committed old) → IsCurrent (table_in old) x → (text : List ℕ) → length text ≤ 256
+      → (r : Result Sw Stop) (stop : Stop) → IsErrAnd r (λ f. f ≡ stop) → Reads old new (failure_of stop)
+      → IfRefused stop (λ status. (text ≡ [])
+      × (served (card_in old) (session_in old x) request ≡ refused (card_in old) (session_in old x) status))
+      → Serves request old x new x text (reply r)
+  halted-with counted card current text room r stop is reads said =
+      subst (λ (s : Result Sw Stop). Serves request old x new x text (reply s)) (sym (err-is r stop is))
+      (by stop reads said)
+    where
+      by : (stop : Stop) → Reads old new (failure_of stop) → IfRefused stop (λ status. (text ≡ [])
+          × (served (card_in old) (session_in old x) request ≡ refused (card_in old) (session_in old x) status))
+          → Serves request old x new x text (reply (Err stop))
+      by (Refused status) reads said =
+          subst (λ (l : List ℕ). Serves request old x new x l (Ok status)) (sym said.0)
+          (declined counted card status reads.only reads.ready current said.1)
+      by (Failed e) reads said = stopped card x text e reads.only reads.tells room
+
+  pub halted : CountsServed (card_in old) (session_in old x) request old.facts new.facts
+      → IsCard (committed old) → IsCurrent (table_in old) x → (text : List ℕ) → text ≡ []
+      → (r : Result Sw Stop) (stop : Stop) → IsErrAnd r (λ f. f ≡ stop) → Reads old new (failure_of stop)
+      → (P : Sw → Type 0) → ((status : Sw) → P status
+      → served (card_in old) (session_in old x) request ≡ refused (card_in old) (session_in old x) status)
+      → IfRefused stop P → Serves request old x new x text (reply r)
+  halted counted card current text empty r stop is reads P step said =
+      let none : length text ≡ 0 = ap (λ (l : List ℕ). length l) empty in
+      halted-with counted card current text (omega (arith, none)) r stop is reads
+      (refused-weaker stop P _ (λ status due. (empty, step status due)) said)
 
   -- a write that stopped, before or after its commit
   pub torn : (y : Current) (text : List ℕ) (e : StoreErr)

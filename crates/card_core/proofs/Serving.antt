@@ -1,5 +1,5 @@
 -- READ BINARY and UPDATE BINARY by the entry of the file that is named.
-use Rattle.std.proofs.Common.{◌≡◌, ◌⊎◌, ◌<◌, ◌≤◌, ◌+◌, ◌==◌, ℕ, Bool, true, false, List, [], length, length-take, take, drop, Ok, Err}
+use Rattle.std.proofs.Common.{◌≡◌, ◌⊎◌, ◌<◌, ◌≤◌, ◌+◌, ◌==◌, ℕ, Bool, true, false, List, [], length, length-take, take, drop, Result, Ok, Err}
 use Rattle.std.proofs.Common.{Some, None, refl, sym, ◌∙◌, ap, ap₂, subst, arith, if◌then◌else◌, inl, inr, ⊎_elim}
 use Rattle.std.specs.FinMap.{insert}
 use Rattle.nvm_board.specs.Facts.{IsMemory}
@@ -22,7 +22,12 @@ use Rattle.block_chain.specs.Changes.{AppendsSome}
 use Rattle.ef_body.specs.declared.transparent.Transparent.{Transparent}
 use Rattle.ef_body.specs.Bodies.{transparent_bytes, IsTransparent}
 use Rattle.ef_body.specs.Changes.{TransparentBecomes}
-use Rattle.ef_body.specs.Refusals.{overlong, past_end}
+use Rattle.ef_body.specs.Refusals.{failure, overlong, past_end, Decides, IfRefused}
+use Rattle.ef_body.specs.declared.error.BodyErr.{BodyErr}
+use Rattle.ef_body.specs.declared.error.BodyErr.TheVariants as body_err
+use Rattle.std.specs.Result.{IsErrAnd}
+use Rattle.card_core.specs.declared.stop.Stop.{Stop}
+use Rattle.card_core.specs.Stops.{reply, stop_of_body}
 use Rattle.file_tree.specs.declared.entry.Entry.{Entry}
 use Rattle.file_tree.specs.Cards.{Kind, Tree, File, file_at, overwrite, with_bytes}
 use Rattle.file_tree.specs.Cards.{bytes_of as bytes_in}
@@ -59,7 +64,8 @@ use Rattle.card_core.proofs.Doing.{doing-one}
 use Rattle.card_core.proofs.Contents.{transparent-is, content-is, chain-is, fits-chain, response-is}
 use Rattle.card_core.proofs.Entries.{card-tree, there}
 use Rattle.card_core.proofs.Keeping.{files-stand, files-after}
-use Rattle.card_core.proofs.Serves.{compared-none, reads-compared, torn, written}
+use Rattle.card_core.proofs.Serves.{compared-none, declined, reads-compared, torn, written}
+use Rattle.card_core.proofs.Stopping.{err-is}
 use Rattle.card_core.proofs.Words.{Went, went-after}
 
 -- the current files after a command on contents that named the file of an entry
@@ -291,6 +297,25 @@ module _ (old mid : Memory) (ready : IsReady old) (words : IsCard (committed old
         ∙ ap₂ (λ (free : List ℕ) (t : List Entry). record { blocks = length free; entries = free_entries t })
         change.free change.table
         ∙ sym (card_space_is m words ∙ space_counted m sized words.tree)
+
+  -- an update that stops: it is refused where that is due, or the store failed
+  pub found-stopped : IsCurrent (table_in old) x → IsReady mid → (new : Memory)
+      → (committed new ≡ committed mid)
+      ⊎ TransparentBecomes (committed mid) body (overwrite held_now offset bytes) (committed new)
+      → CommitsByGate mid new → Reports mid new → WritesAtMost (most_writes request) mid.facts new.facts
+      → (error : BodyErr) → Decides (overlong held_now offset bytes) (Some error) → IfRefused (Some error) (new ≡ mid)
+      → new.failed ≡ failure (Some error) → (r : Result Sw Stop) → IsErrAnd r (λ f. f ≡ stop_of_body error)
+      → Serves request old x new x [] (reply r)
+  found-stopped current ready_mid new any_exit by_gate reports spends error due kept failed r is =
+      subst (λ (s : Result Sw Stop). Serves request old x new x [] (reply s)) (sym (err-is r (stop_of_body error) is))
+      (by error due kept failed)
+    where
+      by : (error : BodyErr) → Decides (overlong held_now offset bytes) (Some error) → IfRefused (Some error) (new ≡ mid)
+          → new.failed ≡ failure (Some error) → Serves request old x new x [] (reply (Err (stop_of_body error)))
+      by (body_err.Refused status) due kept failed =
+          subst (λ (n : Memory). Serves request old x n x [] (Ok status)) (sym kept)
+          (declined request old x mid (λ _. tt) words status reads ready_mid current (found-update-past status due))
+      by (body_err.Store e) due kept failed = found-torn due new any_exit by_gate reports spends e failed
 
 -- an Le byte asks for at most 256 bytes
 pub asked-most : (expected : ℕ) → expected < 256 → (if expected == 0 then 256 else expected) ≤ 256

@@ -34,6 +34,7 @@ pub mod Proper
 pub mod Working
 pub mod Lending
 pub mod Changing
+pub mod Stops
 pub mod Served
 pub mod FileGuards
 pub mod RecordGuards

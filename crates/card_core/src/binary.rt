@@ -3,17 +3,19 @@ ghost use Rattle.std.specs.Prelude.{◌≡◌, ◌≤◌, ◌==◌, if◌then◌
 ghost use Rattle.apdu_core.specs.Ranges.{IsTarget};
 ghost use Rattle.apdu_core.specs.Requests.{read_binary, update_binary};
 ghost use Rattle.card_core.specs.Served.{Serves};
+ghost use Rattle.card_core.specs.Stops.{reply};
 ghost use Rattle.card_core.specs.Working.{end_status, space_in, IsKept};
 
 use crate::current::Current;
 use crate::named::{Need, Structure, find_file};
+use crate::stop::Stop;
 use apdu_core::{Answer, Sw, Target};
 use block_chain::Chain;
 use card_rules::AccessBit;
 use card_rules::limits::MOST_ANSWER_DATA;
-use ef_body::{BodyErr, Transparent};
+use ef_body::Transparent;
 use file_tree::Entry;
-use undo_journal::{Board, Store, StoreErr};
+use undo_journal::{Board, Store};
 
 /// What READ BINARY needs of its file.
 const READING: Need = Need {
@@ -35,22 +37,15 @@ pub(crate) fn read_file<B: Board>(
     offset: u16,
     expected: u8,
     answer: &mut Answer,
-) -> Result<Sw, StoreErr>
+) -> Result<Sw, Stop>
     requires kept { IsKept store.old current.old }
     requires target { IsTarget target }
     requires empty { answer.old.items ≡ [] }
-    ensures { Serves (read_binary target offset expected) store.old current.old store.new current.new answer.new.items result }
+    ensures { Serves (read_binary target offset expected) store.old current.old store.new current.new answer.new.items (reply result) }
 {
-    let file = match find_file(store, current, target, READING)? {
-        Ok(file) => file,
-        Err(refusal) => return Ok(refusal),
-    };
+    let file = find_file(store, current, target, READING)?;
     let body = body_of(&file.entry);
-    match body.read(store, offset, most_of(expected), answer) {
-        Ok(()) => {}
-        Err(BodyErr::Refused(refusal)) => return Ok(refusal),
-        Err(BodyErr::Store(e)) => return Err(e),
-    }
+    body.read(store, offset, most_of(expected), answer)?;
     *current = current.naming(target, file.number);
     Ok(read_status(answer.len(), expected))
 }
@@ -62,24 +57,17 @@ pub(crate) fn update_file<B: Board>(
     target: Target,
     offset: u16,
     bytes: &[u8],
-) -> Result<Sw, StoreErr>
+) -> Result<Sw, Stop>
     requires kept { IsKept store.old current.old }
     requires target { IsTarget target }
     requires some { 1 ≤ length bytes.now }
     requires few { length bytes.now ≤ 255 }
-    ensures serves { Serves (update_binary target offset bytes.now) store.old current.old store.new current.new [] result }
-    ensures space { OnOk result (space_in store.new ≡ space_in store.old) }
+    ensures serves { Serves (update_binary target offset bytes.now) store.old current.old store.new current.new [] (reply result) }
+    ensures space { OnOk (reply result) (space_in store.new ≡ space_in store.old) }
 {
-    let file = match find_file(store, current, target, UPDATING)? {
-        Ok(file) => file,
-        Err(refusal) => return Ok(refusal),
-    };
+    let file = find_file(store, current, target, UPDATING)?;
     let body = body_of(&file.entry);
-    match body.update(store, offset, bytes) {
-        Ok(()) => {}
-        Err(BodyErr::Refused(refusal)) => return Ok(refusal),
-        Err(BodyErr::Store(e)) => return Err(e),
-    }
+    body.update(store, offset, bytes)?;
     *current = current.naming(target, file.number);
     Ok(Sw::DONE)
 }

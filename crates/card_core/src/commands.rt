@@ -6,6 +6,7 @@ ghost use Rattle.undo_journal.specs.Memory.{IsReady};
 ghost use Rattle.apdu_core.specs.Ranges.{IsInRange};
 ghost use Rattle.apdu_core.specs.Requests.{request_of};
 ghost use Rattle.card_core.specs.Served.{CarriesOut, Serves};
+ghost use Rattle.card_core.specs.Stops.{reply};
 ghost use Rattle.card_core.specs.Lending.{IsWhole};
 ghost use Rattle.card_core.specs.Working.{card_in, space_in, table_in};
 ghost use Rattle.file_tree.specs.Indexes.{IsIndex};
@@ -19,13 +20,14 @@ use crate::life_cycles::{change_life_cycle, terminate_card_usage};
 use crate::pins::{change_reference_data, change_requirement, reset_retry_counter, verify};
 use crate::records::{append_record, read_record, search_record, update_record};
 use crate::select::select_file;
+use crate::stop::{Stop, reply};
 use apdu_core::{Answer, Command, Sw};
 use block_chain::HEADER_PAGE;
 use file_tree::STATE_WORD;
 use undo_journal::{Board, PAGE_WORDS, Store, StoreErr};
 
 /// Carries out the bytes of a command: the data goes into `answer`, free space and index are kept, and the status word
-/// is the result. What the form of the command calls for comes first, and then whether the use of the card has ended.
+/// is the result. A refusal is answered by its status word.
 pub(crate) fn carry_out<B: Board>(
     lent: &mut Lent<B>,
     command: &[u8],
@@ -38,12 +40,22 @@ pub(crate) fn carry_out<B: Board>(
     ensures space { OnOk result (lent.new.free ≡ space_in lent.new.store) }
     ensures index { OnOk result (IsIndex (table_in lent.new.store) lent.new.index) }
 {
-    let command = match Command::parse(command) {
-        Ok(command) => command,
-        Err(refusal) => return Ok(refusal),
-    };
+    reply(obey(lent, command, answer))
+}
+
+/// Carries out the bytes of a command, or is stopped. What the form of the command calls for comes first, and then
+/// whether the use of the card has ended.
+fn obey<B: Board>(lent: &mut Lent<B>, command: &[u8], answer: &mut Answer) -> Result<Sw, Stop>
+    requires whole { IsWhole lent.old }
+    requires empty { answer.old.items ≡ [] }
+    ensures carries { CarriesOut command.now lent.old.store lent.old.current lent.new.store lent.new.current
+        answer.new.items (reply result) }
+    ensures space { OnOk (reply result) (lent.new.free ≡ space_in lent.new.store) }
+    ensures index { OnOk (reply result) (IsIndex (table_in lent.new.store) lent.new.index) }
+{
+    let command = Command::parse(command)?;
     if !is_in_use(&mut lent.store)? {
-        return Ok(Sw::CONDITIONS_NOT_SATISFIED);
+        return Err(Stop::Refused(Sw::CONDITIONS_NOT_SATISFIED));
     }
     serve(lent, command, answer)
 }
@@ -63,14 +75,14 @@ fn serve<B: Board>(
     lent: &mut Lent<B>,
     command: Command<'_>,
     answer: &mut Answer,
-) -> Result<Sw, StoreErr>
+) -> Result<Sw, Stop>
     requires whole { IsWhole lent.old }
     requires empty { answer.old.items ≡ [] }
     requires in_range { IsInRange command }
     ensures serves { Serves (request_of command.entry) lent.old.store lent.old.current lent.new.store lent.new.current
-        answer.new.items result }
-    ensures space { OnOk result (lent.new.free ≡ space_in lent.new.store) }
-    ensures index { OnOk result (IsIndex (table_in lent.new.store) lent.new.index) }
+        answer.new.items (reply result) }
+    ensures space { OnOk (reply result) (lent.new.free ≡ space_in lent.new.store) }
+    ensures index { OnOk (reply result) (IsIndex (table_in lent.new.store) lent.new.index) }
 {
     let Lent {
         store,
@@ -83,7 +95,7 @@ fn serve<B: Board>(
             selector,
             returned,
             expected,
-        } => select_file(store, index, current, selector, returned, expected, answer),
+        } => Ok(select_file(store, index, current, selector, returned, expected, answer)?),
         Command::ReadBinary {
             target,
             offset,

@@ -1,5 +1,5 @@
 //! Commands on files as such: CREATE FILE and DELETE FILE (ISO/IEC 7816-9).
-ghost use Rattle.std.specs.Prelude.{◌≡◌, ◌||◌, [], true, option_map, Some, IfOk, IfSome, OnOk, MatchResult};
+ghost use Rattle.std.specs.Prelude.{◌≡◌, ◌||◌, [], true, option_map, Some, IfOk, IfSome, OnOk};
 ghost use Rattle.std.specs.Result.{result_err};
 ghost use Rattle.undo_journal.specs.Calls.{Reads};
 ghost use Rattle.undo_journal.specs.Memory.{committed};
@@ -14,11 +14,13 @@ ghost use Rattle.card_core.specs.Guards.{allowed};
 ghost use Rattle.card_core.specs.Outcomes.{refused_by};
 ghost use Rattle.card_core.specs.Reaching.{subject_of};
 ghost use Rattle.card_core.specs.Served.{Serves};
+ghost use Rattle.card_core.specs.Stops.{failure, reply, Finds};
 ghost use Rattle.card_core.specs.Working.{card_in, file_refusal, session_in, space_in, table_in, IsKept};
 
 use crate::access::allows;
 use crate::current::Current;
 use crate::named::{Findings, Named};
+use crate::stop::Stop;
 use apdu_core::{Subject, Sw};
 use card_rules::AccessBit;
 use fcp_template::{Fcp, FileKind, parse};
@@ -34,21 +36,18 @@ pub(crate) fn create_file<B: Board>(
     free: &mut FreeSpace,
     index: &mut Index,
     template: &[u8],
-) -> Result<Sw, StoreErr>
+) -> Result<Sw, Stop>
     requires kept { IsKept store.old current.old }
     requires space { free.old ≡ space_in store.old }
     requires index { IsIndex (table_in store.old) index.old }
-    ensures serves { Serves (creation template.now) store.old current.old store.new current.new [] result }
-    ensures space { OnOk result (free.new ≡ space_in store.new) }
-    ensures index { OnOk result (IsIndex (table_in store.new) index.new) }
+    ensures serves { Serves (creation template.now) store.old current.old store.new current.new [] (reply result) }
+    ensures space { OnOk (reply result) (free.new ≡ space_in store.new) }
+    ensures index { OnOk (reply result) (IsIndex (table_in store.new) index.new) }
 {
-    let fcp = match find_new_file(store, current, template)? {
-        Ok(fcp) => fcp,
-        Err(refusal) => return Ok(refusal),
-    };
+    let fcp = find_new_file(store, current, template)?;
     let (number, blocks) = match create(store, index, current.df, &fcp)? {
         Creation::Created { entry, blocks } => (entry, blocks),
-        Creation::Refused(refusal) => return Ok(refusal),
+        Creation::Refused(refusal) => return Err(Stop::Refused(refusal)),
     };
     let entry = read_entry(store, number)?;
     *free = FreeSpace {
@@ -65,25 +64,25 @@ fn find_new_file<'a, B: Board>(
     store: &mut Store<B>,
     current: &Current,
     template: &'a [u8],
-) -> Result<Result<Fcp<'a>, Sw>, StoreErr>
+) -> Result<Fcp<'a>, Stop>
     requires kept { IsKept store.old current.now }
-    ensures found { IfOk result (λ answer. MatchResult answer
+    ensures found { Finds result
         (λ fcp. IsNewFile (committed store.old) current.now template.now fcp)
         (λ refusal. refused_by (create_refusals (card_in store.old) (session_in store.old current.now) template.now)
-        ≡ Some refusal)) }
-    ensures store { Reads store.old store.new (result_err result) }
+        ≡ Some refusal) }
+    ensures store { Reads store.old store.new (failure result) }
 {
     if is_barred(store, current.df)? {
-        return Ok(Err(Sw::CONDITIONS_NOT_SATISFIED));
+        return Err(Stop::Refused(Sw::CONDITIONS_NOT_SATISFIED));
     }
     let Ok(fcp) = parse(template) else {
-        return Ok(Err(Sw::WRONG_DATA));
+        return Err(Stop::Refused(Sw::WRONG_DATA));
     };
     let bit = creation_bit(&fcp.kind);
     if !allows(store, current, current.df, bit)? {
-        return Ok(Err(Sw::ACCESS_DENIED));
+        return Err(Stop::Refused(Sw::ACCESS_DENIED));
     }
-    Ok(Ok(fcp))
+    Ok(fcp)
 }
 
 /// What the rule of a dedicated file must allow for a file of a kind to be created in it.
@@ -105,18 +104,15 @@ pub(crate) fn delete_file<B: Board>(
     free: &mut FreeSpace,
     index: &mut Index,
     subject: Subject,
-) -> Result<Sw, StoreErr>
+) -> Result<Sw, Stop>
     requires kept { IsKept store.old current.old }
     requires space { free.old ≡ space_in store.old }
     requires index { IsIndex (table_in store.old) index.old }
-    ensures serves { Serves (deletion subject) store.old current.old store.new current.new [] result }
-    ensures space { OnOk result (free.new ≡ space_in store.new) }
-    ensures index { OnOk result (IsIndex (table_in store.new) index.new) }
+    ensures serves { Serves (deletion subject) store.old current.old store.new current.new [] (reply result) }
+    ensures space { OnOk (reply result) (free.new ≡ space_in store.new) }
+    ensures index { OnOk (reply result) (IsIndex (table_in store.new) index.new) }
 {
-    let file = match find_deletable(store, index, current, subject)? {
-        Ok(file) => file,
-        Err(refusal) => return Ok(refusal),
-    };
+    let file = find_deletable(store, index, current, subject)?;
     let freed = delete(store, index, file.number)?;
     *free = FreeSpace {
         blocks: free.blocks + freed.blocks,
@@ -139,25 +135,25 @@ fn find_deletable<B: Board>(
     index: &Index,
     current: &Current,
     subject: Subject,
-) -> Result<Result<Named, Sw>, StoreErr>
+) -> Result<Named, Stop>
     requires kept { IsKept store.old current.now }
     requires index { IsIndex (table_in store.old) index.now }
-    ensures found { IfOk result (λ answer. MatchResult answer
+    ensures found { Finds result
         (λ file. IsDeletable (committed store.old) current.now subject file.number file.entry)
         (λ refusal. refused_by (delete_refusals (card_in store.old) (session_in store.old current.now) subject)
-        ≡ Some refusal)) }
-    ensures store { Reads store.old store.new (result_err result) }
+        ≡ Some refusal) }
+    ensures store { Reads store.old store.new (failure result) }
 {
     let Some(number) = find_subject(store, index, current, subject)? else {
-        return Ok(Err(Sw::FILE_NOT_FOUND));
+        return Err(Stop::Refused(Sw::FILE_NOT_FOUND));
     };
     if number == 0 {
-        return Ok(Err(Sw::CONDITIONS_NOT_SATISFIED));
+        return Err(Stop::Refused(Sw::CONDITIONS_NOT_SATISFIED));
     }
     let entry = read_entry(store, number)?;
     match deletion_refusal(store, current, number, entry.parent)? {
-        Some(refusal) => Ok(Err(refusal)),
-        None => Ok(Ok(Named { number, entry })),
+        Some(refusal) => Err(Stop::Refused(refusal)),
+        None => Ok(Named { number, entry }),
     }
 }
 

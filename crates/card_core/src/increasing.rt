@@ -1,16 +1,13 @@
 //! INCREASE (ETSI TS 102 221, 11.1.8).
-ghost use Rattle.std.specs.Prelude.{◌≡◌, ◌≤◌, ◌+◌, ◌++◌, ◌||◌, nat_lt, [], length, Some, IfOk, OnOk, MatchResult};
-ghost use Rattle.std.specs.Result.{result_err};
+ghost use Rattle.std.specs.Prelude.{◌≡◌, ◌≤◌, ◌+◌, ◌++◌, ◌||◌, nat_lt, [], length, Some, OnOk};
 ghost use Rattle.undo_journal.specs.Calls.{Reads};
-ghost use Rattle.undo_journal.specs.Memory.{committed, IsReady};
+ghost use Rattle.undo_journal.specs.Memory.{committed};
 ghost use Rattle.apdu_core.specs.Requests.{increase as increasing};
-ghost use Rattle.ef_body.specs.Bodies.{cyclic_records, IsCyclic};
-ghost use Rattle.ef_body.specs.Numbers.{spelled};
-ghost use Rattle.ef_body.specs.Refusals.{raised_number, unraised};
 ghost use Rattle.card_core.specs.Outcomes.{refused_by};
 ghost use Rattle.card_core.specs.RecordGuards.{IsIncreasable};
 ghost use Rattle.card_core.specs.Served.{Serves};
 ghost use Rattle.card_core.specs.Steps.{refusals_of};
+ghost use Rattle.card_core.specs.Stops.{failure, reply, Finds};
 ghost use Rattle.card_core.specs.Working.{card_in, session_in, space_in, IsKept};
 
 use crate::current::Current;
@@ -18,11 +15,12 @@ use crate::lengths::{ResponseData, asks_less, give, right_length};
 use crate::named::{Need, Structure};
 use crate::record_file::FileRecord;
 use crate::records::find_records;
+use crate::stop::Stop;
 use apdu_core::{Answer, Sw, Target};
 use card_rules::AccessBit;
 use card_rules::limits::MOST_ANSWER_DATA;
-use ef_body::{BodyErr, Cyclic, RecordSlot};
-use undo_journal::{Board, Store, StoreErr};
+use ef_body::Cyclic;
+use undo_journal::{Board, Store};
 
 /// What INCREASE needs of its file.
 const INCREASING: Need = Need {
@@ -38,18 +36,15 @@ pub(crate) fn increase<B: Board>(
     amount: &[u8],
     expected: Option<u8>,
     answer: &mut Answer,
-) -> Result<Sw, StoreErr>
+) -> Result<Sw, Stop>
     requires kept { IsKept store.old current.old }
     requires few { length amount.now ≤ 255 }
     requires empty { answer.old.items ≡ [] }
-    ensures serves { Serves (increasing amount.now expected) store.old current.old store.new current.new answer.new.items result }
-    ensures space { OnOk result (space_in store.new ≡ space_in store.old) }
+    ensures serves { Serves (increasing amount.now expected) store.old current.old store.new current.new answer.new.items (reply result) }
+    ensures space { OnOk (reply result) (space_in store.new ≡ space_in store.old) }
 {
     let mut sum = ResponseData::new();
-    let found = match find_increased(store, current, amount, expected, &mut sum)? {
-        Ok(found) => found,
-        Err(refusal) => return Ok(refusal),
-    };
+    let found = find_increased(store, current, amount, expected, &mut sum)?;
     found.slot.replace_oldest(store, &sum)?;
     give(expected, &answer_of(&sum, amount), answer);
     *current = current.pointing(Target::Current, found.file.number, Some(1));
@@ -65,57 +60,26 @@ fn find_increased<B: Board>(
     amount: &[u8],
     expected: Option<u8>,
     sum: &mut ResponseData,
-) -> Result<Result<FileRecord, Sw>, StoreErr>
+) -> Result<FileRecord, Stop>
     requires kept { IsKept store.old current.now }
     requires few { length amount.now ≤ 255 }
-    ensures found { IfOk result (λ answer. MatchResult answer
+    ensures found { Finds result
         (λ found. IsIncreasable (committed store.old) current.now amount.now expected found.file found.slot
         sum.new.items)
         (λ refusal. refused_by (refusals_of (card_in store.old) (session_in store.old current.now)
-        (increasing amount.now expected)) ≡ Some refusal)) }
-    ensures store { Reads store.old store.new (result_err result) }
+        (increasing amount.now expected)) ≡ Some refusal) }
+    ensures store { Reads store.old store.new (failure result) }
 {
-    let file = match find_records(store, current, Target::Current, INCREASING)? {
-        Ok(file) => file,
-        Err(refusal) => return Ok(Err(refusal)),
-    };
+    let file = find_records(store, current, Target::Current, INCREASING)?;
     if is_too_long(file.ring, amount) {
-        return Ok(Err(Sw::WRONG_LENGTH));
+        return Err(Stop::Refused(Sw::WRONG_LENGTH));
     }
-    let slot = match raise(file.ring, store, amount, sum)? {
-        Ok(slot) => slot,
-        Err(refusal) => return Ok(Err(refusal)),
-    };
+    let slot = file.ring.raise(store, amount, sum)?;
     let response = answer_of(sum, amount);
     if asks_less(expected, &response) {
-        return Ok(Err(right_length(&response)));
+        return Err(Stop::Refused(right_length(&response)));
     }
-    Ok(Ok(FileRecord { file, slot }))
-}
-
-/// Looks for the newest record of a ring, and puts that record raised by the sent number into `sum`, or answers what
-/// refuses it.
-fn raise<B: Board>(
-    ring: Cyclic,
-    store: &mut Store<B>,
-    amount: &[u8],
-    sum: &mut ResponseData,
-) -> Result<Result<RecordSlot, Sw>, StoreErr>
-    requires ready { IsReady store.old }
-    requires body { IsCyclic (committed store.old) ring }
-    requires sent { length amount.now ≤ ring.record_length }
-    ensures ring { IfOk result (λ answer. IfOk answer (λ newest. newest.ring ≡ ring)) }
-    ensures refusal { IfOk result (λ answer. unraised ring.record_length (cyclic_records (committed store.old) ring)
-        amount.now ≡ result_err answer) }
-    ensures bytes { IfOk result (λ answer. OnOk answer (sum.new.items
-        ≡ spelled ring.record_length (raised_number (cyclic_records (committed store.old) ring) amount.now))) }
-    ensures store { Reads store.old store.new (result_err result) }
-{
-    match ring.raise(store, amount, sum) {
-        Ok(newest) => Ok(Ok(newest)),
-        Err(BodyErr::Refused(refusal)) => Ok(Err(refusal)),
-        Err(BodyErr::Store(e)) => Err(e),
-    }
+    Ok(FileRecord { file, slot })
 }
 
 /// What INCREASE answers: the new record, and then what was sent.

@@ -24,6 +24,7 @@ mod record_file;
 mod records;
 mod renewing;
 mod select;
+mod stop;
 mod templates;
 
 pub use apdu_core::Answer;

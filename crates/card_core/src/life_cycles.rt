@@ -1,6 +1,6 @@
 //! Commands on life cycles: ACTIVATE FILE, DEACTIVATE FILE, TERMINATE DF, TERMINATE EF and TERMINATE CARD USAGE
 //! (ISO/IEC 7816-9).
-ghost use Rattle.std.specs.Prelude.{◌≡◌, [], Some, option_map, IfOk, IfSome, OnOk, MatchResult};
+ghost use Rattle.std.specs.Prelude.{◌≡◌, [], Some, option_map, IfOk, IfSome, OnOk, Ok, Err};
 ghost use Rattle.std.specs.Result.{result_err};
 ghost use Rattle.undo_journal.specs.Calls.{Reads};
 ghost use Rattle.undo_journal.specs.Memory.{committed};
@@ -11,10 +11,12 @@ ghost use Rattle.card_core.specs.Changing.{change_at, changed_by, current_change
 ghost use Rattle.card_core.specs.LifeCycles.{change_bit, change_refusals, changed_file, command_of, no_subject};
 ghost use Rattle.card_core.specs.Outcomes.{refused_by};
 ghost use Rattle.card_core.specs.Served.{Serves};
+ghost use Rattle.card_core.specs.Stops.{failure, reply, Finds};
 ghost use Rattle.card_core.specs.Working.{card_in, session_in, space_in, table_in, IsKept};
 
 use crate::access::allows;
 use crate::current::Current;
+use crate::stop::Stop;
 use apdu_core::{LifeCycleChange, Subject, Sw};
 use card_rules::{AccessBit, LifeCycle, LifeCycleCommand};
 use file_tree::{
@@ -39,16 +41,13 @@ pub(crate) fn change_life_cycle<B: Board>(
     current: &mut Current,
     change: LifeCycleChange,
     subject: Subject,
-) -> Result<Sw, StoreErr>
+) -> Result<Sw, Stop>
     requires kept { IsKept store.old current.old }
     requires index { IsIndex (table_in store.old) index.now }
-    ensures serves { Serves (changing change subject) store.old current.old store.new current.new [] result }
-    ensures space { OnOk result (space_in store.new ≡ space_in store.old) }
+    ensures serves { Serves (changing change subject) store.old current.old store.new current.new [] (reply result) }
+    ensures space { OnOk (reply result) (space_in store.new ≡ space_in store.old) }
 {
-    let changed = match find_change(store, index, current, change, subject)? {
-        Ok(changed) => changed,
-        Err(refusal) => return Ok(refusal),
-    };
+    let changed = find_change(store, index, current, change, subject)?;
     set_life_cycle(store, changed.number, changed.life)?;
     *current = current.at(changed.number, &changed.entry);
     Ok(Sw::DONE)
@@ -59,12 +58,12 @@ pub(crate) fn change_life_cycle<B: Board>(
 pub(crate) fn terminate_card_usage<B: Board>(
     store: &mut Store<B>,
     current: &Current,
-) -> Result<Sw, StoreErr>
+) -> Result<Sw, Stop>
     requires kept { IsKept store.old current.now }
-    ensures { Serves (terminating) store.old current.now store.new current.now [] result }
+    ensures { Serves (terminating) store.old current.now store.new current.now [] (reply result) }
 {
     if !allows(store, current, 0, AccessBit::Terminate)? {
-        return Ok(Sw::ACCESS_DENIED);
+        return Err(Stop::Refused(Sw::ACCESS_DENIED));
     }
     terminate_card(store)?;
     Ok(Sw::DONE)
@@ -80,17 +79,17 @@ fn find_change<B: Board>(
     current: &Current,
     change: LifeCycleChange,
     subject: Subject,
-) -> Result<Result<Changed, Sw>, StoreErr>
+) -> Result<Changed, Stop>
     requires kept { IsKept store.old current.now }
     requires index { IsIndex (table_in store.old) index.now }
-    ensures found { IfOk result (λ answer. MatchResult answer
+    ensures found { Finds result
         (λ changed. IsChanged (committed store.old) current.now change subject changed)
         (λ refusal. refused_by (change_refusals (card_in store.old) (session_in store.old current.now) change subject)
-        ≡ Some refusal)) }
-    ensures store { Reads store.old store.new (result_err result) }
+        ≡ Some refusal) }
+    ensures store { Reads store.old store.new (failure result) }
 {
     let Some(number) = find_changed(store, index, current, change, subject)? else {
-        return Ok(Err(no_subject(subject)));
+        return Err(Stop::Refused(no_subject(subject)));
     };
     read_change(store, current, change, number)
 }
@@ -103,16 +102,17 @@ fn read_change<B: Board>(
     current: &Current,
     change: LifeCycleChange,
     number: u8,
-) -> Result<Result<Changed, Sw>, StoreErr>
+) -> Result<Changed, Stop>
     requires kept { IsKept store.old current.now }
     requires used { IsUsed (table_in store.old) number }
-    ensures found { IfOk result (λ answer. answer ≡ change_at (committed store.old) current.now change number) }
-    ensures store { Reads store.old store.new (result_err result) }
+    ensures found { Finds result (λ changed. change_at (committed store.old) current.now change number ≡ Ok changed)
+        (λ refusal. change_at (committed store.old) current.now change number ≡ Err refusal) }
+    ensures store { Reads store.old store.new (failure result) }
 {
     let next = next_life_cycle(store, number, command_of(change))?;
     let allowed = allows(store, current, number, bit_of(change))?;
     let entry = read_entry(store, number)?;
-    Ok(changed_by(change, number, entry, next, allowed))
+    Ok(changed_by(change, number, entry, next, allowed)?)
 }
 
 /// The change, or what refuses it: no state after it; a file of another kind; a rule that doesn't allow it.

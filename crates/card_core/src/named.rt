@@ -1,5 +1,5 @@
 //! The elementary file whose contents a command is for (ISO/IEC 7816-4, 7.3.1), and what refuses the command by that file.
-ghost use Rattle.std.specs.Prelude.{◌≡◌, Some, option_map, IfOk, IfSome, MatchResult};
+ghost use Rattle.std.specs.Prelude.{◌≡◌, Some, option_map, IfOk, IfSome};
 ghost use Rattle.std.specs.Result.{result_err};
 ghost use Rattle.undo_journal.specs.Calls.{Reads};
 ghost use Rattle.undo_journal.specs.Memory.{committed};
@@ -10,10 +10,12 @@ ghost use Rattle.card_core.specs.Elementary.{file_refusals, missing as missing_s
 ghost use Rattle.card_core.specs.Guards.{allowed};
 ghost use Rattle.card_core.specs.Outcomes.{refused_by};
 ghost use Rattle.card_core.specs.Reaching.{target_of};
+ghost use Rattle.card_core.specs.Stops.{failure, Finds};
 ghost use Rattle.card_core.specs.Working.{card_in, file_refusal, fits, fits_kind, session_in, table_in, IsElementary, IsKept, IsNamed};
 
 use crate::access::allows_at;
 use crate::current::Current;
+use crate::stop::Stop;
 use apdu_core::{Sw, Target};
 use card_rules::AccessBit;
 use file_tree::{Entry, find_short, is_barred_at, kinds, read_entry};
@@ -54,22 +56,22 @@ pub(crate) fn find_file<B: Board>(
     current: &Current,
     target: Target,
     need: Need,
-) -> Result<Result<Named, Sw>, StoreErr>
+) -> Result<Named, Stop>
     requires kept { IsKept store.old current.now }
     requires target { IsTarget target }
-    ensures found { IfOk result (λ answer. MatchResult answer
+    ensures found { Finds result
         (λ file. IsNamed (committed store.old) current.now target need file.number file.entry)
         (λ refusal. refused_by (file_refusals (card_in store.old) (session_in store.old current.now) target
-        (fits need.structure) need.bit) ≡ Some refusal)) }
-    ensures store { Reads store.old store.new (result_err result) }
+        (fits need.structure) need.bit) ≡ Some refusal) }
+    ensures store { Reads store.old store.new (failure result) }
 {
     let Some(number) = find_target(store, current, target)? else {
-        return Ok(Err(missing(target)));
+        return Err(Stop::Refused(missing(target)));
     };
     let entry = read_entry(store, number)?;
     match refusal_of(store, current, number, &entry, need)? {
-        Some(refusal) => Ok(Err(refusal)),
-        None => Ok(Ok(Named { number, entry })),
+        Some(refusal) => Err(Stop::Refused(refusal)),
+        None => Ok(Named { number, entry }),
     }
 }
 

@@ -1,6 +1,6 @@
 //! Commands on PINs: VERIFY, CHANGE REFERENCE DATA, RESET RETRY COUNTER, DISABLE and ENABLE VERIFICATION REQUIREMENT (ISO/IEC
 //! 7816-4, 11.5 and 11.6). A try is taken away, lastingly, before anything is compared.
-ghost use Rattle.std.specs.Prelude.{◌≡◌, ◌⊎◌, ◌<◌, ◌+◌, [], Some, option_map, IfOk, IsSome, MatchResult};
+ghost use Rattle.std.specs.Prelude.{◌≡◌, ◌⊎◌, ◌<◌, ◌+◌, [], Some, option_map, IfOk, OnOk, IsSome};
 ghost use Rattle.std.specs.Result.{result_err};
 ghost use Rattle.nvm_board.specs.declared.board.TheConstants.{SECRETS};
 ghost use Rattle.undo_journal.specs.Commits.{StaysShut};
@@ -15,13 +15,14 @@ ghost use Rattle.pin_store.specs.Trials.{pin_in, Charges};
 ghost use Rattle.card_core.specs.Outcomes.{first_applying};
 ghost use Rattle.card_core.specs.Pins.{is_enabled_by, tries_told, unusable_by};
 ghost use Rattle.card_core.specs.Served.{Serves};
+ghost use Rattle.card_core.specs.Stops.{failure, reply, Finds};
 ghost use Rattle.card_core.specs.Working.{end_of_attempt, refused_use, use_refusals, IsKept};
 
 use crate::current::{Current, Shown};
+use crate::stop::Stop;
 use apdu_core::{Replacement, RequirementChange, Sw};
 use pin_store::{
-    Charged, Outcome, PINS, PinErr, change, charge, is_enabled, reset_counter, set_enabled, settle,
-    tries,
+    Charged, Outcome, PINS, change, charge, is_enabled, reset_counter, set_enabled, settle, tries,
 };
 use undo_journal::{Board, Store, StoreErr};
 
@@ -34,14 +35,14 @@ enum Usable {
 }
 
 impl Usable {
-    /// What refuses the command by whether the PIN is enabled.
-    fn refusal(self, enabled: bool) -> Option<Sw>
-        ensures { (pin : Pin) → pin.enabled ≡ enabled → result ≡ first_applying (use_refusals self pin) }
+    /// Refuses the command by whether the PIN is enabled.
+    fn check(self, enabled: bool) -> Result<(), Sw>
+        ensures { (pin : Pin) → pin.enabled ≡ enabled → result_err result ≡ first_applying (use_refusals self pin) }
     {
         match self {
-            Usable::WhileEnabled if !enabled => Some(Sw::REFERENCE_DATA_NOT_USABLE),
-            Usable::WhileDisabled if enabled => Some(Sw::CONDITIONS_NOT_SATISFIED),
-            _ => None,
+            Usable::WhileEnabled if !enabled => Err(Sw::REFERENCE_DATA_NOT_USABLE),
+            Usable::WhileDisabled if enabled => Err(Sw::CONDITIONS_NOT_SATISFIED),
+            _ => Ok(()),
         }
     }
 }
@@ -53,14 +54,14 @@ pub(crate) fn verify<B: Board>(
     current: &mut Current,
     pin: u8,
     shown: Option<&[u8; 8]>,
-) -> Result<Sw, StoreErr>
+) -> Result<Sw, Stop>
     requires kept { IsKept store.old current.old }
     requires pin { IsPinNumber pin }
     ensures { Serves (verifying pin (option_map (λ value. value.now) shown.entry)) store.old current.old store.new
-        current.new [] result }
+        current.new [] (reply result) }
 {
     match shown {
-        None => tell_tries(store, pin - 1),
+        None => Ok(tell_tries(store, pin - 1)?),
         Some(shown) => verify_value(store, current, pin, shown),
     }
 }
@@ -72,16 +73,13 @@ pub(crate) fn change_reference_data<B: Board>(
     current: &mut Current,
     pin: u8,
     values: Replacement<'_>,
-) -> Result<Sw, StoreErr>
+) -> Result<Sw, Stop>
     requires kept { IsKept store.old current.old }
     requires pin { IsPinNumber pin }
     ensures { Serves (changing pin values.entry.shown.now values.entry.new.now) store.old current.old store.new current.new []
-        result }
+        (reply result) }
 {
-    let charged = match take_try(store, pin - 1, Usable::WhileEnabled)? {
-        Ok(charged) => charged,
-        Err(refusal) => return Ok(refusal),
-    };
+    let charged = take_try(store, pin - 1, Usable::WhileEnabled)?;
     let outcome = change(store, charged, values.shown, values.new)?;
     *current = current.after_attempt(pin, Shown::Value, outcome);
     Ok(status_of(outcome))
@@ -94,14 +92,14 @@ pub(crate) fn reset_retry_counter<B: Board>(
     current: &mut Current,
     pin: u8,
     values: Option<Replacement<'_>>,
-) -> Result<Sw, StoreErr>
+) -> Result<Sw, Stop>
     requires kept { IsKept store.old current.old }
     requires pin { IsPinNumber pin }
     ensures { Serves (resetting pin (option_map (λ values. (values.shown.now, values.new.now)) values.entry)) store.old
-        current.old store.new current.new [] result }
+        current.old store.new current.new [] (reply result) }
 {
     match values {
-        None => tell_tries(store, PINS + (pin - 1)),
+        None => Ok(tell_tries(store, PINS + (pin - 1))?),
         Some(values) => reset_value(store, current, pin, values),
     }
 }
@@ -114,15 +112,12 @@ pub(crate) fn change_requirement<B: Board>(
     change: RequirementChange,
     pin: u8,
     shown: &[u8; 8],
-) -> Result<Sw, StoreErr>
+) -> Result<Sw, Stop>
     requires kept { IsKept store.old current.old }
     requires pin { IsPinNumber pin }
-    ensures { Serves (requiring change pin shown.now) store.old current.old store.new current.new [] result }
+    ensures { Serves (requiring change pin shown.now) store.old current.old store.new current.new [] (reply result) }
 {
-    let charged = match take_try(store, pin - 1, usable_by(change))? {
-        Ok(charged) => charged,
-        Err(refusal) => return Ok(refusal),
-    };
+    let charged = take_try(store, pin - 1, usable_by(change))?;
     let outcome = set_enabled(store, charged, shown, is_enabled_by(change))?;
     *current = current.after_attempt(pin, Shown::Value, outcome);
     Ok(status_of(outcome))
@@ -154,15 +149,12 @@ fn verify_value<B: Board>(
     current: &mut Current,
     pin: u8,
     shown: &[u8; 8],
-) -> Result<Sw, StoreErr>
+) -> Result<Sw, Stop>
     requires kept { IsKept store.old current.old }
     requires pin { IsPinNumber pin }
-    ensures { Serves (verifying pin (Some shown.now)) store.old current.old store.new current.new [] result }
+    ensures { Serves (verifying pin (Some shown.now)) store.old current.old store.new current.new [] (reply result) }
 {
-    let charged = match take_try(store, pin - 1, Usable::WhileEnabled)? {
-        Ok(charged) => charged,
-        Err(refusal) => return Ok(refusal),
-    };
+    let charged = take_try(store, pin - 1, Usable::WhileEnabled)?;
     let outcome = settle(store, charged, shown)?;
     *current = current.after_attempt(pin, Shown::Value, outcome);
     Ok(status_of(outcome))
@@ -174,16 +166,13 @@ fn reset_value<B: Board>(
     current: &mut Current,
     pin: u8,
     values: Replacement<'_>,
-) -> Result<Sw, StoreErr>
+) -> Result<Sw, Stop>
     requires kept { IsKept store.old current.old }
     requires pin { IsPinNumber pin }
     ensures { Serves (resetting pin (Some (values.entry.shown.now, values.entry.new.now))) store.old current.old store.new
-        current.new [] result }
+        current.new [] (reply result) }
 {
-    let charged = match take_try(store, PINS + (pin - 1), Usable::InAnyCase)? {
-        Ok(charged) => charged,
-        Err(refusal) => return Ok(refusal),
-    };
+    let charged = take_try(store, PINS + (pin - 1), Usable::InAnyCase)?;
     let outcome = reset_counter(store, charged, values.shown, values.new)?;
     *current = current.after_attempt(pin, Shown::UnblockingValue, outcome);
     Ok(status_of(outcome))
@@ -202,52 +191,40 @@ fn tell_tries<B: Board>(store: &mut Store<B>, secret: u8) -> Result<Sw, StoreErr
 }
 
 /// Takes a try of a secret away, or tells what refuses that: none is left; the PIN is disabled, or enabled.
-fn take_try<B: Board>(
-    store: &mut Store<B>,
-    secret: u8,
-    usable: Usable,
-) -> Result<Result<Charged, Sw>, StoreErr>
+fn take_try<B: Board>(store: &mut Store<B>, secret: u8, usable: Usable) -> Result<Charged, Stop>
     requires ready { IsReady store.old }
     requires secret { secret < SECRETS }
     requires pages { ArePinPages (committed store.old) }
     ensures any_exit { (committed store.new ≡ committed store.old) ⊎ Charges secret store.old store.new }
-    ensures done { IfOk result (λ taken. MatchResult taken
+    ensures done { Finds result
         (λ charged. (charged ≡ secret) × Charges secret store.old store.new
         × (refused_use usable secret (pin_in store.old secret) ≡ None))
-        (λ refusal. (refused_use usable secret (pin_in store.old secret) ≡ Some refusal) × IsReady store.new)) }
+        (λ refusal. (refused_use usable secret (pin_in store.old secret) ≡ Some refusal) × IsReady store.new) }
     ensures kept { IsSome (refused_use usable secret (pin_in store.old secret)) → OnlyReads store.old store.new }
     ensures pages { ArePinPages (committed store.new) }
     ensures shut { StaysShut store.old store.new }
-    ensures store { Changes 1 store.old store.new (result_err result) }
-    ensures counted { IfOk result (λ taken. IfOk taken (λ _. store.new.facts.writes ≡ store.old.facts.writes + 1)) }
+    ensures store { Changes 1 store.old store.new (failure result) }
+    ensures counted { OnOk result (store.new.facts.writes ≡ store.old.facts.writes + 1) }
 {
-    if let Some(refusal) = refusal_of(store, secret, usable)? {
-        return Ok(Err(refusal));
-    }
-    match charge(store, secret) {
-        Ok(charged) => Ok(Ok(charged)),
-        Err(PinErr::Blocked) => Ok(Err(Sw::METHOD_BLOCKED)),
-        Err(PinErr::Store(error)) => Err(error),
-    }
+    check_use(store, secret, usable)?;
+    Ok(charge(store, secret)?)
 }
 
 /// What refuses that a secret is shown, before a try is taken away: none is left; the PIN is disabled, or enabled.
-fn refusal_of<B: Board>(
-    store: &mut Store<B>,
-    secret: u8,
-    usable: Usable,
-) -> Result<Option<Sw>, StoreErr>
+fn check_use<B: Board>(store: &mut Store<B>, secret: u8, usable: Usable) -> Result<(), Stop>
     requires ready { IsReady store.old }
     requires secret { secret < SECRETS }
     requires pages { ArePinPages (committed store.old) }
-    ensures refusal { IfOk result (λ refusal. refusal ≡ refused_use usable secret (pin_in store.old secret)) }
-    ensures store { Reads store.old store.new (result_err result) }
+    ensures refusal { Finds result (λ _. refused_use usable secret (pin_in store.old secret) ≡ None)
+        (λ refusal. refused_use usable secret (pin_in store.old secret) ≡ Some refusal) }
+    ensures store { Reads store.old store.new (failure result) }
 {
     if tries(store, secret)? == 0 {
-        return Ok(Some(Sw::METHOD_BLOCKED));
+        return Err(Stop::Refused(Sw::METHOD_BLOCKED));
     }
     let enabled = is_enabled(store, secret)?;
-    Ok(usable.refusal(enabled))
+    usable.check(enabled)?;
+    Ok(())
 }
 
 /// The status word that tells so many tries.

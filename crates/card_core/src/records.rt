@@ -1,6 +1,5 @@
 //! READ, UPDATE, APPEND and SEARCH RECORD (ISO/IEC 7816-4, 11.4).
-ghost use Rattle.std.specs.Prelude.{◌≡◌, ◌≢◌, ◌≤◌, ◌==◌, ◌&&◌, not, [], length, Some, IfOk, OnOk, MatchResult};
-ghost use Rattle.std.specs.Result.{result_err};
+ghost use Rattle.std.specs.Prelude.{◌≡◌, ◌≢◌, ◌≤◌, ◌==◌, ◌&&◌, not, [], length, Some, OnOk};
 ghost use Rattle.undo_journal.specs.Calls.{Reads};
 ghost use Rattle.undo_journal.specs.Memory.{committed};
 ghost use Rattle.apdu_core.specs.Ranges.{IsTarget};
@@ -12,6 +11,7 @@ ghost use Rattle.card_core.specs.Elementary.{file_refusals};
 ghost use Rattle.card_core.specs.RecordGuards.{choice_refusals, IsAppendable, IsChosen, IsReplaceable};
 ghost use Rattle.card_core.specs.Served.{Serves};
 ghost use Rattle.card_core.specs.Steps.{refusals_of};
+ghost use Rattle.card_core.specs.Stops.{failure, reply, Finds};
 ghost use Rattle.card_core.specs.Working.{card_in, fits, session_in, space_in, structure_replaced, IsKept, IsRecordFile};
 ghost use Rattle.card_core.specs.Records.{pointer_found, search_status, searching as searching_way};
 
@@ -19,10 +19,11 @@ use crate::current::Current;
 use crate::lengths::{ResponseData, asks_less, give, right_length};
 use crate::named::{Need, Structure, find_file};
 use crate::record_file::{FileRecord, RecordFile, Room, pointer_after};
+use crate::stop::Stop;
 use apdu_core::{Answer, Direction as Way, RecordChoice, RecordPlace, Sw, Target};
 use card_rules::AccessBit;
 use ef_body::Direction;
-use undo_journal::{Board, Store, StoreErr};
+use undo_journal::{Board, Store};
 
 /// What READ RECORD and SEARCH RECORD need of their file.
 const READING: Need = Need {
@@ -74,21 +75,18 @@ pub(crate) fn find_records<B: Board>(
     current: &Current,
     target: Target,
     need: Need,
-) -> Result<Result<RecordFile, Sw>, StoreErr>
+) -> Result<RecordFile, Stop>
     requires kept { IsKept store.old current.now }
     requires target { IsTarget target }
     requires records { need.structure ≢ Structure.Bytes }
-    ensures found { IfOk result (λ answer. MatchResult answer
+    ensures found { Finds result
         (IsRecordFile (committed store.old) current.now target need)
         (λ refusal. refused_by (file_refusals (card_in store.old) (session_in store.old current.now) target
-        (fits need.structure) need.bit) ≡ Some refusal)) }
-    ensures store { Reads store.old store.new (result_err result) }
+        (fits need.structure) need.bit) ≡ Some refusal) }
+    ensures store { Reads store.old store.new (failure result) }
 {
-    let file = match find_file(store, current, target, need)? {
-        Ok(file) => file,
-        Err(refusal) => return Ok(Err(refusal)),
-    };
-    Ok(Ok(RecordFile::of(file.number, &file.entry)))
+    let file = find_file(store, current, target, need)?;
+    Ok(RecordFile::of(file.number, &file.entry))
 }
 
 /// The record that READ RECORD reads, or SEARCH RECORD begins with, or else the refusal: by the file; there is no such
@@ -98,24 +96,19 @@ fn find_record<B: Board>(
     current: &Current,
     target: Target,
     choice: RecordChoice,
-) -> Result<Result<FileRecord, Sw>, StoreErr>
+) -> Result<FileRecord, Stop>
     requires kept { IsKept store.old current.now }
     requires target { IsTarget target }
-    ensures found { IfOk result (λ answer. MatchResult answer
+    ensures found { Finds result
         (λ found. IsChosen (committed store.old) current.now target choice found.file found.slot)
         (λ refusal. refused_by (choice_refusals (card_in store.old) (session_in store.old current.now) target choice)
-        ≡ Some refusal)) }
-    ensures store { Reads store.old store.new (result_err result) }
+        ≡ Some refusal) }
+    ensures store { Reads store.old store.new (failure result) }
 {
-    let file = match find_records(store, current, target, READING)? {
-        Ok(file) => file,
-        Err(refusal) => return Ok(Err(refusal)),
-    };
+    let file = find_records(store, current, target, READING)?;
     let number = file.chosen(current.pointer_at(target), choice);
-    match file.ring.find(number) {
-        Ok(slot) => Ok(Ok(FileRecord { file, slot })),
-        Err(refusal) => Ok(Err(refusal)),
-    }
+    let slot = file.ring.find(number)?;
+    Ok(FileRecord { file, slot })
 }
 
 /// READ RECORD: the record goes into `answer`, and the status word is the result. Le is 00 or the length of a record.
@@ -126,20 +119,17 @@ pub(crate) fn read_record<B: Board>(
     choice: RecordChoice,
     expected: u8,
     answer: &mut Answer,
-) -> Result<Sw, StoreErr>
+) -> Result<Sw, Stop>
     requires kept { IsKept store.old current.old }
     requires target { IsTarget target }
     requires empty { answer.old.items ≡ [] }
-    ensures { Serves (reading target choice expected) store.old current.old store.new current.new answer.new.items result }
+    ensures { Serves (reading target choice expected) store.old current.old store.new current.new answer.new.items (reply result) }
 {
-    let found = match find_record(store, current, target, choice)? {
-        Ok(found) => found,
-        Err(refusal) => return Ok(refusal),
-    };
+    let found = find_record(store, current, target, choice)?;
     let mut bytes = ResponseData::new();
     found.slot.read(store, &mut bytes)?;
     if is_other_length(expected, &bytes) {
-        return Ok(right_length(&bytes));
+        return Err(Stop::Refused(right_length(&bytes)));
     }
     give(Some(expected), &bytes, answer);
     let pointer = pointer_after(current.pointer_at(target), choice, found.slot.number);
@@ -155,18 +145,15 @@ pub(crate) fn update_record<B: Board>(
     target: Target,
     choice: RecordChoice,
     bytes: &[u8],
-) -> Result<Sw, StoreErr>
+) -> Result<Sw, Stop>
     requires kept { IsKept store.old current.old }
     requires target { IsTarget target }
     requires some { 1 ≤ length bytes.now }
     requires few { length bytes.now ≤ 255 }
-    ensures serves { Serves (updating target choice bytes.now) store.old current.old store.new current.new [] result }
-    ensures space { OnOk result (space_in store.new ≡ space_in store.old) }
+    ensures serves { Serves (updating target choice bytes.now) store.old current.old store.new current.new [] (reply result) }
+    ensures space { OnOk (reply result) (space_in store.new ≡ space_in store.old) }
 {
-    let replaced = match find_replaced(store, current, target, choice, bytes)? {
-        Ok(replaced) => replaced,
-        Err(refusal) => return Ok(refusal),
-    };
+    let replaced = find_replaced(store, current, target, choice, bytes)?;
     replaced.replace(store, bytes)?;
     let file = replaced.file;
     let pointer = current.pointer_at(target);
@@ -183,29 +170,23 @@ fn find_replaced<B: Board>(
     target: Target,
     choice: RecordChoice,
     bytes: &[u8],
-) -> Result<Result<FileRecord, Sw>, StoreErr>
+) -> Result<FileRecord, Stop>
     requires kept { IsKept store.old current.now }
     requires target { IsTarget target }
-    ensures found { IfOk result (λ answer. MatchResult answer
+    ensures found { Finds result
         (λ replaced. IsReplaceable (committed store.old) current.now target choice bytes.now replaced.file
         replaced.slot)
         (λ refusal. refused_by (refusals_of (card_in store.old) (session_in store.old current.now)
-        (updating target choice bytes.now)) ≡ Some refusal)) }
-    ensures store { Reads store.old store.new (result_err result) }
+        (updating target choice bytes.now)) ≡ Some refusal) }
+    ensures store { Reads store.old store.new (failure result) }
 {
-    let file = match find_records(store, current, target, replacing(choice))? {
-        Ok(file) => file,
-        Err(refusal) => return Ok(Err(refusal)),
-    };
+    let file = find_records(store, current, target, replacing(choice))?;
     let number = file.replaced(current.pointer_at(target), choice);
-    let slot = match file.ring.find(number) {
-        Ok(slot) => slot,
-        Err(refusal) => return Ok(Err(refusal)),
-    };
+    let slot = file.ring.find(number)?;
     if !file.takes(bytes) {
-        return Ok(Err(Sw::WRONG_LENGTH));
+        return Err(Stop::Refused(Sw::WRONG_LENGTH));
     }
-    Ok(Ok(FileRecord { file, slot }))
+    Ok(FileRecord { file, slot })
 }
 
 /// APPEND RECORD: the bytes are a new record, the last of a linear file, the first of a cyclic one, in one transaction.
@@ -215,18 +196,15 @@ pub(crate) fn append_record<B: Board>(
     current: &mut Current,
     target: Target,
     bytes: &[u8],
-) -> Result<Sw, StoreErr>
+) -> Result<Sw, Stop>
     requires kept { IsKept store.old current.old }
     requires target { IsTarget target }
     requires some { 1 ≤ length bytes.now }
     requires few { length bytes.now ≤ 255 }
-    ensures serves { Serves (appending target bytes.now) store.old current.old store.new current.new [] result }
-    ensures space { OnOk result (space_in store.new ≡ space_in store.old) }
+    ensures serves { Serves (appending target bytes.now) store.old current.old store.new current.new [] (reply result) }
+    ensures space { OnOk (reply result) (space_in store.new ≡ space_in store.old) }
 {
-    let growing = match find_appended(store, current, target, bytes)? {
-        Ok(growing) => growing,
-        Err(refusal) => return Ok(refusal),
-    };
+    let growing = find_appended(store, current, target, bytes)?;
     growing.room.fill(store, bytes)?;
     let file = growing.file;
     *current = current.pointing(target, file.number, Some(file.added()));
@@ -240,27 +218,21 @@ fn find_appended<B: Board>(
     current: &Current,
     target: Target,
     bytes: &[u8],
-) -> Result<Result<Growing, Sw>, StoreErr>
+) -> Result<Growing, Stop>
     requires kept { IsKept store.old current.now }
     requires target { IsTarget target }
-    ensures found { IfOk result (λ answer. MatchResult answer
+    ensures found { Finds result
         (λ growing. IsAppendable (committed store.old) current.now target bytes.now growing.file growing.room)
         (λ refusal. refused_by (refusals_of (card_in store.old) (session_in store.old current.now)
-        (appending target bytes.now)) ≡ Some refusal)) }
-    ensures store { Reads store.old store.new (result_err result) }
+        (appending target bytes.now)) ≡ Some refusal) }
+    ensures store { Reads store.old store.new (failure result) }
 {
-    let file = match find_records(store, current, target, APPENDING)? {
-        Ok(file) => file,
-        Err(refusal) => return Ok(Err(refusal)),
-    };
-    let room = match file.find_room() {
-        Ok(room) => room,
-        Err(refusal) => return Ok(Err(refusal)),
-    };
+    let file = find_records(store, current, target, APPENDING)?;
+    let room = file.find_room()?;
     if !file.takes(bytes) {
-        return Ok(Err(Sw::WRONG_LENGTH));
+        return Err(Stop::Refused(Sw::WRONG_LENGTH));
     }
-    Ok(Ok(Growing { file, room }))
+    Ok(Growing { file, room })
 }
 
 /// SEARCH RECORD: the numbers of the records that hold the text go into `answer`, and the first of them becomes the
@@ -274,22 +246,19 @@ pub(crate) fn search_record<B: Board>(
     text: &[u8],
     expected: Option<u8>,
     answer: &mut Answer,
-) -> Result<Sw, StoreErr>
+) -> Result<Sw, Stop>
     requires kept { IsKept store.old current.old }
     requires target { IsTarget target }
     requires few { length text.now ≤ 255 }
     requires empty { answer.old.items ≡ [] }
-    ensures { Serves (searching target first direction text.now expected) store.old current.old store.new current.new answer.new.items result }
+    ensures { Serves (searching target first direction text.now expected) store.old current.old store.new current.new answer.new.items (reply result) }
 {
-    let found = match find_record(store, current, target, RecordChoice::At(first))? {
-        Ok(found) => found,
-        Err(refusal) => return Ok(refusal),
-    };
+    let found = find_record(store, current, target, RecordChoice::At(first))?;
     let way = way_of(direction);
     let mut numbers = ResponseData::new();
     found.slot.search(store, way, text, &mut numbers)?;
     if asks_less(expected, &numbers) {
-        return Ok(right_length(&numbers));
+        return Err(Stop::Refused(right_length(&numbers)));
     }
     give(expected, &numbers, answer);
     let pointer = first_of(&numbers, current.pointer_at(target));

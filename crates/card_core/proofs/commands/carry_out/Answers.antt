@@ -1,77 +1,23 @@
-use Rattle.std.proofs.Common.{◌∙◌, List, ℕ, Ok, Err, sym, subst, Result}
+use Rattle.std.proofs.Common.{◌≡◌, OnOk, Result, sym, subst}
 use Rattle.card_rules.specs.declared.status.Sw.{Sw}
 use Rattle.undo_journal.specs.declared.error.StoreErr.{StoreErr}
-use Rattle.card_rules.specs.declared.status.TheConstants.Sw.{CONDITIONS_NOT_SATISFIED}
-use Rattle.apdu_core.specs.Requests.{request_of}
 use Rattle.card_core.specs.Served.{CarriesOut}
-use Rattle.card_core.proofs.Carrying.{carried, failed-reading, serves-after, use-ended, refused-by-form}
-use Rattle.card_core.proofs.Readings.{index_still, kept_still}
-use Rattle.card_core.proofs.SpaceKept.{space-same}
-use Rattle.card_core.proofs.Stopping.{err-is, none-done}
-use Rattle.undo_journal.specs.laws.Calls.{reads_same}
+use Rattle.file_tree.specs.Indexes.{IsIndex}
+use Rattle.card_core.specs.Working.{space_in, table_in}
 use Rattle.card_core.proofs.commands.carry_out.Goals as goal
-
-pub returns-in_err-is_in_use-clause-carries : goal.returns-in_err-is_in_use-clause-carries
-returns-in_err-is_in_use-clause-carries g c =
-    let old = c.args.lent.now.store in
-    let x = c.args.lent.now.current in
-    let new = c.is_in_use.new.store in
-    let bytes = c.args.command.now in
-    subst (λ (r : Result Sw StoreErr). CarriesOut bytes old x new x c.args.answer.now.items r) (sym (err-is _ _
-    c.from_residual.ensures.1))
-    (subst (λ (text : List ℕ). CarriesOut bytes old x new x text (Err c.in_err-is_in_use.field-0.0)) (sym c.requires.empty)
-    (failed-reading bytes old new x c.requires.whole.kept x c.in_err-is_in_use.field-0.0
-    c.in_err-is_in_use.ensures.store.only c.in_err-is_in_use.ensures.store.tells))
-
-pub returns-then-not-branch-clause-carries : goal.returns-then-not-branch-clause-carries
-returns-then-not-branch-clause-carries g c =
-    let old = c.args.lent.now.store in
-    let x = c.args.lent.now.current in
-    let new = c.is_in_use.new.store in
-    let bytes = c.args.command.now in
-    let ended = sym c.in_ok-is_in_use.ensures.in_use ∙ c.if-not-branch.true in
-    subst (λ (text : List ℕ). CarriesOut bytes old x new x text (Ok CONDITIONS_NOT_SATISFIED)) (sym c.requires.empty)
-    (use-ended bytes old new x c.requires.whole.kept (request_of c.in-Ok.command) c.in-Ok.ensures.asked ended
-    c.in_ok-is_in_use.ensures.store.only c.in_ok-is_in_use.ensures.store.ready)
 
 pub returns-clause-carries : goal.returns-clause-carries
 returns-clause-carries g c =
-    let old = c.args.lent.now.store in
-    let x = c.args.lent.now.current in
-    let request = request_of c.in-Ok.command in
-    let in_use = sym c.in_ok-is_in_use.ensures.in_use ∙ c.if-not-branch.false in
-    carried c.args.command.now old c.serve.new.lent.store x c.serve.new.lent.current c.serve.new.answer.items c.serve.result request
-    c.in-Ok.ensures.asked in_use
-    (serves-after request old c.is_in_use.new.store c.serve.new.lent.store x c.serve.new.lent.current c.serve.new.answer.items
-    c.serve.result c.in_ok-is_in_use.ensures.store.only c.serve.ensures.serves)
+    let new = c.obey.new.lent in
+    subst (λ (r : Result Sw StoreErr). CarriesOut c.args.command.now c.args.lent.now.store c.args.lent.now.current new.store
+    new.current c.obey.new.answer.items r) (sym c.reply.ensures) c.obey.ensures.carries
 
-pub returns-in_err-is_in_use-clause-space : goal.returns-in_err-is_in_use-clause-space
-returns-in_err-is_in_use-clause-space g c = none-done _ _ _ c.from_residual.ensures.1
+pub returns-clause-space : goal.returns-clause-space
+returns-clause-space g c =
+    subst (λ (r : Result Sw StoreErr). OnOk r (c.obey.new.lent.free ≡ space_in c.obey.new.lent.store)) (sym c.reply.ensures)
+    c.obey.ensures.space
 
-pub returns-in-Err-clause-carries : goal.returns-in-Err-clause-carries
-returns-in-Err-clause-carries g c =
-    let old = c.args.lent.now.store in
-    let x = c.args.lent.now.current in
-    let bytes = c.args.command.now in
-    subst (λ (text : List ℕ). CarriesOut bytes old x old x text (Ok c.in-Err.refusal)) (sym c.requires.empty)
-    (refused-by-form bytes old old x c.requires.whole.kept c.in-Err.refusal c.in-Err.ensures.asked
-    (reads_same old) c.requires.whole.kept.ready)
-
-pub serve-requires-clause-whole : goal.serve-requires-clause-whole
-serve-requires-clause-whole g c =
-    let old = c.args.lent.now.store in
-    let new = c.is_in_use.new.store in
-    let reads = c.is_in_use.ensures.store.only in
-    record {
-      kept = kept_still old new c.args.lent.now.current reads c.in_ok-is_in_use.ensures.store.ready c.requires.whole.kept;
-      space = c.requires.whole.space ∙ sym (space-same old new reads.keeps.committed_words);
-      index = index_still old new c.args.lent.now.index reads c.requires.whole.index;
-    }
-
-pub returns-in_err-is_in_use-clause-index : goal.returns-in_err-is_in_use-clause-index
-returns-in_err-is_in_use-clause-index g c = none-done _ _ _ c.from_residual.ensures.1
-
-pub returns-then-not-branch-clause-index : goal.returns-then-not-branch-clause-index
-returns-then-not-branch-clause-index g c =
-    index_still c.args.lent.now.store c.is_in_use.new.store c.args.lent.now.index c.is_in_use.ensures.store.only
-    c.requires.whole.index
+pub returns-clause-index : goal.returns-clause-index
+returns-clause-index g c =
+    subst (λ (r : Result Sw StoreErr). OnOk r (IsIndex (table_in c.obey.new.lent.store) c.obey.new.lent.index))
+    (sym c.reply.ensures) c.obey.ensures.index

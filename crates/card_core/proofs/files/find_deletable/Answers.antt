@@ -11,7 +11,9 @@ use Rattle.card_core.specs.Working.{session_of}
 use Rattle.card_core.proofs.Deletions.{deletable, deletion_verdict, file-verdict}
 use Rattle.card_core.proofs.FileSteps.{delete-master}
 use Rattle.card_core.proofs.Readings.{kept_still, used_still}
-use Rattle.undo_journal.specs.laws.Told.{reads_on, reads_handed}
+use Rattle.undo_journal.specs.laws.Told.{reads_on}
+use Rattle.card_core.specs.declared.stop.Stop.TheVariants.{Failed}
+use Rattle.card_core.proofs.Stopping.{reads-stopped}
 use Rattle.card_core.proofs.files.find_deletable.Goals as goal
 
 pub returns-then-number-eq0-clause-found : goal.returns-then-number-eq0-clause-found
@@ -31,7 +33,7 @@ read_entry-requires-clause-within g c =
 
 pub returns-in_err-refusal-clause-store : goal.returns-in_err-refusal-clause-store
 returns-in_err-refusal-clause-store g c =
-    reads_handed _ _ _ _ c.from_residual-in_err-refusal.ensures.1
+    reads-stopped _ (Failed c.in_err-refusal.field-0.0) c.from_residual-in_err-refusal.ensures.1 _ _
     (reads_on _ _ _ _ (reads_then _ _ _ c.find_subject.ensures.store.only c.read_entry.ensures.store.only) c.in_err-refusal.ensures.store)
 
 pub returns-in-Some-2-clause-store : goal.returns-in-Some-2-clause-store
@@ -96,7 +98,7 @@ returns-in-None-clause-found g c =
 
 pub returns-in_err-entry-clause-store : goal.returns-in_err-entry-clause-store
 returns-in_err-entry-clause-store g c =
-    reads_handed _ _ _ _ c.from_residual-in_err-entry.ensures.1
+    reads-stopped _ (Failed c.in_err-entry.field-0.0) c.from_residual-in_err-entry.ensures.1 _ _
     (reads_on _ _ _ _ c.find_subject.ensures.store.only c.in_err-entry.ensures.store)
 
 pub deletion_refusal-requires-clause-kept : goal.deletion_refusal-requires-clause-kept

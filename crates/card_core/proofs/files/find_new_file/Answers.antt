@@ -1,12 +1,14 @@
 use Rattle.std.proofs.Common.{◌∙◌, sym}
 use Rattle.undo_journal.specs.Memory.{committed}
-use Rattle.undo_journal.specs.laws.Told.{reads_on, reads_handed}
+use Rattle.undo_journal.specs.laws.Told.{reads_on}
 use Rattle.file_tree.specs.Table.{table}
 use Rattle.card_core.specs.Files.{creation_bit}
 use Rattle.card_core.specs.Working.{card_in, session_in}
 use Rattle.card_core.proofs.Creations.{barred-is, permits-is, unread-step}
 use Rattle.card_core.proofs.FileSteps.{create-barred, create-denied}
 use Rattle.card_core.proofs.Readings.{card_still, current_still, df_used, used_still}
+use Rattle.card_core.specs.declared.stop.Stop.TheVariants.{Failed}
+use Rattle.card_core.proofs.Stopping.{reads-stopped}
 use Rattle.card_core.proofs.files.find_new_file.Goals as goal
 
 pub is_barred-requires-clause-used : goal.is_barred-requires-clause-used
@@ -44,7 +46,7 @@ allows-requires-clause-used g c =
 
 pub returns-in_err-allows-clause-store : goal.returns-in_err-allows-clause-store
 returns-in_err-allows-clause-store g c =
-    reads_handed _ _ _ _ c.from_residual-in_err-allows.ensures.1
+    reads-stopped _ (Failed c.in_err-allows.field-0.0) c.from_residual-in_err-allows.ensures.1 _ _
     (reads_on _ _ _ _ c.is_barred.ensures.store.only c.in_err-allows.ensures.store)
 
 pub returns-then-not-branch-clause-found : goal.returns-then-not-branch-clause-found

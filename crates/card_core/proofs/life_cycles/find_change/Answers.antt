@@ -4,13 +4,13 @@ use Rattle.undo_journal.specs.Memory.{committed}
 use Rattle.file_tree.specs.Table.{table, path_of, IsUsed}
 use Rattle.card_core.specs.declared.life_cycles.Changed.{Changed}
 use Rattle.card_core.specs.Changing.{change_at}
-use Rattle.std.proofs.lemmas.Result.{IfOk-weaker}
 use Rattle.card_core.specs.Standing.{card_of}
 use Rattle.card_core.specs.Working.{session_of}
 use Rattle.card_core.proofs.Living.{found-is}
 use Rattle.card_core.proofs.Missing.{change-missed}
 use Rattle.card_core.proofs.Readings.{kept_still, used_still}
 use Rattle.undo_journal.specs.laws.Told.{reads_on}
+use Rattle.card_core.proofs.Stopping.{finds-by}
 use Rattle.card_core.proofs.life_cycles.find_change.Goals as goal
 
 pub returns-clause-found : goal.returns-clause-found
@@ -22,9 +22,9 @@ returns-clause-found g c =
     let place =
     c.in_ok-number.ensures.found ∙ ap (λ (found : Option ℕ). option_map (path_of (table m)) found) c.in-Some.is in
     let used = subst (λ (found : Option ℕ). IfSome found (IsUsed (table m))) c.in-Some.is c.in_ok-number.ensures.used in
-    IfOk-weaker c.read_change.result (λ (answer : Result Changed Sw). answer ≡ change_at (committed c.find_changed.new.store) x c.args.change e) _
-    (λ answer is. found-is m c.requires.kept.card x c.requires.kept.current c.args.change c.args.subject e used place answer
-    (is ∙ ap (λ (l : List ℕ). change_at l x c.args.change e) same))
+    finds-by _ _ _ c.read_change.result (λ (answer : Result Changed Sw) (is : change_at (committed c.find_changed.new.store) x c.args.change e ≡ answer).
+    found-is m c.requires.kept.card x c.requires.kept.current c.args.change c.args.subject e used place answer
+    (sym is ∙ ap (λ (l : List ℕ). change_at l x c.args.change e) same))
     c.read_change.ensures.found
 
 pub returns-clause-store : goal.returns-clause-store

@@ -1,7 +1,7 @@
 use Rattle.undo_journal.specs.Memory.{committed}
 use Rattle.undo_journal.specs.laws.Calls.{reads_then}
 use Rattle.file_tree.specs.laws.Nodes.{used_small}
-use Rattle.std.proofs.Common.{◌≡◌, ◌∙◌, ap}
+use Rattle.std.proofs.Common.{◌≡◌, sym, ◌∙◌, ap}
 use Rattle.card_core.proofs.Readings.{card_still, current_still, used_still}
 use Rattle.card_rules.specs.declared.life_cycle.LifeCycleCommand.{LifeCycleCommand}
 use Rattle.file_tree.specs.States.{next_life}
@@ -12,7 +12,9 @@ use Rattle.card_core.specs.LifeCycles.{change_bit, command_of}
 use Rattle.card_core.specs.Guards.{allowed}
 use Rattle.card_core.specs.Standing.{card_of}
 use Rattle.card_core.specs.Working.{session_of}
-use Rattle.undo_journal.specs.laws.Told.{reads_on, reads_handed}
+use Rattle.undo_journal.specs.laws.Told.{reads_on}
+use Rattle.card_core.specs.declared.stop.Stop.TheVariants.{Refused, Failed}
+use Rattle.card_core.proofs.Stopping.{finds-stopped, reads-stopped}
 use Rattle.card_core.proofs.life_cycles.read_change.Goals as goal
 
 pub read_entry-requires-clause-within : goal.read_entry-requires-clause-within
@@ -20,7 +22,7 @@ read_entry-requires-clause-within g c = used_small (committed c.args.store.now) 
 
 pub returns-in_err-entry-clause-store : goal.returns-in_err-entry-clause-store
 returns-in_err-entry-clause-store g c =
-    reads_handed _ _ _ _ c.from_residual-in_err-entry.ensures.1
+    reads-stopped _ (Failed c.in_err-entry.field-0.0) c.from_residual-in_err-entry.ensures.1 _ _
     (reads_on _ _ _ _ (reads_then _ _ _ c.next_life_cycle.ensures.store.only c.allows.ensures.store.only) c.in_err-entry.ensures.store)
 
 pub allows-requires-clause-card : goal.allows-requires-clause-card
@@ -38,7 +40,7 @@ allows-requires-clause-used g c =
 
 pub returns-in_err-allowed-clause-store : goal.returns-in_err-allowed-clause-store
 returns-in_err-allowed-clause-store g c =
-    reads_handed _ _ _ _ c.from_residual-in_err-allowed.ensures.1
+    reads-stopped _ (Failed c.in_err-allowed.field-0.0) c.from_residual-in_err-allowed.ensures.1 _ _
     (reads_on _ _ _ _ c.next_life_cycle.ensures.store.only c.in_err-allowed.ensures.store)
 
 pub returns-clause-store : goal.returns-clause-store
@@ -61,4 +63,31 @@ returns-clause-found g c =
     ∙ (λ i. allowed (card_of (same i)) (session_of (table (same i)) x) (path_of (table (same i)) e) (c.bit_of.ensures i)) in
     let entry : c.in_ok-entry.entry ≡ entry_in (table m) e =
     c.in_ok-entry.ensures.entry ∙ (λ i. entry_in (table (still i)) e) in
-    c.changed_by.ensures ∙ (λ i. changed_by c.args.change e (entry i) (next i) (permitted i))
+    sym (c.changed_by.ensures ∙ (λ i. changed_by c.args.change e (entry i) (next i) (permitted i)))
+    ∙ c.in_ok-changed_by.was
+
+pub returns-in_err-changed_by-clause-found : goal.returns-in_err-changed_by-clause-found
+returns-in_err-changed_by-clause-found g c =
+    let m = committed c.args.store.now in
+    let e = c.args.number in
+    let x = c.args.current.now in
+    let same = c.next_life_cycle.ensures.store.only.keeps.committed_words in
+    let still = c.allows.ensures.store.only.keeps.committed_words ∙ same in
+    let next : c.in_ok-next.next ≡ next_life (tree_of m) (path_of (table m) e) (command_of c.args.change) =
+    c.in_ok-next.ensures.next
+    ∙ ap (λ (k : LifeCycleCommand). next_life (tree_of m) (path_of (table m) e) k) c.command_of.ensures in
+    let permitted : c.in_ok-allowed.allowed
+    ≡ allowed (card_of m) (session_of (table m) x) (path_of (table m) e) (change_bit c.args.change) =
+    c.in_ok-allowed.ensures.allowed
+    ∙ (λ i. allowed (card_of (same i)) (session_of (table (same i)) x) (path_of (table (same i)) e) (c.bit_of.ensures i)) in
+    let entry : c.in_ok-entry.entry ≡ entry_in (table m) e =
+    c.in_ok-entry.ensures.entry ∙ (λ i. entry_in (table (still i)) e) in
+    let status = c.in_err-changed_by.field-0.0 in
+    finds-stopped _ (Refused status) c.from_residual-in_err-changed_by.ensures.1 _ _
+    (sym (c.changed_by.ensures ∙ (λ i. changed_by c.args.change e (entry i) (next i) (permitted i)))
+    ∙ c.in_err-changed_by.was)
+
+pub returns-in_err-changed_by-clause-store : goal.returns-in_err-changed_by-clause-store
+returns-in_err-changed_by-clause-store g c =
+    reads-stopped _ (Refused c.in_err-changed_by.field-0.0) c.from_residual-in_err-changed_by.ensures.1 _ _
+    (reads_on _ _ _ _ (reads_then _ _ _ c.next_life_cycle.ensures.store.only c.allows.ensures.store.only) c.in_ok-entry.ensures.store)

@@ -1,15 +1,16 @@
-use Rattle.std.proofs.Common.{◌≡◌, true, false, [], Result, sym, ◌∙◌, ap, subst, arith}
-use Rattle.std.specs.Result.{result_err}
-use Rattle.card_rules.specs.declared.status.Sw.{Sw}
+use Rattle.std.proofs.Common.{◌≡◌, true, false, [], sym, ◌∙◌, arith}
 use Rattle.card_rules.specs.declared.status.TheConstants.Sw.{ACCESS_DENIED}
-use Rattle.undo_journal.specs.declared.error.StoreErr.{StoreErr}
 use Rattle.undo_journal.specs.Memory.{committed}
 use Rattle.apdu_core.specs.Requests.{terminate_card_usage}
 use Rattle.card_core.proofs.Ending.{end-made, end-refused, end-torn}
-use Rattle.card_core.specs.Served.{Serves}
-use Rattle.card_core.proofs.Serves.{declined, stopped}
-use Rattle.card_core.proofs.Stopping.{err-is}
+use Rattle.card_core.proofs.Serves.{declined, handed}
+use Rattle.card_core.proofs.Stopping.{reply-failed}
 use Rattle.card_core.proofs.life_cycles.terminate_card_usage.Goals as goal
+
+pub returns-in_err-allows : goal.returns-in_err-allows
+returns-in_err-allows g c =
+    handed terminate_card_usage c.args.store.now c.args.current.now c.allows.new.store c.requires.kept.card
+    c.args.current.now [] _ _ (reply-failed _ _ c.from_residual.ensures.1) c.in_err-allows.ensures.store (omega arith)
 
 pub returns-then-not-branch : goal.returns-then-not-branch
 returns-then-not-branch g c =
@@ -28,12 +29,10 @@ returns-in_err-terminate_card g c =
     let mid = c.allows.new.store in
     let new = c.terminate_card.new.store in
     let granted : c.in_ok-allows.field-0 ≡ true = c.if-not-branch.false in
-    let tells = c.in_err-terminate_card.ensures.store.tells ∙ sym (ap (λ (r : Result Sw StoreErr). result_err r)
-    (err-is _ _ c.from_residual-in_err-terminate_card.ensures.1)) in
     end-torn old mid new c.requires.kept.ready c.requires.kept.card c.args.current.now c.requires.kept.current
     (sym granted ∙ c.in_ok-allows.ensures.allowed) c.allows.ensures.store.only
     c.terminate_card.ensures.any_exit c.terminate_card.ensures.by_gate c.terminate_card.ensures.store.reports c.terminate_card.ensures.store.writes
-    c.from_residual-in_err-terminate_card.result c.from_residual-in_err-terminate_card.ensures.0 tells
+    _ _ (reply-failed _ _ c.from_residual-in_err-terminate_card.ensures.1) c.in_err-terminate_card.ensures.store.tells
 
 pub returns : goal.returns
 returns g c =
@@ -45,13 +44,3 @@ returns g c =
     (sym granted ∙ c.in_ok-allows.ensures.allowed) c.allows.ensures.store.only
     c.terminate_card.ensures.any_exit c.terminate_card.ensures.by_gate c.terminate_card.ensures.store.reports c.terminate_card.ensures.store.writes
     c.in_ok-terminate_card.ensures.done c.in_ok-terminate_card.ensures.store.ready
-
-pub returns-in_err-allows : goal.returns-in_err-allows
-returns-in_err-allows g c =
-    let old = c.args.store.now in
-    let x = c.args.current.now in
-    let mid = c.allows.new.store in
-    subst (λ (r : Result Sw StoreErr). Serves terminate_card_usage old x mid x [] r) (sym (err-is _ _
-    c.from_residual.ensures.1))
-    (stopped terminate_card_usage old x mid c.requires.kept.card x [] c.in_err-allows.field-0.0 c.allows.ensures.store.only
-    c.in_err-allows.ensures.store.tells (omega arith))

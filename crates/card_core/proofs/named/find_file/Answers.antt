@@ -14,7 +14,9 @@ use Rattle.card_core.specs.Working.{file_refusal, fits_kind, session_of, IsEleme
 use Rattle.card_core.proofs.NamedEntries.{entry-named, entry-refusal}
 use Rattle.card_core.proofs.Readings.{kept_still}
 use Rattle.file_tree.specs.Table.{IsUsed}
-use Rattle.undo_journal.specs.laws.Told.{reads_on, reads_handed}
+use Rattle.undo_journal.specs.laws.Told.{reads_on}
+use Rattle.card_core.proofs.Stopping.{reads-stopped}
+use Rattle.card_core.specs.declared.stop.Stop.TheVariants.{Failed}
 use Rattle.card_core.proofs.named.find_file.Goals as goal
 
 pub read_entry-requires-clause-within : goal.read_entry-requires-clause-within
@@ -26,7 +28,7 @@ read_entry-requires-clause-within g c =
 
 pub returns-in_err-refusal-clause-store : goal.returns-in_err-refusal-clause-store
 returns-in_err-refusal-clause-store g c =
-    reads_handed _ _ _ _ c.from_residual-in_err-refusal.ensures.1
+    reads-stopped _ (Failed c.in_err-refusal.field-0.0) c.from_residual-in_err-refusal.ensures.1 _ _
     (reads_on _ _ _ _ (reads_then _ _ _ c.find_target.ensures.store.only c.read_entry.ensures.store.only) c.in_err-refusal.ensures.store)
 
 pub returns-in-Some-2-clause-found : goal.returns-in-Some-2-clause-found
@@ -92,7 +94,7 @@ refusal_of-requires-clause-entry g c =
 
 pub returns-in_err-entry-clause-store : goal.returns-in_err-entry-clause-store
 returns-in_err-entry-clause-store g c =
-    reads_handed _ _ _ _ c.from_residual-in_err-entry.ensures.1
+    reads-stopped _ (Failed c.in_err-entry.field-0.0) c.from_residual-in_err-entry.ensures.1 _ _
     (reads_on _ _ _ _ c.find_target.ensures.store.only c.in_err-entry.ensures.store)
 
 pub returns-in-Some-2-clause-store : goal.returns-in-Some-2-clause-store

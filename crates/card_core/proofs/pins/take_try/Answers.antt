@@ -1,21 +1,30 @@
-use Rattle.std.proofs.Common.{◌≡◌, ◌∙◌, Err, Result, Some, ap, subst}
-use Rattle.undo_journal.specs.declared.error.StoreErr.{StoreErr}
+use Rattle.std.proofs.Common.{◌≡◌, Err, Result, refl, subst}
+use Rattle.card_rules.specs.declared.status.Sw.{Sw}
+use Rattle.card_rules.specs.declared.status.TheConstants.Sw.{METHOD_BLOCKED}
 use Rattle.undo_journal.specs.Calls.{Changes}
 use Rattle.undo_journal.specs.Memory.{Memory}
 use Rattle.undo_journal.specs.laws.Told.{changes_after}
 use Rattle.pin_store.specs.Trials.{store_failure}
 use Rattle.pin_store.specs.declared.errors.PinErr.{PinErr}
 use Rattle.pin_store.specs.declared.errors.PinErr.TheVariants as pin_err
+use Rattle.card_core.specs.Stops.{failure_of, stop_of_pin, IfRefused}
+use Rattle.card_core.proofs.Stopping.{changes-stopped}
 use Rattle.card_core.proofs.pins.take_try.Goals as goal
 
--- a failure of the store, as the charge tells it
-failure-told : {T : Type 0} (a b : Memory) (told : Result T PinErr) (error : StoreErr) → told ≡ Err (pin_err.Store error)
-    → Changes 1 a b (store_failure told) → Changes 1 a b (Some error)
-failure-told {T} a b told error is changes =
+-- what stops a charge: no try is left, or the store failed
+charge-failed : {T : Type 0} (a b : Memory) (told : Result T PinErr) (e : PinErr) → told ≡ Err e
+    → Changes 1 a b (store_failure told) → Changes 1 a b (failure_of (stop_of_pin e))
+charge-failed {T} a b told pin_err.Blocked is changes =
+    subst (λ (r : Result T PinErr). Changes 1 a b (store_failure r)) is changes
+charge-failed {T} a b told (pin_err.Store e) is changes =
     subst (λ (r : Result T PinErr). Changes 1 a b (store_failure r)) is changes
 
-pub returns-in-Err-Store-clause-store : goal.returns-in-Err-Store-clause-store
-returns-in-Err-Store-clause-store g c =
-    changes_after 1 _ _ _ _ c.refusal_of.ensures.store.only
-    (failure-told _ _ c.charge.result c.in-Err-Store.error
-    (c.in-Err-Store.is ∙ ap (λ (f : PinErr). Err f) c.in-Err-Store.field-0-is) c.charge.ensures.store)
+charge-said : (e : PinErr) (Q : Sw → Type 0) → (e ≡ pin_err.Blocked → Q METHOD_BLOCKED) → IfRefused (stop_of_pin e) Q
+charge-said pin_err.Blocked Q said = said refl
+charge-said (pin_err.Store e) Q said = tt
+
+pub returns-in_err-charge-clause-store : goal.returns-in_err-charge-clause-store
+returns-in_err-charge-clause-store g c =
+    changes-stopped _ (stop_of_pin c.in_err-charge.field-0.0) c.from_residual-in_err-charge.ensures.1 1 _ _
+    (changes_after 1 _ _ _ _ c.check_use.ensures.store.only
+    (charge-failed _ _ c.charge.result c.in_err-charge.field-0.0 c.in_err-charge.was c.charge.ensures.store))

@@ -1,60 +1,41 @@
-use Rattle.std.proofs.Common.{[], Ok, refl, sym, subst, arith}
+use Rattle.std.proofs.Common.{[], Ok, refl, sym, subst}
 use Rattle.card_rules.specs.declared.status.TheConstants.Sw.{DONE}
 use Rattle.apdu_core.specs.Requests.{append_record}
 use Rattle.card_core.specs.declared.current.Current.{Current}
 use Rattle.card_core.specs.Served.{Serves}
 use Rattle.card_core.specs.Working.{card_in, session_in}
-use Rattle.card_core.proofs.Answering.{said_ok, said_err}
 use Rattle.card_core.proofs.Guarding.{served-refused}
 use Rattle.card_core.proofs.AppendServes.{appended-body, appended-done, appended-few, appended-long, appended-space, appended-torn}
-use Rattle.card_core.proofs.Serves.{declined, handed}
+use Rattle.card_core.proofs.Serves.{halted}
 use Rattle.card_core.proofs.SpaceKept.{space-same}
+use Rattle.card_core.proofs.Answering.{ok_anyway}
+use Rattle.card_core.proofs.Stopping.{none-failed, reply-failed}
 use Rattle.card_core.proofs.records.append_record.Goals as goal
-
-pub returns-in_err-growing-clause-serves : goal.returns-in_err-growing-clause-serves
-returns-in_err-growing-clause-serves g c =
-    handed (append_record c.args.target c.args.bytes.now) c.args.store.now c.args.current.now c.find_appended.new.store
-    c.requires.kept.card c.args.current.now [] _ _ c.from_residual.ensures.1 c.in_err-growing.ensures.store (omega
-    arith)
-
-pub returns-in-Err-clause-serves : goal.returns-in-Err-clause-serves
-returns-in-Err-clause-serves g c =
-    let old = c.args.store.now in
-    let x = c.args.current.now in
-    let request = append_record c.args.target c.args.bytes.now in
-    let refused = said_err _ _ c.in_ok-growing.field-0 c.in-Err.refusal c.in-Err.is c.in_ok-growing.ensures.found in
-    declined request old x c.find_appended.new.store (λ _. tt) c.requires.kept.card c.in-Err.refusal
-    c.find_appended.ensures.store.only c.in_ok-growing.ensures.store.ready c.requires.kept.current
-    (served-refused (card_in old) (session_in old x) request c.in-Err.refusal refused)
-
-pub returns-in-Err-clause-space : goal.returns-in-Err-clause-space
-returns-in-Err-clause-space g c =
-    space-same c.args.store.now c.find_appended.new.store c.find_appended.ensures.store.only.keeps.committed_words
 
 pub fill-requires-clause-body : goal.fill-requires-clause-body
 fill-requires-clause-body g c =
-    let found = said_ok _ _ c.in_ok-growing.field-0 c.in-Ok.growing c.in-Ok.is c.in_ok-growing.ensures.found in
+    let found = c.in_ok-growing.ensures.found in
     appended-body c.args.store.now c.find_appended.new.store c.find_appended.new.store c.requires.kept.ready c.requires.kept.card
     c.args.current.now c.requires.kept.current c.find_appended.ensures.store.only _ _ _ _ found
 
 pub fill-requires-clause-size : goal.fill-requires-clause-size
 fill-requires-clause-size g c =
-    let found = said_ok _ _ c.in_ok-growing.field-0 c.in-Ok.growing c.in-Ok.is c.in_ok-growing.ensures.found in
+    let found = c.in_ok-growing.ensures.found in
     appended-long c.args.store.now c.find_appended.new.store c.find_appended.new.store c.requires.kept.ready
     c.requires.kept.card
     c.args.current.now c.requires.kept.current c.find_appended.ensures.store.only _ _ _ _ found
 
 pub returns-in_err-fill-clause-serves : goal.returns-in_err-fill-clause-serves
 returns-in_err-fill-clause-serves g c =
-    let found = said_ok _ _ c.in_ok-growing.field-0 c.in-Ok.growing c.in-Ok.is c.in_ok-growing.ensures.found in
+    let found = c.in_ok-growing.ensures.found in
     appended-torn c.args.store.now c.find_appended.new.store c.fill.new.store c.requires.kept.ready c.requires.kept.card
     c.args.current.now c.requires.kept.current c.find_appended.ensures.store.only _ _ _ _ found
     c.fill.ensures.any_exit c.fill.ensures.by_gate _
-    c.in_err-fill.ensures.store _ _ c.from_residual-in_err-fill.ensures.1 refl
+    c.in_err-fill.ensures.store _ _ (reply-failed _ _ c.from_residual-in_err-fill.ensures.1) refl
 
 pub added-requires : goal.added-requires
 added-requires g c =
-    let found = said_ok _ _ c.in_ok-growing.field-0 c.in-Ok.growing c.in-Ok.is c.in_ok-growing.ensures.found in
+    let found = c.in_ok-growing.ensures.found in
     appended-few c.args.store.now c.find_appended.new.store c.find_appended.new.store c.requires.kept.ready c.requires.kept.card
     c.args.current.now c.requires.kept.current c.find_appended.ensures.store.only _ _ _ _ found
 
@@ -62,8 +43,8 @@ pub returns-clause-serves : goal.returns-clause-serves
 returns-clause-serves g c =
     let old = c.args.store.now in
     let x = c.args.current.now in
-    let growing = c.in-Ok.growing in
-    let found = said_ok _ _ c.in_ok-growing.field-0 c.in-Ok.growing c.in-Ok.is c.in_ok-growing.ensures.found in
+    let growing = c.in_ok-growing.growing in
+    let found = c.in_ok-growing.ensures.found in
     subst (λ (y : Current). Serves (append_record c.args.target c.args.bytes.now) old x c.fill.new.store y []
     (Ok DONE)) (sym c.pointing.ensures)
     (appended-done old c.find_appended.new.store c.fill.new.store c.requires.kept.ready c.requires.kept.card x
@@ -74,9 +55,26 @@ returns-clause-serves g c =
 
 pub returns-clause-space : goal.returns-clause-space
 returns-clause-space g c =
-    let found = said_ok _ _ c.in_ok-growing.field-0 c.in-Ok.growing c.in-Ok.is c.in_ok-growing.ensures.found in
+    let found = c.in_ok-growing.ensures.found in
     appended-space c.args.store.now c.find_appended.new.store c.fill.new.store c.requires.kept.ready
     c.requires.kept.card
     c.args.current.now c.requires.kept.current c.find_appended.ensures.store.only _ _ _ _ found
     c.fill.ensures.any_exit c.fill.ensures.by_gate _
     c.in_ok-fill.ensures.store c.in_ok-fill.ensures.done
+
+pub returns-in_err-growing-clause-serves : goal.returns-in_err-growing-clause-serves
+returns-in_err-growing-clause-serves g c =
+    let old = c.args.store.now in
+    let x = c.args.current.now in
+    let request = append_record c.args.target c.args.bytes.now in
+    halted request old x c.find_appended.new.store (λ _. tt) c.requires.kept.card c.requires.kept.current [] refl _ _
+    c.from_residual.ensures.1 c.in_err-growing.ensures.store _
+    (λ status. served-refused (card_in old) (session_in old x) request status) c.in_err-growing.ensures.found
+
+pub returns-in_err-growing-clause-space : goal.returns-in_err-growing-clause-space
+returns-in_err-growing-clause-space g c =
+    ok_anyway _ _ (space-same c.args.store.now c.find_appended.new.store
+    c.find_appended.ensures.store.only.keeps.committed_words)
+
+pub returns-in_err-fill-clause-space : goal.returns-in_err-fill-clause-space
+returns-in_err-fill-clause-space g c = none-failed _ _ _ c.from_residual-in_err-fill.ensures.1

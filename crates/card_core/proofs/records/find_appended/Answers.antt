@@ -1,50 +1,56 @@
-use Rattle.std.proofs.Common.{◌≡◌, Result, IfOk, sym, ◌∙◌, ap, subst}
-use Rattle.std.specs.Result.{result_err}
-use Rattle.card_rules.specs.declared.status.Sw.{Sw}
-use Rattle.card_core.specs.declared.record_file.Room.{Room}
+use Rattle.std.proofs.Common.{sym, ◌∙◌}
 use Rattle.std.proofs.lemmas.Bool.{eqb-true}
 use Rattle.undo_journal.specs.Memory.{committed}
-use Rattle.card_core.specs.Working.{card_in, ring_room, session_in, wraps_room}
-use Rattle.card_core.proofs.Answering.{said_ok, said_err}
+use Rattle.card_core.specs.Working.{card_in, session_in}
 use Rattle.card_core.proofs.RecordWrites.{append-full, append-other, append-refused, not-full}
 use Rattle.card_core.proofs.Recording.{agree}
+use Rattle.card_core.specs.declared.stop.Stop.TheVariants.{Refused}
+use Rattle.card_core.proofs.Stopping.{finds-stopped, reads-stopped, refused-weaker}
 use Rattle.card_core.proofs.records.find_appended.Goals as goal
-
-pub returns-in-Err-clause-found : goal.returns-in-Err-clause-found
-returns-in-Err-clause-found g c =
-    let old = c.args.store.now in
-    append-refused (card_in old) (session_in old c.args.current.now) c.args.target c.in-Err.refusal c.args.bytes.now
-    (said_err _ _ c.in_ok-file.field-0 c.in-Err.refusal c.in-Err.is c.in_ok-file.ensures.found)
 
 pub find_room-requires : goal.find_room-requires
 find_room-requires g c =
-    let found = said_ok _ _ c.in_ok-file.field-0 c.in-Ok.file c.in-Ok.is c.in_ok-file.ensures.found in
+    let found = c.in_ok-file.ensures.found in
     (agree (committed c.args.store.now) c.requires.kept.ready.usable.committed_size c.requires.kept.card
     c.args.current.now
-    c.args.target _ c.in-Ok.file found).straight
-
-pub returns-in-Err-find_room-clause-found : goal.returns-in-Err-find_room-clause-found
-returns-in-Err-find_room-clause-found g c =
-    let found = said_ok _ _ c.in_ok-file.field-0 c.in-Ok.file c.in-Ok.is c.in_ok-file.ensures.found in
-    append-full (committed c.args.store.now) c.requires.kept.ready.usable.committed_size c.requires.kept.card c.args.current.now
-    c.args.target _ c.in-Ok.file found c.args.bytes.now found.named.unrefused c.in-Err-find_room.refusal
-    (sym c.find_room.ensures.refusal ∙ ap result_err c.in-Err-find_room.is)
+    c.args.target _ c.in_ok-file.file found).straight
 
 pub returns-then-not-takes-clause-found : goal.returns-then-not-takes-clause-found
 returns-then-not-takes-clause-found g c =
-    let found = said_ok _ _ c.in_ok-file.field-0 c.in-Ok.file c.in-Ok.is c.in_ok-file.ensures.found in
+    let found = c.in_ok-file.ensures.found in
     append-other (committed c.args.store.now) c.requires.kept.ready.usable.committed_size c.requires.kept.card c.args.current.now
-    c.args.target _ c.in-Ok.file found c.args.bytes.now found.named.unrefused
-    (not-full _ (sym c.find_room.ensures.refusal ∙ ap result_err c.in-Ok-find_room.is)) (sym c.takes.ensures ∙
+    c.args.target _ c.in_ok-file.file found c.args.bytes.now found.named.unrefused
+    (not-full _ (sym c.in_ok-room.ensures.refusal)) (sym c.takes.ensures ∙
     c.if-not-takes.true)
 
 pub returns-clause-found : goal.returns-clause-found
 returns-clause-found g c = record {
-  named = said_ok _ _ c.in_ok-file.field-0 c.in-Ok.file c.in-Ok.is c.in_ok-file.ensures.found;
-  ring_is = subst (λ (r : Result Room Sw). IfOk r (λ room. ring_room room ≡ c.in-Ok.file.ring)) c.in-Ok-find_room.is
-      c.find_room.ensures.ring;
-  wraps_is = subst (λ (r : Result Room Sw). IfOk r (λ room. wraps_room room ≡ c.in-Ok.file.wraps)) c.in-Ok-find_room.is
-      c.find_room.ensures.wraps;
-  unfilled = not-full _ (sym c.find_room.ensures.refusal ∙ ap result_err c.in-Ok-find_room.is);
+  named = c.in_ok-file.ensures.found;
+  ring_is = c.in_ok-room.ensures.ring;
+  wraps_is = c.in_ok-room.ensures.wraps;
+  unfilled = not-full _ (sym c.in_ok-room.ensures.refusal);
   long = eqb-true _ _ (sym c.takes.ensures ∙ c.if-not-takes.false);
 }
+
+pub returns-in_err-file-clause-found : goal.returns-in_err-file-clause-found
+returns-in_err-file-clause-found g c =
+    let old = c.args.store.now in
+    finds-stopped _ _ c.from_residual.ensures.1 _ _ (refused-weaker _ _ _
+    (λ status refused. append-refused (card_in old) (session_in old c.args.current.now) c.args.target status c.args.bytes.now
+    refused) c.in_err-file.ensures.found)
+
+pub returns-in_err-file-clause-store : goal.returns-in_err-file-clause-store
+returns-in_err-file-clause-store g c = reads-stopped _ _ c.from_residual.ensures.1 _ _ c.in_err-file.ensures.store
+
+pub returns-in_err-room-clause-found : goal.returns-in_err-room-clause-found
+returns-in_err-room-clause-found g c =
+    let found = c.in_ok-file.ensures.found in
+    let status = c.in_err-room.field-0.0 in
+    finds-stopped _ (Refused status) c.from_residual-in_err-room.ensures.1 _ _
+    (append-full (committed c.args.store.now) c.requires.kept.ready.usable.committed_size c.requires.kept.card c.args.current.now
+    c.args.target _ c.in_ok-file.file found c.args.bytes.now found.named.unrefused status
+    (sym c.in_err-room.ensures.refusal))
+
+pub returns-in_err-room-clause-store : goal.returns-in_err-room-clause-store
+returns-in_err-room-clause-store g c =
+    reads-stopped _ (Refused c.in_err-room.field-0.0) c.from_residual-in_err-room.ensures.1 _ _ c.in_ok-file.ensures.store

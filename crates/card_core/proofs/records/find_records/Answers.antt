@@ -4,31 +4,31 @@ use Rattle.file_tree.specs.declared.entry.Entry.{Entry}
 use Rattle.file_tree.specs.laws.Nodes.{used_small}
 use Rattle.card_core.specs.declared.record_file.RecordFile.{RecordFile}
 use Rattle.card_core.specs.Working.{record_file_in, IsNamed, IsRecordFile, IsToldEntry}
-use Rattle.card_core.proofs.Answering.{said_err, said_ok}
 use Rattle.card_core.proofs.RecordKinds.{record_kind}
 use Rattle.card_core.proofs.Told.{told-entry}
+use Rattle.card_core.proofs.Stopping.{finds-stopped, reads-stopped}
 use Rattle.card_core.proofs.records.find_records.Goals as goal
 
 pub of-requires-clause-number : goal.of-requires-clause-number
 of-requires-clause-number g c =
-    let named = said_ok _ _ c.in_ok-file.field-0 c.in-Ok.file c.in-Ok.is c.in_ok-file.ensures.found in
-    let small = used_small (committed c.args.store.now) c.in-Ok.file.number named.file.child.used in
+    let named = c.in_ok-file.ensures.found in
+    let small = used_small (committed c.args.store.now) c.in_ok-file.file.number named.file.child.used in
     omega (arith, small)
 
 pub of-requires-clause-told : goal.of-requires-clause-told
 of-requires-clause-told g c =
-    let named = said_ok _ _ c.in_ok-file.field-0 c.in-Ok.file c.in-Ok.is c.in_ok-file.ensures.found in
+    let named = c.in_ok-file.ensures.found in
     subst IsToldEntry (sym named.entry_is)
     (told-entry (committed c.args.store.now) c.requires.kept.ready.usable.committed_size c.requires.kept.card
-    c.in-Ok.file.number named.file.child.used)
+    c.in_ok-file.file.number named.file.child.used)
 
 pub returns-clause-found : goal.returns-clause-found
 returns-clause-found g c =
     let m = committed c.args.store.now in
-    let e = c.in-Ok.file.number in
-    let entry = c.in-Ok.file.entry in
+    let e = c.in_ok-file.file.number in
+    let entry = c.in_ok-file.file.entry in
     let x = c.args.current.now in
-    let named = said_ok _ _ c.in_ok-file.field-0 c.in-Ok.file c.in-Ok.is c.in_ok-file.ensures.found in
+    let named = c.in_ok-file.ensures.found in
     let kind = record_kind c.args.need.structure entry.kind c.requires.records named.structure in
     subst (λ (file : RecordFile). IsRecordFile m x c.args.target c.args.need file) (sym c.of.ensures)
     (subst (λ (told : Entry). IsRecordFile m x c.args.target c.args.need (record_file_in e told)) (sym named.entry_is)
@@ -38,11 +38,13 @@ returns-clause-found g c =
       file_is = refl;
     }))
 
-pub returns-in-Err-clause-found : goal.returns-in-Err-clause-found
-returns-in-Err-clause-found g c =
-    said_err _ _ c.in_ok-file.field-0 c.in-Err.refusal c.in-Err.is c.in_ok-file.ensures.found
-
 pub of-requires-clause-records : goal.of-requires-clause-records
 of-requires-clause-records g c =
-    let named = said_ok _ _ c.in_ok-file.field-0 c.in-Ok.file c.in-Ok.is c.in_ok-file.ensures.found in
-    record_kind c.args.need.structure c.in-Ok.file.entry.kind c.requires.records named.structure
+    let named = c.in_ok-file.ensures.found in
+    record_kind c.args.need.structure c.in_ok-file.file.entry.kind c.requires.records named.structure
+
+pub returns-in_err-file-clause-found : goal.returns-in_err-file-clause-found
+returns-in_err-file-clause-found g c = finds-stopped _ _ c.from_residual.ensures.1 _ _ c.in_err-file.ensures.found
+
+pub returns-in_err-file-clause-store : goal.returns-in_err-file-clause-store
+returns-in_err-file-clause-store g c = reads-stopped _ _ c.from_residual.ensures.1 _ _ c.in_err-file.ensures.store

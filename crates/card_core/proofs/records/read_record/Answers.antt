@@ -1,65 +1,39 @@
-use Rattle.std.proofs.Common.{◌≡◌, ◌≤◌, lit<, ℕ, List, Result, length, refl, sym, not, ◌==◌, ◌&&◌, ◌∙◌, ap, subst, arith}
-use Rattle.card_rules.specs.declared.status.Sw.{Sw}
+use Rattle.std.proofs.Common.{◌≡◌, ◌≤◌, lit<, ℕ, List, length, refl, sym, not, ◌==◌, ◌&&◌, ◌∙◌, ap, subst, arith}
 use Rattle.card_rules.specs.declared.status.TheConstants.Sw.{DONE}
-use Rattle.undo_journal.specs.declared.error.StoreErr.{StoreErr}
 use Rattle.undo_journal.specs.Memory.{committed}
 use Rattle.undo_journal.specs.laws.Calls.{reads_then}
+use Rattle.undo_journal.specs.laws.Told.{reads_on}
 use Rattle.apdu_core.specs.Requests.{read_record}
 use Rattle.ef_body.specs.Bodies.{cyclic_records}
 use Rattle.ef_body.specs.Records.{record_of}
 use Rattle.card_core.specs.declared.current.Current.{Current}
 use Rattle.card_core.specs.Lengths.{right_length}
 use Rattle.card_core.specs.Records.{pointer_after}
-use Rattle.card_core.specs.Served.{Serves}
 use Rattle.card_core.specs.Working.{card_in, chosen_in, outcome, pointer_from, pointing_from, session_in, table_in, IsCurrent}
 use Rattle.card_core.specs.Outcomes.{refused}
-use Rattle.card_core.proofs.Answering.{said_ok, said_err}
 use Rattle.card_core.proofs.RecordBodies.{slot-few}
 use Rattle.card_core.proofs.Recording.{chosen-body, chosen-has, current-is, declined-empty, read-other, read-refused, read-whole}
-use Rattle.card_core.proofs.Serves.{answered, stopped, handed}
-use Rattle.card_core.proofs.Stopping.{err-is}
+use Rattle.card_core.proofs.Serves.{answered, halted, handed}
+use Rattle.card_core.proofs.Stopping.{reply-failed}
 use Rattle.card_core.proofs.records.read_record.Goals as goal
-
-pub returns-in-Err : goal.returns-in-Err
-returns-in-Err g c =
-    let old = c.args.store.now in
-    let x = c.args.current.now in
-    let refused = said_err _ _ c.in_ok-found.field-0 c.in-Err.refusal c.in-Err.is c.in_ok-found.ensures.found in
-    declined-empty (read_record c.args.target c.args.choice c.args.expected) old x c.find_record.new.store
-    c.args.answer.now.items c.requires.empty (λ _. tt) c.requires.kept.card c.in-Err.refusal
-    c.find_record.ensures.store.only
-    c.in_ok-found.ensures.store.ready c.requires.kept.current
-    (read-refused (card_in old) (session_in old x) c.args.target c.in-Err.refusal c.args.choice refused c.args.expected)
 
 pub read-requires : goal.read-requires
 read-requires g c =
-    let found = said_ok _ _ c.in_ok-found.field-0 c.in-Ok.found c.in-Ok.is c.in_ok-found.ensures.found in
+    let found = c.in_ok-found.ensures.found in
     let stands = chosen-body (committed c.args.store.now) c.requires.kept.ready.usable.committed_size
     c.requires.kept.card
     c.args.current.now c.args.target _ _ _ found _ c.find_record.ensures.store.only.keeps.committed_words in
     let short = stands.slots.short in
-    let room : c.in-Ok.found.slot.ring.record_length ≤ 256 = omega (arith, short) in
+    let room : c.in_ok-found.found.slot.ring.record_length ≤ 256 = omega (arith, short) in
     (lit< tt, (c.in_ok-found.ensures.store.ready, (stands, room)))
-
-pub returns-in_err-read : goal.returns-in_err-read
-returns-in_err-read g c =
-    let old = c.args.store.now in
-    let x = c.args.current.now in
-    let none : length c.args.answer.now.items ≡ 0 = ap (λ (l : List ℕ). length l) c.requires.empty in
-    subst (λ (r : Result Sw StoreErr). Serves (read_record c.args.target c.args.choice c.args.expected) old x
-    c.read.new.store x c.args.answer.now.items r) (sym (err-is _ _ c.from_residual-in_err-read.ensures.1))
-    (stopped (read_record c.args.target c.args.choice c.args.expected) old x c.read.new.store c.requires.kept.card x
-    c.args.answer.now.items c.in_err-read.field-0.0
-    (reads_then old c.find_record.new.store c.read.new.store c.find_record.ensures.store.only c.read.ensures.store.only)
-    c.in_err-read.ensures.store.tells (omega (arith, none)))
 
 pub returns-then-is_other_length : goal.returns-then-is_other_length
 returns-then-is_other_length g c =
     let old = c.args.store.now in
     let x = c.args.current.now in
-    let file = c.in-Ok.found.file in
+    let file = c.in_ok-found.found.file in
     let same = c.find_record.ensures.store.only.keeps.committed_words in
-    let found = said_ok _ _ c.in_ok-found.field-0 c.in-Ok.found c.in-Ok.is c.in_ok-found.ensures.found in
+    let found = c.in_ok-found.ensures.found in
     let number = found.number_is in
     let has = chosen-has _ _ _ _ _ _ found in
     let text : c.read.new.bytes.items ≡ record_of (cyclic_records (committed old) file.ring) (chosen_in file
@@ -79,22 +53,22 @@ returns-then-is_other_length g c =
 
 pub pointer_after-pointer-requires : goal.pointer_after-pointer-requires
 pointer_after-pointer-requires g c =
-    let found = said_ok _ _ c.in_ok-found.field-0 c.in-Ok.found c.in-Ok.is c.in_ok-found.ensures.found in
+    let found = c.in_ok-found.ensures.found in
     let stands = chosen-body (committed c.args.store.now) c.requires.kept.ready.usable.committed_size
     c.requires.kept.card
     c.args.current.now c.args.target _ _ _ found _ refl in
-    let few = slot-few (committed c.args.store.now) c.in-Ok.found.slot stands in
+    let few = slot-few (committed c.args.store.now) c.in_ok-found.found.slot stands in
     omega (arith, few)
 
 pub returns : goal.returns
 returns g c =
     let old = c.args.store.now in
     let x = c.args.current.now in
-    let file = c.in-Ok.found.file in
-    let e = c.in-Ok.found.file.number in
+    let file = c.in_ok-found.found.file in
+    let e = c.in_ok-found.found.file.number in
     let sized = c.requires.kept.ready.usable.committed_size in
     let same = c.find_record.ensures.store.only.keeps.committed_words in
-    let found = said_ok _ _ c.in_ok-found.field-0 c.in-Ok.found c.in-Ok.is c.in_ok-found.ensures.found in
+    let found = c.in_ok-found.ensures.found in
     let number = found.number_is in
     let has = chosen-has _ _ _ _ _ _ found in
     let text : c.read.new.bytes.items ≡ record_of (cyclic_records (committed old) file.ring) (chosen_in file
@@ -128,7 +102,19 @@ returns g c =
 
 pub returns-in_err-found : goal.returns-in_err-found
 returns-in_err-found g c =
+    let old = c.args.store.now in
+    let x = c.args.current.now in
+    halted (read_record c.args.target c.args.choice c.args.expected) old x c.find_record.new.store (λ _. tt)
+    c.requires.kept.card c.requires.kept.current c.args.answer.now.items c.requires.empty _ _ c.from_residual.ensures.1
+    c.in_err-found.ensures.store _
+    (λ status refused. read-refused (card_in old) (session_in old x) c.args.target status c.args.choice refused c.args.expected)
+    c.in_err-found.ensures.found
+
+pub returns-in_err-read : goal.returns-in_err-read
+returns-in_err-read g c =
     let none : length c.args.answer.now.items ≡ 0 = ap (λ (l : List ℕ). length l) c.requires.empty in
-    handed (read_record c.args.target c.args.choice c.args.expected) c.args.store.now
-    c.args.current.now c.find_record.new.store c.requires.kept.card c.args.current.now c.args.answer.now.items _ _
-    c.from_residual.ensures.1 c.in_err-found.ensures.store (omega (arith, none))
+    handed (read_record c.args.target c.args.choice c.args.expected) c.args.store.now c.args.current.now c.read.new.store
+    c.requires.kept.card c.args.current.now c.args.answer.now.items _ c.in_err-read.field-0.0
+    (reply-failed _ _ c.from_residual-in_err-read.ensures.1)
+    (reads_on c.args.store.now c.find_record.new.store c.read.new.store _ c.find_record.ensures.store.only
+    c.in_err-read.ensures.store) (omega (arith, none))

@@ -1,8 +1,7 @@
-use Rattle.std.proofs.Common.{◌≡◌, ◌≤◌, lit<, ℕ, List, Result, length, sym, ◌∙◌, ap, subst, arith}
-use Rattle.card_rules.specs.declared.status.Sw.{Sw}
-use Rattle.undo_journal.specs.declared.error.StoreErr.{StoreErr}
+use Rattle.std.proofs.Common.{◌≡◌, ◌≤◌, lit<, ℕ, List, length, sym, ◌∙◌, ap, subst, arith}
 use Rattle.undo_journal.specs.Memory.{committed}
 use Rattle.undo_journal.specs.laws.Calls.{reads_then}
+use Rattle.undo_journal.specs.laws.Told.{reads_on}
 use Rattle.apdu_core.specs.Requests.{search_record}
 use Rattle.ef_body.specs.Bodies.{cyclic_records}
 use Rattle.ef_body.specs.Searching.{found as found_in}
@@ -10,57 +9,31 @@ use Rattle.card_core.specs.declared.current.Current.{Current}
 use Rattle.card_core.specs.Lengths.{asks_less, given, right_length}
 use Rattle.card_core.specs.Outcomes.{refused}
 use Rattle.card_core.specs.Records.{place_number, pointer_found, search_status, searching}
-use Rattle.card_core.specs.Served.{Serves}
 use Rattle.card_core.specs.Working.{card_in, outcome, pointer_from, pointing_from, session_in, table_in, IsCurrent}
-use Rattle.card_core.proofs.Answering.{said_ok, said_err}
 use Rattle.card_core.proofs.Recording.{chosen-body, chosen-has, current-is, declined-empty, search-less, search-refused, search-whole}
-use Rattle.card_core.proofs.Serves.{answered, stopped, handed}
-use Rattle.card_core.proofs.Stopping.{err-is}
+use Rattle.card_core.proofs.Serves.{answered, halted, handed}
+use Rattle.card_core.proofs.Stopping.{reply-failed}
 use Rattle.card_core.proofs.records.search_record.Goals as goal
-
-pub returns-in-Err : goal.returns-in-Err
-returns-in-Err g c =
-    let old = c.args.store.now in
-    let x = c.args.current.now in
-    let refused = said_err _ _ c.in_ok-found.field-0 c.in-Err.refusal c.in-Err.is c.in_ok-found.ensures.found in
-    declined-empty (search_record c.args.target c.args.first c.args.direction c.args.text.now c.args.expected) old x
-    c.find_record.new.store c.args.answer.now.items c.requires.empty (λ _. tt) c.requires.kept.card c.in-Err.refusal
-    c.find_record.ensures.store.only c.in_ok-found.ensures.store.ready c.requires.kept.current
-    (search-refused (card_in old) (session_in old x) c.args.target c.in-Err.refusal c.args.first refused c.args.direction
-    c.args.text.now c.args.expected)
 
 pub search-requires : goal.search-requires
 search-requires g c =
-    let found = said_ok _ _ c.in_ok-found.field-0 c.in-Ok.found c.in-Ok.is c.in_ok-found.ensures.found in
+    let found = c.in_ok-found.ensures.found in
     let stands = chosen-body (committed c.args.store.now) c.requires.kept.ready.usable.committed_size
     c.requires.kept.card
     c.args.current.now c.args.target _ _ _ found _ c.find_record.ensures.store.only.keeps.committed_words in
     let few = stands.slots.few in
     let number = stands.number in
-    let room : c.in-Ok.found.slot.ring.records ≤ 256 = omega (arith, few, number) in
+    let room : c.in_ok-found.found.slot.ring.records ≤ 256 = omega (arith, few, number) in
     (lit< tt, (c.in_ok-found.ensures.store.ready, (stands, room)))
-
-pub returns-in_err-search : goal.returns-in_err-search
-returns-in_err-search g c =
-    let old = c.args.store.now in
-    let x = c.args.current.now in
-    let none : length c.args.answer.now.items ≡ 0 = ap (λ (l : List ℕ). length l) c.requires.empty in
-    subst (λ (r : Result Sw StoreErr). Serves (search_record c.args.target c.args.first c.args.direction c.args.text.now
-    c.args.expected) old x c.search.new.store x c.args.answer.now.items r)
-    (sym (err-is _ _ c.from_residual-in_err-search.ensures.1))
-    (stopped (search_record c.args.target c.args.first c.args.direction c.args.text.now c.args.expected) old x
-    c.search.new.store c.requires.kept.card x c.args.answer.now.items c.in_err-search.field-0.0
-    (reads_then old c.find_record.new.store c.search.new.store c.find_record.ensures.store.only c.search.ensures.store.only)
-    c.in_err-search.ensures.store.tells (omega (arith, none)))
 
 pub returns-then-asks_less : goal.returns-then-asks_less
 returns-then-asks_less g c =
     let old = c.args.store.now in
     let x = c.args.current.now in
-    let file = c.in-Ok.found.file in
+    let file = c.in_ok-found.found.file in
     let same = c.find_record.ensures.store.only.keeps.committed_words in
-    let found = said_ok _ _ c.in_ok-found.field-0 c.in-Ok.found c.in-Ok.is c.in_ok-found.ensures.found in
-    let number : c.in-Ok.found.slot.number ≡ place_number c.args.first (pointer_from x c.args.target) =
+    let found = c.in_ok-found.ensures.found in
+    let number : c.in_ok-found.found.slot.number ≡ place_number c.args.first (pointer_from x c.args.target) =
     found.number_is in
     let has = chosen-has _ _ _ _ _ _ found in
     let way = c.way_of-way.ensures in
@@ -84,12 +57,12 @@ pub returns : goal.returns
 returns g c =
     let old = c.args.store.now in
     let x = c.args.current.now in
-    let file = c.in-Ok.found.file in
-    let e = c.in-Ok.found.file.number in
+    let file = c.in_ok-found.found.file in
+    let e = c.in_ok-found.found.file.number in
     let sized = c.requires.kept.ready.usable.committed_size in
     let same = c.find_record.ensures.store.only.keeps.committed_words in
-    let found = said_ok _ _ c.in_ok-found.field-0 c.in-Ok.found c.in-Ok.is c.in_ok-found.ensures.found in
-    let number : c.in-Ok.found.slot.number ≡ place_number c.args.first (pointer_from x c.args.target) =
+    let found = c.in_ok-found.ensures.found in
+    let number : c.in_ok-found.found.slot.number ≡ place_number c.args.first (pointer_from x c.args.target) =
     found.number_is in
     let has = chosen-has _ _ _ _ _ _ found in
     let way = c.way_of-way.ensures in
@@ -123,7 +96,19 @@ returns g c =
 
 pub returns-in_err-found : goal.returns-in_err-found
 returns-in_err-found g c =
+    let old = c.args.store.now in
+    let x = c.args.current.now in
+    halted (search_record c.args.target c.args.first c.args.direction c.args.text.now c.args.expected) old x
+    c.find_record.new.store (λ _. tt) c.requires.kept.card c.requires.kept.current c.args.answer.now.items c.requires.empty
+    _ _ c.from_residual.ensures.1 c.in_err-found.ensures.store _
+    (λ status refused. search-refused (card_in old) (session_in old x) c.args.target status c.args.first refused
+    c.args.direction c.args.text.now c.args.expected) c.in_err-found.ensures.found
+
+pub returns-in_err-search : goal.returns-in_err-search
+returns-in_err-search g c =
     let none : length c.args.answer.now.items ≡ 0 = ap (λ (l : List ℕ). length l) c.requires.empty in
     handed (search_record c.args.target c.args.first c.args.direction c.args.text.now c.args.expected) c.args.store.now
-    c.args.current.now c.find_record.new.store c.requires.kept.card c.args.current.now c.args.answer.now.items _ _
-    c.from_residual.ensures.1 c.in_err-found.ensures.store (omega (arith, none))
+    c.args.current.now c.search.new.store c.requires.kept.card c.args.current.now c.args.answer.now.items _
+    c.in_err-search.field-0.0 (reply-failed _ _ c.from_residual-in_err-search.ensures.1)
+    (reads_on c.args.store.now c.find_record.new.store c.search.new.store _ c.find_record.ensures.store.only
+    c.in_err-search.ensures.store) (omega (arith, none))
