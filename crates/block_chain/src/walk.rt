@@ -102,7 +102,8 @@ pub fn lay<B: Board>(
     }
 }
 
-/// The same of a memory of more blocks. It is no part of `lay`, which would else blank all these marks for few blocks too.
+/// The same of a memory of more blocks. It is no part of `lay`, which would
+/// else blank all these marks for few blocks, too.
 #[inline(never)]
 fn lay_many<B: Board>(
     store: &mut Store<B>,

@@ -339,14 +339,15 @@ abbrev pub TellsHeader : List ℕ → Option MemoryFormat → Type 0
 TellsHeader m None = ¬ IsHeader m × ¬ IsOldHeader m
 TellsHeader m (Some format) = IsHeaderIn format m
 
--- what a check of a memory answers: its format, its free space as it is, and the index of its files, or None exactly where it is no card's
+-- what a check of a memory answers: its format, its free space as it is, and the index of its files, or None exactly
+-- where it is no card's
 abbrev pub TellsCard : List ℕ → Option Checked → Type 0
 TellsCard m None = ¬ IsAnyCard m
 TellsCard m (Some checked) = IsCardIn checked.format m × (checked.tree.free ≡ free_space (block_count m) (tree_of m))
     × IsIndex (table m) checked.tree.index
 
--- What is told of a memory that was made one of format 2 if it was a card's: the free space of the card, and where its files are,
--- or None where it was none's.
+-- What is told of a memory that was made one of format 2 if it was a card's: the free space of the card, and where its
+-- files are, or None where it was none's.
 abbrev pub TellsSurvey : List ℕ → List ℕ → Option Survey → Type 0
 TellsSurvey m after None = ¬ IsAnyCard m
 TellsSurvey m after (Some survey) =

@@ -35,8 +35,8 @@ fn renew<B: Board>(store: &mut Store<B>, free: FreeSpace) -> Result<FreeSpace, S
     })
 }
 
-/// What a start finds of the card that the memory stands for, made one of format 2 where it isn't, or None where it stands
-/// for none. At every exit it is the same card, in the format that its header tells, and its files are where they were.
+/// What a start finds of the card that the memory stands for, made one of format 2 where it isn't, or None where it
+/// stands for none. At every exit it is the same card, in the format that its header tells.
 pub(crate) fn survey_card<B: Board>(store: &mut Store<B>) -> Result<Option<Survey>, StoreErr>
     requires ready { IsReady store.old }
     ensures any_exit { (committed store.new ≡ committed store.old)

@@ -56,8 +56,8 @@ fn read_used<B: Board>(store: &mut Store<B>, e: u8) -> Result<Entry, StoreErr>
     read_entry(store, e)
 }
 
-/// Puts all entries, in the order of their numbers, into an empty table. It reads the first word of each, and eleven of those
-/// that a file has. The table stays where it is: 2,816 bytes aren't moved.
+/// Puts all entries, in the order of their numbers, into an empty table. It reads the first word of each, and eleven
+/// more of those that a file has. The table is filled where it is, since it is 2,816 bytes long.
 ///
 /// # Errors
 /// What the store answers: power was lost, or the device failed.

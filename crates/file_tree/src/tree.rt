@@ -26,9 +26,9 @@ pub struct Survey {
     pub index: Index,
 }
 
-/// What a start finds of a memory that stands for a tree of files, or None where it stands for none. It reads the first word
-/// of each entry, eleven more of each that a file has, one link of each block, and the header's words of the format and of the
-/// free chain. The index is made of the entries that were read.
+/// What a start finds of a memory that stands for a tree of files, or None where it stands for none. It reads the first
+/// word of each entry, eleven more of each that a file has, one link of each block, and the header's words of the format
+/// and of the free chain. The index is made of the entries that were read.
 ///
 /// # Errors
 /// What the store answers: power was lost, or the device failed.
@@ -49,8 +49,8 @@ pub fn survey_tree<B: Board>(store: &mut Store<B>) -> Result<Option<Survey>, Sto
     Ok(Some(Survey { free, index }))
 }
 
-/// The free space of a memory whose entries hold to their rules, or None where their blocks are not laid out as they should
-/// be.
+/// The free space of a memory whose entries hold to their rules, or None where their blocks are not laid out as they
+/// should be.
 fn find_free<B: Board>(store: &mut Store<B>, all: &[Entry]) -> Result<Option<FreeSpace>, StoreErr>
     requires ready { IsReady store.old }
     requires read { all.now ≡ table (committed store.old) }

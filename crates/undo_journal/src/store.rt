@@ -128,8 +128,8 @@ impl<B: Board> Store<B> {
         noted(&mut self.failed, answer)
     }
 
-    /// The word at an address of a store that is ready. No set waits then, and no call has failed, so the board alone is asked:
-    /// a start reads hundreds of words so.
+    /// The word at an address of a store that is ready. No set waits then, and no call has failed, so the board alone
+    /// is asked: a start reads hundreds of words so.
     ///
     /// # Errors
     /// What the device answers: power was lost, or it failed.
