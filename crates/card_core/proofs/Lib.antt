@@ -2,6 +2,7 @@ pub mod Told
 pub mod Guarding
 pub mod Verified
 pub mod Disabled
+pub mod Allowing
 pub mod SelectSteps
 pub mod BinarySteps
 pub mod RecordBodies

@@ -43,3 +43,7 @@ IfRefused (Failed e) said = Unit {0}
 abbrev pub Finds : {T : Type 0} → Result T Stop → (T → Type 0) → (Sw → Type 0) → Type 0
 Finds (Ok x) found refused = found x
 Finds (Err stop) found refused = IfRefused stop refused
+
+-- a check, which finds nothing but that: it refuses just where a refusal is due
+abbrev pub Checks : {T : Type 0} → Option Sw → Result T Stop → Type 0
+Checks due result = Finds result (λ _. due ≡ None) (λ status. due ≡ Some status)

@@ -55,6 +55,7 @@ use Rattle.card_core.specs.declared.named.Structure.{Structure}
 use Rattle.card_core.specs.declared.named.Structure.TheVariants.{Bytes, Records, Linear, Cyclic}
 use Rattle.card_core.specs.Cards.{Card, Kind, card_space, is_transparent}
 use Rattle.card_core.specs.Elementary.{file_refusals}
+use Rattle.card_core.specs.Lengths.{asks_less, given, right_length}
 use Rattle.card_core.specs.declared.pins.Usable.{Usable}
 use Rattle.card_core.specs.declared.pins.Usable.TheVariants.{WhileEnabled, WhileDisabled, InAnyCase}
 use Rattle.card_core.specs.Outcomes.{Outcome, Refusal, first_applying, refused_by}
@@ -128,13 +129,16 @@ pub record IsKept (m : Memory) (x : Current) : Type 0 where
 abbrev pub fresh_current : Current
 fresh_current = record { df = 0; ef = None; pointer = None; verified = no_pins }
 
--- the current files after an entry's file became current; the PINs that are verified stay
-abbrev pub current_at : Current → ℕ → Entry → Current
-current_at x e entry = record x {
-  df = if entry.kind == 1 then e else entry.parent;
-  ef = if entry.kind == 1 then None else Some e;
+-- the current files after an entry's file became current, by its kind and its parent; the PINs that are verified stay
+abbrev pub current_by : Current → ℕ → ℕ → ℕ → Current
+current_by x e kind parent = record x {
+  df = if kind == 1 then e else parent;
+  ef = if kind == 1 then None else Some e;
   pointer = None;
 }
+
+abbrev pub current_at : Current → ℕ → Entry → Current
+current_at x e entry = current_by x e entry.kind entry.parent
 
 -- and after a binary command that named an elementary file
 abbrev pub named_from : Current → Target → ℕ → Current
@@ -301,6 +305,13 @@ template_in entry = fcp_text (parameters_in entry)
 abbrev pub data_in : Returned → Entry → List ℕ
 data_in Template entry = template_in entry
 data_in Nothing entry = []
+
+-- An empty answer once data is found: what is given of it by Le; or nothing, and the refusal of an Le that asks for less.
+abbrev pub IsGiven : Option ℕ → List ℕ → List ℕ → Option Sw → Type 0
+IsGiven expected found text None =
+    (asks_less expected found ≡ false) × (text ≡ given expected found) × (length text ≤ 256)
+IsGiven expected found text (Some refusal) =
+    (asks_less expected found ≡ true) × (text ≡ []) × (refusal ≡ right_length found)
 
 -- the words are those of a header, or of a card, of a format
 abbrev pub IsHeaderIn : MemoryFormat → List ℕ → Type 0

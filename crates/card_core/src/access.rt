@@ -5,6 +5,7 @@ ghost use Rattle.pin_store.specs.declared.layout.TheConstants.{PINS};
 ghost use Rattle.std.specs.Result.{result_err};
 ghost use Rattle.undo_journal.specs.Calls.{Reads};
 ghost use Rattle.undo_journal.specs.Memory.{committed, IsReady};
+ghost use Rattle.file_tree.specs.Entries.{is_allowed_by};
 ghost use Rattle.file_tree.specs.Table.{path_of, IsUsed};
 ghost use Rattle.card_core.specs.Guards.{allowed};
 ghost use Rattle.card_core.specs.Standing.{IsCard};
@@ -12,7 +13,7 @@ ghost use Rattle.card_core.specs.Working.{card_in, disabled_in, session_in, tabl
 
 use crate::current::Current;
 use card_rules::{AccessBit, PinNumber, PinSet};
-use file_tree::is_allowed;
+use file_tree::{Entry, is_allowed, is_allowed_at};
 use pin_store::{PINS, is_enabled};
 use undo_journal::{Board, Store, StoreErr};
 
@@ -58,4 +59,20 @@ pub(crate) fn allows<B: Board>(
 {
     let disabled = disabled_pins(store)?;
     is_allowed(store, number, bit, &current.verified, &disabled)
+}
+
+/// The same, by the file's entry, which is at hand.
+pub(crate) fn allows_at<B: Board>(
+    store: &mut Store<B>,
+    current: &Current,
+    entry: &Entry,
+    bit: AccessBit,
+) -> Result<bool, StoreErr>
+    requires ready { IsReady store.old }
+    ensures allowed { IfOk result (λ permits. permits
+        ≡ is_allowed_by entry.now bit current.now.verified (disabled_in (committed store.old))) }
+    ensures store { Reads store.old store.new (result_err result) }
+{
+    let disabled = disabled_pins(store)?;
+    Ok(is_allowed_at(entry, bit, &current.verified, &disabled))
 }

@@ -1,11 +1,11 @@
 //! The current files of a session (ISO/IEC 7816-4, 7.3.1), by the numbers of their entries, and the PINs that are verified in it.
 ghost use Rattle.std.specs.Prelude.{◌≡◌};
 ghost use Rattle.card_rules.specs.Pins.{IsPinNumber};
-ghost use Rattle.card_core.specs.Working.{current_at, fresh_current, named_from, pointer_from, pointing_from, tried_from, unverifies};
+ghost use Rattle.card_core.specs.Working.{current_at, current_by, fresh_current, named_from, pointer_from, pointing_from, tried_from, unverifies};
 
 use apdu_core::Target;
 use card_rules::{PinNumber, PinSet};
-use file_tree::{Entry, kinds};
+use file_tree::{Entry, EntryHead, kinds};
 use pin_store::Outcome;
 
 /// The current dedicated file, the current elementary file in it, if there is one, and the PINs that are verified.
@@ -45,10 +45,17 @@ impl Current {
     pub fn at(self, e: u8, entry: &Entry) -> Current
         ensures { result ≡ current_at self e entry.now }
     {
-        let (df, ef) = if entry.kind == kinds::DEDICATED {
+        self.at_head(e, entry.head())
+    }
+
+    /// The same, by the head of the entry.
+    pub fn at_head(self, e: u8, head: EntryHead) -> Current
+        ensures { result ≡ current_by self e head.kind head.parent }
+    {
+        let (df, ef) = if head.kind == kinds::DEDICATED {
             (e, None)
         } else {
-            (entry.parent, Some(e))
+            (head.parent, Some(e))
         };
         Current {
             df,

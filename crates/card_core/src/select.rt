@@ -1,25 +1,29 @@
 //! SELECT (ISO/IEC 7816-4, 11.2.2).
-ghost use Rattle.std.specs.Prelude.{◌≡◌, [], option_map, IfOk, IfSome};
+ghost use Rattle.std.specs.Prelude.{◌≡◌, ◌<◌, [], None, Some, option_map, IfOk, IfSome, OnErr};
 ghost use Rattle.std.specs.Result.{result_err};
 ghost use Rattle.undo_journal.specs.Calls.{Reads};
+ghost use Rattle.undo_journal.specs.Memory.{IsReady};
 ghost use Rattle.apdu_core.specs.Ranges.{IsFilePath, IsSelector};
 ghost use Rattle.apdu_core.specs.Requests.{select as selection};
 ghost use Rattle.apdu_core.specs.Selections.{identifiers_in, selection_of};
 ghost use Rattle.file_tree.specs.Indexes.{IsIndex};
-ghost use Rattle.file_tree.specs.Table.{path_of, IsUsed};
+ghost use Rattle.file_tree.specs.Table.{entry_in, path_of, IsUsed};
 ghost use Rattle.card_core.specs.Reaching.{selected_from};
 ghost use Rattle.card_core.specs.Selecting.{selection_status};
 ghost use Rattle.card_core.specs.Served.{Serves};
-ghost use Rattle.card_core.specs.Working.{card_in, data_in, life_of, session_in, table_in, IsKept, IsToldEntry};
+ghost use Rattle.card_core.specs.Stops.{failure, reply, Finds};
+ghost use Rattle.card_core.specs.Working.{card_in, data_in, session_in, table_in, template_in, IsGiven, IsKept, IsToldEntry};
 
 use crate::current::Current;
-use crate::lengths::{ResponseData, asks_less, give, right_length};
-use crate::templates::{life_of, template_of};
+use crate::lengths::{asks_less, give, right_length};
+use crate::stop::Stop;
+use crate::templates::template_of;
 use apdu_core::{Answer, FilePath, Returned, Selector, Sw};
 use arrayvec::ArrayVec;
 use card_rules::LifeCycle;
 use file_tree::{
-    Entry, Index, find_name, find_parent, find_path, find_path_from_master, read_entry, select,
+    Entry, Index, find_name, find_parent, find_path, find_path_from_master, read_entry,
+    read_entry_head, select,
 };
 use undo_journal::{Board, Store, StoreErr};
 
@@ -36,24 +40,21 @@ pub(crate) fn select_file<B: Board>(
     returned: Returned,
     expected: Option<u8>,
     answer: &mut Answer,
-) -> Result<Sw, StoreErr>
+) -> Result<Sw, Stop>
     requires kept { IsKept store.old current.old }
     requires index { IsIndex (table_in store.old) index.now }
     requires selector { IsSelector selector }
     requires empty { answer.old.items ≡ [] }
-    ensures { Serves (selection (selection_of selector.entry) returned expected) store.old current.old store.new current.new answer.new.items result }
+    ensures { Serves (selection (selection_of selector.entry) returned expected) store.old current.old store.new current.new answer.new.items
+        (reply result) }
 {
     let Some(e) = find_selected(store, index, *current, selector)? else {
-        return Ok(Sw::FILE_NOT_FOUND);
+        return Err(Stop::Refused(Sw::FILE_NOT_FOUND));
     };
-    let entry = read_entry(store, e)?;
-    let data = data_of(&entry, returned);
-    if asks_less(expected, &data) {
-        return Ok(right_length(&data));
-    }
-    give(expected, &data, answer);
-    *current = current.at(e, &entry);
-    Ok(status_of(&entry))
+    let head = read_entry_head(store, e)?;
+    give_data(store, e, returned, expected, answer)?;
+    *current = current.at_head(e, head);
+    Ok(status_of(head.life_cycle()))
 }
 
 /// The entry of the file that SELECT names.
@@ -98,22 +99,58 @@ fn identifiers_of(path: FilePath<'_>) -> ArrayVec<u16, PATH_ROOM>
     all
 }
 
-/// The data that SELECT finds: the template of the file of a used entry, where it is asked for.
-fn data_of(entry: &Entry, returned: Returned) -> ResponseData
-    requires { IsToldEntry entry.now }
-    ensures { result.items ≡ data_in returned entry.now }
+/// The data that SELECT finds goes into `answer`: the template of a used entry's file, where it is asked for; the rest of the
+/// entry is read for it alone. The refusal, where Le asks for less.
+fn give_data<B: Board>(
+    store: &mut Store<B>,
+    e: u8,
+    returned: Returned,
+    expected: Option<u8>,
+    answer: &mut Answer,
+) -> Result<(), Stop>
+    requires ready { IsReady store.old }
+    requires within { e < 64 }
+    requires told { IsToldEntry (entry_in (table_in store.old) e) }
+    requires empty { answer.old.items ≡ [] }
+    ensures data { Finds result
+        (λ _. IsGiven expected (data_in returned (entry_in (table_in store.old) e)) answer.new.items None)
+        (λ refusal. IsGiven expected (data_in returned (entry_in (table_in store.old) e)) answer.new.items (Some refusal)) }
+    ensures nothing { OnErr result (answer.new.items ≡ []) }
+    ensures store { Reads store.old store.new (failure result) }
 {
     match returned {
-        Returned::Template => template_of(entry),
-        Returned::Nothing => ResponseData::new(),
+        Returned::Nothing => Ok(()),
+        Returned::Template => {
+            let entry = read_entry(store, e)?;
+            give_template(&entry, expected, answer)?;
+            Ok(())
+        }
     }
 }
 
-/// The status word of SELECT, which tells the life cycle of the file of an entry.
-fn status_of(entry: &Entry) -> Sw
-    ensures { result ≡ selection_status (life_of entry.now) }
+/// The template of the file of a used entry goes into `answer`. The refusal, where Le asks for less.
+///
+/// A function pays for the room of its locals where it begins: in one of its own, a SELECT without a template doesn't pay for a
+/// template's.
+#[inline(never)]
+fn give_template(entry: &Entry, expected: Option<u8>, answer: &mut Answer) -> Result<(), Sw>
+    requires told { IsToldEntry entry.now }
+    requires empty { answer.old.items ≡ [] }
+    ensures { IsGiven expected (template_in entry.now) answer.new.items (result_err result) }
 {
-    match life_of(entry) {
+    let template = template_of(entry);
+    if asks_less(expected, &template) {
+        return Err(right_length(&template));
+    }
+    give(expected, &template, answer);
+    Ok(())
+}
+
+/// The status word of SELECT, which tells the life cycle of the file.
+fn status_of(life: LifeCycle) -> Sw
+    ensures { result ≡ selection_status life }
+{
+    match life {
         LifeCycle::Deactivated => Sw::SELECTED_DEACTIVATED,
         LifeCycle::Terminated => Sw::SELECTED_TERMINATED,
         _ => Sw::DONE,

@@ -1,12 +1,16 @@
 -- File entries: what the words of a page tell of a file, and the files that they mean.
-use Rattle.std.specs.Prelude.{ℕ, ◌+◌, ◌*◌, ◌/◌, ◌%◌, ◌==◌, nat_le, if◌then◌else◌, List, map, take, replicate}
+use Rattle.std.specs.Prelude.{Bool, ℕ, ◌+◌, ◌*◌, ◌/◌, ◌%◌, ◌==◌, nat_le, if◌then◌else◌, List, map, take, replicate}
 use Rattle.std.specs.Prelude.{slice_index, slice_range, Option, None, Some, unwrap_or}
 use Rattle.std.specs.List.{flat_map, range_with_len}
 use Rattle.card_rules.specs.LifeCycle.{life_cycle_at}
+use Rattle.card_rules.specs.declared.life_cycle.LifeCycle.{LifeCycle}
 use Rattle.card_rules.specs.declared.life_cycle.LifeCycle.TheVariants.{Activated}
+use Rattle.card_rules.specs.declared.access_mode.AccessBit.{AccessBit}
+use Rattle.card_rules.specs.Rule.{allows}
 use Rattle.block_chain.specs.declared.chain.Extent.{Extent}
 use Rattle.block_chain.specs.Words.{word_bytes}
 use Rattle.file_tree.specs.declared.entry.Entry.{Entry}
+use Rattle.file_tree.specs.declared.entry.EntryHead.{EntryHead}
 use Rattle.file_tree.specs.Cards.{transparent, linear, cyclic, dedicated, elementary, Body, Kind, File}
 use Rattle.file_tree.specs.Spaces.{blocks_for}
 
@@ -70,12 +74,33 @@ entry_told words = record {
 unfoldable pub entry_of : List ℕ → Entry
 entry_of words = if slice_index words 0 == 0 then free_entry else entry_told words
 
+-- The head of an entry is what its first two words tell of the file that concerns the files below it.
+abbrev pub head_of : Entry → EntryHead
+head_of entry = record { kind = entry.kind; life = entry.life; parent = entry.parent }
+
+abbrev pub head_told : ℕ → ℕ → EntryHead
+head_told first second =
+    if first == 0 then head_of free_entry else
+    record { kind = byte_of first 0; life = byte_of first 1; parent = byte_of second 0 }
+
+-- the state that a life cycle status byte tells, and the state of an entry's file (By the rules on entries the byte stands for
+-- a state.)
+abbrev pub state_told : ℕ → LifeCycle
+state_told byte = unwrap_or (life_cycle_at byte) Activated
+
+abbrev pub life_told : Entry → LifeCycle
+life_told entry = state_told entry.life
+
 -- the name, and the access rule: so many of the bytes that the entry has for them
 abbrev pub name_of : Entry → List ℕ
 name_of entry = take entry.name_length entry.name
 
 abbrev pub rule_of : Entry → List ℕ
 rule_of entry = take entry.rule_length entry.rule
+
+-- whether that rule allows an operation in the state of the file, where these PINs are verified, and these are disabled
+abbrev pub is_allowed_by : Entry → AccessBit → List Bool → List Bool → Bool
+is_allowed_by entry bit verified disabled = allows (rule_of entry) bit (life_told entry) verified disabled
 
 -- how many records a body has room for
 abbrev pub capacity_of : Entry → ℕ
@@ -107,10 +132,10 @@ kind_of entry bytes =
     if entry.kind == 1 then dedicated (if entry.name_length == 0 then None else Some (name_of entry))
     else elementary (if entry.short == 0 then None else Some entry.short) (body_of entry bytes)
 
--- The file of a used entry whose blocks hold these bytes. (By the rules on entries its life cycle byte stands for one.)
+-- the file of a used entry whose blocks hold these bytes
 unfoldable pub file_of : Entry → List ℕ → File
 file_of entry bytes = record {
-  life = unwrap_or (life_cycle_at entry.life) Activated;
+  life = life_told entry;
   rule = rule_of entry;
   kind = kind_of entry bytes;
 }

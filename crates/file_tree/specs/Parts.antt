@@ -1,13 +1,10 @@
 -- What single steps of the checks, the look-ups and the life cycles find. No public clause names these.
 use Rattle.std.specs.Prelude.{◌≡◌, ◌≢◌, ◌==◌, ◌⊎◌, ◌<◌, ◌&&◌, ◌||◌, ℕ, zero, suc, Bool, false, not, if◌then◌else◌}
-use Rattle.std.specs.Prelude.{List, length, Option, None, Some, unwrap_or}
-use Rattle.card_rules.specs.LifeCycle.{life_cycle_at}
-use Rattle.card_rules.specs.declared.life_cycle.LifeCycle.{LifeCycle}
-use Rattle.card_rules.specs.declared.life_cycle.LifeCycle.TheVariants.{Activated}
+use Rattle.std.specs.Prelude.{List, length, Option, None, Some}
 use Rattle.file_tree.specs.declared.entry.Entry.{Entry}
 use Rattle.file_tree.specs.Cards.{master_file}
 use Rattle.file_tree.specs.States.{bars}
-use Rattle.file_tree.specs.Entries.{byte_of, low, name_of}
+use Rattle.file_tree.specs.Entries.{byte_of, life_told, low, name_of}
 use Rattle.file_tree.specs.Table.{entry_in, IsUsed, IsBelowMaster, IsChild}
 
 -- two entries have the same name, which has bytes
@@ -73,10 +70,6 @@ IsNamed t text f = BearsName (entry_in t f) text
 abbrev pub TellsNamed : List Entry → List ℕ → Option ℕ → Type 0
 TellsNamed t name None = (f : ℕ) → IsNamed t name f → ⊥
 TellsNamed t name (Some f) = IsNamed t name f
-
--- the state that an entry tells
-abbrev pub life_told : Entry → LifeCycle
-life_told x = unwrap_or (life_cycle_at x.life) Activated
 
 -- whether at most so many steps to parents lead by a file that bars
 unfoldable pub barred_up : List Entry → ℕ → ℕ → Bool

@@ -2,13 +2,15 @@
 
 ghost use Rattle.std.specs.Prelude.{◌≡◌, ◌++◌};
 ghost use Rattle.block_chain.specs.Words.{word_bytes};
-ghost use Rattle.file_tree.specs.Entries.{high, low, free_entry, entry_of, name_of, rule_of, extent_of};
+ghost use Rattle.file_tree.specs.Entries.{high, low, free_entry, entry_of, head_of, head_told, life_told, state_told};
+ghost use Rattle.file_tree.specs.Entries.{name_of, rule_of, extent_of};
 
 use crate::kinds;
 use crate::layout::{ENTRIES, ENTRY_WORDS, RECORDS_WORD};
 use crate::placing::blocks_for;
 use arrayvec::ArrayVec;
 use block_chain::{Chain, Extent};
+use card_rules::LifeCycle;
 
 /// A file entry, as words 0 to 10 of its page tell it. Any words are an entry; the rules on entries say which tables of
 /// entries are a tree.
@@ -44,6 +46,18 @@ pub struct Entry {
     pub records: u16,
     /// The slot of record 1 of a cyclic file; of other files 0.
     pub start: u16,
+}
+
+/// What the first two words of an entry tell of the file that concerns the files below it: a step to a parent asks for no
+/// more.
+#[derive(Clone, Copy)]
+pub struct EntryHead {
+    /// One of `kinds`.
+    pub kind: u8,
+    /// The life cycle status byte (ISO/IEC 7816-4, 7.4.10).
+    pub life: u8,
+    /// The number of the parent's entry; the master file's is its own, 0.
+    pub parent: u8,
 }
 
 /// The most elements of a list that has at most one for each entry.
@@ -91,6 +105,24 @@ impl Entry {
         }
     }
 
+    /// What of it concerns the files below.
+    pub fn head(&self) -> EntryHead
+        ensures { result ≡ head_of self.now }
+    {
+        EntryHead {
+            kind: self.kind,
+            life: self.life,
+            parent: self.parent,
+        }
+    }
+
+    /// The state of the file.
+    pub fn life_cycle(&self) -> LifeCycle
+        ensures { result ≡ life_told self.now }
+    {
+        state_of(self.life)
+    }
+
     /// The name of a dedicated file, or no bytes.
     pub fn name(&self) -> &[u8]
         ensures { result.now ≡ name_of self.now }
@@ -122,6 +154,34 @@ impl Entry {
         let blocks = blocks_for(self.size);
         Some(Extent { chain, blocks })
     }
+}
+
+impl EntryHead {
+    /// The head of the entry that begins with these words.
+    pub(crate) fn from_words(first: u32, second: u32) -> EntryHead
+        ensures { result ≡ head_told first second }
+    {
+        if first == 0 {
+            return Entry::free().head();
+        }
+        let [kind, life, _, _] = first.to_be_bytes();
+        let [parent, _, _, _] = second.to_be_bytes();
+        EntryHead { kind, life, parent }
+    }
+
+    /// The state of the entry's file.
+    pub fn life_cycle(self) -> LifeCycle
+        ensures { result ≡ state_told self.life }
+    {
+        state_of(self.life)
+    }
+}
+
+/// The state that a life cycle status byte tells. In an entry of a tree the byte stands for one.
+fn state_of(life: u8) -> LifeCycle
+    ensures { result ≡ state_told life }
+{
+    LifeCycle::from_byte(life).unwrap_or(LifeCycle::Activated)
 }
 
 /// The first two bytes of a word.

@@ -9,11 +9,12 @@ ghost use Rattle.undo_journal.specs.Calls.{OnlyReads, Reads, Changes};
 ghost use Rattle.file_tree.specs.States.{bars, is_allowed, is_barred, life_at, next_life, with_card_terminated, ChangesLife};
 ghost use Rattle.file_tree.specs.Table.{table, entry_in, path_of, IsUsed};
 ghost use Rattle.file_tree.specs.Trees.{tree_of, TreeStands};
-ghost use Rattle.file_tree.specs.Parts.{barred_up, life_told, TellsLife};
+ghost use Rattle.file_tree.specs.Entries.{is_allowed_by};
+ghost use Rattle.file_tree.specs.Parts.{barred_up, TellsLife};
 
 use crate::entry::Entry;
 use crate::layout::{CARD_TERMINATED, DEEPEST, STATE_WORD, entry_address};
-use crate::reading::read_entry;
+use crate::reading::{read_entry, read_entry_head};
 use crate::writing::two_bytes;
 use block_chain::HEADER_PAGE;
 use card_rules::{AccessBit, LifeCycle, LifeCycleCommand, PinSet, allows};
@@ -26,16 +27,9 @@ fn bars(life: LifeCycle) -> bool
     matches!(life, LifeCycle::Deactivated | LifeCycle::Terminated)
 }
 
-/// The state that an entry tells.
-fn life_of(entry: &Entry) -> LifeCycle
-    ensures { result ≡ life_told entry.now }
-{
-    LifeCycle::from_byte(entry.life).unwrap_or(LifeCycle::Activated)
-}
-
 /// A file above that of an entry is deactivated or terminated. By at most seven steps from child to parent all files above
-/// are met; each step reads one entry, and a file that bars ends the way. `parent` is the number that the entry tells of
-/// its parent.
+/// are met; each step reads the head of one entry, and a file that bars ends the way. `parent` is the number that the entry
+/// tells of its parent.
 fn is_below_barred<B: Board>(store: &mut Store<B>, e: u8, parent: u8) -> Result<bool, StoreErr>
     requires ready { IsReady store.old }
     requires tree { TreeStands (committed store.old) }
@@ -50,12 +44,12 @@ fn is_below_barred<B: Board>(store: &mut Store<B>, e: u8, parent: u8) -> Result<
         if at == 0 {
             return Ok(false);
         }
-        let entry = read_entry(store, above)?;
-        if bars(life_of(&entry)) {
+        let head = read_entry_head(store, above)?;
+        if bars(head.life_cycle()) {
             return Ok(true);
         }
         at = above;
-        above = entry.parent;
+        above = head.parent;
     }
     Ok(false)
 }
@@ -73,7 +67,23 @@ pub fn is_barred<B: Board>(store: &mut Store<B>, e: u8) -> Result<bool, StoreErr
     ensures store { Reads store.old store.new (result_err result) }
 {
     let entry = read_entry(store, e)?;
-    if bars(life_of(&entry)) {
+    is_barred_at(store, e, &entry)
+}
+
+/// The same, where the entry is at hand: it isn't read again.
+///
+/// # Errors
+/// What the store answers: power was lost, or the device failed.
+pub fn is_barred_at<B: Board>(store: &mut Store<B>, e: u8, entry: &Entry) -> Result<bool, StoreErr>
+    requires ready { IsReady store.old }
+    requires tree { TreeStands (committed store.old) }
+    requires used { IsUsed (table (committed store.old)) e }
+    requires entry { entry.now ≡ entry_in (table (committed store.old)) e }
+    ensures barred { IfOk result (λ barred. barred
+        ≡ is_barred (tree_of (committed store.old)) (path_of (table (committed store.old)) e)) }
+    ensures store { Reads store.old store.new (result_err result) }
+{
+    if bars(entry.life_cycle()) {
         return Ok(true);
     }
     is_below_barred(store, e, entry.parent)
@@ -101,7 +111,7 @@ pub fn next_life_cycle<B: Board>(
     if barred {
         return Ok(None);
     }
-    Ok(LifeCycle::next_state(command, life_of(&entry)))
+    Ok(LifeCycle::next_state(command, entry.life_cycle()))
 }
 
 /// The first word of an entry in another state.
@@ -176,7 +186,14 @@ pub fn is_allowed<B: Board>(
     ensures store { Reads store.old store.new (result_err result) }
 {
     let entry = read_entry(store, e)?;
-    Ok(allows(entry.rule(), bit, life_of(&entry), verified, disabled))
+    Ok(is_allowed_at(&entry, bit, verified, disabled))
+}
+
+/// The same, where the entry is at hand: its rule is asked where it lies.
+pub fn is_allowed_at(entry: &Entry, bit: AccessBit, verified: &PinSet, disabled: &PinSet) -> bool
+    ensures { result ≡ is_allowed_by entry.now bit verified.now disabled.now }
+{
+    allows(entry.rule(), bit, entry.life_cycle(), verified, disabled)
 }
 
 /// Ends the use of the card: the state of the card in the header is "terminated". No other word changes. A card whose use

@@ -5,9 +5,10 @@ ghost use Rattle.std.specs.Result.{result_err};
 ghost use Rattle.undo_journal.specs.Memory.{committed, IsReady};
 ghost use Rattle.undo_journal.specs.Calls.{Reads};
 ghost use Rattle.block_chain.specs.Words.{word};
+ghost use Rattle.file_tree.specs.Entries.{head_of};
 ghost use Rattle.file_tree.specs.Table.{table, entry_in};
 
-use crate::entry::{Entry, Table};
+use crate::entry::{Entry, EntryHead, Table};
 use crate::layout::{ENTRIES_END, ENTRY_WORDS, entry_address};
 use undo_journal::{Board, Store, StoreErr};
 
@@ -39,6 +40,22 @@ pub fn read_entry<B: Board>(store: &mut Store<B>, e: u8) -> Result<Entry, StoreE
 {
     let words = read_words(store, e)?;
     Ok(Entry::from_words(&words))
+}
+
+/// The head of an entry by its number: it reads two words where the whole entry takes eleven.
+///
+/// # Errors
+/// What the store answers: power was lost, or the device failed.
+pub fn read_entry_head<B: Board>(store: &mut Store<B>, e: u8) -> Result<EntryHead, StoreErr>
+    requires ready { IsReady store.old }
+    requires within { e < 64 }
+    ensures head { IfOk result (λ head. head ≡ head_of (entry_in (table (committed store.old)) e)) }
+    ensures store { Reads store.old store.new (result_err result) }
+{
+    let at = entry_address(e);
+    let first = store.read(at)?;
+    let second = store.read(at + 1)?;
+    Ok(EntryHead::from_words(first, second))
 }
 
 /// All entries, in the order of their numbers. It reads eleven words of each.

@@ -8,14 +8,15 @@ use Rattle.std.proofs.lemmas.List.{length-append, take-append-le}
 use Rattle.std.proofs.lemmas.List.Folds.{list_any-append}
 use Rattle.std.proofs.lemmas.List.FromFn.{map-range_with_len_more}
 use Rattle.std.proofs.Math.Seq.{take-append_seam}
-use Rattle.card_rules.specs.Rule.{is_rule}
+use Rattle.card_rules.specs.Rule.{is_rule, allows}
+use Rattle.card_rules.specs.declared.access_mode.AccessBit.{AccessBit}
 use Rattle.file_tree.specs.declared.entry.Entry.{Entry}
 use Rattle.file_tree.specs.Cards.{Path, File, Tree, file_at}
-use Rattle.file_tree.specs.Entries.{free_entry, file_of, rule_of}
-use Rattle.file_tree.specs.States.{bars, above, life_at, has_barred_above}
+use Rattle.file_tree.specs.Entries.{free_entry, file_of, is_allowed_by, life_told, rule_of}
+use Rattle.file_tree.specs.States.{bars, above, life_at, has_barred_above, is_allowed}
 use Rattle.file_tree.specs.Table.{table, entry_in, ancestor, path_of, IsUsed, IsTable}
 use Rattle.file_tree.specs.Trees.{content, tree_of}
-use Rattle.file_tree.specs.Parts.{life_told, barred_up}
+use Rattle.file_tree.specs.Parts.{barred_up}
 use Rattle.file_tree.specs.laws.Paths.{path-zero, path_of-child, parent_used, reaches_master}
 use Rattle.file_tree.specs.laws.Nodes.{used_small, file_at_entry}
 use Rattle.file_tree.specs.laws.Tables.{length-table}
@@ -126,3 +127,12 @@ module _ (m : List ℕ) (rules : IsTable (table m)) where
   pub barred_told : (e : ℕ) → IsUsed (table m) e
       → barred_up (table m) 7 e ≡ has_barred_above (tree_of m) (path_of (table m) e)
   barred_told e used = barred_steps 7 e (reaches_master (table m) rules e used) used
+
+-- what the rule of a used entry allows is what the rule of its file allows
+pub allowed_by_there : (m : List ℕ) → IsTable (table m) → (e : ℕ) → IsUsed (table m) e → (x : Entry)
+    → x ≡ entry_in (table m) e → (bit : AccessBit) (verified disabled : List Bool)
+    → is_allowed_by x bit verified disabled ≡ is_allowed (tree_of m) (path_of (table m) e) bit verified disabled
+allowed_by_there m rules e used x is bit verified disabled =
+    let rule = ap rule_of is ∙ sym (rule_told_there m rules e used) in
+    let life = ap life_told is ∙ sym (life_told_there m rules e used) in
+    (λ i. allows (rule i) bit (life i) verified disabled)

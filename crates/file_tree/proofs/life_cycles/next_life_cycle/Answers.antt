@@ -8,7 +8,8 @@ use Rattle.card_rules.specs.LifeCycle.{state_after}
 use Rattle.card_rules.specs.declared.life_cycle.LifeCycle.{LifeCycle}
 use Rattle.file_tree.specs.declared.entry.Entry.{Entry}
 use Rattle.file_tree.specs.Table.{table}
-use Rattle.file_tree.specs.Parts.{barred_up, life_told}
+use Rattle.file_tree.specs.Entries.{life_told}
+use Rattle.file_tree.specs.Parts.{barred_up}
 use Rattle.file_tree.specs.laws.Barring.{barred_told, life_told_there}
 use Rattle.file_tree.specs.laws.Nodes.{used_small}
 use Rattle.undo_journal.specs.laws.Told.{reads_handed, reads_on}
@@ -35,7 +36,7 @@ returns-clause-next g c =
     let m = committed c.args.store.now in
     let e = c.args.e in
     let rules = c.requires.tree.entries in
-    c.next_state.ensures ∙ ap (λ (life : LifeCycle). state_after c.args.command life) c.life_of.ensures
+    c.next_state.ensures ∙ ap (λ (life : LifeCycle). state_after c.args.command life) c.life_cycle.ensures
     ∙ ap (λ (b : Bool). if b then None else state_after c.args.command (life_told c.in_ok-entry.entry))
     (sym c.if-barred.false)
     ∙ ap₂ (λ (b : Bool) (life : LifeCycle). if b then None else state_after c.args.command life)
