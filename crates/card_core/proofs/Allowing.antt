@@ -1,6 +1,6 @@
 -- What the rule of a file allows in a session, by the marks of the PINs that the code keeps and reads.
 use Rattle.std.specs.Prelude.{map, not}
-use Rattle.std.proofs.Common.{◌≡◌, ℕ, Bool, List, length, sym, ◌∙◌, ap}
+use Rattle.std.proofs.Common.{◌≡◌, ℕ, List, length, sym, ◌∙◌, ap}
 use Rattle.card_rules.specs.declared.access_mode.AccessBit.{AccessBit}
 use Rattle.file_tree.specs.Cards.{Tree}
 use Rattle.file_tree.specs.States.{is_allowed}

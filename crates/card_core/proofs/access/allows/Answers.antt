@@ -1,7 +1,7 @@
 use Rattle.std.specs.Prelude.{IfOk}
-use Rattle.std.proofs.Common.{◌≡◌, Bool, sym, ◌∙◌, subst}
+use Rattle.std.proofs.Common.{◌≡◌, Bool, ◌∙◌, subst}
 use Rattle.undo_journal.specs.Memory.{committed}
-use Rattle.undo_journal.specs.laws.Told.{reads_handed, reads_on}
+use Rattle.undo_journal.specs.laws.Told.{reads_on}
 use Rattle.file_tree.specs.States.{is_allowed}
 use Rattle.file_tree.specs.Table.{table, path_of}
 use Rattle.file_tree.specs.Trees.{tree_of}

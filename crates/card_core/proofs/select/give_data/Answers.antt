@@ -1,12 +1,11 @@
-use Rattle.std.proofs.Common.{◌≡◌, ℕ, List, [], length, Option, None, Some, nat_lt, false, refl, sym, ◌∙◌, ap, subst, arith}
-use Rattle.card_rules.specs.declared.status.Sw.{Sw}
+use Rattle.std.proofs.Common.{◌≡◌, ℕ, List, [], length, Option, None, Some, false, refl, sym, ap, subst, arith}
 use Rattle.apdu_core.specs.declared.select.Returned.{Returned}
 use Rattle.undo_journal.specs.Memory.{committed}
 use Rattle.card_core.specs.declared.stop.Stop.TheVariants.{Refused, Failed}
 use Rattle.card_core.proofs.Stopping.{finds-stopped, reads-stopped}
 use Rattle.file_tree.specs.declared.entry.Entry.{Entry}
 use Rattle.file_tree.specs.Table.{table, entry_in}
-use Rattle.card_core.specs.Lengths.{asks_less, given}
+use Rattle.card_core.specs.Lengths.{asks_less}
 use Rattle.card_core.specs.Working.{data_in, template_in, IsGiven, IsToldEntry}
 use Rattle.card_core.proofs.select.give_data.Goals as goal
 
