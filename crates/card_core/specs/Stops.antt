@@ -1,5 +1,5 @@
 -- How a command ends that stops before it is done, and what is said of such an end. No public clause names this.
-use Rattle.std.specs.Prelude.{Option, Some, None, Result, Ok, Err}
+use Rattle.std.specs.Prelude.{◌≡◌, Option, Some, None, Result, Ok, Err}
 use Rattle.card_rules.specs.declared.status.Sw.{Sw}
 use Rattle.card_rules.specs.declared.status.TheConstants.Sw.{METHOD_BLOCKED}
 use Rattle.undo_journal.specs.declared.error.StoreErr.{StoreErr}
@@ -43,3 +43,7 @@ IfRefused (Failed e) said = Unit {0}
 abbrev pub Finds : {T : Type 0} → Result T Stop → (T → Type 0) → (Sw → Type 0) → Type 0
 Finds (Ok x) found refused = found x
 Finds (Err stop) found refused = IfRefused stop refused
+
+-- a check, which finds nothing but that: it refuses just where a refusal is due
+abbrev pub Checks : {T : Type 0} → Option Sw → Result T Stop → Type 0
+Checks due result = Finds result (λ _. due ≡ None) (λ status. due ≡ Some status)

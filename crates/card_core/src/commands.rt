@@ -95,7 +95,7 @@ fn serve<B: Board>(
             selector,
             returned,
             expected,
-        } => Ok(select_file(store, index, current, selector, returned, expected, answer)?),
+        } => select_file(store, index, current, selector, returned, expected, answer),
         Command::ReadBinary {
             target,
             offset,

@@ -14,7 +14,7 @@ ghost use Rattle.card_core.specs.Guards.{allowed};
 ghost use Rattle.card_core.specs.Outcomes.{refused_by};
 ghost use Rattle.card_core.specs.Reaching.{subject_of};
 ghost use Rattle.card_core.specs.Served.{Serves};
-ghost use Rattle.card_core.specs.Stops.{failure, reply, Finds};
+ghost use Rattle.card_core.specs.Stops.{failure, reply, Checks, Finds};
 ghost use Rattle.card_core.specs.Working.{card_in, file_refusal, session_in, space_in, table_in, IsKept};
 
 use crate::access::allows;
@@ -151,29 +151,27 @@ fn find_deletable<B: Board>(
         return Err(Stop::Refused(Sw::CONDITIONS_NOT_SATISFIED));
     }
     let entry = read_entry(store, number)?;
-    match deletion_refusal(store, current, number, entry.parent)? {
-        Some(refusal) => Err(Stop::Refused(refusal)),
-        None => Ok(Named { number, entry }),
-    }
+    check_deletion(store, current, number, entry.parent)?;
+    Ok(Named { number, entry })
 }
 
-/// What refuses DELETE FILE by a file and its parent: the parent, or a file above it, is barred; the rule of neither allows it.
+/// Refuses DELETE FILE by a file and its parent: the parent, or a file above it, is barred; the rule of neither allows it.
 #[tactic(auto, using(undo_journal::specs::laws::Calls::reads_then))]
-fn deletion_refusal<B: Board>(
+fn check_deletion<B: Board>(
     store: &mut Store<B>,
     current: &Current,
     number: u8,
     parent: u8,
-) -> Result<Option<Sw>, StoreErr>
+) -> Result<(), Stop>
     requires kept { IsKept store.old current.now }
     requires used { IsUsed (table_in store.old) number }
     requires above { IsUsed (table_in store.old) parent }
-    ensures found { IfOk result (λ refusal. refusal ≡ file_refusal
+    ensures refusal { Checks (file_refusal
         (is_barred_at (card_in store.old).tree (path_of (table_in store.old) parent)) true
         (allowed (card_in store.old) (session_in store.old current.now) (path_of (table_in store.old) number) DeleteSelf
         || allowed (card_in store.old) (session_in store.old current.now) (path_of (table_in store.old) parent)
-        DeleteChild)) }
-    ensures store { Reads store.old store.new (result_err result) }
+        DeleteChild)) result }
+    ensures store { Reads store.old store.new (failure result) }
 {
     let barred = is_barred(store, parent)?;
     let own = allows(store, current, number, AccessBit::DeleteSelf)?;
@@ -183,7 +181,8 @@ fn deletion_refusal<B: Board>(
         fits: true,
         allowed: own || by_parent,
     };
-    Ok(findings.refusal())
+    findings.check()?;
+    Ok(())
 }
 
 /// The entry of the file that a command on files is about.

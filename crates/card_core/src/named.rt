@@ -10,7 +10,7 @@ ghost use Rattle.card_core.specs.Elementary.{file_refusals, missing as missing_s
 ghost use Rattle.card_core.specs.Guards.{allowed};
 ghost use Rattle.card_core.specs.Outcomes.{refused_by};
 ghost use Rattle.card_core.specs.Reaching.{target_of};
-ghost use Rattle.card_core.specs.Stops.{failure, Finds};
+ghost use Rattle.card_core.specs.Stops.{failure, Checks, Finds};
 ghost use Rattle.card_core.specs.Working.{card_in, file_refusal, fits, fits_kind, session_in, table_in, IsElementary, IsKept, IsNamed};
 
 use crate::access::allows_at;
@@ -69,35 +69,35 @@ pub(crate) fn find_file<B: Board>(
         return Err(Stop::Refused(missing(target)));
     };
     let entry = read_entry(store, number)?;
-    match refusal_of(store, current, number, &entry, need)? {
-        Some(refusal) => Err(Stop::Refused(refusal)),
-        None => Ok(Named { number, entry }),
-    }
+    check_file(store, current, number, &entry, need)?;
+    Ok(Named { number, entry })
 }
 
-/// What refuses a command by the file that it names, whose entry is at hand.
+/// Refuses a command by the file that it names, whose entry is at hand.
 #[tactic(auto, using(undo_journal::specs::laws::Calls::reads_then))]
-fn refusal_of<B: Board>(
+fn check_file<B: Board>(
     store: &mut Store<B>,
     current: &Current,
     number: u8,
     entry: &Entry,
     need: Need,
-) -> Result<Option<Sw>, StoreErr>
+) -> Result<(), Stop>
     requires kept { IsKept store.old current.now }
     requires used { IsUsed (table_in store.old) number }
     requires entry { entry.now ≡ entry_in (table_in store.old) number }
-    ensures found { IfOk result (λ refusal. refusal ≡ file_refusal
+    ensures refusal { Checks (file_refusal
         (is_barred (card_in store.old).tree (path_of (table_in store.old) number)) (fits_kind need.structure entry.now.kind)
-        (allowed (card_in store.old) (session_in store.old current.now) (path_of (table_in store.old) number) need.bit)) }
-    ensures store { Reads store.old store.new (result_err result) }
+        (allowed (card_in store.old) (session_in store.old current.now) (path_of (table_in store.old) number) need.bit))
+        result }
+    ensures store { Reads store.old store.new (failure result) }
 {
     let findings = Findings {
         barred: is_barred_at(store, number, entry)?,
         fits: need.structure.fits(entry.kind),
         allowed: allows_at(store, current, entry, need.bit)?,
     };
-    Ok(findings.refusal())
+    findings.check()?;
+    Ok(())
 }
 
 /// What is found of the file that a command is for: it is barred; it is of a structure that the command is for; its rule
@@ -110,18 +110,18 @@ pub(crate) struct Findings {
 }
 
 impl Findings {
-    /// What refuses a command on such a file.
-    pub fn refusal(self) -> Option<Sw>
-        ensures { result ≡ file_refusal self.barred self.fits self.allowed }
+    /// Refuses a command on such a file.
+    pub fn check(self) -> Result<(), Sw>
+        ensures { result_err result ≡ file_refusal self.barred self.fits self.allowed }
     {
         if self.barred {
-            Some(Sw::CONDITIONS_NOT_SATISFIED)
+            Err(Sw::CONDITIONS_NOT_SATISFIED)
         } else if !self.fits {
-            Some(Sw::WRONG_STRUCTURE)
+            Err(Sw::WRONG_STRUCTURE)
         } else if !self.allowed {
-            Some(Sw::ACCESS_DENIED)
+            Err(Sw::ACCESS_DENIED)
         } else {
-            None
+            Ok(())
         }
     }
 }

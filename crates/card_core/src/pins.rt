@@ -15,7 +15,7 @@ ghost use Rattle.pin_store.specs.Trials.{pin_in, Charges};
 ghost use Rattle.card_core.specs.Outcomes.{first_applying};
 ghost use Rattle.card_core.specs.Pins.{is_enabled_by, tries_told, unusable_by};
 ghost use Rattle.card_core.specs.Served.{Serves};
-ghost use Rattle.card_core.specs.Stops.{failure, reply, Finds};
+ghost use Rattle.card_core.specs.Stops.{failure, reply, Checks, Finds};
 ghost use Rattle.card_core.specs.Working.{end_of_attempt, refused_use, use_refusals, IsKept};
 
 use crate::current::{Current, Shown};
@@ -215,8 +215,7 @@ fn check_use<B: Board>(store: &mut Store<B>, secret: u8, usable: Usable) -> Resu
     requires ready { IsReady store.old }
     requires secret { secret < SECRETS }
     requires pages { ArePinPages (committed store.old) }
-    ensures refusal { Finds result (λ _. refused_use usable secret (pin_in store.old secret) ≡ None)
-        (λ refusal. refused_use usable secret (pin_in store.old secret) ≡ Some refusal) }
+    ensures refusal { Checks (refused_use usable secret (pin_in store.old secret)) result }
     ensures store { Reads store.old store.new (failure result) }
 {
     if tries(store, secret)? == 0 {

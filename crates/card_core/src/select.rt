@@ -1,5 +1,5 @@
 //! SELECT (ISO/IEC 7816-4, 11.2.2).
-ghost use Rattle.std.specs.Prelude.{◌≡◌, ◌<◌, [], option_map, IfOk, IfSome, OnErr};
+ghost use Rattle.std.specs.Prelude.{◌≡◌, ◌<◌, [], None, Some, option_map, IfOk, IfSome, OnErr};
 ghost use Rattle.std.specs.Result.{result_err};
 ghost use Rattle.undo_journal.specs.Calls.{Reads};
 ghost use Rattle.undo_journal.specs.Memory.{IsReady};
@@ -11,10 +11,12 @@ ghost use Rattle.file_tree.specs.Table.{entry_in, path_of, IsUsed};
 ghost use Rattle.card_core.specs.Reaching.{selected_from};
 ghost use Rattle.card_core.specs.Selecting.{selection_status};
 ghost use Rattle.card_core.specs.Served.{Serves};
+ghost use Rattle.card_core.specs.Stops.{failure, reply, Finds};
 ghost use Rattle.card_core.specs.Working.{card_in, data_in, session_in, table_in, template_in, IsGiven, IsKept, IsToldEntry};
 
 use crate::current::Current;
 use crate::lengths::{asks_less, give, right_length};
+use crate::stop::Stop;
 use crate::templates::template_of;
 use apdu_core::{Answer, FilePath, Returned, Selector, Sw};
 use arrayvec::ArrayVec;
@@ -38,20 +40,19 @@ pub(crate) fn select_file<B: Board>(
     returned: Returned,
     expected: Option<u8>,
     answer: &mut Answer,
-) -> Result<Sw, StoreErr>
+) -> Result<Sw, Stop>
     requires kept { IsKept store.old current.old }
     requires index { IsIndex (table_in store.old) index.now }
     requires selector { IsSelector selector }
     requires empty { answer.old.items ≡ [] }
-    ensures { Serves (selection (selection_of selector.entry) returned expected) store.old current.old store.new current.new answer.new.items result }
+    ensures { Serves (selection (selection_of selector.entry) returned expected) store.old current.old store.new current.new answer.new.items
+        (reply result) }
 {
     let Some(e) = find_selected(store, index, *current, selector)? else {
-        return Ok(Sw::FILE_NOT_FOUND);
+        return Err(Stop::Refused(Sw::FILE_NOT_FOUND));
     };
     let head = read_entry_head(store, e)?;
-    if let Some(refusal) = give_data(store, e, returned, expected, answer)? {
-        return Ok(refusal);
-    }
+    give_data(store, e, returned, expected, answer)?;
     *current = current.at_head(e, head);
     Ok(status_of(head.life_cycle()))
 }
@@ -106,21 +107,23 @@ fn give_data<B: Board>(
     returned: Returned,
     expected: Option<u8>,
     answer: &mut Answer,
-) -> Result<Option<Sw>, StoreErr>
+) -> Result<(), Stop>
     requires ready { IsReady store.old }
     requires within { e < 64 }
     requires told { IsToldEntry (entry_in (table_in store.old) e) }
     requires empty { answer.old.items ≡ [] }
-    ensures data { IfOk result (λ refusal. IsGiven expected (data_in returned (entry_in (table_in store.old) e))
-        answer.new.items refusal) }
+    ensures data { Finds result
+        (λ _. IsGiven expected (data_in returned (entry_in (table_in store.old) e)) answer.new.items None)
+        (λ refusal. IsGiven expected (data_in returned (entry_in (table_in store.old) e)) answer.new.items (Some refusal)) }
     ensures nothing { OnErr result (answer.new.items ≡ []) }
-    ensures store { Reads store.old store.new (result_err result) }
+    ensures store { Reads store.old store.new (failure result) }
 {
     match returned {
-        Returned::Nothing => Ok(None),
+        Returned::Nothing => Ok(()),
         Returned::Template => {
             let entry = read_entry(store, e)?;
-            Ok(give_template(&entry, expected, answer))
+            give_template(&entry, expected, answer)?;
+            Ok(())
         }
     }
 }
@@ -130,17 +133,17 @@ fn give_data<B: Board>(
 /// A function pays for the room of its locals where it begins: in one of its own, a SELECT without a template doesn't pay for a
 /// template's.
 #[inline(never)]
-fn give_template(entry: &Entry, expected: Option<u8>, answer: &mut Answer) -> Option<Sw>
+fn give_template(entry: &Entry, expected: Option<u8>, answer: &mut Answer) -> Result<(), Sw>
     requires told { IsToldEntry entry.now }
     requires empty { answer.old.items ≡ [] }
-    ensures { IsGiven expected (template_in entry.now) answer.new.items result }
+    ensures { IsGiven expected (template_in entry.now) answer.new.items (result_err result) }
 {
     let template = template_of(entry);
     if asks_less(expected, &template) {
-        return Some(right_length(&template));
+        return Err(right_length(&template));
     }
     give(expected, &template, answer);
-    None
+    Ok(())
 }
 
 /// The status word of SELECT, which tells the life cycle of the file.

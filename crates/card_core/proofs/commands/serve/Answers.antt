@@ -1,6 +1,5 @@
 -- Each command is served as the function that carries it out says of the request that the command is.
-use Rattle.std.proofs.Common.{◌≡◌, ℕ, List, [], Result, Err, refl, sym, subst}
-use Rattle.std.specs.Result.{IsErrAnd}
+use Rattle.std.proofs.Common.{◌≡◌, ℕ, List, [], Result, refl, sym, subst}
 use Rattle.card_rules.specs.declared.status.Sw.{Sw}
 use Rattle.undo_journal.specs.declared.error.StoreErr.{StoreErr}
 use Rattle.undo_journal.specs.Memory.{Memory}
@@ -14,10 +13,6 @@ use Rattle.card_core.specs.Pins.{changing, marking}
 use Rattle.card_core.specs.Stages.{commits}
 use Rattle.card_core.proofs.Looking.{attempt-files, pin-files, space_left}
 use Rattle.card_core.proofs.Serves.{index_left, space_kept}
-use Rattle.card_core.specs.declared.stop.Stop.{Stop}
-use Rattle.card_core.specs.declared.stop.Stop.TheVariants.{Failed}
-use Rattle.card_core.specs.Stops.{reply}
-use Rattle.card_core.proofs.Stopping.{err-is, none-failed, reply-failed}
 use Rattle.card_core.proofs.commands.serve.Goals as goal
 
 module _ (old : Memory) (x : Current) (new : Memory) (y : Current) (result : Result Sw StoreErr) (command this :
@@ -34,40 +29,15 @@ module _ (old : Memory) (x : Current) (new : Memory) (y : Current) (result : Res
   silent text empty serves =
       told text (subst (λ (it : List ℕ). Serves (request_of this) old x new y it result) (sym empty) serves)
 
--- with the error of the store
-failing : (old : Memory) (x : Current) (new : Memory) (y : Current) (command this : Command) → command ≡ this
-    → (text : List ℕ) (r : Result Sw Stop) (e : StoreErr) → IsErrAnd r (λ f. f ≡ Failed e)
-    → Serves (request_of this) old x new y text (Err e) → Serves (request_of command) old x new y text (reply r)
-failing old x new y command this is text r e handed serves =
-    subst (λ (result : Result Sw StoreErr). Serves (request_of command) old x new y text result)
-    (sym (err-is (reply r) e (reply-failed r e handed)))
-    (told old x new y (Err e) command this is text serves)
-
 pub select_file-requires-clause-selector : goal.select_file-requires-clause-selector
 select_file-requires-clause-selector g c = subst IsInRange c.in-Select.is c.requires.in_range
 
-pub returns-in_ok-select_file-in-Select-clause-serves : goal.returns-in_ok-select_file-in-Select-clause-serves
-returns-in_ok-select_file-in-Select-clause-serves g c =
-    told _ _ _ _ _ _ _ c.in-Select.is _ c.in_ok-select_file-in-Select.ensures
+pub returns-in-Select-clause-serves : goal.returns-in-Select-clause-serves
+returns-in-Select-clause-serves g c = told _ _ _ _ _ _ _ c.in-Select.is _ c.select_file.ensures
 
-pub returns-in_err-select_file-in-Select-clause-serves : goal.returns-in_err-select_file-in-Select-clause-serves
-returns-in_err-select_file-in-Select-clause-serves g c =
-    failing _ _ _ _ _ _ c.in-Select.is _ _ _ c.from_residual.ensures.1 c.in_err-select_file-in-Select.ensures
-
-pub returns-in_ok-select_file-in-Select-clause-space : goal.returns-in_ok-select_file-in-Select-clause-space
+pub returns-in-Select-clause-space : goal.returns-in-Select-clause-space
 unfolding commits
-returns-in_ok-select_file-in-Select-clause-space g c =
-    space_left _ _ _ _ _ _ _ _ c.in_ok-select_file-in-Select.ensures tt c.requires.whole.space
-
-pub returns-in_err-select_file-in-Select-clause-space : goal.returns-in_err-select_file-in-Select-clause-space
-returns-in_err-select_file-in-Select-clause-space g c = none-failed _ _ _ c.from_residual.ensures.1
-
-pub returns-in_ok-select_file-in-Select-clause-index : goal.returns-in_ok-select_file-in-Select-clause-index
-returns-in_ok-select_file-in-Select-clause-index g c =
-    index_left _ _ _ _ _ _ _ _ c.in_ok-select_file-in-Select.ensures refl c.requires.whole.index
-
-pub returns-in_err-select_file-in-Select-clause-index : goal.returns-in_err-select_file-in-Select-clause-index
-returns-in_err-select_file-in-Select-clause-index g c = none-failed _ _ _ c.from_residual.ensures.1
+returns-in-Select-clause-space g c = space_left _ _ _ _ _ _ _ _ c.select_file.ensures tt c.requires.whole.space
 
 pub read_file-requires-clause-target : goal.read_file-requires-clause-target
 read_file-requires-clause-target g c = (subst IsInRange c.in-ReadBinary.is c.requires.in_range).0
@@ -233,6 +203,9 @@ returns-in-ChangeRequirement-clause-space g c =
     let attempt = marking c.in-ChangeRequirement.change c.in-ChangeRequirement.pin c.in-ChangeRequirement.shown.now in
     space_left _ _ _ _ _ _ _ _ c.change_requirement.ensures (attempt-files (card_in c.args.lent.now.store) attempt)
     c.requires.whole.space
+
+pub returns-in-Select-clause-index : goal.returns-in-Select-clause-index
+returns-in-Select-clause-index g c = index_left _ _ _ _ _ _ _ _ c.select_file.ensures refl c.requires.whole.index
 
 pub returns-in-ReadBinary-clause-index : goal.returns-in-ReadBinary-clause-index
 returns-in-ReadBinary-clause-index g c = index_left _ _ _ _ _ _ _ _ c.read_file.ensures refl c.requires.whole.index

@@ -13,7 +13,7 @@ use Rattle.card_core.proofs.FileSteps.{delete-master}
 use Rattle.card_core.proofs.Readings.{kept_still, used_still}
 use Rattle.undo_journal.specs.laws.Told.{reads_on}
 use Rattle.card_core.specs.declared.stop.Stop.TheVariants.{Failed}
-use Rattle.card_core.proofs.Stopping.{reads-stopped}
+use Rattle.card_core.proofs.Stopping.{finds-stopped, reads-stopped, refused-weaker}
 use Rattle.card_core.proofs.files.find_deletable.Goals as goal
 
 pub returns-then-number-eq0-clause-found : goal.returns-then-number-eq0-clause-found
@@ -31,21 +31,17 @@ read_entry-requires-clause-within g c =
     used_small m c.in-Some.number
     (subst (λ (o : Option ℕ). IfSome o (IsUsed (table m))) c.in-Some.is c.in_ok-number.ensures.used)
 
-pub returns-in_err-refusal-clause-store : goal.returns-in_err-refusal-clause-store
-returns-in_err-refusal-clause-store g c =
-    reads-stopped _ (Failed c.in_err-refusal.field-0.0) c.from_residual-in_err-refusal.ensures.1 _ _
-    (reads_on _ _ _ _ (reads_then _ _ _ c.find_subject.ensures.store.only c.read_entry.ensures.store.only) c.in_err-refusal.ensures.store)
+pub returns-in_err-check_deletion-clause-store : goal.returns-in_err-check_deletion-clause-store
+returns-in_err-check_deletion-clause-store g c =
+    reads-stopped _ _ c.from_residual-in_err-check_deletion.ensures.1 _ _
+    (reads_on _ _ _ _ (reads_then _ _ _ c.find_subject.ensures.store.only c.read_entry.ensures.store.only) c.in_err-check_deletion.ensures.store)
 
-pub returns-in-Some-2-clause-store : goal.returns-in-Some-2-clause-store
-returns-in-Some-2-clause-store g c =
-    reads_on _ _ _ _ (reads_then _ _ _ c.find_subject.ensures.store.only c.read_entry.ensures.store.only) c.in_ok-refusal.ensures.store
+pub returns-clause-store : goal.returns-clause-store
+returns-clause-store g c =
+    reads_on _ _ _ _ (reads_then _ _ _ c.find_subject.ensures.store.only c.read_entry.ensures.store.only) c.in_ok-check_deletion.ensures.store
 
-pub returns-in-None-clause-store : goal.returns-in-None-clause-store
-returns-in-None-clause-store g c =
-    reads_on _ _ _ _ (reads_then _ _ _ c.find_subject.ensures.store.only c.read_entry.ensures.store.only) c.in_ok-refusal.ensures.store
-
-pub deletion_refusal-requires-clause-above : goal.deletion_refusal-requires-clause-above
-deletion_refusal-requires-clause-above g c =
+pub check_deletion-requires-clause-above : goal.check_deletion-requires-clause-above
+check_deletion-requires-clause-above g c =
     let m = committed c.args.store.now in
     let e = c.in-Some.number in
     let used = subst (λ (o : Option ℕ). IfSome o (IsUsed (table m))) c.in-Some.is c.in_ok-number.ensures.used in
@@ -58,8 +54,8 @@ deletion_refusal-requires-clause-above g c =
     (subst (λ (y : Entry). IsUsed (table m) y.parent) (sym entry)
     (parent_used (table m) c.requires.kept.card.tree.entries e below used))
 
-pub returns-in-Some-2-clause-found : goal.returns-in-Some-2-clause-found
-returns-in-Some-2-clause-found g c =
+pub returns-in_err-check_deletion-clause-found : goal.returns-in_err-check_deletion-clause-found
+returns-in_err-check_deletion-clause-found g c =
     let m = committed c.args.store.now in
     let t = table m in
     let x = c.args.current.now in
@@ -71,13 +67,14 @@ returns-in-Some-2-clause-found g c =
     c.in_ok-entry.ensures.entry ∙ ap (λ (l : List ℕ). entry_in (table l) e)
     c.find_subject.ensures.store.only.keeps.committed_words in
     let below : 0 < e = omega arith in
+    finds-stopped _ _ c.from_residual-in_err-check_deletion.ensures.1 _ _ (refused-weaker _ _ _ (λ status due.
     file-verdict m c.requires.kept.ready.usable.committed_size c.requires.kept.card x c.args.subject e below used place
     ∙ ap (λ (y : Entry). deletion_verdict m x e y.parent) (sym entry)
     ∙ ap (λ (l : List ℕ). deletion_verdict l x e c.in_ok-entry.entry.parent) (sym same)
-    ∙ sym c.in_ok-refusal.ensures.found ∙ c.in-Some-2.is
+    ∙ due) c.in_err-check_deletion.ensures.refusal)
 
-pub returns-in-None-clause-found : goal.returns-in-None-clause-found
-returns-in-None-clause-found g c =
+pub returns-clause-found : goal.returns-clause-found
+returns-clause-found g c =
     let m = committed c.args.store.now in
     let t = table m in
     let x = c.args.current.now in
@@ -93,7 +90,7 @@ returns-in-None-clause-found g c =
     (file-verdict m c.requires.kept.ready.usable.committed_size c.requires.kept.card x c.args.subject e below used place
     ∙ ap (λ (y : Entry). deletion_verdict m x e y.parent) (sym entry)
     ∙ ap (λ (l : List ℕ). deletion_verdict l x e c.in_ok-entry.entry.parent) (sym same)
-    ∙ sym c.in_ok-refusal.ensures.found ∙ c.in-None.is)
+    ∙ c.in_ok-check_deletion.ensures.refusal)
     c.in_ok-entry.entry entry
 
 pub returns-in_err-entry-clause-store : goal.returns-in_err-entry-clause-store
@@ -101,13 +98,13 @@ returns-in_err-entry-clause-store g c =
     reads-stopped _ (Failed c.in_err-entry.field-0.0) c.from_residual-in_err-entry.ensures.1 _ _
     (reads_on _ _ _ _ c.find_subject.ensures.store.only c.in_err-entry.ensures.store)
 
-pub deletion_refusal-requires-clause-kept : goal.deletion_refusal-requires-clause-kept
-deletion_refusal-requires-clause-kept g c =
+pub check_deletion-requires-clause-kept : goal.check_deletion-requires-clause-kept
+check_deletion-requires-clause-kept g c =
     kept_still _ _ _ (reads_then _ _ _ c.find_subject.ensures.store.only c.read_entry.ensures.store.only)
     c.in_ok-entry.ensures.store.ready c.requires.kept
 
-pub deletion_refusal-requires-clause-used : goal.deletion_refusal-requires-clause-used
-deletion_refusal-requires-clause-used g c =
+pub check_deletion-requires-clause-used : goal.check_deletion-requires-clause-used
+check_deletion-requires-clause-used g c =
     used_still c.args.store.now c.read_entry.new.store c.in-Some.number
     (reads_then c.args.store.now c.find_subject.new.store c.read_entry.new.store c.find_subject.ensures.store.only c.read_entry.ensures.store.only)
     (subst (λ (o : Option ℕ). IfSome o (IsUsed (table (committed c.args.store.now)))) c.in-Some.is c.in_ok-number.ensures.used)

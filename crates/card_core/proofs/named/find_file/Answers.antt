@@ -15,7 +15,7 @@ use Rattle.card_core.proofs.NamedEntries.{entry-named, entry-refusal}
 use Rattle.card_core.proofs.Readings.{kept_still}
 use Rattle.file_tree.specs.Table.{IsUsed}
 use Rattle.undo_journal.specs.laws.Told.{reads_on}
-use Rattle.card_core.proofs.Stopping.{reads-stopped}
+use Rattle.card_core.proofs.Stopping.{finds-stopped, reads-stopped, refused-weaker}
 use Rattle.card_core.specs.declared.stop.Stop.TheVariants.{Failed}
 use Rattle.card_core.proofs.named.find_file.Goals as goal
 
@@ -26,13 +26,13 @@ read_entry-requires-clause-within g c =
     c.in_ok-number.ensures.child in
     used_small (committed c.args.store.now) c.in-Some.number file.child.used
 
-pub returns-in_err-refusal-clause-store : goal.returns-in_err-refusal-clause-store
-returns-in_err-refusal-clause-store g c =
-    reads-stopped _ (Failed c.in_err-refusal.field-0.0) c.from_residual-in_err-refusal.ensures.1 _ _
-    (reads_on _ _ _ _ (reads_then _ _ _ c.find_target.ensures.store.only c.read_entry.ensures.store.only) c.in_err-refusal.ensures.store)
+pub returns-in_err-check_file-clause-store : goal.returns-in_err-check_file-clause-store
+returns-in_err-check_file-clause-store g c =
+    reads-stopped _ _ c.from_residual-in_err-check_file.ensures.1 _ _
+    (reads_on _ _ _ _ (reads_then _ _ _ c.find_target.ensures.store.only c.read_entry.ensures.store.only) c.in_err-check_file.ensures.store)
 
-pub returns-in-Some-2-clause-found : goal.returns-in-Some-2-clause-found
-returns-in-Some-2-clause-found g c =
+pub returns-in_err-check_file-clause-found : goal.returns-in_err-check_file-clause-found
+returns-in_err-check_file-clause-found g c =
     let m = committed c.args.store.now in
     let t = table m in
     let e = c.in-Some.number in
@@ -43,6 +43,7 @@ returns-in-Some-2-clause-found g c =
     let entry : c.in_ok-entry.entry ≡ entry_in t e =
     c.in_ok-entry.ensures.entry ∙ ap (λ (l : List ℕ). entry_in (table l) e)
     c.find_target.ensures.store.only.keeps.committed_words in
+    finds-stopped _ _ c.from_residual-in_err-check_file.ensures.1 _ _ (refused-weaker _ _ _ (λ status due.
     entry-refusal m c.requires.kept.ready.usable.committed_size c.requires.kept.card c.args.current.now c.args.target c.args.need e
     file place
     ∙ ap (λ (y : Entry). file_refusal (is_barred (card_of m).tree (path_of t e)) (fits_kind c.args.need.structure y.kind)
@@ -50,10 +51,10 @@ returns-in-Some-2-clause-found g c =
     ∙ ap (λ (l : List ℕ). file_refusal (is_barred (card_of l).tree (path_of (table l) e))
     (fits_kind c.args.need.structure c.in_ok-entry.entry.kind)
     (allowed (card_of l) (session_of (table l) c.args.current.now) (path_of (table l) e) c.args.need.bit)) (sym same)
-    ∙ sym c.in_ok-refusal.ensures.found ∙ c.in-Some-2.is
+    ∙ due) c.in_err-check_file.ensures.refusal)
 
-pub returns-in-None-clause-found : goal.returns-in-None-clause-found
-returns-in-None-clause-found g c =
+pub returns-clause-found : goal.returns-clause-found
+returns-clause-found g c =
     let m = committed c.args.store.now in
     let t = table m in
     let e = c.in-Some.number in
@@ -71,24 +72,24 @@ returns-in-None-clause-found g c =
     ∙ ap (λ (l : List ℕ). file_refusal (is_barred (card_of l).tree (path_of (table l) e))
     (fits_kind c.args.need.structure c.in_ok-entry.entry.kind)
     (allowed (card_of l) (session_of (table l) c.args.current.now) (path_of (table l) e) c.args.need.bit)) (sym same)
-    ∙ sym c.in_ok-refusal.ensures.found ∙ c.in-None.is in
+    ∙ c.in_ok-check_file.ensures.refusal in
     entry-named m c.requires.kept.ready.usable.committed_size c.requires.kept.card c.args.current.now c.args.target c.args.need e file
     place none c.in_ok-entry.entry entry
 
-pub refusal_of-requires-clause-kept : goal.refusal_of-requires-clause-kept
-refusal_of-requires-clause-kept g c =
+pub check_file-requires-clause-kept : goal.check_file-requires-clause-kept
+check_file-requires-clause-kept g c =
     kept_still _ _ _ (reads_then _ _ _ c.find_target.ensures.store.only c.read_entry.ensures.store.only)
     c.in_ok-entry.ensures.store.ready c.requires.kept
 
-pub refusal_of-requires-clause-used : goal.refusal_of-requires-clause-used
-refusal_of-requires-clause-used g c =
+pub check_file-requires-clause-used : goal.check_file-requires-clause-used
+check_file-requires-clause-used g c =
     let same = c.read_entry.ensures.store.only.keeps.committed_words ∙ c.find_target.ensures.store.only.keeps.committed_words in
     let file = subst (λ (o : Option ℕ). IfSome o (IsElementary (table (committed c.args.store.now)) c.args.current.now.df))
     c.in-Some.is c.in_ok-number.ensures.child in
     subst (λ (l : List ℕ). IsUsed (table l) c.in-Some.number) (sym same) file.child.used
 
-pub refusal_of-requires-clause-entry : goal.refusal_of-requires-clause-entry
-refusal_of-requires-clause-entry g c =
+pub check_file-requires-clause-entry : goal.check_file-requires-clause-entry
+check_file-requires-clause-entry g c =
     c.in_ok-entry.ensures.entry
     ∙ ap (λ (l : List ℕ). entry_in (table l) c.in-Some.number) (sym c.read_entry.ensures.store.only.keeps.committed_words)
 
@@ -97,13 +98,9 @@ returns-in_err-entry-clause-store g c =
     reads-stopped _ (Failed c.in_err-entry.field-0.0) c.from_residual-in_err-entry.ensures.1 _ _
     (reads_on _ _ _ _ c.find_target.ensures.store.only c.in_err-entry.ensures.store)
 
-pub returns-in-Some-2-clause-store : goal.returns-in-Some-2-clause-store
-returns-in-Some-2-clause-store g c =
-    reads_on _ _ _ _ (reads_then _ _ _ c.find_target.ensures.store.only c.read_entry.ensures.store.only) c.in_ok-refusal.ensures.store
-
-pub returns-in-None-clause-store : goal.returns-in-None-clause-store
-returns-in-None-clause-store g c =
-    reads_on _ _ _ _ (reads_then _ _ _ c.find_target.ensures.store.only c.read_entry.ensures.store.only) c.in_ok-refusal.ensures.store
+pub returns-clause-store : goal.returns-clause-store
+returns-clause-store g c =
+    reads_on _ _ _ _ (reads_then _ _ _ c.find_target.ensures.store.only c.read_entry.ensures.store.only) c.in_ok-check_file.ensures.store
 
 pub returns-in_default-clause-found : goal.returns-in_default-clause-found
 returns-in_default-clause-found g c =

@@ -9,18 +9,20 @@ use Rattle.card_core.specs.Guards.{allowed}
 use Rattle.card_core.specs.Standing.{card_of}
 use Rattle.card_core.specs.Working.{file_refusal, session_of}
 use Rattle.card_core.proofs.Entries.{card-tree}
-use Rattle.card_core.proofs.files.deletion_refusal.Goals.{then-own, else-own}
+use Rattle.card_core.proofs.files.check_deletion.Goals.{then-own, else-own}
 use Rattle.card_core.proofs.Readings.{card_still, current_still, used_still}
-use Rattle.undo_journal.specs.laws.Told.{reads_on, reads_handed}
-use Rattle.card_core.proofs.files.deletion_refusal.Goals as goal
+use Rattle.undo_journal.specs.laws.Told.{reads_on}
+use Rattle.card_core.specs.declared.stop.Stop.TheVariants.{Refused, Failed}
+use Rattle.card_core.proofs.Stopping.{finds-stopped, reads-stopped}
+use Rattle.card_core.proofs.files.check_deletion.Goals as goal
 
 pub returns-in_err-by_parent-clause-store : goal.returns-in_err-by_parent-clause-store
 returns-in_err-by_parent-clause-store g c =
-    reads_handed _ _ _ _ c.from_residual-in_err-by_parent.ensures.1
+    reads-stopped _ (Failed c.in_err-by_parent.field-0.0) c.from_residual-in_err-by_parent.ensures.1 _ _
     (reads_on _ _ _ _ (reads_then _ _ _ c.is_barred.ensures.store.only c.allows.ensures.store.only) c.in_err-by_parent.ensures.store)
 
-pub returns-clause-found : goal.returns-clause-found
-returns-clause-found g c =
+pub returns-clause-refusal : goal.returns-clause-refusal
+returns-clause-refusal g c =
     let m = committed c.args.store.now in
     let t = table m in
     let x = c.args.current.now in
@@ -39,8 +41,38 @@ returns-clause-found g c =
       | then-own w ↦ w.findings-is ∙ w.if-own.true ∙ sym (ap (λ (b : Bool). b || c.in_ok-by_parent.by_parent) w.if-own.true)
       | else-own w ↦ w.findings-is ∙ sym (ap (λ (b : Bool). b || c.in_ok-by_parent.by_parent) w.if-own.false)
     ] in
-    c.refusal.ensures ∙ (λ i. file_refusal (barred i) true (both i))
-    ∙ (λ i. file_refusal (is_barred (card_of m).tree (path_of t c.args.parent)) true (own i || by_parent i))
+    sym (c.in_ok-check.ensures ∙ (λ i. file_refusal (barred i) true (both i))
+    ∙ (λ i. file_refusal (is_barred (card_of m).tree (path_of t c.args.parent)) true (own i || by_parent i)))
+
+pub returns-in_err-check-clause-refusal : goal.returns-in_err-check-clause-refusal
+returns-in_err-check-clause-refusal g c =
+    let m = committed c.args.store.now in
+    let t = table m in
+    let x = c.args.current.now in
+    let same = c.is_barred.ensures.store.only.keeps.committed_words in
+    let still = c.allows.ensures.store.only.keeps.committed_words ∙ same in
+    let barred : c.in_ok-barred.barred ≡ is_barred (card_of m).tree (path_of t c.args.parent) =
+    c.in_ok-barred.ensures.barred ∙ sym (ap (λ (tree : Tree). is_barred tree (path_of t c.args.parent)) (card-tree m)) in
+    let own : c.in_ok-own.own ≡ allowed (card_of m) (session_of t x) (path_of t c.args.number) DeleteSelf =
+    c.in_ok-own.ensures.allowed
+    ∙ ap (λ (l : List ℕ). allowed (card_of l) (session_of (table l) x) (path_of (table l) c.args.number) DeleteSelf) same in
+    let by_parent : c.in_ok-by_parent.by_parent
+    ≡ allowed (card_of m) (session_of t x) (path_of t c.args.parent) DeleteChild =
+    c.in_ok-by_parent.ensures.allowed
+    ∙ ap (λ (l : List ℕ). allowed (card_of l) (session_of (table l) x) (path_of (table l) c.args.parent) DeleteChild) still in
+    let both : c.if-own.findings ≡ (c.in_ok-own.own || c.in_ok-by_parent.by_parent) = elim c.if-own.branch [
+      | then-own w ↦ w.findings-is ∙ w.if-own.true ∙ sym (ap (λ (b : Bool). b || c.in_ok-by_parent.by_parent) w.if-own.true)
+      | else-own w ↦ w.findings-is ∙ sym (ap (λ (b : Bool). b || c.in_ok-by_parent.by_parent) w.if-own.false)
+    ] in
+    finds-stopped _ (Refused c.in_err-check.field-0.0) c.from_residual-in_err-check.ensures.1 _ _
+    (sym (c.in_err-check.ensures ∙ (λ i. file_refusal (barred i) true (both i))
+    ∙ (λ i. file_refusal (is_barred (card_of m).tree (path_of t c.args.parent)) true (own i || by_parent i))))
+
+pub returns-in_err-check-clause-store : goal.returns-in_err-check-clause-store
+returns-in_err-check-clause-store g c =
+    reads-stopped _ (Refused c.in_err-check.field-0.0) c.from_residual-in_err-check.ensures.1 _ _
+    (reads_on _ _ _ _ (reads_then _ _ _ c.is_barred.ensures.store.only c.allows.ensures.store.only)
+    c.in_ok-by_parent.ensures.store)
 
 pub allows-requires-clause-card : goal.allows-requires-clause-card
 allows-requires-clause-card g c =
@@ -73,7 +105,7 @@ allows-requires-2-clause-used g c =
 
 pub returns-in_err-own-clause-store : goal.returns-in_err-own-clause-store
 returns-in_err-own-clause-store g c =
-    reads_handed _ _ _ _ c.from_residual-in_err-own.ensures.1
+    reads-stopped _ (Failed c.in_err-own.field-0.0) c.from_residual-in_err-own.ensures.1 _ _
     (reads_on _ _ _ _ c.is_barred.ensures.store.only c.in_err-own.ensures.store)
 
 pub returns-clause-store : goal.returns-clause-store
