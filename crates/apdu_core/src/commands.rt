@@ -131,12 +131,7 @@ impl<'a> Command<'a> {
 }
 
 /// Reads what follows the class of a command of class 00, whose instructions ISO/IEC 7816-4 and 7816-9 fix.
-fn parse_standard<'a>(
-    instruction: u8,
-    p1: u8,
-    p2: u8,
-    rest: &'a [u8],
-) -> Result<Command<'a>, Sw>
+fn parse_standard<'a>(instruction: u8, p1: u8, p2: u8, rest: &'a [u8]) -> Result<Command<'a>, Sw>
     ensures asked { Gives result (asked_by_row (row_of 0x00 instruction) p1 p2 rest.now) }
     ensures ranges { IfOk result IsInRange }
 {
@@ -165,12 +160,7 @@ fn parse_standard<'a>(
 }
 
 /// Reads what follows the class of a command of class 80.
-fn parse_proprietary<'a>(
-    instruction: u8,
-    p1: u8,
-    p2: u8,
-    rest: &'a [u8],
-) -> Result<Command<'a>, Sw>
+fn parse_proprietary<'a>(instruction: u8, p1: u8, p2: u8, rest: &'a [u8]) -> Result<Command<'a>, Sw>
     ensures asked { Gives result (asked_by_row (row_of 0x80 instruction) p1 p2 rest.now) }
     ensures ranges { IfOk result IsInRange }
 {
