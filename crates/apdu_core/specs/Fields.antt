@@ -10,13 +10,13 @@ use Rattle.apdu_core.specs.Requests.{change_life_cycle, terminate_card_usage}
 use Rattle.apdu_core.specs.Requests.{verify, change_reference_data, reset_retry_counter, change_requirement, request_of}
 use Rattle.apdu_core.specs.Sizes.{HasBetween, IsPinValue, IsSizedName}
 
--- Of a command of bytes, and of any numbers; both hold of each command that its form doesn't refuse.
+-- What is known of the fields of a request, since its row of the table of commands allowed them.
 pub record Fields : Type 1 where
-  -- what bytes can ask for: Le is a byte, and so is each byte that was sent
+  -- where the command is of bytes: Le is a byte, and so is each byte that was sent
   pub of_bytes : Type 0
-  -- how much is named or sent: what is written, searched for or added, and a template, is 1 to 255 bytes
+  -- of whatever numbers it is: what is written, searched for or added, and a template, is 1 to 255 of them, a PIN's value 8
   pub sized : Type 0
-  -- the same, and the ranges of what P1 and P2 name: an offset is at most 32,767
+  -- of a parsed command: how much is named or sent, and the ranges of what P1 and P2 name; an offset is at most 32,767
   pub in_range : Type 0
 
 -- a request whose fields can be anything that they are made of
