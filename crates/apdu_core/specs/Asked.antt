@@ -1,6 +1,6 @@
 -- What the bytes of a command ask for, or the first refusal: class, instruction, P1 and P2, and then lengths.
 use Rattle.std.specs.Prelude.{ℕ, ◌==◌, Bool, ◌&&◌, ◌||◌, if◌then◌else◌}
-use Rattle.std.specs.Prelude.{List, [], ◌∷◌, ◌++◌, length, find, Option, Some, None, is_some, Result, Ok, Err}
+use Rattle.std.specs.Prelude.{List, ◌∷◌, ◌++◌, length, find, Option, Some, None, is_some, Result, Ok, Err}
 use Rattle.card_rules.specs.declared.status.Sw.{Sw}
 use Rattle.card_rules.specs.declared.status.TheConstants.Sw.{WRONG_LENGTH, WRONG_PARAMETERS, UNKNOWN_INSTRUCTION}
 use Rattle.card_rules.specs.declared.status.TheConstants.Sw.{UNKNOWN_CLASS}

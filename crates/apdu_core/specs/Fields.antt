@@ -1,5 +1,5 @@
 -- What the fields of a request can be: one record for each kind of request.
-use Rattle.std.specs.Prelude.{ℕ, ◌<◌, ◌≤◌, length, unwrap_or, IfSome}
+use Rattle.std.specs.Prelude.{◌<◌, ◌≤◌, length, unwrap_or, IfSome}
 use Rattle.card_rules.specs.Pins.{IsPinNumber}
 use Rattle.apdu_core.specs.declared.commands.Command.{Command}
 use Rattle.apdu_core.specs.OfBytes.{AreBytes, IsNamedByBytes}

@@ -1,6 +1,6 @@
 -- Every row of the table of commands is lawful: one record of laws for each, and what follows of commands.
-use Rattle.std.specs.Prelude.{◌≡◌, ◌<◌, ◌==◌, ℕ, Bool, true, ◌&&◌, List, [], ◌∷◌, length, take, drop}
-use Rattle.std.specs.Prelude.{Option, Some, None, is_some, Result, Ok, Err, MatchResult, IfOk, IfSome, if◌then◌else◌}
+use Rattle.std.specs.Prelude.{◌≡◌, ◌==◌, ℕ, true, ◌&&◌, List, [], ◌∷◌, length}
+use Rattle.std.specs.Prelude.{Option, Some, None, is_some, Result, Ok, Err, MatchResult, IfOk, IfSome}
 use Rattle.std.proofs.Common.{lit<}
 use Rattle.card_rules.specs.declared.status.Sw.{Sw}
 use Rattle.card_rules.specs.declared.status.TheConstants.Sw.{WRONG_LENGTH, WRONG_PARAMETERS, UNKNOWN_CLASS}
