@@ -1,13 +1,13 @@
 -- What the bytes of a command ask for, or the first refusal: class, instruction, P1 and P2, and then lengths.
 use Rattle.std.specs.Prelude.{ℕ, ◌==◌, Bool, ◌&&◌, ◌||◌, if◌then◌else◌}
-use Rattle.std.specs.Prelude.{List, [], ◌∷◌, ◌++◌, length, find, Option, Some, None, is_some, Result, Ok, Err}
+use Rattle.std.specs.Prelude.{List, ◌∷◌, ◌++◌, length, find, Option, Some, None, is_some, Result, Ok, Err}
 use Rattle.card_rules.specs.declared.status.Sw.{Sw}
 use Rattle.card_rules.specs.declared.status.TheConstants.Sw.{WRONG_LENGTH, WRONG_PARAMETERS, UNKNOWN_INSTRUCTION}
 use Rattle.card_rules.specs.declared.status.TheConstants.Sw.{UNKNOWN_CLASS}
 use Rattle.apdu_core.specs.Bodies.{Body, body_of}
 use Rattle.apdu_core.specs.Requests.{Request}
 use Rattle.apdu_core.specs.Rows.{Row}
-use Rattle.apdu_core.specs.SelectRows.{select_row}
+use Rattle.apdu_core.specs.SelectRows.{select_rows}
 use Rattle.apdu_core.specs.BinaryRows.{binary_rows}
 use Rattle.apdu_core.specs.FileRows.{file_rows}
 use Rattle.apdu_core.specs.RecordRows.{record_rows}
@@ -16,7 +16,7 @@ use Rattle.apdu_core.specs.PinRows.{pin_rows}
 
 -- the commands that are built
 abbrev pub command_table : List Row
-command_table = (select_row ∷ []) ++ binary_rows ++ file_rows ++ record_rows ++ life_cycle_rows ++ pin_rows
+command_table = select_rows ++ binary_rows ++ file_rows ++ record_rows ++ life_cycle_rows ++ pin_rows
 
 -- the row of an instruction under its class
 abbrev pub row_of : ℕ → ℕ → Option Row

@@ -4,7 +4,10 @@ pub mod Numbers
 pub mod Selections
 pub mod Ways
 pub mod Requests
+pub mod OfBytes
+pub mod Sizes
 pub mod Ranges
+pub mod Fields
 pub mod Rows
 pub mod SelectRows
 pub mod BinaryRows
@@ -13,8 +16,5 @@ pub mod RecordRows
 pub mod LifeCycleRows
 pub mod PinRows
 pub mod Asked
-pub mod InstructionRow
-pub mod OfBytes
-pub mod Sizes
 pub mod Listing
 pub mod laws

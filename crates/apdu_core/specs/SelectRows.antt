@@ -51,3 +51,6 @@ select_row = record {
   lengths = λ p1 p2 sent le. names_file p1 sent;
   meaning = λ p1 p2 body. select (named_file p1 body.sent) (returned_by p2) body.expected;
 }
+
+abbrev pub select_rows : List Row
+select_rows = select_row ∷ []

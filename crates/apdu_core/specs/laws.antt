@@ -2,3 +2,4 @@ pub mod Identifiers
 pub mod TableLaws
 pub mod ByteLaws
 pub mod SizeLaws
+pub mod RowLaws

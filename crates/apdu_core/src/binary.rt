@@ -2,7 +2,8 @@
 ghost use Rattle.std.specs.Prelude.{◌≡◌, ◌≤◌, Some, None, if◌then◌else◌, IfOk, IfSome};
 ghost use Rattle.apdu_core.specs.Asked.{asked_by_row};
 ghost use Rattle.apdu_core.specs.BinaryRows.{read_binary_row, update_binary_row, is_place, named_target, named_offset};
-ghost use Rattle.apdu_core.specs.Ranges.{IsTarget, IsInRange};
+ghost use Rattle.apdu_core.specs.Fields.{IsInRange};
+ghost use Rattle.apdu_core.specs.Ranges.{IsTarget};
 ghost use Rattle.apdu_core.specs.Requests.{Gives};
 
 use crate::commands::Command;

@@ -1,7 +1,7 @@
 //! Commands as values, and their parsing: class, instruction, P1 and P2, and then lengths (ISO/IEC 7816-4, clause 5).
-ghost use Rattle.std.specs.Prelude.{◌≡◌, Some, option_map, IfOk};
-ghost use Rattle.apdu_core.specs.Asked.{asked, asked_by_row, row_of, is_class};
-ghost use Rattle.apdu_core.specs.Ranges.{IsInRange};
+ghost use Rattle.std.specs.Prelude.{IfOk};
+ghost use Rattle.apdu_core.specs.Asked.{asked, asked_by_row, row_of};
+ghost use Rattle.apdu_core.specs.Fields.{IsInRange};
 ghost use Rattle.apdu_core.specs.Requests.{Gives};
 
 use crate::binary::{Target, parse_read_binary, parse_update_binary};
@@ -109,27 +109,6 @@ pub enum Command<'a> {
     },
 }
 
-/// An instruction that is built.
-#[derive(Clone, Copy)]
-enum Instruction {
-    Select,
-    ReadBinary,
-    UpdateBinary,
-    CreateFile,
-    DeleteFile,
-    ReadRecord,
-    UpdateRecord,
-    AppendRecord,
-    SearchRecord,
-    Increase,
-    ChangeLifeCycle(LifeCycleChange),
-    TerminateCardUsage,
-    Verify,
-    ChangeReferenceData,
-    ResetRetryCounter,
-    ChangeRequirement(RequirementChange),
-}
-
 impl<'a> Command<'a> {
     /// Reads the bytes of a command.
     ///
@@ -144,89 +123,50 @@ impl<'a> Command<'a> {
         let [class, instruction, p1, p2, rest @ ..] = bytes else {
             return Err(Sw::WRONG_LENGTH);
         };
-        if !is_known_class(*class) {
-            return Err(Sw::UNKNOWN_CLASS);
-        }
-        match Instruction::of(*class, *instruction) {
-            Some(known) => known.parse_command(*p1, *p2, rest),
-            None => Err(Sw::UNKNOWN_INSTRUCTION),
+        match *class {
+            0x00 => parse_standard(*instruction, *p1, *p2, rest),
+            0x80 => parse_proprietary(*instruction, *p1, *p2, rest),
+            _ => Err(Sw::UNKNOWN_CLASS),
         }
     }
 }
 
-impl Instruction {
-    ghost use Rattle.apdu_core.specs.InstructionRow.{row_for};
-
-    /// Reads P1, P2 and what follows the header of a command with this instruction.
-    fn parse_command<'a>(self, p1: u8, p2: u8, rest: &'a [u8]) -> Result<Command<'a>, Sw>
-        ensures asked { Gives result (asked_by_row (Some (row_for self)) p1 p2 rest.now) }
-        ensures ranges { IfOk result IsInRange }
-    {
-        match self {
-            Instruction::Select => parse_select(p1, p2, rest),
-            Instruction::ReadBinary => parse_read_binary(p1, p2, rest),
-            Instruction::UpdateBinary => parse_update_binary(p1, p2, rest),
-            Instruction::CreateFile => parse_create_file(p1, p2, rest),
-            Instruction::DeleteFile => parse_delete_file(p1, p2, rest),
-            Instruction::ReadRecord => parse_read_record(p1, p2, rest),
-            Instruction::UpdateRecord => parse_update_record(p1, p2, rest),
-            Instruction::AppendRecord => parse_append_record(p1, p2, rest),
-            Instruction::SearchRecord => parse_search_record(p1, p2, rest),
-            Instruction::Increase => parse_increase(p1, p2, rest),
-            Instruction::ChangeLifeCycle(change) => parse_life_cycle_change(change, p1, p2, rest),
-            Instruction::TerminateCardUsage => parse_terminate_card_usage(p1, p2, rest),
-            Instruction::Verify => parse_verify(p1, p2, rest),
-            Instruction::ChangeReferenceData => parse_change_reference_data(p1, p2, rest),
-            Instruction::ResetRetryCounter => parse_reset_retry_counter(p1, p2, rest),
-            Instruction::ChangeRequirement(change) => parse_requirement_change(
-                change, p1, p2, rest,
-            ),
-        }
-    }
-
-    /// The instruction under its class, if it is built.
-    fn of(class: u8, instruction: u8) -> Option<Instruction>
-        ensures { option_map row_for result ≡ row_of class instruction }
-    {
-        match class {
-            0x00 => Instruction::of_standard(instruction),
-            0x80 if instruction == 0x32 => Some(Instruction::Increase),
-            _ => None,
-        }
-    }
-
-    /// The instruction under class 00, if it is built.
-    fn of_standard(instruction: u8) -> Option<Instruction>
-        ensures { option_map row_for result ≡ row_of 0x00 instruction }
-    {
-        match instruction {
-            0x04 => Some(Instruction::ChangeLifeCycle(LifeCycleChange::Deactivate)),
-            0x20 => Some(Instruction::Verify),
-            0x24 => Some(Instruction::ChangeReferenceData),
-            0x26 => Some(Instruction::ChangeRequirement(RequirementChange::Disable)),
-            0x28 => Some(Instruction::ChangeRequirement(RequirementChange::Enable)),
-            0x2C => Some(Instruction::ResetRetryCounter),
-            0x44 => Some(Instruction::ChangeLifeCycle(LifeCycleChange::Activate)),
-            0xA2 => Some(Instruction::SearchRecord),
-            0xA4 => Some(Instruction::Select),
-            0xB0 => Some(Instruction::ReadBinary),
-            0xB2 => Some(Instruction::ReadRecord),
-            0xD6 => Some(Instruction::UpdateBinary),
-            0xDC => Some(Instruction::UpdateRecord),
-            0xE0 => Some(Instruction::CreateFile),
-            0xE2 => Some(Instruction::AppendRecord),
-            0xE4 => Some(Instruction::DeleteFile),
-            0xE6 => Some(Instruction::ChangeLifeCycle(LifeCycleChange::TerminateDf)),
-            0xE8 => Some(Instruction::ChangeLifeCycle(LifeCycleChange::TerminateEf)),
-            0xFE => Some(Instruction::TerminateCardUsage),
-            _ => None,
-        }
-    }
-}
-
-/// Whether commands of this class are known: 00, and 80 for those that no standard fixes.
-fn is_known_class(class: u8) -> bool
-    ensures { result ≡ is_class class }
+/// Reads what follows the class of a command of class 00, whose instructions ISO/IEC 7816-4 and 7816-9 fix.
+fn parse_standard<'a>(instruction: u8, p1: u8, p2: u8, rest: &'a [u8]) -> Result<Command<'a>, Sw>
+    ensures asked { Gives result (asked_by_row (row_of 0x00 instruction) p1 p2 rest.now) }
+    ensures ranges { IfOk result IsInRange }
 {
-    class == 0x00 || class == 0x80
+    match instruction {
+        0x04 => parse_life_cycle_change(LifeCycleChange::Deactivate, p1, p2, rest),
+        0x20 => parse_verify(p1, p2, rest),
+        0x24 => parse_change_reference_data(p1, p2, rest),
+        0x26 => parse_requirement_change(RequirementChange::Disable, p1, p2, rest),
+        0x28 => parse_requirement_change(RequirementChange::Enable, p1, p2, rest),
+        0x2C => parse_reset_retry_counter(p1, p2, rest),
+        0x44 => parse_life_cycle_change(LifeCycleChange::Activate, p1, p2, rest),
+        0xA2 => parse_search_record(p1, p2, rest),
+        0xA4 => parse_select(p1, p2, rest),
+        0xB0 => parse_read_binary(p1, p2, rest),
+        0xB2 => parse_read_record(p1, p2, rest),
+        0xD6 => parse_update_binary(p1, p2, rest),
+        0xDC => parse_update_record(p1, p2, rest),
+        0xE0 => parse_create_file(p1, p2, rest),
+        0xE2 => parse_append_record(p1, p2, rest),
+        0xE4 => parse_delete_file(p1, p2, rest),
+        0xE6 => parse_life_cycle_change(LifeCycleChange::TerminateDf, p1, p2, rest),
+        0xE8 => parse_life_cycle_change(LifeCycleChange::TerminateEf, p1, p2, rest),
+        0xFE => parse_terminate_card_usage(p1, p2, rest),
+        _ => Err(Sw::UNKNOWN_INSTRUCTION),
+    }
+}
+
+/// Reads what follows the class of a command of class 80.
+fn parse_proprietary<'a>(instruction: u8, p1: u8, p2: u8, rest: &'a [u8]) -> Result<Command<'a>, Sw>
+    ensures asked { Gives result (asked_by_row (row_of 0x80 instruction) p1 p2 rest.now) }
+    ensures ranges { IfOk result IsInRange }
+{
+    match instruction {
+        0x32 => parse_increase(p1, p2, rest),
+        _ => Err(Sw::UNKNOWN_INSTRUCTION),
+    }
 }

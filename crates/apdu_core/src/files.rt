@@ -2,7 +2,7 @@
 ghost use Rattle.std.specs.Prelude.{◌≡◌, ◌==◌, ◌||◌, ◌&&◌, not, Some, is_some, IfOk, IfSome, length};
 ghost use Rattle.apdu_core.specs.Asked.{asked_by_row};
 ghost use Rattle.apdu_core.specs.FileRows.{create_file_row, delete_file_row, subject_named};
-ghost use Rattle.apdu_core.specs.Ranges.{IsInRange};
+ghost use Rattle.apdu_core.specs.Fields.{IsInRange};
 ghost use Rattle.apdu_core.specs.Requests.{Gives};
 
 use crate::commands::Command;

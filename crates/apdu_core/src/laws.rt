@@ -22,13 +22,13 @@ ghost use Rattle.apdu_core.specs.PinRows.{requirement_row};
 ghost use Rattle.apdu_core.specs.SelectRows.{select_row, is_way, is_returned};
 ghost use Rattle.apdu_core.specs.Listing.{header, bytes_with, mode, first_parameters, lengths_allowed};
 ghost use Rattle.std.specs.List.{range_with_len};
-ghost use Rattle.apdu_core.specs.OfBytes.{AreBytes, IsOfBytes, IsStatusWord};
+ghost use Rattle.apdu_core.specs.OfBytes.{AreBytes, IsStatusWord};
+ghost use Rattle.apdu_core.specs.Fields.{IsOfBytes, IsSized};
 ghost use Rattle.apdu_core.specs.Requests.{select, read_binary, update_binary, create_file, delete_file};
 ghost use Rattle.apdu_core.specs.Requests.{read_record, update_record, append_record, search_record, increase};
 ghost use Rattle.apdu_core.specs.Requests.{change_life_cycle, terminate_card_usage, verify, change_reference_data};
 ghost use Rattle.apdu_core.specs.Requests.{change_requirement};
 ghost use Rattle.apdu_core.specs.Selections.{identifier, parent, name, path_from_master, path_from_current};
-ghost use Rattle.apdu_core.specs.Sizes.{IsSized};
 
 /// A command of bytes asks for a request of bytes, Le and what is sent being bytes, each 0 to 255, and identifiers two
 /// bytes; or it is refused by a status word of two bytes.

@@ -1,7 +1,8 @@
 //! Commands on records (ISO/IEC 7816-4, 11.4), and INCREASE (ETSI TS 102 221, 11.1.8).
 ghost use Rattle.std.specs.Prelude.{◌≡◌, ◌&&◌, Some, is_some, IfOk, IfSome};
 ghost use Rattle.apdu_core.specs.Asked.{asked_by_row};
-ghost use Rattle.apdu_core.specs.Ranges.{IsTarget, IsRecordPlace, IsRecordChoice, IsInRange};
+ghost use Rattle.apdu_core.specs.Fields.{IsInRange};
+ghost use Rattle.apdu_core.specs.Ranges.{IsTarget, IsRecordPlace, IsRecordChoice};
 ghost use Rattle.apdu_core.specs.RecordRows.{read_record_row, update_record_row, append_record_row, search_record_row};
 ghost use Rattle.apdu_core.specs.RecordRows.{increase_row, is_record_file, record_file, record_place, is_choice};
 ghost use Rattle.apdu_core.specs.RecordRows.{record_choice, is_direction, direction};

@@ -3,7 +3,8 @@ ghost use Rattle.std.specs.Prelude.{◌≡◌, Some, IfOk, IfSome, is_some, leng
 ghost use Rattle.apdu_core.specs.Asked.{asked_by_row};
 ghost use Rattle.apdu_core.specs.Selections.{selection_of};
 ghost use Rattle.apdu_core.specs.SelectRows.{select_row, is_way, is_returned, returned_by, names_file, named_file};
-ghost use Rattle.apdu_core.specs.Ranges.{IsInRange, IsSelector};
+ghost use Rattle.apdu_core.specs.Fields.{IsInRange};
+ghost use Rattle.apdu_core.specs.Ranges.{IsSelector};
 ghost use Rattle.apdu_core.specs.Requests.{Gives};
 ghost use Rattle.apdu_core.specs.Ways.{byte_of};
 

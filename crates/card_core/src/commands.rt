@@ -3,7 +3,7 @@ ghost use Rattle.std.specs.Prelude.{◌≡◌, ◌==◌, [], IfOk, OnOk};
 ghost use Rattle.std.specs.Result.{result_err};
 ghost use Rattle.undo_journal.specs.Calls.{Reads};
 ghost use Rattle.undo_journal.specs.Memory.{IsReady};
-ghost use Rattle.apdu_core.specs.Ranges.{IsInRange};
+ghost use Rattle.apdu_core.specs.Fields.{IsInRange};
 ghost use Rattle.apdu_core.specs.Requests.{request_of};
 ghost use Rattle.card_core.specs.Served.{CarriesOut, Serves};
 ghost use Rattle.card_core.specs.Stops.{reply};

@@ -1,43 +1,28 @@
--- A command of bytes asks for a request of bytes, or is refused by a status word of two bytes.
-use Rattle.std.specs.Prelude.{◌≡◌, ◌<◌, ◌==◌, ◌+◌, ℕ, zero, suc, Bool, true, false, ◌&&◌, nat_lt, List, [], ◌∷◌}
+-- What bytes name and send is of bytes.
+use Rattle.std.specs.Prelude.{◌≡◌, ◌<◌, ◌==◌, ◌+◌, ℕ, zero, suc, Bool, true, false, nat_lt, List, [], ◌∷◌}
 use Rattle.std.specs.Prelude.{length, take, drop, slice_index}
-use Rattle.std.specs.Prelude.{Option, Some, None, is_some, unwrap_or, Result, Ok, Err, MatchResult, IfSome}
+use Rattle.std.specs.Prelude.{Option, Some, None, unwrap_or, IfSome}
 use Rattle.std.specs.Prelude.{if◌then◌else◌}
 use Rattle.std.specs.List.{list_all}
 use Rattle.std.proofs.lemmas.Bool.{ltb-true, and_parts}
-use Rattle.std.proofs.Common.{arith, lit<, subst, sym, get_or-take, length-take}
-use Rattle.card_rules.specs.declared.status.Sw.{Sw}
-use Rattle.card_rules.specs.declared.status.TheConstants.Sw.{WRONG_LENGTH, WRONG_PARAMETERS, UNKNOWN_CLASS}
+use Rattle.std.proofs.Common.{arith, subst, sym, get_or-take, length-take}
 use Rattle.apdu_core.specs.Bodies.{Body, body_of}
-use Rattle.apdu_core.specs.Requests.{Request}
-use Rattle.apdu_core.specs.Rows.{Row}
-use Rattle.apdu_core.specs.Asked.{asked, asked_by_body, asked_by_row, command_table, is_class, row_of}
 use Rattle.apdu_core.specs.Numbers.{two_bytes}
 use Rattle.apdu_core.specs.Selections.{identifiers, parent, name, path_from_master, path_from_current}
 use Rattle.apdu_core.specs.SelectRows.{by_identifier, named_file}
-use Rattle.apdu_core.specs.BinaryRows.{binary_rows}
-use Rattle.apdu_core.specs.FileRows.{file_rows}
-use Rattle.apdu_core.specs.RecordRows.{record_rows}
-use Rattle.apdu_core.specs.LifeCycleRows.{life_cycle_rows}
-use Rattle.apdu_core.specs.PinRows.{pin_rows}
-use Rattle.apdu_core.specs.laws.TableLaws.{EachRow, each_group, each_found}
 use Rattle.apdu_core.specs.PinRows.{shown_value, shown_values}
-use Rattle.apdu_core.specs.OfBytes.{AreBytes, AreIdentifiers, IsNamedByBytes, IsOfBytes, IsStatusWord}
+use Rattle.apdu_core.specs.OfBytes.{AreBytes, AreIdentifiers, IsNamedByBytes}
 
 -- a body of bytes
-record IsBodyOfBytes (body : Body) : Type 0 where
-  sent : AreBytes body.sent
-  expected : unwrap_or body.expected 0 < 256
-
--- a row whose meaning is of bytes, if its body is
-abbrev IsRowOfBytes : Row → Type 0
-IsRowOfBytes row = (p1 p2 : ℕ) (body : Body) → IsBodyOfBytes body → IsOfBytes (row.meaning p1 p2 body)
+pub record IsBodyOfBytes (body : Body) : Type 0 where
+  pub sent : AreBytes body.sent
+  pub expected : unwrap_or body.expected 0 < 256
 
 pub bytes-rest : (byte : ℕ) (bytes : List ℕ) → AreBytes (byte ∷ bytes) → AreBytes bytes
 bytes-rest byte bytes all k d lt = all (suc k) d (let below : suc k < length (byte ∷ bytes) = omega (arith, lt) in
     below)
 
-bytes-take : (n : ℕ) (bytes : List ℕ) → AreBytes bytes → AreBytes (take n bytes)
+pub bytes-take : (n : ℕ) (bytes : List ℕ) → AreBytes bytes → AreBytes (take n bytes)
 bytes-take n bytes all k d lt =
     let some = length-take n bytes in
     let taken : k < n = omega (arith, lt, some) in
@@ -56,7 +41,7 @@ byte-at [] i all = omega arith
 byte-at (byte ∷ bytes) zero all = all 0 0 (let some : 0 < length (byte ∷ bytes) = omega arith in some)
 byte-at (byte ∷ bytes) (suc i) all = byte-at bytes i (bytes-rest byte bytes all)
 
-body-of_bytes : (bytes : List ℕ) → AreBytes bytes → IfSome (body_of bytes) IsBodyOfBytes
+pub body-of_bytes : (bytes : List ℕ) → AreBytes bytes → IfSome (body_of bytes) IsBodyOfBytes
 body-of_bytes [] all = record { sent = all; expected = omega arith }
 body-of_bytes (le ∷ []) all = record { sent = bytes-rest le [] all; expected = byte-at (le ∷ []) 0 all }
 body-of_bytes (lc ∷ byte ∷ bytes) all =
@@ -69,23 +54,6 @@ body-of_bytes (lc ∷ byte ∷ bytes) all =
     (either-if holds (length rest == lc) whole _ (record { sent = rest_bytes; expected = omega arith })
     (either-if holds (length rest == lc + 1) with_le None
     (record { sent = bytes-take lc rest rest_bytes; expected = byte-at rest lc rest_bytes }) tt))
-
--- what a row makes of a body
-body-asked : (row : Row) (p1 p2 : ℕ) (body : Option Body) → IsRowOfBytes row → IfSome body IsBodyOfBytes
-    → MatchResult (asked_by_body row p1 p2 body) IsOfBytes IsStatusWord
-body-asked row p1 p2 None meant sent = lit< tt
-body-asked row p1 p2 (Some body) meant sent =
-    either-if (λ (asked : Result Request Sw). MatchResult asked IsOfBytes IsStatusWord)
-    (row.lengths p1 p2 (length body.sent) (is_some body.expected)) (Ok (row.meaning p1 p2 body)) (Err WRONG_LENGTH)
-    (meant p1 p2 body sent) (lit< tt)
-
-row-asked : (row : Option Row) (p1 p2 : ℕ) (bytes : List ℕ) → IfSome row IsRowOfBytes → AreBytes bytes
-    → MatchResult (asked_by_row row p1 p2 bytes) IsOfBytes IsStatusWord
-row-asked None p1 p2 bytes meant all = lit< tt
-row-asked (Some row) p1 p2 bytes meant all =
-    either-if (λ (asked : Result Request Sw). MatchResult asked IsOfBytes IsStatusWord)
-    (row.parameters p1 p2) (asked_by_body row p1 p2 (body_of bytes)) (Err WRONG_PARAMETERS)
-    (body-asked row p1 p2 (body_of bytes) meant (body-of_bytes bytes all)) (lit< tt)
 
 -- two bytes are below 65,536
 two_bytes-below : (high low : ℕ) → high < 256 → low < 256 → two_bytes high low < 65536
@@ -109,7 +77,7 @@ by_identifier-of_bytes (high ∷ bytes) all =
     (byte-at bytes 0 (bytes-rest high bytes all))
 
 -- a file that is named in any way
-named_file-of_bytes : (p1 : ℕ) (sent : List ℕ) → AreBytes sent → IsNamedByBytes (named_file p1 sent)
+pub named_file-of_bytes : (p1 : ℕ) (sent : List ℕ) → AreBytes sent → IsNamedByBytes (named_file p1 sent)
 named_file-of_bytes p1 sent all =
     let path = identifiers-of_bytes sent all in
     either-if IsNamedByBytes (p1 == 0x00) (by_identifier sent) _ (by_identifier-of_bytes sent all)
@@ -118,85 +86,19 @@ named_file-of_bytes p1 sent all =
     (either-if IsNamedByBytes (p1 == 0x08) (path_from_master (identifiers sent)) (path_from_current (identifiers sent))
     path path)))
 
-bytes-drop : (n : ℕ) (bytes : List ℕ) → AreBytes bytes → AreBytes (drop n bytes)
+pub bytes-drop : (n : ℕ) (bytes : List ℕ) → AreBytes bytes → AreBytes (drop n bytes)
 bytes-drop zero bytes all = all
 bytes-drop (suc n) [] all = all
 bytes-drop (suc n) (byte ∷ bytes) all = bytes-drop n bytes (bytes-rest byte bytes all)
 
-shown_value-of_bytes : (sent : List ℕ) → AreBytes sent → IfSome (shown_value sent) AreBytes
+pub shown_value-of_bytes : (sent : List ℕ) → AreBytes sent → IfSome (shown_value sent) AreBytes
 shown_value-of_bytes [] all = tt
 shown_value-of_bytes (byte ∷ bytes) all = all
 
-shown_values-of_bytes : (sent : List ℕ) → AreBytes sent
+pub shown_values-of_bytes : (sent : List ℕ) → AreBytes sent
     → IfSome (shown_values sent) (λ values. AreBytes values.0 × AreBytes values.1)
 shown_values-of_bytes [] all = tt
 shown_values-of_bytes (byte ∷ bytes) all = (bytes-take 8 (byte ∷ bytes) all, bytes-drop 8 (byte ∷ bytes) all)
-
-binaries-of_bytes : EachRow IsRowOfBytes binary_rows
-binaries-of_bytes = (λ p1 p2 body sent. sent.expected, (λ p1 p2 body sent. sent.sent, tt))
-
-files-of_bytes : EachRow IsRowOfBytes file_rows
-files-of_bytes = (λ p1 p2 body sent. sent.sent, (λ p1 p2 body sent. tt, tt))
-
-pins-of_bytes : EachRow IsRowOfBytes pin_rows
-pins-of_bytes = (
-  λ p1 p2 body sent. shown_value-of_bytes body.sent sent.sent,
-  (
-    λ p1 p2 body sent. (bytes-take 8 body.sent sent.sent, bytes-drop 8 body.sent sent.sent),
-    (
-      λ p1 p2 body sent. shown_values-of_bytes body.sent sent.sent,
-      (λ p1 p2 body sent. sent.sent, (λ p1 p2 body sent. sent.sent, tt)),
-    ),
-  ),
-)
-
-records-of_bytes : EachRow IsRowOfBytes record_rows
-records-of_bytes = (
-  λ p1 p2 body sent. sent.expected,
-  (
-    λ p1 p2 body sent. sent.sent,
-    (
-      λ p1 p2 body sent. sent.sent,
-      (λ p1 p2 body sent. (sent.sent, sent.expected), (λ p1 p2 body sent. (sent.sent, sent.expected), tt)),
-    ),
-  ),
-)
-
-life_cycles-of_bytes : EachRow IsRowOfBytes life_cycle_rows
-life_cycles-of_bytes = (
-  λ p1 p2 body sent. tt,
-  (
-    λ p1 p2 body sent. tt,
-    (
-      λ p1 p2 body sent. tt,
-      (
-        λ p1 p2 body sent. tt,
-        (λ p1 p2 body sent. tt, tt),
-      ),
-    ),
-  ),
-)
-
--- the rows of the table, group by group
-table-of_bytes : EachRow IsRowOfBytes command_table
-table-of_bytes =
-    each_group IsRowOfBytes (λ p1 p2 body sent. (named_file-of_bytes p1 body.sent sent.sent, sent.expected))
-    binaries-of_bytes files-of_bytes records-of_bytes life_cycles-of_bytes pins-of_bytes
-
-pub asked-of_bytes : (command : List ℕ) → AreBytes command → MatchResult (asked command) IsOfBytes IsStatusWord
-asked-of_bytes [] all = lit< tt
-asked-of_bytes (class ∷ []) all = lit< tt
-asked-of_bytes (class ∷ instruction ∷ []) all = lit< tt
-asked-of_bytes (class ∷ instruction ∷ p1 ∷ []) all = lit< tt
-asked-of_bytes (class ∷ instruction ∷ p1 ∷ p2 ∷ bytes) all =
-    let rest : AreBytes bytes =
-    bytes-rest p2 bytes (bytes-rest p1 (p2 ∷ bytes) (bytes-rest instruction (p1 ∷ p2 ∷ bytes) (bytes-rest class
-    (instruction ∷ p1 ∷ p2 ∷ bytes) all))) in
-    let row = each_found IsRowOfBytes (λ row. (row.class == class) && (row.instruction == instruction)) command_table
-    table-of_bytes in
-    either-if (λ (asked : Result Request Sw). MatchResult asked IsOfBytes IsStatusWord)
-    (is_class class) (asked_by_row (row_of class instruction) p1 p2 bytes) (Err UNKNOWN_CLASS)
-    (row-asked (row_of class instruction) p1 p2 bytes row rest) (lit< tt)
 
 -- numbers that are tested to be bytes are bytes
 pub are_bytes-tell : (numbers : List ℕ) → list_all (λ number. nat_lt number 256) numbers ≡ true → AreBytes numbers

@@ -1,29 +1,13 @@
 -- What a command names or sends is of the size that the table of commands allows.
-use Rattle.std.specs.Prelude.{◌≡◌, ◌≤◌, ◌==◌, ◌%◌, ℕ, Bool, true, false, ◌&&◌, ◌||◌, nat_le, not, List, [], ◌∷◌, length}
-use Rattle.std.specs.Prelude.{take, drop, Option, Some, None, is_some, Result, Ok, Err, IfOk, IfSome, if◌then◌else◌}
+use Rattle.std.specs.Prelude.{◌≡◌, ◌≤◌, ◌==◌, ◌%◌, ℕ, Bool, true, false, ◌&&◌, ◌||◌, nat_le, not, List, [], ◌∷◌, length, take, drop}
+use Rattle.std.specs.Prelude.{IfSome, if◌then◌else◌}
 use Rattle.std.proofs.lemmas.Bool.{leb-true, eqb-true, and_parts, or_cases}
 use Rattle.std.proofs.Common.{arith, length-take, length-drop}
-use Rattle.card_rules.specs.declared.status.Sw.{Sw}
-use Rattle.card_rules.specs.declared.status.TheConstants.Sw.{WRONG_LENGTH, WRONG_PARAMETERS, UNKNOWN_CLASS}
-use Rattle.apdu_core.specs.Bodies.{Body, body_of}
-use Rattle.apdu_core.specs.Requests.{Request}
-use Rattle.apdu_core.specs.Rows.{Row}
 use Rattle.apdu_core.specs.Selections.{parent, name, path_from_master, path_from_current, identifiers, is_path}
 use Rattle.apdu_core.specs.SelectRows.{by_identifier}
-use Rattle.apdu_core.specs.Asked.{asked, asked_by_body, asked_by_row, command_table, is_class, row_of}
-use Rattle.apdu_core.specs.Sizes.{HasBetween, IsPinValue, IsSizedName, IsSized}
-use Rattle.apdu_core.specs.BinaryRows.{binary_rows}
-use Rattle.apdu_core.specs.FileRows.{file_rows}
-use Rattle.apdu_core.specs.RecordRows.{record_rows}
-use Rattle.apdu_core.specs.LifeCycleRows.{life_cycle_rows}
-use Rattle.apdu_core.specs.PinRows.{pin_rows, shown_value, shown_values}
-use Rattle.apdu_core.specs.laws.TableLaws.{EachRow, each_group, choose, each_found}
+use Rattle.apdu_core.specs.Sizes.{HasBetween, IsPinValue, IsSizedName}
+use Rattle.apdu_core.specs.PinRows.{shown_value, shown_values}
 use Rattle.apdu_core.specs.laws.Identifiers.{identifiers_counted}
-
--- a row under which each body that it allows is of a good size
-abbrev IsRowSized : Row → Type 0
-IsRowSized row = (p1 p2 : ℕ) (body : Body) → row.lengths p1 p2 (length body.sent) (is_some body.expected) ≡ true
-    → IsSized (row.meaning p1 p2 body)
 
 -- a number that is tested to be between two others is
 between : (least most n : ℕ) → (nat_le least n && nat_le n most) ≡ true → (least ≤ n) × (n ≤ most)
@@ -44,7 +28,7 @@ by_identifier-sized [] = tt
 by_identifier-sized (high ∷ bytes) = tt
 
 -- the file that is named, by the answers of the tests of P1
-named-sized : (is_00 is_03 is_04 is_08 : Bool) (sent : List ℕ)
+pub named-sized : (is_00 is_03 is_04 is_08 : Bool) (sent : List ℕ)
     → (if is_00 then (length sent == 0) || (length sent == 2) else if is_03 then length sent == 0 else
     if is_04 then nat_le 1 (length sent) && nat_le (length sent) 16 else is_path (length sent)) ≡ true
     → IsSizedName (if is_00 then by_identifier sent else if is_03 then parent else if is_04 then name sent else
@@ -56,28 +40,13 @@ named-sized false false false true sent e = path-sized sent e
 named-sized false false false false sent e = path-sized sent e
 
 -- 1 to 255 bytes with no Le
-sent-sized : (sent : List ℕ) (le : Bool) → (nat_le 1 (length sent) && nat_le (length sent) 255 && not le) ≡ true
+pub sent-sized : (sent : List ℕ) (le : Bool) → (nat_le 1 (length sent) && nat_le (length sent) 255 && not le) ≡ true
     → HasBetween 1 255 sent
 sent-sized sent le e =
     between 1 255 (length sent) (and_parts (nat_le 1 (length sent) && nat_le (length sent) 255) (not le) e).0
 
-body-sized : (row : Row) (p1 p2 : ℕ) (body : Option Body) → IsRowSized row → IfOk (asked_by_body row p1 p2 body) IsSized
-body-sized row p1 p2 None sized = tt
-body-sized row p1 p2 (Some body) sized =
-    choose (λ (asked : Result Request Sw). IfOk asked IsSized)
-    (row.lengths p1 p2 (length body.sent) (is_some body.expected)) (Ok (row.meaning p1 p2 body)) (Err WRONG_LENGTH)
-    (sized p1 p2 body) tt
-
-row-sized : (row : Option Row) (p1 p2 : ℕ) (bytes : List ℕ) → IfSome row IsRowSized
-    → IfOk (asked_by_row row p1 p2 bytes) IsSized
-row-sized None p1 p2 bytes sized = tt
-row-sized (Some row) p1 p2 bytes sized =
-    choose (λ (asked : Result Request Sw). IfOk asked IsSized)
-    (row.parameters p1 p2) (asked_by_body row p1 p2 (body_of bytes)) (Err WRONG_PARAMETERS)
-    (λ known. body-sized row p1 p2 (body_of bytes) sized) tt
-
 -- 1 to 255 bytes
-text-sized : (sent : List ℕ) → (nat_le 1 (length sent) && nat_le (length sent) 255) ≡ true → HasBetween 1 255 sent
+pub text-sized : (sent : List ℕ) → (nat_le 1 (length sent) && nat_le (length sent) 255) ≡ true → HasBetween 1 255 sent
 text-sized sent e = between 1 255 (length sent) e
 
 -- some bytes, where none or so many are allowed, are so many
@@ -92,7 +61,7 @@ not-none byte bytes n le e =
     grind (arith, some, none, so_many, either)
 
 -- none or 8 bytes
-value-sized : (sent : List ℕ) (le : Bool) → (((length sent == 0) || (length sent == 8)) && not le) ≡ true
+pub value-sized : (sent : List ℕ) (le : Bool) → (((length sent == 0) || (length sent == 8)) && not le) ≡ true
     → IfSome (shown_value sent) IsPinValue
 value-sized [] le e = tt
 value-sized (byte ∷ bytes) le e = not-none byte bytes 8 le e
@@ -104,82 +73,16 @@ halves-sized sent e =
     let second = length-drop 8 sent in
     (omega (arith, first, e), omega (arith, second, e))
 
-change-sized : (sent : List ℕ) (le : Bool) → ((length sent == 16) && not le) ≡ true
+pub change-sized : (sent : List ℕ) (le : Bool) → ((length sent == 16) && not le) ≡ true
     → IsPinValue (take 8 sent) × IsPinValue (drop 8 sent)
 change-sized sent le e = halves-sized sent (eqb-true (length sent) 16 (and_parts (length sent == 16) (not le) e).0)
 
 -- none or 16 bytes
-values-sized : (sent : List ℕ) (le : Bool) → (((length sent == 0) || (length sent == 16)) && not le) ≡ true
+pub values-sized : (sent : List ℕ) (le : Bool) → (((length sent == 0) || (length sent == 16)) && not le) ≡ true
     → IfSome (shown_values sent) (λ values. IsPinValue values.0 × IsPinValue values.1)
 values-sized [] le e = tt
 values-sized (byte ∷ bytes) le e = halves-sized (byte ∷ bytes) (not-none byte bytes 16 le e)
 
 -- 8 bytes
-one-value-sized : (sent : List ℕ) (le : Bool) → ((length sent == 8) && not le) ≡ true → IsPinValue sent
+pub one-value-sized : (sent : List ℕ) (le : Bool) → ((length sent == 8) && not le) ≡ true → IsPinValue sent
 one-value-sized sent le e = eqb-true (length sent) 8 (and_parts (length sent == 8) (not le) e).0
-
-binaries-sized : EachRow IsRowSized binary_rows
-binaries-sized = (λ p1 p2 body e. tt, (λ p1 p2 body e. sent-sized body.sent (is_some body.expected) e, tt))
-
-files-sized : EachRow IsRowSized file_rows
-files-sized = (λ p1 p2 body e. sent-sized body.sent (is_some body.expected) e, (λ p1 p2 body e. tt, tt))
-
-records-sized : EachRow IsRowSized record_rows
-records-sized = (
-  λ p1 p2 body e. tt,
-  (
-    λ p1 p2 body e. sent-sized body.sent (is_some body.expected) e,
-    (
-      λ p1 p2 body e. sent-sized body.sent (is_some body.expected) e,
-      (λ p1 p2 body e. text-sized body.sent e, (λ p1 p2 body e. text-sized body.sent e, tt)),
-    ),
-  ),
-)
-
-life_cycles-sized : EachRow IsRowSized life_cycle_rows
-life_cycles-sized = (
-  λ p1 p2 body e. tt,
-  (
-    λ p1 p2 body e. tt,
-    (
-      λ p1 p2 body e. tt,
-      (
-        λ p1 p2 body e. tt,
-        (λ p1 p2 body e. tt, tt),
-      ),
-    ),
-  ),
-)
-
-pins-sized : EachRow IsRowSized pin_rows
-pins-sized = (
-  λ p1 p2 body e. value-sized body.sent (is_some body.expected) e,
-  (
-    λ p1 p2 body e. change-sized body.sent (is_some body.expected) e,
-    (
-      λ p1 p2 body e. values-sized body.sent (is_some body.expected) e,
-      (
-        λ p1 p2 body e. one-value-sized body.sent (is_some body.expected) e,
-        (λ p1 p2 body e. one-value-sized body.sent (is_some body.expected) e, tt),
-      ),
-    ),
-  ),
-)
-
--- the rows of the table, group by group
-table-sized : EachRow IsRowSized command_table
-table-sized =
-    each_group IsRowSized (λ p1 p2 body e. named-sized (p1 == 0x00) (p1 == 0x03) (p1 == 0x04) (p1 == 0x08) body.sent e)
-    binaries-sized files-sized records-sized life_cycles-sized pins-sized
-
-pub asked-sized : (command : List ℕ) → IfOk (asked command) IsSized
-asked-sized [] = tt
-asked-sized (class ∷ []) = tt
-asked-sized (class ∷ instruction ∷ []) = tt
-asked-sized (class ∷ instruction ∷ p1 ∷ []) = tt
-asked-sized (class ∷ instruction ∷ p1 ∷ p2 ∷ bytes) =
-    let row = each_found IsRowSized (λ row. (row.class == class) && (row.instruction == instruction)) command_table
-    table-sized in
-    choose (λ (asked : Result Request Sw). IfOk asked IsSized) (is_class class)
-    (asked_by_row (row_of class instruction) p1 p2 bytes) (Err UNKNOWN_CLASS)
-    (λ known. row-sized (row_of class instruction) p1 p2 bytes row) tt

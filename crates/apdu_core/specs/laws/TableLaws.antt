@@ -3,7 +3,7 @@ use Rattle.std.specs.Prelude.{◌≡◌, Bool, true, false, List, [], ◌∷◌,
 use Rattle.std.specs.Prelude.{if◌then◌else◌}
 use Rattle.std.proofs.Common.{refl}
 use Rattle.apdu_core.specs.Rows.{Row}
-use Rattle.apdu_core.specs.SelectRows.{select_row}
+use Rattle.apdu_core.specs.SelectRows.{select_rows}
 use Rattle.apdu_core.specs.BinaryRows.{binary_rows}
 use Rattle.apdu_core.specs.FileRows.{file_rows}
 use Rattle.apdu_core.specs.RecordRows.{record_rows}
@@ -23,15 +23,14 @@ both_groups P [] others all more = more
 both_groups P (row ∷ rows) others all more = (all.0, both_groups P rows others all.1 more)
 
 -- the table of commands, group by group
-pub each_group : (P : Row → Type 0) → P select_row → EachRow P binary_rows → EachRow P file_rows → EachRow P record_rows
-    → EachRow P life_cycle_rows → EachRow P pin_rows → EachRow P command_table
-each_group P select binaries files records life_cycles pins = (
-  select,
-  both_groups P binary_rows (file_rows ++ record_rows ++ life_cycle_rows ++ pin_rows) binaries
-      (both_groups P file_rows (record_rows ++ life_cycle_rows ++ pin_rows) files
-      (both_groups P record_rows (life_cycle_rows ++ pin_rows) records
-      (both_groups P life_cycle_rows pin_rows life_cycles pins))),
-)
+pub each_group : (P : Row → Type 0) → EachRow P select_rows → EachRow P binary_rows → EachRow P file_rows
+    → EachRow P record_rows → EachRow P life_cycle_rows → EachRow P pin_rows → EachRow P command_table
+each_group P selects binaries files records life_cycles pins =
+    both_groups P select_rows (binary_rows ++ file_rows ++ record_rows ++ life_cycle_rows ++ pin_rows) selects
+    (both_groups P binary_rows (file_rows ++ record_rows ++ life_cycle_rows ++ pin_rows) binaries
+    (both_groups P file_rows (record_rows ++ life_cycle_rows ++ pin_rows) files
+    (both_groups P record_rows (life_cycle_rows ++ pin_rows) records
+    (both_groups P life_cycle_rows pin_rows life_cycles pins))))
 
 -- a choice between two: the one has the property if the test holds, the other has it anyhow
 pub choose : {X : Type 0} (P : X → Type 0) (test : Bool) (one other : X) → (test ≡ true → P one) → P other

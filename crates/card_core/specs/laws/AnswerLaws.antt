@@ -7,9 +7,10 @@ use Rattle.std.proofs.lemmas.List.Elements.{All-append}
 use Rattle.card_rules.specs.declared.status.Sw.{Sw}
 use Rattle.card_rules.specs.declared.status.TheConstants.Sw.{CONDITIONS_NOT_SATISFIED}
 use Rattle.apdu_core.specs.Asked.{asked}
-use Rattle.apdu_core.specs.OfBytes.{AreBytes, IsOfBytes, IsStatusWord}
+use Rattle.apdu_core.specs.Fields.{IsOfBytes}
+use Rattle.apdu_core.specs.OfBytes.{AreBytes, IsStatusWord}
 use Rattle.apdu_core.specs.Requests.{Request}
-use Rattle.apdu_core.specs.laws.ByteLaws.{asked-of_bytes}
+use Rattle.apdu_core.specs.laws.RowLaws.{asked-of_bytes}
 use Rattle.card_core.specs.Cards.{Card}
 use Rattle.card_core.specs.Outcomes.{Outcome, Refusal, Response, answer_bytes, first_applying, in_order, refused}
 use Rattle.card_core.specs.Outcomes.{refused_by, unless_refused}

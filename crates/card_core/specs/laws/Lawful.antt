@@ -4,9 +4,9 @@ use Rattle.std.proofs.Common.{refl, sym, subst, lit<}
 use Rattle.std.proofs.lemmas.List.Elements.{All-nil, All-cons}
 use Rattle.apdu_core.specs.declared.binary.Target.{Target}
 use Rattle.apdu_core.specs.declared.binary.Target.TheVariants.{Current, Short}
-use Rattle.apdu_core.specs.OfBytes.{IsOfBytes, IsStatusWord}
+use Rattle.apdu_core.specs.Fields.{IsOfBytes, IsSized}
+use Rattle.apdu_core.specs.OfBytes.{IsStatusWord}
 use Rattle.apdu_core.specs.Requests.{Request}
-use Rattle.apdu_core.specs.Sizes.{IsSized}
 use Rattle.card_core.specs.declared.machine.TheConstants.{COMMAND_WRITES}
 use Rattle.card_core.specs.Attempts.{Attempt, unblocking_of, value_of}
 use Rattle.card_core.specs.Behaviours.{Behaviour}

@@ -4,8 +4,8 @@ use Rattle.std.proofs.Common.{arith}
 use Rattle.card_rules.specs.declared.status.Sw.{Sw}
 use Rattle.apdu_core.specs.Asked.{asked}
 use Rattle.apdu_core.specs.Requests.{Request}
-use Rattle.apdu_core.specs.Sizes.{IsSized}
-use Rattle.apdu_core.specs.laws.SizeLaws.{asked-sized}
+use Rattle.apdu_core.specs.Fields.{IsSized}
+use Rattle.apdu_core.specs.laws.RowLaws.{asked-sized}
 use Rattle.card_core.specs.declared.machine.TheConstants.{COMMAND_WRITES}
 use Rattle.card_core.specs.Spending.{most_writes, writes_asked, writes_of}
 use Rattle.card_core.specs.laws.CommandLaws.{lawful}

@@ -4,7 +4,7 @@ use Rattle.card_rules.specs.declared.status.Sw.{Sw}
 use Rattle.undo_journal.specs.declared.error.StoreErr.{StoreErr}
 use Rattle.undo_journal.specs.Memory.{Memory}
 use Rattle.apdu_core.specs.declared.commands.Command.{Command}
-use Rattle.apdu_core.specs.Ranges.{IsInRange}
+use Rattle.apdu_core.specs.Fields.{IsInRange}
 use Rattle.apdu_core.specs.Requests.{request_of}
 use Rattle.card_core.specs.declared.current.Current.{Current}
 use Rattle.card_core.specs.Served.{Serves}
