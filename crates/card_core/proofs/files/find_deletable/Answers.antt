@@ -6,6 +6,9 @@ use Rattle.file_tree.specs.declared.entry.Entry.{Entry}
 use Rattle.file_tree.specs.Table.{table, entry_in, path_of, IsUsed}
 use Rattle.file_tree.specs.laws.Nodes.{used_small}
 use Rattle.file_tree.specs.laws.Paths.{parent_used, path-zero}
+use Rattle.card_rules.specs.declared.status.Sw.{Sw}
+use Rattle.card_core.specs.Files.{delete_refusals}
+use Rattle.card_core.specs.Outcomes.{refused_by}
 use Rattle.card_core.specs.Standing.{card_of}
 use Rattle.card_core.specs.Working.{session_of}
 use Rattle.card_core.proofs.Deletions.{deletable, deletion_verdict, file-verdict}
@@ -67,7 +70,12 @@ returns-in_err-check_deletion-clause-found g c =
     c.in_ok-entry.ensures.entry ∙ ap (λ (l : List ℕ). entry_in (table l) e)
     c.find_subject.ensures.store.only.keeps.committed_words in
     let below : 0 < e = omega arith in
-    finds-stopped _ _ c.from_residual-in_err-check_deletion.ensures.1 _ _ (refused-weaker _ _ _ (λ status due.
+    let verdict : Option Sw = deletion_verdict (committed c.read_entry.new.store) x e c.in_ok-entry.entry.parent in
+    let refused : Option Sw = refused_by (delete_refusals (card_of m) (session_of t x) c.args.subject) in
+    finds-stopped _ c.in_err-check_deletion.field-0.0 c.from_residual-in_err-check_deletion.ensures.1 _
+    (λ (status : Sw). refused ≡ Some status)
+    (refused-weaker c.in_err-check_deletion.field-0.0 (λ (status : Sw). verdict ≡ Some status)
+    (λ (status : Sw). refused ≡ Some status) (λ (status : Sw) (due : verdict ≡ Some status).
     file-verdict m c.requires.kept.ready.usable.committed_size c.requires.kept.card x c.args.subject e below used place
     ∙ ap (λ (y : Entry). deletion_verdict m x e y.parent) (sym entry)
     ∙ ap (λ (l : List ℕ). deletion_verdict l x e c.in_ok-entry.entry.parent) (sym same)

@@ -1,7 +1,8 @@
 use Rattle.std.proofs.Common.{◌≡◌, ℕ, List, Option, Some, None, IfSome, option_map, sym, ◌∙◌, ap, subst, if◌then◌else◌}
 use Rattle.std.specs.Option.{is_none}
 use Rattle.card_rules.specs.declared.status.Sw.{Sw}
-use Rattle.card_core.specs.Elementary.{missing}
+use Rattle.card_core.specs.Elementary.{file_refusals, missing}
+use Rattle.card_core.specs.Outcomes.{refused_by}
 use Rattle.undo_journal.specs.Memory.{committed}
 use Rattle.undo_journal.specs.laws.Calls.{reads_then}
 use Rattle.file_tree.specs.declared.entry.Entry.{Entry}
@@ -10,7 +11,7 @@ use Rattle.file_tree.specs.Table.{table, entry_in, path_of}
 use Rattle.file_tree.specs.laws.Nodes.{used_small}
 use Rattle.card_core.specs.Guards.{allowed}
 use Rattle.card_core.specs.Standing.{card_of}
-use Rattle.card_core.specs.Working.{file_refusal, fits_kind, session_of, IsElementary}
+use Rattle.card_core.specs.Working.{file_refusal, fits, fits_kind, session_of, IsElementary}
 use Rattle.card_core.proofs.NamedEntries.{entry-named, entry-refusal}
 use Rattle.card_core.proofs.Readings.{kept_still}
 use Rattle.file_tree.specs.Table.{IsUsed}
@@ -43,7 +44,16 @@ returns-in_err-check_file-clause-found g c =
     let entry : c.in_ok-entry.entry ≡ entry_in t e =
     c.in_ok-entry.ensures.entry ∙ ap (λ (l : List ℕ). entry_in (table l) e)
     c.find_target.ensures.store.only.keeps.committed_words in
-    finds-stopped _ _ c.from_residual-in_err-check_file.ensures.1 _ _ (refused-weaker _ _ _ (λ status due.
+    let l = committed c.read_entry.new.store in
+    let verdict : Option Sw = file_refusal (is_barred (card_of l).tree (path_of (table l) e))
+    (fits_kind c.args.need.structure c.in_ok-entry.entry.kind)
+    (allowed (card_of l) (session_of (table l) c.args.current.now) (path_of (table l) e) c.args.need.bit) in
+    let refused : Option Sw = refused_by (file_refusals (card_of m) (session_of t c.args.current.now) c.args.target
+    (fits c.args.need.structure) c.args.need.bit) in
+    finds-stopped _ c.in_err-check_file.field-0.0 c.from_residual-in_err-check_file.ensures.1 _
+    (λ (status : Sw). refused ≡ Some status)
+    (refused-weaker c.in_err-check_file.field-0.0 (λ (status : Sw). verdict ≡ Some status)
+    (λ (status : Sw). refused ≡ Some status) (λ (status : Sw) (due : verdict ≡ Some status).
     entry-refusal m c.requires.kept.ready.usable.committed_size c.requires.kept.card c.args.current.now c.args.target c.args.need e
     file place
     ∙ ap (λ (y : Entry). file_refusal (is_barred (card_of m).tree (path_of t e)) (fits_kind c.args.need.structure y.kind)
