@@ -6,7 +6,7 @@ use Rattle.card_bench.specs.BenchStates.{BenchState, off, on, IsOn}
 use Rattle.card_bench.specs.Exchanges.{Arrives, CardTakes, Commands, Desk, Ends, Exchanged, Exchanges, Passes, NextBlock}
 use Rattle.card_bench.specs.Exchanges.{left_by, printed_by, toward_card}
 use Rattle.card_bench.specs.Exchanges.{Ended}
-use Rattle.card_bench.specs.Exchanges.{link_lost, power_lost}
+use Rattle.card_bench.specs.Exchanges.{link_lost}
 use Rattle.card_bench.specs.declared.line.Line.{Line}
 use Rattle.card_bench.specs.Lines.{arriving, line_after}
 use Rattle.card_bench.specs.Performing.{PerformsCommand}

@@ -80,8 +80,11 @@ impl<B: Socket> Desk<B> {
     /// # Errors
     ///
     /// `Write` where the writer fails, or takes nothing.
-    #[inline(always)]
-    pub(crate) fn print<W: Write>(&self, writer: &mut W, text: &mut PrintedText) -> Result<(), RunFault>
+    pub(crate) fn print<W: Write>(
+        &self,
+        writer: &mut W,
+        text: &mut PrintedText,
+    ) -> Result<(), RunFault>
         ensures wrote { OnOk result (Appends (W.contents writer.old) (W.contents writer.new) (text_of self.now.prints)) }
         ensures began { OnErr result ((size : ℕ)
             × Appends (W.contents writer.old) (W.contents writer.new) (take size (text_of self.now.prints))) }
@@ -129,7 +132,9 @@ impl<B: Armed + Faultless> Desk<B> {
         ensures good { IsGood self.new.desk.bench }
         ensures performs { PerformsOn self.old.desk self.new.desk self.new.prints }
     {
-        self.came = self.ends.bench
+        self.came = self
+            .ends
+            .bench
             .turn_well(Turn::On, &mut self.ends.blocks.toward_reader);
         self.in_step = self.came.is_started();
         self.ends.reader.reset();
@@ -141,7 +146,9 @@ impl<B: Armed + Faultless> Desk<B> {
         ensures good { IsGood self.new.desk.bench }
         ensures performs { PerformsOff self.old.desk self.new.desk self.new.prints }
     {
-        self.came = self.ends.bench
+        self.came = self
+            .ends
+            .bench
             .turn_well(Turn::Off, &mut self.ends.blocks.toward_reader);
         self.in_step = false;
     }
@@ -152,7 +159,9 @@ impl<B: Armed + Faultless> Desk<B> {
         ensures good { IsGood self.new.desk.bench }
         ensures performs { PerformsBlock self.old.desk block.now self.new.desk self.new.prints }
     {
-        self.came = self.ends.bench
+        self.came = self
+            .ends
+            .bench
             .turn_well(Turn::Block(block), &mut self.ends.blocks.toward_reader);
         self.in_step = false;
     }

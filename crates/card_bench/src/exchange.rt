@@ -111,11 +111,10 @@ fn pass<B: Socket + Faultless>(ends: &mut Ends<B>, toward: Toward) -> ControlFlo
             if !ends.line.put(&mut ends.blocks.toward_card) {
                 return wait(&mut ends.reader, &mut ends.blocks);
             }
-            match ends.bench
-                .turn_well(
-                    Turn::Block(&ends.blocks.toward_card),
-                    &mut ends.blocks.toward_reader,
-                ) {
+            match ends.bench.turn_well(
+                Turn::Block(&ends.blocks.toward_card),
+                &mut ends.blocks.toward_reader,
+            ) {
                 Came::Block => ControlFlow::Continue(Toward::Reader),
                 Came::Dark => ControlFlow::Break(Ending::Dark),
                 _ => unreachable!(),

@@ -140,6 +140,7 @@ impl<B: Socket> Bench<B> {
 
     /// Plays a turn: every one, of a list or of a line of a script. A block that comes back is put into the buffer,
     /// whatever that held.
+    // (Put into its callers, as the two below are, so that a turn that is known there isn't chosen at run time.)
     #[inline(always)]
     fn turn(&mut self, turn: Turn<'_>, reply: &mut BlockBytes) -> Came
         ensures { TellsItem result reply.new (λ item. Plays self.old turn.entry item self.new) }

@@ -42,6 +42,8 @@ pub(crate) fn print_bytes<W: Write>(
 }
 
 /// Writes what is free.
+// (Kept out of its caller, so that lines that print something else don't pay for its room for numbers.)
+#[inline(never)]
 pub(crate) fn print_free<W: Write>(
     writer: &mut W,
     free: FreeSpace,
