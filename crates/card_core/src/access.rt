@@ -61,7 +61,8 @@ pub(crate) fn allows<B: Board>(
     is_allowed(store, number, bit, &current.verified, &disabled)
 }
 
-/// The same, by the file's entry, which is at hand.
+/// The same, by the file's entry, which is at hand. A PIN that is disabled refuses nothing: so the marks of the PINs are read only
+/// where the rule isn't met without them.
 pub(crate) fn allows_at<B: Board>(
     store: &mut Store<B>,
     current: &Current,
@@ -73,6 +74,9 @@ pub(crate) fn allows_at<B: Board>(
         ≡ is_allowed_by entry.now bit current.now.verified (disabled_in (committed store.old))) }
     ensures store { Reads store.old store.new (result_err result) }
 {
+    if is_allowed_at(entry, bit, &current.verified, &PinSet::new()) {
+        return Ok(true);
+    }
     let disabled = disabled_pins(store)?;
     Ok(is_allowed_at(entry, bit, &current.verified, &disabled))
 }
