@@ -26,9 +26,12 @@ pub returns-in-Two-clause-card : goal.returns-in-Two-clause-card
 returns-in-Two-clause-card g c =
     let m = committed c.args.store.now in
     let same = sym c.find_card.ensures.store.only.keeps.committed_words in
-    let there = found-two m _ c.in-Some.found c.in-Some.is c.in-Two.is c.in_ok-found.ensures.card in
-    (inl there.0, subst IsCard same there.0, there.1 ∙ ap (λ (l : List ℕ). card_space (card_of l)) same,
-      subst (λ (l : List ℕ). IsIndex (table l) c.in-Some.found.tree.index) same there.2)
+    let there = found-two m _ c.in-Some.found c.in-Some.is c.in-Two.is c.in_ok-found.ensures.card in (
+      inl there.0,
+      subst IsCard same there.0,
+      there.1 ∙ ap (λ (l : List ℕ). card_space (card_of l)) same,
+      subst (λ (l : List ℕ). IsIndex (table l) c.in-Some.found.tree.index) same there.2,
+    )
 
 pub returns-in_ok-renew-in-One-clause-store : goal.returns-in_ok-renew-in-One-clause-store
 returns-in_ok-renew-in-One-clause-store g c =
@@ -49,8 +52,7 @@ returns-in_ok-renew-in-One-clause-card g c =
     let same = c.find_card.ensures.store.only.keeps.committed_words in
     let told = c.in_ok-found.ensures.card in
     let old = found-one m _ c.in-Some.found c.in-Some.is c.in-One.is told in
-    let migrates = c.in_ok-renew-in-One.ensures.any_exit in
-    (
+    let migrates = c.in_ok-renew-in-One.ensures.any_exit in (
       inr old,
       renewed-card mid after c.in_ok-found.ensures.store.ready.usable.committed_size (subst IsOldCard (sym same) old) migrates
           c.in_ok-renew-in-One.ensures.done.new,

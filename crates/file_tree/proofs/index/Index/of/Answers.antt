@@ -16,8 +16,21 @@ use Rattle.file_tree.proofs.index.Index.of.Goals.{then-entry-ne-FREE, else-entry
 -- what a list of entries has past its end
 abbrev unread : Entry
 unread = record {
-  kind = 0; life = 0; identifier = 0; parent = 0; short = 0; name_length = 0; rule_length = 0; rule = []; name = [];
-  size = 0; record_length = 0; first = 0; last = 0; records = 0; start = 0;
+  kind = 0;
+  life = 0;
+  identifier = 0;
+  parent = 0;
+  short = 0;
+  name_length = 0;
+  rule_length = 0;
+  rule = [];
+  name = [];
+  size = 0;
+  record_length = 0;
+  first = 0;
+  last = 0;
+  records = 0;
+  start = 0;
 }
 
 pub loop-e-init : goal.loop-e-init
