@@ -192,11 +192,11 @@ impl EntryHead {
         EntryHead { kind, life, parent }
     }
 
-    /// Whether the entry is of this kind.
-    pub fn has_kind(self, kind: EntryKind) -> bool
-        ensures { IsTrue result ↔ (self.kind ≡ kind_byte kind) }
+    /// Whether the entry is a dedicated file's.
+    pub fn is_dedicated(self) -> bool
+        ensures { IsTrue result ↔ (self.kind ≡ 1) }
     {
-        self.kind == kind.to_byte()
+        self.kind == EntryKind::Dedicated.to_byte()
     }
 
     /// The state of the entry's file.

@@ -10,6 +10,6 @@ kind_test false kind byte told = sym (ne_eqb kind byte (λ same. true≢false (s
 
 -- An entry that no file has is of kind 0.
 pub kind_of_unused : (used : Bool) (kind : ℕ) → IsTrue used ↔ (kind ≢ 0) → used ≡ false → kind ≡ 0
-kind_of_unused used zero told no = refl
-kind_of_unused used (suc n) told no =
-    absurd (true≢false (sym (told.1 (λ none. let z : ⊥ = omega (arith, none) in z)) ∙ no))
+kind_of_unused used zero told free = refl
+kind_of_unused used (suc n) told free =
+    absurd (true≢false (sym (told.1 (λ none. let z : ⊥ = omega (arith, none) in z)) ∙ free))
