@@ -1,6 +1,7 @@
 //! File entries, as their pages hold them.
 
 ghost use Rattle.std.specs.Prelude.{◌≡◌, ◌≢◌, ◌↔◌, ◌<◌, ◌++◌, IfSome, IsNone, IsTrue};
+ghost use Rattle.card_rules.specs.LifeCycle.{life_cycle_byte};
 ghost use Rattle.block_chain.specs.Words.{word_bytes};
 ghost use Rattle.file_tree.specs.Kinds.{kind_byte};
 ghost use Rattle.file_tree.specs.Entries.{high, low, free_entry, entry_of, head_of, head_told, life_told, state_told};
@@ -144,6 +145,13 @@ impl Entry {
         ensures { result ≡ life_told self.now }
     {
         state_of(self.life)
+    }
+
+    /// Whether its file is in this state.
+    pub(crate) fn has_life_cycle(&self, state: LifeCycle) -> bool
+        ensures { IsTrue result ↔ (self.now.life ≡ life_cycle_byte state) }
+    {
+        self.life == state.to_byte()
     }
 
     /// The name of a dedicated file, or no bytes.
