@@ -22,7 +22,7 @@ use Rattle.file_tree.specs.Formats.{block_count}
 use Rattle.file_tree.specs.Spaces.{free_space}
 use Rattle.file_tree.specs.Trees.{tree_of}
 use Rattle.file_tree.specs.Entries.{capacity_of, name_of, rule_of}
-use Rattle.file_tree.specs.declared.layout.TheConstants.{FIRST_ENTRY_PAGE}
+use Rattle.file_tree.specs.declared.layout.TheConstants.{FIRST_ENTRY_PAGE, RECORDS_WORD}
 use Rattle.nvm_board.specs.declared.board.TheConstants.{PAGE_WORDS}
 use Rattle.apdu_core.specs.declared.records.RecordChoice.{RecordChoice}
 use Rattle.apdu_core.specs.declared.records.RecordChoice.TheVariants.{Next, Previous, At}
@@ -193,7 +193,7 @@ life_of entry = unwrap_or (life_cycle_at entry.life) Activated
 
 -- the address of the word of an entry that tells of its records
 abbrev pub told_address : ℕ → ℕ
-told_address e = PAGE_WORDS * (FIRST_ENTRY_PAGE + e) + 10
+told_address e = PAGE_WORDS * (FIRST_ENTRY_PAGE + e) + RECORDS_WORD
 
 -- the records that an entry tells of, as a ring: of a linear file record 1 lies in slot 0
 abbrev pub ring_in : ℕ → Entry → Ring

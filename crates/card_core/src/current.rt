@@ -5,7 +5,7 @@ ghost use Rattle.card_core.specs.Working.{current_at, current_by, fresh_current,
 
 use apdu_core::Target;
 use card_rules::{PinNumber, PinSet};
-use file_tree::{Entry, EntryHead, kinds};
+use file_tree::{Entry, EntryHead};
 use pin_store::Outcome;
 
 /// The current dedicated file, the current elementary file in it, if there is one, and the PINs that are verified.
@@ -52,7 +52,7 @@ impl Current {
     pub fn at_head(self, e: u8, head: EntryHead) -> Current
         ensures { result ≡ current_by self e head.kind head.parent }
     {
-        let (df, ef) = if head.kind == kinds::DEDICATED {
+        let (df, ef) = if head.is_dedicated() {
             (e, None)
         } else {
             (head.parent, Some(e))

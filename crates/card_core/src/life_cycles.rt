@@ -20,7 +20,7 @@ use crate::stop::Stop;
 use apdu_core::{LifeCycleChange, Subject, Sw};
 use card_rules::{AccessBit, LifeCycle, LifeCycleCommand};
 use file_tree::{
-    Entry, Index, kinds, next_life_cycle, read_entry, select, set_life_cycle, terminate_card,
+    Entry, EntryKind, Index, next_life_cycle, read_entry, select, set_life_cycle, terminate_card,
 };
 use undo_journal::{Board, Store, StoreErr};
 
@@ -128,7 +128,7 @@ fn changed_by(
     let Some(life) = next else {
         return Err(Sw::CONDITIONS_NOT_SATISFIED);
     };
-    if !is_for(change, entry.kind) {
+    if !is_for(change, &entry) {
         return Err(Sw::WRONG_STRUCTURE);
     }
     if !allowed {
@@ -208,14 +208,14 @@ fn bit_of(change: LifeCycleChange) -> AccessBit
     }
 }
 
-/// A command is for entries of this kind: TERMINATE DF for dedicated files, TERMINATE EF for elementary files, the others for
-/// all.
-fn is_for(change: LifeCycleChange, kind: u8) -> bool
-    ensures { result ≡ is_for_kind change kind }
+/// A command is for the file of this entry: TERMINATE DF for dedicated files, TERMINATE EF for elementary files, the others
+/// for all.
+fn is_for(change: LifeCycleChange, entry: &Entry) -> bool
+    ensures { result ≡ is_for_kind change entry.now.kind }
 {
     match change {
         LifeCycleChange::Activate | LifeCycleChange::Deactivate => true,
-        LifeCycleChange::TerminateDf => kind == kinds::DEDICATED,
-        LifeCycleChange::TerminateEf => kind != kinds::DEDICATED,
+        LifeCycleChange::TerminateDf => entry.has_kind(EntryKind::Dedicated),
+        LifeCycleChange::TerminateEf => !entry.has_kind(EntryKind::Dedicated),
     }
 }

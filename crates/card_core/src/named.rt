@@ -18,7 +18,7 @@ use crate::current::Current;
 use crate::stop::Stop;
 use apdu_core::{Sw, Target};
 use card_rules::AccessBit;
-use file_tree::{Entry, find_short, is_barred_at, kinds, read_entry};
+use file_tree::{Entry, EntryKind, find_short, is_barred_at, read_entry};
 use undo_journal::{Board, Store, StoreErr};
 
 /// The structures that a command is for.
@@ -93,7 +93,7 @@ fn check_file<B: Board>(
 {
     let findings = Findings {
         barred: is_barred_at(store, number, entry)?,
-        fits: need.structure.fits(entry.kind),
+        fits: need.structure.fits(entry),
         allowed: allows_at(store, current, entry, need.bit)?,
     };
     findings.check()?;
@@ -127,15 +127,17 @@ impl Findings {
 }
 
 impl Structure {
-    /// A file of an entry of this kind has this structure.
-    fn fits(self, kind: u8) -> bool
-        ensures { result ≡ fits_kind self kind }
+    /// The file of this entry has this structure.
+    fn fits(self, entry: &Entry) -> bool
+        ensures { result ≡ fits_kind self entry.now.kind }
     {
         match self {
-            Structure::Bytes => kind == kinds::TRANSPARENT,
-            Structure::Records => kind == kinds::LINEAR || kind == kinds::CYCLIC,
-            Structure::Linear => kind == kinds::LINEAR,
-            Structure::Cyclic => kind == kinds::CYCLIC,
+            Structure::Bytes => entry.has_kind(EntryKind::Transparent),
+            Structure::Records => {
+                entry.has_kind(EntryKind::Linear) || entry.has_kind(EntryKind::Cyclic)
+            }
+            Structure::Linear => entry.has_kind(EntryKind::Linear),
+            Structure::Cyclic => entry.has_kind(EntryKind::Cyclic),
         }
     }
 }

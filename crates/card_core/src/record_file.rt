@@ -7,7 +7,8 @@ ghost use Rattle.undo_journal.specs.Calls.{Changes};
 ghost use Rattle.undo_journal.specs.Memory.{committed, IsReady};
 ghost use Rattle.ef_body.specs.declared.layout.TheConstants.{RECORD_WRITES};
 ghost use Rattle.ef_body.specs.Bodies.{cyclic_records, IsCyclic};
-ghost use Rattle.file_tree.specs.declared.kinds.TheConstants.{LINEAR, CYCLIC};
+ghost use Rattle.file_tree.specs.declared.kinds.EntryKind.TheVariants as kinds;
+ghost use Rattle.file_tree.specs.Kinds.{kind_byte};
 ghost use Rattle.card_core.specs.Records.{next_record, place_number, pointer_after, previous_record};
 ghost use Rattle.card_core.specs.Working.{appended_in, chosen_in, is_full_in, number_added_in, number_replaced_in, record_file_in};
 ghost use Rattle.card_core.specs.Working.{replaced_in, ring_room, wraps_room, IsToldEntry, RingBecomes};
@@ -16,7 +17,7 @@ use apdu_core::{RecordChoice, RecordPlace};
 use block_chain::Chain;
 use card_rules::Sw;
 use ef_body::{Cyclic, FreeSlot, Linear, RecordSlot};
-use file_tree::{Entry, FIRST_ENTRY_PAGE, RECORDS_WORD, kinds};
+use file_tree::{Entry, EntryKind, FIRST_ENTRY_PAGE, RECORDS_WORD};
 use undo_journal::{Board, PAGE_WORDS, Store, StoreErr};
 
 /// An elementary file of records: the number of its entry, its records as they lie in a ring, and whether the last one
@@ -49,7 +50,7 @@ impl RecordFile {
     pub fn of(number: u8, entry: &Entry) -> RecordFile
         requires number { number ≤ 63 }
         requires told { IsToldEntry entry.now }
-        requires records { (entry.now.kind ≡ LINEAR) ⊎ (entry.now.kind ≡ CYCLIC) }
+        requires records { (entry.now.kind ≡ kind_byte kinds.Linear) ⊎ (entry.now.kind ≡ kind_byte kinds.Cyclic) }
         ensures { result ≡ record_file_in number entry.now }
     {
         let ring = Cyclic {
@@ -66,7 +67,7 @@ impl RecordFile {
         RecordFile {
             number,
             ring,
-            wraps: entry.kind == kinds::CYCLIC,
+            wraps: entry.has_kind(EntryKind::Cyclic),
         }
     }
 

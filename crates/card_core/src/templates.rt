@@ -1,13 +1,13 @@
 //! The template that tells of a file (ISO/IEC 7816-4, 7.4.3), from the file's entry.
 ghost use Rattle.std.specs.Prelude.{◌≡◌};
 ghost use Rattle.file_tree.specs.Table.{IsRecordBody};
-ghost use Rattle.card_core.specs.Working.{kind_in_entry, life_of, parameters_in, records_in_entry, short_in_entry};
+ghost use Rattle.card_core.specs.Working.{kind_in_entry, parameters_in, records_in_entry, short_in_entry};
 ghost use Rattle.card_core.specs.Working.{template_in, IsToldEntry};
 
 use crate::lengths::ResponseData;
-use card_rules::{Compact, LifeCycle};
+use card_rules::Compact;
 use fcp_template::{DfName, Fcp, FileKind, Records, ShortIdentifier, write};
-use file_tree::{Entry, kinds};
+use file_tree::{Entry, EntryKind};
 
 /// The template that tells of the file of a used entry.
 #[tactic(auto, unfolding(crate::specs::Working::template_in))]
@@ -27,17 +27,10 @@ fn parameters_of(entry: &Entry) -> Fcp<'_>
 {
     Fcp {
         identifier: entry.identifier,
-        life_cycle: life_of(entry),
+        life_cycle: entry.life_cycle(),
         rule: Compact::parse(entry.rule()).unwrap(),
         kind: kind_of(entry),
     }
-}
-
-/// The life cycle status of the file of an entry, whose byte stands for one.
-pub(crate) fn life_of(entry: &Entry) -> LifeCycle
-    ensures { result ≡ life_of entry.now }
-{
-    LifeCycle::from_byte(entry.life).unwrap_or(LifeCycle::Activated)
 }
 
 /// The kind of the file of a used entry, and what files of this kind alone have.
@@ -46,15 +39,15 @@ fn kind_of(entry: &Entry) -> FileKind<'_>
     ensures { result ≡ kind_in_entry entry.now }
 {
     let short = short_of(entry);
-    match entry.kind {
-        kinds::DEDICATED => FileKind::Df {
+    match entry.kind() {
+        Some(EntryKind::Dedicated) => FileKind::Df {
             name: DfName::new(entry.name()),
         },
-        kinds::TRANSPARENT => FileKind::Transparent {
+        Some(EntryKind::Transparent) => FileKind::Transparent {
             short,
             size: entry.size,
         },
-        kinds::LINEAR => FileKind::Linear {
+        Some(EntryKind::Linear) => FileKind::Linear {
             short,
             records: records_of(entry),
         },

@@ -4,6 +4,7 @@ pub mod Cards
 pub mod Reaching
 pub mod Spaces
 pub mod States
+pub mod Kinds
 pub mod Entries
 pub mod Table
 pub mod Formats

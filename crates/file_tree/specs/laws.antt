@@ -1,4 +1,5 @@
 -- What follows from the definitions, for the proofs of this crate and of those above it.
+pub mod Kinds
 pub mod Tables
 pub mod Formats
 pub mod Alikes

@@ -11,6 +11,7 @@ ghost use Rattle.fcp_template.specs.Ranges.{IsCreatable};
 ghost use Rattle.block_chain.specs.Chains.{HasFree, free_chain};
 ghost use Rattle.file_tree.specs.Adding.{AddsByGate};
 ghost use Rattle.file_tree.specs.Formats.{block_count};
+ghost use Rattle.file_tree.specs.Kinds.{kind_byte};
 ghost use Rattle.file_tree.specs.declared.layout.TheConstants.{CREATE_WRITES, MOST_FILE_BLOCKS};
 ghost use Rattle.file_tree.specs.Table.{table, entry_in, path_of, IsUsed};
 ghost use Rattle.file_tree.specs.Trees.{tree_of, TreeStands};
@@ -23,7 +24,7 @@ ghost use Rattle.file_tree.specs.CreationParts.{entry_for, kind_number, record_l
 
 use crate::entry::Entry;
 use crate::index::Index;
-use crate::kinds;
+use crate::kinds::EntryKind;
 use crate::look_up::find_short;
 use crate::placing::{Place, blocks_for, place_for};
 use crate::refusing::taken;
@@ -98,15 +99,15 @@ fn short_of<B: Board>(store: &mut Store<B>, df: u8, fcp: &Fcp<'_>) -> Result<u8,
     }
 }
 
-/// The number of a kind of file in its entry.
-fn kind_number(kind: &FileKind<'_>) -> u8
-    ensures { result ≡ kind_number kind.now }
+/// The kind of the entry of a file.
+fn entry_kind(kind: &FileKind<'_>) -> EntryKind
+    ensures { kind_byte result ≡ kind_number kind.now }
 {
     match kind {
-        FileKind::Df { .. } => kinds::DEDICATED,
-        FileKind::Transparent { .. } => kinds::TRANSPARENT,
-        FileKind::Linear { .. } => kinds::LINEAR,
-        FileKind::Cyclic { .. } => kinds::CYCLIC,
+        FileKind::Df { .. } => EntryKind::Dedicated,
+        FileKind::Transparent { .. } => EntryKind::Transparent,
+        FileKind::Linear { .. } => EntryKind::Linear,
+        FileKind::Cyclic { .. } => EntryKind::Cyclic,
     }
 }
 
@@ -144,7 +145,7 @@ fn entry_for(fcp: &Fcp<'_>, parent: u8, short: u8) -> Entry
     let rule = fcp.rule.as_bytes();
     let (record_length, existing) = records_of(&fcp.kind);
     Entry {
-        kind: kind_number(&fcp.kind),
+        kind: entry_kind(&fcp.kind).to_byte(),
         life: fcp.life_cycle.to_byte(),
         identifier: fcp.identifier,
         parent,

@@ -20,7 +20,6 @@ ghost use Rattle.file_tree.specs.DeletionParts.{IsRemoval, leads_up, going, part
 
 use crate::entry::{Entry, ExtentList, TABLE_ROOM, Table};
 use crate::index::Index;
-use crate::kinds;
 use crate::layout::{DEEPEST, ENTRIES, ENTRIES_END, entry_address};
 use crate::reading::read_table;
 use crate::space::FreeSpace;
@@ -52,7 +51,7 @@ fn going_entry(entries: &[Entry], top: u8, e: u8) -> Entry
     ensures { result ≡ going entries.now top e }
 {
     let entry = entries[usize::from(e)];
-    if entry.kind != kinds::FREE && is_within(entries, top, e) {
+    if entry.is_used() && is_within(entries, top, e) {
         entry
     } else {
         Entry::free()
@@ -104,7 +103,7 @@ fn free_part<B: Board>(txn: &mut Txn<'_, B>, part: &[Entry]) -> Result<(), Store
     ensures store { SetsIn 64 txn.old txn.new (result_err result) }
 {
     for e in 0..ENTRIES_END {
-        if part[usize::from(e)].kind != kinds::FREE {
+        if part[usize::from(e)].is_used() {
             txn.set(entry_address(e), 0)?;
         }
     }

@@ -1,11 +1,13 @@
 //! File entries, as their pages hold them.
 
-ghost use Rattle.std.specs.Prelude.{◌≡◌, ◌++◌};
+ghost use Rattle.std.specs.Prelude.{◌≡◌, ◌≢◌, ◌↔◌, ◌<◌, ◌++◌, IfSome, IsNone, IsTrue};
+ghost use Rattle.card_rules.specs.LifeCycle.{life_cycle_byte};
 ghost use Rattle.block_chain.specs.Words.{word_bytes};
+ghost use Rattle.file_tree.specs.Kinds.{kind_byte};
 ghost use Rattle.file_tree.specs.Entries.{high, low, free_entry, entry_of, head_of, head_told, life_told, state_told};
 ghost use Rattle.file_tree.specs.Entries.{name_of, rule_of, extent_of};
 
-use crate::kinds;
+use crate::kinds::EntryKind;
 use crate::layout::{ENTRIES, ENTRY_WORDS, RECORDS_WORD};
 use crate::placing::blocks_for;
 use arrayvec::ArrayVec;
@@ -16,7 +18,7 @@ use card_rules::LifeCycle;
 /// entries are a tree.
 #[derive(Clone, Copy, Default)]
 pub struct Entry {
-    /// One of `kinds`.
+    /// The byte of its kind.
     pub kind: u8,
     /// The life cycle status byte (ISO/IEC 7816-4, 7.4.10).
     pub life: u8,
@@ -52,7 +54,7 @@ pub struct Entry {
 /// more.
 #[derive(Clone, Copy)]
 pub struct EntryHead {
-    /// One of `kinds`.
+    /// The byte of the entry's kind.
     pub kind: u8,
     /// The life cycle status byte (ISO/IEC 7816-4, 7.4.10).
     pub life: u8,
@@ -116,11 +118,40 @@ impl Entry {
         }
     }
 
+    /// What it is for; None where its byte stands for no kind, as in no entry of a tree.
+    pub fn kind(&self) -> Option<EntryKind>
+        ensures some { IfSome result (λ kind. self.now.kind ≡ kind_byte kind) }
+        ensures none { IsNone result → 4 < self.now.kind }
+    {
+        EntryKind::from_byte(self.kind)
+    }
+
+    /// Whether it is of this kind.
+    pub fn has_kind(&self, kind: EntryKind) -> bool
+        ensures { IsTrue result ↔ (self.now.kind ≡ kind_byte kind) }
+    {
+        self.kind == kind.to_byte()
+    }
+
+    /// Whether a file has it.
+    pub fn is_used(&self) -> bool
+        ensures { IsTrue result ↔ (self.now.kind ≢ 0) }
+    {
+        !self.has_kind(EntryKind::Free)
+    }
+
     /// The state of the file.
     pub fn life_cycle(&self) -> LifeCycle
         ensures { result ≡ life_told self.now }
     {
         state_of(self.life)
+    }
+
+    /// Whether its file is in this state.
+    pub(crate) fn has_life_cycle(&self, state: LifeCycle) -> bool
+        ensures { IsTrue result ↔ (self.now.life ≡ life_cycle_byte state) }
+    {
+        self.life == state.to_byte()
     }
 
     /// The name of a dedicated file, or no bytes.
@@ -144,7 +175,7 @@ impl Entry {
     pub(crate) fn extent(&self) -> Option<Extent>
         ensures { result ≡ extent_of self.now }
     {
-        if self.kind < kinds::TRANSPARENT {
+        if let Some(EntryKind::Free | EntryKind::Dedicated) = self.kind() {
             return None;
         }
         let chain = Chain {
@@ -167,6 +198,13 @@ impl EntryHead {
         let [kind, life, _, _] = first.to_be_bytes();
         let [parent, _, _, _] = second.to_be_bytes();
         EntryHead { kind, life, parent }
+    }
+
+    /// Whether the entry is a dedicated file's.
+    pub fn is_dedicated(self) -> bool
+        ensures { IsTrue result ↔ (self.kind ≡ 1) }
+    {
+        self.kind == EntryKind::Dedicated.to_byte()
     }
 
     /// The state of the entry's file.

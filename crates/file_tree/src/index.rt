@@ -10,7 +10,6 @@ ghost use Rattle.file_tree.specs.Indexes.{AreSorted, IsIndex, IsFreeIn, AddsEntr
 ghost use Rattle.file_tree.specs.IndexParts.{TellsSearch, Puts, parent_by, leads_by, is_outside};
 
 use crate::entry::Entry;
-use crate::kinds;
 use crate::layout::{DEEPEST, ENTRIES_END};
 use crate::look_up::Reached;
 use crate::steps::{Key, Steps};
@@ -110,7 +109,7 @@ impl Index {
         };
         for e in 1..ENTRIES_END {
             let entry = entries[usize::from(e)];
-            if entry.kind != kinds::FREE {
+            if entry.is_used() {
                 index.put(Place {
                     key: Key::new(entry.parent, entry.identifier),
                     entry: e,

@@ -7,7 +7,7 @@ mod entry;
 mod format;
 mod index;
 pub mod index_laws;
-pub mod kinds;
+mod kinds;
 pub mod laws;
 mod layout;
 mod life_cycles;
@@ -27,6 +27,7 @@ pub use creating::{Creation, create};
 pub use deleting::delete;
 pub use entry::{Entry, EntryHead};
 pub use index::Index;
+pub use kinds::EntryKind;
 pub use layout::{
     CARD_TERMINATED, DEEPEST, ENTRIES, FIRST_ENTRY_PAGE, MARK, MARK_WORD, OLD_END_PAGE, OLD_MARK,
     PAGES_WORD, RECORDS_WORD, STATE_WORD,

@@ -6,6 +6,7 @@ ghost use Rattle.undo_journal.specs.Undo.{IsDataAddress};
 ghost use Rattle.undo_journal.specs.Commits.{CommitsByGate};
 ghost use Rattle.undo_journal.specs.Memory.{committed, IsReady};
 ghost use Rattle.undo_journal.specs.Calls.{OnlyReads, Reads, Changes};
+ghost use Rattle.card_rules.specs.LifeCycle.{life_cycle_byte};
 ghost use Rattle.file_tree.specs.States.{bars, is_allowed, is_barred, life_at, next_life, with_card_terminated, ChangesLife};
 ghost use Rattle.file_tree.specs.Table.{table, entry_in, path_of, IsUsed};
 ghost use Rattle.file_tree.specs.Trees.{tree_of, TreeStands};
@@ -115,10 +116,10 @@ pub fn next_life_cycle<B: Board>(
 }
 
 /// The first word of an entry in another state.
-fn life_word(entry: &Entry, life: u8) -> u32
-    ensures { TellsLife entry.now life result }
+fn life_word(entry: &Entry, state: LifeCycle) -> u32
+    ensures { TellsLife entry.now (life_cycle_byte state) result }
 {
-    two_bytes(entry.kind, life, entry.identifier)
+    two_bytes(entry.kind, state.to_byte(), entry.identifier)
 }
 
 /// Writes a word, in a transaction.
@@ -159,11 +160,10 @@ pub fn set_life_cycle<B: Board>(
     ensures store { Changes 4 store.old store.new (result_err result) }
 {
     let entry = read_entry(store, e)?;
-    let life = state.to_byte();
-    if entry.life == life {
+    if entry.has_life_cycle(state) {
         return Ok(());
     }
-    write_word(store, entry_address(e), life_word(&entry, life))
+    write_word(store, entry_address(e), life_word(&entry, state))
 }
 
 /// Whether the access rule of an entry's file allows what the bit stands for, where these PINs are verified, and these are

@@ -12,7 +12,7 @@ ghost use Rattle.file_tree.specs.Parts.{IsShortChild, TellsShort, TellsBeside, T
 
 use crate::entry::Entry;
 use crate::index::Index;
-use crate::kinds;
+use crate::kinds::EntryKind;
 use crate::layout::ENTRIES_END;
 use crate::reading::read_entry;
 use card_rules::identifiers::MASTER_FILE;
@@ -25,7 +25,7 @@ pub type Reached = Option<u8>;
 fn is_child(entry: &Entry, df: u8, short: u8) -> bool
     ensures { IsTrue result ↔ IsShortChild entry.now df short }
 {
-    entry.kind != kinds::FREE && entry.parent == df && entry.short == short
+    entry.is_used() && entry.parent == df && entry.short == short
 }
 
 /// The entry of the child of a dedicated file with this short identifier, if it has one.
@@ -82,7 +82,7 @@ fn find_beside<B: Board>(
         return Ok(None);
     };
     let other = read_entry(store, beside)?;
-    Ok((other.kind == kinds::DEDICATED).then_some(beside))
+    Ok(other.has_kind(EntryKind::Dedicated).then_some(beside))
 }
 
 /// The file of a used entry has this identifier: it is the child of its parent that has it.

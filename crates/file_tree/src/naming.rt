@@ -13,7 +13,7 @@ ghost use Rattle.file_tree.specs.Parts.{BearsName, TellsNamed};
 
 use crate::entry::Entry;
 use crate::index::Index;
-use crate::kinds;
+use crate::kinds::EntryKind;
 use crate::layout::ENTRIES_END;
 use crate::look_up::Reached;
 use crate::reading::{read_entry, read_table};
@@ -23,7 +23,7 @@ use undo_journal::{Board, Store, StoreErr};
 fn bears_name(entry: &Entry, name: &[u8]) -> bool
     ensures { IsTrue result ↔ BearsName entry.now name.now }
 {
-    entry.kind == kinds::DEDICATED && entry.name_length != 0 && entry.name() == name
+    entry.has_kind(EntryKind::Dedicated) && entry.name_length != 0 && entry.name() == name
 }
 
 /// The entry of the dedicated file with this name, if there is one.

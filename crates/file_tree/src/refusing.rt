@@ -14,7 +14,6 @@ ghost use Rattle.file_tree.specs.CreationParts.{TellsFreeEntry};
 
 use crate::entry::Entry;
 use crate::index::Index;
-use crate::kinds;
 use crate::layout::{DEEPEST, ENTRIES_END};
 use crate::look_up::find_short;
 use crate::naming::entry_named;
@@ -37,7 +36,7 @@ pub(crate) fn first_free(entries: &[Entry]) -> Option<u8>
     ensures { TellsFreeEntry entries.now result }
 {
     for e in 0..ENTRIES_END {
-        if entries[usize::from(e)].kind == kinds::FREE {
+        if !entries[usize::from(e)].is_used() {
             return Some(e);
         }
     }

@@ -4,7 +4,7 @@ ghost use Rattle.std.specs.Prelude.{◌↔◌, IsTrue, All};
 ghost use Rattle.file_tree.specs.Table.{IsTransparentBody, IsRecordBody, HasShort, HasName, HasRule, HasBody, IsFileEntry, IsEntry};
 
 use crate::entry::Entry;
-use crate::kinds;
+use crate::kinds::EntryKind;
 use card_rules::identifiers::{CURRENT_FILE, RESERVED};
 use card_rules::limits::{MOST_BYTES, MOST_RECORD_BYTES, MOST_RECORDS, MOST_SHORT};
 use card_rules::{Compact, LifeCycle};
@@ -34,17 +34,17 @@ fn is_record_body(entry: &Entry) -> bool
     (1..=MOST_RECORDS).contains(&capacity)
         && entry.records <= capacity
         && entry.start < capacity
-        && (entry.kind != kinds::LINEAR || entry.start == 0)
+        && (!entry.has_kind(EntryKind::Linear) || entry.start == 0)
 }
 
 /// A body of the entry's kind.
 fn has_body(entry: &Entry) -> bool
     ensures { IsTrue result ↔ HasBody entry.now }
 {
-    match entry.kind {
-        kinds::TRANSPARENT => is_transparent_body(entry),
-        kinds::LINEAR | kinds::CYCLIC => is_record_body(entry),
-        _ => true,
+    match entry.kind() {
+        Some(EntryKind::Transparent) => is_transparent_body(entry),
+        Some(EntryKind::Linear | EntryKind::Cyclic) => is_record_body(entry),
+        Some(EntryKind::Free | EntryKind::Dedicated) | None => true,
     }
 }
 
@@ -52,7 +52,7 @@ fn has_body(entry: &Entry) -> bool
 fn has_short(entry: &Entry) -> bool
     ensures { IsTrue result ↔ HasShort entry.now }
 {
-    entry.short <= MOST_SHORT && (entry.kind != kinds::DEDICATED || entry.short == 0)
+    entry.short <= MOST_SHORT && (!entry.has_kind(EntryKind::Dedicated) || entry.short == 0)
 }
 
 /// A name of at most 16 bytes, of a dedicated file alone.
@@ -60,7 +60,7 @@ fn has_name(entry: &Entry) -> bool
     ensures { IsTrue result ↔ HasName entry.now }
 {
     usize::from(entry.name_length) <= entry.name.len()
-        && (entry.kind == kinds::DEDICATED || entry.name_length == 0)
+        && (entry.has_kind(EntryKind::Dedicated) || entry.name_length == 0)
 }
 
 /// An access rule of at most 8 bytes.
@@ -74,7 +74,7 @@ fn has_rule(entry: &Entry) -> bool
 fn is_file_entry(entry: &Entry) -> bool
     ensures { IsTrue result ↔ IsFileEntry entry.now }
 {
-    entry.kind <= kinds::CYCLIC
+    entry.kind().is_some()
         && LifeCycle::from_byte(entry.life).is_some()
         && entry.identifier != CURRENT_FILE
         && entry.identifier != RESERVED
@@ -88,10 +88,10 @@ fn is_file_entry(entry: &Entry) -> bool
 pub(crate) fn is_entry(entry: &Entry) -> bool
     ensures { IsTrue result ↔ IsEntry entry.now }
 {
-    if entry.kind == kinds::FREE {
-        entry.life == 0 && entry.identifier == 0
-    } else {
+    if entry.is_used() {
         is_file_entry(entry)
+    } else {
+        entry.life == 0 && entry.identifier == 0
     }
 }
 

@@ -5,7 +5,7 @@ ghost use Rattle.file_tree.specs.Table.{entry_in, ancestor, extents, free_entrie
 ghost use Rattle.file_tree.specs.Parts.{Alike, BearOneName, AreBelow, AreApart, IsAlone};
 
 use crate::entry::{Entry, ExtentList};
-use crate::kinds;
+use crate::kinds::EntryKind;
 use crate::layout::DEEPEST;
 use crate::rules::are_entries;
 use card_rules::identifiers::MASTER_FILE;
@@ -36,7 +36,7 @@ pub(crate) fn ancestor(entries: &[Entry], steps: u8, e: u8) -> u8
 fn is_master_file(entry: &Entry) -> bool
     ensures { IsTrue result ↔ IsMasterFile entry.now }
 {
-    entry.kind == kinds::DEDICATED && entry.identifier == MASTER_FILE && entry.parent == 0
+    entry.has_kind(EntryKind::Dedicated) && entry.identifier == MASTER_FILE && entry.parent == 0
 }
 
 /// The file of an entry stands in a dedicated file, no more than seven steps below the master file.
@@ -46,7 +46,7 @@ fn is_below_master(entries: &[Entry], e: u8) -> bool
 {
     let entry = entries[usize::from(e)];
     match entries.get(usize::from(entry.parent)) {
-        Some(parent) => parent.kind == kinds::DEDICATED
+        Some(parent) => parent.has_kind(EntryKind::Dedicated)
             && entry.identifier != MASTER_FILE
             && ancestor(entries, DEEPEST, e) == 0,
         None => false,
@@ -59,7 +59,7 @@ fn are_below_master(entries: &[Entry]) -> bool
     ensures { IsTrue result ↔ AreBelow entries.now }
 {
     for e in 1..entries.len() {
-        if entries[e].kind != kinds::FREE && !is_below_master(entries, e as u8) {
+        if entries[e].is_used() && !is_below_master(entries, e as u8) {
             return false;
         }
     }
@@ -92,7 +92,7 @@ fn is_alone(entries: &[Entry], e: usize) -> bool
     let one = entries[e];
     for f in e + 1..entries.len() {
         let other = entries[f];
-        if other.kind != kinds::FREE && are_alike(e, &one, &other) {
+        if other.is_used() && are_alike(e, &one, &other) {
             return false;
         }
     }
@@ -104,7 +104,7 @@ fn are_apart(entries: &[Entry]) -> bool
     ensures { IsTrue result ↔ AreApart entries.now }
 {
     for e in 0..entries.len() {
-        if entries[e].kind != kinds::FREE && !is_alone(entries, e) {
+        if entries[e].is_used() && !is_alone(entries, e) {
             return false;
         }
     }
@@ -144,7 +144,7 @@ pub(crate) fn count_free(entries: &[Entry]) -> u16
 {
     let mut free = 0;
     for entry in entries {
-        if entry.kind == kinds::FREE {
+        if entry.has_kind(EntryKind::Free) {
             free += 1;
         }
     }

@@ -8,11 +8,12 @@ use Rattle.file_tree.specs.declared.entry.Entry.{Entry}
 use Rattle.file_tree.specs.declared.layout.TheConstants.{FIRST_ENTRY_PAGE}
 use Rattle.file_tree.specs.Table.{entry_in}
 use Rattle.file_tree.specs.DeletionParts.{FreesUpTo}
+use Rattle.file_tree.specs.laws.Kinds.{kind_of_unused}
 use Rattle.file_tree.specs.laws.Tables.{entry_within}
 use Rattle.file_tree.specs.laws.Deleting.{frees_next, frees_skip}
 use Rattle.undo_journal.specs.laws.Told.{sets_in_on, sets_in_handed}
 use Rattle.file_tree.proofs.deleting.free_part.Goals as goal
-use Rattle.file_tree.proofs.deleting.free_part.Goals.{then-part-from-ne-FREE+in_ok-set, else-part-from-ne-FREE}
+use Rattle.file_tree.proofs.deleting.free_part.Goals.{then-is_used+in_ok-set, else-is_used}
 
 pub returns-in_err-set-clause-store : goal.returns-in_err-set-clause-store
 returns-in_err-set-clause-store g c =
@@ -27,9 +28,9 @@ loop-e-preserved g c =
     let now = current (memory_of c.loop-e.txn) in
     let before = c.loop-e.invariant.so_far in
     let within : c.from.result < length part = omega (arith, c.from.ensures, c.requires.size, c.loop-e-test.true) in
-    elim c.if-part-from-ne-FREE.branch [
-      | then-part-from-ne-FREE+in_ok-set w ↦
-          let some : (entry_in part e).kind ≢ 0 = λ none. w.if-part-from-ne-FREE.true
+    elim c.if-is_used.branch [
+      | then-is_used+in_ok-set w ↦
+          let some : (entry_in part e).kind ≢ 0 = λ none. c.is_used.ensures.0 w.if-is_used.true
           (ap (λ (x : Entry). x.kind) (entry_within part c.from.result _ within)
           ∙ ap (λ (k : ℕ). (entry_in part k).kind) c.from.ensures ∙ none) in
           let done : current (memory_of w.set.new.self) ≡ slice_set now (address (FIRST_ENTRY_PAGE + e) 0) 0 =
@@ -44,10 +45,11 @@ loop-e-preserved g c =
                 (sets_then _ 1 _ _ _ _ (omega arith) c.loop-e.invariant.sets w.set.ensures.store.sets);
             so_far = subst (λ t. FreesUpTo m part (e + 1) (current (memory_of t))) (sym w.txn-is) (subst family (sym done) next);
           }
-      | else-part-from-ne-FREE w ↦
+      | else-is_used w ↦
           let none : (entry_in part e).kind ≡ 0 =
           ap (λ (k : ℕ). (entry_in part k).kind) (sym c.from.ensures)
-          ∙ ap (λ (x : Entry). x.kind) (sym (entry_within part c.from.result _ within)) ∙ w.if-part-from-ne-FREE.false in
+          ∙ ap (λ (x : Entry). x.kind) (sym (entry_within part c.from.result _ within))
+          ∙ kind_of_unused _ _ c.is_used.ensures w.if-is_used.false in
           record {
             ready = subst (λ t. IsOpen (memory_of t)) (sym w.txn-is) c.loop-e.invariant.ready;
             sets = subst (λ t. Sets (e + 1) c.args.txn.now t) (sym w.txn-is) (sets_weaker _ _ _ _ (omega arith) c.loop-e.invariant.sets);

@@ -3,7 +3,7 @@ use Rattle.file_tree.proofs.life_cycles.life_word.Goals as goal
 
 pub returns : goal.returns
 returns c = record {
-  kind = omega (arith, c.two_bytes.ensures);
-  life = omega (arith, c.two_bytes.ensures);
-  identifier = omega (arith, c.two_bytes.ensures);
+  kind = omega (arith, c.two_bytes.ensures, c.to_byte.ensures.value);
+  life = omega (arith, c.two_bytes.ensures, c.to_byte.ensures.value);
+  identifier = omega (arith, c.two_bytes.ensures, c.to_byte.ensures.value);
 }

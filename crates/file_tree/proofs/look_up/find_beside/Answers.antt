@@ -1,9 +1,10 @@
 use Rattle.undo_journal.specs.laws.Exits.{none_ok}
 use Rattle.std.specs.Bool.{then_some}
-use Rattle.std.proofs.Common.{◌≡◌, ◌==◌, ◌∙◌, ℕ, Bool, true, false, if◌then◌else◌, None, Some, refl, subst}
+use Rattle.std.proofs.Common.{◌≡◌, ◌==◌, ◌∙◌, ℕ, Bool, true, false, if◌then◌else◌, None, Some, ap, refl, subst}
 use Rattle.undo_journal.specs.Memory.{committed}
 use Rattle.file_tree.specs.Table.{table}
 use Rattle.file_tree.specs.Indexes.{TellsChild}
+use Rattle.file_tree.specs.laws.Kinds.{kind_test}
 use Rattle.file_tree.specs.laws.Nodes.{used_small}
 use Rattle.file_tree.specs.laws.LookUps.{beside_there}
 use Rattle.undo_journal.specs.laws.Told.{reads_none, reads_handed}
@@ -41,7 +42,8 @@ returns-clause-found g c =
     (c.in-Some.ensures m c.requires.index) in
     beside_there (table m) c.args.df c.args.identifier c.in-Some.beside c.in_ok-other.other c.then_some.result
     c.requires.tree.entries.identifiers c.if-df-eq0.false told c.in_ok-other.ensures.entry
-    (c.then_some.ensures ∙ some_if (c.in_ok-other.other.kind == 1) c.in-Some.beside)
+    (c.then_some.ensures ∙ ap (λ (found : Bool). then_some found c.in-Some.beside) (kind_test _ _ _ c.has_kind.ensures)
+    ∙ some_if (c.in_ok-other.other.kind == 1) c.in-Some.beside)
 
 pub returns-clause-store : goal.returns-clause-store
 returns-clause-store g c = c.in_ok-other.ensures.store

@@ -1,10 +1,11 @@
 use Rattle.std.proofs.Common.{refl, sym, ◌∙◌, ap, arith, below_more, true≢false}
 use Rattle.file_tree.specs.declared.entry.Entry.{Entry}
 use Rattle.file_tree.specs.laws.Alikes.{alike_there, used_within}
+use Rattle.file_tree.specs.laws.Kinds.{kind_of_unused}
 use Rattle.file_tree.specs.laws.Tables.{entry_within}
 use Rattle.file_tree.proofs.table.is_alone.Goals as goal
-use Rattle.file_tree.proofs.table.is_alone.Goals.{else-other-ne-FREE-via-then-other-ne-FREE+else-are_alike}
-use Rattle.file_tree.proofs.table.is_alone.Goals.{else-other-ne-FREE-via-else-other-ne-FREE}
+use Rattle.file_tree.proofs.table.is_alone.Goals.{else-is_used-via-then-is_used+else-are_alike}
+use Rattle.file_tree.proofs.table.is_alone.Goals.{else-is_used-via-else-is_used}
 
 pub loop-f-init : goal.loop-f-init
 loop-f-init c = λ f below above used alike. let z : ⊥ = omega (arith, above, below) in z
@@ -14,11 +15,11 @@ loop-f-preserved c =
     let t = c.args.entries.now in
     let one = entry_within t c.args.e _ c.requires in
     let other = entry_within t c.loop-f.f _ c.loop-f-test.true in
-    below_more _ _ c.loop-f.invariant (elim c.else-other-ne-FREE.branch [
-      | else-other-ne-FREE-via-then-other-ne-FREE+else-are_alike w ↦ λ above used alike.
+    below_more _ _ c.loop-f.invariant (elim c.else-is_used.branch [
+      | else-is_used-via-then-is_used+else-are_alike w ↦ λ above used alike.
           true≢false (sym (w.are_alike.ensures.1 (alike_there _ _ _ _ _ one other alike)) ∙ w.if-are_alike.false)
-      | else-other-ne-FREE-via-else-other-ne-FREE w ↦ λ above used alike.
-          used (ap (λ (x : Entry). x.kind) (sym other) ∙ w.if-other-ne-FREE.false)
+      | else-is_used-via-else-is_used w ↦ λ above used alike.
+          used (ap (λ (x : Entry). x.kind) (sym other) ∙ kind_of_unused _ _ c.is_used.ensures w.if-is_used.false)
     ])
 
 pub returns-then-are_alike : goal.returns-then-are_alike
@@ -28,7 +29,7 @@ returns-then-are_alike c =
     let other = entry_within t c.loop-f.f _ c.loop-f-test.true in (
       λ is. absurd (true≢false (sym is)),
       λ alone. absurd (alone c.loop-f.f (omega (arith, c.loop-f.auto.f))
-          (λ none. c.if-other-ne-FREE.true (ap (λ (x : Entry). x.kind) other ∙ none))
+          (λ none. c.is_used.ensures.0 c.if-is_used.true (ap (λ (x : Entry). x.kind) other ∙ none))
           (alike_there _ _ _ _ _ (sym one) (sym other) (c.are_alike.ensures.0 c.if-are_alike.true))),
     )
 

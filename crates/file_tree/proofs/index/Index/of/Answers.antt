@@ -9,9 +9,10 @@ use Rattle.file_tree.specs.Table.{IsUsed}
 use Rattle.file_tree.specs.Indexes.{place_of}
 use Rattle.file_tree.specs.IndexParts.{ArePlacesTo}
 use Rattle.file_tree.specs.laws.Indexes.{places_none, places_skip, places_stored, places_whole}
+use Rattle.file_tree.specs.laws.Kinds.{kind_of_unused}
 use Rattle.file_tree.specs.laws.Tables.{entry_within}
 use Rattle.file_tree.proofs.index.Index.of.Goals as goal
-use Rattle.file_tree.proofs.index.Index.of.Goals.{then-entry-ne-FREE, else-entry-ne-FREE}
+use Rattle.file_tree.proofs.index.Index.of.Goals.{then-is_used, else-is_used}
 
 -- what a list of entries has past its end
 abbrev unread : Entry
@@ -58,19 +59,19 @@ loop-e-preserved c =
     let read = ap (λ (k : ℕ). slice_index_or t k unread) c.from.ensures
     ∙ entry_within t e unread (let all = c.requires.size in omega (arith, all, small)) in
     let told : Index → Type 0 = λ i. (length i.places.items < e + 1) × ArePlacesTo t (e + 1) i.places.items in
-    let next : told c.if-entry-ne-FREE.index = elim c.if-entry-ne-FREE.branch [
-      | then-entry-ne-FREE w ↦
-          let used : IsUsed t e = λ none. w.if-entry-ne-FREE.true (ap (λ (y : Entry). y.kind) read ∙ none) in
-          let place : Place = record { key = w.new-then-entry-ne-FREE.result; entry = e } in
+    let next : told c.if-is_used.index = elim c.if-is_used.branch [
+      | then-is_used w ↦
+          let used : IsUsed t e = λ none. c.is_used.ensures.0 w.if-is_used.true (ap (λ (y : Entry). y.kind) read ∙ none) in
+          let place : Place = record { key = w.new-then-is_used.result; entry = e } in
           let own : place ≡ place_of t e =
-          ap (λ (k : Key). record { key = k; entry = e }) w.new-then-entry-ne-FREE.ensures
+          ap (λ (k : Key). record { key = k; entry = e }) w.new-then-is_used.ensures
           ∙ ap (λ (y : Entry). record { key = key_for y.parent y.identifier; entry = e }) read in
           subst told (sym w.index-is) (places_stored t e places w.put.new.self.places.items place so_far
           c.requires.apart below used own size w.put.ensures)
-      | else-entry-ne-FREE w ↦
+      | else-is_used w ↦
           subst told (sym w.index-is) (
             omega (arith, size),
-            places_skip t e places so_far (ap (λ (y : Entry). y.kind) (sym read) ∙ w.if-entry-ne-FREE.false),
+            places_skip t e places so_far (ap (λ (y : Entry). y.kind) (sym read) ∙ kind_of_unused _ _ c.is_used.ensures w.if-is_used.false),
           )
     ] in
     record { size = next.0; so_far = next.1 }
