@@ -75,6 +75,8 @@ fn append_word<const N: usize>(out: &mut ArrayVec<u8, N>, word: u32)
 }
 
 /// Appends some bytes of a word, from a place on, one by one.
+// (Kept out of the loop over words, in which nearly all are whole.)
+#[inline(never)]
 fn append_part<const N: usize>(out: &mut ArrayVec<u8, N>, word: u32, from: u16, some: u16)
     requires within { from + some ≤ 4 }
     requires room { array_vec_len out.old + some ≤ N }
