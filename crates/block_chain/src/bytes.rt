@@ -61,7 +61,12 @@ fn word_of(bytes: &[u8], from: usize) -> u32
     requires { from + 4 ≤ length bytes.now }
     ensures { (place : ℕ) → place < 4 → slice_index (word_bytes result) place ≡ slice_index bytes.now (from + place) }
 {
-    u32::from_be_bytes([bytes[from], bytes[from + 1], bytes[from + 2], bytes[from + 3]])
+    u32::from_be_bytes([
+        bytes[from],
+        bytes[from + 1],
+        bytes[from + 2],
+        bytes[from + 3],
+    ])
 }
 
 /// The word at an address, whose first byte is that at `first` of a chain, with bytes from an offset on put in place of
