@@ -1,6 +1,7 @@
 //! Bytes of a chain that are set within a transaction, and of free blocks that are filled before one.
 ghost use Rattle.std.specs.Prelude.{◌≡◌, ◌+◌, ◌-◌, ◌*◌, ◌/◌, ◌<◌, ◌≤◌, ℕ, length, take, replicate, IfOk, OnOk};
-ghost use Rattle.std.specs.Prelude.{slice_index, ◌%◌, ◌==◌, if◌then◌else◌};
+ghost use Rattle.std.specs.Prelude.{slice_index, ◌%◌, ◌==◌, if◌then◌else◌, IsTrue};
+ghost use Rattle.undo_journal.specs.Undo.{IsDataAddress};
 ghost use Rattle.std.specs.Result.{result_err};
 ghost use Rattle.block_chain.specs.Changes.{touched_blocks, touched_words};
 ghost use Rattle.undo_journal.specs.Memory.{committed, current, room, CountsCommit, EndsAt, GoesOn, InRuns, IsOpen, IsReady};
@@ -47,6 +48,51 @@ fn overwritten_byte(byte: u8, at: u16, offset: u16, bytes: &[u8]) -> u8
     }
 }
 
+/// Whether bytes that are put from an offset on take the place of all four of a word, whose first byte is that at `at`.
+fn covers_word(at: u16, offset: u16, bytes: &[u8]) -> bool
+    ensures low { IsTrue result → offset ≤ at }
+    ensures high { IsTrue result → at + 4 ≤ offset + length bytes.now }
+{
+    offset <= at && usize::from(at - offset) + 4 <= bytes.len()
+}
+
+/// The word that four bytes make, from a place on.
+fn word_of(bytes: &[u8], from: usize) -> u32
+    requires { from + 4 ≤ length bytes.now }
+    ensures { (place : ℕ) → place < 4 → slice_index (word_bytes result) place ≡ slice_index bytes.now (from + place) }
+{
+    u32::from_be_bytes([
+        bytes[from],
+        bytes[from + 1],
+        bytes[from + 2],
+        bytes[from + 3],
+    ])
+}
+
+/// The word at an address, whose first byte is that at `first` of a chain, with bytes from an offset on put in place of
+/// its own. It is read only where it keeps some of them, as at most the first and the last word of an update do.
+fn new_word<B: Board>(
+    txn: &mut Txn<'_, B>,
+    at: u16,
+    first: u16,
+    offset: u16,
+    bytes: &[u8],
+) -> Result<u32, StoreErr>
+    requires ready { IsOpen (memory_of txn.old) }
+    requires place { IsDataAddress (current (memory_of txn.old)) at }
+    requires small { first + 3 < 65536 }
+    ensures word { IfOk result (λ word. (place : ℕ) → place < 4 → slice_index (word_bytes word) place
+        ≡ byte_over offset bytes.now (first + place)
+        (slice_index (word_bytes (slice_index (current (memory_of txn.old)) at)) place)) }
+    ensures store { ReadsIn txn.old txn.new (result_err result) }
+{
+    if covers_word(first, offset, bytes) {
+        return Ok(word_of(bytes, usize::from(first - offset)));
+    }
+    let word = txn.read(at)?;
+    Ok(overwritten_word(word, first, offset, bytes))
+}
+
 /// Sets the content word of a block in which bytes lie that are put from an offset of its chain on: word k of the chain.
 fn put_word<B: Board>(
     txn: &mut Txn<'_, B>,
@@ -68,8 +114,7 @@ fn put_word<B: Board>(
     ensures joins { OnOk result (JoinsAt (address page (1 + k % BLOCK_WORDS)) (memory_of txn.old) (memory_of txn.new)) }
 {
     let at = PAGE_WORDS * page + 1 + k % BLOCK_WORDS;
-    let word = txn.read(at)?;
-    let new = overwritten_word(word, WORD_BYTES * k, offset, bytes);
+    let new = new_word(txn, at, WORD_BYTES * k, offset, bytes)?;
     txn.set(at, new)
 }
 

@@ -47,7 +47,7 @@ fn read_word<B: Board>(store: &mut Store<B>, page: u16, offset: u16) -> Result<u
     ensures word { IfOk result (λ read. read ≡ word (committed store.old) page (1 + offset / 4 % BLOCK_WORDS)) }
     ensures store { Reads store.old store.new (result_err result) }
 {
-    store.read(PAGE_WORDS * page + 1 + offset / WORD_BYTES % BLOCK_WORDS)
+    store.read_committed(PAGE_WORDS * page + 1 + offset / WORD_BYTES % BLOCK_WORDS)
 }
 
 /// The byte of a chain at an offset below its size.
@@ -66,14 +66,38 @@ pub fn byte_at<B: Board>(store: &mut Store<B>, chain: Chain, offset: u16) -> Res
     Ok(byte_of(word, offset % WORD_BYTES))
 }
 
-/// Appends some bytes of a word, from a place on.
-fn append_bytes<const N: usize>(out: &mut ArrayVec<u8, N>, word: u32, from: u16, some: u16)
+/// Appends the four bytes of a word.
+fn append_word<const N: usize>(out: &mut ArrayVec<u8, N>, word: u32)
+    requires room { array_vec_len out.old + 4 ≤ N }
+    ensures items { out.new.items ≡ out.old.items ++ word_bytes word }
+{
+    out.try_extend_from_slice(&word.to_be_bytes()).unwrap();
+}
+
+/// Appends some bytes of a word, from a place on, one by one.
+// (Kept out of the loop over words, in which nearly all are whole.)
+#[inline(never)]
+fn append_part<const N: usize>(out: &mut ArrayVec<u8, N>, word: u32, from: u16, some: u16)
     requires within { from + some ≤ 4 }
     requires room { array_vec_len out.old + some ≤ N }
     ensures items { out.new.items ≡ out.old.items ++ take some (drop from (word_bytes word)) }
 {
     for i in 0..some {
         out.push(byte_of(word, from + i));
+    }
+}
+
+/// Appends some bytes of a word, from a place on. A whole word, as nearly all of a long read are, is copied at once: that
+/// takes a third of the instructions that four single bytes do.
+fn append_bytes<const N: usize>(out: &mut ArrayVec<u8, N>, word: u32, from: u16, some: u16)
+    requires within { from + some ≤ 4 }
+    requires room { array_vec_len out.old + some ≤ N }
+    ensures items { out.new.items ≡ out.old.items ++ take some (drop from (word_bytes word)) }
+{
+    if some == WORD_BYTES {
+        append_word(out, word);
+    } else {
+        append_part(out, word, from, some);
     }
 }
 

@@ -19,7 +19,7 @@ pub(crate) fn read_head<B: Board>(store: &mut Store<B>) -> Result<u16, StoreErr>
     ensures page { IfOk result (λ page. page ≡ slice_index (committed store.old) FREE_HEAD) }
     ensures store { Reads store.old store.new (result_err result) }
 {
-    let word = store.read(FREE_HEAD)?;
+    let word = store.read_committed(FREE_HEAD)?;
     Ok(word as u16)
 }
 
@@ -31,7 +31,7 @@ pub(crate) fn read_link<B: Board>(store: &mut Store<B>, page: u16) -> Result<u16
     ensures page { IfOk result (λ next. next ≡ link (committed store.old) page) }
     ensures store { Reads store.old store.new (result_err result) }
 {
-    let word = store.read(PAGE_WORDS * page)?;
+    let word = store.read_committed(PAGE_WORDS * page)?;
     Ok(word as u16)
 }
 

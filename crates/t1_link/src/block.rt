@@ -209,6 +209,9 @@ pub(crate) enum Block<'a> {
 
 impl<'a> Block<'a> {
     /// The block that these bytes are, or what is wrong with them.
+    // (Inlined into both ends, and `of_kind` into it: so a block that is heard isn't put together in memory, only to be
+    // taken apart again, which costs 36 instructions a block.)
+    #[inline(always)]
     #[tactic(auto, unfolding(crate::specs::Blocks::heard))]
     pub(crate) fn parse(bytes: &'a [u8]) -> Result<Block<'a>, Fault>
         ensures { spoken result ≡ heard bytes.now }
@@ -226,6 +229,7 @@ impl<'a> Block<'a> {
     }
 
     /// The block that a control byte makes of an information field.
+    #[inline(always)]
     fn of_kind(control: u8, field: &'a [u8]) -> Result<Block<'a>, Fault>
         ensures { spoken result ≡ ok_or (at_byte control (kinds field.now)) Fault.UnknownBlock }
     {

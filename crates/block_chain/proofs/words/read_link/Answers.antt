@@ -7,4 +7,4 @@ returns-in_err-word-clause-page g c = none_ok _ _ _ c.from_residual.ensures.1
 
 pub returns-in_err-word-clause-store : goal.returns-in_err-word-clause-store
 returns-in_err-word-clause-store g c =
-    reads_handed _ _ _ _ c.from_residual.ensures.1 (c.in_err-word.ensures.store c.requires.ready.idle)
+    reads_handed _ _ _ _ c.from_residual.ensures.1 c.in_err-word.ensures.store
