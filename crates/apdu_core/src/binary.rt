@@ -58,17 +58,13 @@ pub(crate) fn parse_read_binary<'a>(p1: u8, p2: u8, rest: &'a [u8]) -> Result<Co
     ensures asked { Gives result (asked_by_row (Some read_binary_row) p1 p2 rest.now) }
     ensures ranges { IfOk result IsInRange }
 {
-    let Some(place) = Place::of(p1, p2) else {
-        return Err(Sw::WRONG_PARAMETERS);
-    };
-    match CommandBody::parse(rest).and_then(CommandBody::le_alone) {
-        Some(expected) => Ok(Command::ReadBinary {
-            target: place.target,
-            offset: place.offset,
-            expected,
-        }),
-        None => Err(Sw::WRONG_LENGTH),
-    }
+    let place = Place::of(p1, p2).ok_or(Sw::WRONG_PARAMETERS)?;
+    let expected = CommandBody::parse(rest)?.le_alone()?;
+    Ok(Command::ReadBinary {
+        target: place.target,
+        offset: place.offset,
+        expected,
+    })
 }
 
 /// Reads P1, P2 and what follows the header of UPDATE BINARY. P1 and P2 that name no place are 6A86;
@@ -77,15 +73,11 @@ pub(crate) fn parse_update_binary<'a>(p1: u8, p2: u8, rest: &'a [u8]) -> Result<
     ensures asked { Gives result (asked_by_row (Some update_binary_row) p1 p2 rest.now) }
     ensures ranges { IfOk result IsInRange }
 {
-    let Some(place) = Place::of(p1, p2) else {
-        return Err(Sw::WRONG_PARAMETERS);
-    };
-    match CommandBody::parse(rest) {
-        Some(body) if body.is_text_alone() => Ok(Command::UpdateBinary {
-            target: place.target,
-            offset: place.offset,
-            bytes: body.sent,
-        }),
-        _ => Err(Sw::WRONG_LENGTH),
-    }
+    let place = Place::of(p1, p2).ok_or(Sw::WRONG_PARAMETERS)?;
+    let bytes = CommandBody::parse(rest)?.text_alone()?;
+    Ok(Command::UpdateBinary {
+        target: place.target,
+        offset: place.offset,
+        bytes,
+    })
 }

@@ -1,8 +1,26 @@
-//! The bytes after the header of a short command (ISO/IEC 7816-4, 5.2).
-ghost use Rattle.std.specs.Prelude.{◌≡◌, ◌≢◌, ◌≤◌, ◌∷◌, ◌&&◌, [], nat_le, not, length, option_map, IfSome};
-ghost use Rattle.std.specs.Prelude.{is_some, None, ◌==◌, if◌then◌else◌};
+//! What follows the instruction of a short command: P1 and P2, and the bytes after the header (ISO/IEC 7816-4, 5.2).
+ghost use Rattle.std.specs.Prelude.{◌≡◌, ◌≢◌, ◌≤◌, ◌∷◌, ◌&&◌, ◌==◌, [], nat_le, not, length, IfOk, IfErr};
+ghost use Rattle.std.specs.Prelude.{is_some, Some, None, is_ok};
+ghost use Rattle.card_rules.specs.declared.status.TheConstants.Sw.{WRONG_LENGTH, WRONG_PARAMETERS};
 ghost use Rattle.apdu_core.specs.Bodies.{body_of};
 ghost use Rattle.apdu_core.specs.BodyView.{body_view};
+ghost use Rattle.apdu_core.specs.FileRows.{is_no_parameter};
+
+use card_rules::Sw;
+
+/// Looks whether P1 and P2 are 00 00, of a command that has no parameters.
+///
+/// # Errors
+/// 6A86 where they are not.
+pub(crate) fn no_parameters(p1: u8, p2: u8) -> Result<(), Sw>
+    ensures known { is_ok result ≡ is_no_parameter p1 p2 }
+    ensures refusal { IfErr result (λ refusal. refusal ≡ WRONG_PARAMETERS) }
+{
+    if p1 != 0x00 || p2 != 0x00 {
+        return Err(Sw::WRONG_PARAMETERS);
+    }
+    Ok(())
+}
 
 /// What follows the header: the bytes that are sent, and Le.
 #[derive(Clone, Copy)]
@@ -12,37 +30,54 @@ pub(crate) struct CommandBody<'a> {
 }
 
 impl<'a> CommandBody<'a> {
-    /// Whether some bytes are sent, and Le does not stand.
-    pub fn is_text_alone(self) -> bool
+    /// The sent bytes, where there are some and Le does not stand.
+    ///
+    /// # Errors
+    /// 6700 where none are sent, or Le stands.
+    pub fn text_alone(self) -> Result<&'a [u8], Sw>
         requires { length self.sent.now ≤ 255 }
-        ensures { result ≡ (nat_le 1 (length self.entry.sent.now) && nat_le (length self.entry.sent.now) 255
+        ensures known { is_ok result ≡ (nat_le 1 (length self.entry.sent.now) && nat_le (length self.entry.sent.now) 255
             && not (is_some self.entry.expected)) }
+        ensures text { IfOk result (λ text. text.now ≡ self.entry.sent.now) }
+        ensures refusal { IfErr result (λ refusal. refusal ≡ WRONG_LENGTH) }
     {
-        !self.sent.is_empty() && self.expected.is_none()
+        if !self.sent.is_empty() && self.expected.is_none() {
+            Ok(self.sent)
+        } else {
+            Err(Sw::WRONG_LENGTH)
+        }
     }
 
     /// Le, where it stands and no bytes are sent.
-    pub fn le_alone(self) -> Option<u8>
-        ensures { result ≡ (if length self.entry.sent.now == 0 then self.entry.expected else None) }
+    ///
+    /// # Errors
+    /// 6700 where it doesn't stand, or bytes are sent.
+    pub fn le_alone(self) -> Result<u8, Sw>
+        ensures known { is_ok result ≡ ((length self.entry.sent.now == 0) && is_some self.entry.expected) }
+        ensures le { IfOk result (λ le. self.entry.expected ≡ Some le) }
+        ensures refusal { IfErr result (λ refusal. refusal ≡ WRONG_LENGTH) }
     {
-        if self.sent.is_empty() {
-            self.expected
-        } else {
-            None
+        match self.expected {
+            Some(le) if self.sent.is_empty() => Ok(le),
+            _ => Err(Sw::WRONG_LENGTH),
         }
     }
 
     /// Reads the bytes after a header, where they have one of the four forms.
-    pub fn parse(bytes: &'a [u8]) -> Option<CommandBody<'a>>
-        ensures form { option_map body_view result ≡ body_of bytes.now }
-        ensures short { IfSome result (λ body. length body.sent.now ≤ 255) }
+    ///
+    /// # Errors
+    /// 6700 exactly where they have none.
+    pub fn parse(bytes: &'a [u8]) -> Result<CommandBody<'a>, Sw>
+        ensures form { IfOk result (λ body. body_of bytes.now ≡ Some (body_view body)) }
+        ensures short { IfOk result (λ body. length body.sent.now ≤ 255) }
+        ensures refusal { IfErr result (λ refusal. (refusal ≡ WRONG_LENGTH) × (body_of bytes.now ≡ None)) }
     {
         match bytes {
-            [] => Some(CommandBody {
+            [] => Ok(CommandBody {
                 sent: bytes,
                 expected: None,
             }),
-            [le] => Some(CommandBody {
+            [le] => Ok(CommandBody {
                 sent: &[],
                 expected: Some(*le),
             }),
@@ -51,26 +86,27 @@ impl<'a> CommandBody<'a> {
     }
 
     /// The forms that begin with Lc: its bytes, and Le behind them or not.
-    fn with_data(lc: u8, rest: &'a [u8]) -> Option<CommandBody<'a>>
+    fn with_data(lc: u8, rest: &'a [u8]) -> Result<CommandBody<'a>, Sw>
         requires { rest.now ≢ [] }
-        ensures form { option_map body_view result ≡ body_of (lc ∷ rest.now) }
-        ensures short { IfSome result (λ body. length body.sent.now ≤ 255) }
+        ensures form { IfOk result (λ body. body_of (lc ∷ rest.now) ≡ Some (body_view body)) }
+        ensures short { IfOk result (λ body. length body.sent.now ≤ 255) }
+        ensures refusal { IfErr result (λ refusal. (refusal ≡ WRONG_LENGTH) × (body_of (lc ∷ rest.now) ≡ None)) }
     {
         let sent_length = usize::from(lc);
         if sent_length == 0 {
-            None
+            Err(Sw::WRONG_LENGTH)
         } else if rest.len() == sent_length {
-            Some(CommandBody {
+            Ok(CommandBody {
                 sent: rest,
                 expected: None,
             })
         } else if rest.len() == sent_length + 1 {
-            Some(CommandBody {
+            Ok(CommandBody {
                 sent: &rest[..sent_length],
                 expected: Some(rest[sent_length]),
             })
         } else {
-            None
+            Err(Sw::WRONG_LENGTH)
         }
     }
 }

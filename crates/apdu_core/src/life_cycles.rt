@@ -7,7 +7,7 @@ ghost use Rattle.apdu_core.specs.Requests.{Gives};
 
 use crate::commands::Command;
 use crate::files::Subject;
-use crate::form::CommandBody;
+use crate::form::{CommandBody, no_parameters};
 use card_rules::Sw;
 
 /// What a command does to the life cycle of a file.
@@ -34,13 +34,9 @@ pub(crate) fn parse_life_cycle_change<'a>(
     ensures asked { Gives result (asked_by_row (Some (life_cycle_row change)) p1 p2 rest.now) }
     ensures ranges { IfOk result IsInRange }
 {
-    if p1 != 0x00 || p2 != 0x00 {
-        return Err(Sw::WRONG_PARAMETERS);
-    }
-    match CommandBody::parse(rest).and_then(Subject::of) {
-        Some(subject) => Ok(Command::ChangeLifeCycle { change, subject }),
-        None => Err(Sw::WRONG_LENGTH),
-    }
+    no_parameters(p1, p2)?;
+    let subject = Subject::of(CommandBody::parse(rest)?)?;
+    Ok(Command::ChangeLifeCycle { change, subject })
 }
 
 /// Reads P1, P2 and what follows the header of TERMINATE CARD USAGE. Other P1 and P2 than 00 00 are 6A86;
@@ -53,13 +49,11 @@ pub(crate) fn parse_terminate_card_usage<'a>(
     ensures asked { Gives result (asked_by_row (Some terminate_card_usage_row) p1 p2 rest.now) }
     ensures ranges { IfOk result IsInRange }
 {
-    if p1 != 0x00 || p2 != 0x00 {
-        return Err(Sw::WRONG_PARAMETERS);
-    }
-    match CommandBody::parse(rest) {
-        Some(body) if body.sent.is_empty() && body.expected.is_none() => Ok(
-            Command::TerminateCardUsage,
-        ),
-        _ => Err(Sw::WRONG_LENGTH),
+    no_parameters(p1, p2)?;
+    let body = CommandBody::parse(rest)?;
+    if body.sent.is_empty() && body.expected.is_none() {
+        Ok(Command::TerminateCardUsage)
+    } else {
+        Err(Sw::WRONG_LENGTH)
     }
 }

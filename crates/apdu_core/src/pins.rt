@@ -1,5 +1,6 @@
 //! Commands on PINs (ISO/IEC 7816-4, 11.5).
-ghost use Rattle.std.specs.Prelude.{◌≡◌, ◌==◌, Some, is_some, IfOk, IfSome, length, take, drop};
+ghost use Rattle.std.specs.Prelude.{◌≡◌, ◌==◌, Some, is_some, is_ok, IfOk, IfErr, IfSome, length, take, drop};
+ghost use Rattle.card_rules.specs.declared.status.TheConstants.Sw.{WRONG_PARAMETERS};
 ghost use Rattle.apdu_core.specs.Asked.{asked_by_row};
 ghost use Rattle.apdu_core.specs.PinRows.{verify_row, change_reference_data_row, reset_retry_counter_row, is_pin};
 ghost use Rattle.apdu_core.specs.PinRows.{requirement_row};
@@ -39,11 +40,20 @@ pub enum RequirementChange {
     Enable,
 }
 
-/// Whether P1 and P2 name a PIN: 00, and 01 to 08.
-fn names_pin(p1: u8, p2: u8) -> bool
-    ensures { result ≡ is_pin p1 p2 }
+/// The PIN that P1 and P2 name: 00, and 01 to 08.
+///
+/// # Errors
+/// 6A86 where they name none.
+fn pin_named(p1: u8, p2: u8) -> Result<u8, Sw>
+    ensures known { is_ok result ≡ is_pin p1 p2 }
+    ensures pin { IfOk result (λ pin. pin ≡ p2) }
+    ensures refusal { IfErr result (λ refusal. refusal ≡ WRONG_PARAMETERS) }
 {
-    p1 == 0x00 && (1..=PINS).contains(&p2)
+    if p1 == 0x00 && (1..=PINS).contains(&p2) {
+        Ok(p2)
+    } else {
+        Err(Sw::WRONG_PARAMETERS)
+    }
 }
 
 /// Reads P1, P2 and what follows the header of VERIFY (ISO/IEC 7816-4, 11.5.6). P1 and P2 that name no PIN are 6A86,
@@ -52,17 +62,13 @@ pub(crate) fn parse_verify<'a>(p1: u8, p2: u8, rest: &'a [u8]) -> Result<Command
     ensures asked { Gives result (asked_by_row (Some verify_row) p1 p2 rest.now) }
     ensures ranges { IfOk result IsInRange }
 {
-    if !names_pin(p1, p2) {
-        return Err(Sw::WRONG_PARAMETERS);
-    }
-    let Some(body) = CommandBody::parse(rest) else {
-        return Err(Sw::WRONG_LENGTH);
-    };
+    let pin = pin_named(p1, p2)?;
+    let body = CommandBody::parse(rest)?;
     let shown = body.sent.as_array::<8>();
     if body.expected.is_some() || shown.is_none() && !body.sent.is_empty() {
         return Err(Sw::WRONG_LENGTH);
     }
-    Ok(Command::Verify { pin: p2, shown })
+    Ok(Command::Verify { pin, shown })
 }
 
 /// Reads P1, P2 and what follows the header of CHANGE REFERENCE DATA (ISO/IEC 7816-4, 11.5.7). P1 and P2 that name no
@@ -75,17 +81,10 @@ pub(crate) fn parse_change_reference_data<'a>(
     ensures asked { Gives result (asked_by_row (Some change_reference_data_row) p1 p2 rest.now) }
     ensures ranges { IfOk result IsInRange }
 {
-    if !names_pin(p1, p2) {
-        return Err(Sw::WRONG_PARAMETERS);
-    }
-    let Some(body) = CommandBody::parse(rest) else {
-        return Err(Sw::WRONG_LENGTH);
-    };
+    let pin = pin_named(p1, p2)?;
+    let body = CommandBody::parse(rest)?;
     match Replacement::of(body.sent) {
-        Some(values) if body.expected.is_none() => Ok(Command::ChangeReferenceData {
-            pin: p2,
-            values,
-        }),
+        Some(values) if body.expected.is_none() => Ok(Command::ChangeReferenceData { pin, values }),
         _ => Err(Sw::WRONG_LENGTH),
     }
 }
@@ -100,17 +99,13 @@ pub(crate) fn parse_reset_retry_counter<'a>(
     ensures asked { Gives result (asked_by_row (Some reset_retry_counter_row) p1 p2 rest.now) }
     ensures ranges { IfOk result IsInRange }
 {
-    if !names_pin(p1, p2) {
-        return Err(Sw::WRONG_PARAMETERS);
-    }
-    let Some(body) = CommandBody::parse(rest) else {
-        return Err(Sw::WRONG_LENGTH);
-    };
+    let pin = pin_named(p1, p2)?;
+    let body = CommandBody::parse(rest)?;
     let values = Replacement::of(body.sent);
     if body.expected.is_some() || values.is_none() && !body.sent.is_empty() {
         return Err(Sw::WRONG_LENGTH);
     }
-    Ok(Command::ResetRetryCounter { pin: p2, values })
+    Ok(Command::ResetRetryCounter { pin, values })
 }
 
 /// Reads P1, P2 and what follows the header of DISABLE VERIFICATION REQUIREMENT and ENABLE VERIFICATION REQUIREMENT
@@ -124,16 +119,12 @@ pub(crate) fn parse_requirement_change<'a>(
     ensures asked { Gives result (asked_by_row (Some (requirement_row change)) p1 p2 rest.now) }
     ensures ranges { IfOk result IsInRange }
 {
-    if !names_pin(p1, p2) {
-        return Err(Sw::WRONG_PARAMETERS);
-    }
-    let Some(body) = CommandBody::parse(rest) else {
-        return Err(Sw::WRONG_LENGTH);
-    };
+    let pin = pin_named(p1, p2)?;
+    let body = CommandBody::parse(rest)?;
     match body.sent.as_array::<8>() {
         Some(shown) if body.expected.is_none() => Ok(Command::ChangeRequirement {
             change,
-            pin: p2,
+            pin,
             shown,
         }),
         _ => Err(Sw::WRONG_LENGTH),

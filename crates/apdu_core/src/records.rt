@@ -10,7 +10,7 @@ ghost use Rattle.apdu_core.specs.Requests.{Gives};
 
 use crate::binary::Target;
 use crate::commands::Command;
-use crate::form::CommandBody;
+use crate::form::{CommandBody, no_parameters};
 use card_rules::Sw;
 
 /// A record by its number, or the current one.
@@ -126,17 +126,13 @@ pub(crate) fn parse_read_record<'a>(p1: u8, p2: u8, rest: &'a [u8]) -> Result<Co
     ensures asked { Gives result (asked_by_row (Some read_record_row) p1 p2 rest.now) }
     ensures ranges { IfOk result IsInRange }
 {
-    let Some(name) = RecordName::of(p1, p2) else {
-        return Err(Sw::WRONG_PARAMETERS);
-    };
-    match CommandBody::parse(rest).and_then(CommandBody::le_alone) {
-        Some(expected) => Ok(Command::ReadRecord {
-            target: name.target,
-            choice: name.choice,
-            expected,
-        }),
-        None => Err(Sw::WRONG_LENGTH),
-    }
+    let name = RecordName::of(p1, p2).ok_or(Sw::WRONG_PARAMETERS)?;
+    let expected = CommandBody::parse(rest)?.le_alone()?;
+    Ok(Command::ReadRecord {
+        target: name.target,
+        choice: name.choice,
+        expected,
+    })
 }
 
 /// Reads P1, P2 and what follows the header of UPDATE RECORD (ISO/IEC 7816-4, 11.4.5). P1 and P2 that name no record
@@ -145,17 +141,13 @@ pub(crate) fn parse_update_record<'a>(p1: u8, p2: u8, rest: &'a [u8]) -> Result<
     ensures asked { Gives result (asked_by_row (Some update_record_row) p1 p2 rest.now) }
     ensures ranges { IfOk result IsInRange }
 {
-    let Some(name) = RecordName::of(p1, p2) else {
-        return Err(Sw::WRONG_PARAMETERS);
-    };
-    match CommandBody::parse(rest) {
-        Some(body) if body.is_text_alone() => Ok(Command::UpdateRecord {
-            target: name.target,
-            choice: name.choice,
-            bytes: body.sent,
-        }),
-        _ => Err(Sw::WRONG_LENGTH),
-    }
+    let name = RecordName::of(p1, p2).ok_or(Sw::WRONG_PARAMETERS)?;
+    let bytes = CommandBody::parse(rest)?.text_alone()?;
+    Ok(Command::UpdateRecord {
+        target: name.target,
+        choice: name.choice,
+        bytes,
+    })
 }
 
 /// Reads P1, P2 and what follows the header of APPEND RECORD (ISO/IEC 7816-4, 11.4.6). P1 other than 00 and P2 that
@@ -167,16 +159,9 @@ pub(crate) fn parse_append_record<'a>(p1: u8, p2: u8, rest: &'a [u8]) -> Result<
     if p1 != 0 || p2 % 8 != 0 {
         return Err(Sw::WRONG_PARAMETERS);
     }
-    let Some(target) = Target::of_records(p2) else {
-        return Err(Sw::WRONG_PARAMETERS);
-    };
-    match CommandBody::parse(rest) {
-        Some(body) if body.is_text_alone() => Ok(Command::AppendRecord {
-            target,
-            bytes: body.sent,
-        }),
-        _ => Err(Sw::WRONG_LENGTH),
-    }
+    let target = Target::of_records(p2).ok_or(Sw::WRONG_PARAMETERS)?;
+    let bytes = CommandBody::parse(rest)?.text_alone()?;
+    Ok(Command::AppendRecord { target, bytes })
 }
 
 /// Reads P1, P2 and what follows the header of SEARCH RECORD (ISO/IEC 7816-4, 11.4.7). P2 that names no file or no
@@ -185,19 +170,19 @@ pub(crate) fn parse_search_record<'a>(p1: u8, p2: u8, rest: &'a [u8]) -> Result<
     ensures asked { Gives result (asked_by_row (Some search_record_row) p1 p2 rest.now) }
     ensures ranges { IfOk result IsInRange }
 {
-    let (Some(target), Some(direction)) = (Target::of_records(p2), Direction::of(p2)) else {
-        return Err(Sw::WRONG_PARAMETERS);
-    };
-    match CommandBody::parse(rest) {
-        Some(body) if !body.sent.is_empty() => Ok(Command::SearchRecord {
-            target,
-            first: RecordPlace::of(p1),
-            direction,
-            text: body.sent,
-            expected: body.expected,
-        }),
-        _ => Err(Sw::WRONG_LENGTH),
+    let target = Target::of_records(p2).ok_or(Sw::WRONG_PARAMETERS)?;
+    let direction = Direction::of(p2).ok_or(Sw::WRONG_PARAMETERS)?;
+    let body = CommandBody::parse(rest)?;
+    if body.sent.is_empty() {
+        return Err(Sw::WRONG_LENGTH);
     }
+    Ok(Command::SearchRecord {
+        target,
+        first: RecordPlace::of(p1),
+        direction,
+        text: body.sent,
+        expected: body.expected,
+    })
 }
 
 /// Reads P1, P2 and what follows the header of INCREASE. Other P1 and P2 than 00 00 are 6A86; no data is 6700.
@@ -205,14 +190,13 @@ pub(crate) fn parse_increase<'a>(p1: u8, p2: u8, rest: &'a [u8]) -> Result<Comma
     ensures asked { Gives result (asked_by_row (Some increase_row) p1 p2 rest.now) }
     ensures ranges { IfOk result IsInRange }
 {
-    if p1 != 0x00 || p2 != 0x00 {
-        return Err(Sw::WRONG_PARAMETERS);
+    no_parameters(p1, p2)?;
+    let body = CommandBody::parse(rest)?;
+    if body.sent.is_empty() {
+        return Err(Sw::WRONG_LENGTH);
     }
-    match CommandBody::parse(rest) {
-        Some(body) if !body.sent.is_empty() => Ok(Command::Increase {
-            amount: body.sent,
-            expected: body.expected,
-        }),
-        _ => Err(Sw::WRONG_LENGTH),
-    }
+    Ok(Command::Increase {
+        amount: body.sent,
+        expected: body.expected,
+    })
 }

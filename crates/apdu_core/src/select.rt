@@ -123,15 +123,11 @@ pub(crate) fn parse_select<'a>(p1: u8, p2: u8, rest: &'a [u8]) -> Result<Command
     let (Some(way), Some(returned)) = (Way::of(p1), Returned::of(p2)) else {
         return Err(Sw::WRONG_PARAMETERS);
     };
-    let Some(body) = CommandBody::parse(rest) else {
-        return Err(Sw::WRONG_LENGTH);
-    };
-    match Selector::of(way, body.sent) {
-        Some(selector) => Ok(Command::Select {
-            selector,
-            returned,
-            expected: body.expected,
-        }),
-        None => Err(Sw::WRONG_LENGTH),
-    }
+    let body = CommandBody::parse(rest)?;
+    let selector = Selector::of(way, body.sent).ok_or(Sw::WRONG_LENGTH)?;
+    Ok(Command::Select {
+        selector,
+        returned,
+        expected: body.expected,
+    })
 }

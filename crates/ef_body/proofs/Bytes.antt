@@ -1,16 +1,16 @@
 -- The bytes of a transparent body.
 use Rattle.nvm_board.specs.Facts.{IsMemory}
-use Rattle.std.proofs.Common.{refl, sym, ◌∙◌, ap, ap₂, arith, ⊎_elim, get_or-take}
+use Rattle.std.proofs.Common.{refl, sym, ◌∙◌, ap, ap₂, subst, arith, ⊎_elim, get_or-take}
 use Rattle.std.proofs.lemmas.Bool.{cases_lt, le-leb, lt-leb, lt-ltb, le-ltb}
 use Rattle.std.proofs.lemmas.List.{length-take-le, take_min, drop-take, length-drop}
 use Rattle.std.proofs.lemmas.Grind.{same_number_lists}
-use Rattle.std.specs.Prelude.{◌≡◌, ◌<◌, ◌≤◌, ◌+◌, ◌-◌, ◌↔◌, ℕ, zero, suc, Bool, true, false, List, [], ◌∷◌, length}
+use Rattle.std.specs.Prelude.{◌≡◌, ◌<◌, ◌≤◌, ◌+◌, ◌-◌, ◌↔◌, ℕ, zero, suc, Bool, true, false, List, [], ◌∷◌, ◌++◌, length}
 use Rattle.std.specs.Prelude.{take, drop, min}
 use Rattle.std.specs.Prelude.{Option, Some, None, IsTrue, if◌then◌else◌, nat_le, nat_lt}
 use Rattle.card_rules.specs.declared.status.Sw.{Sw}
 use Rattle.card_rules.specs.declared.status.TheConstants.Sw.{WRONG_OFFSET, NO_ROOM}
 use Rattle.block_chain.specs.Chains.{chain_of, chain_bytes, bytes_of}
-use Rattle.block_chain.specs.Changes.{Overwrites, overwrite}
+use Rattle.block_chain.specs.Changes.{AppendsSome, Overwrites, overwrite}
 use Rattle.block_chain.specs.Parts.{byte_over}
 use Rattle.block_chain.specs.laws.Bytes.{leads_blocks, length-bytes_of}
 use Rattle.block_chain.specs.laws.Overwriting.{index-overwrite, length-overwrite}
@@ -20,6 +20,16 @@ use Rattle.ef_body.specs.Refusals.{past_end, overlong}
 use Rattle.ef_body.specs.Changes.{TransparentBecomes}
 use Rattle.ef_body.proofs.Putting.{chain_kept}
 use Rattle.ef_body.proofs.Refusing.{not_so}
+
+-- what is put behind nothing is all that there is
+pub length-emptied : (old : List ℕ) → old ≡ [] → length old ≡ 0
+length-emptied old empty = ap (λ (l : List ℕ). length l) empty
+
+pub all_appended : (old bytes out : List ℕ) → old ≡ [] → out ≡ old ++ bytes → out ≡ bytes
+all_appended old bytes out empty is = is ∙ ap (λ (l : List ℕ). l ++ bytes) empty
+
+pub some_appended : (old bytes out : List ℕ) → old ≡ [] → AppendsSome old bytes out → AppendsSome [] bytes out
+some_appended old bytes out empty = subst (λ (l : List ℕ). AppendsSome l bytes out) empty
 
 -- the first of the first bytes
 take-first : (k n : ℕ) (xs : List ℕ) → k ≤ n → take k (take n xs) ≡ take k xs

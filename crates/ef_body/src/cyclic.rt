@@ -163,41 +163,14 @@ impl Cyclic {
         self.capacity.min(self.records + 1)
     }
 
-    /// Puts into the buffer, in place of what stood there, the record that INCREASE stores: the number that record 1
-    /// spells, with the sent number added, in as many bytes as a record has. Nothing is written.
+    /// Looks whether record 1 can be raised by the sent number: puts into the buffer, in place of what stood there, the
+    /// record that INCREASE stores, which is the number that record 1 spells, with the sent number added, in as many
+    /// bytes as a record has, and answers the receipt of record 1. Nothing is written: `RecordSlot::replace_oldest`
+    /// stores the sum then, and refuses nothing.
     ///
     /// # Errors
     /// 6A83 where there is no record, 9850 where the sum doesn't fit a record: then the buffer is empty. What the store
     /// answers: then it holds a first part of record 1.
-    pub fn sum<B: Board, const N: usize>(
-        self,
-        store: &mut Store<B>,
-        sent: &[u8],
-        bytes: &mut ArrayVec<u8, N>,
-    ) -> Result<(), BodyErr>
-        requires ready { IsReady store.old }
-        requires body { IsCyclic (committed store.old) self }
-        requires sent { length sent.now ≤ self.record_length }
-        requires room { self.record_length ≤ N }
-        ensures bytes { OnOk result (bytes.new.items ≡ spelled self.record_length (raised_number (cyclic_records
-            (committed store.old) self) sent.now)) }
-        ensures emptied { IfRefused (result_err result) (bytes.new.items ≡ []) }
-        ensures buffer { AppendsSome [] (record_of (cyclic_records (committed store.old) self) 1) bytes.new.items
-            ⊎ (bytes.new.items ≡ spelled self.record_length (raised_number (cyclic_records (committed store.old) self)
-            sent.now)) }
-        ensures refusal { DecidesUnlessFailed (unraised self.record_length
-            (cyclic_records (committed store.old) self) sent.now) (result_err result) }
-        ensures store { Reads store.old store.new (failure (result_err result)) }
-    {
-        self.raise(store, sent, bytes)?;
-        Ok(())
-    }
-
-    /// Looks whether record 1 can be raised by the sent number: puts the sum into the buffer as `sum` does, and answers
-    /// the receipt of record 1. `RecordSlot::replace_oldest` stores the sum then, and refuses nothing.
-    ///
-    /// # Errors
-    /// As of `sum`.
     pub fn raise<B: Board, const N: usize>(
         self,
         store: &mut Store<B>,

@@ -1,41 +1,16 @@
 //! Records that are read.
-ghost use Rattle.std.specs.Prelude.{◌≡◌, ◌≤◌, ◌<◌, ◌+◌, ◌-◌, ◌*◌, ◌%◌, [], length, take, drop, OnOk};
+ghost use Rattle.std.specs.Prelude.{◌≡◌, ◌≤◌, [], OnOk};
 ghost use Rattle.std.specs.Result.{result_err};
 ghost use Rattle.undo_journal.specs.Memory.{committed, IsReady};
 ghost use Rattle.undo_journal.specs.Calls.{Reads};
-ghost use Rattle.block_chain.specs.Chains.{Leads, chain_of, chain_bytes};
 ghost use Rattle.block_chain.specs.Changes.{AppendsSome};
-ghost use Rattle.block_chain.specs.declared.layout.TheConstants.{BLOCK_BYTES, FILE_BYTES};
 ghost use Rattle.ef_body.specs.Records.{record_of};
 ghost use Rattle.ef_body.specs.Bodies.{cyclic_records, IsCyclic};
 
 use crate::slot::{RecordSlot, offset_of, slot_of};
 use arrayvec::ArrayVec;
-use block_chain::{Chain, read_bytes};
+use block_chain::read_bytes;
 use undo_journal::{Board, Store, StoreErr};
-
-/// Reads so many bytes of a chain, from an offset on, into the empty buffer.
-pub(crate) fn read_anew<B: Board, const N: usize>(
-    store: &mut Store<B>,
-    chain: Chain,
-    offset: u16,
-    count: u16,
-    bytes: &mut ArrayVec<u8, N>,
-) -> Result<(), StoreErr>
-    requires ready { IsReady store.old }
-    requires leads { Leads (committed store.old) chain.first (chain_of (committed store.old) chain) 0 }
-    requires within { offset + count ≤ BLOCK_BYTES * length (chain_of (committed store.old) chain) }
-    requires small { offset + count ≤ FILE_BYTES }
-    requires room { count ≤ N }
-    requires empty { bytes.old.items ≡ [] }
-    ensures bytes { OnOk result (bytes.new.items ≡ take count (drop offset (chain_bytes (committed store.old)
-        chain))) }
-    ensures any_exit { AppendsSome [] (take count (drop offset (chain_bytes (committed store.old) chain)))
-        bytes.new.items }
-    ensures store { Reads store.old store.new (result_err result) }
-{
-    read_bytes(store, chain, offset, count, bytes)
-}
 
 impl RecordSlot {
     /// Reads the record into the buffer, in place of what stood there (READ RECORD, ISO/IEC 7816-4, 11.4.3).
@@ -58,7 +33,7 @@ impl RecordSlot {
     {
         bytes.clear();
         let offset = offset_of(self.ring, slot_of(self.ring, self.number));
-        read_anew(
+        read_bytes(
             store,
             self.ring.chain,
             offset,

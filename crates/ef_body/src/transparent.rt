@@ -12,10 +12,9 @@ ghost use Rattle.ef_body.specs.Bodies.{transparent_bytes, IsTransparent};
 ghost use Rattle.ef_body.specs.Changes.{update_writes, TransparentBecomes};
 
 use crate::error::{BodyErr, from_store};
-use crate::reading::read_anew;
 use crate::writing::put_bytes;
 use arrayvec::ArrayVec;
-use block_chain::Chain;
+use block_chain::{Chain, read_bytes};
 use card_rules::Sw;
 use undo_journal::{Board, Store};
 
@@ -71,7 +70,7 @@ impl Transparent {
             return Err(BodyErr::Refused(Sw::WRONG_OFFSET));
         }
         let count = smaller(most, self.size - offset);
-        from_store(read_anew(store, self.chain, offset, count, bytes))
+        from_store(read_bytes(store, self.chain, offset, count, bytes))
     }
 
     /// Puts bytes, 255 at most, in place of those from an offset on, in one transaction, of as many device writes as

@@ -9,8 +9,7 @@ use Rattle.card_rules.specs.declared.life_cycle.LifeCycle.TheVariants as life
 use Rattle.card_rules.specs.Rule.{is_rule}
 use Rattle.fcp_template.specs.declared.tag.Tag.{Tag}
 use Rattle.fcp_template.specs.declared.tag.Tag.TheVariants.{FileDescriptor, FileIdentifier, Name, ShortFileIdentifier}
-use Rattle.fcp_template.specs.declared.tag.Tag.TheVariants.{DataBytes, LifeCycleStatus, CompactRule, TotalBytes}
-use Rattle.fcp_template.specs.declared.tag.Tag.TheVariants.{Proprietary, PinStatus}
+use Rattle.fcp_template.specs.declared.tag.Tag.TheVariants.{DataBytes, LifeCycleStatus, CompactRule}
 use Rattle.fcp_template.specs.declared.fcp.ShortIdentifier.{ShortIdentifier}
 use Rattle.fcp_template.specs.declared.fcp.ShortIdentifier.TheVariants.{Absent, Empty, Given}
 use Rattle.fcp_template.specs.declared.fcp.Records.{Records}
@@ -19,7 +18,7 @@ use Rattle.fcp_template.specs.declared.descriptor.Structure.TheVariants.{Linear,
 use Rattle.fcp_template.specs.declared.descriptor.Descriptor.{Descriptor}
 use Rattle.fcp_template.specs.declared.descriptor.Descriptor.TheVariants as descriptors
 
--- the tags of the table
+-- the tags that are read or told
 abbrev pub tag_byte : Tag → ℕ
 tag_byte FileDescriptor = 0x82
 tag_byte FileIdentifier = 0x83
@@ -28,11 +27,8 @@ tag_byte ShortFileIdentifier = 0x88
 tag_byte DataBytes = 0x80
 tag_byte LifeCycleStatus = 0x8A
 tag_byte CompactRule = 0x8C
--- any value of these three has no effect
-tag_byte TotalBytes = 0x81
-tag_byte Proprietary = 0xA5
-tag_byte PinStatus = 0xC6
 
+-- the tags of the table: any value of 81, A5 and C6 has no effect
 abbrev pub tags : List ℕ
 tags = 0x80 ∷ 0x81 ∷ 0x82 ∷ 0x83 ∷ 0x84 ∷ 0x88 ∷ 0x8A ∷ 0x8C ∷ 0xA5 ∷ 0xC6 ∷ []
 

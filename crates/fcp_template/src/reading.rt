@@ -17,7 +17,7 @@ use crate::descriptor::{DF, Descriptor, SHAREABLE_DF, Structure};
 use crate::fault::FcpFault;
 use crate::fcp::{DfName, Fcp, FileKind, Records, ShortIdentifier};
 use crate::object::{Object, objects_of};
-use crate::tag::Tag;
+use crate::tag::{Tag, is_tag};
 use card_rules::identifiers::{CURRENT_FILE, MASTER_FILE, RESERVED};
 use card_rules::limits::{MOST_BYTES, MOST_RECORD_BYTES, MOST_RECORDS, MOST_SHORT};
 use card_rules::{Compact, LifeCycle};
@@ -127,7 +127,7 @@ fn comes_again(objects: &[Object<'_>], object: &Object<'_>) -> bool
 fn is_known(object: &Object<'_>) -> bool
     ensures { result ≡ is_tag object.now.tag }
 {
-    Tag::from_byte(object.tag()).is_some()
+    is_tag(object.tag())
 }
 
 /// Whether an object has another tag.

@@ -1,24 +1,27 @@
-use Rattle.std.proofs.Common.{◌≡◌, ◌∙◌, ℕ, List, [], subst, take, drop}
+use Rattle.std.proofs.Common.{◌≡◌, ℕ, List, [], OnOk, arith, subst}
 use Rattle.std.proofs.lemmas.Result.{on_ok_weaker}
 use Rattle.undo_journal.specs.Memory.{committed}
-use Rattle.block_chain.specs.Chains.{chain_bytes}
 use Rattle.block_chain.specs.Changes.{AppendsSome}
 use Rattle.ef_body.proofs.Becoming.{record_at}
+use Rattle.ef_body.proofs.Bytes.{all_appended, length-emptied, some_appended}
 use Rattle.ef_body.proofs.slot.RecordSlot.read.Goals as goal
+
+pub read_bytes-requires-clause-room : goal.read_bytes-requires-clause-room
+read_bytes-requires-clause-room g c = omega (arith, length-emptied _ c.clear.ensures, c.requires.room)
 
 pub returns-clause-bytes : goal.returns-clause-bytes
 returns-clause-bytes g c =
     let m = committed c.args.store.now in
     let slot = c.args.self in
-    on_ok_weaker c.read_anew.result (λ
-    (done : c.read_anew.new.bytes.items ≡ take slot.ring.record_length
-    (drop c.offset_of-offset.result (chain_bytes m slot.ring.chain))).
-    done ∙ record_at m slot.ring slot.number c.requires.body slot.from_first slot.to_last c.slot_of.result _
-    c.slot_of.ensures.slot c.offset_of-offset.ensures) c.read_anew.ensures.bytes
+    subst (λ (l : List ℕ). OnOk c.read_bytes.result (c.read_bytes.new.out.items ≡ l))
+    (record_at m slot.ring slot.number c.requires.body slot.from_first slot.to_last c.slot_of.result _
+    c.slot_of.ensures.slot c.offset_of-offset.ensures)
+    (on_ok_weaker c.read_bytes.result (all_appended _ _ _ c.clear.ensures) c.read_bytes.ensures.done)
 
 pub returns-clause-any_exit : goal.returns-clause-any_exit
 returns-clause-any_exit g c =
     let slot = c.args.self in
-    subst (λ (l : List ℕ). AppendsSome [] l c.read_anew.new.bytes.items)
+    subst (λ (l : List ℕ). AppendsSome [] l c.read_bytes.new.out.items)
     (record_at (committed c.args.store.now) slot.ring slot.number c.requires.body slot.from_first slot.to_last
-    c.slot_of.result _ c.slot_of.ensures.slot c.offset_of-offset.ensures) c.read_anew.ensures.any_exit
+    c.slot_of.result _ c.slot_of.ensures.slot c.offset_of-offset.ensures)
+    (some_appended _ _ _ c.clear.ensures c.read_bytes.ensures.any_exit)

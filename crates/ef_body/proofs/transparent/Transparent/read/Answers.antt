@@ -3,6 +3,8 @@ use Rattle.undo_journal.specs.Calls.{Reads}
 use Rattle.undo_journal.specs.Memory.{committed}
 use Rattle.block_chain.specs.Changes.{AppendsSome}
 use Rattle.ef_body.specs.Bodies.{transparent_bytes}
+use Rattle.std.proofs.lemmas.Result.{on_ok_weaker}
+use Rattle.ef_body.proofs.Bytes.{all_appended, length-emptied, some_appended}
 use Rattle.ef_body.proofs.Bytes.{length-transparent, inside, offset_past, offset_inside, taken_within}
 use Rattle.ef_body.proofs.Refusing.{store_decides, store_done, store_refuses, store_told}
 use Rattle.undo_journal.specs.laws.Told.{reads_none}
@@ -15,8 +17,8 @@ returns-then-ends_at-clause-refusal g c =
     (length-transparent m c.args.self c.requires.ready.usable.committed_size c.requires.body) c.ends_at.ensures
     c.if-ends_at.true
 
-pub read_anew-requires : goal.read_anew-requires
-read_anew-requires g c =
+pub read_bytes-requires : goal.read_bytes-requires
+read_bytes-requires g c =
     let m = committed c.args.store.now in
     let low = inside (transparent_bytes m c.args.self) c.args.self.size c.args.offset c.ends_at.result
     (length-transparent m c.args.self c.requires.ready.usable.committed_size c.requires.body) c.ends_at.ensures
@@ -32,10 +34,7 @@ read_anew-requires g c =
             omega (arith, low, is, fits),
             (
               (let size = c.requires.body.size in omega (arith, low, is, size)),
-              (
-                omega (arith, is, c.requires.room),
-                c.clear.ensures,
-              ),
+              omega (arith, is, length-emptied _ c.clear.ensures, c.requires.room),
             ),
           ),
         ),
@@ -51,10 +50,10 @@ returns-clause-any_exit g c =
     let low = inside (transparent_bytes m c.args.self) c.args.self.size c.args.offset c.ends_at.result
     (length-transparent m c.args.self c.requires.ready.usable.committed_size c.requires.body) c.ends_at.ensures
     c.if-ends_at.false in
-    subst (λ (l : List ℕ). AppendsSome [] l c.read_anew.new.bytes.items)
+    subst (λ (l : List ℕ). AppendsSome [] l c.read_bytes.new.out.items)
     (taken_within m c.args.self c.requires.ready.usable.committed_size c.requires.body c.args.offset c.args.most
     c.smaller-count.result low c.smaller-count.ensures)
-    c.read_anew.ensures.any_exit
+    (some_appended _ _ _ c.clear.ensures c.read_bytes.ensures.any_exit)
 
 pub returns-clause-bytes : goal.returns-clause-bytes
 returns-clause-bytes g c =
@@ -62,26 +61,27 @@ returns-clause-bytes g c =
     let low = inside (transparent_bytes m c.args.self) c.args.self.size c.args.offset c.ends_at.result
     (length-transparent m c.args.self c.requires.ready.usable.committed_size c.requires.body) c.ends_at.ensures
     c.if-ends_at.false in
-    store_done c.read_anew.result c.from_store.result c.from_store.ensures _
-    (subst (λ (l : List ℕ). OnOk c.read_anew.result (c.read_anew.new.bytes.items ≡ l))
+    store_done c.read_bytes.result c.from_store.result c.from_store.ensures _
+    (subst (λ (l : List ℕ). OnOk c.read_bytes.result (c.read_bytes.new.out.items ≡ l))
     (taken_within m c.args.self c.requires.ready.usable.committed_size c.requires.body c.args.offset c.args.most
-    c.smaller-count.result low c.smaller-count.ensures) c.read_anew.ensures.bytes)
+    c.smaller-count.result low c.smaller-count.ensures)
+    (on_ok_weaker c.read_bytes.result (all_appended _ _ _ c.clear.ensures) c.read_bytes.ensures.done))
 
 pub returns-clause-refusal : goal.returns-clause-refusal
 returns-clause-refusal g c =
     let m = committed c.args.store.now in
-    store_decides c.read_anew.result c.from_store.result c.from_store.ensures _
+    store_decides c.read_bytes.result c.from_store.result c.from_store.ensures _
     (offset_inside (transparent_bytes m c.args.self) c.args.self.size c.args.offset c.ends_at.result
     (length-transparent m c.args.self c.requires.ready.usable.committed_size c.requires.body) c.ends_at.ensures
     c.if-ends_at.false)
 
 pub returns-clause-refused : goal.returns-clause-refused
-returns-clause-refused g c = store_refuses c.read_anew.result c.from_store.result c.from_store.ensures _
+returns-clause-refused g c = store_refuses c.read_bytes.result c.from_store.result c.from_store.ensures _
 
 pub returns-clause-store : goal.returns-clause-store
 returns-clause-store g c =
-    store_told c.read_anew.result c.from_store.result c.from_store.ensures
-    (Reads c.args.store.now c.read_anew.new.store) c.read_anew.ensures.store
+    store_told c.read_bytes.result c.from_store.result c.from_store.ensures
+    (Reads c.args.store.now c.read_bytes.new.store) c.read_bytes.ensures.store
 
 pub returns-then-ends_at-clause-store : goal.returns-then-ends_at-clause-store
 returns-then-ends_at-clause-store g c = reads_none _ c.requires.ready
