@@ -63,10 +63,14 @@ fn search(places: &[Place], key: Key, steps: &mut Steps) -> Result<usize, usize>
 fn is_behind(places: &[Place], key: Key) -> bool
     ensures { AreSorted places.now → IsTrue result → All (λ place. IsBefore place.key key) places.now }
 {
+    let end = places.len();
+    if end == 0 {
+        return false;
+    }
     let mut steps = Steps::new();
-    match places.last() {
-        Some(last) => matches!(steps.compare(last.key, key), Ordering::Less),
-        None => false,
+    match steps.compare(places[end - 1].key, key) {
+        Ordering::Less => true,
+        Ordering::Equal | Ordering::Greater => false,
     }
 }
 
@@ -113,8 +117,8 @@ fn places_outside(places: &[Place], top: u8) -> PlaceList
 impl Index {
     /// The index of a table of entries, or None where two children of one dedicated file have one identifier.
     pub(crate) fn of(entries: &[Entry]) -> Option<Index>
-        requires size { length entries.now ≡ 64 }
-        ensures index { TellsIndex entries.now result }
+        requires { length entries.now ≡ 64 }
+        ensures { TellsIndex entries.now result }
     {
         let mut index = Index {
             places: PlaceList::new(),

@@ -7,7 +7,7 @@ use Rattle.std.specs.List.{IsDistinct, list_any}
 use Rattle.std.proofs.Common.{refl, sym, ◌∙◌, ap, ap₂, subst, arith, inl, inr, ⊎_elim, true≢false, length-take, get_or-take, get_or-drop, length-drop}
 use Rattle.std.proofs.lemmas.Bool.{cases_lt}
 use Rattle.std.proofs.lemmas.Bool.Decides.{eqb_tells}
-use Rattle.std.proofs.lemmas.List.{take-append-drop, get_or_default, length-append, length-map, nil_from_length}
+use Rattle.std.proofs.lemmas.List.{take-append-drop, append-nil, get_or_default, length-append, length-map, nil_from_length}
 use Rattle.std.proofs.lemmas.List.Elements.{All-nil, All-cons, All-head, All-tail, All-append, All-map, recursion_from_All}
 use Rattle.std.proofs.lemmas.List.Elements.{Contains-append_cases, Contains-append_left, Contains-append_right}
 use Rattle.std.proofs.lemmas.Map.Steps.{length-le_from_distinct_below}
@@ -19,7 +19,7 @@ use Rattle.file_tree.specs.declared.index.Index.{Index}
 use Rattle.file_tree.specs.Keys.{key_for, IsBefore}
 use Rattle.file_tree.specs.Table.{table, entry_in, IsUsed, IsTable, HaveIdentifiers}
 use Rattle.file_tree.specs.Indexes.{place_of, IsPlace, AreSorted, IsIndex, IsFreeIn, AddsEntry, TellsChild}
-use Rattle.file_tree.specs.IndexParts.{key_at, AreBefore, AreBehind, TellsSearch, halved, Puts, ArePlacesTo, parent_by, leads_by}
+use Rattle.file_tree.specs.IndexParts.{key_at, AreBefore, AreBehind, TellsSearch, TellsPut, halved, Puts, ArePlacesTo, parent_by, leads_by}
 use Rattle.file_tree.specs.laws.Tables.{entry_past}
 use Rattle.file_tree.specs.laws.Alikes.{used_within}
 
@@ -165,6 +165,12 @@ all_before places key last d within most up is = λ k e lt.
 pub found_key : (places : List Place) (key : Key) (at : ℕ) (d : Place) → at < length places → key_at places at d ≡ key
     → All (λ p. p.key ≢ key) places → ⊥
 found_key places key at d within is apart = apart at d within is
+
+-- where no place has its key, a place was put
+pub put_apart : (old : List Place) (place : Place) (new : List Place) (b : Bool) → All (λ p. p.key ≢ place.key) old
+    → TellsPut old place new b → Puts old place new
+put_apart old place new true apart puts = puts
+put_apart old place new false apart taken = absurd (taken apart)
 
 all_parts : (P : Place → Type 0) (xs ys : List Place) → All P (xs ++ ys) → All P xs × All P ys
 all_parts P [] ys all = (All-nil P, all)
