@@ -83,6 +83,13 @@ fn are_alike(e: usize, one: &Entry, other: &Entry) -> bool
     siblings || bear_one_name(one, other)
 }
 
+/// Whether an entry's file has neither a short identifier nor a name.
+fn has_identifier_alone(entry: &Entry) -> bool
+    ensures { IsTrue result ↔ ((entry.now.short ≡ 0) × (entry.now.name_length ≡ 0)) }
+{
+    entry.short == 0 && entry.name_length == 0
+}
+
 /// Whether no used entry behind this one is like it. A file without a short identifier and without a name is like none,
 /// so that the others are not looked at.
 fn is_alone(entries: &[Entry], e: usize) -> bool
@@ -90,7 +97,7 @@ fn is_alone(entries: &[Entry], e: usize) -> bool
     ensures { IsTrue result ↔ IsAlone entries.now e }
 {
     let one = entries[e];
-    if one.short == 0 && one.name_length == 0 {
+    if has_identifier_alone(&one) {
         return true;
     }
     for f in e + 1..entries.len() {
