@@ -20,14 +20,18 @@ pub(crate) fn parent_of(entries: &[Entry], e: u8) -> u8
     }
 }
 
-/// The entry that so many steps to parents lead to; the master file is its own parent.
+/// The entry that so many steps to parents lead to. The master file is its own parent, so no step leads on from there.
 #[tactic(auto, using(crate::specs::laws::Levels::levels))]
 pub(crate) fn ancestor(entries: &[Entry], steps: u8, e: u8) -> u8
     ensures { result ≡ ancestor entries.now steps e }
 {
     let mut at = e;
     for _step in 0..steps {
-        at = parent_of(entries, at);
+        let parent = parent_of(entries, at);
+        if parent == at {
+            return at;
+        }
+        at = parent;
     }
     at
 }
