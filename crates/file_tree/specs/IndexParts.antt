@@ -1,12 +1,13 @@
 -- What single steps of a search and of a change of an index find. No public clause names these.
-use Rattle.std.specs.Prelude.{◌≡◌, ◌==◌, ◌<◌, ◌≤◌, ◌/◌, ◌||◌, ◌++◌, ℕ, zero, suc, Bool, not, if◌then◌else◌, List, [], ◌∷◌}
-use Rattle.std.specs.Prelude.{All, Contains, length, slice_index_or, Result, Ok, Err}
+use Rattle.std.specs.Prelude.{◌≡◌, ◌≢◌, ◌==◌, ◌<◌, ◌≤◌, ◌/◌, ◌||◌, ◌++◌, ℕ, zero, suc, Bool, true, false, not, if◌then◌else◌, List, [], ◌∷◌}
+use Rattle.std.specs.Prelude.{All, Contains, length, slice_index_or, Option, None, Some, Result, Ok, Err}
 use Rattle.file_tree.specs.declared.entry.Entry.{Entry}
 use Rattle.file_tree.specs.declared.steps.Key.{Key}
 use Rattle.file_tree.specs.declared.index.Place.{Place}
+use Rattle.file_tree.specs.declared.index.Index.{Index}
 use Rattle.file_tree.specs.Keys.{IsBefore}
-use Rattle.file_tree.specs.Table.{IsUsed}
-use Rattle.file_tree.specs.Indexes.{AreSorted, IsPlace, place_of}
+use Rattle.file_tree.specs.Table.{IsUsed, HaveIdentifiers}
+use Rattle.file_tree.specs.Indexes.{AreSorted, IsPlace, IsIndex, place_of}
 
 -- the key of the place with a number
 abbrev pub key_at : List Place → ℕ → Place → Key
@@ -37,6 +38,16 @@ pub record Puts (old : List Place) (place : Place) (new : List Place) : Type 0 w
   pub new_is : new ≡ front ++ place ∷ back
   pub before : All (λ p. IsBefore p.key place.key) front
   pub behind : All (λ p. IsBefore place.key p.key) back
+
+-- a place was put, or else one has its key
+abbrev pub TellsPut : List Place → Place → List Place → Bool → Type 0
+TellsPut old place new true = Puts old place new
+TellsPut old place new false = All (λ p. p.key ≢ place.key) old → ⊥
+
+-- the index of a table of entries, or None where two children of one dedicated file have one identifier
+abbrev pub TellsIndex : List Entry → Option Index → Type 0
+TellsIndex t None = HaveIdentifiers t → ⊥
+TellsIndex t (Some index) = HaveIdentifiers t × IsIndex t index
 
 -- The places of the files of the entries 1 to before a number, by ascending keys.
 pub record ArePlacesTo (t : List Entry) (end : ℕ) (places : List Place) : Type 0 where

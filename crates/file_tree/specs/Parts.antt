@@ -11,12 +11,10 @@ use Rattle.file_tree.specs.Table.{entry_in, IsUsed, IsBelowMaster, IsChild}
 abbrev pub BearOneName : Entry → Entry → Type 0
 BearOneName one other = (0 < length (name_of one)) × (name_of one ≡ name_of other)
 
--- an entry of this number cannot stand beside another
+-- by its short identifier or its name an entry of this number cannot stand beside another
 abbrev pub Alike : ℕ → Entry → Entry → Type 0
 Alike e one other =
-    ((0 < e) × (one.parent ≡ other.parent)
-    × ((one.identifier ≡ other.identifier) ⊎ ((one.short ≢ 0) × (one.short ≡ other.short))))
-    ⊎ BearOneName one other
+    ((0 < e) × (one.parent ≡ other.parent) × (one.short ≢ 0) × (one.short ≡ other.short)) ⊎ BearOneName one other
 
 -- no used entry behind this one is like it
 abbrev pub IsAlone : List Entry → ℕ → Type 0

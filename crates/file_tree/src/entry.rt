@@ -236,13 +236,11 @@ fn low(word: u32) -> u16
     (word % 0x1_0000) as u16
 }
 
-/// The bytes of two words.
+/// The bytes of two words, as those of one number: so they are put in one piece where they are stored.
 fn two_words(first: u32, second: u32) -> [u8; 8]
     ensures { result ≡ word_bytes first ++ word_bytes second }
 {
-    let a = first.to_be_bytes();
-    let b = second.to_be_bytes();
-    [a[0], a[1], a[2], a[3], b[0], b[1], b[2], b[3]]
+    (u64::from(first) * 0x1_0000_0000 + u64::from(second)).to_be_bytes()
 }
 
 /// The bytes of four words.

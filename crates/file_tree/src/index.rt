@@ -1,13 +1,14 @@
 //! Where each file is by its parent and identifier, held in working memory, so that no store is read to find it.
 
-ghost use Rattle.std.specs.Prelude.{◌≡◌, ◌≢◌, ◌<◌, ◌≤◌, ℕ, List, All, length, filter, option_map};
+ghost use Rattle.std.specs.Prelude.{◌≡◌, ◌<◌, ◌≤◌, ℕ, List, All, IsTrue, length, filter, option_map};
 ghost use Rattle.std.specs.List.Sorted.{IsSearchInRange};
 ghost use Rattle.file_tree.specs.declared.entry.Entry.{Entry};
-ghost use Rattle.file_tree.specs.Table.{table, entry_in, path_of, HaveIdentifiers, IsUsed, IsTable};
+ghost use Rattle.file_tree.specs.Keys.{IsBefore};
+ghost use Rattle.file_tree.specs.Table.{table, entry_in, path_of, IsUsed, IsTable};
 ghost use Rattle.file_tree.specs.Trees.{tree_of, TreeStands};
 ghost use Rattle.file_tree.specs.Changes.{Deletes};
 ghost use Rattle.file_tree.specs.Indexes.{AreSorted, IsIndex, IsFreeIn, AddsEntry, TellsChild, child_by_identifier};
-ghost use Rattle.file_tree.specs.IndexParts.{TellsSearch, Puts, parent_by, leads_by, is_outside};
+ghost use Rattle.file_tree.specs.IndexParts.{TellsSearch, TellsPut, TellsIndex, parent_by, leads_by, is_outside};
 
 use crate::entry::Entry;
 use crate::layout::{DEEPEST, ENTRIES_END};
@@ -57,6 +58,21 @@ fn search(places: &[Place], key: Key, steps: &mut Steps) -> Result<usize, usize>
     Err(low)
 }
 
+/// Whether a key is behind those of all places, which ascend.
+fn is_behind(places: &[Place], key: Key) -> bool
+    ensures { AreSorted places.now → IsTrue result → All (λ place. IsBefore place.key key) places.now }
+{
+    let end = places.len();
+    if end == 0 {
+        return false;
+    }
+    let mut steps = Steps::new();
+    match steps.compare(places[end - 1].key, key) {
+        Ordering::Less => true,
+        Ordering::Equal | Ordering::Greater => false,
+    }
+}
+
 /// The entry of the parent of an entry's file; of the master file its own.
 fn parent_of(places: &[Place], entry: u8) -> u8
     ensures { result ≡ parent_by places.now entry }
@@ -98,11 +114,10 @@ fn places_outside(places: &[Place], top: u8) -> PlaceList
 }
 
 impl Index {
-    /// The index of a table of entries.
-    pub(crate) fn of(entries: &[Entry]) -> Index
-        requires size { length entries.now ≡ 64 }
-        requires apart { HaveIdentifiers entries.now }
-        ensures index { IsIndex entries.now result }
+    /// The index of a table of entries, or None where two children of one dedicated file have one identifier.
+    pub(crate) fn of(entries: &[Entry]) -> Option<Index>
+        requires { length entries.now ≡ 64 }
+        ensures { TellsIndex entries.now result }
     {
         let mut index = Index {
             places: PlaceList::new(),
@@ -110,13 +125,16 @@ impl Index {
         for e in 1..ENTRIES_END {
             let entry = entries[usize::from(e)];
             if entry.is_used() {
-                index.put(Place {
+                let place = Place {
                     key: Key::new(entry.parent, entry.identifier),
                     entry: e,
-                });
+                };
+                if !index.put(place) {
+                    return None;
+                }
             }
         }
-        index
+        Some(index)
     }
 
     /// The entry of the child of a dedicated file with an identifier, if it has one, and how many comparisons that took.
@@ -150,17 +168,24 @@ impl Index {
         parent_of(self.places.as_slice(), entry)
     }
 
-    /// Puts the place of one file more where its key belongs.
-    fn put(&mut self, place: Place)
+    /// Puts the place of one file more where its key belongs, if no place has that key, and answers whether none had. Files
+    /// are mostly made by ascending identifiers, so the end is tried first.
+    fn put(&mut self, place: Place) -> bool
         requires { length self.old.places.items < 63 }
-        ensures { AreSorted self.old.places.items → All (λ other. other.key ≢ place.key) self.old.places.items
-            → Puts self.old.places.items place self.new.places.items }
+        ensures { AreSorted self.old.places.items → TellsPut self.old.places.items place self.new.places.items result }
     {
+        if is_behind(self.places.as_slice(), place.key) {
+            self.places.push(place);
+            return true;
+        }
         let mut steps = Steps::new();
-        let at = match search(self.places.as_slice(), place.key, &mut steps) {
-            Ok(at) | Err(at) => at,
-        };
-        self.places.insert(at, place);
+        match search(self.places.as_slice(), place.key, &mut steps) {
+            Ok(_) => false,
+            Err(at) => {
+                self.places.insert(at, place);
+                true
+            }
+        }
     }
 
     /// The index once a file is created: the file of this entry, with this identifier in the dedicated file of its parent.

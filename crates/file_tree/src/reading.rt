@@ -23,7 +23,7 @@ fn read_words<B: Board>(store: &mut Store<B>, e: u8) -> Result<[u32; ENTRY_WORDS
     let first = entry_address(e);
     let mut words = [0; ENTRY_WORDS];
     for k in 0..ENTRY_WORDS {
-        words[k] = store.read(first + k as u16)?;
+        words[k] = store.read_committed(first + k as u16)?;
     }
     Ok(words)
 }
@@ -32,6 +32,7 @@ fn read_words<B: Board>(store: &mut Store<B>, e: u8) -> Result<[u32; ENTRY_WORDS
 ///
 /// # Errors
 /// What the store answers: power was lost, or the device failed.
+#[inline(never)]
 pub fn read_entry<B: Board>(store: &mut Store<B>, e: u8) -> Result<Entry, StoreErr>
     requires ready { IsReady store.old }
     requires within { e < 64 }

@@ -1,7 +1,7 @@
 //! The rules on the table of entries. They look at entries that were read; no store is touched.
 
 ghost use Rattle.std.specs.Prelude.{◌≡◌, ◌↔◌, ◌<◌, ◌≤◌, length, IsTrue};
-ghost use Rattle.file_tree.specs.Table.{entry_in, ancestor, extents, free_entries, IsMasterFile, IsBelowMaster, IsTable};
+ghost use Rattle.file_tree.specs.Table.{entry_in, ancestor, extents, free_entries, IsMasterFile, IsBelowMaster, HaveIdentifiers, IsTable};
 ghost use Rattle.file_tree.specs.Parts.{Alike, BearOneName, AreBelow, AreApart, IsAlone};
 
 use crate::entry::{Entry, ExtentList};
@@ -20,14 +20,18 @@ pub(crate) fn parent_of(entries: &[Entry], e: u8) -> u8
     }
 }
 
-/// The entry that so many steps to parents lead to; the master file is its own parent.
+/// The entry that so many steps to parents lead to. The master file is its own parent, so no step leads on from there.
 #[tactic(auto, using(crate::specs::laws::Levels::levels))]
 pub(crate) fn ancestor(entries: &[Entry], steps: u8, e: u8) -> u8
     ensures { result ≡ ancestor entries.now steps e }
 {
     let mut at = e;
     for _step in 0..steps {
-        at = parent_of(entries, at);
+        let parent = parent_of(entries, at);
+        if parent == at {
+            return at;
+        }
+        at = parent;
     }
     at
 }
@@ -73,23 +77,33 @@ fn bear_one_name(one: &Entry, other: &Entry) -> bool
     !one.name().is_empty() && one.name() == other.name()
 }
 
-/// Whether two used entries can't stand in one table: children of one dedicated file with one identifier, or one short
-/// identifier; or files with one name. `e` is the number of the first; the master file is no child.
+/// Whether two used entries can't stand in one table, though their identifiers may: children of one dedicated file with
+/// one short identifier, or files with one name. `e` is the number of the first; the master file is no child.
 fn are_alike(e: usize, one: &Entry, other: &Entry) -> bool
     ensures { IsTrue result ↔ Alike e one.now other.now }
 {
-    let same_identifier = one.identifier == other.identifier;
     let same_short = one.short != 0 && one.short == other.short;
-    let siblings = e > 0 && one.parent == other.parent && (same_identifier || same_short);
+    let siblings = e > 0 && one.parent == other.parent && same_short;
     siblings || bear_one_name(one, other)
 }
 
-/// Whether no used entry behind this one is like it.
+/// Whether an entry's file has neither a short identifier nor a name.
+fn has_identifier_alone(entry: &Entry) -> bool
+    ensures { IsTrue result ↔ ((entry.now.short ≡ 0) × (entry.now.name_length ≡ 0)) }
+{
+    entry.short == 0 && entry.name_length == 0
+}
+
+/// Whether no used entry behind this one is like it. A file without a short identifier and without a name is like none,
+/// so that the others are not looked at.
 fn is_alone(entries: &[Entry], e: usize) -> bool
     requires { e < length entries.now }
     ensures { IsTrue result ↔ IsAlone entries.now e }
 {
     let one = entries[e];
+    if has_identifier_alone(&one) {
+        return true;
+    }
     for f in e + 1..entries.len() {
         let other = entries[f];
         if other.is_used() && are_alike(e, &one, &other) {
@@ -111,9 +125,11 @@ fn are_apart(entries: &[Entry]) -> bool
     true
 }
 
-/// Whether entries hold to the rules that make a tree of them.
+/// Whether entries hold to the rules that make a tree of them, where no two children of one dedicated file have one
+/// identifier: the index of the entries tells that.
 pub(crate) fn is_table(entries: &[Entry]) -> bool
-    requires { length entries.now ≡ 64 }
+    requires size { length entries.now ≡ 64 }
+    requires apart { HaveIdentifiers entries.now }
     ensures { IsTrue result ↔ IsTable entries.now }
 {
     is_master_file(&entries[0])

@@ -39,13 +39,15 @@ pub fn survey_tree<B: Board>(store: &mut Store<B>) -> Result<Option<Survey>, Sto
 {
     let mut entries = Table::new();
     fill_table(store, &mut entries)?;
+    let Some(index) = Index::of(entries.as_slice()) else {
+        return Ok(None);
+    };
     if !is_table(entries.as_slice()) {
         return Ok(None);
     }
     let Some(free) = find_free(store, entries.as_slice())? else {
         return Ok(None);
     };
-    let index = Index::of(entries.as_slice());
     Ok(Some(Survey { free, index }))
 }
 

@@ -1,7 +1,7 @@
--- Entries that cannot stand in one table: children of one dedicated file with one identifier, or with one short
--- identifier, and files with one name. The rules on identifiers and names say that no two used entries are so.
+-- Entries that cannot stand in one table, whatever their identifiers: children of one dedicated file with one short
+-- identifier, and files with one name. The rules on short identifiers and names say that no two used entries are so.
 use Rattle.std.specs.Prelude.{◌≡◌, ◌≢◌, ◌<◌, ◌≤◌, ℕ, List, length, All}
-use Rattle.std.proofs.Common.{refl, sym, ◌∙◌, ap, subst, arith, inl, inr, ⊎_elim}
+use Rattle.std.proofs.Common.{refl, sym, ◌∙◌, ap, subst, arith, inl, inr, ⊎_elim, length-take}
 use Rattle.std.proofs.lemmas.Bool.{cases_lt}
 use Rattle.file_tree.specs.declared.entry.Entry.{Entry}
 use Rattle.file_tree.specs.Entries.{name_of}
@@ -35,16 +35,11 @@ alike_there e one other x y is also alike =
     subst with_one (sym is) (subst with_other (sym also) alike)
 
 module _ (t : List Entry) (apart : AreApart t) where
-  pub apart_identifiers : HaveIdentifiers t
-  apart_identifiers df e f one other same = same_number e f
-      (λ lt. apart e one.used f lt other.used (inl (one.below, one.parent ∙ sym other.parent, inl same)))
-      (λ lt. apart f other.used e lt one.used (inl (other.below, other.parent ∙ sym one.parent, inl (sym same))))
-
   pub apart_shorts : HaveShortIdentifiers t
   apart_shorts df e f one other some same = same_number e f
-      (λ lt. apart e one.used f lt other.used (inl (one.below, one.parent ∙ sym other.parent, inr (some, same))))
+      (λ lt. apart e one.used f lt other.used (inl (one.below, one.parent ∙ sym other.parent, some, same)))
       (λ lt. apart f other.used e lt one.used
-      (inl (other.below, other.parent ∙ sym one.parent, inr ((λ none. some (same ∙ none)), sym same))))
+      (inl (other.below, other.parent ∙ sym one.parent, (λ none. some (same ∙ none)), sym same)))
 
   pub apart_names : HaveNames t
   apart_names e f used other some same =
@@ -54,31 +49,35 @@ module _ (t : List Entry) (apart : AreApart t) where
       (λ lt. apart e used f lt other (inr (some, same)))
       (λ lt. apart f other e lt used (inr (omega (arith, some, size), sym same)))
 
--- the rules on identifiers and names leave no two alike
-pub rules_apart : (t : List Entry) → HaveIdentifiers t → HaveShortIdentifiers t → HaveNames t → AreApart t
-rules_apart t identifiers shorts names e used f lt other (inl siblings) =
+-- an entry without a short identifier and without a name is like none
+pub alike_none : (e : ℕ) (one other : Entry) → one.short ≡ 0 → one.name_length ≡ 0 → Alike e one other → ⊥
+alike_none e one other short name (inl siblings) = siblings.2 short
+alike_none e one other short name (inr named) =
+    let some = named.0 in
+    let most = length-take one.name_length one.name in
+    omega (arith, some, most, name)
+
+-- the rules on short identifiers and names leave no two alike
+pub rules_apart : (t : List Entry) → HaveShortIdentifiers t → HaveNames t → AreApart t
+rules_apart t shorts names e used f lt other (inl siblings) =
     let one : IsChild t (entry_in t e).parent e = record { below = siblings.0; used = used; parent = refl } in
     let two : IsChild t (entry_in t e).parent f =
     record { below = omega (arith, siblings.0, lt); used = other; parent = sym siblings.1 } in
-    ⊎_elim
-    (λ (same : (entry_in t e).identifier ≡ (entry_in t f).identifier).
-    let z = identifiers _ e f one two same in let no_such : ⊥ = omega (arith, z, lt) in no_such)
-    (λ (same : ((entry_in t e).short ≢ 0) × ((entry_in t e).short ≡ (entry_in t f).short)).
-    let z = shorts _ e f one two same.0 same.1 in let no_such : ⊥ = omega (arith, z, lt) in no_such)
-    siblings.2
-rules_apart t identifiers shorts names e used f lt other (inr named) =
+    let z = shorts _ e f one two siblings.2 siblings.3 in omega (arith, z, lt)
+rules_apart t shorts names e used f lt other (inr named) =
     let z = names e f used other named.0 named.1 in omega (arith, z, lt)
 
 -- the rules on the table, as the check goes over them
-pub table_of : (t : List Entry) → IsMasterFile (entry_in t 0) → All IsEntry t → AreBelow t → AreApart t → IsTable t
-table_of t master each below apart = record {
+pub table_of : (t : List Entry) → IsMasterFile (entry_in t 0) → All IsEntry t → AreBelow t → HaveIdentifiers t → AreApart t
+    → IsTable t
+table_of t master each below identifiers apart = record {
   each = each;
   master = master;
   below = below;
-  identifiers = apart_identifiers t apart;
+  identifiers = identifiers;
   short_identifiers = apart_shorts t apart;
   names = apart_names t apart;
 }
 
 pub table_apart : (t : List Entry) → IsTable t → AreApart t
-table_apart t rules = rules_apart t rules.identifiers rules.short_identifiers rules.names
+table_apart t rules = rules_apart t rules.short_identifiers rules.names

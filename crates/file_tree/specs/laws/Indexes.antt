@@ -7,7 +7,7 @@ use Rattle.std.specs.List.{IsDistinct, list_any}
 use Rattle.std.proofs.Common.{refl, sym, ◌∙◌, ap, ap₂, subst, arith, inl, inr, ⊎_elim, true≢false, length-take, get_or-take, get_or-drop, length-drop}
 use Rattle.std.proofs.lemmas.Bool.{cases_lt}
 use Rattle.std.proofs.lemmas.Bool.Decides.{eqb_tells}
-use Rattle.std.proofs.lemmas.List.{take-append-drop, get_or_default, length-append, length-map, nil_from_length}
+use Rattle.std.proofs.lemmas.List.{take-append-drop, append-nil, get_or_default, length-append, length-map, nil_from_length}
 use Rattle.std.proofs.lemmas.List.Elements.{All-nil, All-cons, All-head, All-tail, All-append, All-map, recursion_from_All}
 use Rattle.std.proofs.lemmas.List.Elements.{Contains-append_cases, Contains-append_left, Contains-append_right}
 use Rattle.std.proofs.lemmas.Map.Steps.{length-le_from_distinct_below}
@@ -19,7 +19,7 @@ use Rattle.file_tree.specs.declared.index.Index.{Index}
 use Rattle.file_tree.specs.Keys.{key_for, IsBefore}
 use Rattle.file_tree.specs.Table.{table, entry_in, IsUsed, IsTable, HaveIdentifiers}
 use Rattle.file_tree.specs.Indexes.{place_of, IsPlace, AreSorted, IsIndex, IsFreeIn, AddsEntry, TellsChild}
-use Rattle.file_tree.specs.IndexParts.{key_at, AreBefore, AreBehind, TellsSearch, halved, Puts, ArePlacesTo, parent_by, leads_by}
+use Rattle.file_tree.specs.IndexParts.{key_at, AreBefore, AreBehind, TellsSearch, TellsPut, halved, Puts, ArePlacesTo, parent_by, leads_by}
 use Rattle.file_tree.specs.laws.Tables.{entry_past}
 use Rattle.file_tree.specs.laws.Alikes.{used_within}
 
@@ -143,19 +143,34 @@ puts_there places place at within before behind =
           subst family (sym (get_or-drop at places k d)) (behind (at + k) d (omega arith) below);
     }
 
--- a search for a key that no place has tells where it would stand
-pub puts_found : (places : List Place) (place : Place) (at : ℕ) (r : Result ℕ ℕ) → IsSearchInRange r (length places)
-    → (AreSorted places → TellsSearch places place.key r) → (r ≡ Ok at) ⊎ (r ≡ Err at)
-    → AreSorted places → All (λ p. p.key ≢ place.key) places → Puts places place (insert places at place)
-puts_found places place at r within told is up apart =
-    let range : Result ℕ ℕ → Type 0 = λ s. IsSearchInRange s (length places) in
-    let tells : Result ℕ ℕ → Type 0 = λ s. TellsSearch places place.key s in
-    ⊎_elim
-    (λ (ok : r ≡ Ok at). absurd (apart at place (subst range ok within) (subst tells ok (told up) place)))
-    (λ (err : r ≡ Err at).
-    let there = subst tells err (told up) in
-    puts_there places place at (subst range err within) there.0 there.1)
-    is
+-- a place is put behind all others
+pub puts_behind : (places : List Place) (place : Place) → All (λ p. IsBefore p.key place.key) places
+    → Puts places place (places ++ place ∷ [])
+puts_behind places place all = record {
+  front = places;
+  back = [];
+  old_is = sym (append-nil places);
+  new_is = refl;
+  before = all;
+  behind = All-nil (λ p. IsBefore place.key p.key);
+}
+
+-- where the last key is before one, all are
+pub all_before : (places : List Place) (key : Key) (last : ℕ) (d : Place) → last < length places → length places ≤ last + 1
+    → AreSorted places → IsBefore (key_at places last d) key → All (λ p. IsBefore p.key key) places
+all_before places key last d within most up is = λ k e lt.
+    search_up places key last within up d is k e (omega (arith, lt, most))
+
+-- a key that was found is not apart from all
+pub found_key : (places : List Place) (key : Key) (at : ℕ) (d : Place) → at < length places → key_at places at d ≡ key
+    → All (λ p. p.key ≢ key) places → ⊥
+found_key places key at d within is apart = apart at d within is
+
+-- where no place has its key, a place was put
+pub put_apart : (old : List Place) (place : Place) (new : List Place) (b : Bool) → All (λ p. p.key ≢ place.key) old
+    → TellsPut old place new b → Puts old place new
+put_apart old place new true apart puts = puts
+put_apart old place new false apart taken = absurd (taken apart)
 
 all_parts : (P : Place → Type 0) (xs ys : List Place) → All P (xs ++ ys) → All P xs × All P ys
 all_parts P [] ys all = (All-nil P, all)
@@ -267,15 +282,47 @@ module _ (t : List Entry) (e : ℕ) (places : List Place) (so_far : ArePlacesTo 
     sorted = sorted_put places (place_of t e) new puts so_far.sorted;
   }
 
-pub places_stored : (t : List Entry) (e : ℕ) (places new : List Place) (place : Place) → ArePlacesTo t e places → HaveIdentifiers t → 0 < e
-    → IsUsed t e → place ≡ place_of t e → length places < e
-    → (AreSorted places → All (λ p. p.key ≢ place.key) places → Puts places place new)
+pub places_stored : (t : List Entry) (e : ℕ) (places new : List Place) (place : Place) → ArePlacesTo t e places → 0 < e
+    → IsUsed t e → place ≡ place_of t e → length places < e → Puts places place new
     → (length new < e + 1) × ArePlacesTo t (e + 1) new
-places_stored t e places new place so_far apart below used own small put =
-    let family : Place → Type 0 = λ p. AreSorted places → All (λ q. q.key ≢ p.key) places → Puts places p new in
-    let puts = subst family own put so_far.sorted (new_key t e places so_far apart below used) in
+places_stored t e places new place so_far below used own small put =
+    let family : Place → Type 0 = λ p. Puts places p new in
+    let puts = subst family own put in
     let long = length_put places (place_of t e) new puts in
     (omega (arith, long, small), places_put t e places so_far new below used puts)
+
+-- a place whose key another one has is that of a file whose identifier another child has
+pub places_taken : (t : List Entry) (e : ℕ) (places : List Place) (place : Place) → ArePlacesTo t e places → 0 < e → IsUsed t e
+    → place ≡ place_of t e → (All (λ p. p.key ≢ place.key) places → ⊥) → HaveIdentifiers t → ⊥
+places_taken t e places place so_far below used own taken apart =
+    let family : Place → Type 0 = λ p. All (λ q. q.key ≢ p.key) places → ⊥ in
+    subst family own taken (new_key t e places so_far apart below used)
+
+-- of places by ascending keys, those with one key are one
+one_place : (places : List Place) (i j : ℕ) (d : Place) → AreSorted places → i < length places → j < length places
+    → key_at places i d ≡ key_at places j d → i ≡ j
+one_place places i j d up within also same = ⊎_elim
+    (λ (lt : i < j). absurd (never_before_itself _ _ same (sorted_at places i j d up lt also)))
+    (λ (ge : j ≤ i). ⊎_elim
+    (λ (lt : j < i). absurd (never_before_itself _ _ (sym same) (sorted_at places j i d up lt within)))
+    (λ (le : i ≤ j). let z : i ≡ j = omega (arith, ge, le) in z)
+    (cases_lt j i))
+    (cases_lt i j)
+
+-- where each file has a place, children of one dedicated file have identifiers of their own
+pub places_apart : (t : List Entry) (places : List Place) (end : ℕ) → length t ≤ end → ArePlacesTo t end places → HaveIdentifiers t
+places_apart t places end most all df e f one other same =
+    let d = place_of t e in
+    let within = used_within t e one.used in
+    let also = used_within t f other.used in
+    let here = all.all e one.below (omega (arith, within, most)) one.used in
+    let there = all.all f other.below (omega (arith, also, most)) other.used in
+    let keys : key_for (entry_in t e).parent (entry_in t e).identifier ≡ key_for (entry_in t f).parent (entry_in t f).identifier =
+    ap₂ (λ (a b : ℕ). key_for a b) (one.parent ∙ sym other.parent) same in
+    let at : slice_index_or places there.0 d ≡ place_of t f = get_or_default places there.0 d (place_of t f) there.1 ∙ there.2 in
+    let is = one_place places here.0 there.0 d all.sorted here.1 there.1
+    (ap (λ (p : Place). p.key) here.2 ∙ keys ∙ sym (ap (λ (p : Place). p.key) at)) in
+    ap (λ (p : Place). p.entry) (sym here.2 ∙ ap (λ (k : ℕ). slice_index_or places k d) is ∙ at)
 
 pub places_whole : (t : List Entry) (index : Index) (end : ℕ) → length t ≤ end → ArePlacesTo t end index.places.items → IsIndex t index
 places_whole t index end most all = record {

@@ -1,6 +1,6 @@
 -- Steps from children to parents, one by one.
 use Rattle.std.specs.Prelude.{◌≡◌, ◌+◌, ℕ, zero, suc, List}
-use Rattle.std.proofs.Common.{refl, ap, arith}
+use Rattle.std.proofs.Common.{refl, ap, ◌∙◌, arith}
 use Rattle.file_tree.specs.declared.entry.Entry.{Entry}
 use Rattle.file_tree.specs.Table.{entry_in, ancestor}
 
@@ -22,5 +22,11 @@ pub ancestor-more : (t : List Entry) (n e : ℕ) → ancestor t (suc n) e ≡ (e
 unfolding ancestor
 ancestor-more t zero e = refl
 ancestor-more t (suc n) e = ancestor-more t n (entry_in t e).parent
+
+-- from an entry that is its own parent no step leads on
+pub ancestor-fixed : (t : List Entry) (n e : ℕ) → (entry_in t e).parent ≡ e → ancestor t n e ≡ e
+unfolding ancestor
+ancestor-fixed t zero e own = refl
+ancestor-fixed t (suc n) e own = ap (λ (f : ℕ). ancestor t n f) own ∙ ancestor-fixed t n e own
 
 pub ruleset levels = (ancestor-none, ancestor-step)

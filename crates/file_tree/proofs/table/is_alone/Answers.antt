@@ -1,11 +1,19 @@
 use Rattle.std.proofs.Common.{refl, sym, ◌∙◌, ap, arith, below_more, true≢false}
 use Rattle.file_tree.specs.declared.entry.Entry.{Entry}
-use Rattle.file_tree.specs.laws.Alikes.{alike_there, used_within}
+use Rattle.file_tree.specs.laws.Alikes.{alike_there, alike_none, used_within}
 use Rattle.file_tree.specs.laws.Kinds.{kind_of_unused}
 use Rattle.file_tree.specs.laws.Tables.{entry_within}
 use Rattle.file_tree.proofs.table.is_alone.Goals as goal
 use Rattle.file_tree.proofs.table.is_alone.Goals.{else-is_used-via-then-is_used+else-are_alike}
 use Rattle.file_tree.proofs.table.is_alone.Goals.{else-is_used-via-else-is_used}
+
+pub returns-then-has_identifier_alone : goal.returns-then-has_identifier_alone
+returns-then-has_identifier_alone c =
+    let one = entry_within c.args.entries.now c.args.e _ c.requires in
+    let neither = c.has_identifier_alone.ensures.0 c.if-has_identifier_alone.true in (
+      λ is f lt used alike. alike_none _ _ _ neither.0 neither.1 (alike_there _ _ _ _ _ one refl alike),
+      λ alone. refl,
+    )
 
 pub loop-f-init : goal.loop-f-init
 loop-f-init c = λ f below above used alike. let z : ⊥ = omega (arith, above, below) in z

@@ -11,7 +11,8 @@ returns-then-are_below_master c = elim c.if-are_entries.branch [
   | then-are_entries lower ↦ elim c.if-is_master_file.branch [
     | then-is_master_file each ↦
         let t = c.args.entries.now in
-        let some : 0 < length t = omega (arith, c.requires) in
+        let size = c.requires.size in
+        let some : 0 < length t = omega (arith, size) in
         let is_master : Entry → Type 0 = λ x. IsMasterFile x in
         let master : IsTrue c.is_master_file.result = search rules in
         let first = subst is_master (entry_within t 0 _ some) (c.is_master_file.ensures.0 master) in
@@ -19,7 +20,7 @@ returns-then-are_below_master c = elim c.if-are_entries.branch [
         let all = each.are_entries.ensures.0 here in
         let below : IsTrue lower.are_below_master.result = search rules in
         let stand = lower.are_below_master.ensures.0 below in
-        (λ yes. table_of t first all stand (c.are_apart.ensures.0 yes), λ stands. c.are_apart.ensures.1 (table_apart t stands))
+        (λ yes. table_of t first all stand c.requires.apart (c.are_apart.ensures.0 yes), λ stands. c.are_apart.ensures.1 (table_apart t stands))
     | else-is_master_file w ↦ search rules
   ]
   | else-are_entries w ↦ search rules

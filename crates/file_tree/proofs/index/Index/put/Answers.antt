@@ -1,27 +1,43 @@
-use Rattle.std.proofs.Common.{◌≡◌, ◌≢◌, ◌⊎◌, ℕ, List, sym, subst, Ok, Err}
+use Rattle.std.proofs.Common.{◌≢◌, List, sym, subst}
 use Rattle.std.specs.Prelude.{All, insert}
 use Rattle.file_tree.specs.declared.index.Place.{Place}
+use Rattle.file_tree.specs.Keys.{key_for, IsBefore}
 use Rattle.file_tree.specs.Indexes.{AreSorted}
 use Rattle.file_tree.specs.IndexParts.{Puts}
-use Rattle.file_tree.specs.laws.Indexes.{puts_found}
+use Rattle.file_tree.specs.laws.Indexes.{puts_behind, puts_there, found_key}
 use Rattle.file_tree.proofs.index.Index.put.Goals as goal
-use Rattle.file_tree.proofs.index.Index.put.Goals.{in-Ok, in-Ok-2}
 
-pub returns : goal.returns
-returns c = λ up apart.
-    let places = c.as_slice.result.now in
-    let at = c.match-search.at in
+-- what stands past the end
+abbrev no_place : Place
+no_place = record { key = key_for 0 0; entry = 0 }
+
+abbrev sorted : List Place → Type 0
+sorted ps = AreSorted ps
+
+pub returns-then-is_behind : goal.returns-then-is_behind
+returns-then-is_behind c = λ up.
+    let old = c.args.self.now.places.items in
     let same = c.as_slice.ensures.value in
-    let sorted : List Place → Type 0 = λ ps. AreSorted ps in
+    let before : List Place → Type 0 = λ ps. All (λ p. IsBefore p.key c.args.place.key) ps in
+    let all = subst before same (c.is_behind.ensures (subst sorted (sym same) up) c.if-is_behind.true) in
+    let after : List Place → Type 0 = λ ps. Puts old c.args.place ps in
+    subst after (sym c.push.ensures.items) (puts_behind old c.args.place all)
+
+pub returns-in-Ok : goal.returns-in-Ok
+returns-in-Ok c = λ up apart.
+    let places = c.as_slice-2.result.now in
+    let same = c.as_slice-2.ensures.value in
     let others : List Place → Type 0 = λ ps. All (λ p. p.key ≢ c.args.place.key) ps in
-    let told : (c.search.result ≡ Ok at) ⊎ (c.search.result ≡ Err at) =
-    (let family : ℕ → Type 0 = λ k. (c.search.result ≡ Ok k) ⊎ (c.search.result ≡ Err k) in
-    elim c.match-search.branch [
-      | in-Ok w ↦ subst family (sym w.at-is) w.in-Ok.is
-      | in-Ok-2 w ↦ subst family (sym w.at-is) w.in-Ok.is
-    ]) in
-    let puts = puts_found places c.args.place at c.search.result c.search.ensures.within c.search.ensures.found told
-    (subst sorted (sym same) up) (subst others (sym same) apart) in
-    let put : List Place → Type 0 = λ ps. Puts ps c.args.place (insert ps at c.args.place) in
-    let after : List Place → Type 0 = λ ps. Puts c.args.self.now.places.items c.args.place ps in
+    found_key places c.args.place.key c.in-Ok.field-0 no_place c.in-Ok.ensures.within
+    (c.in-Ok.ensures.found (subst sorted (sym same) up) no_place) (subst others (sym same) apart)
+
+pub returns-in-Err : goal.returns-in-Err
+returns-in-Err c = λ up.
+    let old = c.args.self.now.places.items in
+    let places = c.as_slice-2.result.now in
+    let same = c.as_slice-2.ensures.value in
+    let there = c.in-Err.ensures.found (subst sorted (sym same) up) in
+    let puts = puts_there places c.args.place c.in-Err.at c.in-Err.ensures.within there.0 there.1 in
+    let put : List Place → Type 0 = λ ps. Puts ps c.args.place (insert ps c.in-Err.at c.args.place) in
+    let after : List Place → Type 0 = λ ps. Puts old c.args.place ps in
     subst after (sym c.insert.ensures.items) (subst put same puts)

@@ -2,7 +2,7 @@ use Rattle.std.proofs.Common.{◌≢◌, sym, subst, ap}
 use Rattle.std.specs.Prelude.{All}
 use Rattle.file_tree.specs.declared.steps.Key.{Key}
 use Rattle.file_tree.specs.declared.index.Place.{Place}
-use Rattle.file_tree.specs.laws.Indexes.{room, adds_key, adds_place}
+use Rattle.file_tree.specs.laws.Indexes.{room, adds_key, adds_place, put_apart}
 use Rattle.file_tree.proofs.index.Index.with.Goals as goal
 
 pub put-requires : goal.put-requires
@@ -16,5 +16,6 @@ returns c = record {
       (adds_key t after c.args.self.now c.args.parent c.args.identifier c.args.entry rules adds is) in
       let place : Place = record { key = c.new.result; entry = c.args.entry } in
       adds_place t after c.args.self.now c.put.new.self c.args.parent c.args.identifier c.args.entry place adds is
-      (ap (λ (k : Key). record { key = k; entry = c.args.entry }) c.new.ensures) (c.put.ensures is.sorted apart);
+      (ap (λ (k : Key). record { key = k; entry = c.args.entry }) c.new.ensures)
+      (put_apart _ place _ c.put.result apart (c.put.ensures is.sorted));
 }
