@@ -1,4 +1,4 @@
-use Rattle.std.specs.Prelude.{◌≡◌, ◌<◌, ◌+◌, ◌*◌, ◌/◌, ◌%◌, ◌∷◌, ◌++◌, ℕ}
+use Rattle.std.specs.Prelude.{◌≡◌, ◌<◌, ◌+◌, ◌*◌, ◌/◌, ◌%◌, [], ◌∷◌, ◌++◌, ℕ}
 use Rattle.std.specs.Int.{w64, to_be_bytes}
 use Rattle.std.proofs.Common.{rules, ◌∙◌, arith}
 use Rattle.block_chain.specs.Words.{word_bytes}
