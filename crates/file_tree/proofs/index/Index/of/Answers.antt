@@ -99,8 +99,7 @@ returns c =
     let end : 64 ≤ c.loop-e.e = search rules in
     let all = c.requires in
     let t = c.args.entries.now in
-    let most : length t ≤ c.loop-e.e = omega (arith, all, end) in
-    (
+    let most : length t ≤ c.loop-e.e = omega (arith, all, end) in (
       places_apart t c.loop-e.index.places.items c.loop-e.e most c.loop-e.invariant.so_far,
       places_whole t c.loop-e.index c.loop-e.e most c.loop-e.invariant.so_far,
     )
