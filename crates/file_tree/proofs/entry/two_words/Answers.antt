@@ -1,6 +1,6 @@
-use Rattle.std.specs.Prelude.{◌≡◌, ◌<◌, ◌+◌, ◌*◌, ◌/◌, ◌%◌, ◌∷◌, ◌++◌, ℕ}
+use Rattle.std.specs.Prelude.{◌≡◌, ◌<◌, ◌+◌, ◌*◌, ◌/◌, ◌%◌, [], ◌∷◌, ◌++◌, ℕ}
 use Rattle.std.specs.Int.{w64, to_be_bytes}
-use Rattle.std.proofs.Common.{rules, ◌∙◌, arith}
+use Rattle.std.proofs.Common.{rules, ◌∙◌, ap₂, List, arith}
 use Rattle.block_chain.specs.Words.{word_bytes}
 use Rattle.file_tree.proofs.entry.two_words.Goals as goal
 
@@ -22,4 +22,8 @@ both a b small =
     λ i. a3 i % 0x100 ∷ a2 i % 0x100 ∷ a1 i % 0x100 ∷ a0 i % 0x100 ∷ b3 i ∷ b2 i ∷ b1 i ∷ b0 i ∷ []
 
 pub returns : goal.returns
-returns c = c.to_be_bytes.ensures ∙ both c.args.first c.args.second (search rules)
+returns c =
+    let a = c.args.first in
+    let b = c.args.second in
+    let whole : ℕ → ℕ → List ℕ = λ x y. to_be_bytes w64 (x * 0x100000000 + y) in
+    c.to_be_bytes.ensures ∙ ap₂ whole c.from.ensures c.from-2.ensures ∙ both a b (search rules)

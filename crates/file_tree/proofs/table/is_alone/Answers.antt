@@ -1,5 +1,6 @@
 use Rattle.std.proofs.Common.{refl, sym, ◌∙◌, ap, arith, below_more, true≢false}
 use Rattle.file_tree.specs.declared.entry.Entry.{Entry}
+use Rattle.file_tree.specs.Table.{entry_in}
 use Rattle.file_tree.specs.laws.Alikes.{alike_there, alike_none, used_within}
 use Rattle.file_tree.specs.laws.Kinds.{kind_of_unused}
 use Rattle.file_tree.specs.laws.Tables.{entry_within}
@@ -9,9 +10,11 @@ use Rattle.file_tree.proofs.table.is_alone.Goals.{else-is_used-via-else-is_used}
 
 pub returns-then-has_identifier_alone : goal.returns-then-has_identifier_alone
 returns-then-has_identifier_alone c =
-    let one = entry_within c.args.entries.now c.args.e _ c.requires in
+    let t = c.args.entries.now in
+    let one = entry_within t c.args.e _ c.requires in
     let neither = c.has_identifier_alone.ensures.0 c.if-has_identifier_alone.true in (
-      λ is f lt used alike. alike_none _ _ _ neither.0 neither.1 (alike_there _ _ _ _ _ one refl alike),
+      λ is f lt used alike. alike_none c.args.e (entry_in t c.args.e) (entry_in t f)
+          (ap (λ (x : Entry). x.short) (sym one) ∙ neither.0) (ap (λ (x : Entry). x.name_length) (sym one) ∙ neither.1) alike,
       λ alone. refl,
     )
 

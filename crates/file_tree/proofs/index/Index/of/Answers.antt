@@ -12,7 +12,7 @@ use Rattle.file_tree.specs.laws.Indexes.{places_none, places_skip, places_stored
 use Rattle.file_tree.specs.laws.Kinds.{kind_of_unused}
 use Rattle.file_tree.specs.laws.Tables.{entry_within}
 use Rattle.file_tree.proofs.index.Index.of.Goals as goal
-use Rattle.file_tree.proofs.index.Index.of.Goals.{else-is_used-via-then-is_used+else-not-put, else-is_used-via-else-is_used}
+use Rattle.file_tree.proofs.index.Index.of.Goals.{then-is_used+else-not-put, else-is_used}
 
 -- what a list of entries has past its end
 abbrev unread : Entry
@@ -57,19 +57,19 @@ loop-e-preserved c =
     let below : 0 < e = search rules in
     let small : e < 64 = search rules in
     let all = c.requires in
-    let read = entry_within t e unread (omega (arith, all, small)) in
+    let read = ap (λ (k : ℕ). slice_index_or t k unread) c.from.ensures ∙ entry_within t e unread (omega (arith, all, small)) in
     let told : Index → Type 0 = λ i. (length i.places.items < e + 1) × ArePlacesTo t (e + 1) i.places.items in
-    let next : told c.else-is_used.index = elim c.else-is_used.branch [
-      | else-is_used-via-then-is_used+else-not-put w ↦
+    let next : told c.if-is_used.index = elim c.if-is_used.branch [
+      | then-is_used+else-not-put w ↦
           let used : IsUsed t e = λ none. c.is_used.ensures.0 w.if-is_used.true (ap (λ (y : Entry). y.kind) read ∙ none) in
-          let place : Place = record { key = w.new-place.result; entry = e } in
+          let place : Place = record { key = w.new-then-is_used.result; entry = e } in
           let own : place ≡ place_of t e =
-          ap (λ (k : Key). record { key = k; entry = e }) w.new-place.ensures
+          ap (λ (k : Key). record { key = k; entry = e }) w.new-then-is_used.ensures
           ∙ ap (λ (y : Entry). record { key = key_for y.parent y.identifier; entry = e }) read in
           let family : Bool → Type 0 = λ b. TellsPut places place w.put.new.self.places.items b in
           subst told (sym w.index-is) (places_stored t e places w.put.new.self.places.items place so_far
           below used own size (subst family w.if-not-put.false (w.put.ensures so_far.sorted)))
-      | else-is_used-via-else-is_used w ↦
+      | else-is_used w ↦
           subst told (sym w.index-is) (
             omega (arith, size),
             places_skip t e places so_far (ap (λ (y : Entry). y.kind) (sym read) ∙ kind_of_unused _ _ c.is_used.ensures w.if-is_used.false),
@@ -86,11 +86,11 @@ returns-then-not-put c =
     let below : 0 < e = search rules in
     let small : e < 64 = search rules in
     let all = c.requires in
-    let read = entry_within t e unread (omega (arith, all, small)) in
+    let read = ap (λ (k : ℕ). slice_index_or t k unread) c.from.ensures ∙ entry_within t e unread (omega (arith, all, small)) in
     let used : IsUsed t e = λ none. c.is_used.ensures.0 c.if-is_used.true (ap (λ (y : Entry). y.kind) read ∙ none) in
-    let place : Place = record { key = c.new-place.result; entry = e } in
+    let place : Place = record { key = c.new-then-is_used.result; entry = e } in
     let own : place ≡ place_of t e =
-    ap (λ (k : Key). record { key = k; entry = e }) c.new-place.ensures
+    ap (λ (k : Key). record { key = k; entry = e }) c.new-then-is_used.ensures
     ∙ ap (λ (y : Entry). record { key = key_for y.parent y.identifier; entry = e }) read in
     let family : Bool → Type 0 = λ b. TellsPut places place c.put.new.self.places.items b in
     places_taken t e places place so_far below used own (subst family c.if-not-put.true (c.put.ensures so_far.sorted))
@@ -99,9 +99,8 @@ pub returns : goal.returns
 returns c =
     let end : 64 ≤ c.loop-e.e = search rules in
     let all = c.requires in
-    let most = omega (arith, all, end) in
     let t = c.args.entries.now in
-    (
+    let most : length t ≤ c.loop-e.e = omega (arith, all, end) in (
       places_apart t c.loop-e.index.places.items c.loop-e.e most c.loop-e.invariant.so_far,
       places_whole t c.loop-e.index c.loop-e.e most c.loop-e.invariant.so_far,
     )
