@@ -1,13 +1,34 @@
-use Rattle.std.proofs.Common.{◌≡◌, ℕ, List, [], OnOk, arith, subst}
+use Rattle.std.proofs.Common.{rules, ◌≡◌, ℕ, List, [], OnOk, arith, subst}
 use Rattle.std.proofs.lemmas.Result.{on_ok_weaker}
 use Rattle.undo_journal.specs.Memory.{committed}
 use Rattle.block_chain.specs.Changes.{AppendsSome}
+use Rattle.ef_body.specs.laws.Slots.{slot-within}
 use Rattle.ef_body.proofs.Becoming.{record_at}
 use Rattle.ef_body.proofs.Bytes.{all_appended, length-emptied, some_appended}
 use Rattle.ef_body.proofs.slot.RecordSlot.read.Goals as goal
 
-pub read_bytes-requires-clause-room : goal.read_bytes-requires-clause-room
-read_bytes-requires-clause-room g c = omega (arith, length-emptied _ c.clear.ensures, c.requires.room)
+pub read_bytes-requires : goal.read_bytes-requires
+read_bytes-requires g c =
+    let ring = c.args.self.ring in
+    let at = c.offset_of-offset.ensures in
+    let inside = slot-within ring.record_length c.slot_of.result ring.capacity c.slot_of.ensures.within in
+    let fits = c.requires.body.slots.fits in
+    let small = c.requires.body.slots.small in (
+      search rules,
+      (
+        c.requires.ready,
+        (
+          c.requires.body.slots.chain.leads,
+          (
+            omega (arith, at, inside, fits),
+            (
+              omega (arith, at, inside, small),
+              omega (arith, length-emptied _ c.clear.ensures, c.requires.room),
+            ),
+          ),
+        ),
+      ),
+    )
 
 pub returns-clause-bytes : goal.returns-clause-bytes
 returns-clause-bytes g c =
