@@ -102,7 +102,7 @@ pub fn read_entry_head<B: Board>(store: &mut Store<B>, e: u8) -> Result<EntryHea
     ensures store { Reads store.old store.new (result_err result) }
 {
     let at = entry_address(e);
-    let first = store.read(at)?;
-    let second = store.read(at + 1)?;
+    let first = store.read_committed(at)?;
+    let second = store.read_committed(at + 1)?;
     Ok(EntryHead::from_words(first, second))
 }

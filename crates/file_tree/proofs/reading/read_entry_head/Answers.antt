@@ -29,12 +29,11 @@ returns-clause-head g c =
     let m = committed c.args.store.now in
     let page = 1 + c.args.e in
     let words = page_words m page in
-    let after = c.in_ok-first.ensures.store c.requires.ready.idle in
-    let kept = sym after.ready.same ∙ c.read.ensures.reads.keeps.committed_words in
+    let kept = c.read_committed.ensures.store.only.keeps.committed_words in
     let here : c.entry_address-at.result ≡ address page 0 = omega (arith, c.entry_address-at.ensures) in
     let next : c.entry_address-at.result + 1 ≡ address page 1 = omega (arith, c.entry_address-at.ensures) in
     let one : c.in_ok-first.first ≡ word m page 0 =
-    c.in_ok-first.ensures.word ∙ ap₂ (λ (l : List ℕ) (i : ℕ). slice_index l i) (sym c.requires.ready.same) here in
+    c.in_ok-first.ensures.word ∙ ap (slice_index m) here in
     let two : c.in_ok-second.second ≡ word m page 1 =
     c.in_ok-second.ensures.word ∙ ap₂ (λ (l : List ℕ) (i : ℕ). slice_index l i) kept next in
     c.from_words.ensures
@@ -50,15 +49,13 @@ returns-in_err-second-clause-head g c = none_ok _ _ _ c.from_residual-in_err-sec
 
 pub returns-in_err-first-clause-store : goal.returns-in_err-first-clause-store
 returns-in_err-first-clause-store g c =
-    reads_handed _ _ _ _ c.from_residual.ensures.1 (c.in_err-first.ensures.store c.requires.ready.idle)
+    reads_handed _ _ _ _ c.from_residual.ensures.1 c.in_err-first.ensures.store
 
 pub returns-in_err-second-clause-store : goal.returns-in_err-second-clause-store
 returns-in_err-second-clause-store g c =
-    let after = c.in_ok-first.ensures.store c.requires.ready.idle in
     reads_handed _ _ _ _ c.from_residual-in_err-second.ensures.1
-    (reads_on _ _ _ _ c.read.ensures.reads (c.in_err-second.ensures.store after.ready.idle))
+    (reads_on _ _ _ _ c.read_committed.ensures.store.only c.in_err-second.ensures.store)
 
 pub returns-clause-store : goal.returns-clause-store
 returns-clause-store g c =
-    let after = c.in_ok-first.ensures.store c.requires.ready.idle in
-    reads_on _ _ _ _ c.read.ensures.reads (c.in_ok-second.ensures.store after.ready.idle)
+    reads_on _ _ _ _ c.read_committed.ensures.store.only c.in_ok-second.ensures.store

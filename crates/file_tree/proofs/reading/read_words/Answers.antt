@@ -22,8 +22,8 @@ loop-k-preserved g c =
     ∙ ap₂ (λ (l : List ℕ) (i : ℕ). slice_index l i) kept place in
     let w = c.in_ok-words.field-0 in
     record {
-      ready = search rules;
-      reads = search (rules, reads_then);
+      ready = c.in_ok-words.ensures.store.ready;
+      reads = reads_then _ _ _ c.loop-k.invariant.reads c.read_committed.ensures.store.only;
       size = length-set c.loop-k.words at c.in_ok-words.field-0 ∙ size;
       so_far = λ k lt. ⊎_elim
           (λ (before : k < at).
