@@ -14,7 +14,8 @@ use Rattle.apdu_core.specs.Sizes.{HasBetween, IsPinValue, IsSizedName}
 pub record Fields : Type 1 where
   -- where the command is of bytes: Le is a byte, and so is each byte that was sent
   pub of_bytes : Type 0
-  -- of whatever numbers it is: what is written, searched for or added, and a template, is 1 to 255 of them, a PIN's value 8
+  -- of whatever numbers it is: what is written, searched for or added, and a template,
+  -- is 1 to 255 of them, a PIN's value 8
   pub sized : Type 0
   -- of a parsed command: how much is named or sent, and the ranges of what P1 and P2 name; an offset is at most 32,767
   pub in_range : Type 0

@@ -23,8 +23,8 @@ use Rattle.block_chain.specs.laws.Overwriting.{touched}
 use Rattle.block_chain.specs.laws.Writes.{begins, goes_on, run_at}
 use Rattle.block_chain.proofs.Places.{word_address, word-after, word-before, words-apart}
 
--- What waits, once the words of a chain from the one numbered `first` to the one before word k are set: none of a word from k on, none
--- of a link, and word k - 1, unless a batch was written with it.
+-- What waits, once the words of a chain from the one numbered `first` to the one before word k are set: none of a word
+-- from k on, none of a link, and word k - 1, unless a batch was written with it.
 pub record AreBehind (ps : List ℕ) (first k : ℕ) (waiting : List Waiting) : Type 0 where
   pub ascending : AreAscending 0 waiting
   pub later : (j : ℕ) → k ≤ j → j < BLOCK_WORDS * length ps → look_up (word_address ps j) waiting ≡ None
@@ -109,7 +109,8 @@ module _ (ps : List ℕ) (first k : ℕ) (old now : Memory) (so_far : IsCounted 
               let block : k % BLOCK_WORDS ≡ 0 = elim o [ inl b ↦ b | inr b ↦ absurd (among b) ] in
               let before : set.at - 1 ≡ address (slice_index ps (k / BLOCK_WORDS)) 0 = omega (arith, is, block) in
               let apart : 0 ≢ set.at = omega (arith, is) in
-              let link = ap (λ (a : ℕ). look_up a now.waiting) before ∙ so_far.behind.links (slice_index ps (k / BLOCK_WORDS)) in
+              let link = ap (λ (a : ℕ). look_up a now.waiting) before
+              ∙ so_far.behind.links (slice_index ps (k / BLOCK_WORDS)) in
               let more = joins-begins set now after joins ascending free free-behind some (inr (apart, link)) in
               omega (arith, so_far.costs, more, runs-next, one, among, next)
           | goes_on one block apart ↦
@@ -176,9 +177,10 @@ counted-read ps first k old now last so_far reads = record {
 }
 
 -- a word is set behind its read, and the next block is read
-pub counted-more : (ps : List ℕ) (first k page : ℕ) (old now after last : Memory) → IsCounted ps first k old now → NoneTwice ps
-    → first ≤ k → k < BLOCK_WORDS * length ps → page ≡ slice_index ps (k / BLOCK_WORDS)
-    → JoinsAt (address page (1 + k % BLOCK_WORDS)) now after → OnlyReads after last → IsCounted ps first (k + 1) old last
+pub counted-more : (ps : List ℕ) (first k page : ℕ) (old now after last : Memory) → IsCounted ps first k old now
+    → NoneTwice ps → first ≤ k → k < BLOCK_WORDS * length ps → page ≡ slice_index ps (k / BLOCK_WORDS)
+    → JoinsAt (address page (1 + k % BLOCK_WORDS)) now after → OnlyReads after last
+    → IsCounted ps first (k + 1) old last
 counted-more ps first k page old now after last so_far once from within is set reads =
     let here = ap (λ (q : ℕ). address q (1 + k % BLOCK_WORDS)) is in
     let found = counted-read ps first k old now set.found so_far set.reads in
@@ -186,8 +188,8 @@ counted-more ps first k page old now after last so_far once from within is set r
     counted-read ps first (k + 1) old after last more reads
 
 -- all words are set
-pub counted-all : (ps : List ℕ) (offset count k : ℕ) (old now : Memory) → IsCounted ps (offset / 4) k old now → 1 ≤ count
-    → offset / 4 ≤ k → (offset + count + 3) / 4 ≤ k → k ≤ (offset + count + 3) / 4
+pub counted-all : (ps : List ℕ) (offset count k : ℕ) (old now : Memory) → IsCounted ps (offset / 4) k old now
+    → 1 ≤ count → offset / 4 ≤ k → (offset + count + 3) / 4 ≤ k → k ≤ (offset + count + 3) / 4
     → now.facts.writes + commit_writes now ≡ old.facts.writes + put_writes offset count
 counted-all ps offset zero k old now so_far some from far le = absurd (omega (arith, some))
 counted-all ps offset (suc n) k old now so_far some from far le =

@@ -21,8 +21,8 @@ none_filled m now ps same =
       others = λ page place small apart. refl;
     })
 
-module _ (m : List ℕ) (n : ℕ) (free : HasFree m) (sized_m : IsMemory m) (enough : n ≤ length (free_chain m)) (i page : ℕ) (lt : i < n)
-    (is : page ≡ slice_index (free_chain m) i) where
+module _ (m : List ℕ) (n : ℕ) (free : HasFree m) (sized_m : IsMemory m) (enough : n ≤ length (free_chain m))
+    (i page : ℕ) (lt : i < n) (is : page ≡ slice_index (free_chain m) i) where
   within : i < length (free_chain m)
   within = omega (arith, lt, enough)
 
@@ -38,7 +38,8 @@ module _ (m : List ℕ) (n : ℕ) (free : HasFree m) (sized_m : IsMemory m) (eno
   only_filled now after w sized only torn =
       let long = length-replicate BLOCK_WORDS w in
       let block = block_to_fill now only.size in
-      let fits : address page 1 + length (replicate BLOCK_WORDS w) ≤ length now = omega (arith, long, sized.whole, sized.least, block.1) in
+      let fits : address page 1 + length (replicate BLOCK_WORDS w) ≤ length now =
+      omega (arith, long, sized.whole, sized.least, block.1) in
       let taken = length-take-le n (free_chain m) enough in
       fill_more m now after (take n (free_chain m)) i page (replicate BLOCK_WORDS w) only (omega (arith, taken, lt))
       (is ∙ sym (get_or-take n (free_chain m) i 0 lt)) long (IsMixture-Torn now _ _ (address page 1) fits torn)

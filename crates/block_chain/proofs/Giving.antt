@@ -27,8 +27,8 @@ gives_back m cs sized free apart =
     word-set_same n HEADER_PAGE FREE_HEAD_WORD (first_of m cs) inside in
     let links : Leads after (first_of m cs) all 0 =
     leads_same n after (first_of m cs) 0 all
-    (length-set n (address HEADER_PAGE FREE_HEAD_WORD) (first_of m cs)) (λ q some. word-set_other n HEADER_PAGE FREE_HEAD_WORD q 0
-    (first_of m cs) (omega arith) (omega arith) (inr (omega arith))) leads in
+    (length-set n (address HEADER_PAGE FREE_HEAD_WORD) (first_of m cs)) (λ q some. word-set_other n HEADER_PAGE
+    FREE_HEAD_WORD q 0 (first_of m cs) (omega arith) (omega arith) (inr (omega arith))) leads in
     let from : ℕ → Type 0 = λ p. Leads after p all 0 in
     record {
       free = record { leads = subst from (sym head) links; once = apart.once; size = apart.size };

@@ -43,7 +43,8 @@ linked_more first end rest page w now after sized inner is done linked q from be
     ap (λ (l : List ℕ). link l q) done
     ∙ ⊎_elim
     (λ (before : q < page).
-    word-set_other now page 0 q 0 w (omega arith) (omega arith) (inl (λ same. let z : ⊥ = omega (arith, same, before) in z))
+    word-set_other now page 0 q 0 w (omega arith) (omega arith)
+    (inl (λ same. let z : ⊥ = omega (arith, same, before) in z))
     ∙ linked q from before)
     (λ (past : page ≤ q).
     let here : q ≡ page = omega (arith, past, below) in

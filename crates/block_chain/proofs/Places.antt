@@ -1,6 +1,6 @@
 -- Where the words of a chain lie.
-use Rattle.std.proofs.Common.{◌≡◌, ◌≢◌, ◌<◌, ◌≤◌, ◌+◌, ◌-◌, ◌*◌, ◌/◌, ◌%◌, ℕ, List, length, slice_index, sym, ap, inl, inr, arith}
-use Rattle.std.proofs.Common.{⊎_elim}
+use Rattle.std.proofs.Common.{◌≡◌, ◌≢◌, ◌<◌, ◌≤◌, ◌+◌, ◌-◌, ◌*◌, ◌/◌, ◌%◌, ℕ, List, length, slice_index, sym, ap, inl}
+use Rattle.std.proofs.Common.{inr, arith, ⊎_elim}
 use Rattle.std.proofs.lemmas.Bool.{cases_lt}
 use Rattle.std.proofs.lemmas.Bool.Decides.{eqb_tells}
 use Rattle.nvm_board.specs.Facts.{address}
@@ -13,16 +13,16 @@ abbrev pub word_address : List ℕ → ℕ → ℕ
 word_address ps k = address (slice_index ps (k / BLOCK_WORDS)) (1 + k % BLOCK_WORDS)
 
 -- two words lie apart
-pub words-apart : (ps : List ℕ) → NoneTwice ps → (j k : ℕ) → j < BLOCK_WORDS * length ps → k < BLOCK_WORDS * length ps → j ≢ k
-    → word_address ps j ≢ word_address ps k
+pub words-apart : (ps : List ℕ) → NoneTwice ps → (j k : ℕ) → j < BLOCK_WORDS * length ps → k < BLOCK_WORDS * length ps
+    → j ≢ k → word_address ps j ≢ word_address ps k
 words-apart ps once j k j_in k_in other is =
     let page : slice_index ps (j / BLOCK_WORDS) ≡ slice_index ps (k / BLOCK_WORDS) = omega (arith, is) in
     let place : j % BLOCK_WORDS ≡ k % BLOCK_WORDS = omega (arith, is) in
     let j_block : j / BLOCK_WORDS < length ps = omega (arith, j_in) in
     let k_block : k / BLOCK_WORDS < length ps = omega (arith, k_in) in
     ⊎_elim
-    (λ (before : j / BLOCK_WORDS < k / BLOCK_WORDS). apart ps once (j / BLOCK_WORDS) (k / BLOCK_WORDS) before k_block page)
-    (λ (from : k / BLOCK_WORDS ≤ j / BLOCK_WORDS). elim (eqb_tells (j / BLOCK_WORDS) (k / BLOCK_WORDS)) [
+    (λ (before : j / BLOCK_WORDS < k / BLOCK_WORDS). apart ps once (j / BLOCK_WORDS) (k / BLOCK_WORDS) before
+    k_block page) (λ (from : k / BLOCK_WORDS ≤ j / BLOCK_WORDS). elim (eqb_tells (j / BLOCK_WORDS) (k / BLOCK_WORDS)) [
       | inl same ↦ other (let s = same.1 in let z : j ≡ k = omega (arith, s, place) in z)
       | inr differ ↦
           let less : k / BLOCK_WORDS < j / BLOCK_WORDS = (let d = differ.1 in omega (arith, d, from)) in

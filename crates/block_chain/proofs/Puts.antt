@@ -109,9 +109,8 @@ module _ (m ps : List ℕ) (from offset : ℕ) (bytes : List ℕ) (chain : IsCha
       put_more last next still told = record {
         some = so_far.some;
         from = omega (arith, so_far.from);
-        block = next_block ps (k / BLOCK_WORDS) ((k + 1) / BLOCK_WORDS) ((k + 1) % BLOCK_WORDS) page (link after page) next
-            (λ ends. omega (arith, ends))
-            (λ goes. omega (arith, goes))
+        block = next_block ps (k / BLOCK_WORDS) ((k + 1) / BLOCK_WORDS) ((k + 1) % BLOCK_WORDS) page (link after page)
+            next (λ ends. omega (arith, ends)) (λ goes. omega (arith, goes))
             so_far.block link_put told;
         put = subst (λ (l : List ℕ). IsPut m ps offset bytes (k + 1) l) (sym still) word_put;
       }

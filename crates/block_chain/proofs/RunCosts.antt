@@ -11,8 +11,8 @@ use Rattle.undo_journal.specs.laws.Calls.{runs_then, runs_weaker, reads_runs, en
 use Rattle.block_chain.specs.declared.layout.TheConstants.{BLOCK_WORDS}
 use Rattle.block_chain.specs.Changes.{touched_blocks}
 
--- The sets of the words of a chain from the one numbered `start` to the one before word k lie in as many runs as blocks; the block
--- of word k is this page.
+-- The sets of the words of a chain from the one numbered `start` to the one before word k lie in as many runs as
+-- blocks; the block of word k is this page.
 pub data AreRunsSoFar (start k page : ℕ) (first now : Memory) : Type 0 where
   none_yet : k ≡ start → InRuns 0 first now → AreRunsSoFar start k page first now
   some_runs : start < k → InRuns ((k + 14) / BLOCK_WORDS - start / BLOCK_WORDS) first now
@@ -36,7 +36,8 @@ module _ (offset count k page : ℕ) (first now : Memory) (so_far : AreRunsSoFar
 
   -- nor with the word that is put now
   pub runs_more : k < (offset + count + 3) / 4 → (after : Memory)
-      → InRuns ((k + 15) / BLOCK_WORDS - offset / 4 / BLOCK_WORDS) first after → InRuns (touched_blocks offset count) first after
+      → InRuns ((k + 15) / BLOCK_WORDS - offset / 4 / BLOCK_WORDS) first after
+      → InRuns (touched_blocks offset count) first after
   runs_more lt after runs = runs_weaker _ (touched_blocks offset count) first after (omega (arith, blocks, lt)) runs
 
 -- One word more is put, at this address.
@@ -49,15 +50,15 @@ module _ (start k page at : ℕ) (first now : Memory) (so_far : AreRunsSoFar sta
         runs_then 0 1 ((k + 15) / BLOCK_WORDS - start / BLOCK_WORDS) first now after (omega (arith, e)) runs one
     | some_runs lt runs ends ↦ elim (eqb_tells (k % BLOCK_WORDS) 0) [
       | inl fresh ↦
-          runs_then ((k + 14) / BLOCK_WORDS - start / BLOCK_WORDS) 1 ((k + 15) / BLOCK_WORDS - start / BLOCK_WORDS) first now
-          after (omega (arith, fresh.1, lt)) runs one
+          runs_then ((k + 14) / BLOCK_WORDS - start / BLOCK_WORDS) 1 ((k + 15) / BLOCK_WORDS - start / BLOCK_WORDS)
+          first now after (omega (arith, fresh.1, lt)) runs one
       | inr inside ↦
           let apart : k % BLOCK_WORDS ≢ 0 = inside.1 in
           let before : address page (k % BLOCK_WORDS) ≡ at - 1 = omega (arith, is) in
           let later : at % PAGE_WORDS ≢ 0 = omega (arith, is) in
           let family : ℕ → Type 0 = λ a. EndsAt now a in
-          runs_then ((k + 14) / BLOCK_WORDS - start / BLOCK_WORDS) 0 ((k + 15) / BLOCK_WORDS - start / BLOCK_WORDS) first now
-          after (omega (arith, apart, lt)) runs (goes (later, subst family before (ends apart)))
+          runs_then ((k + 14) / BLOCK_WORDS - start / BLOCK_WORDS) 0 ((k + 15) / BLOCK_WORDS - start / BLOCK_WORDS)
+          first now after (omega (arith, apart, lt)) runs (goes (later, subst family before (ends apart)))
     ]
   ]
 
@@ -66,8 +67,8 @@ module _ (start k page at : ℕ) (first now : Memory) (so_far : AreRunsSoFar sta
       → next ≡ (if (k + 1) % BLOCK_WORDS == 0 then link else page) → AreRunsSoFar start (k + 1) next first last
   run_next put last reads link next told =
       some_runs (omega (arith, le))
-      (runs_then ((k + 15) / BLOCK_WORDS - start / BLOCK_WORDS) 0 ((k + 1 + 14) / BLOCK_WORDS - start / BLOCK_WORDS) first after
-      last (omega arith) run_put (reads_runs 0 after last reads))
+      (runs_then ((k + 15) / BLOCK_WORDS - start / BLOCK_WORDS) 0 ((k + 1 + 14) / BLOCK_WORDS - start / BLOCK_WORDS)
+      first after last (omega arith) run_put (reads_runs 0 after last reads))
       (λ inside. elim (eqb_tells ((k + 1) % BLOCK_WORDS) 0) [
         | inl ends ↦ absurd (inside ends.1)
         | inr apart ↦

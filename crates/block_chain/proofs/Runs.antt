@@ -96,7 +96,8 @@ module _ (m ps : List ℕ) (from offset count : ℕ) (sized : IsMemory m) (leads
 
   module _ (now init out more : List ℕ) (at some page w : ℕ) (same : now ≡ m)
       (read : IsRead m ps offset count init at page out) (fits : at % 4 + some ≤ 4) (below : at + some ≤ offset + count)
-      (is : w ≡ word now page (1 + at / 4 % BLOCK_WORDS)) (pushed : more ≡ out ++ take some (drop (at % 4) (word_bytes w)))
+      (is : w ≡ word now page (1 + at / 4 % BLOCK_WORDS))
+      (pushed : more ≡ out ++ take some (drop (at % 4) (word_bytes w)))
     where
       -- the bytes of one word more
       appended : more ≡ init ++ take (at + some - offset) rest

@@ -27,8 +27,8 @@ pub record IsExtent (m : List ℕ) (e : Extent) : Type 0 where
 abbrev pub IsOf : ℕ → ℕ → Type 0
 IsOf n page = (FIRST_BLOCK_PAGE ≤ page) × (page < FIRST_BLOCK_PAGE + n)
 
--- A memory has n blocks, all in its pages. The free chain ends with 0, and it and the extents, laid end to end, hold pages
--- of these blocks alone, as many as there are blocks, and none twice.
+-- A memory has n blocks, all in its pages. The free chain ends with 0, and it and the extents, laid end to end, hold
+-- pages of these blocks alone, as many as there are blocks, and none twice.
 pub record AreLaid (n : ℕ) (m : List ℕ) (es : List Extent) : Type 0 where
   pub inside : FIRST_BLOCK_PAGE + n ≤ pages_of m
   pub free : Leads m (slice_index m FREE_HEAD) (free_chain m) 0

@@ -1,12 +1,13 @@
--- How many device writes it takes to put bytes into a chain, in a transaction of their own. Each touched word is set once, in the
--- order of the chain. Eight sets are written together: one write of their pairs, one of the gate that counts these, and one for each
--- run of words. The commit is one write more.
+-- How many device writes it takes to put bytes into a chain, in a transaction of their own. Each touched word is set
+-- once, in the order of the chain. Eight sets are written together: one write of their pairs, one of the gate that
+-- counts these, and one for each run of words. The commit is one write more.
 use Rattle.std.specs.Prelude.{◌==◌, ◌+◌, ◌-◌, ◌*◌, ◌/◌, ◌%◌, ◌||◌, ℕ, zero, suc, if◌then◌else◌}
 use Rattle.undo_journal.specs.declared.batch.TheConstants.{BATCH}
 use Rattle.block_chain.specs.declared.layout.TheConstants.{BLOCK_WORDS, WORD_BYTES}
 use Rattle.block_chain.specs.Changes.{touched_words}
 
--- 1 where word k of a chain begins a run: a block begins with it, or a batch of the words that are set from `first` on; else 0
+-- 1 where word k of a chain begins a run: a block begins with it,
+-- or a batch of the words that are set from `first` on; else 0
 abbrev pub begins_run : ℕ → ℕ → ℕ
 begins_run first k = if (k % BLOCK_WORDS == 0) || ((k - first) % BATCH == 0) then 1 else 0
 

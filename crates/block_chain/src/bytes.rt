@@ -4,7 +4,8 @@ ghost use Rattle.std.specs.Prelude.{slice_index, ◌%◌, ◌==◌, if◌then◌
 ghost use Rattle.undo_journal.specs.Undo.{IsDataAddress};
 ghost use Rattle.std.specs.Result.{result_err};
 ghost use Rattle.block_chain.specs.Changes.{touched_blocks, touched_words};
-ghost use Rattle.undo_journal.specs.Memory.{committed, current, room, CountsCommit, EndsAt, GoesOn, InRuns, IsOpen, IsReady};
+ghost use Rattle.undo_journal.specs.Memory.{committed, current, room, CountsCommit, EndsAt, GoesOn, InRuns};
+ghost use Rattle.undo_journal.specs.Memory.{IsOpen, IsReady};
 ghost use Rattle.block_chain.specs.declared.layout.TheConstants.{BLOCK_BYTES, BLOCK_WORDS, FILE_BYTES};
 ghost use Rattle.undo_journal.specs.Calls.{Changes, ReadsIn, SetsIn};
 ghost use Rattle.block_chain.specs.Chains.{free_chain, bytes_of, IsChain, chain_of, HasFree};
@@ -93,7 +94,8 @@ fn new_word<B: Board>(
     Ok(overwritten_word(word, first, offset, bytes))
 }
 
-/// Sets the content word of a block in which bytes lie that are put from an offset of its chain on: word k of the chain.
+/// Sets the content word of a block in which bytes lie that are put from an offset of its chain on:
+/// word k of the chain.
 fn put_word<B: Board>(
     txn: &mut Txn<'_, B>,
     page: u16,
@@ -135,8 +137,8 @@ fn block_of_word<B: Board>(txn: &mut Txn<'_, B>, page: u16, k: u16) -> Result<u1
     }
 }
 
-/// Puts bytes in place of those of a chain from an offset on: one set for each touched word, in order, so that the sets lie in
-/// one run for each touched block. No bytes change nothing.
+/// Puts bytes in place of those of a chain from an offset on: one set for each touched word, in order, so that the sets
+/// lie in one run for each touched block. No bytes change nothing.
 ///
 /// # Errors
 /// What the store answers: power was lost, or the device failed.
@@ -187,8 +189,8 @@ fn fill_block<B: Board>(store: &mut Store<B>, page: u16, word: u32) -> Result<()
     store.write_plain(page, 1, &words)
 }
 
-/// Fills the first n free blocks with a byte, in one device write a block. No other word changes, at no exit, so that all
-/// that stood in the memory still stands.
+/// Fills the first n free blocks with a byte, in one device write a block. No other word changes, at no exit, so that
+/// all that stood in the memory still stands.
 ///
 /// # Errors
 /// What the store answers: power was lost, or the device failed. Then the blocks may hold anything.

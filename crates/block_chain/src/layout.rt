@@ -10,8 +10,8 @@ pub const FREE_HEAD_WORD: u16 = 1;
 /// The address of that word.
 pub const FREE_HEAD: u16 = PAGE_WORDS * HEADER_PAGE + FREE_HEAD_WORD;
 
-/// The first block's page. The blocks of a memory are pages in a row. Word 0 of a block is the page of the next block of its chain,
-/// or 0.
+/// The first block's page. The blocks of a memory are pages in a row.
+/// Word 0 of a block is the page of the next block of its chain, or 0.
 pub const FIRST_BLOCK_PAGE: u16 = 128;
 
 /// Blocks of a memory at most.

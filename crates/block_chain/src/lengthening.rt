@@ -17,8 +17,8 @@ fn next_page(page: u16, end: u16, rest: u16) -> u16
     if page + 1 == end { rest } else { page + 1 }
 }
 
-/// Links the pages from one page up to another, in ascending order: each to the next one, and the last to the page `rest`.
-/// It makes one plain write a page. No word changes but their links, at no exit.
+/// Links the pages from one page up to another, in ascending order: each to the next one, and the last to the page
+/// `rest`. It makes one plain write a page. No word changes but their links, at no exit.
 ///
 /// # Errors
 /// What the store answers: power was lost, or the device failed. Then any first of them are linked.

@@ -87,8 +87,8 @@ fn append_part<const N: usize>(out: &mut ArrayVec<u8, N>, word: u32, from: u16, 
     }
 }
 
-/// Appends some bytes of a word, from a place on. A whole word, as nearly all of a long read are, is copied at once: that
-/// takes a third of the instructions that four single bytes do.
+/// Appends some bytes of a word, from a place on. A whole word, as nearly all of a long read are, is copied at once:
+/// that takes a third of the instructions that four single bytes do.
 fn append_bytes<const N: usize>(out: &mut ArrayVec<u8, N>, word: u32, from: u16, some: u16)
     requires within { from + some ≤ 4 }
     requires room { array_vec_len out.old + some ≤ N }

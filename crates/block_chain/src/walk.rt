@@ -44,8 +44,8 @@ fn mark(page: u32, end: u16, seen: &mut [u8]) -> bool
     true
 }
 
-/// Walks over the chain from a page on, and marks its blocks. The answer is None where it does not end, leads out of the
-/// blocks before the page `end`, or comes to one that was marked. The marks alone end a ring.
+/// Walks over the chain from a page on, and marks its blocks. The answer is None where it does not end, leads out of
+/// the blocks before the page `end`, or comes to one that was marked. The marks alone end a ring.
 #[inline(always)]
 fn walk_over<B: Board>(
     store: &mut Store<B>,
@@ -79,8 +79,8 @@ fn walk_over<B: Board>(
 /// The check of the layout at a start: whether the free chain and these extents are laid out as they should be, each
 /// of so many blocks in exactly one of them, once. Then the answer is how many blocks are free, else None.
 ///
-/// Each block is marked when the walk first comes to it, and no marked one is gone over again. So a ring ends the walk, and
-/// there are never more device reads than blocks and one, whatever the words are.
+/// Each block is marked when the walk first comes to it, and no marked one is gone over again. So a ring ends the walk,
+/// and there are never more device reads than blocks and one, whatever the words are.
 ///
 /// # Errors
 /// What the store answers: power was lost, or the device failed.

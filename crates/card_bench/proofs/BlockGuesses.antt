@@ -9,16 +9,16 @@ use Rattle.file_tree.specs.Formats.{is_format_2}
 use Rattle.pin_store.specs.Pages.{pin_at, pins_of, unmarked_pins_of}
 use Rattle.pin_store.specs.Pins.{enabled_pin, HasFewTries, Pin}
 use Rattle.t1_link.specs.CardTable.{Reaction, replies, runs}
-use Rattle.card_core.specs.Cards.{Card}
-use Rattle.card_core.specs.Comparing.{Comparisons, comparisons}
-use Rattle.card_core.specs.Finding.{HasCard, found, words_found}
-use Rattle.card_core.specs.Pins.{no_pin, pin_of}
-use Rattle.card_core.specs.Proper.{IsProper}
+use Rattle.card_machine.specs.Cards.{Card}
+use Rattle.card_machine.specs.Comparing.{Comparisons, comparisons}
+use Rattle.card_machine.specs.Finding.{HasCard, found, words_found}
+use Rattle.card_machine.specs.Pins.{no_pin, pin_of}
+use Rattle.card_machine.specs.Proper.{IsProper}
 use Rattle.card_core.specs.Running.{card_found}
-use Rattle.card_core.specs.Standing.{card_of, card_pins}
-use Rattle.card_core.specs.laws.FoundLaws.{found_is_proper}
-use Rattle.card_core.specs.laws.ProperLaws.{at-or, either-if}
-use Rattle.card_core.specs.laws.ShownLaws.{ComparesOrStays, compares-or-stays}
+use Rattle.card_machine.specs.Standing.{card_of, card_pins}
+use Rattle.card_machine.specs.laws.FoundLaws.{found_is_proper}
+use Rattle.card_machine.specs.laws.ProperLaws.{at-or, either-if}
+use Rattle.card_machine.specs.laws.ShownLaws.{ComparesOrStays, compares-or-stays}
 use Rattle.card_bench.specs.BenchViews.{CountsEach}
 use Rattle.card_bench.specs.CardBlocks.{BlockCompares, IsBlockStage, Powered}
 use Rattle.card_bench.proofs.GuessesPaid.{ArePaid, attempt-paid, nothing-paid}
@@ -81,8 +81,8 @@ module _ (old new : Powered) (reaction : Reaction) (stage : IsBlockStage old rea
       → ArePaid (card_found old.card) (card_found new.card) (comparisons old.card.facts) (comparisons new.card.facts)
   block-pays there =
       compared-pays (card_found old.card) (card_found new.card) (comparisons old.card.facts)
-      (comparisons new.card.facts) counts (block-compares old new reaction stage compares) (eight-pins old.card.facts.words)
-      (found_is_proper new.card.facts.words there)
+      (comparisons new.card.facts) counts (block-compares old new reaction stage compares)
+      (eight-pins old.card.facts.words) (found_is_proper new.card.facts.words there)
 
   pub block-counts : CountsEach (comparisons new.card.facts)
   block-counts =

@@ -3,13 +3,13 @@ use Rattle.std.specs.Prelude.{◌≡◌, ◌⊎◌, ℕ, List, [], Option, Some,
 use Rattle.std.proofs.Common.{ap, inl, inr, refl, subst, sym, ◌∙◌}
 use Rattle.t1_link.specs.CardTable.{Reaction, answers, reply_bytes, command_of, link_step, replies, runs}
 use Rattle.card_core.specs.Running.{FailsIn, IsCutIn, Steps, card_found, memory_failure}
-use Rattle.card_core.specs.Steps.{answer_bytes}
-use Rattle.card_bench.specs.CardBlocks.{BlockCounts, FailsAt, IsCutAt, IsRun, Powered, Replies, answering, card_by, machine}
-use Rattle.card_bench.specs.CardBlocks.{session_by}
+use Rattle.card_machine.specs.Steps.{answer_bytes}
+use Rattle.card_bench.specs.CardBlocks.{BlockCounts, FailsAt, IsCutAt, IsRun, Powered, Replies, answering}
+use Rattle.card_bench.specs.CardBlocks.{card_by, machine, session_by}
 
 -- a fact of the reaction that runs a command, where that command waits
-pub of-run : (P : Reaction → Type 0) (reaction : Reaction) (bytes : List ℕ) → command_of reaction ≡ Some bytes → P (runs bytes)
-    → P reaction
+pub of-run : (P : Reaction → Type 0) (reaction : Reaction) (bytes : List ℕ) → command_of reaction ≡ Some bytes
+    → P (runs bytes) → P reaction
 of-run P (replies block) bytes waits holds = absurd cc
 of-run P (runs command) bytes waits holds =
     subst (λ (l : List ℕ). P (runs l)) (sym (ap (λ (o : Option (List ℕ)). unwrap_or o []) waits)) holds
@@ -33,26 +33,29 @@ module _ (p new : Powered) (got bytes answer out : List ℕ) where
     linked : (answer_to : List ℕ → List ℕ) → answer ≡ answer_to bytes
         → new.link ≡ (answering (link_step p.link got).link (link_step p.link got).reaction answer_to).link
     linked answer_to is =
-        of-run (λ (r : Reaction). new.link ≡ (answering (link_step p.link got).link r answer_to).link) (link_step p.link got).reaction bytes waits
+        of-run (λ (r : Reaction). new.link ≡ (answering (link_step p.link got).link r answer_to).link)
+        (link_step p.link got).reaction bytes waits
         (link ∙ ap (λ (l : List ℕ). (answers (link_step p.link got).link l).link) is)
 
     blocked : (answer_to : List ℕ → List ℕ) → answer ≡ answer_to bytes
         → out ≡ reply_bytes (answering (link_step p.link got).link (link_step p.link got).reaction answer_to).reaction
     blocked answer_to is =
-        of-run (λ (r : Reaction). out ≡ reply_bytes (answering (link_step p.link got).link r answer_to).reaction) (link_step p.link got).reaction
+        of-run (λ (r : Reaction). out ≡ reply_bytes (answering (link_step p.link got).link r answer_to).reaction)
+        (link_step p.link got).reaction
         bytes waits (block ∙ ap (λ (l : List ℕ). reply_bytes (answers (link_step p.link got).link l).reaction) is)
 
     steps-replies : Steps p.card bytes new.card answer → Replies p got new out
     steps-replies steps = record {
       power = steps.power;
       state = steps.state;
-      card = of-run (λ (r : Reaction). card_found new.card ≡ card_by (card_found p.card) r (λ command. (machine p command).card))
-          (link_step p.link got).reaction bytes waits steps.card;
-      session = of-run (λ (r : Reaction). new.card.session ≡ session_by p.card.session r (λ command. (machine p command).session))
-          (link_step p.link got).reaction bytes waits steps.session;
+      card = of-run (λ (r : Reaction). card_found new.card ≡ card_by (card_found p.card) r
+          (λ command. (machine p command).card)) (link_step p.link got).reaction bytes waits steps.card;
+      session = of-run (λ (r : Reaction). new.card.session ≡ session_by p.card.session r
+          (λ command. (machine p command).session)) (link_step p.link got).reaction bytes waits steps.session;
       link = linked (λ command. answer_bytes (machine p command).response) steps.answered;
       block = blocked (λ command. answer_bytes (machine p command).response) steps.answered;
-      counted = of-run (λ (r : Reaction). BlockCounts p r new) (link_step p.link got).reaction bytes waits steps.counted;
+      counted = of-run (λ (r : Reaction). BlockCounts p r new) (link_step p.link got).reaction
+          bytes waits steps.counted;
     }
 
     fails-at : FailsIn p.card new.card answer → FailsAt p got new out
@@ -67,6 +70,7 @@ module _ (p new : Powered) (got bytes answer out : List ℕ) where
       };
     }
 
-    pub run-replies : Steps p.card bytes new.card answer ⊎ FailsIn p.card new.card answer → Replies p got new out ⊎ FailsAt p got new out
+    pub run-replies : Steps p.card bytes new.card answer ⊎ FailsIn p.card new.card answer
+        → Replies p got new out ⊎ FailsAt p got new out
     run-replies (inl steps) = inl (steps-replies steps)
     run-replies (inr fails) = inr (fails-at fails)

@@ -4,7 +4,8 @@ use Rattle.card_core.specs.declared.card_state.CardState.{CardState}
 use Rattle.card_core.specs.declared.card_state.CardState.TheVariants.{Working, Failed, Dark}
 
 -- A card that isn't dark, and other do what a failed one does, works.
-pub works_if_cut : (state : CardState) (Does : Type 0) → state ≢ Dark → (state ≡ Failed → Does) → (Does → ⊥) → state ≡ Working
+pub works_if_cut : (state : CardState) (Does : Type 0) → state ≢ Dark → (state ≡ Failed → Does)
+    → (Does → ⊥) → state ≡ Working
 works_if_cut Working Does lit failed other = refl
 works_if_cut Failed Does lit failed other = absurd (other (failed refl))
 works_if_cut Dark Does lit failed other = absurd (lit refl)

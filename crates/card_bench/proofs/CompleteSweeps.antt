@@ -9,12 +9,13 @@ use Rattle.card_bench.specs.declared.playing.Turn.{Turn}
 use Rattle.card_bench.specs.declared.tally.Seen.{Seen}
 use Rattle.card_bench.specs.Masks.{mask_of, mask_count_of, words_tried}
 use Rattle.card_bench.specs.Sweeps.{CutsCommand, CutsStart, SparesStart, EndsIn}
-use Rattle.card_bench.specs.SweptRuns.{InTurn, IsOneLook, AreBehindCut, AreAllBehind, SparesCommand, AreOfMask, AreOfWrite, AreOfLastWrite, AreAllRuns}
+use Rattle.card_bench.specs.SweptRuns.{InTurn, IsOneLook, AreBehindCut, AreAllBehind, SparesCommand, AreOfMask}
+use Rattle.card_bench.specs.SweptRuns.{AreOfWrite, AreOfLastWrite, AreAllRuns}
 use Rattle.card_bench.specs.Tallies.{Finding, CountsOne, CountsEach, Counts}
 
 -- runs that are counted, and then others
-pub counts-each-on : (xs ys : List Finding) (old between new : List Seen) → CountsEach xs old between → CountsEach ys between new
-    → CountsEach (xs ++ ys) old new
+pub counts-each-on : (xs ys : List Finding) (old between new : List Seen) → CountsEach xs old between
+    → CountsEach ys between new → CountsEach (xs ++ ys) old new
 unfolding CountsEach
 counts-each-on [] ys old between new none rest = subst (λ (l : List Seen). CountsEach ys l new) none rest
 counts-each-on (x ∷ xs) ys old between new some rest =
@@ -26,8 +27,8 @@ unfolding InTurn CountsEach
 counts-none Part seen = record { runs = []; are = refl; each = refl }
 
 -- a part more
-pub counts-next : (Part : ℕ → List Finding → Type 0) (n : ℕ) (old between new : List Seen) → Counts (InTurn Part n) old between
-    → Counts (Part n) between new → Counts (InTurn Part (n + 1)) old new
+pub counts-next : (Part : ℕ → List Finding → Type 0) (n : ℕ) (old between new : List Seen)
+    → Counts (InTurn Part n) old between → Counts (Part n) between new → Counts (InTurn Part (n + 1)) old new
 unfolding InTurn
 counts-next Part n old between new some next =
     let more : Counts (InTurn Part (suc n)) old new = record {
@@ -39,9 +40,10 @@ counts-next Part n old between new some next =
     subst (λ (m : ℕ). Counts (InTurn Part m) old new) one more
 
 -- what they are, said otherwise
-pub counts-weaker : (Are Also : List Finding → Type 0) (old new : List Seen) → ((all : List Finding) → Are all → Also all)
-    → Counts Are old new → Counts Also old new
-counts-weaker Are Also old new weaker some = record { runs = some.runs; are = weaker some.runs some.are; each = some.each }
+pub counts-weaker : (Are Also : List Finding → Type 0) (old new : List Seen)
+    → ((all : List Finding) → Are all → Also all) → Counts Are old new → Counts Also old new
+counts-weaker Are Also old new weaker some =
+    record { runs = some.runs; are = weaker some.runs some.are; each = some.each }
 
 -- some, and then the last ones
 pub counts-both : (Are Last Also : List Finding → Type 0) (old between new : List Seen)
@@ -61,19 +63,21 @@ counts-one probe board given old new end one =
     record { runs = given ∷ []; are = record { given = given; end = end; one = refl }; each = (new, one, refl) }
 
 -- no start is to be cut
-pub are-behind-none : (depth : ℕ) (probe : List Turn) (board : Facts) (all : List Finding) → depth ≡ 0 → IsOneLook probe board all
-    → AreAllBehind depth probe board all
+pub are-behind-none : (depth : ℕ) (probe : List Turn) (board : Facts) (all : List Finding) → depth ≡ 0
+    → IsOneLook probe board all → AreAllBehind depth probe board all
 unfolding AreAllBehind
 are-behind-none depth probe board all none one =
     let look : AreAllBehind 0 probe board all = one in subst (λ (d : ℕ). AreAllBehind d probe board all) (sym none) look
 
 -- the next one makes no write
-pub are-behind-whole : (depth number mask : ℕ) (probe : List Turn) (board : Facts) (all : List Finding) → 0 < depth → number ≡ 1
-    → mask ≡ 0 → SparesStart number mask board → IsOneLook probe board all → AreAllBehind depth probe board all
+pub are-behind-whole : (depth number mask : ℕ) (probe : List Turn) (board : Facts) (all : List Finding)
+    → 0 < depth → number ≡ 1 → mask ≡ 0 → SparesStart number mask board → IsOneLook probe board all
+    → AreAllBehind depth probe board all
 unfolding AreAllBehind
 are-behind-whole depth number mask probe board all more first none whole one =
     let spares : SparesStart 1 mask board = subst (λ (n : ℕ). SparesStart n mask board) first whole in
-    let look : AreAllBehind (suc (depth - 1)) probe board all = inl (subst (λ (m : ℕ). SparesStart 1 m board) none spares, one) in
+    let look : AreAllBehind (suc (depth - 1)) probe board all =
+    inl (subst (λ (m : ℕ). SparesStart 1 m board) none spares, one) in
     let same : suc (depth - 1) ≡ depth = omega (arith, more) in
     subst (λ (d : ℕ). AreAllBehind d probe board all) same look
 
@@ -83,14 +87,16 @@ pub are-behind-cuts : (depth cuts : ℕ) (probe : List Turn) (board : Facts) (al
     → InTurn (AreBehindCut (AreAllBehind (depth - 1) probe) board) cuts all → AreAllBehind depth probe board all
 unfolding AreAllBehind
 are-behind-cuts depth cuts probe board all more some done each =
-    let swept : AreAllBehind (suc (depth - 1)) probe board all = inr (record { cuts = cuts; some = some; each = each; done = done }) in
+    let swept : AreAllBehind (suc (depth - 1)) probe board all =
+    inr (record { cuts = cuts; some = some; each = each; done = done }) in
     let same : suc (depth - 1) ≡ depth = omega (arith, more) in
     subst (λ (d : ℕ). AreAllBehind d probe board all) same swept
 
 -- a start is cut once more
 pub counts-cut : (depth i : ℕ) (probe : List Turn) (board left : Facts) (old between new : List Seen)
-    → Counts (InTurn (AreBehindCut (AreAllBehind depth probe) board) i) old between → CutsStart (i / 2 + 1) (i % 2) board left
-    → Counts (AreAllBehind depth probe left) between new → Counts (InTurn (AreBehindCut (AreAllBehind depth probe) board) (i + 1)) old new
+    → Counts (InTurn (AreBehindCut (AreAllBehind depth probe) board) i) old between
+    → CutsStart (i / 2 + 1) (i % 2) board left → Counts (AreAllBehind depth probe left) between new
+    → Counts (InTurn (AreBehindCut (AreAllBehind depth probe) board) (i + 1)) old new
 counts-cut depth i probe board left old between new some cut behind =
     counts-next (AreBehindCut (AreAllBehind depth probe) board) i old between new some
     (counts-weaker (AreAllBehind depth probe left) (AreBehindCut (AreAllBehind depth probe) board i) between new
@@ -105,8 +111,8 @@ pub counts-mask : (depth number words i : ℕ) (board : Facts) (left : CutBoard)
     → Counts (InTurn (AreOfMask board prepare command probe depth number words) (i + 1)) old new
 counts-mask depth number words i board left prepare command probe old between new told some cut behind =
     counts-next (AreOfMask board prepare command probe depth number words) i old between new some
-    (counts-weaker (AreAllBehind depth probe (cut_facts left)) (AreOfMask board prepare command probe depth number words i)
-    between new (λ all these. record { left = left; cut = cut; words_told = told; behind = these }) behind)
+    (counts-weaker (AreAllBehind depth probe (cut_facts left)) (AreOfMask board prepare command probe depth number
+    words i) between new (λ all these. record { left = left; cut = cut; words_told = told; behind = these }) behind)
 
 -- a mask by what is told of it
 pub mask-is : (words i mask : ℕ) → (i ≡ 0 → mask ≡ 0) → (i ≡ 1 → mask + 1 ≡ 2 ^ words)
@@ -116,8 +122,9 @@ mask-is words (suc zero) mask none all single = omega (arith, all refl)
 mask-is words (suc (suc bit)) mask none all single = single bit (omega arith)
 
 -- the next start makes no write, and none was cut
-pub counts-whole : (depth i : ℕ) (Part : ℕ → List Finding → Type 0) (probe : List Turn) (board : Facts) (old between new : List Seen)
-    → 0 < depth → i ≡ 0 → SparesStart (i / 2 + 1) (i % 2) board → Counts (InTurn Part i) old between
+pub counts-whole : (depth i : ℕ) (Part : ℕ → List Finding → Type 0) (probe : List Turn)
+    (board : Facts) (old between new : List Seen) → 0 < depth → i ≡ 0 → SparesStart (i / 2 + 1) (i % 2) board
+    → Counts (InTurn Part i) old between
     → Counts (IsOneLook probe board) between new → Counts (AreAllBehind depth probe board) old new
 unfolding InTurn
 counts-whole depth i Part probe board old between new more first whole none look =
@@ -126,21 +133,23 @@ counts-whole depth i Part probe board old between new more first whole none look
     counts-both (InTurn Part i) (IsOneLook probe board) (AreAllBehind depth probe board) old between new
     (λ before last parts one.
     let empty : before ≡ [] = subst (λ (n : ℕ). InTurn Part n before) first parts in
-    let all : AreAllBehind depth probe board last = are-behind-whole depth (i / 2 + 1) (i % 2) probe board last more number mask whole one in
+    let all : AreAllBehind depth probe board last = are-behind-whole depth (i / 2 + 1) (i % 2) probe board last more
+    number mask whole one in
     subst (λ (l : List Finding). AreAllBehind depth probe board (l ++ last)) (sym empty) all)
     none look
 
 -- the next start was cut at each of its writes
 pub counts-swept : (depth i : ℕ) (probe : List Turn) (board : Facts) (old new : List Seen) → 0 < depth → 1 ≤ i
     → (SparesStart (i / 2 + 1) (i % 2) board ⊎ (i ≡ 2 ^ 32 - 1))
-    → Counts (InTurn (AreBehindCut (AreAllBehind (depth - 1) probe) board) i) old new → Counts (AreAllBehind depth probe board) old new
+    → Counts (InTurn (AreBehindCut (AreAllBehind (depth - 1) probe) board) i) old new
+    → Counts (AreAllBehind depth probe board) old new
 counts-swept depth i probe board old new more some done each =
-    counts-weaker (InTurn (AreBehindCut (AreAllBehind (depth - 1) probe) board) i) (AreAllBehind depth probe board) old new
-    (λ all parts. are-behind-cuts depth i probe board all more some done parts) each
+    counts-weaker (InTurn (AreBehindCut (AreAllBehind (depth - 1) probe) board) i) (AreAllBehind depth probe board) old
+    new (λ all parts. are-behind-cuts depth i probe board all more some done parts) each
 
 -- the command is cut at a write by each mask
-pub counts-write : (depth number words i : ℕ) (board : Facts) (prepare : List Turn) (command : List ℕ) (probe : List Turn)
-    (old new : List Seen) → 1 ≤ words → words ≤ 16 → i ≡ mask_count_of words
+pub counts-write : (depth number words i : ℕ) (board : Facts) (prepare : List Turn) (command : List ℕ)
+    (probe : List Turn) (old new : List Seen) → 1 ≤ words → words ≤ 16 → i ≡ mask_count_of words
     → Counts (InTurn (AreOfMask board prepare command probe depth number words) i) old new
     → Counts (AreOfWrite board prepare command probe depth number) old new
 counts-write depth number words i board prepare command probe old new some fit end each =
@@ -155,8 +164,8 @@ counts-write depth number words i board prepare command probe old new some fit e
     each
 
 -- the command doesn't make this write
-pub counts-last : (depth number words i : ℕ) (board : Facts) (prepare : List Turn) (command : List ℕ) (probe : List Turn)
-    (old new : List Seen) → i < mask_count_of words
+pub counts-last : (depth number words i : ℕ) (board : Facts) (prepare : List Turn) (command : List ℕ)
+    (probe : List Turn) (old new : List Seen) → i < mask_count_of words
     → Counts (InTurn (AreOfMask board prepare command probe depth number words) i) old new
     → SparesCommand number (mask_of words i) board prepare command
     → Counts (AreOfLastWrite board prepare command probe depth number) old new
@@ -167,18 +176,24 @@ counts-last depth number words i board prepare command probe old new few each sp
 
 -- all writes of the command, and the one that it doesn't make
 pub counts-command : (depth writes : ℕ) (board : Facts) (prepare : List Turn) (command : List ℕ) (probe : List Turn)
-    (old between new : List Seen) → Counts (InTurn (λ n. AreOfWrite board prepare command probe depth (n + 1)) writes) old between
-    → Counts (AreOfLastWrite board prepare command probe depth (writes + 1)) between new
+    (old between new : List Seen) → Counts (InTurn (λ n. AreOfWrite board prepare command probe depth (n + 1)) writes)
+    old between → Counts (AreOfLastWrite board prepare command probe depth (writes + 1)) between new
     → Counts (AreAllRuns board prepare command probe depth) old new
 counts-command depth writes board prepare command probe old between new each last =
     counts-both (InTurn (λ n. AreOfWrite board prepare command probe depth (n + 1)) writes)
-    (AreOfLastWrite board prepare command probe depth (writes + 1)) (AreAllRuns board prepare command probe depth) old between new
-    (λ before end parts one. record { writes = writes; before = before; last = end; each = parts; done = inl one; all_are = refl })
-    each last
+    (AreOfLastWrite board prepare command probe depth (writes + 1)) (AreAllRuns board prepare command probe depth) old
+    between new (λ before end parts one. record {
+      writes = writes;
+      before = before;
+      last = end;
+      each = parts;
+      done = inl one;
+      all_are = refl;
+    }) each last
 
 -- and where all numbers are used up
-pub counts-command-full : (depth writes : ℕ) (board : Facts) (prepare : List Turn) (command : List ℕ) (probe : List Turn)
-    (old new : List Seen) → writes ≡ 2 ^ 32 - 1
+pub counts-command-full : (depth writes : ℕ) (board : Facts) (prepare : List Turn) (command : List ℕ)
+    (probe : List Turn) (old new : List Seen) → writes ≡ 2 ^ 32 - 1
     → Counts (InTurn (λ n. AreOfWrite board prepare command probe depth (n + 1)) writes) old new
     → Counts (AreAllRuns board prepare command probe depth) old new
 counts-command-full depth writes board prepare command probe old new full each =

@@ -3,7 +3,7 @@ use Rattle.std.specs.Prelude.{◌≡◌, ◌≤◌, ◌+◌, ◌*◌, ℕ, zero,
 use Rattle.std.proofs.Common.{arith, ap, inl, inr, ◌∙◌}
 use Rattle.t1_link.specs.ReaderTable.{Reader, reader_sends}
 use Rattle.t1_link.specs.ReaderTable.{Outcome, fails, gives, sends, unknown}
-use Rattle.card_core.specs.declared.machine.TheConstants.{COMMAND_WRITES}
+use Rattle.card_machine.specs.declared.spending.TheConstants.{COMMAND_WRITES}
 use Rattle.nvm_board.specs.declared.board.Arm.{Arm}
 use Rattle.nvm_board.specs.Aims.{due_of}
 use Rattle.card_bench.specs.Plays.{IsGood}
@@ -81,8 +81,8 @@ exchange-due (suc blocks) old new way ending (inr more) left =
     (fewer (COMMAND_WRITES * suc blocks) COMMAND_WRITES (bench_facts old.bench) (omega arith) left) in
     let behind = exchange-due blocks more.0 new more.1 ending more.3
     (arrives-last (COMMAND_WRITES * blocks) old more.0 way _ (Ok more.1) more.2.arrives
-    (fewer (COMMAND_WRITES * suc blocks) (COMMAND_WRITES * blocks + COMMAND_WRITES) (bench_facts old.bench) (omega arith)
-    left)) in
+    (fewer (COMMAND_WRITES * suc blocks) (COMMAND_WRITES * blocks + COMMAND_WRITES)
+    (bench_facts old.bench) (omega arith) left)) in
     omega (arith, before, behind)
 
 through-due : (old new : Ends) (first : Result NextBlock Ended) (ending : Ended) → lost_in first ≡ 0
@@ -100,7 +100,8 @@ one-lost set_back printed = absurd cc
 one-lost link_lost printed = absurd cc
 one-lost power_lost printed = refl
 
-commands-due : (old new : Desk) (reader : Option Reader) (command : List ℕ) → Commands old reader command new prints_dark
+commands-due : (old new : Desk) (reader : Option Reader) (command : List ℕ)
+    → Commands old reader command new prints_dark
     → HasLeft LINE_STEPS (bench_facts old.bench) → Spent 1 old.bench new.bench
 commands-due old new None command commands left = absurd cc
 commands-due old new (Some reader) command commands left =
@@ -135,7 +136,8 @@ pub dark-spends : (order : Order) (old new : Desk) → Performs order old new pr
     → HasLeft LINE_STEPS (bench_facts old.bench) → (bench_facts old.bench).due ≡ (bench_facts new.bench).due + 1
 dark-spends Nothing old new performs left = absurd cc
 dark-spends On old new performs left =
-    let spent = due-spent old.bench new.bench turn.On performs.came performs.turn (fewer (0 + turn_steps old.bench turn.On)
+    let spent =
+    due-spent old.bench new.bench turn.On performs.came performs.turn (fewer (0 + turn_steps old.bench turn.On)
     (turn_steps old.bench turn.On) (bench_facts old.bench) (omega arith) (turn-left 0 old.bench turn.On left)) in
     let lost = one-dark performs.came performs.printed in
     omega (arith, spent, lost)
@@ -159,8 +161,8 @@ most-due : (arm : Option Arm) → due_of arm ≤ 1
 most-due None = omega arith
 most-due (Some arm) = omega arith
 
-pub dark-unsets : (order : Order) (old new : Desk) → Performs order old new prints_dark → IsGood old.bench → IsGood new.bench
-    → HasLeft LINE_STEPS (bench_facts old.bench) → (bench_facts new.bench).pending ≡ None
+pub dark-unsets : (order : Order) (old new : Desk) → Performs order old new prints_dark → IsGood old.bench
+    → IsGood new.bench → HasLeft LINE_STEPS (bench_facts old.bench) → (bench_facts new.bench).pending ≡ None
 dark-unsets order old new performs was good left =
     let spent = dark-spends order old new performs left in
     let most = most-due (bench_facts old.bench).pending in

@@ -3,8 +3,8 @@ use Rattle.std.specs.Prelude.{◌≡◌, ◌<◌, ◌-◌, ℕ, zero, suc, List,
 use Rattle.std.proofs.Common.{arith, inl, inr, subst, sym}
 use Rattle.t1_link.specs.ReaderTable.{Reader}
 use Rattle.card_bench.specs.BenchStates.{BenchState, off, on, IsOn}
-use Rattle.card_bench.specs.Exchanges.{Arrives, CardTakes, Commands, Desk, Ends, Exchanged, Exchanges, Passes, NextBlock}
-use Rattle.card_bench.specs.Exchanges.{left_by, printed_by, toward_card}
+use Rattle.card_bench.specs.Exchanges.{Arrives, CardTakes, Commands, Desk, Ends, Exchanged, Exchanges}
+use Rattle.card_bench.specs.Exchanges.{Passes, NextBlock, left_by, printed_by, toward_card}
 use Rattle.card_bench.specs.Exchanges.{Ended}
 use Rattle.card_bench.specs.Exchanges.{link_lost}
 use Rattle.card_bench.specs.declared.line.Line.{Line}
@@ -13,11 +13,15 @@ use Rattle.card_bench.specs.Performing.{PerformsCommand}
 use Rattle.card_bench.specs.Printouts.{Print}
 
 -- However the exchange goes on from here, with so many blocks left, so it goes from where it began.
-pub record HasPassed (limit : ℕ) (first : Ends) (way : NextBlock) (left : ℕ) (here : Ends) (next : NextBlock) : Type 0 where
-  pub continues : (new : Ends) (ending : Ended) → Exchanges left here next new ending → Exchanges limit first way new ending
+pub record HasPassed (limit : ℕ) (first : Ends) (way : NextBlock) (left : ℕ) (here : Ends)
+    (next : NextBlock) : Type 0 where
+  pub continues : (new : Ends) (ending : Ended) → Exchanges left here next new ending
+      → Exchanges limit first way new ending
 
-pub begins : (limit : ℕ) (first : Ends) (way : NextBlock) (left : ℕ) → left ≡ limit → HasPassed limit first way left first way
-begins limit first way left e = record { continues = λ new ending run. subst (λ (n : ℕ). Exchanges n first way new ending) e run }
+pub begins : (limit : ℕ) (first : Ends) (way : NextBlock) (left : ℕ) → left ≡ limit
+    → HasPassed limit first way left first way
+begins limit first way left e =
+    record { continues = λ new ending run. subst (λ (n : ℕ). Exchanges n first way new ending) e run }
 
 -- the exchange ends with the next block
 last : (left : ℕ) (here : Ends) (next : NextBlock) (new : Ends) (ending : Ended) → Passes here next new (Err ending)
@@ -25,7 +29,8 @@ last : (left : ℕ) (here : Ends) (next : NextBlock) (new : Ends) (ending : Ende
 unfolding Exchanges
 last left here next new ending passes = inl passes
 
-more : (left : ℕ) (here between : Ends) (next following : NextBlock) (new : Ends) (ending : Ended) → Passes here next between (Ok following)
+more : (left : ℕ) (here between : Ends) (next following : NextBlock) (new : Ends) (ending : Ended)
+    → Passes here next between (Ok following)
     → Exchanges left between following new ending → Exchanges (suc left) here next new ending
 unfolding Exchanges
 more left here between next following new ending passes run = inr (between, following, passes, run)
@@ -34,32 +39,38 @@ none : (here : Ends) (next : NextBlock) → Exchanges zero here next here link_l
 unfolding Exchanges
 none here next = (refl, refl)
 
-module _ (limit : ℕ) (first : Ends) (way : NextBlock) (left : ℕ) (here : Ends) (next : NextBlock) (past : HasPassed limit first way left here next) where
-  pub ends : (new : Ends) (ending : Ended) → 0 < left → Passes here next new (Err ending) → Exchanges limit first way new ending
+module _ (limit : ℕ) (first : Ends) (way : NextBlock) (left : ℕ) (here : Ends) (next : NextBlock)
+    (past : HasPassed limit first way left here next) where
+  pub ends : (new : Ends) (ending : Ended) → 0 < left → Passes here next new (Err ending)
+      → Exchanges limit first way new ending
   ends new ending some passes =
       let one : suc (left - 1) ≡ left = omega (arith, some) in
-      past.continues new ending (subst (λ (n : ℕ). Exchanges n here next new ending) one (last (left - 1) here next new ending passes))
+      past.continues new ending
+      (subst (λ (n : ℕ). Exchanges n here next new ending) one (last (left - 1) here next new ending passes))
 
-  pub goes_on : (between : Ends) (following : NextBlock) (fewer : ℕ) → suc fewer ≡ left → Passes here next between (Ok following)
-      → HasPassed limit first way fewer between following
+  pub goes_on : (between : Ends) (following : NextBlock) (fewer : ℕ) → suc fewer ≡ left
+      → Passes here next between (Ok following) → HasPassed limit first way fewer between following
   goes_on between following fewer one passes = record {
     continues = λ new ending run. past.continues new ending
-        (subst (λ (n : ℕ). Exchanges n here next new ending) one (more fewer here between next following new ending passes run));
+        (subst (λ (n : ℕ). Exchanges n here next new ending) one
+        (more fewer here between next following new ending passes run));
   }
 
   pub gives_up : left ≡ 0 → Exchanges limit first way here link_lost
-  gives_up e = past.continues here link_lost (subst (λ (n : ℕ). Exchanges n here next here link_lost) (sym e) (none here next))
+  gives_up e =
+      past.continues here link_lost (subst (λ (n : ℕ). Exchanges n here next here link_lost) (sym e) (none here next))
 
 -- a command where the reader's end is there
-pub commands-open : (old new : Desk) (command : List ℕ) (prints : Print) (reader after : Reader) (ending : Ended) → Some reader ≡ old.reader
-    → Exchanged (record { bench = old.bench; reader = reader; line = old.line }) command (record { bench = new.bench; reader = after; line = new.line }) ending
+pub commands-open : (old new : Desk) (command : List ℕ) (prints : Print) (reader after : Reader) (ending : Ended)
+    → Some reader ≡ old.reader → Exchanged (record { bench = old.bench; reader = reader; line = old.line }) command
+    (record { bench = new.bench; reader = after; line = new.line }) ending
     → new.reader ≡ left_by ending after → prints ≡ printed_by ending → Commands old old.reader command new prints
 commands-open old new command prints reader after ending e exchanged left printed =
     subst (λ (r : Option Reader). Commands old r command new prints) e (after, ending, exchanged, left, printed)
 
 -- with power on a command goes through both ends
-pub powered_command : (b : BenchState) (old new : Desk) (command : List ℕ) (prints : Print) → IsOn b → Commands old old.reader command new prints
-    → PerformsCommand b old command new prints
+pub powered_command : (b : BenchState) (old new : Desk) (command : List ℕ) (prints : Print) → IsOn b
+    → Commands old old.reader command new prints → PerformsCommand b old command new prints
 powered_command (off facts) old new command prints power commands = absurd power
 powered_command (on powered) old new command prints power commands = commands
 
@@ -71,6 +82,6 @@ pub takes_there : (bench after : BenchState) (reader : Reader) (old new : Line) 
     (record { bench = after; reader = reader; line = new }) follows
 takes_there bench after reader old new block got follows line came takes = record {
   block = line;
-  arrives = subst (λ (o : Option (List ℕ)). Arrives (record { bench = bench; reader = reader; line = old }) (toward_card block) o
-      (record { bench = after; reader = reader; line = new }) follows) (sym came) (refl, takes);
+  arrives = subst (λ (o : Option (List ℕ)). Arrives (record { bench = bench; reader = reader; line = old })
+      (toward_card block) o (record { bench = after; reader = reader; line = new }) follows) (sym came) (refl, takes);
 }

@@ -5,10 +5,10 @@ use Rattle.nvm_board.specs.Facts.{Facts}
 use Rattle.undo_journal.specs.Spending.{WritesAtMost}
 use Rattle.pin_store.specs.declared.layout.TheConstants.{PINS}
 use Rattle.pin_store.specs.Pins.{HasFewTries}
-use Rattle.card_core.specs.Cards.{Card}
-use Rattle.card_core.specs.Comparing.{comparisons}
-use Rattle.card_core.specs.Pins.{pin_of}
-use Rattle.card_core.specs.laws.FoundLaws.{found_is_proper}
+use Rattle.card_machine.specs.Cards.{Card}
+use Rattle.card_machine.specs.Comparing.{comparisons}
+use Rattle.card_machine.specs.Pins.{pin_of}
+use Rattle.card_machine.specs.laws.FoundLaws.{found_is_proper}
 use Rattle.card_bench.specs.BenchStates.{BenchState, BenchHasCard, bench_card, bench_facts}
 use Rattle.card_bench.specs.Guessing.{GuessesFew, unblocking_guessed, value_guessed}
 use Rattle.card_bench.proofs.BlockGuesses.{few-tries}
@@ -25,7 +25,8 @@ pays-nothing old new same nothing =
 -- what only writes compares nothing
 pub writing-compares : (n : ℕ) (old new : Facts) → WritesAtMost n old new → comparisons new ≡ comparisons old
 writing-compares n old new writes =
-    ap₂ (λ (compares matches : List ℕ). record { compares = compares; matches = matches }) writes.compares writes.matches
+    ap₂ (λ (compares matches : List ℕ). record { compares = compares; matches = matches })
+    writes.compares writes.matches
 
 -- what is paid for in one run, and in the next one, is paid for in both
 pub pays-on : (old between new : BenchState) → GuessesFew old between → GuessesFew between new → GuessesFew old new

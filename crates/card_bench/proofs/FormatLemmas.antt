@@ -1,5 +1,6 @@
 -- Formatting a new board succeeds: no cut is due, and no count stands at its end.
-use Rattle.std.specs.Prelude.{◌≡◌, ◌<◌, ◌*◌, ℕ, zero, suc, true, false, List, Option, None, Some, Err, Contains, length, replicate, slice_index_or, refl}
+use Rattle.std.specs.Prelude.{◌≡◌, ◌<◌, ◌*◌, ℕ, zero, suc, true, false, List, Option, None, Some, Err, Contains, length}
+use Rattle.std.specs.Prelude.{replicate, slice_index_or, refl}
 use Rattle.std.proofs.Common.{arith, inl, inr, subst, sym, ap, ◌∙◌, true≢false}
 use Rattle.nvm_board.specs.declared.board.Arm.{Arm}
 use Rattle.nvm_board.specs.declared.board.DeviceErr.{DeviceErr}
@@ -9,10 +10,10 @@ use Rattle.nvm_board.specs.Aims.{due_of}
 use Rattle.nvm_board.specs.Facts.{Answered, Facts, GoesDark, Steady, new_board, pages_of}
 use Rattle.std.proofs.lemmas.List.{length-replicate}
 use Rattle.nvm_board.specs.laws.Sizes.{pages_same}
-use Rattle.card_core.specs.Standing.{board_blocks}
+use Rattle.card_machine.specs.Standing.{board_blocks}
 use Rattle.undo_journal.specs.Spending.{WritesAtMost}
 use Rattle.card_core.specs.Factory.{factory_card}
-use Rattle.card_core.specs.Finding.{Finds}
+use Rattle.card_machine.specs.Finding.{Finds}
 use Rattle.card_bench.specs.BenchStates.{BenchState, off, bench_card, bench_facts, IsOff}
 use Rattle.card_bench.specs.Exchanges.{Desk}
 use Rattle.card_bench.specs.Plays.{IsGood}
@@ -46,7 +47,8 @@ new_count counts none at_end =
     omega (arith, same)
 
 -- power isn't lost
-stays_lit : (old new : Facts) → old ≡ new_board LEAST_PAGES → new.faults ≡ 0 → WritesAtMost LEAST_PAGES old new → GoesDark old new → ⊥
+stays_lit : (old new : Facts) → old ≡ new_board LEAST_PAGES → new.faults ≡ 0
+    → WritesAtMost LEAST_PAGES old new → GoesDark old new → ⊥
 stays_lit old new is none counts dark = elim dark.due [
   | inl spent ↦ let due : old.due ≡ 0 = ap (λ (f : Facts). f.due) is in omega (arith, spent, due)
   | inr worn ↦ elim worn.0 [
@@ -60,9 +62,10 @@ stays_lit old new is none counts dark = elim dark.due [
   ]
 ]
 
-pub format_succeeds : (old new : Facts) (e : DeviceErr) → old ≡ new_board LEAST_PAGES → new.faults ≡ 0 → WritesAtMost LEAST_PAGES old new
-    → Answered {T = Unit {0}} old new (Err e) → ⊥
-format_succeeds old new Fault is none counts answered = let rises = (answered.fault refl).faults in omega (arith, none, rises)
+pub format_succeeds : (old new : Facts) (e : DeviceErr) → old ≡ new_board LEAST_PAGES → new.faults ≡ 0
+    → WritesAtMost LEAST_PAGES old new → Answered {T = Unit {0}} old new (Err e) → ⊥
+format_succeeds old new Fault is none counts answered = let rises = (answered.fault refl).faults in
+    omega (arith, none, rises)
 format_succeeds old new PowerLost is none counts answered = elim (answered.lost refl) [
   | inl dark ↦ stays_lit old new is none counts dark
   | inr dark ↦
@@ -71,7 +74,8 @@ format_succeeds old new PowerLost is none counts answered = elim (answered.lost 
 ]
 
 -- a new board on which the factory's card was written
-pub just_written : (old new : Facts) → old ≡ new_board LEAST_PAGES → Steady old new → WritesAtMost LEAST_PAGES old new → IsJustWritten new
+pub just_written : (old new : Facts) → old ≡ new_board LEAST_PAGES → Steady old new
+    → WritesAtMost LEAST_PAGES old new → IsJustWritten new
 just_written old new is steady spent =
     let due : old.due ≡ 0 = ap (λ (f : Facts). f.due) is in
     let cuts : old.cuts ≡ 0 = ap (λ (f : Facts). f.cuts) is in
@@ -91,8 +95,9 @@ none_due None due = refl
 none_due (Some arm) due = absurd (omega (arith, due))
 
 -- the desk with the factory's board
-pub first_desk : (d : Desk) (f : Facts) → d.bench ≡ off (record f { dark = true }) → d.reader ≡ None → d.line ≡ record { lose = None; garble = None }
-    → Finds f.words (factory_card 896) → IsJustWritten f → f.faults ≡ 0 → f.due ≡ due_of f.pending → IsFirstDesk d
+pub first_desk : (d : Desk) (f : Facts) → d.bench ≡ off (record f { dark = true }) → d.reader ≡ None
+    → d.line ≡ record { lose = None; garble = None } → Finds f.words (factory_card 896) → IsJustWritten f → f.faults ≡ 0
+    → f.due ≡ due_of f.pending → IsFirstDesk d
 first_desk d f bench reader line finds counts faults due = record {
   power = subst IsOff (sym bench) refl;
   good = subst IsGood (sym bench) (record { has_card = finds.has_card; faults = faults; due = due; well = tt });

@@ -11,7 +11,8 @@ told_print None = prints_mute
 told_print (Some free) = prints_free free
 
 -- with power on the card works, since the board counts no fault
-pub free-told : (b : BenchState) (free : FreeSpace) → IsGood b → TellsFree b (Some free) → prints_free free ≡ free_shown b
+pub free-told : (b : BenchState) (free : FreeSpace) → IsGood b → TellsFree b (Some free)
+    → prints_free free ≡ free_shown b
 free-told (off facts) free good tells = absurd cc
 free-told (on powered) free good tells = ap told_print (tells.1 good.well)
 

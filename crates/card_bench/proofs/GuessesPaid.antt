@@ -9,10 +9,10 @@ use Rattle.nvm_board.specs.Facts.{raised}
 use Rattle.pin_store.specs.declared.layout.TheConstants.{PINS, TRIES, UNBLOCKING_TRIES}
 use Rattle.pin_store.specs.Pins.{HasFewTries, full_tries, is_unblocking, tries_left}
 use Rattle.pin_store.specs.laws.Tries.{is_unblocking_value, is_value}
-use Rattle.card_core.specs.Cards.{Card, Pin}
-use Rattle.card_core.specs.Comparing.{Comparisons, comparisons, ComparesAttempt, CostsATry, Matches}
-use Rattle.card_core.specs.Pins.{Attempt, no_pin, pin_of}
-use Rattle.card_core.specs.laws.ShownLaws.{IsOfItsPin}
+use Rattle.card_machine.specs.Cards.{Card, Pin}
+use Rattle.card_machine.specs.Comparing.{Comparisons, comparisons, ComparesAttempt, CostsATry, Matches}
+use Rattle.card_machine.specs.Pins.{Attempt, no_pin, pin_of}
+use Rattle.card_machine.specs.laws.ShownLaws.{IsOfItsPin}
 use Rattle.card_bench.specs.BenchStates.{BenchState, bench_card, bench_facts}
 use Rattle.card_bench.specs.BenchViews.{CountsEach}
 use Rattle.card_bench.specs.Guessing.{GuessesFew}
@@ -111,7 +111,8 @@ module _ (secret : ℕ) (shown : List ℕ) (was now : Pin) (old new : Comparison
     -- its tries pay for it: those that are gone, or all of them after one match
     abbrev PaysByTries : Type 0
     PaysByTries =
-        (slice_index new.compares secret + tries_left secret now ≤ slice_index old.compares secret + tries_left secret was)
+        (slice_index new.compares secret + tries_left secret now
+        ≤ slice_index old.compares secret + tries_left secret was)
         ⊎ ((slice_index new.compares secret + tries_left secret now
         ≤ slice_index old.compares secret + tries_left secret was + full_tries secret)
         × (slice_index new.matches secret ≡ slice_index old.matches secret + 1))
@@ -220,13 +221,14 @@ module _ (c d : Card) (a : Attempt) (old new : Comparisons) (pays : ComparesAtte
           let large : PINS ≤ a.secret = omega (arith, is) in
           let differ : place ≢ a.secret = omega (arith, is) in
           subst (λ (s : ℕ). ArePaidAt place s (pin_of c a.pin) (pin_of d a.pin) old new) is
-          (unblocking-shown a.secret a.shown (pin_of c a.pin) (pin_of d a.pin) old new pays.costs counts small place differ
-          large few)
+          (unblocking-shown a.secret a.shown (pin_of c a.pin) (pin_of d a.pin) old new pays.costs counts
+          small place differ large few)
     ]
 
     -- another one
     other-paid : (other : ℕ) → other < PINS → other ≢ place
-        → ArePaidAt other (PINS + other) (slice_index_or c.pins other no_pin) (slice_index_or d.pins other no_pin) old new
+        → ArePaidAt other (PINS + other) (slice_index_or c.pins other no_pin)
+        (slice_index_or d.pins other no_pin) old new
     other-paid other below differ =
         let value : other ≢ a.secret = elim of [
           | inl is ↦ omega (arith, is, differ)

@@ -11,7 +11,8 @@ abbrev nothing : Option (List ℕ)
 nothing = None
 
 -- bytes outside the limit
-outside : (limit : ℕ) (bytes : List ℕ) → (length bytes < 1) ⊎ (limit < length bytes) → within_limit limit (Ok bytes) ≡ None
+outside : (limit : ℕ) (bytes : List ℕ) → (length bytes < 1) ⊎ (limit < length bytes)
+    → within_limit limit (Ok bytes) ≡ None
 outside limit bytes (inl none) =
     ap (λ (b : Bool). cond (b && nat_le (length bytes) limit) (Some bytes) None) (lt-leb 1 (length bytes) none)
 outside limit bytes (inr many) =
@@ -22,7 +23,8 @@ outside limit bytes (inr many) =
     never true = refl
     never false = refl
 
-pub bytes_in-outside : (digits : List ℕ) (limit : ℕ) → (length digits / 2 < 1) ⊎ (limit < length digits / 2) → bytes_in digits limit ≡ None
+pub bytes_in-outside : (digits : List ℕ) (limit : ℕ) → (length digits / 2 < 1) ⊎ (limit < length digits / 2)
+    → bytes_in digits limit ≡ None
 bytes_in-outside digits limit apart = cases (decode_of digits) refl
   where
     cases : (r : Result (List ℕ) FromHexError) → decode_of digits ≡ r → within_limit limit r ≡ None

@@ -1,6 +1,6 @@
 -- What is taken of the bytes that a reader's buffer shows.
-use Rattle.std.proofs.Common.{◌≡◌, ℕ, ◌+◌, ◌<◌, ◌≤◌, List, [], ◌∷◌, ◌++◌, Option, IfSome, length, take, slice_index, arith}
-use Rattle.std.proofs.Common.{sym, ap, subst, ◌∙◌, take-take, length-take}
+use Rattle.std.proofs.Common.{◌≡◌, ℕ, ◌+◌, ◌<◌, ◌≤◌, List, [], ◌∷◌, ◌++◌, Option, IfSome, length, take}
+use Rattle.std.proofs.Common.{slice_index, arith, sym, ap, subst, ◌∙◌, take-take, length-take}
 use Rattle.std.proofs.lemmas.List.{take_more}
 use Rattle.std.specs.Io.{StartsWith}
 use Rattle.std.specs.Io.BufRead.{DropsConsumable}
@@ -27,7 +27,9 @@ module _ (old rested new : Option (List ℕ)) (buffered : Option ℕ) (shown : L
   taken-fed within fed drops =
       let seen = length-take most shown in
       let more = take_more (take most shown) size 0 within in
-      let all : take (size + 1) (take most shown) ≡ take (size + 1) shown = take-take (size + 1) most shown (omega (arith, within, seen)) in
+      let all : take (size + 1) (take most shown) ≡ take (size + 1) shown =
+      take-take (size + 1) most shown (omega (arith, within, seen)) in
       let last = ap (λ (b : ℕ). take size (take most shown) ++ b ∷ []) fed in
       subst (Consumes old new) (sym all ∙ more ∙ last)
-      (Consumes_shown old rested new buffered shown (size + 1) (omega (arith, within, seen)) front end kept fits drops).0
+      (Consumes_shown old rested new buffered shown (size + 1) (omega (arith, within, seen))
+      front end kept fits drops).0

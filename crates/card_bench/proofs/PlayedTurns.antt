@@ -7,11 +7,11 @@ use Rattle.card_bench.specs.declared.playing.Item.{Item}
 use Rattle.t1_link.specs.CardTable.{link_step}
 use Rattle.undo_journal.specs.Spending.{Advances}
 use Rattle.card_core.specs.declared.card_state.CardState.TheVariants.{Working}
-use Rattle.card_core.specs.Comparing.{comparisons}
-use Rattle.card_core.specs.declared.machine.TheConstants.{COMMAND_WRITES}
-use Rattle.card_core.specs.Finding.{HasCard}
+use Rattle.card_machine.specs.Comparing.{comparisons}
+use Rattle.card_machine.specs.declared.spending.TheConstants.{COMMAND_WRITES}
+use Rattle.card_machine.specs.Finding.{HasCard}
 use Rattle.card_core.specs.Running.{card_found}
-use Rattle.card_core.specs.laws.ShownLaws.{ComparesOrStays}
+use Rattle.card_machine.specs.laws.ShownLaws.{ComparesOrStays}
 use Rattle.card_bench.specs.declared.playing.Item.TheVariants.{Dark, Mute}
 use Rattle.card_bench.specs.BenchStates.{BenchState, off, on, bench_facts}
 use Rattle.card_bench.specs.CardBlocks.{Powered, BlockStands, IsCutAt, IsBlockStage}
@@ -22,9 +22,11 @@ use Rattle.card_bench.proofs.GuessesPaid.{ArePaid, paid-few}
 use Rattle.card_bench.proofs.Wearing.{aims-off, wears-shown, wears-writing}
 
 run_more : (old between new : BenchState) (turns : List Turn) (trace : List Item) (turn : Turn) (item : Item)
-    → Runs old turns trace between → GoodTurn between turn item new → Runs old (turns ++ turn ∷ []) (trace ++ item ∷ []) new
+    → Runs old turns trace between → GoodTurn between turn item new
+    → Runs old (turns ++ turn ∷ []) (trace ++ item ∷ []) new
 unfolding Runs
-run_more old between new [] [] turn item run one = (new, subst (λ (b : BenchState). GoodTurn b turn item new) run one, refl)
+run_more old between new [] [] turn item run one =
+    (new, subst (λ (b : BenchState). GoodTurn b turn item new) run one, refl)
 run_more old between new [] (i ∷ trace) turn item run one = absurd run
 run_more old between new (t ∷ turns) [] turn item run one = absurd run
 run_more old between new (t ∷ turns) (i ∷ trace) turn item run one =
@@ -33,7 +35,8 @@ run_more old between new (t ∷ turns) (i ∷ trace) turn item run one =
 darks_more : (trace : List Item) (item : Item) → darks (trace ++ item ∷ []) ≡ darks trace + dark_of item
 unfolding darks
 darks_more [] item = omega arith
-darks_more (i ∷ trace) item = let e : darks (trace ++ item ∷ []) ≡ darks trace + dark_of item = darks_more trace item in omega (arith, e)
+darks_more (i ∷ trace) item = let e : darks (trace ++ item ∷ []) ≡ darks trace + dark_of item =
+    darks_more trace item in omega (arith, e)
 
 none_run : (old : BenchState) → Runs old [] [] old
 unfolding Runs
@@ -44,7 +47,8 @@ unfolding darks
 none_dark = refl
 
 -- one more turn's counts
-counts_more : (a b : ℕ) (old between new : Facts) → CountsLosses a old between → Spends b between new → CountsLosses (a + b) old new
+counts_more : (a b : ℕ) (old between new : Facts) → CountsLosses a old between → Spends b between new
+    → CountsLosses (a + b) old new
 counts_more a b old between new all more =
     let due : (between.due ≤ new.due + b) × (new.due ≤ between.due) = elim more.due [
       | inl spent ↦ (omega (arith, spent), omega (arith, spent))
@@ -76,7 +80,8 @@ plays_none old = record {
 
 -- one more turn
 pub plays_more : (old between new : BenchState) (turns : List Turn) (trace : List Item) (turn : Turn) (item : Item)
-    → PlaysAll old turns trace between → Plays between turn item new → PlaysAll old (turns ++ turn ∷ []) (trace ++ item ∷ []) new
+    → PlaysAll old turns trace between → Plays between turn item new
+    → PlaysAll old (turns ++ turn ∷ []) (trace ++ item ∷ []) new
 plays_more old between new turns trace turn item all more =
     let first : HasNoFault old new → HasNoFault old between =
     λ good. record { faults = omega (arith, good.faults, all.counts.faults, more.counts.faults); well = good.well } in
@@ -87,7 +92,8 @@ plays_more old between new turns trace turn item all more =
     record {
       has_card = λ before. more.has_card (all.has_card before);
       counts = subst (λ (n : ℕ). CountsLosses n (bench_facts old) (bench_facts new)) (sym (darks_more trace item))
-          (counts_more (darks trace) (dark_of item) (bench_facts old) (bench_facts between) (bench_facts new) all.counts more.counts);
+          (counts_more (darks trace) (dark_of item) (bench_facts old) (bench_facts between) (bench_facts new)
+          all.counts more.counts);
       well = λ good. more.well (second good);
       guesses = pays-on old between new all.guesses more.guesses;
       runs = λ before good. run_more old between new turns trace turn item (all.runs before (first good)) (record {
@@ -101,8 +107,9 @@ plays_more old between new turns trace turn item all more =
 pub plays_cut : (old new : Powered) (got out : List ℕ) → IsCutAt old got new out → HasCard new.card.facts.words
     → IsBlockStage old (link_step old.link got).reaction (card_found new.card)
     → ArePaid (card_found old.card) (card_found new.card) (comparisons old.card.facts) (comparisons new.card.facts)
-    → ComparesOrStays (card_found old.card) (card_found new.card) (comparisons old.card.facts) (comparisons new.card.facts)
-    → new.card.facts.writes ≤ old.card.facts.writes + COMMAND_WRITES → Advances old.card.facts new.card.facts
+    → ComparesOrStays (card_found old.card) (card_found new.card) (comparisons old.card.facts)
+    (comparisons new.card.facts) → new.card.facts.writes ≤ old.card.facts.writes + COMMAND_WRITES
+    → Advances old.card.facts new.card.facts
     → (old.card.state ≡ Working → BlockStands old (link_step old.link got).reaction new.card.facts.words)
     → PlaysBlock (on old) got Dark (off (record new.card.facts { dark = true }))
 plays_cut old new got out cut found stage paid shown writes advances stands = record {

@@ -7,8 +7,8 @@ use Rattle.undo_journal.specs.declared.layout.TheConstants.{PAIRS}
 use Rattle.undo_journal.specs.Spending.{WritesAtMost, start_writes}
 use Rattle.card_core.specs.declared.faults.StartFault.{StartFault}
 use Rattle.card_core.specs.declared.faults.StartFault.TheVariants.{PowerLost, Fault, BadJournal, Damaged}
-use Rattle.card_core.specs.Comparing.{Comparisons, comparisons}
-use Rattle.card_core.specs.Finding.{FindsAgain, HasCard, found}
+use Rattle.card_machine.specs.Comparing.{Comparisons, comparisons}
+use Rattle.card_machine.specs.Finding.{FindsAgain, HasCard, found}
 use Rattle.card_core.specs.Running.{Starts, StartStopsBy}
 use Rattle.card_core.specs.Starting.{power_on_writes, renewal_writes}
 use Rattle.t1_link.specs.CardTable.{fresh}
@@ -23,7 +23,8 @@ use Rattle.card_bench.proofs.FewGuesses.{pays-nothing, writing-compares}
 use Rattle.card_bench.proofs.Wearing.{aims-off, few-renewal, few-start, wears-writing}
 
 -- power goes off
-pub turns_off : (old new : BenchState) → new ≡ off (record (bench_facts old) { dark = true }) → Plays old turn.Off item.Quiet new
+pub turns_off : (old new : BenchState) → new ≡ off (record (bench_facts old) { dark = true })
+    → Plays old turn.Off item.Quiet new
 turns_off old new is = subst (λ (b : BenchState). Plays old turn.Off item.Quiet b) (sym is) (record {
   has_card = λ before. before;
   counts = record {
@@ -70,7 +71,8 @@ module _ (old : BenchState) (dark : Facts) (darkened : dark ≡ record (bench_fa
         guesses = pays-nothing old (off new) (ap found words) (ap comparisons is);
         one = λ before good. (ap (λ (f : Facts). off f) is, subst IsWornOut (sym same) worn);
         wears = λ before good.
-            wears-writing (turn_writes old turn.On) (bench_facts old) new faults (omega (arith, writes)) (ap comparisons is);
+            wears-writing (turn_writes old turn.On) (bench_facts old) new faults
+            (omega (arith, writes)) (ap comparisons is);
       }
 
   -- the board with power on
@@ -117,7 +119,8 @@ module _ (old : BenchState) (dark : Facts) (darkened : dark ≡ record (bench_fa
         let renewal : renewal_writes lit.words ≤ most_renewal (bench_facts old).words =
         subst (λ (l : List ℕ). renewal_writes lit.words ≤ most_renewal l) lit-words (few-renewal lit.words sized) in
         let most = spent.writes in
-        wears-writing (turn_writes old turn.On) (bench_facts old) new faults (omega (arith, few, renewal, most, lit-writes))
+        wears-writing (turn_writes old turn.On)
+        (bench_facts old) new faults (omega (arith, few, renewal, most, lit-writes))
         (writing-compares (power_on_writes lit) lit new spent ∙ lit-counts)
 
     -- what a start leaves
@@ -155,8 +158,8 @@ module _ (old : BenchState) (dark : Facts) (darkened : dark ≡ record (bench_fa
     dark-lit is = true≢false (sym is ∙ ap (λ (f : Facts). f.dark) lights)
 
     -- the board, power off, after a start that stopped
-    module _ (stopped new : Facts) (again : FindsAgain lit.words stopped.words) (turned : new ≡ record stopped { dark = true })
-        (spent : WritesAtMost (power_on_writes lit) lit stopped) where
+    module _ (stopped new : Facts) (again : FindsAgain lit.words stopped.words)
+        (turned : new ≡ record stopped { dark = true }) (spent : WritesAtMost (power_on_writes lit) lit stopped) where
       new-words : new.words ≡ stopped.words
       new-words = ap (λ (f : Facts). f.words) turned
 
@@ -208,7 +211,8 @@ module _ (old : BenchState) (dark : Facts) (darkened : dark ≡ record (bench_fa
           }
 
       -- power was lost in the start
-      pub ends_dark : (why : StartFault) → why ≡ PowerLost → StartStopsBy why lit stopped → Plays old turn.On item.Dark (off new)
+      pub ends_dark : (why : StartFault) → why ≡ PowerLost → StartStopsBy why lit stopped
+          → Plays old turn.On item.Dark (off new)
       ends_dark why is stops = elim (subst (λ (e : StartFault). StartStopsBy e lit stopped) is stops) [
         | inl lost ↦ lost-so lost
         | inr was ↦ absurd (dark-lit was.0)
@@ -241,14 +245,15 @@ module _ (old : BenchState) (dark : Facts) (darkened : dark ≡ record (bench_fa
           mute-so steady.cuts steady.due (omega (arith, steady.faults))
           (λ before same. none (subst HasCard (sym lit-words) before))
 
-      pub ends_mute : (why : StartFault) → (why ≡ Fault) ⊎ (why ≡ BadJournal) ⊎ (why ≡ Damaged) → StartStopsBy why lit stopped
-          → Plays old turn.On item.Mute (off new)
+      pub ends_mute : (why : StartFault) → (why ≡ Fault) ⊎ (why ≡ BadJournal) ⊎ (why ≡ Damaged)
+          → StartStopsBy why lit stopped → Plays old turn.On item.Mute (off new)
       ends_mute PowerLost is stops = elim is [
         | inl other ↦ absurd cc
         | inr (inl other) ↦ absurd cc
         | inr (inr other) ↦ absurd cc
       ]
       ends_mute Fault is stops =
-          mute-so stops.cuts stops.due (omega (arith, stops.faults)) (λ before same. let rises = stops.faults in omega (arith, rises, same))
+          mute-so stops.cuts stops.due (omega (arith, stops.faults))
+          (λ before same. let rises = stops.faults in omega (arith, rises, same))
       ends_mute BadJournal is stops = steady-so stops.1 (λ before. stops.0 before.journal)
       ends_mute Damaged is stops = steady-so stops.2 (λ before. stops.1 before.words)

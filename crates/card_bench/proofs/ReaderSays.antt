@@ -1,5 +1,6 @@
 -- What the exchange makes of what the reader's end says: its block stands in the buffer, and its answer in itself.
-use Rattle.std.specs.Prelude.{◌≡◌, ◌≢◌, ◌==◌, ℕ, Bool, true, false, nat_lt, List, [], ◌↔◌, Ok, IfErr, OnOk, if◌then◌else◌}
+use Rattle.std.specs.Prelude.{◌≡◌, ◌≢◌, ◌==◌, ℕ, Bool, true, false, nat_lt, List, [], ◌↔◌, Ok, IfErr}
+use Rattle.std.specs.Prelude.{OnOk, if◌then◌else◌}
 use Rattle.std.proofs.Common.{◌∙◌, ap}
 use Rattle.t1_link.specs.declared.block.ErrorKind.TheVariants.{OtherError}
 use Rattle.t1_link.specs.declared.reader_end.Next.{Next}
@@ -8,14 +9,16 @@ use Rattle.t1_link.specs.declared.reader_end.Failure.TheVariants.{LinkLost}
 use Rattle.t1_link.specs.declared.reader_end.Phase.{Phase}
 use Rattle.t1_link.specs.declared.reader_end.Phase.TheVariants.{Busy}
 use Rattle.t1_link.specs.ReaderFields.{HasAnswer, IsSend, left_in, next_of}
-use Rattle.t1_link.specs.ReaderTable.{Outcome, Reader, Turned, advancing, asking, failing, fails, gives, is_dead, reader_sends}
+use Rattle.t1_link.specs.ReaderTable.{Outcome, Reader, Turned, advancing, asking, failing, fails, gives}
+use Rattle.t1_link.specs.ReaderTable.{is_dead, reader_sends}
 use Rattle.t1_link.specs.ReaderTable.{reader_times_out, requesting, requesting_again, sends, unknown}
 use Rattle.card_bench.specs.declared.exchange.Blocks.{Blocks}
 use Rattle.card_bench.specs.Exchanges.{following, toward_card}
 use Rattle.card_bench.specs.ExchangeViews.{flow_of, follows_of}
 
 pub follows-so : (o : Outcome) (next : Next) (blocks : Blocks) (held : List ℕ) (reader : Reader) → next ≡ next_of o
-    → blocks.toward_card ≡ left_in o held → HasAnswer o reader → follows_of (flow_of next) blocks reader.answer ≡ following o
+    → blocks.toward_card ≡ left_in o held → HasAnswer o reader
+    → follows_of (flow_of next) blocks reader.answer ≡ following o
 follows-so (sends b) next blocks held reader said block kept =
     ap (λ (n : Next). follows_of (flow_of n) blocks reader.answer) said ∙ ap (λ (l : List ℕ). Ok (toward_card l)) block
 follows-so (gives given) next blocks held reader said block kept =
@@ -41,8 +44,8 @@ idle-so Unknown blocks answer phase hand = hand.1
 idle-so (Failed failure) blocks answer phase hand = hand.1
 
 -- nothing is answered to a command, and not in vain either
-kept-if : (test : Bool) (one other : Turned) (reader : Reader) → HasAnswer one.outcome reader → HasAnswer other.outcome reader
-    → HasAnswer (if test then one else other).outcome reader
+kept-if : (test : Bool) (one other : Turned) (reader : Reader) → HasAnswer one.outcome reader
+    → HasAnswer other.outcome reader → HasAnswer (if test then one else other).outcome reader
 kept-if true one other reader a b = a
 kept-if false one other reader a b = b
 

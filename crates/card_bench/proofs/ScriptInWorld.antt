@@ -4,7 +4,7 @@ use Rattle.std.proofs.Common.{sym, subst, ◌∙◌}
 use Rattle.std.proofs.lemmas.Bool.{and_from, le-leb}
 use Rattle.t1_link.specs.ReaderTable.{Reader, fresh_reader}
 use Rattle.apdu_core.specs.OfBytes.{AreBytes}
-use Rattle.card_core.specs.laws.FoundLaws.{found_is_proper}
+use Rattle.card_machine.specs.laws.FoundLaws.{found_is_proper}
 use Rattle.card_bench.specs.Exchanges.{Ended}
 use Rattle.card_bench.specs.Exchanges.{answered, set_back, link_lost, power_lost}
 use Rattle.card_bench.specs.declared.line.Line.{Line}
@@ -32,29 +32,35 @@ use Rattle.card_bench.proofs.SoundBlocks.{told-bytes}
 command-so : (bytes : List ℕ) → 1 ≤ length bytes → length bytes ≤ 261 → AreBytes bytes → is_command bytes ≡ true
 command-so bytes some most all =
     and_from (are_bytes bytes) (nat_le 1 (length bytes) && nat_le (length bytes) 261) (told-bytes bytes all)
-    (and_from (nat_le 1 (length bytes)) (nat_le (length bytes) 261) (le-leb 1 (length bytes) some) (le-leb (length bytes) 261 most))
+    (and_from (nat_le 1 (length bytes)) (nat_le (length bytes) 261) (le-leb 1 (length bytes) some)
+    (le-leb (length bytes) 261 most))
 
 -- a desk that is the same, but for what is pending on the line
-same-desk : (start : Served) (events : List Event) (old new : Desk) → new ≡ old → IsInWorld start events old → IsInWorld start events new
+same-desk : (start : Served) (events : List Event) (old new : Desk) → new ≡ old → IsInWorld start events old
+    → IsInWorld start events new
 same-desk start events old new same there = subst (λ (d : Desk). IsInWorld start events d) (sym same) there
 
 other-line : (start : Served) (events : List Event) (old : Desk) (line : Line) → IsInWorld start events old
     → IsInWorld start events (record old { line = line })
-other-line start events old line there = record { reader = there.reader; may_send = there.may_send; stands = there.stands; calm = there.calm }
+other-line start events old line there =
+    record { reader = there.reader; may_send = there.may_send; stands = there.stands; calm = there.calm }
 
 -- a cut that is set to come leaves the card, its session and its end of the link
-armed-stands : (bench new : BenchState) (reader : Reader) (w : World Served) (number mask : ℕ) → IsArmed number mask bench new → StandIn bench reader w
-    → StandIn new reader w
+armed-stands : (bench new : BenchState) (reader : Reader) (w : World Served) (number mask : ℕ)
+    → IsArmed number mask bench new → StandIn bench reader w → StandIn new reader w
 armed-stands (off facts) new reader w number mask armed s = absurd s
 armed-stands (on p) new reader w number mask armed s =
-    subst (λ (b : BenchState). StandIn b reader w) (sym armed.same) (record { reader_is = s.reader_is; link_is = s.link_is; card_is = s.card_is })
+    subst (λ (b : BenchState). StandIn b reader w) (sym armed.same)
+    (record { reader_is = s.reader_is; link_is = s.link_is; card_is = s.card_is })
 
 module _ (start : Served) (events : List Event) (proper : IsProperState start) where
   -- where another command may be sent
   goes-on : (command : List ℕ) (old new : Desk) (reader : Reader) (ending : Ended)
-      → GoesAs (course_of start events command old.line) (record { bench = new.bench; reader = reader; line = new.line }) ending
+      → GoesAs (course_of start events command old.line)
+      (record { bench = new.bench; reader = reader; line = new.line }) ending
       → new.reader ≡ left_by ending reader → GoesOn ending
-      → (blocks : ℕ) × IsInWorld start (events ++ exchange_events (comes_of tree_machine start events) command old.line blocks) new
+      → (blocks : ℕ)
+      × IsInWorld start (events ++ exchange_events (comes_of tree_machine start events) command old.line blocks) new
   goes-on command old new reader (answered answer) goes left on_ = (
     goes.blocks,
     record { reader = reader; may_send = left; stands = goes.ended.0; calm = goes.ended.1.line },
@@ -66,11 +72,13 @@ module _ (start : Served) (events : List Event) (proper : IsProperState start) w
   goes-on command old new reader link_lost goes left on_ = absurd on_
   goes-on command old new reader power_lost goes left on_ = absurd on_
 
-  commands-in : (command : List ℕ) (old new : Desk) (prints : Print) → is_command command ≡ true → (there : IsInWorld start events old)
-      → Commands old (Some there.reader) command new prints → CommandInWorld command start events old new prints
+  commands-in : (command : List ℕ) (old new : Desk) (prints : Print) → is_command command ≡ true
+      → (there : IsInWorld start events old) → Commands old (Some there.reader) command new prints
+      → CommandInWorld command start events old new prints
   commands-in command old new prints sound there (reader, ending, exchanged, left, printed) =
       let course = exchange-runs start events (record { bench = old.bench; reader = there.reader; line = old.line })
-      (record { bench = new.bench; reader = reader; line = new.line }) command ending proper there.stands there.calm sound exchanged in
+      (record { bench = new.bench; reader = reader; line = new.line }) command ending proper there.stands
+      there.calm sound exchanged in
       record {
         reader = reader;
         ending = ending;
@@ -80,30 +88,36 @@ module _ (start : Served) (events : List Event) (proper : IsProperState start) w
         goes_on = λ on_. goes-on command old new reader ending course left on_;
       }
 
-  performs-in : (bench : BenchState) (command : List ℕ) (old new : Desk) (prints : Print) → is_command command ≡ true → (there : IsInWorld start events old)
-      → StandIn bench there.reader (comes_of tree_machine start events) → PerformsCommand bench old command new prints
+  performs-in : (bench : BenchState) (command : List ℕ) (old new : Desk) (prints : Print) → is_command command ≡ true
+      → (there : IsInWorld start events old) → StandIn bench there.reader (comes_of tree_machine start events)
+      → PerformsCommand bench old command new prints
       → CommandInWorld command start events old new prints
   performs-in (off facts) command old new prints sound there s performs = absurd s
   performs-in (on p) command old new prints sound there s performs =
-      commands-in command old new prints sound there (subst (λ (r : Option Reader). Commands old r command new prints) there.may_send performs)
+      commands-in command old new prints sound there
+      (subst (λ (r : Option Reader). Commands old r command new prints) there.may_send performs)
 
-  line-in : (order : Order) (old new : Desk) (prints : Print) → IsInWorld start events old → IsSized order → IsOfBytes order
-      → Performs order old new prints → LineInWorld order start events old new prints
+  line-in : (order : Order) (old new : Desk) (prints : Print) → IsInWorld start events old → IsSized order
+      → IsOfBytes order → Performs order old new prints → LineInWorld order start events old new prints
   line-in Nothing old new prints there sized bytes performs = same-desk start events old new performs.0 there
   line-in On old new prints there sized bytes performs = tt
   line-in Off old new prints there sized bytes performs = tt
   line-in Free old new prints there sized bytes performs = same-desk start events old new performs.0 there
   line-in (Apdu command) old new prints there sized bytes performs =
-      performs-in old.bench command old new prints (command-so command sized.0 sized.1 bytes) there there.stands performs
+      performs-in old.bench command old new prints (command-so command sized.0 sized.1 bytes)
+      there there.stands performs
   line-in (Block block) old new prints there sized bytes performs = tt
   line-in (Cut number mask) old new prints there sized bytes performs = record {
     reader = there.reader;
     may_send = performs.reader ∙ there.may_send;
-    stands = armed-stands old.bench new.bench there.reader (comes_of tree_machine start events) number mask performs.armed there.stands;
+    stands = armed-stands old.bench new.bench there.reader (comes_of tree_machine start events) number mask
+        performs.armed there.stands;
     calm = there.calm;
   }
-  line-in (Lose number) old new prints there sized bytes performs = same-desk start events _ new performs.0 (other-line start events old _ there)
-  line-in (Garble number) old new prints there sized bytes performs = same-desk start events _ new performs.0 (other-line start events old _ there)
+  line-in (Lose number) old new prints there sized bytes performs =
+      same-desk start events _ new performs.0 (other-line start events old _ there)
+  line-in (Garble number) old new prints there sized bytes performs =
+      same-desk start events _ new performs.0 (other-line start events old _ there)
 
 pub line-goes_on : LineLaw
 line-goes_on start events order old new prints proper there sized bytes performs =
@@ -126,8 +140,8 @@ begins-so (on p) line there new = record {
   };
 }
 
-atr-so : (came : Item) (old new : Desk) → GoodTurn old.bench turn.On came new.bench → new.reader ≡ reader_after came → prints_atr ≡ shown came
-    → BenchHasCard new.bench → IsInNewWorld new
+atr-so : (came : Item) (old new : Desk) → GoodTurn old.bench turn.On came new.bench → new.reader ≡ reader_after came
+    → prints_atr ≡ shown came → BenchHasCard new.bench → IsInNewWorld new
 atr-so item.Atr old new turn reader shows there =
     subst (λ (d : Desk). IsInNewWorld d) (λ i. record { bench = new.bench; reader = sym reader i; line = new.line })
     (begins-so new.bench new.line there turn.one.0)
@@ -137,4 +151,5 @@ atr-so item.Dark old new turn reader shows there = absurd cc
 atr-so (item.Reply block) old new turn reader shows there = absurd turn.one
 
 pub power-on-begins : PowerOnLaw
-power-on-begins old new there performs = atr-so performs.came old new performs.turn performs.reader performs.printed there
+power-on-begins old new there performs =
+    atr-so performs.came old new performs.turn performs.reader performs.printed there

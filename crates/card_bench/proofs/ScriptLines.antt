@@ -1,8 +1,8 @@
 -- The lines of a script, as they are read one by one.
 use Rattle.std.proofs.Common.{◌≡◌, ◌⊎◌, ◌<◌, ◌≤◌, ◌+◌, ◌-◌, ◌==◌, ◌&&◌, IfSome, ℕ, Bool, true, false, true≢false, cond}
 use Rattle.std.proofs.Common.{codes, nat_lt, List, [], ◌∷◌, ◌++◌, length, take}
-use Rattle.std.proofs.Common.{Option, Some, None, OnSome, is_some, slice_index, refl, sym, ◌∙◌, ap, ap₂, subst, inl, inr, arith}
-use Rattle.std.proofs.Common.{append_assoc, append-nil, length-append, length-take}
+use Rattle.std.proofs.Common.{Option, Some, None, OnSome, is_some, slice_index, refl, sym, ◌∙◌, ap, ap₂, subst, inl}
+use Rattle.std.proofs.Common.{inr, arith, append_assoc, append-nil, length-append, length-take}
 use Rattle.std.proofs.Common.{if◌then◌else◌}
 use Rattle.std.proofs.KnownBytes.{Appends-nil, Appends-trans}
 use Rattle.std.specs.Io.KnownBytes.{Appends, Consumes, IsAtEnd, Keeps}
@@ -28,7 +28,8 @@ use Rattle.card_bench.specs.Plays.{IsGood}
 use Rattle.card_bench.specs.Printouts.{Print, text_of}
 use Rattle.card_bench.specs.Printouts as print
 use Rattle.card_bench.specs.Prints.{IsFirstDesk, LinesPrint, PrintsLines}
-use Rattle.card_bench.specs.Scripts.{AreOrders, CountsTaken, FailsAtLine, IsInLine, IsTooLong, TakesInto, TakesLine, TakesTooMuch, WhereKnown}
+use Rattle.card_bench.specs.Scripts.{AreOrders, CountsTaken, FailsAtLine, IsInLine, IsTooLong, TakesInto, TakesLine}
+use Rattle.card_bench.specs.Scripts.{TakesTooMuch, WhereKnown}
 
 -- whether a byte is a line feed
 abbrev ends : ℕ → Bool
@@ -49,10 +50,12 @@ parts_some [] = ([], [], refl)
 parts_some (b ∷ text) = some_first (ends b) b (slice_split ends text)
 
 -- a line that ends with a line feed
-pub lines-line : (bytes rest : List ℕ) → IsInLine bytes → lines (bytes ++ 10 ∷ rest) ≡ strip_carriage_return bytes ∷ lines rest
+pub lines-line : (bytes rest : List ℕ) → IsInLine bytes
+    → lines (bytes ++ 10 ∷ rest) ≡ strip_carriage_return bytes ∷ lines rest
 lines-line bytes rest inside =
     let some = parts_some rest in
-    ap lines_of_parts (slice_split_at ends bytes 10 rest inside refl ∙ ap (λ (parts : List (List ℕ)). bytes ∷ parts) some.2)
+    ap lines_of_parts (slice_split_at ends bytes 10 rest inside refl
+    ∙ ap (λ (parts : List (List ℕ)). bytes ∷ parts) some.2)
     ∙ sym (ap (λ (parts : List (List ℕ)). strip_carriage_return bytes ∷ lines_of_parts parts) some.2)
 
 -- the last line, where it has no line feed
@@ -60,8 +63,8 @@ pub lines-last : (line : List ℕ) → IsInLine line → lines line ≡ (if leng
 lines-last line inside = ap lines_of_parts (slice_split_none ends line inside)
 
 -- bytes with no line feed go before the first part
-split-in_line : (bytes more part : List ℕ) (parts : List (List ℕ)) → IsInLine bytes → slice_split ends more ≡ part ∷ parts
-    → slice_split ends (bytes ++ more) ≡ (bytes ++ part) ∷ parts
+split-in_line : (bytes more part : List ℕ) (parts : List (List ℕ)) → IsInLine bytes
+    → slice_split ends more ≡ part ∷ parts → slice_split ends (bytes ++ more) ≡ (bytes ++ part) ∷ parts
 split-in_line [] more part parts inside is = is
 split-in_line (b ∷ bytes) more part parts inside is =
     slice_split-cons_no ends b (bytes ++ more) (All-head (λ b. (b == 10) ≡ false) b bytes inside)
@@ -98,7 +101,8 @@ IsLong ls = (line : List ℕ) × (others : List (List ℕ)) × (ls ≡ line ∷ 
 long_line : (first : List ℕ) (parts : List (List ℕ)) → IsTooLong first → IsLong (lines_of_parts (first ∷ parts))
 long_line first [] long =
     let whole = strip-within first in
-    let some : (length first == 0) ≡ false = ne_eqb (length first) 0 (λ none. let z : ⊥ = omega (arith, whole, long, none) in z) in
+    let some : (length first == 0) ≡ false =
+    ne_eqb (length first) 0 (λ none. let z : ⊥ = omega (arith, whole, long, none) in z) in
     (first, [], ap (λ (b : Bool). cond b [] (first ∷ [])) some, omega (arith, whole, long))
 long_line first (part ∷ parts) long = (strip_carriage_return first, lines_of_parts (part ∷ parts), refl, long)
 
@@ -111,7 +115,8 @@ lines-long bytes more inside long =
 -- a line of too many bytes asks for nothing
 order_of-long : (line : List ℕ) → LINE_LIMIT < length line → order_of line ≡ None
 unfolding order_of
-order_of-long line long = let over : nat_lt LINE_LIMIT (length line) ≡ true = lt-ltb LINE_LIMIT (length line) long in rw over refl
+order_of-long line long = let over : nat_lt LINE_LIMIT (length line) ≡ true =
+    lt-ltb LINE_LIMIT (length line) long in rw over refl
 
 -- an empty line asks for nothing to be done
 order_of-none : order_of [] ≡ Some Nothing
@@ -122,22 +127,26 @@ order_of-empty : is_some (order_of []) ≡ true
 order_of-empty = ap is_some order_of-none
 
 -- it prints nothing
-silent : (order : Order) (prints : Print) (desk desk' : Desk) → order_of [] ≡ Some order → Performs order desk desk' prints → text_of prints ≡ []
+silent : (order : Order) (prints : Print) (desk desk' : Desk) → order_of [] ≡ Some order
+    → Performs order desk desk' prints → text_of prints ≡ []
 silent order prints desk desk' good performs =
     let nothing : order ≡ Nothing = let some = sym good ∙ order_of-none in cc in
-    let does : Performs Nothing desk desk' prints = subst (λ (o : Order). Performs o desk desk' prints) nothing performs in
+    let does : Performs Nothing desk desk' prints =
+    subst (λ (o : Order). Performs o desk desk' prints) nothing performs in
     ap text_of does.1
 
 some_bytes : (b : ℕ) (l : List ℕ) → (length (b ∷ l) == 0) ≡ false
 some_bytes b l = ne_eqb (length (b ∷ l)) 0 (λ none. let z : ⊥ = omega arith in z)
 
 -- a list of lines that goes on by one
-orders-more : (ls : List (List ℕ)) (line : List ℕ) → AreOrders ls → is_some (order_of line) ≡ true → AreOrders (ls ++ line ∷ [])
-orders-more ls line all one = list_all-append (λ l. is_some (order_of l)) ls (line ∷ []) ∙ ap₂ (λ (a b : Bool). a && (b && true)) all one
+orders-more : (ls : List (List ℕ)) (line : List ℕ) → AreOrders ls → is_some (order_of line) ≡ true
+    → AreOrders (ls ++ line ∷ [])
+orders-more ls line all one = list_all-append (λ l. is_some (order_of l)) ls (line ∷ [])
+    ∙ ap₂ (λ (a b : Bool). a && (b && true)) all one
 
 -- bytes that were taken are counted
-pub counts_of : (old new : Option (List ℕ)) (bytes : List ℕ) (before after : ℕ) → Consumes old new bytes → after ≡ before + length bytes
-    → CountsTaken old new before after
+pub counts_of : (old new : Option (List ℕ)) (bytes : List ℕ) (before after : ℕ) → Consumes old new bytes
+    → after ≡ before + length bytes → CountsTaken old new before after
 counts_of None new bytes before after taken counted = tt
 counts_of (Some xs) None bytes before after taken counted = absurd taken
 counts_of (Some xs) (Some ys) bytes before after taken counted =
@@ -145,16 +154,16 @@ counts_of (Some xs) (Some ys) bytes before after taken counted =
     omega (arith, sum, counted)
 
 -- a buffer that is empty is the end of what is known
-pub at_end_of : (old new : Option (List ℕ)) (shown : List ℕ) → IfSome old (λ xs. length shown ≡ 0 → xs ≡ []) → Keeps old new → length shown ≡ 0
-    → OnSome old (IsAtEnd new)
+pub at_end_of : (old new : Option (List ℕ)) (shown : List ℕ) → IfSome old (λ xs. length shown ≡ 0 → xs ≡ [])
+    → Keeps old new → length shown ≡ 0 → OnSome old (IsAtEnd new)
 at_end_of None new shown end kept none = tt
 at_end_of (Some xs) None shown end kept none = absurd kept
 at_end_of (Some xs) (Some ys) shown end kept none = kept ∙ end none
 
 -- one more line is carried out
 prints_more : (old between new : Desk) (some : List (List ℕ)) (out line : List ℕ) (order : Order) (prints : Print)
-    → PrintsLines old some between out → order_of line ≡ Some order → Performs order between new prints → IsGood new.bench
-    → PrintsLines old (some ++ line ∷ []) new (out ++ text_of prints)
+    → PrintsLines old some between out → order_of line ≡ Some order → Performs order between new prints
+    → IsGood new.bench → PrintsLines old (some ++ line ∷ []) new (out ++ text_of prints)
 unfolding PrintsLines
 prints_more old between new [] out line order prints all is one well = (
   order,
@@ -202,10 +211,12 @@ pub record Runs (script rest : List ℕ) (n taken : ℕ) (desk : Desk) (out : Li
 abbrev pub HasRun : Option (List ℕ) → Option (List ℕ) → ℕ → ℕ → Desk → Option (List ℕ) → Option (List ℕ) → Type 0
 HasRun None now n taken desk held holds = Unit {0}
 HasRun (Some script) None n taken desk held holds = ⊥
-HasRun (Some script) (Some rest) n taken desk held holds = (out : List ℕ) × Runs script rest n taken desk out × Appends held holds out
+HasRun (Some script) (Some rest) n taken desk held holds = (out : List ℕ) × Runs script rest n taken desk out
+    × Appends held holds out
 
 -- nothing was read yet
-pub begins_run : (script : Option (List ℕ)) (desk : Desk) (held : Option (List ℕ)) → IsFirstDesk desk → HasRun script script 0 0 desk held held
+pub begins_run : (script : Option (List ℕ)) (desk : Desk) (held : Option (List ℕ)) → IsFirstDesk desk
+    → HasRun script script 0 0 desk held held
 begins_run None desk held first = tt
 begins_run (Some script) desk held first = (
   [],
@@ -226,33 +237,42 @@ begins_run (Some script) desk held first = (
 )
 
 -- some lines print this
-pub printed : (script rest : List ℕ) (n taken : ℕ) (desk : Desk) (out : List ℕ) (run : Runs script rest n taken desk out) → LinesPrint run.done out
-printed script rest n taken desk out run = record { first = run.first; last = desk; begins = run.begins; all = run.prints }
+pub printed : (script rest : List ℕ) (n taken : ℕ) (desk : Desk) (out : List ℕ)
+    (run : Runs script rest n taken desk out) → LinesPrint run.done out
+printed script rest n taken desk out run =
+    record { first = run.first; last = desk; begins = run.begins; all = run.prints }
 
 -- one more line, that ends with a line feed
-module _ (script rest rest' line : List ℕ) (n taken taken' : ℕ) (desk : Desk) (out : List ℕ) (run : Runs script rest n taken desk out) where
+module _ (script rest rest' line : List ℕ) (n taken taken' : ℕ) (desk : Desk) (out : List ℕ)
+    (run : Runs script rest n taken desk out) where
   all_lines : lines script ≡ run.done ++ lines rest
   all_lines = ap lines run.split ∙ run.goes rest
 
-  module _ (bytes : List ℕ) (is : rest ≡ (bytes ++ 10 ∷ []) ++ rest') (inside : IsInLine bytes) (stripped : line ≡ strip_carriage_return bytes) where
+  module _ (bytes : List ℕ) (is : rest ≡ (bytes ++ 10 ∷ []) ++ rest') (inside : IsInLine bytes)
+      (stripped : line ≡ strip_carriage_return bytes) where
     fed : (more : List ℕ) → lines ((run.front ++ (bytes ++ 10 ∷ [])) ++ more) ≡ (run.done ++ line ∷ []) ++ lines more
     fed more =
-        ap lines (append_assoc run.front (bytes ++ 10 ∷ []) more ∙ ap (λ (l : List ℕ). run.front ++ l) (append_assoc bytes (10 ∷ []) more))
+        ap lines (append_assoc run.front (bytes ++ 10 ∷ []) more
+        ∙ ap (λ (l : List ℕ). run.front ++ l) (append_assoc bytes (10 ∷ []) more))
         ∙ run.goes (bytes ++ 10 ∷ more) ∙ ap (λ (ls : List (List ℕ)). run.done ++ ls) (lines-line bytes more inside)
-        ∙ ap (λ (l : List ℕ). run.done ++ l ∷ lines more) (sym stripped) ∙ sym (append_assoc run.done (line ∷ []) (lines more))
+        ∙ ap (λ (l : List ℕ). run.done ++ l ∷ lines more) (sym stripped)
+        ∙ sym (append_assoc run.done (line ∷ []) (lines more))
 
     split_on : script ≡ (run.front ++ (bytes ++ 10 ∷ [])) ++ rest'
-    split_on = run.split ∙ ap (λ (l : List ℕ). run.front ++ l) is ∙ sym (append_assoc run.front (bytes ++ 10 ∷ []) rest')
+    split_on = run.split ∙ ap (λ (l : List ℕ). run.front ++ l) is
+        ∙ sym (append_assoc run.front (bytes ++ 10 ∷ []) rest')
 
     size_on : length rest + taken ≡ length rest' + taken' → length (run.front ++ (bytes ++ 10 ∷ [])) ≡ taken'
     size_on counted =
         let a = length-append run.front (bytes ++ 10 ∷ []) in
-        let b : length rest ≡ length (bytes ++ 10 ∷ []) + length rest' = ap length is ∙ length-append (bytes ++ 10 ∷ []) rest' in
+        let b : length rest ≡ length (bytes ++ 10 ∷ []) + length rest' = ap length is
+        ∙ length-append (bytes ++ 10 ∷ []) rest' in
         let s = run.size in
         omega (arith, a, b, s, counted)
 
-    next : (desk' : Desk) (order : Order) (prints : Print) → length rest + taken ≡ length rest' + taken' → order_of line ≡ Some order
-        → Performs order desk desk' prints → IsGood desk'.bench → Runs script rest' (n + 1) taken' desk' (out ++ text_of prints)
+    next : (desk' : Desk) (order : Order) (prints : Print) → length rest + taken ≡ length rest' + taken'
+        → order_of line ≡ Some order → Performs order desk desk' prints → IsGood desk'.bench
+        → Runs script rest' (n + 1) taken' desk' (out ++ text_of prints)
     next desk' order prints counted good performs well = record {
       front = run.front ++ (bytes ++ 10 ∷ []);
       done = run.done ++ line ∷ [];
@@ -271,7 +291,8 @@ module _ (script rest rest' line : List ℕ) (n taken taken' : ℕ) (desk : Desk
     fed_rest = ap lines split_on ∙ fed rest'
 
     -- it asks for nothing that is known
-    fed_fails : length rest + taken ≡ length rest' + taken' → taken' ≤ SCRIPT_LIMIT → order_of line ≡ None → FailsAtLine script (n + 1)
+    fed_fails : length rest + taken ≡ length rest' + taken' → taken' ≤ SCRIPT_LIMIT → order_of line ≡ None
+        → FailsAtLine script (n + 1)
     fed_fails counted within bad = record {
       before = run.done;
       line = line;
@@ -306,7 +327,8 @@ module _ (script rest rest' line : List ℕ) (n taken taken' : ℕ) (desk : Desk
         let empty = ap length none in
         omega (arith, s, sum, counted, empty, within)
 
-    last_fails : length rest + taken ≡ length rest' + taken' → taken' ≤ SCRIPT_LIMIT → order_of line ≡ None → FailsAtLine script (n + 1)
+    last_fails : length rest + taken ≡ length rest' + taken' → taken' ≤ SCRIPT_LIMIT → order_of line ≡ None
+        → FailsAtLine script (n + 1)
     last_fails counted within bad = record {
       before = run.done;
       line = line;
@@ -327,35 +349,45 @@ module _ (script rest rest' line : List ℕ) (n taken taken' : ℕ) (desk : Desk
         only (b ∷ l) none = ap (λ (e : Bool). cond e [] ((b ∷ l) ∷ [])) (some_bytes b l)
 
 -- a line that ends with a line feed
-pub goes_on : (script old new : Option (List ℕ)) (n taken taken' : ℕ) (line : List ℕ) (desk desk' : Desk) (held before holds : Option (List ℕ))
-    (order : Order) (prints : Print) → HasRun script old n taken desk held before → TakesLine old new line LineFeed
-    → CountsTaken old new taken taken' → order_of line ≡ Some order → Performs order desk desk' prints → IsGood desk'.bench
-    → Appends before holds (text_of prints) → HasRun script new (n + 1) taken' desk' held holds
-goes_on None old new n taken taken' line desk desk' held before holds order prints run takes counted good performs well wrote = tt
-goes_on (Some script) None new n taken taken' line desk desk' held before holds order prints run takes counted good performs well wrote = absurd run
-goes_on (Some script) (Some rest) None n taken taken' line desk desk' held before holds order prints run takes counted good performs well wrote = absurd counted
-goes_on (Some script) (Some rest) (Some rest') n taken taken' line desk desk' held before holds order prints run takes counted good performs well wrote = (
-  run.0 ++ text_of prints,
-  next script rest rest' line n taken taken' desk run.0 run.1 takes.0 takes.1 takes.2 takes.3 desk' order prints counted good performs well,
-  Appends-trans held before holds run.0 (text_of prints) run.2 wrote,
-)
+pub goes_on : (script old new : Option (List ℕ)) (n taken taken' : ℕ) (line : List ℕ) (desk desk' : Desk)
+    (held before holds : Option (List ℕ)) (order : Order) (prints : Print) → HasRun script old n taken desk held before
+    → TakesLine old new line LineFeed
+    → CountsTaken old new taken taken' → order_of line ≡ Some order → Performs order desk desk' prints
+    → IsGood desk'.bench → Appends before holds (text_of prints) → HasRun script new (n + 1) taken' desk' held holds
+goes_on None old new n taken taken' line desk desk' held before holds order prints run takes counted good
+    performs well wrote = tt
+goes_on (Some script) None new n taken taken' line desk desk' held before holds order prints run takes counted good
+    performs well wrote = absurd run
+goes_on (Some script) (Some rest) None n taken taken' line desk desk' held before holds order prints run takes counted
+    good performs well wrote = absurd counted
+goes_on (Some script) (Some rest) (Some rest') n taken taken' line desk desk' held before holds order prints run takes
+    counted good performs well wrote = (
+      run.0 ++ text_of prints,
+      next script rest rest' line n taken taken' desk run.0 run.1 takes.0 takes.1 takes.2 takes.3 desk' order prints
+          counted good performs well,
+      Appends-trans held before holds run.0 (text_of prints) run.2 wrote,
+    )
 
 -- the last line: what it prints is written
-whole : (script rest rest' line : List ℕ) (n taken taken' : ℕ) (desk desk' : Desk) (out : List ℕ) (run : Runs script rest n taken desk out)
-    (held before holds : Option (List ℕ)) (order : Order) (prints : Print) → rest ≡ line ++ rest' → rest' ≡ [] → IsInLine line
+whole : (script rest rest' line : List ℕ) (n taken taken' : ℕ) (desk desk' : Desk) (out : List ℕ)
+    (run : Runs script rest n taken desk out) (held before holds : Option (List ℕ)) (order : Order) (prints : Print)
+    → rest ≡ line ++ rest' → rest' ≡ [] → IsInLine line
     → Appends held before out → order_of line ≡ Some order → Performs order desk desk' prints → IsGood desk'.bench
     → Appends before holds (text_of prints) → AreOrders (lines script) × HasWritten held (lines script) holds
-whole script rest rest' [] n taken taken' desk desk' out run held before holds order prints is none inside held_out good performs well wrote =
-    let all : lines script ≡ run.done = last_lines script rest rest' [] n taken taken' desk out run is none inside ∙ append-nil run.done in (
+whole script rest rest' [] n taken taken' desk desk' out run held before holds order prints is none inside held_out
+    good performs well wrote =
+    let all : lines script ≡ run.done = last_lines script rest rest' [] n taken taken' desk out run is none inside
+    ∙ append-nil run.done in (
       subst AreOrders (sym all) run.orders,
       (
         out,
         subst (λ (ls : List (List ℕ)). LinesPrint ls out) (sym all) (printed script rest n taken desk out run),
-        subst (Appends held holds) (ap (λ (l : List ℕ). out ++ l) (silent order prints desk desk' good performs) ∙ append-nil out)
-            (Appends-trans held before holds out (text_of prints) held_out wrote),
+        subst (Appends held holds) (ap (λ (l : List ℕ). out ++ l) (silent order prints desk desk' good performs)
+            ∙ append-nil out) (Appends-trans held before holds out (text_of prints) held_out wrote),
       ),
     )
-whole script rest rest' (b ∷ l) n taken taken' desk desk' out run held before holds order prints is none inside held_out good performs well wrote =
+whole script rest rest' (b ∷ l) n taken taken' desk desk' out run held before holds order prints is none inside held_out
+    good performs well wrote =
     let all : lines script ≡ run.done ++ (b ∷ l) ∷ [] =
     last_lines script rest rest' (b ∷ l) n taken taken' desk out run is none inside
     ∙ ap (λ (e : Bool). run.done ++ cond e [] ((b ∷ l) ∷ [])) (some_bytes b l) in (
@@ -372,38 +404,53 @@ whole script rest rest' (b ∷ l) n taken taken' desk desk' out run held before 
       ),
     )
 
-pub is_done : (script old new : Option (List ℕ)) (n taken taken' : ℕ) (line : List ℕ) (desk desk' : Desk) (held before holds : Option (List ℕ))
-    (order : Order) (prints : Print) → HasRun script old n taken desk held before → TakesLine old new line EndOfScript
-    → CountsTaken old new taken taken' → taken' ≤ SCRIPT_LIMIT → order_of line ≡ Some order → Performs order desk desk' prints
-    → IsGood desk'.bench → Appends before holds (text_of prints) → IfSome script (λ bytes. IsRunToEnd bytes held holds)
-is_done None old new n taken taken' line desk desk' held before holds order prints run takes counted within good performs well wrote = tt
-is_done (Some script) None new n taken taken' line desk desk' held before holds order prints run takes counted within good performs well wrote = absurd run
-is_done (Some script) (Some rest) None n taken taken' line desk desk' held before holds order prints run takes counted within good performs well wrote =
+pub is_done : (script old new : Option (List ℕ)) (n taken taken' : ℕ) (line : List ℕ) (desk desk' : Desk)
+    (held before holds : Option (List ℕ)) (order : Order) (prints : Print) → HasRun script old n taken desk held before
+    → TakesLine old new line EndOfScript
+    → CountsTaken old new taken taken' → taken' ≤ SCRIPT_LIMIT → order_of line ≡ Some order
+    → Performs order desk desk' prints → IsGood desk'.bench → Appends before holds (text_of prints)
+    → IfSome script (λ bytes. IsRunToEnd bytes held holds)
+is_done None old new n taken taken' line desk desk' held before holds order prints run takes counted within good
+    performs well wrote = tt
+is_done (Some script) None new n taken taken' line desk desk' held before holds order prints run takes counted within
+    good performs well wrote = absurd run
+is_done (Some script) (Some rest) None n taken taken' line desk desk' held before holds order prints run takes counted
+    within good performs well wrote =
     absurd counted
-is_done (Some script) (Some rest) (Some rest') n taken taken' line desk desk' held before holds order prints run takes counted within good performs well wrote =
+is_done (Some script) (Some rest) (Some rest') n taken taken' line desk desk' held before holds order prints run takes
+    counted within good performs well wrote =
     let all = whole script rest rest' line n taken taken' desk desk' run.0 run.1 held before holds
     order prints takes.0 takes.1 takes.2 run.2 good performs well wrote in
     record {
-      good = record { orders = all.0; size = last_size script rest rest' line n taken taken' desk run.0 run.1 takes.0 takes.1 takes.2 counted within };
+      good = record {
+        orders = all.0;
+        size = last_size script rest rest' line n taken taken' desk run.0 run.1 takes.0 takes.1 takes.2 counted within;
+      };
       written = all.1;
     }
 
 -- a bad line
-pub is_bad : (script old new : Option (List ℕ)) (n taken taken' : ℕ) (line : List ℕ) (end : LineEnd) (desk : Desk) (held holds : Option (List ℕ))
-    → HasRun script old n taken desk held holds → TakesLine old new line end → CountsTaken old new taken taken' → taken' ≤ SCRIPT_LIMIT
+pub is_bad : (script old new : Option (List ℕ)) (n taken taken' : ℕ) (line : List ℕ) (end : LineEnd) (desk : Desk)
+    (held holds : Option (List ℕ)) → HasRun script old n taken desk held holds → TakesLine old new line end
+    → CountsTaken old new taken taken' → taken' ≤ SCRIPT_LIMIT
     → order_of line ≡ None → IfSome script (λ bytes. IsRunToLine (n + 1) bytes held holds)
 unfolding fed_fails last_fails
 is_bad None old new n taken taken' line end desk held holds run takes counted within bad = tt
 is_bad (Some script) None new n taken taken' line end desk held holds run takes counted within bad = absurd run
-is_bad (Some script) (Some rest) None n taken taken' line end desk held holds run takes counted within bad = absurd counted
-is_bad (Some script) (Some rest) (Some rest') n taken taken' line LineFeed desk held holds run takes counted within bad = record {
-  fails = fed_fails script rest rest' line n taken taken' desk run.0 run.1 takes.0 takes.1 takes.2 takes.3 counted within bad;
-  written = (run.0, printed script rest n taken desk run.0 run.1, run.2);
-}
-is_bad (Some script) (Some rest) (Some rest') n taken taken' line EndOfScript desk held holds run takes counted within bad = record {
-  fails = last_fails script rest rest' line n taken taken' desk run.0 run.1 takes.0 takes.1 takes.2 counted within bad;
-  written = (run.0, printed script rest n taken desk run.0 run.1, run.2);
-}
+is_bad (Some script) (Some rest) None n taken taken' line end desk held holds run takes counted
+    within bad = absurd counted
+is_bad (Some script) (Some rest) (Some rest') n taken taken' line LineFeed desk held holds run takes
+    counted within bad = record {
+      fails = fed_fails script rest rest' line n taken taken' desk run.0 run.1 takes.0 takes.1 takes.2
+          takes.3 counted within bad;
+      written = (run.0, printed script rest n taken desk run.0 run.1, run.2);
+    }
+is_bad (Some script) (Some rest) (Some rest') n taken taken' line EndOfScript desk held holds run takes
+    counted within bad = record {
+      fails = last_fails script rest rest' line n taken taken' desk run.0 run.1 takes.0 takes.1
+          takes.2 counted within bad;
+      written = (run.0, printed script rest n taken desk run.0 run.1, run.2);
+    }
 
 -- a line of too many bytes
 pub is_too_long : (script old new : Option (List ℕ)) (n taken taken' : ℕ) (desk : Desk) (held holds : Option (List ℕ))
@@ -417,7 +464,8 @@ is_too_long (Some script) (Some rest) (Some rest') n taken taken' desk held hold
     before = run.1.done;
     line = long.0;
     after = long.1;
-    all = ap lines run.1.split ∙ run.1.goes rest ∙ ap (λ (ls : List (List ℕ)). run.1.done ++ ls) (ap lines takes.1 ∙ long.2);
+    all = ap lines run.1.split ∙ run.1.goes rest
+        ∙ ap (λ (ls : List (List ℕ)). run.1.done ++ ls) (ap lines takes.1 ∙ long.2);
     number = ap (λ (k : ℕ). k + 1) run.1.number;
     orders = run.1.orders;
     bad = order_of-long long.0 long.3;
@@ -442,12 +490,13 @@ is_too_long (Some script) (Some rest) (Some rest') n taken taken' desk held hold
     only =
         let whole = strip-within takes.0 in
         let long = takes.3 in
-        let some : (length takes.0 == 0) ≡ false = ne_eqb (length takes.0) 0 (λ none. let z : ⊥ = omega (arith, whole, long, none) in z) in
+        let some : (length takes.0 == 0) ≡ false =
+        ne_eqb (length takes.0) 0 (λ none. let z : ⊥ = omega (arith, whole, long, none) in z) in
         lines-last takes.0 takes.2 ∙ ap (λ (b : Bool). cond b [] (takes.0 ∷ [])) some
 
 -- the bytes of the lines so far
-front_lines : (script rest : List ℕ) (n taken : ℕ) (desk : Desk) (out : List ℕ) (run : Runs script rest n taken desk out)
-    → lines run.front ≡ run.done
+front_lines : (script rest : List ℕ) (n taken : ℕ) (desk : Desk) (out : List ℕ)
+    (run : Runs script rest n taken desk out) → lines run.front ≡ run.done
 front_lines script rest n taken desk out run = ap lines (sym (append-nil run.front)) ∙ run.goes [] ∙ append-nil run.done
 
 -- what is left of a line is left of a script
@@ -498,7 +547,8 @@ speaks print.prints_mute other none = some_text (codes "mute") none
 speaks print.prints_dark other none = some_text (codes "dark") none
 speaks print.prints_lost other none = some_text (codes "lost") none
 speaks (print.prints_bytes bytes) other none = some_text (codes "< " ++ encode_upper bytes) none
-speaks (print.prints_free free) other none = some_text (codes "free " ++ decimal free.blocks ++ 32 ∷ decimal free.entries) none
+speaks (print.prints_free free) other none =
+    some_text (codes "free " ++ decimal free.blocks ++ 32 ∷ decimal free.entries) none
 
 -- one line
 prints_one : (old new : Desk) (line : List ℕ) (order : Order) (prints : Print) → order_of line ≡ Some order
@@ -508,25 +558,32 @@ prints_one old new line order prints is one well =
     (order, new, prints, [], is, one, well, (refl, refl), sym (append-nil (text_of prints)))
 
 -- the writer fails
-pub is_unwritten : (script old new : Option (List ℕ)) (n taken taken' : ℕ) (line : List ℕ) (end : LineEnd) (desk desk' : Desk)
-    (held before holds : Option (List ℕ)) (order : Order) (prints : Print) → HasRun script old n taken desk held before → TakesLine old new line end
-    → CountsTaken old new taken taken' → taken' ≤ SCRIPT_LIMIT → order_of line ≡ Some order → Performs order desk desk' prints
+pub is_unwritten : (script old new : Option (List ℕ)) (n taken taken' : ℕ) (line : List ℕ)
+    (end : LineEnd) (desk desk' : Desk) (held before holds : Option (List ℕ)) (order : Order) (prints : Print)
+    → HasRun script old n taken desk held before → TakesLine old new line end
+    → CountsTaken old new taken taken'
+    → taken' ≤ SCRIPT_LIMIT → order_of line ≡ Some order → Performs order desk desk' prints
     → IsGood desk'.bench → (text_of prints ≡ [] → ⊥) → (size : ℕ) × Appends before holds (take size (text_of prints))
     → WhereKnown script new (λ bytes left. IsRunInto bytes left held holds)
-is_unwritten None old new n taken taken' line end desk desk' held before holds order prints run takes counted most good performs well loud began = tt
-is_unwritten (Some script) None new n taken taken' line end desk desk' held before holds order prints run takes counted most good performs well loud began =
+is_unwritten None old new n taken taken' line end desk desk' held before holds order prints run takes counted most good
+    performs well loud began = tt
+is_unwritten (Some script) None new n taken taken' line end desk desk' held before holds order prints run takes counted
+    most good performs well loud began =
     absurd run
-is_unwritten (Some script) (Some rest) None n taken taken' line end desk desk' held before holds order prints run takes counted most good performs well loud began =
+is_unwritten (Some script) (Some rest) None n taken taken' line end desk desk' held before holds order prints run takes
+    counted most good performs well loud began =
     absurd counted
 is_unwritten (Some script) (Some rest) (Some rest')
-    n taken taken' line LineFeed desk desk' held before holds order prints run takes counted most good performs well loud began =
+    n taken taken' line LineFeed desk desk' held before holds order prints run takes counted most good
+    performs well loud began =
     let front : List ℕ = run.1.front ++ (takes.0 ++ 10 ∷ []) in
     let goes = fed script rest rest' line n taken taken' desk run.0 run.1 takes.0 takes.1 takes.2 takes.3 in record {
       front = front;
       parts = split_on script rest rest' line n taken taken' desk run.0 run.1 takes.0 takes.1 takes.2 takes.3;
       ended = inl (run.1.front ++ takes.0, sym (append_assoc run.1.front takes.0 (10 ∷ [])));
       within =
-          let s = size_on script rest rest' line n taken taken' desk run.0 run.1 takes.0 takes.1 takes.2 takes.3 counted in
+          let s = size_on script rest rest' line n taken taken' desk run.0 run.1 takes.0 takes.1
+          takes.2 takes.3 counted in
           omega (arith, s, most);
       before = run.1.done;
       line = line;
@@ -544,14 +601,17 @@ is_unwritten (Some script) (Some rest) (Some rest')
       begun = Appends-trans held before holds run.0 (take began.0 (text_of prints)) run.2 began.1;
     }
 is_unwritten (Some script) (Some rest) (Some rest')
-    n taken taken' [] EndOfScript desk desk' held before holds order prints run takes counted most good performs well loud began =
+    n taken taken' [] EndOfScript desk desk' held before holds order prints run takes counted most good
+    performs well loud began =
     absurd (loud (silent order prints desk desk' good performs))
 is_unwritten (Some script) (Some rest) (Some rest')
-    n taken taken' (b ∷ l) EndOfScript desk desk' held before holds order prints run takes counted most good performs well loud began =
+    n taken taken' (b ∷ l) EndOfScript desk desk' held before holds order prints run takes counted most good
+    performs well loud began =
     record {
       front = run.1.front ++ b ∷ l;
       parts =
-          run.1.split ∙ ap (λ (bytes : List ℕ). run.1.front ++ bytes) takes.0 ∙ sym (append_assoc run.1.front (b ∷ l) rest');
+          run.1.split ∙ ap (λ (bytes : List ℕ). run.1.front ++ bytes) takes.0
+          ∙ sym (append_assoc run.1.front (b ∷ l) rest');
       ended = inr takes.1;
       within =
           let sum = length-append run.1.front (b ∷ l) in

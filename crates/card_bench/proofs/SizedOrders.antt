@@ -1,6 +1,6 @@
 -- What a line asks for keeps the limits of lines, and its bytes are bytes.
-use Rattle.std.proofs.Common.{◌≡◌, ◌≤◌, ◌<◌, ◌*◌, ◌+◌, ◌&&◌, ℕ, Bool, true, false, cond, nat_le, List, [], ◌∷◌, length, drop, take}
-use Rattle.std.proofs.Common.{Option, Some, None, Result, Ok, Err, ◌-◌, arith, refl, subst}
+use Rattle.std.proofs.Common.{◌≡◌, ◌≤◌, ◌<◌, ◌*◌, ◌+◌, ◌&&◌, ℕ, Bool, true, false, cond, nat_le, List, [], ◌∷◌, length}
+use Rattle.std.proofs.Common.{drop, take, Option, Some, None, Result, Ok, Err, ◌-◌, arith, refl, subst}
 use Rattle.std.specs.Prelude.{option_map}
 use Rattle.std.specs.List.{list_all}
 use Rattle.std.specs.Str.Parse.{digits_value}
@@ -119,7 +119,8 @@ order_of-in_range line =
     either _ _ _ (bytes Block (drop 6 line) BLOCK_LIMIT (λ given some most all. ((some, most), all))) (
     either _ _ _ (cut_line (drop 4 line)) (
     either _ _ _ (counted Lose (number_in (drop 5 line)) (λ number range. (range, tt)) (numbered (drop 5 line))) (
-    either _ _ None (counted Garble (number_in (drop 7 line)) (λ number range. (range, tt)) (numbered (drop 7 line))) none)))))))))
+    either _ _ None
+    (counted Garble (number_in (drop 7 line)) (λ number range. (range, tt)) (numbered (drop 7 line))) none)))))))))
   where
     cut_line : (words : List ℕ) → Sized (cut_in words)
     cut_line words =

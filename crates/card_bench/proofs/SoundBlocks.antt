@@ -1,6 +1,6 @@
 -- What both ends put on the line can be spelled, by bytes and in at most 254 of them.
-use Rattle.std.specs.Prelude.{◌≡◌, ◌≤◌, ◌<◌, ◌+◌, ◌==◌, ◌||◌, ℕ, Bool, true, false, not, nat_lt, if◌then◌else◌, List, [], ◌∷◌, ◌++◌}
-use Rattle.std.specs.Prelude.{length, take, fold, bit_xor, unwrap_or, Result, Ok, Err, refl}
+use Rattle.std.specs.Prelude.{◌≡◌, ◌≤◌, ◌<◌, ◌+◌, ◌==◌, ◌||◌, ℕ, Bool, true, false, not, nat_lt, if◌then◌else◌, List}
+use Rattle.std.specs.Prelude.{[], ◌∷◌, ◌++◌, length, take, fold, bit_xor, unwrap_or, Result, Ok, Err, refl}
 use Rattle.std.specs.List.{list_all}
 use Rattle.std.proofs.Common.{arith, length-take}
 use Rattle.std.proofs.lemmas.Bool.{lt-ltb}
@@ -14,14 +14,17 @@ use Rattle.t1_link.specs.declared.reader_end.Failure.{Failure}
 use Rattle.t1_link.specs.declared.reader_end.Failure.TheVariants.{BadAnswer, LinkLost}
 use Rattle.t1_link.specs.declared.sequence_number.SequenceNumber.{SequenceNumber}
 use Rattle.t1_link.specs.declared.sequence_number.SequenceNumber.TheVariants.{Zero, One}
-use Rattle.t1_link.specs.Blocks.{Block, IsSpellable, control_byte, error_code, exclusive_or, field_of, frame, front, information, receive_ready}
+use Rattle.t1_link.specs.Blocks.{Block, IsSpellable, control_byte, error_code, exclusive_or, field_of, frame, front}
+use Rattle.t1_link.specs.Blocks.{information, receive_ready}
 use Rattle.t1_link.specs.Blocks.{resynch_request, resynch_response, ifs_request, ifs_response, told_as}
 use Rattle.t1_link.specs.SequenceNumbers.{at_bit, other_number, same}
 use Rattle.t1_link.specs.BlockLaws.{length-field}
-use Rattle.t1_link.specs.CardTable.{Link, Reaction, Taken, card_takes, joined, refusing, replies, replying, runs, sending, sent_block, sent_more, sent_number}
-use Rattle.t1_link.specs.CardTable.{takes_information, takes_receive_ready}
-use Rattle.t1_link.specs.ReaderTable.{Outcome, Reader, Turned, advancing, asking, failing, fails, gives, has_more, is_dead, last_block, reader_sends}
-use Rattle.t1_link.specs.ReaderTable.{reader_takes, reader_times_out, requesting, requesting_again, sends, trying, turns_answer, turns_block}
+use Rattle.t1_link.specs.CardTable.{Link, Reaction, Taken, card_takes, joined, refusing, replies, replying, runs}
+use Rattle.t1_link.specs.CardTable.{sending, sent_block, sent_more, sent_number, takes_information, takes_receive_ready}
+use Rattle.t1_link.specs.ReaderTable.{Outcome, Reader, Turned, advancing, asking, failing, fails, gives, has_more}
+use Rattle.t1_link.specs.ReaderTable.{is_dead, last_block, reader_sends}
+use Rattle.t1_link.specs.ReaderTable.{reader_takes, reader_times_out, requesting, requesting_again, sends, trying}
+use Rattle.t1_link.specs.ReaderTable.{turns_answer, turns_block}
 use Rattle.t1_link.specs.ReaderTable.{turns_information, turns_receive_ready, turns_resynch, unknown}
 use Rattle.apdu_core.specs.OfBytes.{AreBytes}
 
@@ -66,7 +69,8 @@ pub record IsSoundTurned (t : Turned) : Type 0 where
   pub outcome : IsSoundOutcome t.outcome
 
 -- a choice between two that hold is one that holds
-pub either-if : {X : Type 0} (P : X → Type 0) (test : Bool) (one other : X) → P one → P other → P (if test then one else other)
+pub either-if : {X : Type 0} (P : X → Type 0) (test : Bool) (one other : X) → P one → P other
+    → P (if test then one else other)
 either-if P true one other y n = y
 either-if P false one other y n = n
 
@@ -99,9 +103,11 @@ sound-sending l bytes s all =
 
 sound-asked : (l : Link) (number : SequenceNumber) → IsSoundLink l → IsSoundTaken (takes_receive_ready l number)
 sound-asked l number s =
-    let again : IsSoundTaken (replying l (sent_block l)) = record { link = s; reaction = record { spellable = s.sent; bytes = s.sent_bytes } } in
-    either-if IsSoundTaken (sent_number l number) (replying l (sent_block l)) (if sent_more l then sending l l.rest else refusing l ErrorFree) again
-    (either-if IsSoundTaken (sent_more l) (sending l l.rest) (refusing l ErrorFree) (sound-sending l l.rest s s.rest) (sound-refusing l ErrorFree s))
+    let again : IsSoundTaken (replying l (sent_block l)) =
+    record { link = s; reaction = record { spellable = s.sent; bytes = s.sent_bytes } } in
+    either-if IsSoundTaken (sent_number l number) (replying l (sent_block l))
+    (if sent_more l then sending l l.rest else refusing l ErrorFree) again (either-if IsSoundTaken (sent_more l)
+    (sending l l.rest) (refusing l ErrorFree) (sound-sending l l.rest s s.rest) (sound-refusing l ErrorFree s))
 
 sound-information : (l : Link) (number : SequenceNumber) (more : Bool) (field : List ℕ) → IsSoundLink l → AreBytes field
     → IsSoundTaken (takes_information l number more field)
@@ -115,14 +121,15 @@ sound-information l number more field s all =
       link = record { size = s.size; sent = s.sent; sent_bytes = s.sent_bytes; rest = s.rest; held = both };
       reaction = sound-ready (other_number l.nr) ErrorFree;
     } in
-    let whole : Taken = record { link = record l { nr = other_number l.nr; held = [] }; reaction = runs (joined l field) } in
+    let whole : Taken =
+    record { link = record l { nr = other_number l.nr; held = [] }; reaction = runs (joined l field) } in
     let whole-sound : IsSoundTaken whole = record {
       link = record { size = s.size; sent = s.sent; sent_bytes = s.sent_bytes; rest = s.rest; held = no_bytes };
       reaction = both;
     } in
-    either-if IsSoundTaken (sent_more l) refused (if not (same number l.nr) then refused else if more then joins else whole) refused-sound
-    (either-if IsSoundTaken (not (same number l.nr)) refused (if more then joins else whole) refused-sound
-    (either-if IsSoundTaken more joins whole joins-sound whole-sound))
+    either-if IsSoundTaken (sent_more l) refused (if not (same number l.nr) then refused else if more then joins
+    else whole) refused-sound (either-if IsSoundTaken (not (same number l.nr)) refused (if more then joins else whole)
+    refused-sound (either-if IsSoundTaken more joins whole joins-sound whole-sound))
 
 pub sound-taken : (l : Link) (h : Result Block Fault) → IsSoundLink l → IsSoundlyHeard h → IsSoundTaken (card_takes l h)
 unfolding card_takes
@@ -169,13 +176,15 @@ sound-failing : (r : Reader) (failure : Failure) → IsSoundReader r → IsSound
 sound-failing r failure s = record { reader = record { size = s.size; field = s.field; rest = s.rest }; outcome = tt }
 
 sound-again : (r : Reader) → IsSoundReader r → IsSoundTurned (requesting_again r)
-sound-again r s = either-if IsSoundTurned (nat_lt r.resynchs 3) (requesting r) (failing r LinkLost) (sound-requesting r s) (sound-failing r LinkLost s)
+sound-again r s = either-if IsSoundTurned (nat_lt r.resynchs 3) (requesting r) (failing r LinkLost)
+    (sound-requesting r s) (sound-failing r LinkLost s)
 
 sound-next : (r : Reader) (number : SequenceNumber) → IsSoundReader r → IsSoundTurned (turns_receive_ready r number)
 sound-next r number s =
-    either-if IsSoundTurned (same number (other_number r.ns)) (trying r (last_block r)) (if has_more r then advancing r r.rest else asking r OtherError)
-    (sound-trying r (last_block r) s (record { spellable = s.size; bytes = s.field }))
-    (either-if IsSoundTurned (has_more r) (advancing r r.rest) (asking r OtherError) (sound-advancing r r.rest s.rest) (sound-asking r OtherError s))
+    either-if IsSoundTurned (same number (other_number r.ns)) (trying r (last_block r))
+    (if has_more r then advancing r r.rest else asking r OtherError) (sound-trying r (last_block r) s
+    (record { spellable = s.size; bytes = s.field })) (either-if IsSoundTurned (has_more r) (advancing r r.rest)
+    (asking r OtherError) (sound-advancing r r.rest s.rest) (sound-asking r OtherError s))
 
 sound-answer : (r : Reader) (more : Bool) (bytes : List ℕ) → IsSoundReader r → IsSoundTurned (turns_answer r more bytes)
 sound-answer r more bytes s =
@@ -188,17 +197,20 @@ sound-answer r more bytes s =
       reader = record { size = s.size; field = s.field; rest = s.rest };
       outcome = sound-ready (other_number r.nr) ErrorFree;
     } in
-    let done : Turned = record { reader = record r { nr = other_number r.nr; answer = bytes; phase = Idle }; outcome = gives bytes } in
-    let done-sound : IsSoundTurned done = record { reader = record { size = s.size; field = s.field; rest = s.rest }; outcome = tt } in
+    let done : Turned =
+    record { reader = record r { nr = other_number r.nr; answer = bytes; phase = Idle }; outcome = gives bytes } in
+    let done-sound : IsSoundTurned done =
+    record { reader = record { size = s.size; field = s.field; rest = s.rest }; outcome = tt } in
     let whole : Turned = if nat_lt (length bytes) 2 then bad else done in
-    either-if IsSoundTurned (nat_lt 258 (length bytes)) bad (if more then joins else whole) (sound-failing r BadAnswer s)
-    (either-if IsSoundTurned more joins whole joins-sound
+    either-if IsSoundTurned (nat_lt 258 (length bytes)) bad
+    (if more then joins else whole) (sound-failing r BadAnswer s) (either-if IsSoundTurned more joins whole joins-sound
     (either-if IsSoundTurned (nat_lt (length bytes) 2) bad done (sound-failing r BadAnswer s) done-sound))
 
-sound-joined : (r : Reader) (number : SequenceNumber) (more : Bool) (field : List ℕ) → IsSoundReader r → IsSoundTurned (turns_information r number more field)
+sound-joined : (r : Reader) (number : SequenceNumber) (more : Bool) (field : List ℕ) → IsSoundReader r
+    → IsSoundTurned (turns_information r number more field)
 sound-joined r number more field s =
-    either-if IsSoundTurned (has_more r || not (same number r.nr)) (asking r OtherError) (turns_answer r more (r.answer ++ field))
-    (sound-asking r OtherError s) (sound-answer r more (r.answer ++ field) s)
+    either-if IsSoundTurned (has_more r || not (same number r.nr)) (asking r OtherError)
+    (turns_answer r more (r.answer ++ field)) (sound-asking r OtherError s) (sound-answer r more (r.answer ++ field) s)
 
 sound-block : (r : Reader) (h : Result Block Fault) → IsSoundReader r → IsSoundTurned (turns_block r h)
 unfolding turns_block
@@ -214,23 +226,27 @@ sound-resynch : (r : Reader) (h : Result Block Fault) → IsSoundReader r → Is
 unfolding turns_resynch
 sound-resynch r (Err fault) s = sound-again r s
 sound-resynch r (Ok resynch_request) s = sound-again r s
-sound-resynch r (Ok resynch_response) s = record { reader = record { size = omega arith; field = no_bytes; rest = no_bytes }; outcome = tt }
+sound-resynch r (Ok resynch_response) s =
+    record { reader = record { size = omega arith; field = no_bytes; rest = no_bytes }; outcome = tt }
 sound-resynch r (Ok (ifs_request size)) s = sound-again r s
 sound-resynch r (Ok (ifs_response size)) s = sound-again r s
 sound-resynch r (Ok (receive_ready number error)) s = sound-again r s
 sound-resynch r (Ok (information number more field)) s = sound-again r s
 
 pub sound-turned : (r : Reader) (h : Result Block Fault) → IsSoundReader r → IsSoundTurned (reader_takes r h)
-sound-turned r h s = either-if IsSoundTurned (r.resynchs == 0) (turns_block r h) (turns_resynch r h) (sound-block r h s) (sound-resynch r h s)
+sound-turned r h s = either-if IsSoundTurned (r.resynchs == 0) (turns_block r h) (turns_resynch r h)
+    (sound-block r h s) (sound-resynch r h s)
 
 pub sound-in_vain : (r : Reader) → IsSoundReader r → IsSoundTurned (reader_times_out r)
-sound-in_vain r s = either-if IsSoundTurned (r.resynchs == 0) (asking r OtherError) (requesting_again r) (sound-asking r OtherError s) (sound-again r s)
+sound-in_vain r s = either-if IsSoundTurned (r.resynchs == 0) (asking r OtherError) (requesting_again r)
+    (sound-asking r OtherError s) (sound-again r s)
 
-pub sound-sends : (r : Reader) (command : List ℕ) → IsSoundReader r → AreBytes command → IsSoundTurned (reader_sends r command)
+pub sound-sends : (r : Reader) (command : List ℕ) → IsSoundReader r → AreBytes command
+    → IsSoundTurned (reader_sends r command)
 sound-sends r command s all =
     let ready : Reader = record r { answer = []; phase = Busy } in
-    either-if IsSoundTurned (is_dead r.phase) (record { reader = r; outcome = fails LinkLost }) (advancing ready command)
-    (record { reader = s; outcome = tt }) (sound-advancing ready command all)
+    either-if IsSoundTurned (is_dead r.phase) (record { reader = r; outcome = fails LinkLost })
+    (advancing ready command) (record { reader = s; outcome = tt }) (sound-advancing ready command all)
 
 -- the bytes of a sound block
 number-bit : (a : SequenceNumber) (b : Bool) → at_bit 0x40 a + (if b then 0x20 else 0) < 256

@@ -1,6 +1,8 @@
 -- The line that spells an order asks for it.
-use Rattle.std.specs.Prelude.{◌≡◌, ◌≤◌, ◌<◌, ◌+◌, ◌-◌, ◌*◌, ◌/◌, ◌%◌, ◌==◌, ◌&&◌, ◌^◌, ℕ, suc, Bool, true, false, nat_le, nat_lt, if◌then◌else◌}
-use Rattle.std.specs.Prelude.{List, [], ◌∷◌, ◌++◌, length, take, drop, slice_index, codes, Option, Some, None, Ok, option_map, refl}
+use Rattle.std.specs.Prelude.{◌≡◌, ◌≤◌, ◌<◌, ◌+◌, ◌-◌, ◌*◌, ◌/◌, ◌%◌, ◌==◌, ◌&&◌, ◌^◌, ℕ, suc, Bool, true, false}
+use Rattle.std.specs.Prelude.{nat_le, nat_lt, if◌then◌else◌}
+use Rattle.std.specs.Prelude.{List, [], ◌∷◌, ◌++◌, length, take, drop, slice_index, codes, Option, Some, None, Ok}
+use Rattle.std.specs.Prelude.{option_map, refl}
 use Rattle.std.specs.Char.{is_ascii_digit}
 use Rattle.std.specs.Fmt.{decimal}
 use Rattle.std.specs.List.{list_all}
@@ -14,7 +16,8 @@ use Rattle.std.proofs.lemmas.Str.Parse.{IsNumeralModel, numerals_by_value}
 use Rattle.apdu_core.specs.OfBytes.{AreBytes}
 use Rattle.apdu_core.specs.laws.ByteLaws.{byte-at}
 use Rattle.hex.specs.Hex.{decode_of, encode_with, lower_digits, upper_digits}
-use Rattle.hex.proofs.HexLemmas.{IsDigits, IsDigits-lower_digits, IsDigits-upper_digits, decode_of-even, decode_pairs-encode_with, length-encode_with}
+use Rattle.hex.proofs.HexLemmas.{IsDigits, IsDigits-lower_digits, IsDigits-upper_digits, decode_of-even}
+use Rattle.hex.proofs.HexLemmas.{decode_pairs-encode_with, length-encode_with}
 use Rattle.card_bench.specs.Orders.{Nothing, On, Off, Free, Apdu, Block, Cut, Lose, Garble}
 use Rattle.card_bench.specs.Orders.{bytes_in, cut_by, cut_in, mask_by, number_in, order_of}
 use Rattle.card_bench.specs.Spellings.{SpellingLaw}
@@ -24,7 +27,8 @@ read_back : (digits bytes : List ℕ) → IsDigits digits → AreBytes bytes →
 read_back digits bytes table all =
     let twice : length (encode_with digits bytes) ≡ 2 * length bytes = length-encode_with digits bytes in
     let even : length (encode_with digits bytes) % 2 ≡ 0 = omega (arith, twice) in
-    decode_of-even (encode_with digits bytes) even ∙ decode_pairs-encode_with digits table 0 bytes (λ i. byte-at bytes i all)
+    decode_of-even (encode_with digits bytes) even
+    ∙ decode_pairs-encode_with digits table 0 bytes (λ i. byte-at bytes i all)
 
 bytes-spelled : (digits : List ℕ) (bytes : List ℕ) (limit : ℕ) → IsDigits digits → AreBytes bytes → 1 ≤ length bytes
     → length bytes ≤ limit → bytes_in (encode_with digits bytes) limit ≡ Some bytes
@@ -55,13 +59,15 @@ front-of (d ∷ ds) rest = ap (λ (xs : List ℕ). d ∷ xs) (front-of ds rest)
 
 rest-of : (ds : List ℕ) (x : ℕ) (rest : List ℕ) → drop (length ds + 1) (ds ++ x ∷ rest) ≡ rest
 rest-of [] x rest = refl
-rest-of (d ∷ ds) x rest = ap (λ (n : ℕ). drop n (d ∷ ds ++ x ∷ rest)) (let e : length (d ∷ ds) + 1 ≡ suc (length ds + 1) = omega arith in e) ∙ rest-of ds x rest
+rest-of (d ∷ ds) x rest = ap (λ (n : ℕ). drop n (d ∷ ds ++ x ∷ rest))
+    (let e : length (d ∷ ds) + 1 ≡ suc (length ds + 1) = omega arith in e) ∙ rest-of ds x rest
 
 space-at : (ds : List ℕ) (x : ℕ) (rest : List ℕ) → slice_index (ds ++ x ∷ rest) (length ds) ≡ x
 space-at [] x rest = refl
 space-at (d ∷ ds) x rest = space-at ds x rest
 
-cut-words : (ds : List ℕ) (a b c d : ℕ) → cut_in (ds ++ 32 ∷ a ∷ b ∷ c ∷ d ∷ []) ≡ cut_by (number_in ds) (mask_by (decode_of (a ∷ b ∷ c ∷ d ∷ [])))
+cut-words : (ds : List ℕ) (a b c d : ℕ)
+    → cut_in (ds ++ 32 ∷ a ∷ b ∷ c ∷ d ∷ []) ≡ cut_by (number_in ds) (mask_by (decode_of (a ∷ b ∷ c ∷ d ∷ [])))
 cut-words ds a b c d =
     let words : List ℕ = ds ++ 32 ∷ a ∷ b ∷ c ∷ d ∷ [] in
     let whole : length words ≡ length ds + 5 = length-append ds (32 ∷ a ∷ b ∷ c ∷ d ∷ []) in
@@ -70,11 +76,18 @@ cut-words ds a b c d =
   where
     by : (test : Bool) (n : ℕ) → test ≡ true → n ≡ length ds
         → (if test && (slice_index (ds ++ 32 ∷ a ∷ b ∷ c ∷ d ∷ []) n == 32)
-        then cut_by (number_in (take n (ds ++ 32 ∷ a ∷ b ∷ c ∷ d ∷ []))) (mask_by (decode_of (drop (n + 1) (ds ++ 32 ∷ a ∷ b ∷ c ∷ d ∷ []))))
+        then cut_by (number_in (take n (ds ++ 32 ∷ a ∷ b ∷ c ∷ d ∷ [])))
+        (mask_by (decode_of (drop (n + 1) (ds ++ 32 ∷ a ∷ b ∷ c ∷ d ∷ []))))
         else None)
         ≡ cut_by (number_in ds) (mask_by (decode_of (a ∷ b ∷ c ∷ d ∷ [])))
     by test n long size =
-        rw (long, size, space-at ds 32 (a ∷ b ∷ c ∷ d ∷ []), front-of ds (32 ∷ a ∷ b ∷ c ∷ d ∷ []), rest-of ds 32 (a ∷ b ∷ c ∷ d ∷ [])) refl
+        rw (
+          long,
+          size,
+          space-at ds 32 (a ∷ b ∷ c ∷ d ∷ []),
+          front-of ds (32 ∷ a ∷ b ∷ c ∷ d ∷ []),
+          rest-of ds 32 (a ∷ b ∷ c ∷ d ∷ []),
+        ) refl
 
 mask-bytes : (mask : ℕ) → mask < 65536 → AreBytes (mask / 256 ∷ mask % 256 ∷ [])
 mask-bytes mask small =
@@ -93,22 +106,27 @@ cut-spelled digits number mask table some most small =
     let back : decode_of (encode_with digits (mask / 256 ∷ mask % 256 ∷ [])) ≡ Ok (mask / 256 ∷ mask % 256 ∷ []) =
     read_back digits (mask / 256 ∷ mask % 256 ∷ []) table (mask-bytes mask small) in
     cut-words (decimal number) _ _ _ _
-    ∙ ap₂ (λ (n : Option ℕ) (m : Option ℕ). cut_by n m) (number-spelled number some most) (ap mask_by back ∙ ap (λ (n : ℕ). Some n) (mask-whole mask))
+    ∙ ap₂ (λ (n : Option ℕ) (m : Option ℕ). cut_by n m) (number-spelled number some most)
+    (ap mask_by back ∙ ap (λ (n : ℕ). Some n) (mask-whole mask))
 
 -- A line of a word and what follows it is neither too long nor empty.
 line-fits : (word rest : List ℕ) → 1 ≤ length word → length word + length rest ≤ 1024
     → (nat_lt 1024 (length (word ++ rest)) ≡ false) × ((length (word ++ rest) == 0) ≡ false)
 line-fits word rest some most =
-    let n = length-append word rest in
-    (le-ltb 1024 (length (word ++ rest)) (omega (arith, n, most)), ne_eqb (length (word ++ rest)) 0 (λ e. absurd (omega (arith, e, n, some))))
+    let n = length-append word rest in (
+      le-ltb 1024 (length (word ++ rest)) (omega (arith, n, most)),
+      ne_eqb (length (word ++ rest)) 0 (λ e. absurd (omega (arith, e, n, some))),
+    )
 
 hex-size : (digits bytes : List ℕ) (most : ℕ) → length bytes ≤ most → length (encode_with digits bytes) ≤ 2 * most
 hex-size digits bytes most few = let n = length-encode_with digits bytes in omega (arith, n, few)
 
 decimal-size : (n : ℕ) → n ≤ 999999 → length (decimal n) ≤ 6
-decimal-size n most = length-decimal-le 6 n (omega arith) (let million : n < 10 ^ 6 = omega (arith, most) in million) (small-number n most)
+decimal-size n most = length-decimal-le 6 n (omega arith)
+    (let million : n < 10 ^ 6 = omega (arith, most) in million) (small-number n most)
 
-cut-size : (digits : List ℕ) (number high low : ℕ) → number ≤ 999999 → length (decimal number ++ 32 ∷ encode_with digits (high ∷ low ∷ [])) ≤ 11
+cut-size : (digits : List ℕ) (number high low : ℕ) → number ≤ 999999
+    → length (decimal number ++ 32 ∷ encode_with digits (high ∷ low ∷ [])) ≤ 11
 cut-size digits number high low most =
     let n = length-append (decimal number) (32 ∷ encode_with digits (high ∷ low ∷ [])) in
     let four = length-encode_with digits (high ∷ low ∷ []) in
@@ -124,14 +142,17 @@ spelled digits table Free sized bytes = refl
 spelled digits table (Apdu command) sized bytes =
     let size = hex-size digits command 261 sized.1 in
     let fits = line-fits (codes "apdu ") (encode_with digits command) (omega arith) (omega (arith, size)) in
-    rw (fits.0, fits.1) (ap (λ (o : Option (List ℕ)). option_map Apdu o) (bytes-spelled digits command 261 table bytes sized.0 sized.1))
+    rw (fits.0, fits.1)
+    (ap (λ (o : Option (List ℕ)). option_map Apdu o) (bytes-spelled digits command 261 table bytes sized.0 sized.1))
 spelled digits table (Block block) sized bytes =
     let size = hex-size digits block 300 sized.1 in
     let fits = line-fits (codes "block ") (encode_with digits block) (omega arith) (omega (arith, size)) in
-    rw (fits.0, fits.1) (ap (λ (o : Option (List ℕ)). option_map Block o) (bytes-spelled digits block 300 table bytes sized.0 sized.1))
+    rw (fits.0, fits.1)
+    (ap (λ (o : Option (List ℕ)). option_map Block o) (bytes-spelled digits block 300 table bytes sized.0 sized.1))
 spelled digits table (Cut number mask) sized bytes =
     let size = cut-size digits number (mask / 256) (mask % 256) sized.1 in
-    let fits = line-fits (codes "cut ") (decimal number ++ 32 ∷ encode_with digits (mask / 256 ∷ mask % 256 ∷ [])) (omega arith) (omega (arith, size)) in
+    let fits = line-fits (codes "cut ") (decimal number ++ 32 ∷ encode_with digits (mask / 256 ∷ mask % 256 ∷ []))
+    (omega arith) (omega (arith, size)) in
     rw (fits.0, fits.1) (cut-spelled digits number mask table sized.0 sized.1 bytes)
 spelled digits table (Lose number) sized bytes =
     let size = decimal-size number sized.1 in

@@ -6,7 +6,7 @@ use Rattle.card_bench.specs.declared.playing.Turn.{Turn}
 use Rattle.card_bench.specs.declared.playing.Item.{Item}
 use Rattle.card_bench.specs.declared.playing.Item.TheVariants.{Atr, Quiet, Mute, Dark, Reply}
 use Rattle.card_bench.specs.BenchStates.{BenchState, off, on, switched_off, bench_card}
-use Rattle.card_core.specs.Finding.{found}
+use Rattle.card_machine.specs.Finding.{found}
 use Rattle.card_bench.specs.Turns.{GoodBlock, TurnsOn}
 use Rattle.card_bench.specs.Performing.{IsArmed}
 use Rattle.card_bench.specs.Tallies.{Finding}
@@ -18,9 +18,11 @@ card-armed number mask (off facts) new arm = ap bench_card arm.same
 card-armed number mask (on powered) new arm = ap bench_card arm.same
 
 -- so does a start that is cut
-card-start : (number mask : ℕ) (board left : Facts) → CutsStart number mask board left → found left.words ≡ found board.words
+card-start : (number mask : ℕ) (board left : Facts) → CutsStart number mask board left
+    → found left.words ≡ found board.words
 card-start number mask board left cut =
-    ap (λ (f : Facts). found f.words) cut.left_is ∙ cut.cut.one.1.card ∙ card-armed number mask (off_with board) cut.armed cut.arm
+    ap (λ (f : Facts). found f.words) cut.left_is ∙ cut.cut.one.1.card
+    ∙ card-armed number mask (off_with board) cut.armed cut.arm
 
 -- so do starts that are cut
 card-starts : (n : ℕ) (board left : Facts) → CutsStarts n board left → found left.words ≡ found board.words
@@ -42,13 +44,15 @@ card-on old new Dark turned = turned.1.card
 card-on old new (Reply block) turned = absurd turned
 
 -- where power is lost in a block, the card is a stage of its command
-stage-cut : (old new : BenchState) (command : List ℕ) → GoodBlock old command Dark new → IsStageOf old command (bench_card new)
+stage-cut : (old new : BenchState) (command : List ℕ) → GoodBlock old command Dark new
+    → IsStageOf old command (bench_card new)
 stage-cut (off facts) new command cut = absurd cut.one
 stage-cut (on powered) new command cut = cut.one.stage
 
 -- the card that a run shows is a stage of the command that was cut
-pub stage-shown : (board : Facts) (prepare : List Turn) (command : List ℕ) (probe : List Turn) (depth : ℕ) (given : Finding)
-    → (s : GivenByRun board prepare command probe depth given) → IsStageOf s.cut.armed command (bench_card s.rest.end.started)
+pub stage-shown : (board : Facts) (prepare : List Turn) (command : List ℕ)
+    (probe : List Turn) (depth : ℕ) (given : Finding) → (s : GivenByRun board prepare command probe depth given)
+    → IsStageOf s.cut.armed command (bench_card s.rest.end.started)
 stage-shown board prepare command probe depth given s =
     let same : bench_card s.rest.end.started ≡ bench_card s.cut.last =
     card-on (off_with s.rest.left) s.rest.end.started s.rest.end.item s.rest.end.start.one

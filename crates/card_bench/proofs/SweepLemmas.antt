@@ -1,5 +1,6 @@
 -- Runs put together.
-use Rattle.std.specs.Prelude.{◌≡◌, ◌≢◌, ◌⊎◌, ◌-◌, ◌<◌, ℕ, suc, refl, List, Bool, true, false, Option, None, Some, IfNone, is_some}
+use Rattle.std.specs.Prelude.{◌≡◌, ◌≢◌, ◌⊎◌, ◌-◌, ◌<◌, ℕ, suc, refl, List, Bool, true, false, Option, None, Some}
+use Rattle.std.specs.Prelude.{IfNone, is_some}
 use Rattle.std.proofs.Common.{ap, arith, inl, inr, sym, subst}
 use Rattle.std.proofs.Math.Logic.{⊎_map}
 use Rattle.core.specs.Borrow.{Bor}
@@ -12,7 +13,7 @@ use Rattle.card_bench.specs.declared.playing.Item.{Item}
 use Rattle.card_bench.specs.declared.playing.Item.TheVariants as item
 use Rattle.file_tree.specs.declared.space.FreeSpace.{FreeSpace}
 use Rattle.card_bench.specs.BenchStates.{BenchState, IsWell, bench_facts}
-use Rattle.card_core.specs.Finding.{HasCard}
+use Rattle.card_machine.specs.Finding.{HasCard}
 use Rattle.card_bench.specs.declared.came.Came.{Came}
 use Rattle.card_bench.specs.declared.came.Came.TheVariants as came
 use Rattle.card_bench.specs.Plays.{IsGood, TellsItem}
@@ -21,11 +22,12 @@ use Rattle.card_bench.specs.Performing.{IsArmed}
 use Rattle.card_bench.specs.SweptRuns.{SparesCommand}
 use Rattle.card_bench.specs.Tallies.{Finding}
 use Rattle.card_bench.proofs.TurnsTold.{good-block, tells-then}
-use Rattle.card_bench.specs.Sweeps.{CutsStart, CutsStarts, SparesStart, EndsIn, EndsBehindStarts, CutsCommand, GivenByRun, off_with, free_of}
+use Rattle.card_bench.specs.Sweeps.{CutsStart, CutsStarts, SparesStart, EndsIn, EndsBehindStarts, CutsCommand}
+use Rattle.card_bench.specs.Sweeps.{GivenByRun, off_with, free_of}
 
 -- no start is to be cut
-pub behind_none : (depth : ℕ) (board : Facts) (probe : List Turn) (given : Finding) → depth ≡ 0 → EndsIn board probe given
-    → EndsBehindStarts depth board probe given
+pub behind_none : (depth : ℕ) (board : Facts) (probe : List Turn) (given : Finding) → depth ≡ 0
+    → EndsIn board probe given → EndsBehindStarts depth board probe given
 unfolding CutsStarts
 behind_none depth board probe given none end =
     record { starts = 0; few = omega arith; left = board; cut = refl; done = inl (omega (arith, none)); end = end }
@@ -47,7 +49,8 @@ behind_whole depth number mask board probe given first none whole end =
 
 -- the next one is cut
 pub behind_more : (depth number mask : ℕ) (board between : Facts) (probe : List Turn) (given : Finding) → 0 < depth
-    → CutsStart number mask board between → EndsBehindStarts (depth - 1) between probe given → EndsBehindStarts depth board probe given
+    → CutsStart number mask board between → EndsBehindStarts (depth - 1) between probe given
+    → EndsBehindStarts depth board probe given
 unfolding CutsStarts
 behind_more depth number mask board between probe given more cut rest = record {
   starts = suc rest.starts;
@@ -60,16 +63,17 @@ behind_more depth number mask board between probe given more cut rest = record {
 
 -- a look at a board
 pub ends-in : (board : Facts) (probe : List Turn) (first started last : BenchState) (told : Came) (reply : List ℕ)
-    (trace : List Item) (free : FreeSpace) → board.faults ≡ 0 → board.due ≡ due_of board.pending → first ≡ off_with board
-    → (IsGood first → IsGood started × TellsItem told reply (λ i. GoodTurn first turn.On i started))
+    (trace : List Item) (free : FreeSpace) → board.faults ≡ 0 → board.due ≡ due_of board.pending → first
+    ≡ off_with board → (IsGood first → IsGood started × TellsItem told reply (λ i. GoodTurn first turn.On i started))
     → (IsWell started → free ≡ free_of started)
     → (IsGood started → IsGood last × Runs started probe trace last)
     → HasCard board.words → EndsIn board probe (record { trace = trace; free = free })
 ends-in board probe first started last told reply trace free fine due is start shown played card =
-    let good : IsGood first = subst (λ (b : BenchState). IsGood b) (sym is) (record { has_card = card; faults = fine; due = due; well = tt }) in
+    let good : IsGood first =
+    subst (λ (b : BenchState). IsGood b) (sym is) (record { has_card = card; faults = fine; due = due; well = tt }) in
     let on = start good in
-    tells-then told reply (λ i. GoodTurn first turn.On i started) (EndsIn board probe (record { trace = trace; free = free }))
-    (λ i turned. record {
+    tells-then told reply (λ i. GoodTurn first turn.On i started)
+    (EndsIn board probe (record { trace = trace; free = free })) (λ i turned. record {
       item = i;
       started = started;
       last = last;
@@ -100,8 +104,8 @@ pending-of : (last : BenchState) (left : Facts) → left ≡ record (bench_facts
 pending-of last left is = ap (λ (f : Facts). f.pending) is
 
 -- whether a board is left in which power was lost, with no cut to come
-module _ (board left : Facts) (first armed last : BenchState) (told : Came) (reply : List ℕ) (number mask : ℕ) (dark : Bool)
-    (fine : board.faults ≡ 0) (due : board.due ≡ due_of board.pending) (is : first ≡ off_with board)
+module _ (board left : Facts) (first armed last : BenchState) (told : Came) (reply : List ℕ) (number mask : ℕ)
+    (dark : Bool) (fine : board.faults ≡ 0) (due : board.due ≡ due_of board.pending) (is : first ≡ off_with board)
     (left_is : left ≡ record (bench_facts last) { dark = true }) (lit : dark ≡ false → told ≡ came.Dark → ⊥)
     (spared : (dark ≡ false) ⊎ (is_some left.pending ≡ true)) (card : HasCard board.words) where
   first-good : IsGood first
@@ -155,8 +159,9 @@ if-none None A B then holds = then holds
 if-none (Some x) A B then holds = tt
 
 -- a run put together
-pub given-by-run : (depth number mask : ℕ) (board left : Facts) (prepare : List Turn) (command : List ℕ) (probe : List Turn) (given : Finding)
-    → CutsCommand number mask board prepare command left → EndsBehindStarts depth left probe given
+pub given-by-run : (depth number mask : ℕ) (board left : Facts) (prepare : List Turn)
+    (command : List ℕ) (probe : List Turn) (given : Finding) → CutsCommand number mask board prepare command left
+    → EndsBehindStarts depth left probe given
     → GivenByRun board prepare command probe depth given
 given-by-run depth number mask board left prepare command probe given cut rest =
     record { number = number; mask = mask; left = left; cut = cut; rest = rest }

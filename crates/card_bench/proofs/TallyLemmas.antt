@@ -24,11 +24,13 @@ pub adds-one : (Is : Finding → Type 0) (old : List Finding) (f : Finding) → 
 adds-one Is old f is = record {
   more = f ∷ [];
   all = refl;
-  each = λ k d lt. let here : k ≡ 0 = omega arith in let P : ℕ → Type 0 = λ i. Is (get_or (f ∷ []) i d) in subst P (sym here) is;
+  each = λ k d lt. let here : k ≡ 0 = omega arith in
+      let P : ℕ → Type 0 = λ i. Is (get_or (f ∷ []) i d) in subst P (sym here) is;
 }
 
 -- some, and then more
-pub adds-on : (Is : Finding → Type 0) (old between new : List Finding) → Adds Is old between → Adds Is between new → Adds Is old new
+pub adds-on : (Is : Finding → Type 0) (old between new : List Finding) → Adds Is old between
+    → Adds Is between new → Adds Is old new
 adds-on Is old between new some more = record {
   more = some.more ++ more.more;
   all = more.all ∙ ap (λ (l : List Finding). l ++ more.more) some.all ∙ append_assoc old some.more more.more;
@@ -36,8 +38,8 @@ adds-on Is old between new some more = record {
 }
 
 -- what they are, said otherwise
-pub adds-weaker : (Is Also : Finding → Type 0) (old new : List Finding) → ((f : Finding) → Is f → Also f) → Adds Is old new
-    → Adds Also old new
+pub adds-weaker : (Is Also : Finding → Type 0) (old new : List Finding) → ((f : Finding) → Is f → Also f)
+    → Adds Is old new → Adds Also old new
 adds-weaker Is Also old new weaker some = record {
   more = some.more;
   all = some.all;
@@ -45,8 +47,8 @@ adds-weaker Is Also old new weaker some = record {
 }
 
 -- a result that is new
-pub tally-push : (runs : ℕ) (seen : List Seen) (s : Seen) → s.count ≡ 1 → IsTally runs seen → All (λ x. finding x ≢ finding s) seen
-    → IsTally (runs + 1) (seen ++ s ∷ [])
+pub tally-push : (runs : ℕ) (seen : List Seen) (s : Seen) → s.count ≡ 1 → IsTally runs seen
+    → All (λ x. finding x ≢ finding s) seen → IsTally (runs + 1) (seen ++ s ∷ [])
 tally-push runs seen s once tally new =
     let others : All (λ f. f ≢ finding s) (findings seen) = All-map (λ f. f ≢ finding s) finding seen new in
     let apart : AllPairs (λ a b. a ≢ b) (findings seen ++ finding s ∷ []) =
@@ -59,8 +61,9 @@ tally-push runs seen s once tally new =
     }
 
 -- a result that is counted again
-pub tally-again : (runs : ℕ) (seen : List Seen) (i : ℕ) (s d : Seen) → i < length seen → finding s ≡ finding (get_or seen i d)
-    → s.count ≡ (get_or seen i d).count + 1 → IsTally runs seen → IsTally (runs + 1) (slice_set seen i s)
+pub tally-again : (runs : ℕ) (seen : List Seen) (i : ℕ) (s d : Seen) → i < length seen
+    → finding s ≡ finding (get_or seen i d) → s.count ≡ (get_or seen i d).count + 1 → IsTally runs seen
+    → IsTally (runs + 1) (slice_set seen i s)
 tally-again runs seen i s d lt same more tally =
     let P : List Finding → Type 0 = λ l. AllPairs (λ a b. a ≢ b) l in
     record {

@@ -3,7 +3,7 @@ use Rattle.std.specs.Prelude.{◌≡◌, ℕ, true, List}
 use Rattle.std.proofs.lemmas.Bool.{and_parts}
 use Rattle.apdu_core.specs.OfBytes.{AreBytes}
 use Rattle.apdu_core.specs.laws.ByteLaws.{are_bytes-tell}
-use Rattle.card_core.specs.laws.AnswerLaws.{answers_are_short, step_keeps_proper}
+use Rattle.card_machine.specs.laws.AnswerLaws.{answers_are_short, step_keeps_proper}
 use Rattle.card_bench.specs.TreeMachine.{tree_machine, IsProperState}
 use Rattle.card_bench.specs.Worlds.{Answers, are_bytes, is_command}
 
@@ -12,7 +12,9 @@ command-bytes command sound = are_bytes-tell command (and_parts (are_bytes comma
 
 pub tree-answers : Answers tree_machine IsProperState
 tree-answers = record {
-  at_least = λ s command proper sound. (answers_are_short s.card s.session command proper (command-bytes command sound)).at_least;
-  at_most = λ s command proper sound. (answers_are_short s.card s.session command proper (command-bytes command sound)).at_most;
+  at_least = λ s command proper sound.
+      (answers_are_short s.card s.session command proper (command-bytes command sound)).at_least;
+  at_most = λ s command proper sound.
+      (answers_are_short s.card s.session command proper (command-bytes command sound)).at_most;
   keeps = λ s command proper sound. step_keeps_proper s.card s.session command proper (command-bytes command sound);
 }

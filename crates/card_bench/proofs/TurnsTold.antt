@@ -78,7 +78,8 @@ module _ (told : Came) (block : List ℕ) (old new : BenchState) (t : Turn) (fau
   )
 
 -- with power on a block comes back, and power stays on
-pub replies-on : (old new : BenchState) (got block : List ℕ) → IsOn old → TakesBlock old got (item.Reply block) new → IsOn new
+pub replies-on : (old new : BenchState) (got block : List ℕ) → IsOn old
+    → TakesBlock old got (item.Reply block) new → IsOn new
 replies-on (off facts) new got block power takes = absurd power
 replies-on (on powered) (off facts) got block power takes = absurd takes
 replies-on (on powered) (on after) got block power takes = tt

@@ -1,5 +1,6 @@
 -- What turns and lines take of a board's counts, and that no count comes to its end where enough is left before.
-use Rattle.std.specs.Prelude.{◌≡◌, ◌≢◌, ◌⊎◌, ◌==◌, ◌≤◌, ◌<◌, ◌+◌, ◌*◌, ℕ, zero, suc, List, [], ◌∷◌, length, slice_index, replicate}
+use Rattle.std.specs.Prelude.{◌≡◌, ◌≢◌, ◌⊎◌, ◌==◌, ◌≤◌, ◌<◌, ◌+◌, ◌*◌, ℕ, zero, suc, List, [], ◌∷◌, length}
+use Rattle.std.specs.Prelude.{slice_index, replicate}
 use Rattle.std.specs.Prelude.{All, Bool, false, if◌then◌else◌, Option, None, Some, Result, Ok, Err}
 use Rattle.std.proofs.Common.{arith, ap, inl, inr, refl, subst, sym, true}
 use Rattle.std.proofs.lemmas.List.Elements.{All-contains, All-replicate, All-set}
@@ -14,12 +15,12 @@ use Rattle.undo_journal.specs.declared.layout.TheConstants.{PAIRS}
 use Rattle.undo_journal.specs.Spending.{start_writes}
 use Rattle.undo_journal.specs.Undo.{gate}
 use Rattle.t1_link.specs.ReaderTable.{Reader}
-use Rattle.card_core.specs.declared.machine.TheConstants.{COMMAND_WRITES}
-use Rattle.card_core.specs.Cards.{Card}
-use Rattle.card_core.specs.Comparing.{Comparisons, comparisons}
-use Rattle.card_core.specs.Finding.{HasCard, words_found}
-use Rattle.card_core.specs.laws.ProperLaws.{at-or, either-if}
-use Rattle.card_core.specs.laws.ShownLaws.{ComparesOrStays}
+use Rattle.card_machine.specs.declared.spending.TheConstants.{COMMAND_WRITES}
+use Rattle.card_machine.specs.Cards.{Card}
+use Rattle.card_machine.specs.Comparing.{Comparisons, comparisons}
+use Rattle.card_machine.specs.Finding.{HasCard, words_found}
+use Rattle.card_machine.specs.laws.ProperLaws.{at-or, either-if}
+use Rattle.card_machine.specs.laws.ShownLaws.{ComparesOrStays}
 use Rattle.card_bench.specs.Exchanges.{Ended}
 use Rattle.card_bench.specs.Exchanges.{answered, set_back, link_lost, power_lost}
 use Rattle.card_bench.specs.declared.exchange.TheConstants.{LINE_BLOCKS}
@@ -37,7 +38,8 @@ use Rattle.card_bench.specs.Lasting.{HasLeft}
 use Rattle.card_bench.specs.Performing.{Performs, PerformsCommand, with_facts}
 use Rattle.card_bench.specs.Printouts.{Print}
 use Rattle.card_bench.specs.Prints.{IsFirstDesk, PrintsLines}
-use Rattle.card_bench.specs.Turns.{GoodBlock, GoodTurn, Runs, Spends, Wears, dark_of, most_renewal, run_steps, turn_steps, turn_writes}
+use Rattle.card_bench.specs.Turns.{GoodBlock, GoodTurn, Runs, Spends, Wears, dark_of, most_renewal, run_steps}
+use Rattle.card_bench.specs.Turns.{turn_steps, turn_writes}
 
 -- the most steps of a turn
 abbrev pub TURN_STEPS : ℕ
@@ -53,7 +55,8 @@ few-start f there =
 pub few-renewal : (m : List ℕ) → IsMemory m → renewal_writes m ≤ most_renewal m
 few-renewal m sized = by_format (is_format_2 (words_found m))
   where
-    by_format : (new : Bool) → (if new then 0 else migration_writes (pages_of m)) ≤ (if new then 0 else migration_writes MOST_PAGES)
+    by_format : (new : Bool)
+        → (if new then 0 else migration_writes (pages_of m)) ≤ (if new then 0 else migration_writes MOST_PAGES)
     by_format true = omega arith
     by_format false = let most = sized.most in omega (arith, most)
 
@@ -101,7 +104,8 @@ not-worn f left (inl cuts) = let far = left.cuts in omega (arith, far, cuts)
 not-worn f left (inr (inl faults)) = let far = left.faults in omega (arith, far, faults)
 not-worn f left (inr (inr (inl writes))) = let far = left.writes in omega (arith, far, writes)
 not-worn f left (inr (inr (inr (inl compares)))) =
-    let far = All-contains (λ (c : ℕ). c + 0 < COUNT_END) f.compares COUNT_END left.compares compares in omega (arith, far)
+    let far = All-contains (λ (c : ℕ). c + 0 < COUNT_END) f.compares COUNT_END
+    left.compares compares in omega (arith, far)
 not-worn f left (inr (inr (inr (inr matches)))) =
     let far = All-contains (λ (c : ℕ). c + 0 < COUNT_END) f.matches COUNT_END left.matches matches in omega (arith, far)
 
@@ -116,7 +120,8 @@ risen n most old new secret some small rises all =
           let far : slice_index old secret + (n + most) < COUNT_END =
           at-or (λ (c : ℕ). c + (n + most) < COUNT_END) old secret 0 (omega (arith, small)) all in
           subst (λ (l : List ℕ). All (λ c. c + n < COUNT_END) l) (sym rise)
-          (All-set (λ (c : ℕ). c + n < COUNT_END) old secret (slice_index old secret + 1) (omega (arith, far, some)) before)
+          (All-set (λ (c : ℕ). c + n < COUNT_END) old secret (slice_index old secret + 1)
+          (omega (arith, far, some)) before)
     ]
 
 -- what takes at most so many steps of any count
@@ -172,20 +177,21 @@ steps-new old (turn.Block got) few = refl
 pub turn-lasts : (n : ℕ) (old new : BenchState) (t : Turn) (i : Item) → GoodTurn old t i new
     → HasLeft (n + turn_steps old t) (bench_facts old) → HasLeft n (bench_facts new)
 turn-lasts n old new t i good left =
-    counts-last n (turn_steps old t) (turn_writes old t) (dark_of i) (bench_facts old) (bench_facts new) (some-steps old t)
-    (few-writes old t) (one-dark i) good.counts good.wears left
+    counts-last n (turn_steps old t) (turn_writes old t) (dark_of i) (bench_facts old) (bench_facts new)
+    (some-steps old t) (few-writes old t) (one-dark i) good.counts good.wears left
 
 block-lasts : (n : ℕ) (old new : BenchState) (got : List ℕ) (i : Item) → GoodBlock old got i new
     → HasLeft (n + COMMAND_WRITES) (bench_facts old) → HasLeft n (bench_facts new)
 block-lasts n old new got i good left =
-    counts-last n COMMAND_WRITES COMMAND_WRITES (dark_of i) (bench_facts old) (bench_facts new) (omega arith) (omega arith)
-    (one-dark i) good.counts good.wears left
+    counts-last n COMMAND_WRITES COMMAND_WRITES (dark_of i) (bench_facts old) (bench_facts new) (omega arith)
+    (omega arith) (one-dark i) good.counts good.wears left
 
 -- the same bench
 stays-last : (n more : ℕ) (old new : BenchState) → new ≡ old → HasLeft (n + more) (bench_facts old)
     → HasLeft n (bench_facts new)
 stays-last n more old new same left =
-    subst (λ (b : BenchState). HasLeft n (bench_facts b)) (sym same) (fewer (n + more) n (bench_facts old) (omega arith) left)
+    subst (λ (b : BenchState). HasLeft n (bench_facts b)) (sym same)
+    (fewer (n + more) n (bench_facts old) (omega arith) left)
 
 -- a power-on isn't mute, and power is lost where a cut was due alone
 pub not-mute : (old new : BenchState) (i : Item) → GoodTurn old turn.On i new → HasLeft COMMAND_WRITES (bench_facts old)
@@ -194,8 +200,13 @@ not-mute old new i good left is =
     let mute : GoodTurn old turn.On item.Mute new = subst (λ (i : Item). GoodTurn old turn.On i new) is good in
     let nearer = fewer COMMAND_WRITES 0 (bench_facts old) (omega arith) left in
     not-worn (bench_facts new) (subst (λ (b : BenchState). HasLeft 0 (bench_facts b)) (sym mute.one.0)
-    (record { faults = nearer.faults; cuts = nearer.cuts; writes = nearer.writes; compares = nearer.compares; matches = nearer.matches }))
-    mute.one.1
+    (record {
+      faults = nearer.faults;
+      cuts = nearer.cuts;
+      writes = nearer.writes;
+      compares = nearer.compares;
+      matches = nearer.matches;
+    })) mute.one.1
 
 due-so : (lost : ℕ) (old new : Facts) → Spends lost old new → HasLeft 0 new → old.due ≡ new.due + lost
 due-so lost old new spends left = elim spends.due [
@@ -203,8 +214,8 @@ due-so lost old new spends left = elim spends.due [
   | inr worn ↦ absurd (not-worn new left (inr worn.0))
 ]
 
-pub due-spent : (old new : BenchState) (t : Turn) (i : Item) → GoodTurn old t i new → HasLeft (turn_steps old t) (bench_facts old)
-    → (bench_facts old).due ≡ (bench_facts new).due + dark_of i
+pub due-spent : (old new : BenchState) (t : Turn) (i : Item) → GoodTurn old t i new
+    → HasLeft (turn_steps old t) (bench_facts old) → (bench_facts old).due ≡ (bench_facts new).due + dark_of i
 due-spent old new t i good left =
     due-so (dark_of i) (bench_facts old) (bench_facts new) good.counts (turn-lasts 0 old new t i good
     (fewer (turn_steps old t) (0 + turn_steps old t) (bench_facts old) (omega arith) left))
@@ -246,7 +257,8 @@ takes-last n old new got (Err set_back) takes left = absurd takes
 takes-last n old new got (Err link_lost) takes left = absurd takes
 takes-last n old new got (Err power_lost) takes left = block-lasts n old new got item.Dark takes left
 
-pub arrives-last : (n : ℕ) (old new : Ends) (way : NextBlock) (came : Option (List ℕ)) (follows : Result NextBlock Ended)
+pub arrives-last : (n : ℕ)
+    (old new : Ends) (way : NextBlock) (came : Option (List ℕ)) (follows : Result NextBlock Ended)
     → Arrives old way came new follows → HasLeft (n + COMMAND_WRITES) (bench_facts old.bench)
     → HasLeft n (bench_facts new.bench)
 arrives-last n old new way None follows arrives left = stays-last n COMMAND_WRITES old.bench new.bench arrives.0 left
@@ -255,8 +267,9 @@ arrives-last n old new (toward_card block) (Some got) follows arrives left =
 arrives-last n old new (toward_reader block) (Some got) follows arrives left =
     stays-last n COMMAND_WRITES old.bench new.bench arrives.0 left
 
-exchange-lasts : (n blocks : ℕ) (old new : Ends) (way : NextBlock) (ending : Ended) → Exchanges blocks old way new ending
-    → HasLeft (n + COMMAND_WRITES * blocks) (bench_facts old.bench) → HasLeft n (bench_facts new.bench)
+exchange-lasts : (n blocks : ℕ) (old new : Ends) (way : NextBlock) (ending : Ended)
+    → Exchanges blocks old way new ending → HasLeft (n + COMMAND_WRITES * blocks) (bench_facts old.bench)
+    → HasLeft n (bench_facts new.bench)
 unfolding Exchanges
 exchange-lasts n zero old new way ending run left =
     stays-last n (COMMAND_WRITES * 0) old.bench new.bench (ap (λ (e : Ends). e.bench) run.0) left
@@ -274,7 +287,8 @@ abbrev pub LINE_STEPS : ℕ
 LINE_STEPS = COMMAND_WRITES * LINE_BLOCKS
 
 through-lasts : (n : ℕ) (old new : Ends) (first : Result NextBlock Ended) (ending : Ended)
-    → GoesThrough first old new ending → HasLeft (n + LINE_STEPS) (bench_facts old.bench) → HasLeft n (bench_facts new.bench)
+    → GoesThrough first old new ending → HasLeft (n + LINE_STEPS) (bench_facts old.bench)
+    → HasLeft n (bench_facts new.bench)
 through-lasts n old new (Ok way) ending through left = exchange-lasts n LINE_BLOCKS old new way ending through left
 through-lasts n old new (Err ended) ending through left =
     stays-last n LINE_STEPS old.bench new.bench (ap (λ (e : Ends). e.bench) through.0) left
@@ -352,8 +366,8 @@ lines-last n first last [] out prints left =
 lines-last n first last (line ∷ others) out prints left =
     lines-last n prints.1 last others prints.3 prints.7
     (line-lasts (n + LINE_STEPS * length others) prints.0 first prints.1 prints.2 prints.5
-    (fewer (n + LINE_STEPS * length (line ∷ others)) (n + LINE_STEPS * length others + LINE_STEPS) (bench_facts first.bench)
-    (omega arith) left))
+    (fewer (n + LINE_STEPS * length (line ∷ others)) (n + LINE_STEPS * length others + LINE_STEPS)
+    (bench_facts first.bench) (omega arith) left))
 
 -- counts that are all 0
 none-counted : (n : ℕ) (counts : List ℕ) → counts ≡ replicate SECRETS 0 → n < COUNT_END

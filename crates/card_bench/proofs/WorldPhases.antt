@@ -6,7 +6,8 @@ use Rattle.t1_link.specs.declared.sequence_number.SequenceNumber.{SequenceNumber
 use Rattle.t1_link.specs.Blocks.{Block, frame, heard, information, receive_ready, resynch_request, resynch_response}
 use Rattle.t1_link.specs.SequenceNumbers.{other_number}
 use Rattle.t1_link.specs.CardTable.{Link, fresh, sent_block, sent_more}
-use Rattle.card_bench.specs.Worlds.{Carried, carrying, Line, Machine, Report, Unknown, World, is_command, quiet, toward_card, toward_reader}
+use Rattle.card_bench.specs.Worlds.{Carried, carrying, Line, Machine, Report, Unknown, World, is_command, quiet}
+use Rattle.card_bench.specs.Worlds.{toward_card, toward_reader}
 use Rattle.card_bench.specs.WorldRepairs.{Counts, NoneFailed, Repaired, answer_blocks, command_blocks, newest}
 use Rattle.std.proofs.Common.{inl, inr}
 use Rattle.card_bench.specs.WorldLaw.{Fits, Kept, OnlyRequestsFollow, requests}
@@ -147,7 +148,8 @@ abbrev pub ToReader : {M : Type 0} → Stage → Core M → Block → Type 0
 ToReader stage k b = ((error : ErrorKind) × (b ≡ receive_ready k.card.nr error)) ⊎ OfferedByCard stage k b
 
 abbrev pub UnderWay : {M : Type 0} → Stage → Core M → Line → Type 0
-UnderWay stage k line = ((b : Block) × (line ≡ toward_card b) × ToCard stage k b) ⊎ ((b : Block) × (line ≡ toward_reader b) × ToReader stage k b)
+UnderWay stage k line = ((b : Block) × (line ≡ toward_card b) × ToCard stage k b)
+    ⊎ ((b : Block) × (line ≡ toward_reader b) × ToReader stage k b)
 
 -- an answer is awaited, and RESYNCH was not requested
 pub record Awaits {M : Type 0} (w : World M) : Type 0 where
@@ -177,7 +179,8 @@ pub record AtRest {M : Type 0} (machine : Machine M) (start : M) (w : World M) :
   pub most : requests w.offered ≤ 3
   pub fits : Fits w.reports w.offered
 
--- RESYNCH was requested: a request is under way, or a reply to it; where that is the response, the card's end is as after power-on
+-- RESYNCH was requested: a request is under way, or a reply to it;
+-- where that is the response, the card's end is as after power-on
 pub record Requesting {M : Type 0} (machine : Machine M) (start : M) (w : World M) : Type 0 where
   pub phase : w.reader.phase ≡ Busy
   pub some : 1 ≤ w.reader.resynchs
@@ -232,8 +235,10 @@ newest_answer (ran ∷ carried) = ran.answer
 
 -- the Passes that led here, where nothing was lost or garbled
 abbrev pub Straight : {M : Type 0} → ℕ → Stage → Kind → Core M → Type 0
-Straight passes command_offered offers_card k = passes + 2 * command_blocks k.rest + 2 ≡ 2 * command_blocks (newest k.past.sent)
-Straight passes command_taken asks_reader k = passes + 1 + 2 * command_blocks k.rest ≡ 2 * command_blocks (newest k.past.sent)
+Straight passes command_offered offers_card k = passes + 2 * command_blocks k.rest + 2
+    ≡ 2 * command_blocks (newest k.past.sent)
+Straight passes command_taken asks_reader k = passes + 1 + 2 * command_blocks k.rest
+    ≡ 2 * command_blocks (newest k.past.sent)
 Straight passes answer_offered offers_reader k = passes + 3 + 2 * answer_blocks k.card.rest ≡ 2 *
     (command_blocks (newest k.past.sent) + answer_blocks (newest_answer k.past.carried))
 Straight passes answer_taken asks_card k = passes + 2 + 2 * answer_blocks k.card.rest ≡ 2 *
@@ -252,6 +257,7 @@ SomeFailed reports = NoneFailed reports → ⊥
 
 pub data Good {M : Type 0} (machine : Machine M) (start : M) (c : Counts) (w : World M) : Type 0 where
   at_rest : AtRest machine start w → Repaired c w.sent w.reports → Good machine start c w
-  exchange : (x : Exchange machine start w) → Budget c x.stage (kind_of x.stage (core w) w.line x.way) (core w) w.reader.tries → Good machine start c w
+  exchange : (x : Exchange machine start w)
+      → Budget c x.stage (kind_of x.stage (core w) w.line x.way) (core w) w.reader.tries → Good machine start c w
   requesting_now : Requesting machine start w → 2 ≤ c.faults → Good machine start c w
   given_up : GivenUp machine start w → Repaired c w.sent w.reports → SomeFailed w.reports → Good machine start c w

@@ -2,12 +2,12 @@
 use Rattle.std.specs.Prelude.{◌≡◌, true, false, Option, None, Some, IsSome}
 use Rattle.nvm_board.specs.Facts.{Facts}
 use Rattle.card_core.specs.declared.card_state.CardState.TheVariants.{Working}
-use Rattle.card_core.specs.Cards.{Card}
-use Rattle.card_core.specs.Finding.{HasCard, found}
+use Rattle.card_machine.specs.Cards.{Card}
+use Rattle.card_machine.specs.Finding.{HasCard, found}
 use Rattle.card_core.specs.Running.{card_found}
-use Rattle.card_core.specs.Sessions.{fresh_session}
+use Rattle.card_machine.specs.Sessions.{fresh_session}
 use Rattle.file_tree.specs.declared.space.FreeSpace.{FreeSpace}
-use Rattle.card_core.specs.Cards.{card_space}
+use Rattle.card_machine.specs.Cards.{card_space}
 use Rattle.t1_link.specs.CardTable.{fresh}
 use Rattle.card_bench.specs.CardBlocks.{Powered}
 
@@ -54,8 +54,8 @@ abbrev pub IsWell : BenchState → Type 0
 IsWell (off facts) = Unit {0}
 IsWell (on powered) = powered.card.state ≡ Working
 
--- What is told of the free space: nothing with power off; with power on that of the card that is found, as long as the memory
--- didn't fail.
+-- What is told of the free space: nothing with power off;
+-- with power on that of the card that is found, as long as the memory didn't fail.
 abbrev pub TellsFree : BenchState → Option FreeSpace → Type 0
 TellsFree (off facts) told = told ≡ None
 TellsFree (on powered) told = IsSome told × (powered.card.state ≡ Working

@@ -3,14 +3,14 @@ use Rattle.std.specs.Prelude.{◌≡◌, ℕ, List, []}
 use Rattle.nvm_board.specs.Facts.{Steady, GoesDark, Fails}
 use Rattle.t1_link.specs.CardTable.{Link, link_step, Taken, Reaction, replies, runs, answers, reply_bytes}
 use Rattle.apdu_core.specs.Asked.{asked}
-use Rattle.card_core.specs.Comparing.{comparisons, ComparesAsked, ComparesNothing}
-use Rattle.card_core.specs.Counting.{CountsAnswered}
+use Rattle.card_machine.specs.Comparing.{comparisons, ComparesAsked, ComparesNothing}
+use Rattle.card_machine.specs.Counting.{CountsAnswered}
 use Rattle.card_core.specs.declared.card_state.CardState.TheVariants.{Working, Failed, Dark}
-use Rattle.card_core.specs.Cards.{Card}
-use Rattle.card_core.specs.Sessions.{Session, fresh_session}
-use Rattle.card_core.specs.Stages.{ChangesNothing, IsStage}
-use Rattle.card_core.specs.Words.{StandsAsked}
-use Rattle.card_core.specs.Steps.{Outcome, answer_bytes, carried_out}
+use Rattle.card_machine.specs.Cards.{Card}
+use Rattle.card_machine.specs.Sessions.{Session, fresh_session}
+use Rattle.card_machine.specs.Stages.{ChangesNothing, IsStage}
+use Rattle.card_machine.specs.Words.{StandsAsked}
+use Rattle.card_machine.specs.Steps.{Outcome, answer_bytes, carried_out}
 use Rattle.card_core.specs.Running.{Running, card_found, memory_failure}
 
 -- the card, and its end of the link
@@ -51,7 +51,8 @@ abbrev pub IsBlockStage : Powered → Reaction → Card → Type 0
 IsBlockStage old (replies block) card = card ≡ card_found old.card
 IsBlockStage old (runs command) card = IsStage (card_found old.card) old.card.session command card
 
--- which card is found after the command that a reaction runs, by the word that was written; where none runs nothing is written
+-- which card is found after the command that a reaction runs, by the word that was written;
+-- where none runs nothing is written
 abbrev pub BlockStands : Powered → Reaction → List ℕ → Type 0
 BlockStands old (replies block) m = Unit {0}
 BlockStands old (runs command) m = StandsAsked (card_found old.card) old.card.session (asked command) m
@@ -79,10 +80,13 @@ BlockCounts old (runs command) new =
 pub record Replies (old : Powered) (got : List ℕ) (new : Powered) (out : List ℕ) : Type 0 where
   pub power : Steady old.card.facts new.card.facts
   pub state : new.card.state ≡ Working
-  pub card : card_found new.card ≡ card_by (card_found old.card) (link_step old.link got).reaction (λ command. (machine old command).card)
-  pub session : new.card.session ≡ session_by old.card.session (link_step old.link got).reaction (λ command. (machine old command).session)
+  pub card : card_found new.card
+      ≡ card_by (card_found old.card) (link_step old.link got).reaction (λ command. (machine old command).card)
+  pub session : new.card.session
+      ≡ session_by old.card.session (link_step old.link got).reaction (λ command. (machine old command).session)
   pub link : new.link ≡ (block_answered old.link got (λ command. answer_bytes (machine old command).response)).link
-  pub block : out ≡ reply_bytes (block_answered old.link got (λ command. answer_bytes (machine old command).response)).reaction
+  pub block : out
+      ≡ reply_bytes (block_answered old.link got (λ command. answer_bytes (machine old command).response)).reaction
   pub counted : BlockCounts old (link_step old.link got).reaction new
 
 -- The reply of a card whose memory failed: each command is answered 6581.

@@ -4,7 +4,8 @@ use Rattle.t1_link.specs.ReaderTable.{Reader}
 use Rattle.card_bench.specs.declared.came.Came.{Came}
 use Rattle.card_bench.specs.declared.came.Came.TheVariants.{Nothing, Atr, Mute, Dark, Lost, Answer, Block, Free}
 use Rattle.card_bench.specs.Exchanges.{Desk}
-use Rattle.card_bench.specs.Printouts.{Print, prints_atr, prints_bytes, prints_dark, prints_free, prints_lost, prints_mute, prints_nothing}
+use Rattle.card_bench.specs.Printouts.{Print, prints_atr, prints_bytes, prints_dark, prints_free, prints_lost}
+use Rattle.card_bench.specs.Printouts.{prints_mute, prints_nothing}
 
 -- the desk, and what its last line prints
 pub record DeskState : Type 0 where

@@ -35,8 +35,8 @@ pub record IsReadInto (script left : List ℕ) (old new : Option (List ℕ)) : T
   pub within : length (front ++ begun) ≤ SCRIPT_LIMIT
   pub written : HasWritten old (lines front) new
 
--- A script that was run to a line whose text the writer didn't take, or not all of it. That line prints something, and is
--- the last that was read; what the lines before it print is written whole.
+-- A script that was run to a line whose text the writer didn't take, or not all of it. That line prints something, and
+-- is the last that was read; what the lines before it print is written whole.
 pub record IsRunInto (script left : List ℕ) (old new : Option (List ℕ)) : Type 0 where
   pub front : List ℕ
   pub parts : script ≡ front ++ left
@@ -57,8 +57,8 @@ pub record IsRunInto (script left : List ℕ) (old new : Option (List ℕ)) : Ty
   pub size : ℕ
   pub begun : Appends old new (out ++ take size text)
 
--- Where the script's bytes are known: a bad line is the first one, and the lines before it were carried out. A reader that
--- fails does so within a line, and a writer in the text of a line.
+-- Where the script's bytes are known: a bad line is the first one, and the lines before it were carried out. A reader
+-- that fails does so within a line, and a writer in the text of a line.
 abbrev pub RunStopsBy : RunFault → Option (List ℕ) → Option (List ℕ) → Option (List ℕ) → Option (List ℕ) → Type 0
 RunStopsBy (BadLine number) script left old new = IfSome script (λ bytes. IsRunToLine number bytes old new)
 RunStopsBy Read script left old new = WhereKnown script left (λ bytes rest. IsReadInto bytes rest old new)

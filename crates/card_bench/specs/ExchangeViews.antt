@@ -10,7 +10,8 @@ use Rattle.card_bench.specs.declared.exchange.Ending.{Ending}
 use Rattle.card_bench.specs.declared.exchange.Ending.TheVariants.{Answered, SetBack, Lost, Dark}
 use Rattle.card_bench.specs.declared.exchange.Blocks.{Blocks}
 use Rattle.card_bench.specs.declared.exchange.Ends.{Ends as BenchEnds}
-use Rattle.card_bench.specs.Exchanges.{Ended, Ends, NextBlock, answered, link_lost, power_lost, set_back, toward_card, toward_reader}
+use Rattle.card_bench.specs.Exchanges.{Ended, Ends, NextBlock, answered, link_lost, power_lost, set_back}
+use Rattle.card_bench.specs.Exchanges.{toward_card, toward_reader}
 
 -- both ends, and the line
 abbrev pub ends_of : {B : Type 0} → BenchEnds B → Ends

@@ -1,5 +1,5 @@
--- An exchange as a run of the world of both ends: the machine is the card at the bench, and each block that goes on the line has
--- the fate that the pending faults say.
+-- An exchange as a run of the world of both ends: the machine is the card at the bench, and each block that goes on the
+-- line has the fate that the pending faults say.
 use Rattle.std.specs.Prelude.{◌≡◌, ◌⊎◌, ◌≤◌, ◌+◌, ℕ, zero, suc, true, List, [], ◌∷◌, ◌++◌, if◌then◌else◌}
 use Rattle.t1_link.specs.declared.reader_end.Failure.{Failure}
 use Rattle.t1_link.specs.Blocks.{frame}
@@ -8,8 +8,8 @@ use Rattle.t1_link.specs.Garbled.{last_bit_turned}
 use Rattle.t1_link.specs.ReaderTable.{Reader}
 use Rattle.card_core.specs.Running.{card_found}
 use Rattle.apdu_core.specs.Asked.{asked}
-use Rattle.card_core.specs.Stages.{IsStage}
-use Rattle.card_core.specs.Words.{StandsAsked}
+use Rattle.card_machine.specs.Stages.{IsStage}
+use Rattle.card_machine.specs.Words.{StandsAsked}
 use Rattle.card_bench.specs.Exchanges.{Ended}
 use Rattle.card_bench.specs.Exchanges.{answered, set_back, link_lost, power_lost}
 use Rattle.card_bench.specs.declared.exchange.TheConstants.{LINE_BLOCKS}
@@ -19,8 +19,8 @@ use Rattle.card_bench.specs.CardBlocks.{Powered}
 use Rattle.card_bench.specs.Exchanges.{Ends, Exchanged}
 use Rattle.card_bench.specs.Lines.{is_due, line_after}
 use Rattle.card_bench.specs.TreeMachine.{IsProperState, Served, tree_machine}
-use Rattle.card_bench.specs.Worlds.{Arrival, Done, Event, Failed, Line as WorldLine, Report, Unknown, World, arrival, at_card, garble}
-use Rattle.card_bench.specs.Worlds.{is_command, lose, pass, quiet}
+use Rattle.card_bench.specs.Worlds.{Arrival, Done, Event, Failed, Line as WorldLine, Report, Unknown, World, arrival}
+use Rattle.card_bench.specs.Worlds.{at_card, garble, is_command, lose, pass, quiet}
 use Rattle.card_bench.specs.Worlds.{send, toward_card, toward_reader, world_step}
 use Rattle.card_bench.specs.WorldLaw.{comes_of, is_under_way}
 
@@ -56,10 +56,11 @@ fate pending block =
 unfoldable pub fates : Line → ℕ → World Served → List Event
 fates pending zero w = []
 fates pending (suc blocks) w =
-    fate pending (bytes_of_line w.line) ∷ fates (line_after 1 pending) blocks (world_step tree_machine w (fate pending (bytes_of_line w.line)))
+    fate pending (bytes_of_line w.line)
+    ∷ fates (line_after 1 pending) blocks (world_step tree_machine w (fate pending (bytes_of_line w.line)))
 
--- The course of an exchange in the world: the command, how many blocks may go on the line, the faults that are pending on it, the
--- reports of earlier commands, and the world after each number of blocks.
+-- The course of an exchange in the world: the command, how many blocks may go on the line, the faults that are pending
+-- on it, the reports of earlier commands, and the world after each number of blocks.
 pub record Course : Type 0 where
   pub command : List ℕ
   pub limit : ℕ
@@ -77,8 +78,8 @@ pub record IsUnreported (earlier : List Report) (w : World Served) : Type 0 wher
   pub reports : w.reports ≡ earlier
   pub line : is_under_way w.line ≡ true
 
--- The block under way came to the card's end, the command was to run there, and power was lost: the card that is found is one
--- of its stages; which one, the word tells that was written.
+-- The block under way came to the card's end, the command was to run there, and power was lost: the card that is found
+-- is one of its stages; which one, the word tells that was written.
 pub record ExchangeIsCut (command : List ℕ) (came : Arrival) (w : World Served) (new : BenchState) : Type 0 where
   pub power : IsOff new
   pub got : List ℕ
@@ -90,10 +91,11 @@ pub record ExchangeIsCut (command : List ℕ) (came : Arrival) (w : World Served
 -- what comes of the block that goes on the line after so many
 abbrev pub arrival_after : Course → ℕ → Arrival
 arrival_after course blocks =
-    arrival (course.after blocks).line (fate (line_after blocks course.pending) (bytes_of_line (course.after blocks).line))
+    arrival (course.after blocks).line
+    (fate (line_after blocks course.pending) (bytes_of_line (course.after blocks).line))
 
--- How an exchange ended when so many blocks had gone on the line: with a report; without one, as no more blocks may go on the
--- line; or with the last of them, by which power was lost.
+-- How an exchange ended when so many blocks had gone on the line: with a report; without one, as no more blocks may go
+-- on the line; or with the last of them, by which power was lost.
 abbrev pub EndsSo : Ended → Course → ℕ → Ends → Type 0
 EndsSo (answered answer) course blocks new =
     StandIn new.bench new.reader (course.after blocks) × IsReported (Done answer) course.earlier (course.after blocks)
@@ -116,10 +118,11 @@ pub record GoesAs (course : Course) (new : Ends) (ending : Ended) : Type 0 where
 
 -- the events of an exchange up to a number of blocks: in a world the command is sent, and the blocks go on the line
 abbrev pub exchange_events : World Served → List ℕ → Line → ℕ → List Event
-exchange_events w command pending blocks = send command ∷ fates pending blocks (world_step tree_machine w (send command))
+exchange_events w command pending blocks = send command
+    ∷ fates pending blocks (world_step tree_machine w (send command))
 
--- The course of the exchange of a command, from the world that came of some events since power-on: it is a run of the world, and
--- its events follow those.
+-- The course of the exchange of a command, from the world that came of some events since power-on: it is a run of the
+-- world, and its events follow those.
 abbrev pub course_of : Served → List Event → List ℕ → Line → Course
 course_of start events command pending =
     let w = comes_of tree_machine start events in

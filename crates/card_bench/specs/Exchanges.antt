@@ -1,7 +1,9 @@
--- An exchange: a command through both ends of the link, over a line that may lose or garble blocks, with a card at the bench.
+-- An exchange: a command through both ends of the link, over a line that may lose or garble blocks,
+-- with a card at the bench.
 use Rattle.std.specs.Prelude.{◌≡◌, ◌⊎◌, ℕ, zero, suc, List, Option, None, Some, Result, Ok, Err}
 use Rattle.t1_link.specs.Blocks.{frame}
-use Rattle.t1_link.specs.ReaderTable.{Outcome, Reader, Turned, fails, gives, reader_sends, reader_step, reader_times_out, sends, unknown}
+use Rattle.t1_link.specs.ReaderTable.{Outcome, Reader, Turned, fails, gives, reader_sends, reader_step}
+use Rattle.t1_link.specs.ReaderTable.{reader_times_out, sends, unknown}
 use Rattle.card_bench.specs.declared.exchange.TheConstants.{LINE_BLOCKS}
 use Rattle.card_bench.specs.declared.playing.Item.TheVariants as item
 use Rattle.card_bench.specs.declared.line.Line.{Line}
@@ -15,8 +17,8 @@ pub data NextBlock : Type 0 where
   toward_card : List ℕ → NextBlock
   toward_reader : List ℕ → NextBlock
 
--- how an exchange ends: with this answer; the link was set back, and it isn't known whether the command was carried out; the
--- reader's end gave the link up, or too many blocks were put on the line; or power was lost
+-- how an exchange ends: with this answer; the link was set back, and it isn't known whether the command was carried
+-- out; the reader's end gave the link up, or too many blocks were put on the line; or power was lost
 pub data Ended : Type 0 where
   answered : List ℕ → Ended
   set_back : Ended
@@ -59,8 +61,10 @@ CardTakes old got new (Err power_lost) = GoodBlock old got item.Dark new
 
 -- This arrives of the block that went on the line. Where nothing does, the reader's end waits in vain.
 abbrev pub Arrives : Ends → NextBlock → Option (List ℕ) → Ends → Result NextBlock Ended → Type 0
-Arrives old way None new follows = (new.bench ≡ old.bench) × ReaderTurns (reader_times_out old.reader) new.reader follows
-Arrives old (toward_card block) (Some got) new follows = (new.reader ≡ old.reader) × CardTakes old.bench got new.bench follows
+Arrives old way None new follows = (new.bench ≡ old.bench)
+    × ReaderTurns (reader_times_out old.reader) new.reader follows
+Arrives old (toward_card block) (Some got) new follows = (new.reader ≡ old.reader)
+    × CardTakes old.bench got new.bench follows
 Arrives old (toward_reader block) (Some got) new follows =
     (new.bench ≡ old.bench) × ReaderTurns (reader_step old.reader got) new.reader follows
 
@@ -79,7 +83,8 @@ unfoldable pub Exchanges : ℕ → Ends → NextBlock → Ends → Ended → Typ
 Exchanges zero old way new ending = (new ≡ old) × (ending ≡ link_lost)
 Exchanges (suc blocks) old way new ending =
     Passes old way new (Err ending)
-    ⊎ ((between : Ends) × (next : NextBlock) × Passes old way between (Ok next) × Exchanges blocks between next new ending)
+    ⊎ ((between : Ends) × (next : NextBlock) × Passes old way between (Ok next)
+    × Exchanges blocks between next new ending)
 
 -- What follows from what the reader's end says: blocks pass, at most 1,000, or nothing goes on the line.
 abbrev pub GoesThrough : Result NextBlock Ended → Ends → Ends → Ended → Type 0

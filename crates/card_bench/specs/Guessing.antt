@@ -2,7 +2,7 @@
 -- come back by matches alone (ISO/IEC 7816-4, clause 11, basic security handling).
 use Rattle.std.specs.Prelude.{◌≤◌, ◌+◌, ◌*◌, ℕ, slice_index}
 use Rattle.pin_store.specs.declared.layout.TheConstants.{PINS, TRIES, UNBLOCKING_TRIES}
-use Rattle.card_core.specs.Pins.{pin_of, unblocking_of, value_of}
+use Rattle.card_machine.specs.Pins.{pin_of, unblocking_of, value_of}
 use Rattle.card_bench.specs.BenchStates.{BenchState, bench_card, bench_facts}
 
 -- of a secret: how often it was compared, the tries that are left, and how many matches gave it all its tries back

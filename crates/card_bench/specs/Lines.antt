@@ -16,7 +16,8 @@ pending_after blocks (Some wait) = if nat_lt wait blocks then None else Some (wa
 abbrev pub line_after : ℕ → Line → Line
 line_after blocks line = record { lose = pending_after blocks line.lose; garble = pending_after blocks line.garble }
 
--- what arrives of a block before which so many others go: nothing where it is due to be lost, be it due to be garbled or not
+-- what arrives of a block before which so many others go:
+-- nothing where it is due to be lost, be it due to be garbled or not
 abbrev pub arriving : Line → ℕ → List ℕ → Option (List ℕ)
 arriving line before block =
     if is_due line.lose before then None else

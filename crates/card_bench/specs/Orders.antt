@@ -1,5 +1,6 @@
 -- The lines of a script, and what each asks for.
-use Rattle.std.specs.Prelude.{ℕ, ◌+◌, ◌-◌, ◌*◌, ◌≤◌, ◌==◌, ◌&&◌, ◌||◌, nat_le, nat_lt, nat_eq, Bool, List, [], ◌∷◌, length, drop, take}
+use Rattle.std.specs.Prelude.{ℕ, ◌+◌, ◌-◌, ◌*◌, ◌≤◌, ◌==◌, ◌&&◌, ◌||◌, nat_le, nat_lt, nat_eq, Bool, List, [], ◌∷◌}
+use Rattle.std.specs.Prelude.{length, drop, take}
 use Rattle.std.specs.Prelude.{codes, slice_index, Option, Some, None, Result, Ok, Err, option_map, if◌then◌else◌}
 use Rattle.std.specs.Char.{is_ascii_digit}
 use Rattle.std.specs.Cmp.Lexicographic.{pointwise}
@@ -9,8 +10,8 @@ use Rattle.hex.specs.Hex.{decode_of}
 use Rattle.hex.specs.declared.error.FromHexError.{FromHexError}
 use Rattle.card_bench.specs.declared.order.TheConstants.{LINE_LIMIT, COMMAND_LIMIT, BLOCK_LIMIT, NUMBER_DIGITS}
 
--- What a line asks for: nothing; power on; power off; what is free; a command; a block; that a device write is cut, with these
--- words of it new; or that a block is lost, or garbled.
+-- What a line asks for: nothing; power on; power off; what is free; a command; a block; that a device write is cut,
+-- with these words of it new; or that a block is lost, or garbled.
 pub data Order : Type 0 where
   Nothing : Order
   On : Order
@@ -37,7 +38,8 @@ is_decimal digits = (nat_le 1 (length digits) && nat_le (length digits) NUMBER_D
 
 -- the number that 1 to 6 decimal digits spell, where it is at least 1
 abbrev pub number_in : List ℕ → Option ℕ
-number_in digits = if is_decimal digits && nat_le 1 (digits_value 10 digits) then Some (digits_value 10 digits) else None
+number_in digits = if is_decimal digits
+    && nat_le 1 (digits_value 10 digits) then Some (digits_value 10 digits) else None
 
 -- the number of 16 bits that four hexadecimal digits of either case spell
 abbrev pub mask_by : Result (List ℕ) FromHexError → Option ℕ

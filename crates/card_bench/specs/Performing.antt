@@ -12,7 +12,7 @@ use Rattle.card_bench.specs.Exchanges.{Commands, Desk}
 use Rattle.card_bench.specs.Printouts.{Print, prints_nothing, prints_atr, prints_mute, prints_dark, prints_bytes}
 use Rattle.card_bench.specs.Printouts.{prints_free}
 use Rattle.card_core.specs.Running.{card_found}
-use Rattle.card_core.specs.Cards.{card_space}
+use Rattle.card_machine.specs.Cards.{card_space}
 use Rattle.card_bench.specs.Turns.{GoodBlock, GoodTurn}
 
 -- what is printed of a turn
@@ -36,8 +36,8 @@ abbrev pub with_facts : BenchState → Facts → BenchState
 with_facts (off was) facts = off facts
 with_facts (on powered) facts = on (record powered { card = record powered.card { facts = facts } })
 
--- The write with this number from now on, counted from 1, is set to be torn: bit i of the mask tells whether its ith word is
--- new. Nothing else changes, but that at most one cut is due.
+-- The write with this number from now on, counted from 1, is set to be torn: bit i of the mask tells whether its ith
+-- word is new. Nothing else changes, but that at most one cut is due.
 pub record IsArmed (number mask : ℕ) (old new : BenchState) : Type 0 where
   pub due : (bench_facts new).due ≤ 1
   pub same : new ≡ with_facts old (record (bench_facts old) {

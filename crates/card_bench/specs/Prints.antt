@@ -20,8 +20,8 @@ PrintsLines old (line ∷ others) new out =
     × (order_of line ≡ Some order) × Performs order old between prints × IsGood between.bench
     × PrintsLines between others new rest × (out ≡ text_of prints ++ rest)
 
--- The counts of a new board of 1,024 pages on which a card was written: at most one device write a page, and nothing else was
--- counted, nor is a cut to come.
+-- The counts of a new board of 1,024 pages on which a card was written: at most one device write a page, and nothing
+-- else was counted, nor is a cut to come.
 pub record IsJustWritten (f : Facts) : Type 0 where
   pub due : f.due ≡ 0
   pub cuts : f.cuts ≡ 0

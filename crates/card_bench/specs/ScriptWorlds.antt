@@ -1,7 +1,7 @@
 -- From a power-on to the next the commands of a script are exchanges in one world.
 use Rattle.std.specs.Prelude.{◌≡◌, ℕ, List, [], ◌++◌, Some}
 use Rattle.t1_link.specs.ReaderTable.{Reader}
-use Rattle.card_core.specs.Sessions.{fresh_session}
+use Rattle.card_machine.specs.Sessions.{fresh_session}
 use Rattle.card_bench.specs.Exchanges.{Ended}
 use Rattle.card_bench.specs.Orders.{Order}
 use Rattle.card_bench.specs.Orders.{Nothing, On, Off, Free, Apdu, Block, Cut, Lose, Garble}
@@ -16,24 +16,27 @@ use Rattle.card_bench.specs.TreeMachine.{IsProperState, Served, tree_machine}
 use Rattle.card_bench.specs.Worlds.{Event, quiet}
 use Rattle.card_bench.specs.WorldLaw.{comes_of}
 
--- The desk is in the world that came of these events since power-on: a command may be sent, both ends and the card are those of
--- that world, and nothing is under way.
+-- The desk is in the world that came of these events since power-on: a command may be sent, both ends and the card are
+-- those of that world, and nothing is under way.
 pub record IsInWorld (start : Served) (events : List Event) (d : Desk) : Type 0 where
   pub reader : Reader
   pub may_send : d.reader ≡ Some reader
   pub stands : StandIn d.bench reader (comes_of tree_machine start events)
   pub calm : (comes_of tree_machine start events).line ≡ quiet
 
--- A command is an exchange in that world; where another one may be sent after it, the desk is in the world that came of the
--- exchange.
-pub record CommandInWorld (command : List ℕ) (start : Served) (events : List Event) (old new : Desk) (prints : Print) : Type 0 where
+-- A command is an exchange in that world; where another one may be sent after it,
+-- the desk is in the world that came of the exchange.
+pub record CommandInWorld (command : List ℕ) (start : Served) (events : List Event) (old new : Desk)
+    (prints : Print) : Type 0 where
   pub reader : Reader
   pub ending : Ended
-  pub course : GoesAs (course_of start events command old.line) (record { bench = new.bench; reader = reader; line = new.line }) ending
+  pub course : GoesAs (course_of start events command old.line)
+      (record { bench = new.bench; reader = reader; line = new.line }) ending
   pub left : new.reader ≡ left_by ending reader
   pub printed : prints ≡ printed_by ending
   pub goes_on : GoesOn ending
-      → (blocks : ℕ) × IsInWorld start (events ++ exchange_events (comes_of tree_machine start events) command old.line blocks) new
+      → (blocks : ℕ)
+      × IsInWorld start (events ++ exchange_events (comes_of tree_machine start events) command old.line blocks) new
 
 -- A line in a world. Power on, power off, and a block straight to the card's end leave it.
 abbrev pub LineInWorld : Order → Served → List Event → Desk → Desk → Print → Type 0

@@ -1,6 +1,7 @@
 -- A script is lines (std's `lines`: each ends with a line feed, which the last may lack; one carriage return before a
 -- line feed is dropped), each of which asks for something, and at most 16,777,216 bytes in all.
-use Rattle.std.specs.Prelude.{◌≡◌, ◌⊎◌, ℕ, ◌+◌, ◌<◌, ◌≤◌, ◌==◌, true, false, List, [], ◌∷◌, ◌++◌, length, All, Option, Some, None, OnSome, is_some}
+use Rattle.std.specs.Prelude.{◌≡◌, ◌⊎◌, ℕ, ◌+◌, ◌<◌, ◌≤◌, ◌==◌, true, false, List, [], ◌∷◌, ◌++◌, length, All, Option}
+use Rattle.std.specs.Prelude.{Some, None, OnSome, is_some}
 use Rattle.std.specs.List.{list_all}
 use Rattle.std.specs.Io.KnownBytes.{Consumes, IsAtEnd}
 use Rattle.std.specs.Str.Lines.{lines, strip_carriage_return}
@@ -29,13 +30,14 @@ EndsLine seen rest = ((front : List ℕ) × (seen ≡ front ++ 10 ∷ [])) ⊎ (
 abbrev pub IsTooLong : List ℕ → Type 0
 IsTooLong bytes = LINE_LIMIT < length (strip_carriage_return bytes)
 
--- Of the bytes that were looked at these lines are good, and the next one is bad: it ends there and asks for nothing that is
--- known, or what stands there of it is too long.
+-- Of the bytes that were looked at these lines are good, and the next one is bad: it ends there and asks for nothing
+-- that is known, or what stands there of it is too long.
 abbrev pub ShowsBad : List ℕ → List ℕ → List (List ℕ) → Type 0
-ShowsBad seen rest before = (bad : List ℕ) × (lines seen ≡ before ++ bad ∷ []) × ((EndsLine seen rest × (order_of bad ≡ None)) ⊎ IsTooLong bad)
+ShowsBad seen rest before = (bad : List ℕ) × (lines seen ≡ before ++ bad ∷ [])
+    × ((EndsLine seen rest × (order_of bad ≡ None)) ⊎ IsTooLong bad)
 
--- Line n, counted from 1, is the first that asks for nothing that is known, or is too long; and the first 16,777,216 bytes
--- of the script show it.
+-- Line n, counted from 1, is the first that asks for nothing that is known, or is too long; and the first 16,777,216
+-- bytes of the script show it.
 pub record FailsAtLine (script : List ℕ) (n : ℕ) : Type 0 where
   pub before : List (List ℕ)
   pub line : List ℕ
@@ -62,7 +64,8 @@ IsInLine bytes = All (λ b. (b == 10) ≡ false) bytes
 
 -- a line that was read: up to a line feed, less one carriage return before it; or the rest, which has none
 abbrev pub TakesLine : Option (List ℕ) → Option (List ℕ) → List ℕ → LineEnd → Type 0
-TakesLine old new line LineFeed = (bytes : List ℕ) × Consumes old new (bytes ++ 10 ∷ []) × IsInLine bytes × (line ≡ strip_carriage_return bytes)
+TakesLine old new line LineFeed = (bytes : List ℕ) × Consumes old new (bytes ++ 10 ∷ []) × IsInLine bytes
+    × (line ≡ strip_carriage_return bytes)
 TakesLine old new line EndOfScript = Consumes old new line × OnSome old (IsAtEnd new) × IsInLine line
 
 -- as many bytes were counted as were taken
@@ -88,11 +91,13 @@ size_of End = 0
 size_of (Begun size) = size
 size_of (FedPart size) = size
 
--- a part of a line was taken, and the line is longer by it: nothing at the end; bytes with no line feed among them; or bytes
--- up to the first line feed, which is not kept
+-- a part of a line was taken, and the line is longer by it: nothing at the end; bytes with no line feed among them; or
+-- bytes up to the first line feed, which is not kept
 abbrev pub TakesPart : Option (List ℕ) → Option (List ℕ) → List ℕ → List ℕ → Part → Type 0
 TakesPart old new before after End = Consumes old new [] × OnSome old (IsAtEnd new) × (after ≡ before)
 TakesPart old new before after (Begun size) =
-    (bytes : List ℕ) × Consumes old new bytes × IsInLine bytes × (after ≡ before ++ bytes) × (length bytes ≡ size) × (1 ≤ size)
+    (bytes : List ℕ) × Consumes old new bytes × IsInLine bytes × (after ≡ before ++ bytes)
+    × (length bytes ≡ size) × (1 ≤ size)
 TakesPart old new before after (FedPart size) =
-    (bytes : List ℕ) × Consumes old new (bytes ++ 10 ∷ []) × IsInLine bytes × (after ≡ before ++ bytes) × (length bytes + 1 ≡ size)
+    (bytes : List ℕ) × Consumes old new (bytes ++ 10 ∷ []) × IsInLine bytes × (after ≡ before ++ bytes)
+    × (length bytes + 1 ≡ size)

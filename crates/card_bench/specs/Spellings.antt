@@ -7,8 +7,8 @@ use Rattle.card_bench.specs.Orders.{Order}
 use Rattle.card_bench.specs.Orders.{Nothing, On, Off, Free, Apdu, Block, Cut, Lose, Garble}
 use Rattle.card_bench.specs.Orders.{IsSized, order_of}
 
--- The line that asks for it, with these sixteen digits. Two digits spell a byte, and four the 16 bits of a mask; a number stands
--- in decimal digits, and a space (32) parts it from the mask.
+-- The line that asks for it, with these sixteen digits. Two digits spell a byte, and four the 16 bits of a mask; a
+-- number stands in decimal digits, and a space (32) parts it from the mask.
 abbrev pub spelling : List ℕ → Order → List ℕ
 spelling digits Nothing = []
 spelling digits On = codes "on"
@@ -16,7 +16,8 @@ spelling digits Off = codes "off"
 spelling digits Free = codes "free"
 spelling digits (Apdu command) = codes "apdu " ++ encode_with digits command
 spelling digits (Block block) = codes "block " ++ encode_with digits block
-spelling digits (Cut number mask) = codes "cut " ++ decimal number ++ 32 ∷ encode_with digits (mask / 256 ∷ mask % 256 ∷ [])
+spelling digits (Cut number mask) = codes "cut " ++ decimal number ++ 32
+    ∷ encode_with digits (mask / 256 ∷ mask % 256 ∷ [])
 spelling digits (Lose number) = codes "lose " ++ decimal number
 spelling digits (Garble number) = codes "garble " ++ decimal number
 

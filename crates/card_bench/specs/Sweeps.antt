@@ -7,12 +7,12 @@ use Rattle.card_bench.specs.declared.playing.Turn.TheVariants as turn
 use Rattle.card_bench.specs.declared.playing.Item.{Item}
 use Rattle.card_bench.specs.declared.playing.Item.TheVariants.{Dark}
 use Rattle.card_bench.specs.BenchStates.{BenchState, off, on, bench_facts}
-use Rattle.card_core.specs.Finding.{HasCard}
+use Rattle.card_machine.specs.Finding.{HasCard}
 use Rattle.card_bench.specs.Turns.{GoodBlock, GoodTurn, Runs}
 use Rattle.card_bench.specs.Performing.{IsArmed}
 use Rattle.card_bench.specs.CardBlocks.{IsBlockStage}
-use Rattle.card_core.specs.Cards.{card_space}
-use Rattle.card_core.specs.Cards.{Card}
+use Rattle.card_machine.specs.Cards.{card_space}
+use Rattle.card_machine.specs.Cards.{Card}
 use Rattle.card_core.specs.Running.{card_found}
 use Rattle.t1_link.specs.CardTable.{link_step}
 use Rattle.card_bench.specs.Tallies.{Finding}
@@ -30,9 +30,10 @@ abbrev pub free_of : BenchState → FreeSpace
 free_of (off facts) = record { blocks = 0; entries = 0 }
 free_of (on powered) = card_space (card_found powered.card)
 
--- The command is cut at this write, by this mask: the preparation is played on the board, the cut is set, and power is lost
--- while the command runs. No cut is to come any more.
-pub record CutsCommand (number mask : ℕ) (board : Facts) (prepare : List Turn) (command : List ℕ) (left : Facts) : Type 0 where
+-- The command is cut at this write, by this mask: the preparation is played on the board, the cut is set, and power is
+-- lost while the command runs. No cut is to come any more.
+pub record CutsCommand (number mask : ℕ) (board : Facts) (prepare : List Turn) (command : List ℕ)
+    (left : Facts) : Type 0 where
   pub trace : List Item
   pub prepared : BenchState
   pub armed : BenchState
@@ -88,8 +89,8 @@ pub record EndsBehindStarts (depth : ℕ) (board : Facts) (probe : List Turn) (g
   pub end : EndsIn left probe given
 
 -- A run of a sweep gives this.
-pub record GivenByRun (board : Facts) (prepare : List Turn) (command : List ℕ) (probe : List Turn) (depth : ℕ) (given : Finding)
-    : Type 0 where
+pub record GivenByRun (board : Facts) (prepare : List Turn) (command : List ℕ) (probe : List Turn) (depth : ℕ)
+    (given : Finding) : Type 0 where
   pub number : ℕ
   pub mask : ℕ
   pub left : Facts

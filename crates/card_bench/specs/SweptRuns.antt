@@ -1,5 +1,6 @@
 -- All runs of a sweep, in their order: what each gives.
-use Rattle.std.specs.Prelude.{◌≡◌, ◌⊎◌, ◌≤◌, ◌≢◌, ◌<◌, ◌+◌, ◌-◌, ◌/◌, ◌%◌, ◌^◌, ℕ, zero, suc, true, List, [], ◌∷◌, ◌++◌, is_some}
+use Rattle.std.specs.Prelude.{◌≡◌, ◌⊎◌, ◌≤◌, ◌≢◌, ◌<◌, ◌+◌, ◌-◌, ◌/◌, ◌%◌, ◌^◌, ℕ, zero, suc, true, List, [], ◌∷◌}
+use Rattle.std.specs.Prelude.{◌++◌, is_some}
 use Rattle.nvm_board.specs.declared.cut_board.CutBoard.{CutBoard}
 use Rattle.nvm_board.specs.Cut.{cut_facts, last_torn}
 use Rattle.nvm_board.specs.Facts.{Facts}
@@ -36,8 +37,10 @@ pub record IsOneLook (probe : List Turn) (board : Facts) (all : List Finding) : 
   pub end : EndsIn board probe given
   pub one : all ≡ given ∷ []
 
--- Cut number i of a start, counted from 0: each write comes twice, with its word old and with it new. Then what comes behind it.
-pub record AreBehindCut (Behind : Facts → List Finding → Type 0) (board : Facts) (i : ℕ) (all : List Finding) : Type 0 where
+-- Cut number i of a start, counted from 0: each write comes twice, with its word old and with it new.
+-- Then what comes behind it.
+pub record AreBehindCut (Behind : Facts → List Finding → Type 0) (board : Facts) (i : ℕ)
+    (all : List Finding) : Type 0 where
   pub left : Facts
   pub cut : CutsStart (i / 2 + 1) (i % 2) board left
   pub behind : Behind left all
@@ -55,10 +58,10 @@ AreAllBehind zero probe board all = IsOneLook probe board all
 AreAllBehind (suc depth) probe board all =
     (SparesStart 1 0 board × IsOneLook probe board all) ⊎ AreBehindStart (AreAllBehind depth probe) board all
 
--- The command is cut at this write by mask number i, counted from 0. Then what comes behind it. The board that the first
--- mask leaves tells how many words its torn write had, and so by which masks that write is tried.
-pub record AreOfMask (board : Facts) (prepare : List Turn) (command : List ℕ) (probe : List Turn) (depth number words i : ℕ)
-    (all : List Finding) : Type 0 where
+-- The command is cut at this write by mask number i, counted from 0. Then what comes behind it. The board that the
+-- first mask leaves tells how many words its torn write had, and so by which masks that write is tried.
+pub record AreOfMask (board : Facts) (prepare : List Turn) (command : List ℕ) (probe : List Turn)
+    (depth number words i : ℕ) (all : List Finding) : Type 0 where
   pub left : CutBoard
   pub cut : CutsCommand number (mask_of words i) board prepare command (cut_facts left)
   pub words_told : i ≡ 0 → words ≡ words_tried (last_torn left)
@@ -73,8 +76,8 @@ pub record AreOfWrite (board : Facts) (prepare : List Turn) (command : List ℕ)
   pub each : InTurn (AreOfMask board prepare command probe depth number words) (mask_count_of words) all
 
 -- The command doesn't make this write: a cut by one of the masks doesn't come in it, and none is tried behind it.
-pub record AreOfLastWrite (board : Facts) (prepare : List Turn) (command : List ℕ) (probe : List Turn) (depth number : ℕ)
-    (all : List Finding) : Type 0 where
+pub record AreOfLastWrite (board : Facts) (prepare : List Turn) (command : List ℕ) (probe : List Turn)
+    (depth number : ℕ) (all : List Finding) : Type 0 where
   pub words : ℕ
   pub masks : ℕ
   pub few : masks < mask_count_of words

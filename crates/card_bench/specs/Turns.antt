@@ -3,11 +3,11 @@ use Rattle.std.specs.Prelude.{◌≡◌, ◌⊎◌, ◌≤◌, ◌+◌, ℕ, if�
 use Rattle.nvm_board.specs.Aims.{KeepsAim}
 use Rattle.nvm_board.specs.Facts.{Facts, IsWorn, IsWornOut, RisesAt}
 use Rattle.undo_journal.specs.declared.layout.TheConstants.{PAIRS}
-use Rattle.card_core.specs.declared.machine.TheConstants.{COMMAND_WRITES}
+use Rattle.card_machine.specs.declared.spending.TheConstants.{COMMAND_WRITES}
 use Rattle.nvm_board.specs.declared.board.TheConstants.{MOST_PAGES}
 use Rattle.file_tree.specs.Formats.{is_format_2}
 use Rattle.migration.specs.Migrating.{migration_writes}
-use Rattle.card_core.specs.Finding.{words_found}
+use Rattle.card_machine.specs.Finding.{words_found}
 use Rattle.t1_link.specs.CardTable.{link_step}
 use Rattle.card_bench.specs.declared.playing.Turn.{Turn}
 use Rattle.card_bench.specs.declared.playing.Turn.TheVariants as turn
@@ -22,8 +22,8 @@ pub record LeavesCard (old new : BenchState) : Type 0 where
   pub compares : (bench_facts new).compares ≡ (bench_facts old).compares
   pub matches : (bench_facts new).matches ≡ (bench_facts old).matches
 
--- Power on: the card starts, in a fresh session, with a fresh link; or power is lost; or, where a count of the board stands
--- at its end, the card stays mute, and nothing is done but that power went off.
+-- Power on: the card starts, in a fresh session, with a fresh link; or power is lost; or, where a count of the board
+-- stands at its end, the card stays mute, and nothing is done but that power went off.
 abbrev pub TurnsOn : BenchState → Item → BenchState → Type 0
 TurnsOn old Atr new = IsFresh new × LeavesCard old new
 TurnsOn old Quiet new = ⊥
@@ -52,7 +52,8 @@ abbrev pub GoesOnWith : Powered → List ℕ → BenchState → List ℕ → Typ
 GoesOnWith old got (off facts) out = ⊥
 GoesOnWith old got (on new) out = Replies old got new out
 
--- Power was lost while a command ran: the card that is found is one of its stages; which one, the word tells that was written.
+-- Power was lost while a command ran: the card that is found is one of its stages;
+-- which one, the word tells that was written.
 pub record IsCutOff (old : Powered) (got : List ℕ) (new : BenchState) : Type 0 where
   pub power : IsOff new
   pub run : IsRun (link_step old.link got).reaction
@@ -91,9 +92,9 @@ unfoldable pub darks : List Item → ℕ
 darks [] = 0
 darks (item ∷ items) = dark_of item + darks items
 
--- What a turn leaves of the board's counts, in which power was lost once (1) or not (0). Each loss is counted, and takes one
--- of the cuts that were due; or a count of the board stands at its end. No fault is forgotten, no write is taken back, and a cut
--- that is set falls into the write that it was set for.
+-- What a turn leaves of the board's counts, in which power was lost once (1) or not (0). Each loss is counted, and
+-- takes one of the cuts that were due; or a count of the board stands at its end. No fault is forgotten, no write is
+-- taken back, and a cut that is set falls into the write that it was set for.
 pub record Spends (lost : ℕ) (old new : Facts) : Type 0 where
   pub cuts : new.cuts ≡ old.cuts + lost
   pub due : (old.due ≡ new.due + lost) ⊎ (IsWorn new × (new.due ≡ old.due))
@@ -101,8 +102,8 @@ pub record Spends (lost : ℕ) (old new : Facts) : Type 0 where
   pub more : old.writes ≤ new.writes
   pub cut : KeepsAim old new
 
--- What turns leave of them, in which power was lost so often: so many cuts more were counted, and no cut became due, nor are
--- more gone than power was lost.
+-- What turns leave of them, in which power was lost so often: so many cuts more were counted, and no cut became due,
+-- nor are more gone than power was lost.
 pub record CountsLosses (lost : ℕ) (old new : Facts) : Type 0 where
   pub cuts : new.cuts ≡ old.cuts + lost
   pub due : old.due ≤ new.due + lost
@@ -110,8 +111,8 @@ pub record CountsLosses (lost : ℕ) (old new : Facts) : Type 0 where
   pub faults : old.faults ≤ new.faults
   pub more : old.writes ≤ new.writes
 
--- how many device writes a turn makes at most: a start one for each pair of the journal, and one for the gate, and where the
--- memory isn't of format 2 those of the way to it, on whatever board
+-- how many device writes a turn makes at most: a start one for each pair of the journal, and one for the gate, and
+-- where the memory isn't of format 2 those of the way to it, on whatever board
 abbrev pub most_renewal : List ℕ → ℕ
 most_renewal m = if is_format_2 (words_found m) then 0 else migration_writes MOST_PAGES
 
@@ -120,14 +121,15 @@ turn_writes old turn.On = PAIRS + 1 + most_renewal (bench_facts old).words
 turn_writes old turn.Off = 0
 turn_writes old (turn.Block got) = COMMAND_WRITES
 
--- how many steps a turn takes of a count at most: 700, and a start of a memory that isn't of format 2 those of the way to it
+-- how many steps a turn takes of a count at most: 700,
+-- and a start of a memory that isn't of format 2 those of the way to it
 abbrev pub turn_steps : BenchState → Turn → ℕ
 turn_steps old turn.On = COMMAND_WRITES + most_renewal (bench_facts old).words
 turn_steps old turn.Off = COMMAND_WRITES
 turn_steps old (turn.Block got) = COMMAND_WRITES
 
--- What a turn without a fault takes of the board's other counts: so many device writes at most, and at most the comparison of one
--- secret, which may match.
+-- What a turn without a fault takes of the board's other counts: so many device writes at most, and at most the
+-- comparison of one secret, which may match.
 pub record Wears (most : ℕ) (old new : Facts) : Type 0 where
   pub faults : new.faults ≡ old.faults
   pub writes : new.writes ≤ old.writes + most

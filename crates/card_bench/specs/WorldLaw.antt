@@ -1,22 +1,28 @@
--- The law of the world (ISO/IEC 7816-3, clause 11.6): what holds after every list of events, whatever is lost or garbled.
+-- The law of the world (ISO/IEC 7816-3, clause 11.6):
+-- what holds after every list of events, whatever is lost or garbled.
 use Rattle.std.specs.Prelude.{◌⊎◌, ◌≡◌, ◌≢◌, ◌≤◌, ◌<◌, ℕ, Bool, true, false, suc, if◌then◌else◌, List, [], ◌∷◌, Ok}
 use Rattle.t1_link.specs.declared.reader_end.Failure.TheVariants.{LinkLost}
-use Rattle.t1_link.specs.Blocks.{Block, information, receive_ready, resynch_request, resynch_response, ifs_request, ifs_response, heard}
+use Rattle.t1_link.specs.Blocks.{Block, information, receive_ready, resynch_request, resynch_response, ifs_request}
+use Rattle.t1_link.specs.Blocks.{ifs_response, heard}
 use Rattle.t1_link.specs.ReaderTable.{is_busy}
-use Rattle.card_bench.specs.Worlds.{Arrival, Carried, Done, Event, Failed, Line, Machine, Report, Unknown, World, arrival, at_reader}
-use Rattle.card_bench.specs.Worlds.{carrying, in_vain, is_command, powered, quiet, toward_card, toward_reader, world, world_step}
+use Rattle.card_bench.specs.Worlds.{Arrival, Carried, Done, Event, Failed, Line, Machine, Report, Unknown, World}
+use Rattle.card_bench.specs.Worlds.{arrival, at_reader}
+use Rattle.card_bench.specs.Worlds.{carrying, in_vain, is_command, powered, quiet, toward_card, toward_reader}
+use Rattle.card_bench.specs.Worlds.{world, world_step}
 
 -- the report of a command that may have been carried out or not
 abbrev pub IsOpenEnded : Report → Type 0
 IsOpenEnded report = (report ≡ Unknown) ⊎ (report ≡ Failed LinkLost)
 
--- What was carried out is what was sent, in order, each at most once (all lists newest first). A command was carried out,
--- and is reported Done with the machine's answer at that point, or with an open end; or it was left out, and is reported
--- with an open end.
+-- What was carried out is what was sent, in order, each at most once (all lists newest first). A command was carried
+-- out, and is reported Done with the machine's answer at that point, or with an open end; or it was left out, and is
+-- reported with an open end.
 abbrev pub Kept : {M : Type 0} → Machine M → M → List (List ℕ) → List Carried → List Report → M → Type 0
 Kept {M} machine start (command ∷ sent) carried (report ∷ reports) m =
-    ((was : M) × (before : List Carried) × (carried ≡ carrying machine was command ∷ before) × (m ≡ machine.next was command)
-    × (is_command command ≡ true) × ((report ≡ Done (machine.answer was command)) ⊎ IsOpenEnded report) × Kept machine start sent before reports was)
+    ((was : M) × (before : List Carried) × (carried ≡ carrying machine was command ∷ before)
+    × (m ≡ machine.next was command)
+    × (is_command command ≡ true) × ((report ≡ Done (machine.answer was command)) ⊎ IsOpenEnded report)
+    × Kept machine start sent before reports was)
     ⊎ (IsOpenEnded report × Kept machine start sent carried reports m)
 Kept {M} machine start [] carried [] m = (carried ≡ []) × (m ≡ start)
 Kept {M} machine start [] carried (report ∷ reports) m = ⊥
@@ -55,7 +61,8 @@ Fits (Done answer ∷ reports) offered = requests offered ≡ 0
 Fits (Unknown ∷ reports) offered = 1 ≤ requests offered
 Fits (Failed failure ∷ reports) offered = (requests offered ≡ 3) ⊎ (offered ≡ [])
 
--- The law of a world: what was sent, carried out and reported; what is under way; what was put on the line for a command.
+-- The law of a world: what was sent, carried out and reported; what is under way;
+-- what was put on the line for a command.
 pub record Lawful {M : Type 0} (machine : Machine M) (start : M) (w : World M) : Type 0 where
   -- the commands carried out are the commands sent, in order, each at most once
   pub kept : Kept machine start w.sent w.carried (so_far w) w.machine
@@ -69,7 +76,8 @@ pub record Lawful {M : Type 0} (machine : Machine M) (start : M) (w : World M) :
 
 -- the response to a request for RESYNCH didn't come
 abbrev pub IsUnanswered : Arrival → Type 0
-IsUnanswered came = (came ≡ in_vain) ⊎ ((bytes : List ℕ) × (came ≡ at_reader bytes) × (heard bytes ≢ Ok resynch_response))
+IsUnanswered came = (came ≡ in_vain)
+    ⊎ ((bytes : List ℕ) × (came ≡ at_reader bytes) × (heard bytes ≢ Ok resynch_response))
 
 -- What arrives at a reader's end that has requested RESYNCH decides: its response ends the command as Unknown; anything
 -- else, or nothing in time, leads to another request, and after the third one the command has Failed.
@@ -77,7 +85,8 @@ pub record Resynchs {M : Type 0} (w : World M) (came : Arrival) (after : World M
   pub answered : (bytes : List ℕ) → came ≡ at_reader bytes → heard bytes ≡ Ok resynch_response
       → (after.reports ≡ Unknown ∷ w.reports) × (after.offered ≡ w.offered)
   pub again : IsUnanswered came → requests w.offered < 3
-      → (after.reports ≡ w.reports) × (after.line ≡ toward_card resynch_request) × (after.offered ≡ resynch_request ∷ w.offered)
+      → (after.reports ≡ w.reports) × (after.line ≡ toward_card resynch_request)
+      × (after.offered ≡ resynch_request ∷ w.offered)
   pub lost : IsUnanswered came → requests w.offered ≡ 3
       → (after.reports ≡ Failed LinkLost ∷ w.reports) × (after.offered ≡ w.offered)
 
@@ -87,7 +96,8 @@ comes_of machine start events = world machine (powered start) events
 
 -- The law, for every list of events, from a state in which the invariant holds.
 abbrev pub WorldLaw : {M : Type 0} → Machine M → (M → Type 0) → Type 0
-WorldLaw {M} machine Invariant = (start : M) (events : List Event) → Invariant start → Lawful machine start (comes_of machine start events)
+WorldLaw {M} machine Invariant = (start : M) (events : List Event) → Invariant start
+    → Lawful machine start (comes_of machine start events)
 
 -- After RESYNCH was requested, for every list of events and an event after it.
 abbrev pub ResynchLaw : {M : Type 0} → Machine M → (M → Type 0) → Type 0

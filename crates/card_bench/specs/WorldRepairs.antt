@@ -1,7 +1,8 @@
 -- Bounded repair (ISO/IEC 7816-3, clause 11.6): a command for which the line failed at most once gets its answer.
 use Rattle.std.specs.Prelude.{◌≡◌, ◌+◌, ◌*◌, ◌/◌, ◌≤◌, ◌<◌, ℕ, true, false, if◌then◌else◌, List, [], ◌∷◌, length}
 use Rattle.t1_link.specs.ReaderTable.{is_busy}
-use Rattle.card_bench.specs.Worlds.{Arrival, Done, Event, Failed, Machine, Report, Unknown, World, arrival, at_card, at_reader, garble, in_vain, lose, may_send}
+use Rattle.card_bench.specs.Worlds.{Arrival, Done, Event, Failed, Machine, Report, Unknown, World, arrival, at_card}
+use Rattle.card_bench.specs.Worlds.{at_reader, garble, in_vain, lose, may_send}
 use Rattle.card_bench.specs.Worlds.{nothing, pass, powered, send, world_step}
 use Rattle.card_bench.specs.WorldLaw.{comes_of}
 
@@ -49,7 +50,8 @@ counts_after v (garble bytes) = counted v.counts (garble bytes) (arrival v.world
 -- a list of events, the first one first
 unfoldable pub watch : {M : Type 0} → Machine M → Watched M → List Event → Watched M
 watch machine v [] = v
-watch machine v (event ∷ events) = watch machine (record { world = world_step machine v.world event; counts = counts_after v event }) events
+watch machine v (event ∷ events) =
+    watch machine (record { world = world_step machine v.world event; counts = counts_after v event }) events
 
 -- the world after these events, with its counts
 abbrev pub watched : {M : Type 0} → Machine M → M → List Event → Watched M
@@ -74,16 +76,18 @@ NoneFailed (Done answer ∷ reports) = NoneFailed reports
 NoneFailed (Unknown ∷ reports) = NoneFailed reports
 NoneFailed (Failed failure ∷ reports) = ⊥
 
--- Where at most one block was lost or garbled, and no earlier report was Failed, the report is Done. Where none was, it came
--- with the last arrival of twice as many as command and answer have blocks together, but two: each block but the last one of
--- either has an R-block back.
+-- Where at most one block was lost or garbled, and no earlier report was Failed, the report is Done. Where none was, it
+-- came with the last arrival of twice as many as command and answer have blocks together, but two: each block but the
+-- last one of either has an R-block back.
 abbrev pub Repaired : Counts → List (List ℕ) → List Report → Type 0
 Repaired c sent [] = Unit {0}
 Repaired c sent (report ∷ earlier) = c.faults ≤ 1 → NoneFailed earlier
-    → (answer : List ℕ) × (report ≡ Done answer) × (c.faults ≡ 0 → c.passes + 2 ≡ 2 * (command_blocks (newest sent) + answer_blocks answer))
+    → (answer : List ℕ) × (report ≡ Done answer)
+    × (c.faults ≡ 0 → c.passes + 2 ≡ 2 * (command_blocks (newest sent) + answer_blocks answer))
 
 -- What the counts say of a world.
-pub record BoundedRepair {M : Type 0} (machine : Machine M) (start : M) (events : List Event) (v : Watched M) : Type 0 where
+pub record BoundedRepair {M : Type 0} (machine : Machine M) (start : M) (events : List Event)
+    (v : Watched M) : Type 0 where
   -- it is the world after these events
   pub same_world : v.world ≡ comes_of machine start events
   -- when no command is in hand
@@ -93,4 +97,5 @@ pub record BoundedRepair {M : Type 0} (machine : Machine M) (start : M) (events 
 
 -- Bounded repair, for every list of events, from a state in which the invariant holds.
 abbrev pub RepairLaw : {M : Type 0} → Machine M → (M → Type 0) → Type 0
-RepairLaw {M} machine Invariant = (start : M) (events : List Event) → Invariant start → BoundedRepair machine start events (watched machine start events)
+RepairLaw {M} machine Invariant = (start : M) (events : List Event) → Invariant start
+    → BoundedRepair machine start events (watched machine start events)

@@ -1,13 +1,15 @@
--- The world of both ends of T=1 (ISO/IEC 7816-3, clause 11.6): a reader, a card with a machine that runs commands, and a
--- half-duplex line, with one block under way, that may lose or garble it.
-use Rattle.std.specs.Prelude.{◌≡◌, ℕ, Bool, true, false, not, ◌&&◌, ◌≤◌, nat_le, nat_lt, if◌then◌else◌, List, [], ◌∷◌, length, Result, Ok, Err}
+-- The world of both ends of T=1 (ISO/IEC 7816-3, clause 11.6): a reader, a card with a machine that runs commands, and
+-- a half-duplex line, with one block under way, that may lose or garble it.
+use Rattle.std.specs.Prelude.{◌≡◌, ℕ, Bool, true, false, not, ◌&&◌, ◌≤◌, nat_le, nat_lt, if◌then◌else◌, List, [], ◌∷◌}
+use Rattle.std.specs.Prelude.{length, Result, Ok, Err}
 use Rattle.std.specs.List.{list_all}
 use Rattle.t1_link.specs.declared.block.Fault.{Fault}
 use Rattle.t1_link.specs.declared.block.Fault.TheVariants.{WrongLength, WrongCheck, UnknownBlock}
 use Rattle.t1_link.specs.declared.reader_end.Failure.{Failure}
 use Rattle.t1_link.specs.Blocks.{Block, frame, heard}
 use Rattle.t1_link.specs.CardTable.{Link, link_step, Reaction, Taken, answers, fresh, replies, runs}
-use Rattle.t1_link.specs.ReaderTable.{Outcome, Reader, reader_step, Turned, fails, fresh_reader, gives, is_busy, reader_sends, reader_times_out, sends, unknown}
+use Rattle.t1_link.specs.ReaderTable.{Outcome, Reader, reader_step, Turned, fails, fresh_reader, gives, is_busy}
+use Rattle.t1_link.specs.ReaderTable.{reader_sends, reader_times_out, sends, unknown}
 
 -- numbers that are bytes, each 0 to 255
 abbrev pub are_bytes : List ℕ → Bool
@@ -24,8 +26,10 @@ pub record Machine (M : Type 0) : Type 0 where
 
 -- A machine that keeps an invariant over commands, and in states where it holds answers each by 2 to 258 bytes.
 pub record Answers {M : Type 0} (machine : Machine M) (Invariant : M → Type 0) : Type 0 where
-  pub at_least : (m : M) (command : List ℕ) → Invariant m → is_command command ≡ true → 2 ≤ length (machine.answer m command)
-  pub at_most : (m : M) (command : List ℕ) → Invariant m → is_command command ≡ true → length (machine.answer m command) ≤ 258
+  pub at_least : (m : M) (command : List ℕ) → Invariant m → is_command command ≡ true
+      → 2 ≤ length (machine.answer m command)
+  pub at_most : (m : M) (command : List ℕ) → Invariant m → is_command command ≡ true
+      → length (machine.answer m command) ≤ 258
   pub keeps : (m : M) (command : List ℕ) → Invariant m → is_command command ≡ true → Invariant (machine.next m command)
 
 -- What the line has under way: nothing, or one block toward either end.
@@ -45,8 +49,8 @@ pub data Report : Type 0 where
   Unknown : Report
   Failed : Failure → Report
 
--- The world, with what came to pass in it, newest first: the commands sent, those carried out, the reports, and the blocks
--- that the reader's end put on the line since a command was last sent.
+-- The world, with what came to pass in it, newest first: the commands sent, those carried out, the reports, and the
+-- blocks that the reader's end put on the line since a command was last sent.
 pub record World (M : Type 0) : Type 0 where
   pub reader : Reader
   pub card : Link
@@ -59,10 +63,19 @@ pub record World (M : Type 0) : Type 0 where
 
 -- the world after power-on, with a machine in this state
 abbrev pub powered : {M : Type 0} → M → World M
-powered m = record { reader = fresh_reader; card = fresh; line = quiet; machine = m; sent = []; carried = []; reports = []; offered = [] }
+powered m = record {
+  reader = fresh_reader;
+  card = fresh;
+  line = quiet;
+  machine = m;
+  sent = [];
+  carried = [];
+  reports = [];
+  offered = [];
+}
 
--- What may happen: a command is given to the reader's end; the block under way arrives; it is lost, so that the reader's
--- end waits in vain; or these bytes, which are no block, arrive in its place.
+-- What may happen: a command is given to the reader's end; the block under way arrives; it is lost, so that the
+-- reader's end waits in vain; or these bytes, which are no block, arrive in its place.
 pub data Event : Type 0 where
   send : List ℕ → Event
   pass : Event

@@ -8,7 +8,8 @@ ghost use Rattle.card_bench.specs.Exchanges.{printed_by};
 ghost use Rattle.card_bench.specs.ExchangeViews.{ended_of};
 ghost use Rattle.card_bench.specs.OrderViews.{order_with};
 ghost use Rattle.card_bench.specs.Orders.{IsSized};
-ghost use Rattle.card_bench.specs.Performing.{Performs, PerformsBlock, PerformsCommand, PerformsOff, PerformsOn, free_shown};
+ghost use Rattle.card_bench.specs.Performing.{Performs, PerformsBlock, PerformsCommand, PerformsOff};
+ghost use Rattle.card_bench.specs.Performing.{PerformsOn, free_shown};
 ghost use Rattle.card_bench.specs.Plays.{IsGood};
 ghost use Rattle.card_bench.specs.Printouts.{prints_nothing, text_of};
 
@@ -38,7 +39,7 @@ impl<B: Socket> Model for Desk<B> {
     ghost use Rattle.std.specs.Coded.{codes};
     ghost use Rattle.std.specs.Prelude.{◌≢◌, IsTrue};
     ghost use Rattle.t1_link.specs.declared.reader_end.Phase.TheVariants.{Busy};
-    ghost use Rattle.card_core.specs.Sessions.{session_code};
+    ghost use Rattle.card_machine.specs.Sessions.{session_code};
     ghost use Rattle.card_bench.specs.DeskViews.{DeskState, print_of, reader_there};
 
     ghost Value = { DeskState };
@@ -85,7 +86,8 @@ impl<B: Socket> Desk<B> {
         writer: &mut W,
         text: &mut PrintedText,
     ) -> Result<(), RunFault>
-        ensures wrote { OnOk result (Appends (W.contents writer.old) (W.contents writer.new) (text_of self.now.prints)) }
+        ensures wrote { OnOk result
+            (Appends (W.contents writer.old) (W.contents writer.new) (text_of self.now.prints)) }
         ensures began { OnErr result ((size : ℕ)
             × Appends (W.contents writer.old) (W.contents writer.new) (take size (text_of self.now.prints))) }
         ensures fault { IfErr result (λ fault. fault ≡ RunFault.Write) }

@@ -62,7 +62,8 @@ pub(crate) fn exchange<B: Socket + Faultless>(ends: &mut Ends<B>, command: &[u8]
     requires size { length command.now ≤ COMMAND_LIMIT }
     requires good { IsGood ends.old.bench }
     requires power { IsOn ends.old.bench }
-    ensures exchanged { Exchanged (ends_of ends.old) command.now (ends_of ends.new) (ended_of result ends.new.reader.answer) }
+    ensures exchanged { Exchanged (ends_of ends.old) command.now (ends_of ends.new)
+        (ended_of result ends.new.reader.answer) }
     ensures good { IsGood ends.new.bench }
     ensures idle { GoesOn (ended_of result ends.new.reader.answer) → ends.new.reader.phase ≢ Busy }
 {
@@ -92,8 +93,8 @@ fn pass_blocks<B: Socket + Faultless>(ends: &mut Ends<B>, first: Toward, limit: 
     Ending::Lost
 }
 
-/// Puts a block on the line, and tells which end the next one goes to, or how the exchange ended. Where the block doesn't
-/// arrive, the reader's end waits in vain.
+/// Puts a block on the line, and tells which end the next one goes to, or how the exchange ended. Where the block
+/// doesn't arrive, the reader's end waits in vain.
 fn pass<B: Socket + Faultless>(ends: &mut Ends<B>, toward: Toward) -> ControlFlow<Ending, Toward>
     requires busy { ends.old.reader.phase ≡ Busy }
     requires good { IsGood ends.old.bench }
@@ -134,7 +135,8 @@ fn begin(reader: &mut ReaderEnd, blocks: &mut Blocks, command: &[u8]) -> Control
     requires idle { reader.old.phase ≢ Busy }
     requires some { 1 ≤ length command.now }
     requires size { length command.now ≤ COMMAND_LIMIT }
-    ensures turns { ReaderTurns (reader_sends reader.old command.now) reader.new (follows_of result blocks.new reader.new.answer) }
+    ensures turns { ReaderTurns (reader_sends reader.old command.now) reader.new
+        (follows_of result blocks.new reader.new.answer) }
     ensures busy { OnOk (follows_of result blocks.new reader.new.answer) (reader.new.phase ≡ Busy) }
     ensures idle { IfErr (follows_of result blocks.new reader.new.answer) (λ ended. reader.new.phase ≢ Busy) }
 {
@@ -144,7 +146,8 @@ fn begin(reader: &mut ReaderEnd, blocks: &mut Blocks, command: &[u8]) -> Control
 /// The reader's end waits in vain.
 fn wait(reader: &mut ReaderEnd, blocks: &mut Blocks) -> ControlFlow<Ending, Toward>
     requires { reader.old.phase ≡ Busy }
-    ensures turns { ReaderTurns (reader_times_out reader.old) reader.new (follows_of result blocks.new reader.new.answer) }
+    ensures turns { ReaderTurns (reader_times_out reader.old) reader.new
+        (follows_of result blocks.new reader.new.answer) }
     ensures busy { OnOk (follows_of result blocks.new reader.new.answer) (reader.new.phase ≡ Busy) }
     ensures idle { IfErr (follows_of result blocks.new reader.new.answer) (λ ended. reader.new.phase ≢ Busy) }
 {

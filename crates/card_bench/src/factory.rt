@@ -2,14 +2,15 @@
 ghost use Rattle.std.specs.Prelude.{◌≡◌, None, IfOk};
 ghost use Rattle.nvm_board.specs.Cut.{cut_facts};
 ghost use Rattle.card_core.specs.Factory.{factory_card};
-ghost use Rattle.card_core.specs.Finding.{Finds};
+ghost use Rattle.card_machine.specs.Finding.{Finds};
 ghost use Rattle.card_bench.specs.Prints.{IsJustWritten};
 
 use card_core::format;
 use nvm_board::CutBoard;
 use std::alloc::{AllocError, Global};
 
-/// A new board of 1,024 pages with the factory's card, in format 2. It has counted the writes of its making alone, and no cut is to come.
+/// A new board of 1,024 pages with the factory's card, in format 2.
+/// It has counted the writes of its making alone, and no cut is to come.
 ///
 /// # Errors
 /// There is too little memory for the words.

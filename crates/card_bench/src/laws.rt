@@ -1,6 +1,7 @@
 //! Laws of the definitions: each is a function whose contract is the law.
 
-ghost use Rattle.std.specs.Prelude.{◌≡◌, ◌≢◌, ◌⊎◌, ◌≤◌, ◌+◌, ◌*◌, ℕ, Bool, List, length, true, IsTrue, Ok, Err, None, Some};
+ghost use Rattle.std.specs.Prelude.{◌≡◌, ◌≢◌, ◌⊎◌, ◌≤◌, ◌+◌, ◌*◌, ℕ, Bool, List, length, true, IsTrue, Ok, Err};
+ghost use Rattle.std.specs.Prelude.{None, Some};
 ghost use Rattle.hex.specs.Hex.{lower_digits, upper_digits};
 ghost use Rattle.pin_store.specs.declared.layout.TheConstants.{PINS};
 ghost use Rattle.t1_link.specs.Blocks.{Block as BlockValue, heard};
@@ -34,62 +35,69 @@ ghost use Rattle.card_bench.specs.Spellings.{IsOfBytes, SpellingLaw};
 ghost use Rattle.card_bench.specs.TreeMachine.{tree_machine, IsProperState};
 ghost use Rattle.card_bench.specs.Turns.{GoodBlock, GoodTurn, Runs, dark_of, run_steps, turn_steps};
 ghost use Rattle.file_tree.specs.Formats.{is_format_2};
-ghost use Rattle.card_core.specs.Finding.{words_found};
+ghost use Rattle.card_machine.specs.Finding.{words_found};
 ghost use Rattle.card_bench.specs.WorldLaw.{ResynchLaw, WorldLaw};
 ghost use Rattle.card_bench.specs.WorldRepairs.{RepairLaw};
 ghost use Rattle.card_bench.specs.Worlds.{Answers, Machine, are_bytes, may_arrive};
 
-/// The law of the world of both ends (ISO/IEC 7816-3, clause 11.6), for every proper card, every session that it begins in,
-/// and every list of events:
+/// The law of the world of both ends (ISO/IEC 7816-3, clause 11.6), for every proper card, every session that it begins
+/// in, and every list of events:
 ///
-/// - `law`: the commands carried out are the commands sent, in order, each at most once, with only such left out as were
-///   not reported Done; Done has the tree machine's answer at that point; no answer is reported as bad; once RESYNCH was
-///   requested, nothing but such requests is sent until the report.
+/// - `law`: the commands carried out are the commands sent, in order, each at most once, with only such left out as
+///   were not reported Done; Done has the tree machine's answer at that point; no answer is reported as bad; once
+///   RESYNCH was requested, nothing but such requests is sent until the report.
 /// - `resynch`: the response to such a request ends the command as Unknown; where it doesn't come, the request is sent
 ///   again, and after the third one the command has Failed.
-/// - `repair`: where at most one block was lost or garbled since a command was sent, and no report was Failed before, its
-///   report is Done; where none was, it comes after at most 20 blocks, and exactly as many as are said there.
+/// - `repair`: where at most one block was lost or garbled since a command was sent, and no report was Failed before,
+///   its report is Done; where none was, it comes after at most 20 blocks, and exactly as many as are said there.
 pub fn world()
     ensures law { WorldLaw tree_machine IsProperState }
     ensures resynch { ResynchLaw tree_machine IsProperState }
     ensures repair { RepairLaw tree_machine IsProperState }
 {}
 
-/// The same law for every machine that keeps an invariant, any test of its states, and answers each command by 2 to 258 bytes
-/// where that holds, whatever type `M` the states have.
+/// The same law for every machine that keeps an invariant, any test of its states, and answers each command by 2 to 258
+/// bytes where that holds, whatever type `M` the states have.
 pub fn world_of_any_machine<M>()
-    ensures law { (machine : Machine M) (holds : M → Bool) → Answers machine (λ m. IsTrue (holds m)) → WorldLaw machine (λ m. IsTrue (holds m)) }
-    ensures resynch { (machine : Machine M) (holds : M → Bool) → Answers machine (λ m. IsTrue (holds m)) → ResynchLaw machine (λ m. IsTrue (holds m)) }
-    ensures repair { (machine : Machine M) (holds : M → Bool) → Answers machine (λ m. IsTrue (holds m)) → RepairLaw machine (λ m. IsTrue (holds m)) }
+    ensures law { (machine : Machine M) (holds : M → Bool) → Answers machine (λ m. IsTrue (holds m))
+        → WorldLaw machine (λ m. IsTrue (holds m)) }
+    ensures resynch { (machine : Machine M) (holds : M → Bool) → Answers machine (λ m. IsTrue (holds m))
+        → ResynchLaw machine (λ m. IsTrue (holds m)) }
+    ensures repair { (machine : Machine M) (holds : M → Bool) → Answers machine (λ m. IsTrue (holds m))
+        → RepairLaw machine (λ m. IsTrue (holds m)) }
 {}
 
-/// What the faults that are pending on a line do to a block depends on how many blocks went before it, and on nothing else:
-/// after some blocks the line is such that the next ones fare as they would have fared, counted from where it was.
+/// What the faults that are pending on a line do to a block depends on how many blocks went before it, and on nothing
+/// else: after some blocks the line is such that the next ones fare as they would have fared,
+/// counted from where it was.
 pub fn faults_fall_due_in_turn()
-    ensures later { (first second : ℕ) (line : Line) → line_after second (line_after first line) ≡ line_after (first + second) line }
+    ensures later { (first second : ℕ) (line : Line)
+        → line_after second (line_after first line) ≡ line_after (first + second) line }
     ensures due { (first before : ℕ) (line : Line) (block : List ℕ)
         → arriving (line_after first line) before block ≡ arriving line (first + before) block }
 {}
 
 /// A block that is garbled is heard as a redundancy error; it is what the world's line may make of a block.
 pub fn garbled_block_is_no_block()
-    ensures fault { (bytes : List ℕ) (b : BlockValue) → heard bytes ≡ Ok b → heard (last_bit_turned bytes) ≡ Err WrongCheck }
+    ensures fault { (bytes : List ℕ) (b : BlockValue) → heard bytes ≡ Ok b
+        → heard (last_bit_turned bytes) ≡ Err WrongCheck }
     ensures world { (bytes : List ℕ) (b : BlockValue)
         → are_bytes bytes ≡ true → heard bytes ≡ Ok b → may_arrive (last_bit_turned bytes) ≡ true }
 {}
 
-/// An exchange is a run of the world: from a world in which nothing is under way, and whose ends and machine are those at the
-/// bench, the events of an exchange are that the command is sent, and then for each block that goes on the line, at most
-/// 1,000, what the pending faults make of it: it is lost, it is garbled, or it passes. How the exchange ended shows in the
-/// world that came of these events, and its ends and machine are again those at the bench; where power was lost, the block
-/// under way came to the card's end, which was to run that very command, and the card that is found is one of its stages.
+/// An exchange is a run of the world: from a world in which nothing is under way, and whose ends and machine are those
+/// at the bench, the events of an exchange are that the command is sent, and then for each block that goes on the line,
+/// at most 1,000, what the pending faults make of it: it is lost, it is garbled, or it passes. How the exchange ended
+/// shows in the world that came of these events, and its ends and machine are again those at the bench; where power was
+/// lost, the block under way came to the card's end, which was to run that very command, and the card that is found is
+/// one of its stages.
 pub fn exchange_is_a_run_of_the_world()
     ensures { ExchangeLaw }
 {}
 
-/// The commands of a script are exchanges in one world from a power-on to the next: a card that starts begins a world, with
-/// the card that is found and a fresh session; each command is an exchange in it, and the lines between leave it as it is,
-/// until power goes on or off, a block goes straight to the card's end, or no command may be sent any more.
+/// The commands of a script are exchanges in one world from a power-on to the next: a card that starts begins a world,
+/// with the card that is found and a fresh session; each command is an exchange in it, and the lines between leave it
+/// as it is, until power goes on or off, a block goes straight to the card's end, or no command may be sent any more.
 pub fn script_goes_on_in_a_world()
     ensures begins { PowerOnLaw }
     ensures goes_on { LineLaw }
@@ -114,35 +122,39 @@ pub fn guesses_add_up()
         → GuessesFew old new }
 {}
 
-/// A board's counts last. A turn takes at most 700 steps of each, and only a start of a memory that isn't of format 2 yet more,
-/// at most 3,787; turns what each of them takes; and a line of a script 700,000. Where so many are left, no power-on is mute,
-/// and power is lost, in a turn or in a block, only where a cut was due; behind a line that prints dark no cut is set any
-/// more. In a script, whose board is new, so many are left behind every line.
+/// A board's counts last. A turn takes at most 700 steps of each, and only a start of a memory that isn't of format 2
+/// yet more, at most 3,787; turns what each of them takes; and a line of a script 700,000. Where so many are left, no
+/// power-on is mute, and power is lost, in a turn or in a block, only where a cut was due; behind a line that prints
+/// dark no cut is set any more. In a script, whose board is new, so many are left behind every line.
 pub fn counts_last()
     ensures starts { (old new : BenchState) (item : Item) → GoodTurn old On item new → HasLeft 700 (bench_facts old)
         → item ≢ Mute }
     ensures due { (old new : BenchState) (turn : Turn) (item : Item) → GoodTurn old turn item new
-        → HasLeft (turn_steps old turn) (bench_facts old) → (bench_facts old).due ≡ (bench_facts new).due + dark_of item }
+        → HasLeft (turn_steps old turn) (bench_facts old)
+        → (bench_facts old).due ≡ (bench_facts new).due + dark_of item }
     ensures steps { (old : BenchState) (turn : Turn) → (turn_steps old turn ≤ 3787)
         × (turn ≢ On ⊎ (is_format_2 (words_found (bench_facts old).words) ≡ true) → turn_steps old turn ≡ 700) }
     ensures block { (old new : BenchState) (got : List ℕ) (item : Item) → GoodBlock old got item new
         → HasLeft 700 (bench_facts old) → (bench_facts old).due ≡ (bench_facts new).due + dark_of item }
-    ensures turns { (n : ℕ) (old new : BenchState) (turns : List Turn) (trace : List Item) → (run : Runs old turns trace new)
+    ensures turns { (n : ℕ) (old new : BenchState) (turns : List Turn) (trace : List Item)
+        → (run : Runs old turns trace new)
         → (run_steps old turns trace new run ≤ 3787 * length turns)
         × (HasLeft (n + run_steps old turns trace new run) (bench_facts old) → HasLeft n (bench_facts new)) }
     ensures script { (first last : Desk) (some : List (List ℕ)) (out : List ℕ) → IsFirstDesk first
         → PrintsLines first some last out → length some ≤ 16777217 → HasLeft 700000 (bench_facts last.bench) }
-    ensures cut { (order : Order) (old new : Desk) → Performs order old new prints_dark → IsGood old.bench → IsGood new.bench
+    ensures cut { (order : Order) (old new : Desk) → Performs order old new prints_dark
+        → IsGood old.bench → IsGood new.bench
         → HasLeft 700000 (bench_facts old.bench) → (bench_facts new.bench).pending ≡ None }
     ensures dark { (order : Order) (old new : Desk) → Performs order old new prints_dark
         → HasLeft 700000 (bench_facts old.bench) → (bench_facts old.bench).due ≡ (bench_facts new.bench).due + 1 }
 {}
 
-/// What a run of a sweep shows is shown of a card that is a stage of the command that was cut, however many starts were cut
-/// behind it.
+/// What a run of a sweep shows is shown of a card that is a stage of the command that was cut,
+/// however many starts were cut behind it.
 pub fn swept_cards_are_stages()
     ensures { (board : Facts) (prepare : List Turn) (command : List ℕ) (probe : List Turn) (depth : ℕ) (given : Finding)
-        → (s : GivenByRun board prepare command probe depth given) → IsStageOf s.cut.armed command (bench_card s.rest.end.started) }
+        → (s : GivenByRun board prepare command probe depth given)
+        → IsStageOf s.cut.armed command (bench_card s.rest.end.started) }
 {}
 
 /// The numbers of the script's language and of the line, as a reader sees them.

@@ -73,7 +73,7 @@ pub struct Bench<B: Socket> {
 
 impl<B: Socket> Model for Bench<B> {
     ghost use Rattle.std.specs.Coded.{codes};
-    ghost use Rattle.card_core.specs.Sessions.{session_code};
+    ghost use Rattle.card_machine.specs.Sessions.{session_code};
     ghost use Rattle.card_bench.specs.BenchStates.{BenchState};
 
     ghost Value = { BenchState };
@@ -116,7 +116,8 @@ impl<B: Socket> Bench<B> {
         // The headline: over a card, and with no fault of the device in the run, nor before it since power came on, the
         // trace is the tree machine's, from the card that was found to the one that is found.
         ensures well { HasNoFault self.old self.new → IsWell self.new }
-        ensures runs { BenchHasCard self.old → HasNoFault self.old self.new → Runs self.old turns.now trace.new self.new }
+        ensures runs { BenchHasCard self.old → HasNoFault self.old self.new
+            → Runs self.old turns.now trace.new self.new }
     {
         for i in 0..turns.len() {
             trace[i] = self.item(turns[i]);
@@ -186,7 +187,8 @@ impl<B: Socket> Bench<B> {
         }
     }
 
-    /// The free space of the card, blocks and file entries, with power on. It is told as long as the memory didn't fail.
+    /// The free space of the card, blocks and file entries, with power on.
+    /// It is told as long as the memory didn't fail.
     pub fn free(&self) -> Option<FreeSpace>
         ensures { TellsFree self.now result }
     {
@@ -285,7 +287,8 @@ impl<B: Socket> Power<B> {
 
     /// Power off.
     fn darken(self, _: ()) -> (Power<B>, ())
-        ensures off { power_state B.facts result.0 ≡ off (record (bench_facts (power_state B.facts self)) { dark = true }) }
+        ensures off { power_state B.facts result.0
+            ≡ off (record (bench_facts (power_state B.facts self)) { dark = true }) }
         ensures kept { IsKept B.facts result.0 }
     {
         (Power::Off(self.into_dark_board()), ())

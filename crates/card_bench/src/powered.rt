@@ -1,15 +1,16 @@
 //! A card behind its end of the link.
-ghost use Rattle.std.specs.Prelude.{◌≡◌, ◌≢◌, ◌⊎◌, ◌+◌, ◌-◌, ◌≤◌, Some, true, [], IsOk, IsErr, OnOk, OnErr, IfOk, IfErr};
+ghost use Rattle.std.specs.Prelude.{◌≡◌, ◌≢◌, ◌⊎◌, ◌+◌, ◌-◌, ◌≤◌, Some, true, [], IsOk, IsErr, OnOk, OnErr};
+ghost use Rattle.std.specs.Prelude.{IfOk, IfErr};
 ghost use Rattle.nvm_board.specs.Aims.{due_of};
 ghost use Rattle.undo_journal.specs.Spending.{Advances, KeepsBoard, WritesAtMost};
-ghost use Rattle.card_core.specs.declared.machine.TheConstants.{COMMAND_WRITES};
-ghost use Rattle.card_core.specs.Finding.{HasCard, FindsAgain};
+ghost use Rattle.card_machine.specs.declared.spending.TheConstants.{COMMAND_WRITES};
+ghost use Rattle.card_machine.specs.Finding.{HasCard, FindsAgain};
 ghost use Rattle.card_core.specs.Running.{Starts, StartStopsBy, card_found};
-ghost use Rattle.card_core.specs.Cards.{card_space};
+ghost use Rattle.card_machine.specs.Cards.{card_space};
 ghost use Rattle.card_core.specs.Starting.{IsNewFound, KeepsFormat, KeepsUnlessOld, TakesAllPages, power_on_writes};
 ghost use Rattle.t1_link.specs.CardTable.{link_step, fresh};
-ghost use Rattle.card_bench.specs.CardBlocks.{Replies, RepliesFailure, FailsAt, IsCutAt, IsBlockStage, IsRun, BlockChangesNothing};
-ghost use Rattle.card_bench.specs.CardBlocks.{BlockCompares, BlockStands};
+ghost use Rattle.card_bench.specs.CardBlocks.{Replies, RepliesFailure, FailsAt, IsCutAt, IsBlockStage};
+ghost use Rattle.card_bench.specs.CardBlocks.{IsRun, BlockChangesNothing, BlockCompares, BlockStands};
 
 use card_core::{Answer, Card, CardState, FreeSpace, PowerLost, StartFault};
 use nvm_board::{Armed, Board, Faultless};
@@ -27,7 +28,7 @@ pub struct Powered<B: Board> {
 
 impl<B: Board> Model for Powered<B> {
     ghost use Rattle.std.specs.Coded.{codes};
-    ghost use Rattle.card_core.specs.Sessions.{session_code};
+    ghost use Rattle.card_machine.specs.Sessions.{session_code};
     ghost use Rattle.card_bench.specs.CardBlocks.{Powered as PoweredValue};
 
     ghost Value = { PoweredValue };
@@ -39,7 +40,7 @@ impl<B: Board> Model for Powered<B> {
 
     ghost view = { λ p. record { card = p.card; link = p.link.link } };
 
-    ghost use Rattle.card_core.specs.Finding.{HasCard};
+    ghost use Rattle.card_machine.specs.Finding.{HasCard};
 
     ghost invariant = { λ p. HasCard p.card.facts.words × (p.card.state ≢ Dark → p.link.waiting ≡ None) };
 }
@@ -61,11 +62,14 @@ impl<B: Board> Powered<B> {
         ensures format { IfOk result (λ p. IsNewFound p.card.facts.words) }
         ensures all_pages { IfOk result (λ p. TakesAllPages (B.facts board).words p.card.facts.words) }
         ensures format_err { IfErr result (λ e. KeepsFormat (B.facts board).words (B.facts e.0).words) }
-        // Where no pair of the journal counts, and there is no card of format 1, no word changes, and nothing is written.
+        // Where no pair of the journal counts, and there is no card of format 1, no word changes,
+        // and nothing is written.
         ensures shut { IfOk result (λ p. KeepsUnlessOld (B.facts board) p.card.facts) }
         ensures shut_err { IfErr result (λ e. KeepsUnlessOld (B.facts board) (B.facts e.0)) }
-        ensures writes { IfOk result (λ p. WritesAtMost (power_on_writes (B.facts board)) (B.facts board) p.card.facts) }
-        ensures writes_err { IfErr result (λ e. WritesAtMost (power_on_writes (B.facts board)) (B.facts board) (B.facts e.0)) }
+        ensures writes { IfOk result
+            (λ p. WritesAtMost (power_on_writes (B.facts board)) (B.facts board) p.card.facts) }
+        ensures writes_err { IfErr result
+            (λ e. WritesAtMost (power_on_writes (B.facts board)) (B.facts board) (B.facts e.0)) }
     {
         let card = Card::start(board)?;
         Ok(Powered {
@@ -81,8 +85,8 @@ impl<B: Board> Powered<B> {
     ///
     /// `PowerLost` where power was lost while the block's command ran, or before: then nothing goes back.
     pub fn block(&mut self, got: &[u8], out: &mut BlockBytes) -> Result<(), PowerLost>
-        // At every exit, cut or fault or neither, the card that is found is one of the stages of the command that ran, or
-        // what it was where none ran.
+        // At every exit, cut or fault or neither, the card that is found is one of the stages of the command that ran,
+        // or what it was where none ran.
         ensures has_card { HasCard self.new.card.facts.words }
         ensures stage { IsBlockStage self.old (link_step self.old.link got.now).reaction (card_found self.new.card) }
         ensures stands { self.old.card.state ≡ CardState.Working
@@ -94,10 +98,11 @@ impl<B: Board> Powered<B> {
             → IsOk result × (self.new.card ≡ self.old.card) × RepliesFailure self.old got.now self.new out.new }
         ensures dark { self.old.card.state ≡ CardState.Dark → IsErr result × (self.new ≡ self.old) × (out.new ≡ []) }
         ensures unlit { OnErr result (self.new.card.facts.dark ≡ true) }
-        // Where no command runs, the card is what it was; and one that changes nothing lasting leaves each word of the board,
-        // and each of its counts.
+        // Where no command runs, the card is what it was; and one that changes nothing lasting leaves each word of the
+        // board, and each of its counts.
         ensures unrun { IsRun (link_step self.old.link got.now).reaction ⊎ (self.new.card ≡ self.old.card) }
-        ensures idle { BlockChangesNothing self.old (link_step self.old.link got.now).reaction → KeepsBoard self.old.card.facts self.new.card.facts }
+        ensures idle { BlockChangesNothing self.old (link_step self.old.link got.now).reaction
+            → KeepsBoard self.old.card.facts self.new.card.facts }
         ensures writes { self.new.card.facts.writes ≤ self.old.card.facts.writes + COMMAND_WRITES }
         // No write is taken back, and a cut that is set falls into the write that it was set for.
         ensures advances { Advances self.old.card.facts self.new.card.facts }

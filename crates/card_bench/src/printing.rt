@@ -32,7 +32,8 @@ pub(crate) fn print_bytes<W: Write>(
     text: &mut PrintedText,
 ) -> Result<(), RunFault>
     requires { length bytes.now ≤ BYTES_ROOM }
-    ensures wrote { OnOk result (Appends (W.contents writer.old) (W.contents writer.new) (text_of (prints_bytes bytes.now))) }
+    ensures wrote { OnOk result
+        (Appends (W.contents writer.old) (W.contents writer.new) (text_of (prints_bytes bytes.now))) }
     ensures began { OnErr result ((size : ℕ)
         × Appends (W.contents writer.old) (W.contents writer.new) (take size (text_of (prints_bytes bytes.now)))) }
     ensures fault { IfErr result (λ fault. fault ≡ RunFault.Write) }
@@ -92,7 +93,8 @@ fn tell(free: FreeSpace, line: &mut PrintedText)
 /// Writes a whole line, and flushes it.
 pub(crate) fn write_line<W: Write>(writer: &mut W, line: &[u8]) -> Result<(), RunFault>
     ensures wrote { OnOk result (Appends (W.contents writer.old) (W.contents writer.new) line.now) }
-    ensures began { OnErr result ((size : ℕ) × Appends (W.contents writer.old) (W.contents writer.new) (take size line.now)) }
+    ensures began { OnErr result
+        ((size : ℕ) × Appends (W.contents writer.old) (W.contents writer.new) (take size line.now)) }
     ensures fault { IfErr result (λ fault. fault ≡ RunFault.Write) }
 {
     let mut written = 0;

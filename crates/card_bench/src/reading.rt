@@ -3,7 +3,8 @@ ghost use Rattle.std.specs.Prelude.{◌≡◌, ◌≢◌, ◌⊎◌, ◌↔◌, 
 ghost use Rattle.std.specs.Prelude.{length, slice_index, take, [], IsTrue, IfOk, IfErr, OnErr, OnOk, Err};
 ghost use Rattle.std.specs.Io.KnownBytes.{Keeps};
 ghost use Rattle.std.specs.Str.Lines.{strip_carriage_return};
-ghost use Rattle.card_bench.specs.Scripts.{CountsTaken, IsInLine, IsTooLong, TakesInto, TakesLine, TakesPart, TakesTooMuch, WhereKnown, size_of};
+ghost use Rattle.card_bench.specs.Scripts.{CountsTaken, IsInLine, IsTooLong, TakesInto, TakesLine, TakesPart};
+ghost use Rattle.card_bench.specs.Scripts.{TakesTooMuch, WhereKnown, size_of};
 ghost use Rattle.card_bench.specs.declared.order.TheConstants.{LINE_LIMIT};
 ghost use Rattle.card_bench.specs.declared.reading.TheConstants.{SCRIPT_LIMIT};
 
@@ -51,15 +52,16 @@ enum Part {
     LineFeed(usize),
 }
 
-/// Takes what the reader's buffer holds of a line, at most so many bytes, and appends it, without its line feed. It is a fault
-/// to be at the most already, and not at the end.
+/// Takes what the reader's buffer holds of a line, at most so many bytes, and appends it, without its line feed. It is
+/// a fault to be at the most already, and not at the end.
 fn read_part<R: BufRead>(
     reader: &mut R,
     most: usize,
     line: &mut LineBytes,
 ) -> Result<Part, LineFault>
     requires { length line.old.items + most ≤ LINE_ROOM }
-    ensures part { IfOk result (TakesPart (R.remaining reader.old) (R.remaining reader.new) line.old.items line.new.items) }
+    ensures part { IfOk result
+        (TakesPart (R.remaining reader.old) (R.remaining reader.new) line.old.items line.new.items) }
     ensures size { IfOk result (λ part. size_of part ≤ most) }
     // It fails with the reader, or where it may take nothing of what there is; and nothing is taken then.
     ensures failed { IfErr result (λ e. e ≢ LineFault.TooLong) }
@@ -110,7 +112,8 @@ pub(crate) fn read_line<R: BufRead>(
 ) -> Result<LineEnd, LineFault>
     requires { taken.old ≤ SCRIPT_LIMIT }
     ensures line { IfOk result (TakesLine (R.remaining reader.old) (R.remaining reader.new) line.new.items) }
-    ensures too_long { result ≡ Err LineFault.TooLong → TakesTooMuch (R.remaining reader.old) (R.remaining reader.new) taken.old taken.new }
+    ensures too_long { result ≡ Err LineFault.TooLong
+        → TakesTooMuch (R.remaining reader.old) (R.remaining reader.new) taken.old taken.new }
     ensures stopped { IfErr result (λ e. e ≢ LineFault.TooLong
         → TakesInto (R.remaining reader.old) (R.remaining reader.new) taken.old taken.new) }
     ensures past { result ≡ Err LineFault.TooMuch → (taken.new ≡ SCRIPT_LIMIT)

@@ -1,15 +1,18 @@
 //! A command cut at each of its writes, and the starts after it cut too.
-ghost use Rattle.std.specs.Prelude.{◌≡◌, ◌⊎◌, ◌≤◌, ◌<◌, ◌^◌, ◌-◌, ◌+◌, [], sum_by, All, AllPairs, ◌≢◌, None, IfOk, IfErr, OnOk, IfSome, IfNone, is_some, true, false, IsSome};
+ghost use Rattle.std.specs.Prelude.{◌≡◌, ◌⊎◌, ◌≤◌, ◌<◌, ◌^◌, ◌-◌, ◌+◌, [], sum_by, All, AllPairs, ◌≢◌, None, IfOk};
+ghost use Rattle.std.specs.Prelude.{IfErr, OnOk, IfSome, IfNone, is_some, true, false, IsSome};
 ghost use Rattle.nvm_board.specs.Cut.{cut_facts};
 ghost use Rattle.card_bench.specs.declared.playing.Item.TheVariants.{Dark};
-ghost use Rattle.card_core.specs.Finding.{HasCard};
+ghost use Rattle.card_machine.specs.Finding.{HasCard};
 ghost use Rattle.card_bench.specs.Plays.{IsGood};
 ghost use Rattle.card_bench.specs.BenchStates.{IsWell, bench_facts};
 ghost use Rattle.card_bench.specs.Turns.{Runs};
 ghost use Rattle.card_bench.specs.Tallies.{Finding, finding, findings, count_of, Adds, Counts};
 ghost use Rattle.card_bench.specs.declared.sweeping.Stop.TheVariants.{Memory, Full};
-ghost use Rattle.card_bench.specs.SweptRuns.{SparesCommand, IsOneLook, AreAllBehind, AreOfWrite, AreOfLastWrite, AreAllRuns};
-ghost use Rattle.card_bench.specs.Sweeps.{CutsCommand, CutsStart, SparesStart, EndsIn, EndsBehindStarts, GivenByRun, free_of};
+ghost use Rattle.card_bench.specs.SweptRuns.{SparesCommand, IsOneLook, AreAllBehind, AreOfWrite};
+ghost use Rattle.card_bench.specs.SweptRuns.{AreOfLastWrite, AreAllRuns};
+ghost use Rattle.card_bench.specs.Sweeps.{CutsCommand, CutsStart, SparesStart, EndsIn, EndsBehindStarts};
+ghost use Rattle.card_bench.specs.Sweeps.{GivenByRun, free_of};
 
 use crate::came::Came;
 use crate::masks::{mask_at, mask_count, words_to_try};
@@ -37,8 +40,8 @@ impl From<AllocError> for Stop {
     }
 }
 
-/// Tries a command on copies of a board, cut at each of its writes, and the starts after it cut too, until so many of them
-/// were cut or one makes no write. Each run ends with a start that isn't cut, and the probe.
+/// Tries a command on copies of a board, cut at each of its writes, and the starts after it cut too, until so many of
+/// them were cut or one makes no write. Each run ends with a start that isn't cut, and the probe.
 ///
 /// # Errors
 /// There is too little memory.
@@ -250,7 +253,8 @@ fn played(
     bench: &mut Bench<CutBoard>,
     turns: &[Turn<'_>],
 ) -> Result<Trace, AllocError>
-    ensures { IfOk result (λ trace. IsGood bench.old → IsGood bench.new × Runs bench.old turns.now trace.items bench.new) }
+    ensures { IfOk result (λ trace. IsGood bench.old
+        → IsGood bench.new × Runs bench.old turns.now trace.items bench.new) }
 {
     let mut trace = blank_trace(alloc, turns.len())?;
     bench.play_well(turns, &mut trace);

@@ -1,5 +1,6 @@
 //! The results of runs, each with how many runs gave it.
-ghost use Rattle.std.specs.Prelude.{◌≡◌, ◌≢◌, false, ◌≤◌, ◌<◌, ◌+◌, ◌-◌, ◌↔◌, ◌^◌, ◌∷◌, [], length, sum_by, All, AllPairs, IsTrue, IfOk, OnOk, IfSome, IfNone, Some};
+ghost use Rattle.std.specs.Prelude.{◌≡◌, ◌≢◌, false, ◌≤◌, ◌<◌, ◌+◌, ◌-◌, ◌↔◌, ◌^◌, ◌∷◌, [], length, sum_by, All};
+ghost use Rattle.std.specs.Prelude.{AllPairs, IsTrue, IfOk, OnOk, IfSome, IfNone, Some};
 ghost use Rattle.std.specs.Prelude.{slice_get, slice_set, map, Contains};
 ghost use Rattle.card_bench.specs.Tallies.{Finding, finding, findings, count_of, Adds, IsAt, CountsOne};
 
@@ -91,7 +92,8 @@ impl Sweep {
     fn place_of(&self, trace: &[Item], free: FreeSpace) -> Option<usize>
         ensures found { IfSome result (λ i. i < length self.now.seen.items) }
         ensures same { IfSome result (λ i. IsAt i (record { trace = trace.now; free = free }) self.now.seen.items) }
-        ensures new { IfNone result (All (λ s. finding s ≢ record { trace = trace.now; free = free }) self.now.seen.items) }
+        ensures new { IfNone result
+            (All (λ s. finding s ≢ record { trace = trace.now; free = free }) self.now.seen.items) }
     {
         for i in 0..self.seen.len() {
             if self.seen[i].is_same(trace, free) {

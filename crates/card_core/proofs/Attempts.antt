@@ -1,7 +1,9 @@
--- An attempt, by the kinds of its exits: a charge that stopped; no try that is left; a comparison that stopped, or what became of
--- the PIN; and what was shown wrong, or right.
-use Rattle.std.proofs.Common.{◌≡◌, ◌≢◌, ◌⊎◌, ◌<◌, ◌≤◌, ◌+◌, ◌-◌, ◌==◌, ◌&&◌, not, ℕ, Bool, true, false, List, [], ◌∷◌, length, Contains}
-use Rattle.std.proofs.Common.{slice_index, slice_set, Option, Some, None, Ok, Err, if◌then◌else◌, refl, sym, ◌∙◌, ap, subst, arith, inl, inr}
+-- An attempt, by the kinds of its exits: a charge that stopped; no try that is left; a comparison that stopped, or what
+-- became of the PIN; and what was shown wrong, or right.
+use Rattle.std.proofs.Common.{◌≡◌, ◌≢◌, ◌⊎◌, ◌<◌, ◌≤◌, ◌+◌, ◌-◌, ◌==◌, ◌&&◌, not, ℕ, Bool, true, false, List, [], ◌∷◌}
+use Rattle.std.proofs.Common.{length, Contains}
+use Rattle.std.proofs.Common.{slice_index, slice_set, Option, Some, None, Ok, Err, if◌then◌else◌, refl, sym, ◌∙◌, ap}
+use Rattle.std.proofs.Common.{subst, arith, inl, inr}
 use Rattle.std.proofs.lemmas.Bool.{eq-eqb}
 use Rattle.std.proofs.Math.ListN.{length-set}
 use Rattle.std.specs.Cmp.Lexicographic.{bytes_decides, pointwise}
@@ -33,35 +35,36 @@ use Rattle.pin_store.specs.Pins.{charged_pin, kept, owner, tries_left, Pin}
 use Rattle.pin_store.specs.Trials.{pin_in, Charges, ComparesOnce, EndsByOutcome, IsWrong, KeepsPinLaw, SetsByMatch}
 use Rattle.pin_store.specs.laws.Tries.{charge_keeps_law, end_keeps_law, IsEnd}
 use Rattle.file_tree.specs.laws.Indexed.{places_same}
-use Rattle.card_core.specs.declared.current.Current.{Current}
-use Rattle.card_core.specs.Cards.{Card}
-use Rattle.card_core.specs.Comparing.{attempt_of, comparisons, ComparesBy, ComparesShown, CostsATry}
-use Rattle.card_core.specs.Counting.{CountsAttempt, CountsServed, CountsShown}
-use Rattle.card_core.specs.Outcomes.{Refusal, first_applying, no_refusals, refused, refused_by}
-use Rattle.card_core.specs.Attempts.{Attempt, attempt_commits, charged_card, is_right}
-use Rattle.card_core.specs.Pins.{attempt_refusals, attempted, attempted_as}
-use Rattle.card_core.specs.Pins.{changing, marking, resetting, told_tries, tries_told}
-use Rattle.card_core.specs.Attempts.{pin_of, settled_card, tries_of}
-use Rattle.card_core.specs.Words.{StandsByWord, StandsServed, commits_alone, commits_gated}
-use Rattle.card_core.specs.Attempts.{tries_commits, value_commits, unblocking_of, value_of, with_pin_of}
-use Rattle.card_core.specs.Pins.{unverified, verifying}
-use Rattle.card_core.specs.Served.{IsDoing, Serves}
-use Rattle.card_core.specs.Sessions.{Session, marked}
-use Rattle.card_core.specs.Spending.{most_writes}
-use Rattle.card_core.specs.Stages.{commits, commits_unless}
-use Rattle.card_core.specs.Standing.{card_of, IsCard}
-use Rattle.card_core.specs.Steps.{effect, refusals_of, served}
-use Rattle.card_core.specs.Working.{card_in, end_of_attempt, outcome, session_in, session_of, table_in, tried_from, IsCurrent}
+use Rattle.card_machine.specs.declared.current.Current.{Current}
+use Rattle.card_machine.specs.Cards.{Card}
+use Rattle.card_machine.specs.Comparing.{attempt_of, comparisons, ComparesBy, ComparesShown, CostsATry}
+use Rattle.card_machine.specs.Counting.{CountsAttempt, CountsServed, CountsShown}
+use Rattle.card_machine.specs.Outcomes.{Refusal, first_applying, no_refusals, refused, refused_by}
+use Rattle.card_machine.specs.Attempts.{Attempt, attempt_commits, charged_card, is_right}
+use Rattle.card_machine.specs.Pins.{attempt_refusals, attempted, attempted_as}
+use Rattle.card_machine.specs.Pins.{changing, marking, resetting, told_tries, tries_told}
+use Rattle.card_machine.specs.Attempts.{pin_of, settled_card, tries_of}
+use Rattle.card_machine.specs.Words.{StandsByWord, StandsServed, commits_alone, commits_gated}
+use Rattle.card_machine.specs.Attempts.{tries_commits, value_commits, unblocking_of, value_of, with_pin_of}
+use Rattle.card_machine.specs.Pins.{unverified, verifying}
+use Rattle.card_machine.specs.Served.{IsDoing, Serves}
+use Rattle.card_machine.specs.Sessions.{Session, marked}
+use Rattle.card_machine.specs.Spending.{most_writes}
+use Rattle.card_machine.specs.Stages.{commits, commits_unless}
+use Rattle.card_machine.specs.Standing.{card_of, IsCard}
+use Rattle.card_machine.specs.Steps.{effect, refusals_of, served}
+use Rattle.card_machine.specs.Working.{card_in, outcome, session_in, session_of, table_in, tried_from, IsCurrent}
+use Rattle.card_core.specs.PinParts.{end_of_attempt}
 use Rattle.card_core.proofs.Comparisons.{costs-told}
-use Rattle.card_core.proofs.Guarding.{served-done, served-refused}
+use Rattle.card_machine.specs.laws.Guarding.{served-done, served-refused}
 use Rattle.card_core.proofs.PinCards.{pin-is, pin-set, pin-stands, pin-table}
-use Rattle.card_core.proofs.Serves.{counts-none, declined, stopped, torn, written}
-use Rattle.card_core.proofs.Stopping.{err-is}
-use Rattle.card_core.specs.declared.stop.Stop.{Stop}
-use Rattle.card_core.specs.declared.stop.Stop.TheVariants.{Refused, Failed}
-use Rattle.card_core.specs.Stops.{failure_of, reply, IfRefused}
-use Rattle.card_core.proofs.Words.{Went, stands-alone, stands-gated, went-reads}
-use Rattle.card_core.proofs.Verified.{marked-with, marked-without}
+use Rattle.card_machine.specs.laws.Serves.{counts-none, declined, stopped, torn, written}
+use Rattle.card_machine.specs.laws.Stopping.{err-is}
+use Rattle.card_machine.specs.declared.stop.Stop.{Stop}
+use Rattle.card_machine.specs.declared.stop.Stop.TheVariants.{Refused, Failed}
+use Rattle.card_machine.specs.Stops.{failure_of, reply, IfRefused}
+use Rattle.card_machine.specs.laws.Words.{Went, stands-alone, stands-gated, went-reads}
+use Rattle.card_machine.specs.laws.Verified.{marked-with, marked-without}
 
 -- what the end of an attempt leaves of the gate: where a new value is set it alone commits, else it stays shut
 abbrev pub EndsByWord : Bool → Memory → Memory → Type 0
@@ -88,7 +91,8 @@ refused_with unusable secret pin =
     first_applying (record { applies = tries_left secret pin == 0; status = METHOD_BLOCKED } ∷ unusable pin)
 
 pub kept-by : (secret : ℕ) (one other : Pin → List Refusal) → one ≡ other → (was : Pin) (old b : Memory)
-    → (IsSome (refused_with one secret was) → OnlyReads old b) → IsSome (refused_with other secret was) → OnlyReads old b
+    → (IsSome (refused_with one secret was) → OnlyReads old b)
+    → IsSome (refused_with other secret was) → OnlyReads old b
 kept-by secret one other is was old b kept =
     subst (λ (unusable : Pin → List Refusal). IsSome (refused_with unusable secret was) → OnlyReads old b) is kept
 
@@ -103,7 +107,8 @@ pub refused-by : (secret : ℕ) (one other : Pin → List Refusal) → one ≡ o
     → IfRefused stop (λ refusal. (refused_with one secret was ≡ Some refusal) × IsReady b)
     → IfRefused stop (λ refusal. (refused_with other secret was ≡ Some refusal) × IsReady b)
 refused-by secret one other is was b stop said =
-    subst (λ (unusable : Pin → List Refusal). IfRefused stop (λ refusal. (refused_with unusable secret was ≡ Some refusal)
+    subst (λ (unusable : Pin → List Refusal). IfRefused stop
+    (λ refusal. (refused_with unusable secret was ≡ Some refusal)
     × IsReady b)) is said
 
 -- whether what is shown is right
@@ -149,7 +154,8 @@ module _ (request : Request) (a : Attempt) (asks : IsAttempt request a) (old : M
   unrefused free = refusal-is ∙ free
 
   -- where it is refused, there is nothing to count
-  counts-refused : (new : Memory) (status : Sw) → refused_at a was ≡ Some status → CountsServed c s request old.facts new.facts
+  counts-refused : (new : Memory) (status : Sw) → refused_at a was ≡ Some status
+      → CountsServed c s request old.facts new.facts
   counts-refused new status is free = let never : Some status ≡ None = sym (refusal-is ∙ is) ∙ free in cc
 
   -- it is refused
@@ -173,8 +179,8 @@ module _ (request : Request) (a : Attempt) (asks : IsAttempt request a) (old : M
     sets-any : SetsPin (committed old) k (pin_at (committed new) k) (committed new)
     sets-any = record {
       size = size;
-      elsewhere = subst (λ (j : ℕ). (w : ℕ) → IsApart j w → slice_index (committed new) w ≡ slice_index (committed old) w)
-          asks.owned law.elsewhere;
+      elsewhere = subst (λ (j : ℕ). (w : ℕ) → IsApart j w
+          → slice_index (committed new) w ≡ slice_index (committed old) w) asks.owned law.elsewhere;
       becomes = refl;
       mark = subst (λ (j : ℕ). IsMark (committed old) j → IsMark (committed new) j) asks.owned law.mark;
     }
@@ -188,10 +194,11 @@ module _ (request : Request) (a : Attempt) (asks : IsAttempt request a) (old : M
     pub exit-table : table_in new ≡ table_in old
     exit-table = pin-table (committed old) (committed new) sized card a.pin asks.number _ sets-any
 
-    exit-compares : (tries_left a.secret was ≡ 0 → (committed new ≡ committed old) × (comparisons new.facts ≡ comparisons old.facts))
+    exit-compares : (tries_left a.secret was ≡ 0
+        → (committed new ≡ committed old) × (comparisons new.facts ≡ comparisons old.facts))
         → ComparesBy request c (comparisons old.facts) (card_in new) (comparisons new.facts)
-    exit-compares blocked = subst (λ (o : Option Attempt). ComparesShown o c (comparisons old.facts) (card_in new) (comparisons
-        new.facts)) (sym asks.shows) (record {
+    exit-compares blocked = subst (λ (o : Option Attempt). ComparesShown o c (comparisons old.facts) (card_in new)
+        (comparisons new.facts)) (sym asks.shows) (record {
           costs = subst (λ (p : Pin). CostsATry a.secret a.shown p (pin_of (card_in new) a.pin) (comparisons old.facts)
               (comparisons new.facts)) (pin-in old card)
               (subst (λ (p : Pin). CostsATry a.secret a.shown was p (comparisons old.facts) (comparisons new.facts))
@@ -224,7 +231,8 @@ module _ (request : Request) (a : Attempt) (asks : IsAttempt request a) (old : M
   charged-size b (inl same) = ap length same
   charged-size b (inr charges) = charges.charged.size
 
-  charged-stage : (b : Memory) → (committed b ≡ committed old) ⊎ Charges a.secret old b → Contains (c ∷ attempt_commits c a) (card_in b)
+  charged-stage : (b : Memory) → (committed b ≡ committed old) ⊎ Charges a.secret old b
+      → Contains (c ∷ attempt_commits c a) (card_in b)
   charged-stage b (inl same) = (0, omega arith, sym (ap card_of same))
   charged-stage b (inr charges) = (1, omega arith, sym (charged-card b charges))
 
@@ -241,7 +249,8 @@ module _ (request : Request) (a : Attempt) (asks : IsAttempt request a) (old : M
       → OnlyReads old new ⊎ R
   idle new kept free = either (λ refused. inl (kept refused)) (λ none. inr (free none))
 
-  reads-told : (new : Memory) → OnlyReads old new → (committed new ≡ committed old) × (comparisons new.facts ≡ comparisons old.facts)
+  reads-told : (new : Memory) → OnlyReads old new
+      → (committed new ≡ committed old) × (comparisons new.facts ≡ comparisons old.facts)
   reads-told new reads = (
     reads.keeps.committed_words,
     λ i. record { compares = reads.board.compares i; matches = reads.board.matches i },
@@ -264,11 +273,12 @@ module _ (request : Request) (a : Attempt) (asks : IsAttempt request a) (old : M
       either (λ refused. went-reads request old x b (kept refused))
       (λ free. (
         advances_by 1 old.facts b.facts spends,
-        λ shut. stood b.facts.words free (stands-alone c (tries_commits c a) (value_commits c a) b.facts.words (stays shut)
-            (among-tries exit)),
+        λ shut. stood b.facts.words free
+            (stands-alone c (tries_commits c a) (value_commits c a) b.facts.words (stays shut) (among-tries exit)),
       ))
     where
-      among-tries : (committed b ≡ committed old) ⊎ Charges a.secret old b → Contains (c ∷ tries_commits c a) (card_in b)
+      among-tries : (committed b ≡ committed old) ⊎ Charges a.secret old b
+          → Contains (c ∷ tries_commits c a) (card_in b)
       among-tries (inl same) = (0, omega arith, sym (ap card_of same))
       among-tries (inr charges) = (1, omega arith, sym (charged-card b charges))
 
@@ -287,7 +297,8 @@ module _ (request : Request) (a : Attempt) (asks : IsAttempt request a) (old : M
       (exit-compares b size pages law (λ none. reads-told b (kept (some-refused none))))
 
   -- after the charge
-  module _ (free : refused_at a was ≡ None) (b : Memory) (charges : Charges a.secret old b) (card-b : IsCard (committed b)) where
+  module _ (free : refused_at a was ≡ None) (b : Memory) (charges : Charges a.secret old b)
+      (card-b : IsCard (committed b)) where
     size-b : IsMemory (committed b)
     size-b = memory_same _ _ charges.charged.size sized
 
@@ -350,8 +361,8 @@ module _ (request : Request) (a : Attempt) (asks : IsAttempt request a) (old : M
       stand false true shuts shut card = stands-alone c _ _ e.facts.words (shuts (stays shut)) card
       stand false false shuts shut card = stands-alone c _ _ e.facts.words (shuts (stays shut)) card
       stand true true exits shut card =
-          stands-gated c (charged_card c a ∷ []) (settled_card c a ∷ []) (committed b) e card-b (charged-card b charges) exits
-          card
+          stands-gated c (charged_card c a ∷ []) (settled_card c a ∷ []) (committed b) e card-b
+          (charged-card b charges) exits card
       stand true false exits shut card =
           stands-gated c (charged_card c a ∷ []) [] (committed b) e card-b (charged-card b charges) exits
           card
@@ -369,8 +380,8 @@ module _ (request : Request) (a : Attempt) (asks : IsAttempt request a) (old : M
 
       -- the end stopped
       pub exit-end : (err : StoreErr) → e.failed ≡ Some err → Serves request old x e x [] (Err err)
-      exit-end err failed = torn request old x e x [] err stage-end (exit-card e (ended-size e exit) pages law-end) reports
-          failed (omega arith) writes went-end compares-end
+      exit-end err failed = torn request old x e x [] err stage-end (exit-card e (ended-size e exit) pages law-end)
+          reports failed (omega arith) writes went-end compares-end
 
       abbrev y : AttemptEnd → Current
       y end = tried_from x a.pin a.unverifies end
@@ -379,7 +390,8 @@ module _ (request : Request) (a : Attempt) (asks : IsAttempt request a) (old : M
       current-end end = subst (λ (t : List Entry). IsCurrent t (y end))
           (sym (exit-table e (ended-size e exit) pages law-end)) (tried-current a.unverifies end)
         where
-          tried-current : (unverifies : Bool) (end : AttemptEnd) → IsCurrent (table_in old) (tried_from x a.pin unverifies end)
+          tried-current : (unverifies : Bool) (end : AttemptEnd)
+              → IsCurrent (table_in old) (tried_from x a.pin unverifies end)
           tried-current unverifies Matched = record {
             df = current.df;
             ef = current.ef;
@@ -406,7 +418,8 @@ module _ (request : Request) (a : Attempt) (asks : IsAttempt request a) (old : M
       step-matched : SetsByMatch a.secret a.shown (a.becomes (pin_in b a.secret)) b e
           → served c s request ≡ outcome (card_in e) (session_in e (y Matched)) [] DONE
       step-matched set =
-          let session = session-set _ (with_pin x.verified a.pin) (marked-with x.verified a.pin current.marks asks.number) in
+          let session =
+          session-set _ (with_pin x.verified a.pin) (marked-with x.verified a.pin current.marks asks.number) in
           let card-is = sym (settled-is e set.sets) in
           step-by true (right set.match_counted.right)
           ∙ (λ i. outcome (card-is i) (session i) [] DONE)
@@ -456,7 +469,8 @@ module _ (request : Request) (a : Attempt) (asks : IsAttempt request a) (old : M
             (counts-by end done)
 
       -- the end was made
-      pub exit-done : (end : AttemptEnd) → EndsByOutcome a.secret a.shown (a.becomes (pin_in b a.secret)) b e end → IsReady e
+      pub exit-done : (end : AttemptEnd)
+          → EndsByOutcome a.secret a.shown (a.becomes (pin_in b a.secret)) b e end → IsReady e
           → b.facts.writes ≡ old.facts.writes + 1 → Serves request old x e (y end) [] (Ok (end_of_attempt end))
       exit-done end done ready charge =
           written request old x e (counts-end charge end done) (y end) [] (end_of_attempt end) stage-end
@@ -467,7 +481,8 @@ module _ (request : Request) (a : Attempt) (asks : IsAttempt request a) (old : M
 
 -- The exits as the calls tell them: of so many writes after the charge.
 module _ (request : Request) (a : Attempt) (asks : IsAttempt request a) (n : ℕ) (most : most_writes request ≡ 1 + n)
-    (old : Memory) (x : Current) (ready : IsReady old) (card : IsCard (committed old)) (current : IsCurrent (table_in old) x)
+    (old : Memory) (x : Current) (ready : IsReady old) (card : IsCard (committed old))
+    (current : IsCurrent (table_in old) x)
   where
     abbrev sized : IsMemory (committed old)
     sized = ready.usable.committed_size
@@ -507,8 +522,8 @@ module _ (request : Request) (a : Attempt) (asks : IsAttempt request a) (n : ℕ
           (charge_keeps_law a.secret a.shown old b (inr got.1) costs)
 
       exit-told : (committed e ≡ committed b) ⊎ SetsByMatch a.secret a.shown (a.becomes (pin_in b a.secret)) b e
-      exit-told = subst (λ (k : ℕ). (committed e ≡ committed b) ⊎ SetsByMatch k a.shown (a.becomes (pin_in b k)) b e) got.0
-          exit
+      exit-told =
+          subst (λ (k : ℕ). (committed e ≡ committed b) ⊎ SetsByMatch k a.shown (a.becomes (pin_in b k)) b e) got.0 exit
 
       spends-told : ComparesOnce n a.secret b.facts e.facts
       spends-told = subst (λ (k : ℕ). ComparesOnce n k b.facts e.facts) got.0 spends
@@ -528,8 +543,8 @@ module _ (request : Request) (a : Attempt) (asks : IsAttempt request a) (n : ℕ
           → (y : Current) → y ≡ tried_from x a.pin a.unverifies end → (status : Sw) → status ≡ end_of_attempt end
           → Serves request old x e y [] (Ok status)
       end-made end ended is-ready charge y at status told =
-          let made = exit-done request a asks old x sized card current got.2 b got.1 card-b e n (ends _) costs spends-told pages
-          (reports_then old b e reports-b reports) stays word writes exit-told end
+          let made = exit-done request a asks old x sized card current got.2 b got.1 card-b
+          e n (ends _) costs spends-told pages (reports_then old b e reports-b reports) stays word writes exit-told end
           (subst (λ (k : ℕ). EndsByOutcome k a.shown (a.becomes (pin_in b k)) b e end) got.0 ended) is-ready charge in
           subst (λ (z : Current). Serves request old x e z [] (Ok status)) (sym at)
           (subst (λ (w : Sw). Serves request old x e (tried_from x a.pin a.unverifies end) [] (Ok w)) (sym told) made)
@@ -625,12 +640,14 @@ module _ (n : ℕ) (number : IsPinNumber n) where
 module _ (request : Request) (n secret : ℕ) (asks : IsQuestion request n secret) (old : Memory) (x : Current)
     (card : IsCard (committed old)) (current : IsCurrent (table_in old) x) (new : Memory) where
   tries-are : tries_left secret (pin_in old secret) ≡ tries_of (card_in old) n secret
-  tries-are = ap (tries_left secret) (ap (pin_at (committed old)) asks.owned ∙ sym (pin-is (committed old) n card asks.number))
+  tries-are =
+      ap (tries_left secret) (ap (pin_at (committed old)) asks.owned ∙ sym (pin-is (committed old) n card asks.number))
 
   answer-is : (status : Sw) → status ≡ tries_told (tries_left secret (pin_in old secret))
       → served (card_in old) (session_in old x) request ≡ refused (card_in old) (session_in old x) status
   answer-is status told =
-      served-done (card_in old) (session_in old x) request (ap refused_by (asks.refuses (card_in old) (session_in old x)))
+      served-done (card_in old) (session_in old x) request
+      (ap refused_by (asks.refuses (card_in old) (session_in old x)))
       ∙ asks.does (card_in old) (session_in old x)
       ∙ ap (refused (card_in old) (session_in old x)) (sym (told ∙ ap tries_told tries-are))
 

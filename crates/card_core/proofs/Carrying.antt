@@ -1,7 +1,8 @@
 -- From what a call leaves of the request that was asked for to what it leaves of the bytes of a command.
 use Rattle.std.proofs.Common.{◌≡◌, ◌+◌, ◌≤◌, ◌==◌, ℕ, Bool, true, false, true≢false, List, [], length}
 use Rattle.std.proofs.Common.{Option, Some, None}
-use Rattle.std.proofs.Common.{Result, Ok, Err, IfOk, OnOk, if◌then◌else◌, sym, ◌∙◌, ap, subst, arith, inl, inr, ⊎_elim, refl}
+use Rattle.std.proofs.Common.{Result, Ok, Err, IfOk, OnOk, if◌then◌else◌, sym, ◌∙◌, ap, subst, arith, inl, inr}
+use Rattle.std.proofs.Common.{⊎_elim, refl}
 use Rattle.std.specs.Result.{result_err}
 use Rattle.card_rules.specs.declared.status.Sw.{Sw}
 use Rattle.card_rules.specs.declared.status.TheConstants.Sw.{CONDITIONS_NOT_SATISFIED}
@@ -20,25 +21,25 @@ use Rattle.file_tree.specs.Indexes.{KeepsPlaces}
 use Rattle.file_tree.specs.Table.{table}
 use Rattle.apdu_core.specs.Asked.{asked}
 use Rattle.apdu_core.specs.Requests.{Request}
-use Rattle.card_core.specs.declared.current.Current.{Current}
+use Rattle.card_machine.specs.declared.current.Current.{Current}
 use Rattle.block_chain.specs.declared.layout.TheConstants.{HEADER_PAGE}
 use Rattle.file_tree.specs.declared.layout.TheConstants.{STATE_WORD}
-use Rattle.card_core.specs.Cards.{Card}
-use Rattle.card_core.specs.Comparing.{attempt_of, comparisons, Comparisons, ComparesAsked, ComparesBy}
-use Rattle.card_core.specs.Counting.{CountsAnswered, CountsServed, CountsShown}
-use Rattle.card_core.specs.Attempts.{Attempt}
-use Rattle.card_core.specs.Outcomes.{refused}
-use Rattle.card_core.specs.Served.{CarriesOut, IsDoing, Serves}
-use Rattle.card_core.specs.Sessions.{Session}
-use Rattle.card_core.specs.Spending.{writes_asked}
-use Rattle.card_core.specs.Standing.{IsCard, card_of}
-use Rattle.card_core.specs.Steps.{carried_out, outcome_of, served, step}
-use Rattle.card_core.specs.Words.{StandsAsked, StandsByWord, StandsServed, alone_served, gated_served}
-use Rattle.card_core.specs.Working.{card_in, outcome, session_in, session_of, IsKept}
-use Rattle.card_core.specs.laws.StageLaws.{doing_lasts, stage_doing, stage_first}
-use Rattle.card_core.proofs.Readings.{kept_still}
-use Rattle.card_core.proofs.Serves.{reads-compared, reads-nothing}
-use Rattle.card_core.proofs.Words.{stands-first}
+use Rattle.card_machine.specs.Cards.{Card}
+use Rattle.card_machine.specs.Comparing.{attempt_of, comparisons, Comparisons, ComparesAsked, ComparesBy}
+use Rattle.card_machine.specs.Counting.{CountsAnswered, CountsServed, CountsShown}
+use Rattle.card_machine.specs.Attempts.{Attempt}
+use Rattle.card_machine.specs.Outcomes.{refused}
+use Rattle.card_machine.specs.Served.{CarriesOut, IsDoing, Serves}
+use Rattle.card_machine.specs.Sessions.{Session}
+use Rattle.card_machine.specs.Spending.{writes_asked}
+use Rattle.card_machine.specs.Standing.{IsCard, card_of}
+use Rattle.card_machine.specs.Steps.{carried_out, outcome_of, served, step}
+use Rattle.card_machine.specs.Words.{StandsAsked, StandsByWord, StandsServed, alone_served, gated_served}
+use Rattle.card_machine.specs.Working.{card_in, outcome, session_in, session_of, IsKept}
+use Rattle.card_machine.specs.laws.StageLaws.{doing_lasts, stage_doing, stage_first}
+use Rattle.card_machine.specs.laws.Readings.{kept_still}
+use Rattle.card_machine.specs.laws.Serves.{reads-compared, reads-nothing}
+use Rattle.card_machine.specs.laws.Words.{stands-first}
 
 -- whether a card is in use, by its header
 pub in-use-is : (m : List ℕ) → (card_of m).in_use ≡ (word m HEADER_PAGE STATE_WORD == 0)
@@ -64,9 +65,8 @@ module _ (request : Request) (old mid new : Memory) (x y : Current) (text : List
             ≡ outcome (card_in new) (session_in new y) text status)) same serves.step;
         room = serves.room;
         stage = ⊎_elim (λ more. inl (reads_then old mid new reads more))
-            (λ doing. inr (subst (λ (l : List ℕ). IsDoing (card_of l) (session_of (table l) x) request (card_in new)) same
-            doing))
-            serves.stage;
+            (λ doing. inr (subst (λ (l : List ℕ). IsDoing (card_of l) (session_of (table l) x) request (card_in new))
+            same doing)) serves.stage;
         kept = serves.kept;
         card = serves.card;
         reports = reports_then old mid new reads.reports serves.reports;
@@ -74,15 +74,14 @@ module _ (request : Request) (old mid new : Memory) (x y : Current) (text : List
         writes = omega (arith, reads.board.writes, serves.writes);
         advances = advances_then old.facts mid.facts new.facts (advances_kept old.facts mid.facts reads.board)
             serves.advances;
-        stands = λ shut. subst (λ (l : List ℕ). StandsServed (card_of l) (session_of (table l) x) request new.facts.words)
-            same (serves.stands (ap gate reads.board.words ∙ shut));
+        stands = λ shut. subst (λ (l : List ℕ). StandsServed (card_of l) (session_of (table l) x) request
+            new.facts.words) same (serves.stands (ap gate reads.board.words ∙ shut));
         compares = subst (λ (k : Comparisons). ComparesBy request (card_in old) k (card_in new) (comparisons new.facts))
             (reads-compared old mid reads)
-            (subst (λ (l : List ℕ). ComparesBy request (card_of l) (comparisons mid.facts) (card_in new) (comparisons
-            new.facts)) same serves.compares);
-        places = on_ok_weaker result (λ keeps stays. subst (λ (l : List ℕ). KeepsPlaces (table l) (table (committed
-            new)))
-            same (keeps stays)) serves.places;
+            (subst (λ (l : List ℕ). ComparesBy request (card_of l) (comparisons mid.facts) (card_in new)
+            (comparisons new.facts)) same serves.compares);
+        places = on_ok_weaker result (λ keeps stays. subst
+            (λ (l : List ℕ). KeepsPlaces (table l) (table (committed new))) same (keeps stays)) serves.places;
         counted = subst (λ (l : List ℕ). OnOk result (CountsServed (card_of l) (session_of (table l) x) request
             old.facts new.facts)) same
             (on_then _ _ result (λ counts unrefused. counts-after (attempt_of request) old.facts mid.facts
@@ -192,9 +191,9 @@ module _ (bytes : List ℕ) (old new : Memory) (x : Current) (kept : IsKept old 
   pub refused-by-form : (status : Sw) → asked bytes ≡ Err status → OnlyReads old new → IsReady new
       → CarriesOut bytes old x new x [] (Ok status)
   refused-by-form status is reads ready =
-      turned-down status (ap (λ (wanted : Result Request Sw). outcome_of (card_in old) (session_in old x) wanted) is) reads
-      ready (subst (λ (wanted : Result Request Sw). CountsAnswered wanted (card_in old) (session_in old x) old.facts
-      new.facts) (sym is) tt)
+      turned-down status (ap (λ (wanted : Result Request Sw). outcome_of (card_in old) (session_in old x) wanted) is)
+      reads ready (subst (λ (wanted : Result Request Sw). CountsAnswered wanted (card_in old) (session_in old x)
+      old.facts new.facts) (sym is) tt)
 
   -- the use of the card has ended
   pub use-ended : (request : Request) → asked bytes ≡ Ok request → (card_in old).in_use ≡ false → OnlyReads old new

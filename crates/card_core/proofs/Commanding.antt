@@ -6,10 +6,10 @@ use Rattle.std.proofs.Common.{arith}
 use Rattle.apdu_core.specs.Asked.{asked}
 use Rattle.file_tree.specs.Indexes.{IsIndex}
 use Rattle.file_tree.specs.declared.index.Index.{Index}
-use Rattle.card_core.specs.Comparing.{comparisons, ComparesAsked}
-use Rattle.card_core.specs.Counting.{CountsAnswered}
-use Rattle.card_core.specs.Stages.{IsStage}
-use Rattle.card_core.specs.laws.CompareLaws.{asked-none}
+use Rattle.card_machine.specs.Comparing.{comparisons, ComparesAsked}
+use Rattle.card_machine.specs.Counting.{CountsAnswered}
+use Rattle.card_machine.specs.Stages.{IsStage}
+use Rattle.card_machine.specs.laws.CompareLaws.{asked-none}
 use Rattle.card_rules.specs.declared.status.Sw.{Sw}
 use Rattle.undo_journal.specs.declared.error.StoreErr.{StoreErr}
 use Rattle.undo_journal.specs.declared.error.StoreErr.TheVariants.{PowerLost, Fault}
@@ -17,14 +17,15 @@ use Rattle.undo_journal.specs.Memory.{Memory, IsReady}
 use Rattle.file_tree.specs.declared.space.FreeSpace.{FreeSpace}
 use Rattle.card_core.specs.declared.card_state.CardState.{CardState}
 use Rattle.card_core.specs.declared.card_state.CardState.TheVariants.{Working, Failed, Dark}
-use Rattle.card_core.specs.declared.current.Current.{Current}
+use Rattle.card_machine.specs.declared.current.Current.{Current}
 use Rattle.card_core.specs.declared.faults.PowerLost.{PowerLost as Lost}
-use Rattle.card_core.specs.Outcomes.{answer_bytes, Outcome}
+use Rattle.card_machine.specs.Outcomes.{answer_bytes, Outcome}
 use Rattle.card_core.specs.Running.{card_found, memory_failure, FailsIn, IsCutIn, Running, Steps}
-use Rattle.card_core.specs.Served.{CarriesOut}
-use Rattle.card_core.specs.Sessions.{Session}
-use Rattle.card_core.specs.Steps.{carried_out}
-use Rattle.card_core.specs.Working.{card_in, outcome, session_in, session_while, space_in, table_in, IsKept}
+use Rattle.card_machine.specs.Served.{CarriesOut}
+use Rattle.card_machine.specs.Sessions.{Session}
+use Rattle.card_machine.specs.Steps.{carried_out}
+use Rattle.card_machine.specs.Working.{card_in, outcome, session_in, space_in, table_in, IsKept}
+use Rattle.card_core.specs.ShownSessions.{session_while}
 
 -- a fact of a result, where it is one or isn't
 on-ok : {T E : Type 0} (r : Result T E) (P : Type 0) → P → OnOk r P
@@ -152,6 +153,7 @@ module _ (r : Running) (command : List ℕ) where
   pub still-stage : IsStage (card_found r) r.session command (card_found r)
   still-stage = (0, (omega arith), refl)
 
-  pub still-compares : ComparesAsked (asked command) (card_found r) (comparisons r.facts) (card_found r) (comparisons r.facts)
+  pub still-compares : ComparesAsked (asked command) (card_found r) (comparisons r.facts)
+      (card_found r) (comparisons r.facts)
   still-compares =
       asked-none (asked command) (card_found r) (comparisons r.facts) (card_found r) (comparisons r.facts) refl refl

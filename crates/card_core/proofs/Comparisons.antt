@@ -3,8 +3,8 @@ use Rattle.std.proofs.Common.{◌≡◌, ℕ, List, inl, inr, ⊎_elim}
 use Rattle.undo_journal.specs.Memory.{Memory}
 use Rattle.pin_store.specs.Pins.{tries_left}
 use Rattle.pin_store.specs.Trials.{pin_in, FillsByMatch, IsMatch, KeepsPinLaw, PaysForOne as PaysInStore}
-use Rattle.card_core.specs.Comparing.{comparisons}
-use Rattle.card_core.specs.Comparing.{CostsATry, FillsTries, Matches, PaysForOne}
+use Rattle.card_machine.specs.Comparing.{comparisons}
+use Rattle.card_machine.specs.Comparing.{CostsATry, FillsTries, Matches, PaysForOne}
 
 -- the law of a store, told by its PIN and its counts
 module _ (secret : ℕ) (shown : List ℕ) (old new : Memory) where
@@ -29,7 +29,12 @@ module _ (secret : ℕ) (shown : List ℕ) (old new : Memory) where
       → (pin_in new secret ≡ pin_in old secret) × (comparisons new.facts ≡ comparisons old.facts))
       → CostsATry secret shown (pin_in old secret) (pin_in new secret) (comparisons old.facts) (comparisons new.facts)
   costs-told law blocked = record {
-    tries = elim law.tries [ inl stay ↦ inl stay | inr (inl fewer) ↦ inr (inl fewer) | inr (inr fills) ↦ inr (inr (fills-told fills)) ];
+    tries = elim law.tries [
+      | inl stay ↦ inl stay
+      | inr (inl fewer) ↦ inr (inl fewer)
+      | inr (inr fills) ↦
+          inr (inr (fills-told fills))
+    ];
     compares = ⊎_elim (λ none. inl none) (λ pays. inr (pays-told pays)) law.compares;
     matches = law.matches;
     blocked = blocked;

@@ -1,6 +1,6 @@
 -- The factory's memory stands for the factory's card.
-use Rattle.std.proofs.Common.{◌≡◌, ◌≢◌, ◌<◌, ◌≤◌, ◌+◌, ◌-◌, ◌==◌, ℕ, true, List, [], ◌∷◌, ◌++◌, zero, suc, length, drop, map}
-use Rattle.std.proofs.Common.{slice_index}
+use Rattle.std.proofs.Common.{◌≡◌, ◌≢◌, ◌<◌, ◌≤◌, ◌+◌, ◌-◌, ◌==◌, ℕ, true, List, [], ◌∷◌, ◌++◌, zero, suc, length}
+use Rattle.std.proofs.Common.{drop, map, slice_index}
 use Rattle.std.proofs.Common.{refl, sym, ◌∙◌, ap, ap₂, subst, arith, inl, inr, lit≤, lit<, replicate, Option}
 use Rattle.std.proofs.Common.{Some}
 use Rattle.std.specs.List.{flat_map, range_with_len, filter_map, cons_option}
@@ -38,11 +38,12 @@ use Rattle.pin_store.specs.laws.AllPins.{enabled_marks, enabled_unmarked}
 use Rattle.pin_store.specs.declared.layout.TheConstants.{PIN_MARK_WORD}
 use Rattle.card_core.specs.declared.memory_format.MemoryFormat.{MemoryFormat}
 use Rattle.card_core.specs.declared.memory_format.MemoryFormat.TheVariants.{One, Two}
-use Rattle.card_core.specs.Cards.{card_space, Pin}
-use Rattle.card_core.specs.Standing.{IsAnyCard, IsCard, IsOldCard, board_blocks, card_blocks, card_of, card_pins, StandsFor}
-use Rattle.card_core.specs.laws.CardLaws.{blocks_new, blocks_old, marked_new, marked_old, pins_new, pins_old}
-use Rattle.card_core.specs.Factory.{factory_page, factory_block, factory_end, factory_header, factory_pin_page, factory_pin}
-use Rattle.card_core.specs.Factory.{factory_pin_mark, IsWritten}
+use Rattle.card_machine.specs.Cards.{card_space, Pin}
+use Rattle.card_machine.specs.Standing.{IsAnyCard, IsCard, IsOldCard, board_blocks, card_blocks, card_of, card_pins}
+use Rattle.card_machine.specs.Standing.{StandsFor}
+use Rattle.card_machine.specs.laws.CardLaws.{blocks_new, blocks_old, marked_new, marked_old, pins_new, pins_old}
+use Rattle.card_core.specs.Factory.{factory_page, factory_block, factory_end, factory_header}
+use Rattle.card_core.specs.Factory.{factory_pin_page, factory_pin, factory_pin_mark, IsWritten}
 use Rattle.card_core.specs.Factory.{factory_card, factory_tree, factory_space, master_of_factory, file_of_factory}
 use Rattle.card_core.specs.Factory.{IsFactory}
 use Rattle.card_core.proofs.FactoryPages.{blank_page, pin_page_is, free_block_is}
@@ -86,7 +87,8 @@ pub end_least : (format : MemoryFormat) (m : List ℕ) → IsMemory m → LEAST_
 end_least One m sized = omega arith
 end_least Two m sized = sized.least
 
-end_same : (format : MemoryFormat) (m after : List ℕ) → length after ≡ length m → factory_end format after ≡ factory_end format m
+end_same : (format : MemoryFormat) (m after : List ℕ) → length after ≡ length m
+    → factory_end format after ≡ factory_end format m
 end_same One m after size = refl
 end_same Two m after size = pages_same m after size
 
@@ -220,7 +222,8 @@ module _ (format : MemoryFormat) (m : List ℕ) (sized : IsMemory m) (factory : 
       let entries_are = ap (λ (s : FreeSpace). s.entries) space ∙ entries_free in
       let many = least in
       let all = inside in
-      let blocks : (card_space (factory_card (board_blocks m))).blocks ≡ (factory_space (board_blocks m)).blocks = omega (arith, some, counted, many, all) in
+      let blocks : (card_space (factory_card (board_blocks m))).blocks ≡ (factory_space (board_blocks m)).blocks =
+      omega (arith, some, counted, many, all) in
       λ i. record { blocks = blocks i; entries = entries_are i }
 
   pin_words : (pin : ℕ) → pin < PINS → page_words m (pin_page pin) ≡ factory_pin_page format
@@ -269,7 +272,8 @@ module _ (format : MemoryFormat) (m : List ℕ) (sized : IsMemory m) (factory : 
   pins_from a (suc n) le = ap₂ (λ (pin : Pin) (rest : List Pin). pin ∷ rest) (pin-is a (omega (arith, le)))
       (pins_from (a + 1) n (omega (arith, le)))
 
-  card-by-blocks : card_blocks m ≡ board_blocks m → card_pins m ≡ unmarked_pins_of m → card_of m ≡ factory_card (board_blocks m)
+  card-by-blocks : card_blocks m ≡ board_blocks m → card_pins m ≡ unmarked_pins_of m
+      → card_of m ≡ factory_card (board_blocks m)
   unfolding card_of unmarked_pins_of
   card-by-blocks blocks unmarked =
       let state : (word m HEADER_PAGE STATE_WORD == 0) ≡ true = ap (λ (w : ℕ). w == 0) state-is in
@@ -368,7 +372,8 @@ pins-are One m sized factory = pins-one m sized factory
 pins-are Two m sized factory = pins-two m sized factory
 
 -- The factory's memory stands for the factory's card.
-pub stands-factory : (format : MemoryFormat) (m : List ℕ) → IsMemory m → IsFactory format m → StandsFor m (factory_card (board_blocks m))
+pub stands-factory : (format : MemoryFormat) (m : List ℕ) → IsMemory m → IsFactory format m
+    → StandsFor m (factory_card (board_blocks m))
 stands-factory format m sized factory = record {
   shut = gate-factory format m sized factory;
   words = words-factory format m sized factory;

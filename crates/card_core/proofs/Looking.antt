@@ -1,6 +1,6 @@
 -- A request whose commits leave the files alone takes no space, and gives none back.
-use Rattle.std.proofs.Common.{◌≡◌, Bool, true, false, List, [], ℕ, ◌∷◌, Option, None, Some, Result, OnOk, if◌then◌else◌, refl, sym}
-use Rattle.std.proofs.Common.{◌∙◌, ⊎_elim}
+use Rattle.std.proofs.Common.{◌≡◌, Bool, true, false, List, [], ℕ, ◌∷◌, Option, None, Some, Result, OnOk, if◌then◌else◌}
+use Rattle.std.proofs.Common.{refl, sym, ◌∙◌, ⊎_elim}
 use Rattle.std.proofs.lemmas.List.Elements.{All-contains, All-from_recursion}
 use Rattle.std.specs.List.{AllByRecursion}
 use Rattle.card_rules.specs.declared.status.Sw.{Sw}
@@ -9,15 +9,15 @@ use Rattle.undo_journal.specs.Calls.{OnlyReads}
 use Rattle.undo_journal.specs.Memory.{Memory}
 use Rattle.file_tree.specs.declared.space.FreeSpace.{FreeSpace}
 use Rattle.apdu_core.specs.Requests.{Request}
-use Rattle.card_core.specs.declared.current.Current.{Current}
-use Rattle.card_core.specs.Cards.{Card, card_space}
-use Rattle.card_core.specs.Attempts.{attempt_commits, charged_card, is_right, settled_card, Attempt}
-use Rattle.card_core.specs.Pins.{pin_commits}
-use Rattle.card_core.specs.Served.{IsDoing, Serves}
-use Rattle.card_core.specs.Stages.{commits}
-use Rattle.card_core.specs.Working.{card_in, session_in, space_in}
-use Rattle.card_core.proofs.Answering.{ok_anyway}
-use Rattle.card_core.proofs.SpaceKept.{space-same}
+use Rattle.card_machine.specs.declared.current.Current.{Current}
+use Rattle.card_machine.specs.Cards.{Card, card_space}
+use Rattle.card_machine.specs.Attempts.{attempt_commits, charged_card, is_right, settled_card, Attempt}
+use Rattle.card_machine.specs.Pins.{pin_commits}
+use Rattle.card_machine.specs.Served.{IsDoing, Serves}
+use Rattle.card_machine.specs.Stages.{commits}
+use Rattle.card_machine.specs.Working.{card_in, session_in, space_in}
+use Rattle.card_machine.specs.laws.Answering.{ok_anyway}
+use Rattle.card_machine.specs.laws.SpaceKept.{space-same}
 
 -- each of these cards has the files of a card
 abbrev pub HaveFilesOf : Card → List Card → Type 0

@@ -24,16 +24,17 @@ use Rattle.file_tree.specs.laws.Formats.{count_is, end_new}
 use Rattle.file_tree.specs.laws.Migrating.{old_count}
 use Rattle.pin_store.specs.laws.AllPins.{enabled_marks, enabled_unmarked, secrets_kept, secrets_pages}
 use Rattle.migration.specs.Migrating.{IsNew, Migrates, migration_writes}
-use Rattle.card_core.specs.Cards.{card_space}
-use Rattle.card_core.specs.Finding.{words_found, FindsAgain}
-use Rattle.card_core.specs.Standing.{card_blocks, card_of, card_pins, IsAnyCard, IsCard, IsOldCard}
-use Rattle.card_core.specs.Working.{IsCardIn, TellsCard}
+use Rattle.card_machine.specs.Cards.{card_space}
+use Rattle.card_machine.specs.Finding.{words_found, FindsAgain}
+use Rattle.card_machine.specs.Standing.{card_blocks, card_of, card_pins, IsAnyCard, IsCard, IsOldCard}
+use Rattle.card_core.specs.StartParts.{IsCardIn, TellsCard}
 use Rattle.card_core.specs.declared.check.Checked.{Checked}
 use Rattle.card_core.specs.declared.memory_format.MemoryFormat.{MemoryFormat}
 use Rattle.card_core.specs.declared.memory_format.MemoryFormat.TheVariants.{One, Two}
 use Rattle.card_core.specs.Starting.{KeepsFormat, TakesAllPages, power_on_writes}
-use Rattle.card_core.specs.laws.CardLaws.{blocks_new, blocks_old, card_format, card_space_is, marked_new, old_format, old_mark}
-use Rattle.card_core.specs.laws.CardLaws.{pins_new, pins_old}
+use Rattle.card_machine.specs.laws.CardLaws.{blocks_new, blocks_old, card_format, card_space_is, marked_new, old_format}
+use Rattle.card_machine.specs.laws.CardLaws.{old_mark}
+use Rattle.card_machine.specs.laws.CardLaws.{pins_new, pins_old}
 
 -- the memory is as it was, or that of a card of format 1 which is still one, or is one of format 2
 abbrev pub IsRenewed : List ℕ → List ℕ → Type 0
@@ -70,8 +71,8 @@ module _ (m after : List ℕ) (sized : IsMemory m) (old : IsOldCard m) (migrates
   }
 
   any-migrated : IsAnyCard after
-  any-migrated = ⊎_elim (λ (same : word after HEADER_PAGE MARK_WORD ≡ word m HEADER_PAGE MARK_WORD). inr (still-old same))
-      (λ (new : IsNew after). inl (renewed-card new)) migrates.format
+  any-migrated = ⊎_elim (λ (same : word after HEADER_PAGE MARK_WORD ≡ word m HEADER_PAGE MARK_WORD).
+      inr (still-old same)) (λ (new : IsNew after). inl (renewed-card new)) migrates.format
 
   -- it has as many blocks, once it is started
   blocks-are : card_blocks after ≡ card_blocks m
@@ -109,7 +110,8 @@ module _ (m after : List ℕ) (sized : IsMemory m) (old : IsOldCard m) (migrates
       λ i. record { tree = tree i; pins = pins i; in_use = state i == 0; blocks = blocks i }
 
 -- what is free grows by the blocks that the memory gains
-pub grown-space : (m after : List ℕ) (free : FreeSpace) (n : ℕ) → n ≡ pages_of after → IsMemory m → IsOldCard m → Migrates m after → IsNew after
+pub grown-space : (m after : List ℕ) (free : FreeSpace) (n : ℕ) → n ≡ pages_of after → IsMemory m → IsOldCard m
+    → Migrates m after → IsNew after
     → free ≡ free_space (block_count m) (tree_of m)
     → record { blocks = free.blocks + (n - OLD_END_PAGE); entries = free.entries } ≡ card_space (card_of after)
 grown-space m after free n all sized old migrates new is =
@@ -135,7 +137,8 @@ told-one m checked is tells = subst (λ (format : MemoryFormat). IsCardIn format
 
 pub found-one : (m : List ℕ) (told : Option Checked) (checked : Checked) → told ≡ Some checked → checked.format ≡ One
     → TellsCard m told → IsOldCard m
-found-one m told checked there is tells = told-one m checked is (subst (λ (o : Option Checked). TellsCard m o) there tells)
+found-one m told checked there is tells =
+    told-one m checked is (subst (λ (o : Option Checked). TellsCard m o) there tells)
 
 pub found-two : (m : List ℕ) (told : Option Checked) (checked : Checked) → told ≡ Some checked → checked.format ≡ Two
     → TellsCard m told → IsCard m × (checked.tree.free ≡ card_space (card_of m)) × IsIndex (table m) checked.tree.index
@@ -159,7 +162,8 @@ renewal-writes m mid same old =
     ∙ sym (ap (λ (b : Bool). if b then 0 else migration_writes (pages_of m)) (old_format m old))
 
 -- where the same words are found, the same card is
-pub found-still : (old new : List ℕ) → words_found new ≡ words_found old → (IsSound new ↔ IsSound old) → FindsAgain old new
+pub found-still : (old new : List ℕ) → words_found new ≡ words_found old
+    → (IsSound new ↔ IsSound old) → FindsAgain old new
 found-still old new same sound = record {
   card = ap card_of same;
   there = (
@@ -169,9 +173,10 @@ found-still old new same sound = record {
   journal = sound;
 }
 
--- What is found after an opening, and a renewal behind it: `first` is the board before them, `opened` and `last` are the store.
-module _ (first : List ℕ) (opened last : Memory) (sized : IsMemory (committed opened)) (undone : committed opened ≡ words_found first)
-    (exit : IsRenewed (committed opened) (committed last)) where
+-- What is found after an opening, and a renewal behind it:
+-- `first` is the board before them, `opened` and `last` are the store.
+module _ (first : List ℕ) (opened last : Memory) (sized : IsMemory (committed opened))
+    (undone : committed opened ≡ words_found first) (exit : IsRenewed (committed opened) (committed last)) where
   pub found-again : IsSound first → IsSound last.facts.words → FindsAgain first last.facts.words
   found-again sound still = ⊎_elim
       (λ (kept : committed last ≡ committed opened). found-still first last.facts.words (kept ∙ undone)
@@ -191,9 +196,9 @@ module _ (first : List ℕ) (opened last : Memory) (sized : IsMemory (committed 
 
   pub found-format : KeepsFormat first last.facts.words
   found-format = ⊎_elim
-      (λ (kept : committed last ≡ committed opened). inl (ap (λ (l : List ℕ). word l HEADER_PAGE MARK_WORD) (kept ∙ undone)))
-      (λ (migrated : IsOldCard (committed opened) × Migrates (committed opened) (committed last)). ⊎_elim
-      (λ (same : word (committed last) HEADER_PAGE MARK_WORD ≡ word (committed opened) HEADER_PAGE MARK_WORD).
+      (λ (kept : committed last ≡ committed opened). inl (ap (λ (l : List ℕ). word l HEADER_PAGE MARK_WORD)
+      (kept ∙ undone))) (λ (migrated : IsOldCard (committed opened) × Migrates (committed opened) (committed last)).
+      ⊎_elim (λ (same : word (committed last) HEADER_PAGE MARK_WORD ≡ word (committed opened) HEADER_PAGE MARK_WORD).
       inl (same ∙ ap (λ (l : List ℕ). word l HEADER_PAGE MARK_WORD) undone))
       (λ (new : IsNew (committed last)). inr (marked_new (committed last) new.mark)) migrated.1.format) exit
 
@@ -206,14 +211,14 @@ module _ (first : List ℕ) (opened last : Memory) (sized : IsMemory (committed 
       (λ (same : word (committed last) HEADER_PAGE MARK_WORD ≡ word (committed opened) HEADER_PAGE MARK_WORD).
       absurd (old_mark (committed opened) migrated.0 (sym same ∙ card.header.mark)))
       (λ (new : IsNew (committed last)). end_new (committed last) new.mark ∙ new.pages
-      ∙ pages_same last.facts.words (committed last) (length-data_words (undo last.facts.words) ∙ length-undo last.facts.words))
-      migrated.1.format) exit
+      ∙ pages_same last.facts.words (committed last) (length-data_words (undo last.facts.words)
+      ∙ length-undo last.facts.words)) migrated.1.format) exit
 
 -- what an opening and a renewal spend together
 pub spends-on : (first : Facts) (opened last : Memory) → committed opened ≡ words_found first.words
     → WritesAtMost (start_writes first) first opened.facts
-    → WritesAtMost (if is_format_2 (committed opened) then 0 else migration_writes (pages_of (committed opened))) opened.facts last.facts
-    → WritesAtMost (power_on_writes first) first last.facts
+    → WritesAtMost (if is_format_2 (committed opened) then 0 else migration_writes (pages_of (committed opened)))
+    opened.facts last.facts → WritesAtMost (power_on_writes first) first last.facts
 spends-on first opened last undone before after =
     let size : length (committed opened) ≡ length first.words =
     ap (λ (l : List ℕ). length l) undone ∙ length-data_words (undo first.words) ∙ length-undo first.words in
@@ -222,5 +227,5 @@ spends-on first opened last undone before after =
     ≡ (if is_format_2 (words_found first.words) then 0 else migration_writes (pages_of first.words)) =
     λ i. if is_format_2 (undone i) then 0 else migration_writes (pages i) in
     subst (λ (n : ℕ). WritesAtMost (start_writes first + n) first last.facts) bound
-    (writes_then (start_writes first) (if is_format_2 (committed opened) then 0 else migration_writes (pages_of (committed opened)))
-    first opened.facts last.facts before after)
+    (writes_then (start_writes first) (if is_format_2 (committed opened) then 0
+    else migration_writes (pages_of (committed opened))) first opened.facts last.facts before after)

@@ -1,6 +1,6 @@
 -- A PIN is set in a memory that stands for a card.
-use Rattle.std.proofs.Common.{◌≡◌, ◌⊎◌, ◌<◌, ◌≤◌, ◌+◌, ◌-◌, ◌==◌, ℕ, List, slice_set, sym, ◌∙◌, ap, arith, inl, inr, lit<}
-use Rattle.std.proofs.Common.{slice_index_or}
+use Rattle.std.proofs.Common.{◌≡◌, ◌⊎◌, ◌<◌, ◌≤◌, ◌+◌, ◌-◌, ◌==◌, ℕ, List, slice_set, sym, ◌∙◌, ap, arith, inl}
+use Rattle.std.proofs.Common.{inr, lit<, slice_index_or}
 use Rattle.std.proofs.lemmas.List.FromFn.{get_or-map-range_with_len}
 use Rattle.nvm_board.specs.Facts.{address}
 use Rattle.nvm_board.specs.Facts.{IsMemory}
@@ -14,15 +14,16 @@ use Rattle.card_rules.specs.Pins.{IsPinNumber}
 use Rattle.pin_store.specs.Pages.{pin_at, pin_page, pins_of, ArePinPages, SetsPin}
 use Rattle.pin_store.specs.declared.layout.TheConstants.{PINS, PIN_WORDS}
 use Rattle.pin_store.specs.laws.AllPins.{marks_set, pins_set}
-use Rattle.card_core.specs.Cards.{Pin}
-use Rattle.card_core.specs.Attempts.{no_pin, pin_of, with_pin_of}
-use Rattle.card_core.specs.Standing.{card_of, IsCard}
-use Rattle.card_core.specs.laws.CardLaws.{blocks_same, card_format, card_pins_are, marked_new, pins_new}
+use Rattle.card_machine.specs.Cards.{Pin}
+use Rattle.card_machine.specs.Attempts.{no_pin, pin_of, with_pin_of}
+use Rattle.card_machine.specs.Standing.{card_of, IsCard}
+use Rattle.card_machine.specs.laws.CardLaws.{blocks_same, card_format, card_pins_are, marked_new, pins_new}
 
 -- PIN n of the card is the one of its page
 pin-placed : (m : List ℕ) (k : ℕ) → k < PINS → slice_index_or (pins_of m) k no_pin ≡ pin_at m k
 unfolding pins_of
-pin-placed m k small = let place : 0 + k ≡ k = omega arith in get_or-map-range_with_len (pin_at m) 0 PINS k k no_pin small place
+pin-placed m k small = let place : 0 + k ≡ k = omega arith in
+    get_or-map-range_with_len (pin_at m) 0 PINS k k no_pin small place
 
 pub pin-is : (m : List ℕ) (n : ℕ) → IsCard m → IsPinNumber n → pin_of (card_of m) n ≡ pin_at m (n - 1)
 pin-is m n words number =
@@ -75,7 +76,8 @@ module _ (m after : List ℕ) (sized : IsMemory m) (words : IsCard m) (n : ℕ) 
   pin-set =
       let kept = tree_kept m after sized tree-words words.tree in
       let blocks = blocks_same m after sets.size format in
-      let pins = pins_new after (marked_new after (format.mark ∙ words.header.mark)) ∙ pins_set m after (n - 1) now small sets
+      let pins = pins_new after (marked_new after (format.mark ∙ words.header.mark))
+      ∙ pins_set m after (n - 1) now small sets
       ∙ sym (ap (λ (all : List Pin). slice_set all (n - 1) now) (pins_new m (card_format m words))) in
       λ i. record {
         tree = kept.2 i;

@@ -1,5 +1,6 @@
 -- What calls say of power and device, one after another.
-use Rattle.std.proofs.Common.{◌≡◌, ◌+◌, ℕ, true, true≢false, Option, Some, None, Result, Ok, Err, IfOk, refl, sym, ◌∙◌, ap, subst, inl, inr, ⊎_elim}
+use Rattle.std.proofs.Common.{◌≡◌, ◌+◌, ℕ, true, true≢false, Option, Some, None, Result, Ok, Err, IfOk, refl, sym, ◌∙◌}
+use Rattle.std.proofs.Common.{ap, subst, inl, inr, ⊎_elim}
 use Rattle.std.specs.Prelude.{MatchOption, MatchResult}
 use Rattle.std.specs.Result.{result_err, IsErrAnd, IsErrOf}
 use Rattle.nvm_board.specs.declared.board.DeviceErr.{DeviceErr}
@@ -15,9 +16,10 @@ use Rattle.undo_journal.specs.Undo.{IsSound}
 use Rattle.file_tree.specs.Indexes.{IsIndex}
 use Rattle.file_tree.specs.declared.tree.Survey.{Survey}
 use Rattle.card_core.specs.declared.faults.StartFault.TheVariants.{Damaged}
-use Rattle.card_core.specs.Finding.{words_found, HasCard}
-use Rattle.card_core.specs.Standing.{IsAnyCard}
-use Rattle.card_core.specs.Working.{fresh_current, space_in, table_in, IsKept, TellsSurvey}
+use Rattle.card_machine.specs.Finding.{words_found, HasCard}
+use Rattle.card_machine.specs.Standing.{IsAnyCard}
+use Rattle.card_machine.specs.Working.{fresh_current, space_in, table_in, IsKept}
+use Rattle.card_core.specs.StartParts.{TellsSurvey}
 use Rattle.card_core.specs.declared.faults.StartFault.{StartFault}
 use Rattle.card_core.specs.StartFaults.{fault_of_open, fault_of_store}
 use Rattle.card_core.specs.Running.{StartStopsBy}
@@ -138,7 +140,8 @@ starts-kept opened last n survey found is sound card changes =
     is card in (
       record { journal = changes.reports.sound sound; words = inl told.1 },
       record {
-        ready = subst (λ (r : Result (Option Survey) StoreErr). UnlessFailed (result_err r) (IsReady last)) is changes.ready;
+        ready = subst (λ (r : Result (Option Survey) StoreErr).
+            UnlessFailed (result_err r) (IsReady last)) is changes.ready;
         card = told.1;
         current = record { df = told.1.tree.entries.master.kind; ef = tt; marks = refl };
       },

@@ -15,7 +15,7 @@ use Rattle.block_chain.specs.declared.layout.TheConstants.{HEADER_PAGE}
 use Rattle.file_tree.specs.declared.layout.TheConstants.{MARK, OLD_END_PAGE, OLD_MARK}
 use Rattle.card_core.specs.declared.memory_format.MemoryFormat.{MemoryFormat}
 use Rattle.card_core.specs.declared.memory_format.MemoryFormat.TheVariants.{One, Two}
-use Rattle.card_core.specs.Cards.{transparent, dedicated, elementary, File, Tree, Pin, Card}
+use Rattle.card_machine.specs.Cards.{transparent, dedicated, elementary, File, Tree, Pin, Card}
 
 -- the words of a page that begins with these, and has one filler behind them
 abbrev pub filled : List ℕ → ℕ → List ℕ
@@ -34,8 +34,8 @@ factory_master = filled (0x01053F00 ∷ 0x00000005 ∷ 0x27180000 ∷ []) 0
 abbrev pub factory_file : List ℕ
 factory_file = filled (0x02052FE2 ∷ 0x00020003 ∷ 0x03110000 ∷ 0 ∷ 0 ∷ 0 ∷ 0 ∷ 0 ∷ 0x000A0000 ∷ 0x00800080 ∷ []) 0
 
--- each PIN: 3 tries, 10 unblocking tries, the value 31 32 33 34 FF FF FF FF, the unblocking value 31 32 33 34 35 36 37 38, and
--- of format 2 its mark
+-- each PIN: 3 tries, 10 unblocking tries, the value 31 32 33 34 FF FF FF FF, the unblocking value 31 32 33 34 35 36 37
+-- 38, and of format 2 its mark
 abbrev pub factory_pin_mark : MemoryFormat → ℕ
 factory_pin_mark One = 0
 factory_pin_mark Two = 1

@@ -1,8 +1,8 @@
--- What is lent to the commands of a card, while it works. No public clause names this.
+-- What is lent to the commands of a card, while it works. No clause of a card's calls names this.
 use Rattle.std.specs.Prelude.{◌≡◌}
 use Rattle.file_tree.specs.Indexes.{IsIndex}
 use Rattle.card_core.specs.declared.lent.Lent.{Lent}
-use Rattle.card_core.specs.Working.{space_in, table_in, IsKept}
+use Rattle.card_machine.specs.Working.{space_in, table_in, IsKept}
 
 -- Its memory and its current files are kept, its counts are those of its free space, and its index is that of its
 -- files.

@@ -1,41 +1,10 @@
--- What is meant: the card and the session, what names reach, one step of the tree machine and its stages, the memory that
--- stands for a card, what calls promise. The laws stand apart.
-pub mod Cards
-pub mod Sessions
-pub mod Reaching
-pub mod Outcomes
-pub mod Attempts
-pub mod Behaviours
-pub mod Lengths
-pub mod Templates
-pub mod Selecting
-pub mod Guards
-pub mod Elementary
-pub mod Binaries
-pub mod Files
-pub mod Records
-pub mod Increasing
-pub mod LifeCycles
-pub mod Pins
-pub mod Commands
-pub mod Steps
-pub mod Stages
-pub mod Spending
-pub mod Comparing
-pub mod Counting
-pub mod Standing
+-- What is meant: what a start does, and each call of a started card; the factory's memory. What a card is, and what a
+-- command makes of it, stands in card_machine.
 pub mod Factory
-pub mod Finding
 pub mod Starting
-pub mod Words
 pub mod Running
 pub mod StartFaults
-pub mod Proper
-pub mod Working
+pub mod ShownSessions
+pub mod StartParts
+pub mod PinParts
 pub mod Lending
-pub mod Changing
-pub mod Stops
-pub mod Served
-pub mod FileGuards
-pub mod RecordGuards
-pub mod laws

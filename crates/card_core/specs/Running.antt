@@ -8,13 +8,13 @@ use Rattle.card_core.specs.declared.card_state.CardState.TheVariants.{Working, F
 use Rattle.card_core.specs.declared.faults.StartFault.{StartFault}
 use Rattle.card_core.specs.declared.faults.StartFault.TheVariants.{PowerLost, Fault, BadJournal, Damaged}
 use Rattle.apdu_core.specs.Asked.{asked}
-use Rattle.card_core.specs.Cards.{Card}
-use Rattle.card_core.specs.Counting.{CountsAnswered}
-use Rattle.card_core.specs.Sessions.{Session, fresh_session}
-use Rattle.card_core.specs.Outcomes.{answer_bytes, only_status}
-use Rattle.card_core.specs.Steps.{carried_out}
-use Rattle.card_core.specs.Standing.{IsAnyCard}
-use Rattle.card_core.specs.Finding.{words_found, found, HasCard}
+use Rattle.card_machine.specs.Cards.{Card}
+use Rattle.card_machine.specs.Counting.{CountsAnswered}
+use Rattle.card_machine.specs.Sessions.{Session, fresh_session}
+use Rattle.card_machine.specs.Outcomes.{answer_bytes, only_status}
+use Rattle.card_machine.specs.Steps.{carried_out}
+use Rattle.card_machine.specs.Standing.{IsAnyCard}
+use Rattle.card_machine.specs.Finding.{words_found, found, HasCard}
 
 -- the board, the session, and what the card can still do; a card that doesn't work has a fresh session
 pub record Running : Type 0 where
@@ -30,8 +30,8 @@ card_found r = found r.facts.words
 abbrev pub memory_failure : List ℕ
 memory_failure = answer_bytes (only_status MEMORY_FAILURE)
 
--- The command is one step of the tree machine: card, session and answer are the step's, and the board had neither cut nor
--- fault. Where a secret was shown and not refused, its comparison was counted, behind a charge.
+-- The command is one step of the tree machine: card, session and answer are the step's, and the board had neither cut
+-- nor fault. Where a secret was shown and not refused, its comparison was counted, behind a charge.
 pub record Steps (old : Running) (command : List ℕ) (new : Running) (answer : List ℕ) : Type 0 where
   pub power : Steady old.facts new.facts
   pub state : new.state ≡ Working

@@ -6,7 +6,7 @@ ghost use Rattle.undo_journal.specs.Memory.{committed, IsReady};
 ghost use Rattle.block_chain.specs.Words.{word};
 ghost use Rattle.block_chain.specs.declared.layout.TheConstants.{HEADER_PAGE};
 ghost use Rattle.nvm_board.specs.declared.board.TheConstants.{PAGE_WORDS};
-ghost use Rattle.card_core.specs.Working.{AreHeaderWords, HoldsPins, TellsCard, TellsHeader};
+ghost use Rattle.card_core.specs.StartParts.{AreHeaderWords, HoldsPins, TellsCard, TellsHeader};
 
 use crate::memory_format::MemoryFormat;
 use block_chain::HEADER_PAGE;
@@ -78,7 +78,8 @@ fn has_pins<B: Board>(store: &mut Store<B>, format: MemoryFormat) -> Result<bool
     }
 }
 
-/// What the words tell of a card, if they are those of one: its header, its PINs, its files and their blocks are looked at.
+/// What the words tell of a card, if they are those of one:
+/// its header, its PINs, its files and their blocks are looked at.
 #[tactic(auto, using(undo_journal::specs::laws::Calls::reads_then))]
 pub(crate) fn find_card<B: Board>(store: &mut Store<B>) -> Result<Option<Checked>, StoreErr>
     requires ready { IsReady store.old }

@@ -5,24 +5,22 @@ ghost use Rattle.undo_journal.specs.Calls.{Reads};
 ghost use Rattle.undo_journal.specs.Memory.{IsReady};
 ghost use Rattle.apdu_core.specs.Fields.{IsInRange};
 ghost use Rattle.apdu_core.specs.Requests.{request_of};
-ghost use Rattle.card_core.specs.Served.{CarriesOut, Serves};
-ghost use Rattle.card_core.specs.Stops.{reply};
+ghost use Rattle.card_machine.specs.Served.{CarriesOut, Serves};
+ghost use Rattle.card_machine.specs.Stops.{reply};
 ghost use Rattle.card_core.specs.Lending.{IsWhole};
-ghost use Rattle.card_core.specs.Working.{card_in, space_in, table_in};
+ghost use Rattle.card_machine.specs.Working.{card_in, space_in, table_in};
 ghost use Rattle.file_tree.specs.Indexes.{IsIndex};
 
-use crate::binary::{read_file, update_file};
-use crate::files::{create_file, delete_file};
-use crate::increasing::increase;
 use crate::layout::CARD_IN_USE;
 use crate::lent::Lent;
-use crate::life_cycles::{change_life_cycle, terminate_card_usage};
 use crate::pins::{change_reference_data, change_requirement, reset_retry_counter, verify};
-use crate::records::{append_record, read_record, search_record, update_record};
-use crate::select::select_file;
-use crate::stop::{Stop, reply};
 use apdu_core::{Answer, Command, Sw};
 use block_chain::HEADER_PAGE;
+use card_contents::{
+    append_record, increase, read_file, read_record, search_record, update_file, update_record,
+};
+use card_files::{change_life_cycle, create_file, delete_file, select_file, terminate_card_usage};
+use card_machine::{Stop, reply};
 use file_tree::STATE_WORD;
 use undo_journal::{Board, PAGE_WORDS, Store, StoreErr};
 

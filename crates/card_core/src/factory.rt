@@ -8,11 +8,11 @@ ghost use Rattle.block_chain.specs.Words.{page_words};
 ghost use Rattle.file_tree.specs.declared.layout.TheConstants.{OLD_END_PAGE};
 ghost use Rattle.undo_journal.specs.Spending.{WritesAtMost};
 ghost use Rattle.card_core.specs.declared.memory_format.MemoryFormat.TheVariants as MemoryFormat;
-ghost use Rattle.card_core.specs.Cards.{card_space};
+ghost use Rattle.card_machine.specs.Cards.{card_space};
 ghost use Rattle.card_core.specs.Factory.{IsFactory, IsWritten, factory_card, factory_space, factory_free_block};
 ghost use Rattle.card_core.specs.Factory.{factory_header, factory_page as factory_page_of, factory_pin_page};
-ghost use Rattle.card_core.specs.Finding.{Finds, found};
-ghost use Rattle.card_core.specs.Standing.{StandsFor, board_blocks};
+ghost use Rattle.card_machine.specs.Finding.{Finds, found};
+ghost use Rattle.card_machine.specs.Standing.{StandsFor, board_blocks};
 
 use crate::layout::CARD_IN_USE;
 use crate::memory_format::MemoryFormat;
@@ -167,23 +167,25 @@ fn write_pages<B: Board>(board: &mut B, format: MemoryFormat, end: u16) -> Resul
     Ok(())
 }
 
-/// Writes the factory's memory to a board, in format 2: its two files, its PINs, and all other blocks of the board free. Then all
-/// blocks but one and 62 entries are free.
+/// Writes the factory's memory to a board, in format 2: its two files, its PINs, and all other blocks of the board
+/// free. Then all blocks but one and 62 entries are free.
 ///
 /// # Errors
-/// What the device answers, with the board: power was off, or was lost; or it failed. The memory then stands for nothing that is
-/// promised.
+/// What the device answers, with the board: power was off, or was lost; or it failed. The memory then stands for
+/// nothing that is promised.
 pub fn format<B: Board>(mut board: B) -> Result<B, (B, DeviceErr)>
     ensures factory { IfOk result (λ b. IsFactory MemoryFormat.Two (B.facts b).words) }
     ensures stands { IfOk result (λ b. StandsFor (B.facts b).words (factory_card (board_blocks (B.facts b).words))) }
     ensures found { IfOk result (λ b. Finds (B.facts b).words (factory_card (board_blocks (B.facts b).words))) }
-    ensures space { IfOk result (λ b. card_space (found (B.facts b).words) ≡ factory_space (board_blocks (B.facts b).words)) }
-    ensures written { IfOk result (λ b. IsWritten MemoryFormat.Two (pages_of (B.facts board).words) (B.facts board).words
-        (B.facts b).words) }
+    ensures space { IfOk result (λ b. card_space (found (B.facts b).words)
+        ≡ factory_space (board_blocks (B.facts b).words)) }
+    ensures written { IfOk result
+        (λ b. IsWritten MemoryFormat.Two (pages_of (B.facts board).words) (B.facts board).words (B.facts b).words) }
     ensures power { IfOk result (λ b. Steady (B.facts board) (B.facts b)) }
     ensures power_err { IfErr result (λ e. Answered {T = Unit {0}} (B.facts board) (B.facts e.0) (Err e.1)) }
     ensures counts { IfOk result (λ b. WritesAtMost (pages_of (B.facts board).words) (B.facts board) (B.facts b)) }
-    ensures counts_err { IfErr result (λ e. WritesAtMost (pages_of (B.facts board).words) (B.facts board) (B.facts e.0)) }
+    ensures counts_err { IfErr result
+        (λ e. WritesAtMost (pages_of (B.facts board).words) (B.facts board) (B.facts e.0)) }
 {
     let end = board.pages();
     match write_factory(&mut board, MemoryFormat::Two, end) {
@@ -192,18 +194,20 @@ pub fn format<B: Board>(mut board: B) -> Result<B, (B, DeviceErr)>
     }
 }
 
-/// Writes the factory's memory to the first 1,024 pages of a board, in format 1, and leaves the pages behind them as they are. The
-/// card has all blocks of the board from its first start on.
+/// Writes the factory's memory to the first 1,024 pages of a board, in format 1, and leaves the pages behind them as
+/// they are. The card has all blocks of the board from its first start on.
 ///
 /// # Errors
-/// What the device answers, with the board: power was off, or was lost; or it failed. The memory then stands for nothing that is
-/// promised.
+/// What the device answers, with the board: power was off, or was lost; or it failed. The memory then stands for
+/// nothing that is promised.
 pub fn format_old<B: Board>(mut board: B) -> Result<B, (B, DeviceErr)>
     ensures factory { IfOk result (λ b. IsFactory MemoryFormat.One (B.facts b).words) }
     ensures stands { IfOk result (λ b. StandsFor (B.facts b).words (factory_card (board_blocks (B.facts b).words))) }
     ensures found { IfOk result (λ b. Finds (B.facts b).words (factory_card (board_blocks (B.facts b).words))) }
-    ensures space { IfOk result (λ b. card_space (found (B.facts b).words) ≡ factory_space (board_blocks (B.facts b).words)) }
-    ensures written { IfOk result (λ b. IsWritten MemoryFormat.One OLD_END_PAGE (B.facts board).words (B.facts b).words) }
+    ensures space { IfOk result (λ b. card_space (found (B.facts b).words)
+        ≡ factory_space (board_blocks (B.facts b).words)) }
+    ensures written { IfOk result
+        (λ b. IsWritten MemoryFormat.One OLD_END_PAGE (B.facts board).words (B.facts b).words) }
     ensures power { IfOk result (λ b. Steady (B.facts board) (B.facts b)) }
     ensures power_err { IfErr result (λ e. Answered {T = Unit {0}} (B.facts board) (B.facts e.0) (Err e.1)) }
     ensures counts { IfOk result (λ b. WritesAtMost OLD_END_PAGE (B.facts board) (B.facts b)) }

@@ -3,24 +3,25 @@ ghost use Rattle.std.specs.Prelude.{◌≡◌, ◌≤◌, ◌+◌, ◌/◌, ◌+
 ghost use Rattle.undo_journal.specs.Spending.{transaction_writes};
 ghost use Rattle.block_chain.specs.Changes.{touched_blocks, touched_words};
 ghost use Rattle.ef_body.specs.Changes.{update_writes};
-ghost use Rattle.card_core.specs.declared.machine.TheConstants.{COMMAND_WRITES};
-ghost use Rattle.card_core.specs.Spending.{writes_of};
+ghost use Rattle.card_machine.specs.declared.spending.TheConstants.{COMMAND_WRITES};
+ghost use Rattle.card_machine.specs.Spending.{writes_of};
 ghost use Rattle.block_chain.specs.declared.layout.TheConstants.{HEADER_PAGE};
-ghost use Rattle.file_tree.specs.declared.layout.TheConstants.{MARK, MARK_WORD, OLD_END_PAGE, OLD_MARK, PAGES_WORD, STATE_WORD};
+ghost use Rattle.file_tree.specs.declared.layout.TheConstants.{MARK, MARK_WORD, OLD_END_PAGE, OLD_MARK};
+ghost use Rattle.file_tree.specs.declared.layout.TheConstants.{PAGES_WORD, STATE_WORD};
 ghost use Rattle.pin_store.specs.declared.layout.TheConstants.{FIRST_PIN_PAGE, PINS};
 ghost use Rattle.nvm_board.specs.Facts.{IsMemory};
 ghost use Rattle.pin_store.specs.declared.layout.TheConstants.{PIN_MARK_WORD};
 ghost use Rattle.apdu_core.specs.OfBytes.{AreBytes};
-ghost use Rattle.card_core.specs.Cards.{Card};
-ghost use Rattle.card_core.specs.Finding.{Finds, HasCard, found};
-ghost use Rattle.card_core.specs.Outcomes.{answer_bytes};
-ghost use Rattle.card_core.specs.Standing.{StandsFor};
-ghost use Rattle.card_core.specs.Proper.{IsAnswer, IsProper};
-ghost use Rattle.card_core.specs.Sessions.{Session};
+ghost use Rattle.card_machine.specs.Cards.{Card};
+ghost use Rattle.card_machine.specs.Finding.{Finds, HasCard, found};
+ghost use Rattle.card_machine.specs.Outcomes.{answer_bytes};
+ghost use Rattle.card_machine.specs.Standing.{StandsFor};
+ghost use Rattle.card_machine.specs.Proper.{IsAnswer, IsProper};
+ghost use Rattle.card_machine.specs.Sessions.{Session};
 ghost use Rattle.apdu_core.specs.Requests.{Request};
-ghost use Rattle.card_core.specs.Stages.{IsStage, commits_served};
-ghost use Rattle.card_core.specs.Steps.{carried_out};
-ghost use Rattle.card_core.specs.Words.{alone_served, gated_served};
+ghost use Rattle.card_machine.specs.Stages.{IsStage, commits_served};
+ghost use Rattle.card_machine.specs.Steps.{carried_out};
+ghost use Rattle.card_machine.specs.Words.{alone_served, gated_served};
 
 /// One card at most is found in a memory, whatever its journal holds: what is found is a function of the words.
 pub fn one_card()
@@ -46,7 +47,8 @@ pub fn step_keeps_proper()
 /// No command changes how many blocks a card has, nor does any of its stages: it is one number for a whole run.
 pub fn steps_keep_blocks()
     ensures step { (c : Card) (s : Session) (command : List ℕ) → (carried_out c s command).card.blocks ≡ c.blocks }
-    ensures stages { (c : Card) (s : Session) (command : List ℕ) (d : Card) → IsStage c s command d → d.blocks ≡ c.blocks }
+    ensures stages { (c : Card) (s : Session) (command : List ℕ) (d : Card)
+        → IsStage c s command d → d.blocks ≡ c.blocks }
 {}
 
 /// The answer of a proper card to a command of bytes is 2 to 258 bytes.
@@ -55,8 +57,8 @@ pub fn answers_are_short()
         → IsAnswer (answer_bytes (carried_out c s command).response) }
 {}
 
-/// No command makes more than 700 device writes. UPDATE BINARY of n bytes touches at most n / 4 words, rounded up, and one more;
-/// for each eight of these it makes three at most, one more for each sixtieth byte, rounded up, and one.
+/// No command makes more than 700 device writes. UPDATE BINARY of n bytes touches at most n / 4 words, rounded up, and
+/// one more; for each eight of these it makes three at most, one more for each sixtieth byte, rounded up, and one.
 pub fn commands_write_little()
     ensures most { (command : List ℕ) → writes_of command ≤ COMMAND_WRITES }
     ensures number { COMMAND_WRITES ≡ 700 }
@@ -65,16 +67,17 @@ pub fn commands_write_little()
         → transaction_writes (touched_words offset n) (touched_blocks offset n) ≤ update_writes n }
 {}
 
-/// The commits of a request are those that words of their own make, one after another, and then those of which the gate is the
-/// word.
+/// The commits of a request are those that words of their own make, one after another,
+/// and then those of which the gate is the word.
 pub fn commits_by_their_words()
     ensures { (c : Card) (s : Session) (request : Request)
         → alone_served c s request ++ gated_served c s request ≡ commits_served c s request }
 {}
 
-/// The numbers of the header and of the PINs, as a reader sees them: in page 0 the mark, "TSC1" of format 1 and "TSC2" of format
-/// 2, in word 0, the state in word 2, and the page where the blocks of format 2 end in word 3, those of format 1 end at page
-/// 1,024; and the pages of 8 PINs from page 65 on, whose mark in format 2 is word 6. Those of file entries and blocks are laws of file_tree and block_chain.
+/// The numbers of the header and of the PINs, as a reader sees them: in page 0 the mark, "TSC1" of format 1 and "TSC2"
+/// of format 2, in word 0, the state in word 2, and the page where the blocks of format 2 end in word 3, those of
+/// format 1 end at page 1,024; and the pages of 8 PINs from page 65 on, whose mark in format 2 is word 6. Those of file
+/// entries and blocks are laws of file_tree and block_chain.
 pub fn layout()
     ensures mark { (OLD_MARK ≡ 0x54534331) × (MARK ≡ 0x54534332) }
     ensures header { (HEADER_PAGE ≡ 0) × (MARK_WORD ≡ 0) × (STATE_WORD ≡ 2) × (PAGES_WORD ≡ 3) }

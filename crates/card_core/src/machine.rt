@@ -1,6 +1,6 @@
 //! A started card and its commands.
-ghost use Rattle.std.specs.Prelude.{◌≡◌, ◌⊎◌, ◌≤◌, ◌+◌, ◌-◌, Some, true, false, [], length, IsOk, IsErr, OnOk, OnErr, IfOk};
-ghost use Rattle.std.specs.Prelude.{IfErr, IsErrOf, Ok, Err, MatchOption, MatchResult, ℕ, List};
+ghost use Rattle.std.specs.Prelude.{◌≡◌, ◌⊎◌, ◌≤◌, ◌+◌, ◌-◌, Some, true, false, [], length, IsOk, IsErr, OnOk};
+ghost use Rattle.std.specs.Prelude.{OnErr, IfOk, IfErr, IsErrOf, Ok, Err, MatchOption, MatchResult, ℕ, List};
 ghost use Rattle.nvm_board.specs.Aims.{due_of};
 ghost use Rattle.undo_journal.specs.declared.error.StoreErr.TheVariants as StoreErr;
 ghost use Rattle.card_core.specs.declared.faults.StartFault.TheVariants as StartFault;
@@ -10,29 +10,27 @@ ghost use Rattle.ef_body.specs.Changes.{update_writes};
 ghost use Rattle.apdu_core.specs.Asked.{asked};
 ghost use Rattle.apdu_core.specs.Requests.{update_binary};
 ghost use Rattle.apdu_core.specs.declared.binary.Target.{Target};
-ghost use Rattle.card_core.specs.Comparing.{comparisons, ComparesAsked};
-ghost use Rattle.card_core.specs.Cards.{card_space};
-ghost use Rattle.card_core.specs.Finding.{HasCard, FindsAgain};
+ghost use Rattle.card_machine.specs.Comparing.{comparisons, ComparesAsked};
+ghost use Rattle.card_machine.specs.Cards.{card_space};
+ghost use Rattle.card_machine.specs.Finding.{HasCard, FindsAgain};
 ghost use Rattle.card_core.specs.Starting.{IsNewFound, KeepsFormat, KeepsUnlessOld, TakesAllPages, power_on_writes};
 ghost use Rattle.card_core.specs.Running.{Starts, StartStopsBy, Steps, FailsIn, IsCutIn, card_found, memory_failure};
-ghost use Rattle.card_core.specs.Spending.{writes_of};
-ghost use Rattle.card_core.specs.Stages.{IsStage, ChangesNothing};
-ghost use Rattle.card_core.specs.Words.{StandsAsked};
-ghost use Rattle.card_core.specs.Outcomes.{answer_bytes};
+ghost use Rattle.card_machine.specs.Spending.{writes_of};
+ghost use Rattle.card_machine.specs.Stages.{IsStage, ChangesNothing};
+ghost use Rattle.card_machine.specs.Words.{StandsAsked};
+ghost use Rattle.card_machine.specs.Outcomes.{answer_bytes};
+ghost use Rattle.card_machine.specs.declared.spending.TheConstants.{COMMAND_WRITES};
 
 use crate::card_state::CardState;
 use crate::commands::carry_out;
-use crate::current::Current;
 use crate::faults::{PowerLost, StartFault};
 use crate::lent::Lent;
 use crate::renewing::survey_card;
 use apdu_core::{Answer, Sw};
+use card_machine::Current;
 use file_tree::{FreeSpace, Survey};
 use std::marker::Model;
 use undo_journal::{Armed, Board, Faultless, Store, StoreErr};
-
-/// The most device writes of a command.
-pub const COMMAND_WRITES: u16 = 700;
 
 /// A started card: its memory, its session, and what it can still do.
 #[derive(Drop)]
@@ -44,17 +42,18 @@ pub struct Card<B: Board> {
 impl<B: Board> Model for Card<B> {
     ghost use Rattle.card_core.specs.Running.{Running};
     ghost use Rattle.std.specs.Coded.{codes};
-    ghost use Rattle.card_core.specs.Sessions.{session_code};
+    ghost use Rattle.card_machine.specs.Sessions.{session_code};
 
     ghost Value = { Running };
 
     ghost coded = { Prim.hlevel (codes, session_code) };
 
     ghost use Rattle.std.specs.Prelude.{◌≡◌, true};
-    ghost use Rattle.card_core.specs.Finding.{HasCard};
+    ghost use Rattle.card_machine.specs.Finding.{HasCard};
     ghost use Rattle.card_core.specs.declared.card_state.CardState.TheVariants.{Working, Dark};
     ghost use Rattle.card_core.specs.Lending.{IsWhole};
-    ghost use Rattle.card_core.specs.Working.{session_while, table_in};
+    ghost use Rattle.card_core.specs.ShownSessions.{session_while};
+    ghost use Rattle.card_machine.specs.Working.{table_in};
 
     ghost view = { λ c. record {
       facts = c.lent.store.facts;
@@ -67,30 +66,30 @@ impl<B: Board> Model for Card<B> {
 }
 
 impl<B: Board> Card<B> {
-    /// Starts the card that the memory stands for, its journal undone, in a fresh session. A memory of format 1 becomes one of
-    /// format 2 that has all pages of its board. At every exit the card that is found is what it was, in the format that it
-    /// had or in format 2, so that a start may itself be cut any number of times; where no pair of the journal counts, and
-    /// there is no card of format 1, it changes no word and writes nothing.
+    /// Starts the card that the memory stands for, its journal undone, in a fresh session. A memory of format 1 becomes
+    /// one of format 2 that has all pages of its board. At every exit the card that is found is what it was, in the
+    /// format that it had or in format 2, so that a start may itself be cut any number of times; where no pair of the
+    /// journal counts, and there is no card of format 1, it changes no word and writes nothing.
     ///
     /// # Errors
-    /// Why the card doesn't start, with the board: power was off, or was lost; the device failed; the journal can't be undone;
-    /// or the memory, its journal undone, stands for no card.
+    /// Why the card doesn't start, with the board: power was off, or was lost; the device failed; the journal can't be
+    /// undone; or the memory, its journal undone, stands for no card.
     pub fn start(board: B) -> Result<Card<B>, (B, StartFault)>
         ensures started { IfOk result (Starts (B.facts board)) }
         ensures stopped { IfErr result (λ e. StartStopsBy e.1 (B.facts board) (B.facts e.0)) }
         ensures has_card { IfOk result (λ c. HasCard c.facts.words) }
         ensures found { IfOk result (λ c. FindsAgain (B.facts board).words c.facts.words) }
         ensures found_err { IfErr result (λ e. FindsAgain (B.facts board).words (B.facts e.0).words) }
-        // The card is of format 2 then, and where it wasn't it has got all pages of the board; a start that stops leaves it in
-        // its format, or in format 2.
+        // The card is of format 2 then, and where it wasn't it has got all pages of the board; a start that stops
+        // leaves it in its format, or in format 2.
         ensures format { IfOk result (λ c. IsNewFound c.facts.words) }
         ensures all_pages { IfOk result (λ c. TakesAllPages (B.facts board).words c.facts.words) }
         ensures format_err { IfErr result (λ e. KeepsFormat (B.facts board).words (B.facts e.0).words) }
         ensures shut { IfOk result (λ c. KeepsUnlessOld (B.facts board) c.facts) }
         ensures shut_err { IfErr result (λ e. KeepsUnlessOld (B.facts board) (B.facts e.0)) }
         ensures writes { IfOk result (λ c. WritesAtMost (power_on_writes (B.facts board)) (B.facts board) c.facts) }
-        ensures writes_err { IfErr result (λ e. WritesAtMost (power_on_writes (B.facts board)) (B.facts board) (B.facts
-            e.0)) }
+        ensures writes_err { IfErr result
+            (λ e. WritesAtMost (power_on_writes (B.facts board)) (B.facts board) (B.facts e.0)) }
     {
         let mut store = match Store::open(board) {
             Ok(store) => store,
@@ -119,16 +118,17 @@ impl<B: Board> Card<B> {
         self.state
     }
 
-    /// The free space of the card, from counts that each command keeps: blocks and file entries. It is told as long as the
-    /// card works.
+    /// The free space of the card, from counts that each command keeps: blocks and file entries.
+    /// It is told as long as the card works.
     pub fn free(&self) -> FreeSpace
         ensures { self.now.state ≡ CardState.Working → result ≡ card_space (card_found self.now) }
     {
         self.lent.free
     }
 
-    /// Carries out the bytes of a command (ISO/IEC 7816-4, clause 5), and puts its answer into the buffer, whatever that held.
-    /// A refusal is an answer too. A fault of the device is answered 6581, here and from then on, until the next start.
+    /// Carries out the bytes of a command (ISO/IEC 7816-4, clause 5), and puts its answer into the buffer, whatever
+    /// that held. A refusal is an answer too. A fault of the device is answered 6581, here and from then on,
+    /// until the next start.
     ///
     /// # Errors
     /// `PowerLost` where power is lost, or was lost in an earlier command: nothing is answered, until the next start.
@@ -148,8 +148,8 @@ impl<B: Board> Card<B> {
         ensures dark { self.old.state ≡ CardState.Dark → IsErr result × (self.new ≡ self.old) × (answer.new.items
             ≡ []) }
         ensures unlit { OnErr result (self.new.facts.dark ≡ true) }
-        // While the gate is not 0 the card before the transaction is found; with it 0 that word decides, and for a charge and
-        // for what VERIFY renews the word of the tries.
+        // While the gate is not 0 the card before the transaction is found; with it 0 that word decides, and for a
+        // charge and for what VERIFY renews the word of the tries.
         ensures stands { self.old.state ≡ CardState.Working
             → StandsAsked (card_found self.old) self.old.session (asked command.now) self.new.facts.words }
         ensures writes { self.new.facts.writes ≤ self.old.facts.writes + COMMAND_WRITES }

@@ -1,5 +1,5 @@
-//! Commands on PINs: VERIFY, CHANGE REFERENCE DATA, RESET RETRY COUNTER, DISABLE and ENABLE VERIFICATION REQUIREMENT (ISO/IEC
-//! 7816-4, 11.5 and 11.6). A try is taken away, lastingly, before anything is compared.
+//! Commands on PINs: VERIFY, CHANGE REFERENCE DATA, RESET RETRY COUNTER, DISABLE and ENABLE VERIFICATION REQUIREMENT
+//! (ISO/IEC 7816-4, 11.5 and 11.6). A try is taken away, lastingly, before anything is compared.
 ghost use Rattle.std.specs.Prelude.{◌≡◌, ◌⊎◌, ◌<◌, ◌+◌, [], Some, option_map, IfOk, OnOk, IsSome};
 ghost use Rattle.std.specs.Result.{result_err};
 ghost use Rattle.nvm_board.specs.declared.board.TheConstants.{SECRETS};
@@ -7,20 +7,20 @@ ghost use Rattle.undo_journal.specs.Commits.{StaysShut};
 ghost use Rattle.undo_journal.specs.Calls.{OnlyReads, Reads, Changes};
 ghost use Rattle.undo_journal.specs.Memory.{committed, IsReady};
 ghost use Rattle.card_rules.specs.Pins.{IsPinNumber};
-ghost use Rattle.apdu_core.specs.Requests.{change_reference_data as changing, reset_retry_counter as resetting, verify as verifying};
-ghost use Rattle.apdu_core.specs.Requests.{change_requirement as requiring};
+ghost use Rattle.apdu_core.specs.Requests.{change_reference_data as changing, reset_retry_counter as resetting};
+ghost use Rattle.apdu_core.specs.Requests.{verify as verifying, change_requirement as requiring};
 ghost use Rattle.pin_store.specs.Pages.{ArePinPages};
 ghost use Rattle.pin_store.specs.Pins.{Pin, tries_left};
 ghost use Rattle.pin_store.specs.Trials.{pin_in, Charges};
-ghost use Rattle.card_core.specs.Outcomes.{first_applying};
-ghost use Rattle.card_core.specs.Pins.{is_enabled_by, tries_told, unusable_by};
-ghost use Rattle.card_core.specs.Served.{Serves};
-ghost use Rattle.card_core.specs.Stops.{failure, reply, Checks, Finds};
-ghost use Rattle.card_core.specs.Working.{end_of_attempt, refused_use, use_refusals, IsKept};
+ghost use Rattle.card_machine.specs.Outcomes.{first_applying};
+ghost use Rattle.card_machine.specs.Pins.{is_enabled_by, tries_told, unusable_by};
+ghost use Rattle.card_machine.specs.Served.{Serves};
+ghost use Rattle.card_machine.specs.Stops.{failure, reply, Checks, Finds};
+ghost use Rattle.card_core.specs.PinParts.{end_of_attempt, refused_use, use_refusals};
+ghost use Rattle.card_machine.specs.Working.{IsKept};
 
-use crate::current::{Current, Shown};
-use crate::stop::Stop;
 use apdu_core::{Replacement, RequirementChange, Sw};
+use card_machine::{Current, Shown, Stop};
 use pin_store::{
     Charged, Outcome, PINS, change, charge, is_enabled, reset_counter, set_enabled, settle, tries,
 };
@@ -47,8 +47,8 @@ impl Usable {
     }
 }
 
-/// VERIFY: the PIN is verified where its value is shown. Without data the tries that are left are told. The status word is the
-/// result.
+/// VERIFY: the PIN is verified where its value is shown. Without data the tries that are left are told.
+/// The status word is the result.
 pub(crate) fn verify<B: Board>(
     store: &mut Store<B>,
     current: &mut Current,
@@ -66,8 +66,8 @@ pub(crate) fn verify<B: Board>(
     }
 }
 
-/// CHANGE REFERENCE DATA: a new value takes the place of the one that is shown, and the PIN is verified. The status word is the
-/// result.
+/// CHANGE REFERENCE DATA: a new value takes the place of the one that is shown, and the PIN is verified.
+/// The status word is the result.
 pub(crate) fn change_reference_data<B: Board>(
     store: &mut Store<B>,
     current: &mut Current,
@@ -76,8 +76,8 @@ pub(crate) fn change_reference_data<B: Board>(
 ) -> Result<Sw, Stop>
     requires kept { IsKept store.old current.old }
     requires pin { IsPinNumber pin }
-    ensures { Serves (changing pin values.entry.shown.now values.entry.new.now) store.old current.old store.new current.new []
-        (reply result) }
+    ensures { Serves (changing pin values.entry.shown.now values.entry.new.now) store.old current.old store.new
+        current.new [] (reply result) }
 {
     let charged = take_try(store, pin - 1, Usable::WhileEnabled)?;
     let outcome = change(store, charged, values.shown, values.new)?;
@@ -85,8 +85,9 @@ pub(crate) fn change_reference_data<B: Board>(
     Ok(status_of(outcome))
 }
 
-/// RESET RETRY COUNTER: where the unblocking value is shown, a new value takes the place of the old one, all tries are there
-/// again, and the PIN is verified. Without data the unblocking tries that are left are told. The status word is the result.
+/// RESET RETRY COUNTER: where the unblocking value is shown, a new value takes the place of the old one, all tries are
+/// there again, and the PIN is verified. Without data the unblocking tries that are left are told.
+/// The status word is the result.
 pub(crate) fn reset_retry_counter<B: Board>(
     store: &mut Store<B>,
     current: &mut Current,
@@ -104,8 +105,8 @@ pub(crate) fn reset_retry_counter<B: Board>(
     }
 }
 
-/// DISABLE and ENABLE VERIFICATION REQUIREMENT: where the value of the PIN is shown, its verification is no longer required, or is
-/// again, and the PIN is verified. The status word is the result.
+/// DISABLE and ENABLE VERIFICATION REQUIREMENT: where the value of the PIN is shown, its verification is no longer
+/// required, or is again, and the PIN is verified. The status word is the result.
 pub(crate) fn change_requirement<B: Board>(
     store: &mut Store<B>,
     current: &mut Current,
@@ -169,8 +170,8 @@ fn reset_value<B: Board>(
 ) -> Result<Sw, Stop>
     requires kept { IsKept store.old current.old }
     requires pin { IsPinNumber pin }
-    ensures { Serves (resetting pin (Some (values.entry.shown.now, values.entry.new.now))) store.old current.old store.new
-        current.new [] (reply result) }
+    ensures { Serves (resetting pin (Some (values.entry.shown.now, values.entry.new.now))) store.old current.old
+        store.new current.new [] (reply result) }
 {
     let charged = take_try(store, PINS + (pin - 1), Usable::InAnyCase)?;
     let outcome = reset_counter(store, charged, values.shown, values.new)?;

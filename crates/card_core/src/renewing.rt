@@ -8,9 +8,9 @@ ghost use Rattle.file_tree.specs.Formats.{block_count, is_format_2};
 ghost use Rattle.file_tree.specs.Spaces.{free_space};
 ghost use Rattle.file_tree.specs.Trees.{tree_of};
 ghost use Rattle.migration.specs.Migrating.{IsMigrated, Migrates, migration_writes};
-ghost use Rattle.card_core.specs.Standing.{IsOldCard, card_of};
-ghost use Rattle.card_core.specs.Cards.{card_space};
-ghost use Rattle.card_core.specs.Working.{TellsSurvey};
+ghost use Rattle.card_machine.specs.Standing.{IsOldCard, card_of};
+ghost use Rattle.card_machine.specs.Cards.{card_space};
+ghost use Rattle.card_core.specs.StartParts.{TellsSurvey};
 
 use crate::check::find_card;
 use crate::memory_format::MemoryFormat;
@@ -18,7 +18,8 @@ use file_tree::{FreeSpace, OLD_END_PAGE, Survey};
 use migration::migrate;
 use undo_journal::{Board, Store, StoreErr};
 
-/// A memory of format 1 becomes one of format 2. What is free grows by the blocks that it gains, one a page from page 1,024 on.
+/// A memory of format 1 becomes one of format 2. What is free grows by the blocks that it gains,
+/// one a page from page 1,024 on.
 fn renew<B: Board>(store: &mut Store<B>, free: FreeSpace) -> Result<FreeSpace, StoreErr>
     requires ready { IsReady store.old }
     requires card { IsOldCard (committed store.old) }
@@ -26,7 +27,8 @@ fn renew<B: Board>(store: &mut Store<B>, free: FreeSpace) -> Result<FreeSpace, S
     ensures any_exit { Migrates (committed store.old) (committed store.new) }
     ensures done { OnOk result (IsMigrated (committed store.old) (committed store.new)) }
     ensures free { IfOk result (λ grown. grown ≡ card_space (card_of (committed store.new))) }
-    ensures store { Changes (migration_writes (pages_of (committed store.old))) store.old store.new (result_err result) }
+    ensures store { Changes (migration_writes (pages_of (committed store.old))) store.old
+        store.new (result_err result) }
 {
     migrate(store)?;
     Ok(FreeSpace {
@@ -43,8 +45,8 @@ pub(crate) fn survey_card<B: Board>(store: &mut Store<B>) -> Result<Option<Surve
         ⊎ (IsOldCard (committed store.old) × Migrates (committed store.old) (committed store.new)) }
     ensures card { IfOk result (TellsSurvey (committed store.old) (committed store.new)) }
     ensures idle { ¬ IsOldCard (committed store.old) → OnlyReads store.old store.new }
-    ensures store { Changes (if is_format_2 (committed store.old) then 0 else migration_writes (pages_of (committed
-        store.old))) store.old store.new (result_err result) }
+    ensures store { Changes (if is_format_2 (committed store.old) then 0
+        else migration_writes (pages_of (committed store.old))) store.old store.new (result_err result) }
 {
     let Some(found) = find_card(store)? else {
         return Ok(None);

@@ -1,4 +1,5 @@
-//! Starts that fail: at a journal that can't be undone, whose memory is left as it is, and at each call of the device in turn.
+//! Starts that fail: at a journal that can't be undone, whose memory is left as it is,
+//! and at each call of the device in turn.
 
 use crate::fixtures::formatted;
 use card_core::{Card, StartFault};
@@ -50,8 +51,8 @@ fn failed_starts(board: FaultBoard) -> Option<u32> {
 #[test]
 fn a_failed_call_stops_a_start(rt: HostRuntime) -> Result<(), Fail> {
     let board = formatted(FaultBoard::on_calls(rt.alloc())?)?;
-    // It reads the gate, four words of the header, two of them twice, the first word of each entry, eleven of the two that
-    // a file has, three of each PIN, and the link of each block.
+    // It reads the gate, four words of the header, two of them twice, the first word of each entry, eleven of the two
+    // that a file has, three of each PIN, and the link of each block.
     assert!(rt; failed_starts(board) == Some(1 + 6 + 64 + 11 * 2 + 3 * 8 + 896));
     Ok(())
 }

@@ -24,8 +24,8 @@ pub record KeepsRest (m after : List ℕ) : Type 0 where
   pub words : (page place : ℕ) → place < PAGE_WORDS → (IsEntryPage page → ⊥) → page < FIRST_BLOCK_PAGE
       → (page ≢ HEADER_PAGE) ⊎ (place ≢ FREE_HEAD_WORD) → word after page place ≡ word m page place
 
--- The words that the tree depends on stay: those of file entries and of blocks, the one that names the first free block,
--- and those that tell the format.
+-- The words that the tree depends on stay: those of file entries and of blocks, the one that names the first free
+-- block, and those that tell the format.
 pub record KeepsTree (m after : List ℕ) : Type 0 where
   pub entries : (page place : ℕ) → 1 ≤ page → page < 65 → place < PAGE_WORDS
       → word after page place ≡ word m page place
@@ -34,7 +34,8 @@ pub record KeepsTree (m after : List ℕ) : Type 0 where
 
 -- a file with bytes put in place of its own from an offset on
 abbrev pub with_overwritten : File → ℕ → List ℕ → File
-with_overwritten file offset bytes = record file { kind = with_bytes file.kind (overwrite (bytes_of file.kind) offset bytes) }
+with_overwritten file offset bytes =
+    record file { kind = with_bytes file.kind (overwrite (bytes_of file.kind) offset bytes) }
 
 -- The bytes of an entry's file are overwritten, and no other file is other.
 pub record Rewrites (m : List ℕ) (e offset : ℕ) (bytes after : List ℕ) : Type 0 where

@@ -83,8 +83,8 @@ head_told first second =
     if first == 0 then head_of free_entry else
     record { kind = byte_of first 0; life = byte_of first 1; parent = byte_of second 0 }
 
--- the state that a life cycle status byte tells, and the state of an entry's file (By the rules on entries the byte stands for
--- a state.)
+-- the state that a life cycle status byte tells, and the state of an entry's file (By the rules on
+-- entries the byte stands for a state.)
 abbrev pub state_told : ℕ → LifeCycle
 state_told byte = unwrap_or (life_cycle_at byte) Activated
 

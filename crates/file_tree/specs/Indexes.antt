@@ -1,5 +1,6 @@
 -- The index of a tree: in which entry each file is, by the entry of its parent and its identifier.
-use Rattle.std.specs.Prelude.{◌≡◌, ◌≢◌, ◌<◌, ℕ, if◌then◌else◌, List, [], ◌∷◌, ◌++◌, All, Contains, length, Option, None, Some}
+use Rattle.std.specs.Prelude.{◌≡◌, ◌≢◌, ◌<◌, ℕ, if◌then◌else◌, List, [], ◌∷◌, ◌++◌, All, Contains, length, Option}
+use Rattle.std.specs.Prelude.{None, Some}
 use Rattle.file_tree.specs.declared.layout.TheConstants.{ENTRIES}
 use Rattle.file_tree.specs.declared.entry.Entry.{Entry}
 use Rattle.file_tree.specs.declared.index.Place.{Place}

@@ -13,10 +13,8 @@ pub mod Trees
 pub mod Changes
 pub mod Adding
 pub mod NewFiles
-pub mod Creations
 pub mod Parts
-pub mod CreationParts
-pub mod DeletionParts
+pub mod SubtreeParts
 pub mod Keys
 pub mod Indexes
 pub mod Surveys

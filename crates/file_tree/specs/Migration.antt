@@ -5,8 +5,8 @@ use Rattle.block_chain.specs.Words.{word}
 use Rattle.block_chain.specs.declared.layout.TheConstants.{HEADER_PAGE, FREE_HEAD_WORD, FIRST_BLOCK_PAGE}
 use Rattle.file_tree.specs.declared.layout.TheConstants.{MARK_WORD, PAGES_WORD, MARK, OLD_END_PAGE, STATE_WORD}
 
--- The header has the mark of format 2, names this page as the end of the blocks, and page 1,024 as the first free block, if
--- there are more blocks than before; the state, the entries and the blocks are as they were.
+-- The header has the mark of format 2, names this page as the end of the blocks, and page 1,024 as the first free
+-- block, if there are more blocks than before; the state, the entries and the blocks are as they were.
 pub record Renames (end : ℕ) (m after : List ℕ) : Type 0 where
   pub size : length after ≡ length m
   pub mark : word after HEADER_PAGE MARK_WORD ≡ MARK

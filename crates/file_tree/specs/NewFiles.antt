@@ -32,8 +32,10 @@ new_records records = replicate records.existing (replicate records.record_lengt
 abbrev pub new_kind : FileKind → Option ℕ → Kind
 new_kind (kinds.Df name) short = dedicated name
 new_kind (kinds.Transparent told size) short = elementary short (transparent (replicate size blank))
-new_kind (kinds.Linear told records) short = elementary short (linear records.record_length (capacity records) (new_records records))
-new_kind (kinds.Cyclic told records) short = elementary short (cyclic records.record_length (capacity records) (new_records records))
+new_kind (kinds.Linear told records) short =
+    elementary short (linear records.record_length (capacity records) (new_records records))
+new_kind (kinds.Cyclic told records) short =
+    elementary short (cyclic records.record_length (capacity records) (new_records records))
 
 abbrev pub new_file : Fcp → Option ℕ → File
 new_file fcp short = record { life = fcp.life_cycle; rule = fcp.rule; kind = new_kind fcp.kind short }
@@ -42,8 +44,8 @@ new_file fcp short = record { life = fcp.life_cycle; rule = fcp.rule; kind = new
 abbrev pub low_bits : ℕ → ℕ
 low_bits identifier = identifier % 32
 
--- The short identifier of a new file in a dedicated file: the one that is given, or none. Where nothing is said of it, the
--- low five bits of the identifier, if they are 1 to 30 and no other child has them.
+-- The short identifier of a new file in a dedicated file: the one that is given, or none. Where nothing is said of it,
+-- the low five bits of the identifier, if they are 1 to 30 and no other child has them.
 abbrev pub short_for : Tree → Path → ℕ → ShortIdentifier → Option ℕ
 short_for tree df identifier Empty = None
 short_for tree df identifier (Given n) = Some n
@@ -66,8 +68,8 @@ abbrev pub has_no_room : ℕ → Tree → FileKind → Bool
 has_no_room n tree kind =
     ((free_space n tree).entries == 0) || nat_lt (free_space n tree).blocks (blocks_for (size_of_kind kind))
 
--- why a name of the file is taken: its identifier is a child's, its name a file's, or the short identifier that is given
--- a child's
+-- why a name of the file is taken: its identifier is a child's, its name a file's,
+-- or the short identifier that is given a child's
 abbrev pub taken_refusal : Tree → Path → Fcp → Option Sw
 taken_refusal tree df fcp =
     if exists tree (df ++ fcp.identifier ∷ []) then Some FILE_EXISTS else

@@ -73,7 +73,8 @@ TellsNamed t name (Some f) = IsNamed t name f
 unfoldable pub barred_up : List Entry → ℕ → ℕ → Bool
 barred_up t zero e = false
 barred_up t (suc n) e =
-    if e == 0 then false else (bars (life_told (entry_in t (entry_in t e).parent)) || barred_up t n (entry_in t e).parent)
+    if e
+    == 0 then false else (bars (life_told (entry_in t (entry_in t e).parent)) || barred_up t n (entry_in t e).parent)
 
 -- A word tells the kind and the identifier of an entry, and another state.
 pub record TellsLife (x : Entry) (state w : ℕ) : Type 0 where

@@ -1,5 +1,5 @@
--- Which file a name, a path, two bytes or a short identifier name from a current dedicated file (ISO/IEC 7816-4, 7.3.1 and
--- 11.2.2).
+-- Which file a name, a path, two bytes or a short identifier name from a current dedicated file
+-- (ISO/IEC 7816-4, 7.3.1 and 11.2.2).
 use Rattle.std.specs.Prelude.{ℕ, ◌≡◌, ◌⊎◌, ◌==◌, Bool, true, false, not, ◌&&◌, List, [], ◌∷◌, ◌++◌, length, map, find}
 use Rattle.std.specs.Prelude.{Option, None, Some, option_map}
 use Rattle.std.specs.Option.{option_map_or}
@@ -43,8 +43,8 @@ is_named name (dedicated None) = false
 is_named name (dedicated (Some other)) = eq_by_cmp (slice_cmp nat_cmp) other name
 is_named name (elementary short body) = false
 
--- What SELECT names a file by: as the master file; by two bytes; as the parent of the current dedicated file; by the name
--- of a dedicated file; by the path from below the master file, or from below the current dedicated file.
+-- What SELECT names a file by: as the master file; by two bytes; as the parent of the current dedicated file; by the
+-- name of a dedicated file; by the path from below the master file, or from below the current dedicated file.
 pub data Selector : Type 0 where
   the_master : Selector
   by_identifier : ℕ → Selector

@@ -1,6 +1,7 @@
 -- The life cycle of the files of a card: which files are barred, and what a command makes of a file's state
 -- (ISO/IEC 7816-9; ISO/IEC 7816-4, 7.4.10).
-use Rattle.std.specs.Prelude.{◌≡◌, ◌≢◌, ℕ, Bool, true, false, ◌||◌, if◌then◌else◌, List, length, map, take, slice_set, Option, None}
+use Rattle.std.specs.Prelude.{◌≡◌, ◌≢◌, ℕ, Bool, true, false, ◌||◌, if◌then◌else◌, List, length, map, take, slice_set}
+use Rattle.std.specs.Prelude.{Option, None}
 use Rattle.std.specs.List.{list_any, range_with_len}
 use Rattle.std.specs.FinMap.{insert}
 use Rattle.card_rules.specs.LifeCycle.{life_cycle_byte, state_after}
@@ -42,12 +43,13 @@ has_barred_above tree path = list_any (λ p. bars (life_at tree p)) (above path)
 abbrev pub is_barred : Tree → Path → Bool
 is_barred tree path = bars (life_at tree path) || has_barred_above tree path
 
--- the state of a file after a life cycle command, or None where it is refused: a file above is barred, or the state found
--- does not allow it
+-- the state of a file after a life cycle command, or None where it is refused:
+-- a file above is barred, or the state found does not allow it
 abbrev pub next_life : Tree → Path → LifeCycleCommand → Option LifeCycle
 next_life tree path command = if has_barred_above tree path then None else state_after command (life_at tree path)
 
--- whether the access rule of the file at a path allows an operation, where these PINs are verified, and these are disabled
+-- whether the access rule of the file at a path allows an operation, where these PINs are verified,
+-- and these are disabled
 abbrev pub is_allowed : Tree → Path → AccessBit → List Bool → List Bool → Bool
 is_allowed tree path bit verified disabled = allows (file_at tree path).rule bit (life_at tree path) verified disabled
 
@@ -61,7 +63,8 @@ with_life file state = record file { life = state }
 
 -- The file of an entry is in a state, and nothing else of it or of another file is other.
 pub record ChangesLife (m : List ℕ) (e : ℕ) (state : LifeCycle) (after : List ℕ) : Type 0 where
-  pub tree : tree_of after ≡ insert (tree_of m) (path_of (table m) e) (with_life (file_at (tree_of m) (path_of (table m) e)) state)
+  pub tree : tree_of after
+      ≡ insert (tree_of m) (path_of (table m) e) (with_life (file_at (tree_of m) (path_of (table m) e)) state)
   pub stands : TreeStands after
   pub free : free_chain after ≡ free_chain m
   pub rest : KeepsRest m after

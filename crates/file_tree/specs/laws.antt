@@ -1,4 +1,4 @@
--- What follows from the definitions, for the proofs of this crate and of those above it.
+-- Laws of the definitions, with their proofs.
 pub mod Kinds
 pub mod Tables
 pub mod Formats
@@ -16,21 +16,8 @@ pub mod Footprints
 pub mod Shorts
 pub mod Standing
 pub mod Subtrees
-pub mod Parting
-pub mod Deleting
-pub mod Removals
-pub mod Adding
-pub mod NewEntries
-pub mod EntryWords
-pub mod Creating
 pub mod Refusing
-pub mod Allowed
-pub mod Places
-pub mod Entering
-pub mod Made
 pub mod Selecting
-pub mod Barring
-pub mod Living
 pub mod Indexes
 pub mod Above
 pub mod Pruning

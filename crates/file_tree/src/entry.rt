@@ -9,7 +9,7 @@ ghost use Rattle.file_tree.specs.Entries.{name_of, rule_of, extent_of};
 
 use crate::kinds::EntryKind;
 use crate::layout::{ENTRIES, ENTRY_WORDS, RECORDS_WORD};
-use crate::placing::blocks_for;
+use crate::space::blocks_for;
 use arrayvec::ArrayVec;
 use block_chain::{Chain, Extent};
 use card_rules::LifeCycle;
@@ -50,8 +50,8 @@ pub struct Entry {
     pub start: u16,
 }
 
-/// What the first two words of an entry tell of the file that concerns the files below it: a step to a parent asks for no
-/// more.
+/// What the first two words of an entry tell of the file that concerns the files below it:
+/// a step to a parent asks for no more.
 #[derive(Clone, Copy)]
 pub struct EntryHead {
     /// The byte of the entry's kind.
@@ -63,17 +63,17 @@ pub struct EntryHead {
 }
 
 /// The most elements of a list that has at most one for each entry.
-pub(crate) const TABLE_ROOM: usize = ENTRIES as usize;
+pub const TABLE_ROOM: usize = ENTRIES as usize;
 
 /// The file entries of a memory, in the order of their numbers.
-pub(crate) type Table = ArrayVec<Entry, TABLE_ROOM>;
+pub type Table = ArrayVec<Entry, TABLE_ROOM>;
 
 /// The extents of elementary files.
-pub(crate) type ExtentList = ArrayVec<Extent, TABLE_ROOM>;
+pub type ExtentList = ArrayVec<Extent, TABLE_ROOM>;
 
 impl Entry {
     /// The entry that no file has.
-    pub(crate) fn free() -> Entry
+    pub fn free() -> Entry
         ensures { result ≡ free_entry }
     {
         Entry::default()
@@ -148,7 +148,7 @@ impl Entry {
     }
 
     /// Whether its file is in this state.
-    pub(crate) fn has_life_cycle(&self, state: LifeCycle) -> bool
+    pub fn has_life_cycle(&self, state: LifeCycle) -> bool
         ensures { IsTrue result ↔ (self.now.life ≡ life_cycle_byte state) }
     {
         self.life == state.to_byte()

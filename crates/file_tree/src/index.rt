@@ -36,8 +36,8 @@ pub struct Index {
     places: PlaceList,
 }
 
-/// Where a key stands among places with ascending keys, or else where it would stand. Each comparison halves what is left
-/// of them.
+/// Where a key stands among places with ascending keys, or else where it would stand.
+/// Each comparison halves what is left of them.
 fn search(places: &[Place], key: Key, steps: &mut Steps) -> Result<usize, usize>
     requires few { length places.now ≤ 63 }
     requires fresh { steps.old ≡ 0 }
@@ -137,11 +137,13 @@ impl Index {
         Some(index)
     }
 
-    /// The entry of the child of a dedicated file with an identifier, if it has one, and how many comparisons that took.
+    /// The entry of the child of a dedicated file with an identifier, if it has one,
+    /// and how many comparisons that took.
     pub fn find(&self, parent: u8, identifier: u16) -> (Reached, Steps)
         ensures found { (m : List ℕ) → IsIndex (table m) self.now → TellsChild (table m) parent identifier result.0 }
         ensures path { (m : List ℕ) → TreeStands m → IsUsed (table m) parent → IsIndex (table m) self.now
-            → option_map (path_of (table m)) result.0 ≡ child_by_identifier (tree_of m) (path_of (table m) parent) identifier }
+            → option_map (path_of (table m)) result.0
+            ≡ child_by_identifier (tree_of m) (path_of (table m) parent) identifier }
         ensures steps { result.1 ≤ 7 }
     {
         let places = self.places.as_slice();
@@ -153,7 +155,7 @@ impl Index {
     }
 
     /// The entry of the child of a dedicated file with an identifier, if it has one.
-    pub(crate) fn child(&self, parent: u8, identifier: u16) -> Reached
+    pub fn child(&self, parent: u8, identifier: u16) -> Reached
         ensures { (m : List ℕ) → IsIndex (table m) self.now → TellsChild (table m) parent identifier result }
     {
         let (child, _) = self.find(parent, identifier);
@@ -168,8 +170,8 @@ impl Index {
         parent_of(self.places.as_slice(), entry)
     }
 
-    /// Puts the place of one file more where its key belongs, if no place has that key, and answers whether none had. Files
-    /// are mostly made by ascending identifiers, so the end is tried first.
+    /// Puts the place of one file more where its key belongs, if no place has that key, and answers whether none had.
+    /// Files are mostly made by ascending identifiers, so the end is tried first.
     fn put(&mut self, place: Place) -> bool
         requires { length self.old.places.items < 63 }
         ensures { AreSorted self.old.places.items → TellsPut self.old.places.items place self.new.places.items result }
@@ -188,10 +190,12 @@ impl Index {
         }
     }
 
-    /// The index once a file is created: the file of this entry, with this identifier in the dedicated file of its parent.
+    /// The index once a file is created: the file of this entry,
+    /// with this identifier in the dedicated file of its parent.
     pub fn with(&mut self, parent: u8, identifier: u16, entry: u8)
         requires free { IsFreeIn self.old entry }
-        ensures added { (t after : List Entry) → IsTable after → AddsEntry t parent identifier entry after → IsIndex t self.old
+        ensures added { (t after : List Entry) → IsTable after
+            → AddsEntry t parent identifier entry after → IsIndex t self.old
             → IsIndex after self.new }
     {
         let place = Place {

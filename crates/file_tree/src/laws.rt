@@ -6,8 +6,10 @@ ghost use Rattle.std.specs.FinMap.{get};
 ghost use Rattle.card_rules.specs.declared.identifiers.TheConstants.{MASTER_FILE};
 ghost use Rattle.block_chain.specs.Chains.{free_chain};
 ghost use Rattle.block_chain.specs.Changes.{OnlyContent};
-ghost use Rattle.file_tree.specs.declared.layout.TheConstants.{FIRST_ENTRY_PAGE, ENTRIES, DEEPEST, MOST_FILE_BLOCKS, CREATE_WRITES, DELETE_WRITES};
-ghost use Rattle.file_tree.specs.declared.layout.TheConstants.{STATE_WORD, CARD_TERMINATED, MARK, OLD_MARK, MARK_WORD, PAGES_WORD};
+ghost use Rattle.file_tree.specs.declared.layout.TheConstants.{FIRST_ENTRY_PAGE, ENTRIES, DEEPEST, MOST_FILE_BLOCKS};
+ghost use Rattle.file_tree.specs.declared.layout.TheConstants.{CREATE_WRITES, DELETE_WRITES};
+ghost use Rattle.file_tree.specs.declared.layout.TheConstants.{STATE_WORD, CARD_TERMINATED, MARK, OLD_MARK};
+ghost use Rattle.file_tree.specs.declared.layout.TheConstants.{MARK_WORD, PAGES_WORD};
 ghost use Rattle.block_chain.specs.Words.{word};
 ghost use Rattle.file_tree.specs.Cards.{Path, IsTree, master_file, exists, file_at, is_dedicated};
 ghost use Rattle.file_tree.specs.Reaching.{IsReserved};
@@ -29,8 +31,8 @@ pub fn layout()
     ensures state { (STATE_WORD ≡ 2) × (CARD_TERMINATED ≡ 1) }
 {}
 
-/// Word 0 of the header is the mark, 54534332 in format 2 and 54534331 in format 1. In format 2 word 3 is the page where the blocks
-/// end; in any other the memory has the 896 blocks of format 1.
+/// Word 0 of the header is the mark, 54534332 in format 2 and 54534331 in format 1. In format 2 word 3 is the page
+/// where the blocks end; in any other the memory has the 896 blocks of format 1.
 #[tactic(auto, using(crate::specs::laws::Formats::count_new, crate::specs::laws::Formats::count_old))]
 pub fn formats()
     ensures marks { (MARK ≡ 0x54534332) × (OLD_MARK ≡ 0x54534331) }
@@ -70,10 +72,12 @@ pub fn files_of_a_card()
 #[tactic(auto, using(crate::specs::laws::Costs::space_counted))]
 pub fn free_space_is_counted()
     ensures { (m : List ℕ) → IsMemory m → TreeStands m
-        → free_space (block_count m) (tree_of m) ≡ record { blocks = length (free_chain m); entries = free_entries (table m) } }
+        → free_space (block_count m) (tree_of m)
+        ≡ record { blocks = length (free_chain m); entries = free_entries (table m) } }
 {}
 
-/// The tree depends on the pages of entries, on blocks, and on the header's words of free blocks and of the format alone.
+/// The tree depends on the pages of entries, on blocks,
+/// and on the header's words of free blocks and of the format alone.
 pub fn words_elsewhere_keep_the_tree()
     ensures { (m after : List ℕ) → IsMemory m → KeepsTree m after → TreeStands m
         → TreeStands after × (table after ≡ table m) × (tree_of after ≡ tree_of m) × (free_chain after ≡ free_chain m) }
@@ -93,7 +97,8 @@ pub fn no_path_has_a_reserved_identifier()
         → exists (tree_of m) (path ++ id ∷ left) ≡ false }
 {}
 
-/// Whatever the contents of the first free blocks become, by `block_chain::fill` cut at any word, each file stands as it was.
+/// Whatever the contents of the first free blocks become, by `block_chain::fill` cut at any word,
+/// each file stands as it was.
 pub fn filled_blocks_leave_the_tree()
     ensures { (m after : List ℕ) (n : ℕ) → IsMemory m → TreeStands m
         → OnlyContent m (take n (free_chain m)) after → SameTree m after }

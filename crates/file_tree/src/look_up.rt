@@ -55,7 +55,8 @@ pub fn find_short<B: Board>(store: &mut Store<B>, df: u8, short: u8) -> Result<R
     ensures found { IfOk result (λ found. option_map (path_of (table (committed store.old))) found
         ≡ child_by_short (tree_of (committed store.old)) (path_of (table (committed store.old)) df) short) }
     ensures child { IfOk result (λ found. IfSome found (IsChild (table (committed store.old)) df)) }
-    ensures elementary { IfOk result (λ found. IfSome found (λ e. 2 ≤ (entry_in (table (committed store.old)) e).kind)) }
+    ensures elementary { IfOk result
+        (λ found. IfSome found (λ e. 2 ≤ (entry_in (table (committed store.old)) e).kind)) }
     ensures store { Reads store.old store.new (result_err result) }
 {
     first_child(store, df, short)

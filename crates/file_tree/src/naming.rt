@@ -27,7 +27,7 @@ fn bears_name(entry: &Entry, name: &[u8]) -> bool
 }
 
 /// The entry of the dedicated file with this name, if there is one.
-pub(crate) fn entry_named(entries: &[Entry], name: &[u8]) -> Reached
+pub fn entry_named(entries: &[Entry], name: &[u8]) -> Reached
     requires { length entries.now ≡ 64 }
     ensures { TellsNamed entries.now name.now result }
 {
@@ -75,8 +75,8 @@ pub fn find_parent<B: Board>(store: &mut Store<B>, df: u8) -> Result<Reached, St
     Ok(Some(entry.parent))
 }
 
-/// The entry of the file at the end of a path from a file: each identifier is that of a child of the one before. The empty
-/// path leads to the file itself, and no path leads through an elementary file.
+/// The entry of the file at the end of a path from a file: each identifier is that of a child of the one before. The
+/// empty path leads to the file itself, and no path leads through an elementary file.
 pub fn find_path(index: &Index, df: u8, path: &[u16]) -> Reached
     ensures found { (m : List ℕ) → TreeStands m → IsUsed (table m) df → IsIndex (table m) index.now
         → option_map (path_of (table m)) result

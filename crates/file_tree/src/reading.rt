@@ -81,7 +81,7 @@ pub(crate) fn fill_table<B: Board>(
 ///
 /// # Errors
 /// What the store answers: power was lost, or the device failed.
-pub(crate) fn read_table<B: Board>(store: &mut Store<B>) -> Result<Table, StoreErr>
+pub fn read_table<B: Board>(store: &mut Store<B>) -> Result<Table, StoreErr>
     requires ready { IsReady store.old }
     ensures table { IfOk result (λ entries. entries.items ≡ table (committed store.old)) }
     ensures store { Reads store.old store.new (result_err result) }

@@ -1,7 +1,8 @@
 //! The rules on one entry.
 
 ghost use Rattle.std.specs.Prelude.{◌↔◌, IsTrue, All};
-ghost use Rattle.file_tree.specs.Table.{IsTransparentBody, IsRecordBody, HasShort, HasName, HasRule, HasBody, IsFileEntry, IsEntry};
+ghost use Rattle.file_tree.specs.Table.{IsTransparentBody, IsRecordBody, HasShort, HasName, HasRule, HasBody};
+ghost use Rattle.file_tree.specs.Table.{IsFileEntry, IsEntry};
 
 use crate::entry::Entry;
 use crate::kinds::EntryKind;

@@ -1,4 +1,8 @@
 //! Free space.
+ghost use Rattle.std.specs.Prelude.{◌≡◌};
+ghost use Rattle.file_tree.specs.Spaces.{blocks_for};
+
+use block_chain::BLOCK_BYTES;
 
 /// What is free for new files.
 #[derive(Clone, Copy, Debug, PartialEq, Eq)]
@@ -7,4 +11,13 @@ pub struct FreeSpace {
     pub blocks: u16,
     /// File entries that no file has.
     pub entries: u16,
+}
+
+/// How many blocks so many bytes take.
+pub fn blocks_for(size: u16) -> u16
+    ensures { result ≡ blocks_for size }
+{
+    // in 32 bits: what is added may bring the greatest sizes past 65,535
+    let block = u32::from(BLOCK_BYTES);
+    ((u32::from(size) + block - 1) / block) as u16
 }

@@ -7,8 +7,8 @@ ghost use Rattle.file_tree.specs.Keys.{key_for, IsBefore};
 use std::cmp::Ordering;
 use std::marker::Model;
 
-/// What a file is found by: the entry of its parent, and its identifier. Its fields are private, so that keys are compared
-/// by `Steps::compare` alone.
+/// What a file is found by: the entry of its parent, and its identifier. Its fields are private, so that keys are
+/// compared by `Steps::compare` alone.
 #[derive(Clone, Copy, Default)]
 pub(crate) struct Key {
     parent: u8,

@@ -1,7 +1,8 @@
 //! The rules on the table of entries. They look at entries that were read; no store is touched.
 
 ghost use Rattle.std.specs.Prelude.{◌≡◌, ◌↔◌, ◌<◌, ◌≤◌, length, IsTrue};
-ghost use Rattle.file_tree.specs.Table.{entry_in, ancestor, extents, free_entries, IsMasterFile, IsBelowMaster, HaveIdentifiers, IsTable};
+ghost use Rattle.file_tree.specs.Table.{entry_in, ancestor, extents, free_entries, IsMasterFile, IsBelowMaster};
+ghost use Rattle.file_tree.specs.Table.{HaveIdentifiers, IsTable};
 ghost use Rattle.file_tree.specs.Parts.{Alike, BearOneName, AreBelow, AreApart, IsAlone};
 
 use crate::entry::{Entry, ExtentList};
@@ -11,7 +12,7 @@ use crate::rules::are_entries;
 use card_rules::identifiers::MASTER_FILE;
 
 /// The parent of an entry's file; past the table that of a free entry.
-pub(crate) fn parent_of(entries: &[Entry], e: u8) -> u8
+pub fn parent_of(entries: &[Entry], e: u8) -> u8
     ensures { result ≡ (entry_in entries.now e).parent }
 {
     match entries.get(usize::from(e)) {
@@ -22,7 +23,7 @@ pub(crate) fn parent_of(entries: &[Entry], e: u8) -> u8
 
 /// The entry that so many steps to parents lead to. The master file is its own parent, so no step leads on from there.
 #[tactic(auto, using(crate::specs::laws::Levels::levels))]
-pub(crate) fn ancestor(entries: &[Entry], steps: u8, e: u8) -> u8
+pub fn ancestor(entries: &[Entry], steps: u8, e: u8) -> u8
     ensures { result ≡ ancestor entries.now steps e }
 {
     let mut at = e;
@@ -140,7 +141,7 @@ pub(crate) fn is_table(entries: &[Entry]) -> bool
 
 /// The extents that the entries of elementary files name, in the order of entries.
 #[tactic(auto, using(crate::specs::laws::Tables::extents_pushed))]
-pub(crate) fn extents_of(entries: &[Entry]) -> ExtentList
+pub fn extents_of(entries: &[Entry]) -> ExtentList
     requires { length entries.now ≤ 64 }
     ensures { result.items ≡ extents entries.now }
 {
@@ -154,7 +155,7 @@ pub(crate) fn extents_of(entries: &[Entry]) -> ExtentList
 }
 
 /// How many entries no file has.
-pub(crate) fn count_free(entries: &[Entry]) -> u16
+pub fn count_free(entries: &[Entry]) -> u16
     requires { length entries.now ≡ 64 }
     ensures { result ≡ free_entries entries.now }
 {

@@ -27,8 +27,8 @@ pub struct Survey {
 }
 
 /// What a start finds of a memory that stands for a tree of files, or None where it stands for none. It reads the first
-/// word of each entry, eleven more of each that a file has, one link of each block, and the header's words of the format
-/// and of the free chain. The index is made of the entries that were read.
+/// word of each entry, eleven more of each that a file has, one link of each block, and the header's words of the
+/// format and of the free chain. The index is made of the entries that were read.
 ///
 /// # Errors
 /// What the store answers: power was lost, or the device failed.

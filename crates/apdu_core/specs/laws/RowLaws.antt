@@ -18,8 +18,8 @@ use Rattle.apdu_core.specs.Fields.{IsOfBytes, IsSized}
 use Rattle.apdu_core.specs.OfBytes.{AreBytes, IsStatusWord}
 use Rattle.apdu_core.specs.laws.ByteLaws.{IsBodyOfBytes, body-of_bytes, bytes-drop, bytes-rest, bytes-take}
 use Rattle.apdu_core.specs.laws.ByteLaws.{named_file-of_bytes, shown_value-of_bytes, shown_values-of_bytes}
-use Rattle.apdu_core.specs.laws.SizeLaws.{change-sized, named-sized, one-value-sized, sent-sized, text-sized, value-sized}
-use Rattle.apdu_core.specs.laws.SizeLaws.{values-sized}
+use Rattle.apdu_core.specs.laws.SizeLaws.{change-sized, named-sized, one-value-sized, sent-sized}
+use Rattle.apdu_core.specs.laws.SizeLaws.{text-sized, value-sized, values-sized}
 use Rattle.apdu_core.specs.laws.TableLaws.{EachRow, choose, each_found, each_group}
 
 -- Of a row: under a body of bytes it asks for a request of bytes; and each body that it allows is of a good size.

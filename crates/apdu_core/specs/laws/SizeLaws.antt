@@ -1,6 +1,6 @@
 -- What a command names or sends is of the size that the table of commands allows.
-use Rattle.std.specs.Prelude.{◌≡◌, ◌≤◌, ◌==◌, ◌%◌, ℕ, Bool, true, false, ◌&&◌, ◌||◌, nat_le, not, List, [], ◌∷◌, length, take, drop}
-use Rattle.std.specs.Prelude.{IfSome, if◌then◌else◌}
+use Rattle.std.specs.Prelude.{◌≡◌, ◌≤◌, ◌==◌, ◌%◌, ℕ, Bool, true, false, ◌&&◌, ◌||◌, nat_le, not, List, [], ◌∷◌, length}
+use Rattle.std.specs.Prelude.{take, drop, IfSome, if◌then◌else◌}
 use Rattle.std.proofs.lemmas.Bool.{leb-true, eqb-true, and_parts, or_cases}
 use Rattle.std.proofs.Common.{arith, length-take, length-drop}
 use Rattle.apdu_core.specs.Selections.{parent, name, path_from_master, path_from_current, identifiers, is_path}

@@ -89,8 +89,11 @@ leads_same m n from to (p ∷ ps) size same leads =
     let here : link n p ≡ link m p = same p (let e = count-here p ps in omega (arith, e)) in
     let later : (q : ℕ) → 1 ≤ count q ps → link n q ≡ link m q =
     λ q some. same q (let e = count-cons q p ps in omega (arith, e, some)) in
-    let family : ℕ → Type 0 = λ q. Leads n q ps to in
-    (leads.0, block_same m n p size leads.1, subst family (sym here) (leads_same m n (link m p) to ps size later leads.2))
+    let family : ℕ → Type 0 = λ q. Leads n q ps to in (
+      leads.0,
+      block_same m n p size leads.1,
+      subst family (sym here) (leads_same m n (link m p) to ps size later leads.2),
+    )
 
 -- each number of a chain, and that past its end, is that of a page
 pub leads_small : (m : List ℕ) (from : ℕ) (ps : List ℕ) (k : ℕ) → IsMemory m → Leads m from ps 0
@@ -148,11 +151,13 @@ at_some m n from ps k page same sized leads place some =
 
 pub head_small : (m : List ℕ) (from : ℕ) (ps : List ℕ) → IsMemory m → Leads m from ps 0 → from < MOST_PAGES
 head_small m from ps sized leads =
-    let first = leads_first m from ps leads in let small = leads_small m from ps 0 sized leads in omega (arith, first, small)
+    let first = leads_first m from ps leads in let small = leads_small m from ps 0 sized leads in
+    omega (arith, first, small)
 
 -- A chain is cut behind a block: its link is 0, and no other link is other.
 pub leads_cut : (m n : List ℕ) (from p : ℕ) (ps qs : List ℕ) → length n ≡ length m → Leads m from (ps ++ p ∷ qs) 0
-    → NoneTwice (ps ++ p ∷ qs) → link n p ≡ 0 → ((q : ℕ) → q ≢ p → link n q ≡ link m q) → Leads n from (ps ++ p ∷ []) 0 × Leads n (link m p) qs 0
+    → NoneTwice (ps ++ p ∷ qs) → link n p ≡ 0 → ((q : ℕ) → q ≢ p → link n q ≡ link m q)
+    → Leads n from (ps ++ p ∷ []) 0 × Leads n (link m p) qs 0
 leads_cut m n from p ps qs size leads once end others =
     let most = once p in
     let whole = count-append p ps (p ∷ qs) in
@@ -192,4 +197,5 @@ leads_joined m n from p head ps qs size first rest once joins others =
     leads_same m n head 0 qs size (λ q some. others q
     (λ is. let e : count q qs ≡ count p qs =
     ap (λ (r : ℕ). count r qs) is in omega (arith, e, none_after, some))) rest in
-    leads_then n from head 0 (ps ++ p ∷ []) qs (leads_then n from p head ps (p ∷ []) before (refl, block_same m n p size on.0, joins)) after
+    leads_then n from head 0 (ps ++ p ∷ []) qs
+    (leads_then n from p head ps (p ∷ []) before (refl, block_same m n p size on.0, joins)) after

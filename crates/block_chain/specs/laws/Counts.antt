@@ -122,7 +122,8 @@ count-without_other q r (p ∷ ps) apart = let rest = count-without_other q r ps
 ]
 
 -- a list without twins, of n numbers in a row alone, is no longer than n
-pub pages_fit : (a n : ℕ) (ps : List ℕ) → NoneTwice ps → ((q : ℕ) → 1 ≤ count q ps → (a ≤ q) × (q < a + n)) → length ps ≤ n
+pub pages_fit : (a n : ℕ) (ps : List ℕ) → NoneTwice ps
+    → ((q : ℕ) → 1 ≤ count q ps → (a ≤ q) × (q < a + n)) → length ps ≤ n
 pages_fit a zero [] once within = omega arith
 pages_fit a zero (p ∷ ps) once within =
     let here = count-here p ps in let place = within p (omega (arith, here)) in absurd (omega (arith, place.0, place.1))

@@ -75,7 +75,8 @@ count_extent m q (e ∷ es) (suc i) d lt =
     omega (arith, parts, rest)
 
 -- each extent of a layout is a chain
-pub laid_chains : (n : ℕ) (m : List ℕ) (es : List Extent) → AreLaid n m es → All (λ e. IsChain m e.chain.first (blocks_of m e)) es
+pub laid_chains : (n : ℕ) (m : List ℕ) (es : List Extent) → AreLaid n m es
+    → All (λ e. IsChain m e.chain.first (blocks_of m e)) es
 laid_chains n m es laid i d lt = record {
   leads = (laid.each i d lt).leads;
   once = λ q.
@@ -111,8 +112,8 @@ laid_chains_of m (e ∷ es) =
     ∙ sym (laid_out-cons m e es)
 
 -- Some of the extents of a layout, each with blocks, are chains apart.
-pub laid_apart : (n : ℕ) (m : List ℕ) (es given kept : List Extent) → n ≤ MOST_BLOCKS → AreLaid n m es → AreSplit m es given kept
-    → All (IsExtent m) given → All (λ e. 1 ≤ e.blocks) given → AreApart m (chains_of given)
+pub laid_apart : (n : ℕ) (m : List ℕ) (es given kept : List Extent) → n ≤ MOST_BLOCKS → AreLaid n m es
+    → AreSplit m es given kept → All (IsExtent m) given → All (λ e. 1 ≤ e.blocks) given → AreApart m (chains_of given)
 laid_apart n m es given kept fits laid_before split each some = record {
   each = extents_whole m given each some;
   once = λ q.

@@ -57,7 +57,8 @@ extent_kept m after e is size same =
 pub extents_kept : (m after : List ℕ) (es : List Extent) → All (IsExtent m) es → length after ≡ length m
     → ((q : ℕ) → 1 ≤ count q (laid_out m es) → link after q ≡ link m q)
     → All (IsExtent after) es × (laid_out after es ≡ laid_out m es)
-extents_kept m after [] each size same = ((λ i d lt. absurd (omega (arith, lt))), laid_out-nil after ∙ sym (laid_out-nil m))
+extents_kept m after [] each size same =
+    ((λ i d lt. absurd (omega (arith, lt))), laid_out-nil after ∙ sym (laid_out-nil m))
 extents_kept m after (e ∷ es) each size same =
     let parts : (q : ℕ) → count q (laid_out m (e ∷ es)) ≡ count q (blocks_of m e) + count q (laid_out m es) =
     λ q. ap (count q) (laid_out-cons m e es) ∙ count-append q (blocks_of m e) (laid_out m es) in
@@ -153,7 +154,8 @@ not_among m page outside (p ∷ ps) blocks =
     ∙ not_among m page outside ps blocks.1
 
 pub no_header : (m ps : List ℕ) → AreBlocks m ps → IsNotIn HEADER_PAGE ps
-no_header m ps blocks = not_among m HEADER_PAGE (λ block. let low = block.0 in let z : ⊥ = omega (arith, low) in z) ps blocks
+no_header m ps blocks =
+    not_among m HEADER_PAGE (λ block. let low = block.0 in let z : ⊥ = omega (arith, low) in z) ps blocks
 
 -- An extent whose links stay, and whose blocks are not among these, keeps its bytes where only these blocks' bytes
 -- change.

@@ -112,8 +112,8 @@ joined-leads m (c ∷ cs) sized free each once =
     let rest : Leads (joined m cs) (first_of m cs) qs 0 =
     joined-leads m cs sized free (tail_whole m c cs each) once_rest in
     let kept : Leads (joined m cs) c.first ps 0 =
-    leads_same m (joined m cs) c.first 0 ps (length-joined m cs) (λ q some. joined-other m cs (tail_whole m c cs each) q 0 (omega arith)
-    (inr (let most =
+    leads_same m (joined m cs) c.first 0 ps (length-joined m cs)
+    (λ q some. joined-other m cs (tail_whole m c cs each) q 0 (omega arith) (inr (let most =
     once_all q in let parts =
     count-append q ps qs in let more =
     count-append q (laid m cs) (free_chain m) in let z : count q (laid m cs) ≡ 0 =

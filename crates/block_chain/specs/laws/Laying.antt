@@ -79,9 +79,9 @@ pub laid_of : (n : ℕ) (m : List ℕ) (es : List Extent) → AreLaid n m es →
 laid_of n m es laid q some =
     let parts = count-append q (free_chain m) (laid_out m es) in (
       ⊎_elim
-          (λ (here : 0 < count q (free_chain m)). (leads_count m _ 0 q (free_chain m) laid.free (omega (arith, here))).0)
-          (λ (none : count q (free_chain m) ≤ 0). (laid_count m q es laid.each (omega (arith, none, parts, some))).0)
-          (cases_lt 0 (count q (free_chain m))),
+          (λ (here : 0 < count q (free_chain m)). (leads_count m
+          _ 0 q (free_chain m) laid.free (omega (arith, here))).0) (λ (none : count q (free_chain m) ≤ 0).
+          (laid_count m q es laid.each (omega (arith, none, parts, some))).0) (cases_lt 0 (count q (free_chain m))),
       ⊎_elim
           (λ (lt : q < FIRST_BLOCK_PAGE + n). lt)
           (λ (past : FIRST_BLOCK_PAGE + n ≤ q). absurd (let none = laid.below q past in omega (arith, none, some)))
@@ -149,8 +149,8 @@ module _ (n : ℕ) (m : List ℕ) (es : List Extent) where
         omega (arith, a, b, c)
 
     -- one extent more
-    pub laid_more : (new : List ℕ) → IsExtent m e → IsFresh end m seen e.chain.first → Marks seen (blocks_of m e) new → AreMarks end new
-        → AreLaidSoFar end m es (i + 1) new (blocks + e.blocks)
+    pub laid_more : (new : List ℕ) → IsExtent m e → IsFresh end m seen e.chain.first → Marks seen (blocks_of m e) new
+        → AreMarks end new → AreLaidSoFar end m es (i + 1) new (blocks + e.blocks)
     laid_more new extent fresh marks fine = record {
       free = so_far.free;
       each = λ k d below. each_next k d (let l = ap (λ (xs : List Extent). length xs) next_is in let a = length-append

@@ -76,8 +76,8 @@ row-leads m first a (suc k) end rest linked low from all inside =
           (row-leads m first (a + 1) k end rest linked low (omega (arith, from)) (omega (arith, all)) inside),
     )
 
--- More blocks: the pages behind the n blocks are linked in order, the last to the block that was free first, and the header
--- names the first of them; the links of the n blocks stay.
+-- More blocks: the pages behind the n blocks are linked in order, the last to the block that was free first, and the
+-- header names the first of them; the links of the n blocks stay.
 module _ (n k : ℕ) (m after : List ℕ) (es : List Extent) (laid : AreLaid n m es) (size : length after ≡ length m)
     (sized : IsMemory m) (fits : FIRST_BLOCK_PAGE + n + suc k ≤ pages_of m)
     (links : (q : ℕ) → q < FIRST_BLOCK_PAGE + n → FIRST_BLOCK_PAGE ≤ q → link after q ≡ link m q)
@@ -174,7 +174,8 @@ bytes_stay n m after es sized laid size words i d lt =
       bytes_same m after (blocks_of m e) sized size blocks (λ j below.
           let within : j / BLOCK_WORDS < length (blocks_of m e) = omega (arith, below) in
           let page = slice_index (blocks_of m e) (j / BLOCK_WORDS) in
-          words page (1 + j % BLOCK_WORDS) (one_of page (count-index (blocks_of m e) (j / BLOCK_WORDS) within)) (omega arith)),
+          words page (1 + j % BLOCK_WORDS)
+          (one_of page (count-index (blocks_of m e) (j / BLOCK_WORDS) within)) (omega arith)),
     )
   where
     one_of : (q : ℕ) → 1 ≤ count q (blocks_of m (slice_index_or es i d)) → IsOf n q

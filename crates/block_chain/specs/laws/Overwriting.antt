@@ -19,7 +19,8 @@ use Rattle.block_chain.specs.Parts.{byte_over, PutsWord}
 use Rattle.block_chain.specs.Words.{word, word_bytes, IsBlock}
 use Rattle.block_chain.specs.declared.layout.TheConstants.{BLOCK_BYTES, BLOCK_WORDS}
 use Rattle.nvm_board.specs.laws.Sizes.{memory_same}
-use Rattle.block_chain.specs.laws.Bytes.{blocks_same, AreBlocks, block_in, content_word, length-bytes_of, index-bytes_of}
+use Rattle.block_chain.specs.laws.Bytes.{blocks_same, AreBlocks, block_in, content_word}
+use Rattle.block_chain.specs.laws.Bytes.{length-bytes_of, index-bytes_of}
 use Rattle.block_chain.specs.laws.Counts.{apart, count-index}
 use Rattle.block_chain.specs.laws.Words.{word-set_other, word-set_same}
 
@@ -148,7 +149,8 @@ module _ (m ps : List ℕ) (offset : ℕ) (bytes : List ℕ) (sized : IsMemory m
 
     here : content_word after ps k ≡ w
     here =
-        let inside : address page (1 + k % BLOCK_WORDS) < length now = omega (arith, now_sized.whole, now_sized.least, block.1) in
+        let inside : address page (1 + k % BLOCK_WORDS) < length now =
+        omega (arith, now_sized.whole, now_sized.least, block.1) in
         ap (λ (q : ℕ). word after q (1 + k % BLOCK_WORDS)) (sym is)
         ∙ word-set_same now page (1 + k % BLOCK_WORDS) w inside
 

@@ -20,7 +20,8 @@ use Rattle.block_chain.specs.laws.Extents.{all_left, all_right, count-around, le
 use Rattle.block_chain.specs.laws.Footprints.{extents_kept, linked_bytes, bytes_linked}
 
 -- Some extents are given back: the others are laid out with the free chain, which has their blocks in front.
-module _ (n : ℕ) (m after : List ℕ) (es given kept : List Extent) (before : AreLaid n m es) (split : AreSplit m es given kept)
+module _ (n : ℕ)
+    (m after : List ℕ) (es given kept : List Extent) (before : AreLaid n m es) (split : AreSplit m es given kept)
     (others : All (IsExtent m) kept) (back : GivesBack m (chains_of given) after) where
   -- the blocks of the others are not given back
   apart : (q : ℕ) → 1 ≤ count q (laid_out m kept) → IsNotIn q (laid m (chains_of given))
@@ -159,6 +160,6 @@ module _ (m : List ℕ) (xs ys : List Extent) (e : Extent) where
             omega (arith, a, most, c, some)),
         ap (bytes_of after) taken
             ∙ bytes_linked m after (take n ps) (take n ps) sized
-            (blocks_same after m (take n ps) (sym takes.only.size) (leads_blocks after _ 0 (take n ps) takes.taken.leads))
-            takes.only,
+            (blocks_same after m (take n ps) (sym takes.only.size)
+            (leads_blocks after _ 0 (take n ps) takes.taken.leads)) takes.only,
       )

@@ -1,5 +1,6 @@
 -- Laws of a walk over a chain that marks its blocks, to find whether it ends and comes to no marked one.
-use Rattle.std.proofs.Common.{refl, sym, ◌∙◌, ap, ap₂, subst, arith, inl, inr, ⊎_elim, get_or-set_same, get_or-set_other}
+use Rattle.std.proofs.Common.{refl, sym, ◌∙◌, ap, ap₂, subst, arith, inl, inr, ⊎_elim}
+use Rattle.std.proofs.Common.{get_or-set_same, get_or-set_other}
 use Rattle.std.proofs.Math.ListN.{length-set}
 use Rattle.std.proofs.lemmas.Bool.{cases_lt}
 use Rattle.std.proofs.lemmas.Bool.Decides.{eqb_tells}
@@ -91,7 +92,8 @@ module _ (end : ℕ) (m : List ℕ) (from n page : ℕ) (old new : List ℕ) (wa
   where
     -- the chain is what was walked over, and the rest
     rest_of : n ≤ MOST_BLOCKS → chain m from ≡ pages_from m n from ++ pages_from m (MOST_BLOCKS - n) page
-    rest_of fits = let all : MOST_BLOCKS ≡ n + (MOST_BLOCKS - n) = omega arith in ap (λ (k : ℕ). pages_from m k from) all
+    rest_of fits = let all : MOST_BLOCKS ≡ n + (MOST_BLOCKS - n) = omega arith in
+        ap (λ (k : ℕ). pages_from m k from) all
         ∙ pages_on m n (MOST_BLOCKS - n) from page walked.leads walked.long
 
     -- at the end
@@ -135,8 +137,8 @@ module _ (end : ℕ) (m : List ℕ) (from n page : ℕ) (old new : List ℕ) (wa
 
     pub stale_mark : n < MOST_BLOCKS → page ≢ 0 → IsPlace page → marked new page ≢ 0 → (IsFresh end m old from → ⊥)
     stale_mark fits some block mark fresh =
-        let whole : count page (chain m from) ≡ count page (pages_from m n from ++ page ∷ pages_from m (MOST_BLOCKS - n - 1)
-        (link m page)) = ap (count page) (next_of fits some) in
+        let whole : count page (chain m from) ≡ count page (pages_from m n from ++ page
+        ∷ pages_from m (MOST_BLOCKS - n - 1) (link m page)) = ap (count page) (next_of fits some) in
         let parts = count-append page (pages_from m n from) (page ∷ pages_from m (MOST_BLOCKS - n - 1) (link m page)) in
         let here = count-here page (pages_from m (MOST_BLOCKS - n - 1) (link m page)) in
         let marks = walked.marks page block in
@@ -165,7 +167,8 @@ module _ (end : ℕ) (m : List ℕ) (from n page : ℕ) (old new : List ℕ) (wa
         (cases_lt 1 (count q (pages_from m n from)))
 
     -- so while a block is not marked, not all were walked over
-    pub walked_less : end ≤ MOST_PAGES → (FIRST_BLOCK_PAGE ≤ page) × (page < end) → marked new page ≡ 0 → n < MOST_BLOCKS
+    pub walked_less : end ≤ MOST_PAGES → (FIRST_BLOCK_PAGE ≤ page) × (page < end)
+        → marked new page ≡ 0 → n < MOST_BLOCKS
     walked_less most fit free =
         let is : IsPlace page = (fit.0, omega (arith, fit.1, most)) in
         let marks = walked.marks page is in

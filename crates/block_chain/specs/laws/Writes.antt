@@ -54,5 +54,6 @@ pub put_writes_most : (offset count : ℕ)
     → put_writes offset count ≤ transaction_writes (touched_words offset count) (touched_blocks offset count)
 put_writes_most offset zero = omega arith
 put_writes_most offset (suc n) =
-    let few = words-few (offset / 4) (touched_words offset (suc n)) (let some : 1 ≤ touched_words offset (suc n) = omega arith in some) in
+    let few = words-few (offset / 4) (touched_words offset (suc n))
+    (let some : 1 ≤ touched_words offset (suc n) = omega arith in some) in
     omega (arith, few)

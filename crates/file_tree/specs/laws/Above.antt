@@ -20,7 +20,8 @@ parent_found : (t : List Entry) (places : List Place) (e k : ℕ) → All (IsPla
 unfolding parent_by
 parent_found t [] e k each lt is = absurd (omega (arith, lt))
 parent_found t (p ∷ places) e zero each lt is = elim (eqb_tells p.entry e) [
-  | inl same ↦ ap (λ (b : Bool). if b then p.key.parent else parent_by places e) same.0 ∙ ap (λ (q : Place). q.key.parent) is
+  | inl same ↦ ap (λ (b : Bool). if b then p.key.parent else parent_by places e) same.0
+      ∙ ap (λ (q : Place). q.key.parent) is
   | inr other ↦ absurd (other.1 (ap (λ (q : Place). q.entry) is))
 ]
 parent_found t (p ∷ places) e (suc k) each lt is = elim (eqb_tells p.entry e) [
@@ -37,7 +38,8 @@ unfolding parent_by
 parent_of_master t [] each = refl
 parent_of_master t (p ∷ places) each =
     let below = (All-head (IsPlace t) p places each).below in
-    ap (λ (b : Bool). if b then p.key.parent else parent_by places 0) (differ p.entry 0 (λ is. let z : ⊥ = omega (arith, is, below) in z))
+    ap (λ (b : Bool). if b then p.key.parent else parent_by places 0)
+    (differ p.entry 0 (λ is. let z : ⊥ = omega (arith, is, below) in z))
     ∙ parent_of_master t places (All-tail (IsPlace t) p places each)
 
 -- The parent of a used entry is the one that its place tells; the master file's is its own.
@@ -66,7 +68,8 @@ same_test a b c d over back = elim (eqb_tells a b) [
     ]
 
 -- Whether a file has an identifier: whether it is the child of its parent that has it.
-module _ (t : List Entry) (rules : IsTable t) (e parent id : ℕ) (used : IsUsed t e) (parent_told : parent ≡ (entry_in t e).parent) where
+module _ (t : List Entry) (rules : IsTable t) (e parent id : ℕ) (used : IsUsed t e)
+    (parent_told : parent ≡ (entry_in t e).parent) where
   pub child_named : (f : ℕ) → 0 < e → TellsChild t parent id (Some f) → (f == e) ≡ ((entry_in t e).identifier == id)
   child_named f below told = same_test f e (entry_in t e).identifier id
       (λ same. ap (λ (k : ℕ). (entry_in t k).identifier) (sym same) ∙ told.1)
@@ -75,9 +78,11 @@ module _ (t : List Entry) (rules : IsTable t) (e parent id : ℕ) (used : IsUsed
 
   pub child_not_named : 0 < e → TellsChild t parent id None → false ≡ ((entry_in t e).identifier == id)
   child_not_named below none =
-      sym (differ (entry_in t e).identifier id (none e (record { below = below; used = used; parent = sym parent_told })))
+      sym (differ (entry_in t e).identifier id
+      (none e (record { below = below; used = used; parent = sym parent_told })))
 
-pub master_named : (t : List Entry) → IsTable t → (e id : ℕ) → e ≡ 0 → (id == master_file) ≡ ((entry_in t e).identifier == id)
+pub master_named : (t : List Entry) → IsTable t → (e id : ℕ) → e ≡ 0
+    → (id == master_file) ≡ ((entry_in t e).identifier == id)
 master_named t rules e id is =
     let own : (entry_in t e).identifier ≡ master_file =
     ap (λ (k : ℕ). (entry_in t k).identifier) is ∙ rules.master.identifier in

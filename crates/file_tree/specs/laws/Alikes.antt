@@ -68,8 +68,8 @@ rules_apart t shorts names e used f lt other (inr named) =
     let z = names e f used other named.0 named.1 in omega (arith, z, lt)
 
 -- the rules on the table, as the check goes over them
-pub table_of : (t : List Entry) → IsMasterFile (entry_in t 0) → All IsEntry t → AreBelow t → HaveIdentifiers t → AreApart t
-    → IsTable t
+pub table_of : (t : List Entry) → IsMasterFile (entry_in t 0) → All IsEntry t → AreBelow t → HaveIdentifiers t
+    → AreApart t → IsTable t
 table_of t master each below identifiers apart = record {
   each = each;
   master = master;

@@ -23,7 +23,8 @@ pub same_tree : (m : List ℕ) (tree : Tree) → IsTable (table m)
     → ((e : ℕ) → IsUsed (table m) e → get tree (path_of (table m) e) ≡ Some (file_in m e))
     → ((p : Path) (f : File) → get tree p ≡ Some f → HasEntry m p) → tree_of m ≡ tree
 same_tree m tree rules has only =
-    same_map nat_list_cmp_total (slice_cmp-IsAntisymmetric nat_cmp-IsAntisymmetric) (tree_of m) tree (λ p. at p (get (tree_of m) p) refl)
+    same_map nat_list_cmp_total (slice_cmp-IsAntisymmetric nat_cmp-IsAntisymmetric) (tree_of m) tree
+    (λ p. at p (get (tree_of m) p) refl)
   where
     missing : (p : Path) → get (tree_of m) p ≡ None → (o : Option File) → get tree p ≡ o → None ≡ o
     missing p none None is = refl
@@ -43,8 +44,8 @@ pub tree_stays : (m after : List ℕ) → IsTable (table m) → table after ≡ 
     → ((e : ℕ) → IsUsed (table m) e → file_in after e ≡ file_in m e) → tree_of after ≡ tree_of m
 tree_stays m after rules same files = same_tree after (tree_of m) rules_after
     (λ e used. let before = used_before e used in
-    (λ i. get (tree_of m) (path_of (same i) e)) ∙ get-used m rules e before ∙ ap (λ (f : File). Some f) (sym (files e before)))
-    (λ p f is. let found = entry_found m p f is in
+    (λ i. get (tree_of m) (path_of (same i) e)) ∙ get-used m rules e before
+    ∙ ap (λ (f : File). Some f) (sym (files e before))) (λ p f is. let found = entry_found m p f is in
     (found.0, used_after found.0 found.1, (λ i. path_of (same i) found.0) ∙ found.2))
   where
     rules_after : IsTable (table after)
@@ -60,7 +61,8 @@ tree_stays m after rules same files = same_tree after (tree_of m) rules_after
 module _ (m after : List ℕ) (rules : IsTable (table m)) (rules_after : IsTable (table after)) (e : ℕ)
     (used : IsUsed (table after) e)
     (others : (f : ℕ) → f ≢ e → IsUsed (table after) f → IsUsed (table m) f × (file_in after f ≡ file_in m f))
-    (paths : (f : ℕ) → IsUsed (table m) f → IsUsed (table after) f × (path_of (table after) f ≡ path_of (table m) f)) where
+    (paths : (f : ℕ) → IsUsed (table m) f
+    → IsUsed (table after) f × (path_of (table after) f ≡ path_of (table m) f)) where
   abbrev pub place : Path
   place = path_of (table after) e
 
@@ -69,12 +71,15 @@ module _ (m after : List ℕ) (rules : IsTable (table m)) (rules_after : IsTable
   got p = get-insert nat_list_cmp_total (tree_of m) place (file_in after e) p
 
   got_here : (p : Path) → p ≡ place → get (insert (tree_of m) place (file_in after e)) p ≡ Some (file_in after e)
-  got_here p is = got p ∙ ap (λ (b : Bool). cond b (Some (file_in after e)) (get (tree_of m) p)) (same_of_one p place is)
+  got_here p is = got p
+      ∙ ap (λ (b : Bool). cond b (Some (file_in after e)) (get (tree_of m) p)) (same_of_one p place is)
 
-  differs : (b : Bool) (f : ℕ) → IsUsed (table after) f → f ≢ e → same_path (path_of (table after) f) place ≡ b → b ≡ false
+  differs : (b : Bool) (f : ℕ) → IsUsed (table after) f → f ≢ e
+      → same_path (path_of (table after) f) place ≡ b → b ≡ false
   differs false f used_f other is = refl
   differs true f used_f other is =
-      absurd (other (one_path (table after) rules_after f e used_f used (one_of_same (path_of (table after) f) place is)))
+      absurd (other (one_path (table after) rules_after f e used_f used
+      (one_of_same (path_of (table after) f) place is)))
 
   has : (f : ℕ) → IsUsed (table after) f
       → get (insert (tree_of m) place (file_in after e)) (path_of (table after) f) ≡ Some (file_in after f)

@@ -18,11 +18,13 @@ use Rattle.file_tree.specs.laws.Costs.{extent_of-none, extent_of-some}
 -- the bytes of an entry without blocks, and with some
 pub content-none : (m : List ℕ) (x : Entry) → x.kind < 2 → content m x ≡ []
 unfolding content
-content-none m x low = ap (λ (o : Option Extent). option_map_or (λ k. bytes_of m (blocks_of m k)) o []) (extent_of-none x low)
+content-none m x low =
+    ap (λ (o : Option Extent). option_map_or (λ k. bytes_of m (blocks_of m k)) o []) (extent_of-none x low)
 
 pub content-some : (m : List ℕ) (x : Entry) → 2 ≤ x.kind → content m x ≡ bytes_of m (blocks_of m (extent_told x))
 unfolding content
-content-some m x high = ap (λ (o : Option Extent). option_map_or (λ k. bytes_of m (blocks_of m k)) o []) (extent_of-some x high)
+content-some m x high =
+    ap (λ (o : Option Extent). option_map_or (λ k. bytes_of m (blocks_of m k)) o []) (extent_of-some x high)
 
 -- the blocks that an entry may name
 abbrev pub blocks_named : List ℕ → Option Extent → List ℕ

@@ -334,7 +334,8 @@ module _ (m : List ℕ) (sized : IsMemory m) (stands : TreeStands m) where
   costs_laid : sum_by (λ (n : Node). cost n.1) (entries (tree_of m)) ≡ length (laid_out m (extents (table m)))
   unfolding tree_of table
   costs_laid =
-      sum-nodes (λ (n : Node). cost n.1) (filter_map (node m) (range_with_len 0 64)) (nodes_distinct m stands.entries 0 64)
+      sum-nodes (λ (n : Node). cost n.1) (filter_map (node m) (range_with_len 0 64))
+      (nodes_distinct m stands.entries 0 64)
       ∙ costs_from 0 64 (omega arith) ∙ laid_blocks m (extents (table m)) stands.blocks.each
 
   pub costs_fit : sum_by (λ (n : Node). cost n.1) (entries (tree_of m)) ≤ block_count m

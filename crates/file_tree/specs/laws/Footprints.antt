@@ -83,7 +83,10 @@ tree_kept m after sized keeps stands =
     let laid = laid_elsewhere (block_count m) m after (extents (table m)) sized stands.blocks keeps.blocks in
     let are_laid : List Entry → Type 0 = λ t. AreLaid (block_count m) after (extents t) in
     let are_table : List Entry → Type 0 = λ t. IsTable t in (
-      record { entries = subst are_table (sym entries) stands.entries; blocks = laid_as m after _ keeps.format (subst are_laid (sym entries) laid.0) },
+      record {
+        entries = subst are_table (sym entries) stands.entries;
+        blocks = laid_as m after _ keeps.format (subst are_laid (sym entries) laid.0);
+      },
       entries,
       tree_same m after entries (content_same m after (table m) (length-table m) laid.2),
       laid.1,

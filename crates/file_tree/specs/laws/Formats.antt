@@ -48,7 +48,8 @@ unfolding block_count
 count_is m = refl
 
 -- so many blocks there are by the mark
-pub count_new : (m : List ℕ) → word m HEADER_PAGE MARK_WORD ≡ MARK → block_count m ≡ word m HEADER_PAGE PAGES_WORD - FIRST_BLOCK_PAGE
+pub count_new : (m : List ℕ) → word m HEADER_PAGE MARK_WORD ≡ MARK
+    → block_count m ≡ word m HEADER_PAGE PAGES_WORD - FIRST_BLOCK_PAGE
 count_new m is = count_is m ∙ ap (λ (end : ℕ). end - FIRST_BLOCK_PAGE) (end_new m is)
 
 pub count_old : (m : List ℕ) → word m HEADER_PAGE MARK_WORD ≢ MARK → block_count m ≡ OLD_END_PAGE - FIRST_BLOCK_PAGE

@@ -69,15 +69,18 @@ behind_is x y xs ys same up all p has =
 same_places : (xs ys : List Place) → AreSorted xs → AreSorted ys → ((p : Place) → Contains xs p → Contains ys p)
     → ((p : Place) → Contains ys p → Contains xs p) → xs ≡ ys
 same_places [] [] up_x up_y over back = refl
-same_places [] (y ∷ ys) up_x up_y over back = absurd (let has = back y (0, omega arith, refl) in let lt = has.1 in omega (arith, lt))
-same_places (x ∷ xs) [] up_x up_y over back = absurd (let has = over x (0, omega arith, refl) in let lt = has.1 in omega (arith, lt))
+same_places [] (y ∷ ys) up_x up_y over back =
+    absurd (let has = back y (0, omega arith, refl) in let lt = has.1 in omega (arith, lt))
+same_places (x ∷ xs) [] up_x up_y over back =
+    absurd (let has = over x (0, omega arith, refl) in let lt = has.1 in omega (arith, lt))
 same_places (x ∷ xs) (y ∷ ys) up_x up_y over back =
     let same = first_is x y xs ys up_x.0 up_y.0 (over x (0, omega arith, refl)) (back y (0, omega arith, refl)) in
     ap₂ (λ (p : Place) (ps : List Place). p ∷ ps) same
-    (same_places xs ys up_x.1 up_y.1 (behind_is x y xs ys same up_x.0 over) (behind_is y x ys xs (sym same) up_y.0 back))
+    (same_places xs ys up_x.1 up_y.1 (behind_is x y xs ys same up_x.0 over)
+    (behind_is y x ys xs (sym same) up_y.0 back))
 
-places_over : (t : List Entry) (one other : Index) → IsIndex t one → IsIndex t other → (p : Place) → Contains one.places.items p
-    → Contains other.places.items p
+places_over : (t : List Entry) (one other : Index) → IsIndex t one → IsIndex t other → (p : Place)
+    → Contains one.places.items p → Contains other.places.items p
 places_over t one other is_one is_other p has =
     let place = All-contains (IsPlace t) one.places.items p is_one.each has in
     let family : Place → Type 0 = λ q. Contains other.places.items q in
@@ -102,11 +105,13 @@ index_kept t after index keeps is = record {
       };
   all = λ e below used.
       let family : Place → Type 0 = λ p. Contains index.places.items p in
-      subst family (λ i. record { key = sym (same_key e) i; entry = e }) (is.all e below (λ none. used (keeps.kinds e ∙ none)));
+      subst family (λ i. record { key = sym (same_key e) i; entry = e })
+      (is.all e below (λ none. used (keeps.kinds e ∙ none)));
   sorted = is.sorted;
 }
   where
-    same_key : (e : ℕ) → key_for (entry_in after e).parent (entry_in after e).identifier ≡ key_for (entry_in t e).parent (entry_in t e).identifier
+    same_key : (e : ℕ) → key_for (entry_in after e).parent (entry_in after e).identifier
+        ≡ key_for (entry_in t e).parent (entry_in t e).identifier
     same_key e = ap₂ (λ (a b : ℕ). key_for a b) (keeps.parents e) (keeps.identifiers e)
 
 -- Places stay in the same table, over two changes, and where one entry keeps its own and no other is other.
@@ -133,16 +138,20 @@ places_but t after e kind parent identifier others = record {
   identifiers = of_each (λ x. x.identifier) identifier;
 }
   where
-    of_each : (told : Entry → ℕ) → told (entry_in after e) ≡ told (entry_in t e) → (f : ℕ) → told (entry_in after f) ≡ told (entry_in t f)
+    of_each : (told : Entry → ℕ) → told (entry_in after e) ≡ told (entry_in t e) → (f : ℕ)
+        → told (entry_in after f) ≡ told (entry_in t f)
     of_each told own f = elim (eqb_tells f e) [
-      | inl same ↦ ap (λ (k : ℕ). told (entry_in after k)) same.1 ∙ own ∙ sym (ap (λ (k : ℕ). told (entry_in t k)) same.1)
+      | inl same ↦ ap (λ (k : ℕ). told (entry_in after k)) same.1 ∙ own
+          ∙ sym (ap (λ (k : ℕ). told (entry_in t k)) same.1)
       | inr other ↦ ap told (others f other.1)
     ]
 
-pub life_places : (m after : List ℕ) (e : ℕ) (state : LifeCycle) → ChangesLife m e state after → KeepsPlaces (table m) (table after)
+pub life_places : (m after : List ℕ) (e : ℕ) (state : LifeCycle) → ChangesLife m e state after
+    → KeepsPlaces (table m) (table after)
 life_places m after e state changes = places_but (table m) (table after) e (ap (λ (x : Entry). x.kind) changes.entry)
     (ap (λ (x : Entry). x.parent) changes.entry) (ap (λ (x : Entry). x.identifier) changes.entry) changes.others
 
 pub life_leaves : (m after : List ℕ) (e : ℕ) (state : LifeCycle) (index : Index) → ChangesLife m e state after
     → IsIndex (table m) index → IsIndex (table after) index
-life_leaves m after e state index changes = index_kept (table m) (table after) index (life_places m after e state changes)
+life_leaves m after e state index changes =
+    index_kept (table m) (table after) index (life_places m after e state changes)

@@ -1,14 +1,17 @@
 -- What a search among places finds, and what one place more, or fewer places, are the index of.
 use Rattle.std.specs.Prelude.{◌≡◌, ◌≢◌, ◌==◌, ◌⊎◌, ◌<◌, ◌≤◌, ◌+◌, ◌/◌, ◌||◌, ℕ, zero, suc, Bool, true, false}
-use Rattle.std.specs.Prelude.{if◌then◌else◌, List, [], ◌∷◌, ◌++◌, map, length, take, drop, insert, slice_index_or, All, Contains, None, Some}
-use Rattle.std.specs.Prelude.{Result, Ok, Err}
+use Rattle.std.specs.Prelude.{if◌then◌else◌, List, [], ◌∷◌, ◌++◌, map, length, take, drop, insert, slice_index_or, All}
+use Rattle.std.specs.Prelude.{Contains, None, Some, Result, Ok, Err}
 use Rattle.std.specs.List.Sorted.{IsSearchInRange}
 use Rattle.std.specs.List.{IsDistinct, list_any}
-use Rattle.std.proofs.Common.{refl, sym, ◌∙◌, ap, ap₂, subst, arith, inl, inr, ⊎_elim, true≢false, length-take, get_or-take, get_or-drop, length-drop}
+use Rattle.std.proofs.Common.{refl, sym, ◌∙◌, ap, ap₂, subst, arith, inl, inr, ⊎_elim, true≢false, length-take}
+use Rattle.std.proofs.Common.{get_or-take, get_or-drop, length-drop}
 use Rattle.std.proofs.lemmas.Bool.{cases_lt}
 use Rattle.std.proofs.lemmas.Bool.Decides.{eqb_tells}
-use Rattle.std.proofs.lemmas.List.{take-append-drop, append-nil, get_or_default, length-append, length-map, nil_from_length}
-use Rattle.std.proofs.lemmas.List.Elements.{All-nil, All-cons, All-head, All-tail, All-append, All-map, recursion_from_All}
+use Rattle.std.proofs.lemmas.List.{take-append-drop, append-nil, get_or_default, length-append}
+use Rattle.std.proofs.lemmas.List.{length-map, nil_from_length}
+use Rattle.std.proofs.lemmas.List.Elements.{All-nil, All-cons, All-head, All-tail, All-append}
+use Rattle.std.proofs.lemmas.List.Elements.{All-map, recursion_from_All}
 use Rattle.std.proofs.lemmas.List.Elements.{Contains-append_cases, Contains-append_left, Contains-append_right}
 use Rattle.std.proofs.lemmas.Map.Steps.{length-le_from_distinct_below}
 use Rattle.file_tree.specs.declared.layout.TheConstants.{ENTRIES}
@@ -19,7 +22,8 @@ use Rattle.file_tree.specs.declared.index.Index.{Index}
 use Rattle.file_tree.specs.Keys.{key_for, IsBefore}
 use Rattle.file_tree.specs.Table.{table, entry_in, IsUsed, IsTable, HaveIdentifiers}
 use Rattle.file_tree.specs.Indexes.{place_of, IsPlace, AreSorted, IsIndex, IsFreeIn, AddsEntry, TellsChild}
-use Rattle.file_tree.specs.IndexParts.{key_at, AreBefore, AreBehind, TellsSearch, TellsPut, halved, Puts, ArePlacesTo, parent_by, leads_by}
+use Rattle.file_tree.specs.IndexParts.{key_at, AreBefore, AreBehind, TellsSearch, TellsPut, halved, Puts, ArePlacesTo}
+use Rattle.file_tree.specs.IndexParts.{parent_by, leads_by}
 use Rattle.file_tree.specs.laws.Tables.{entry_past}
 use Rattle.file_tree.specs.laws.Alikes.{used_within}
 
@@ -39,22 +43,24 @@ never_before_itself a b is (inl h) = let p = ap (λ (k : Key). k.parent) is in o
 never_before_itself a b is (inr h) = let p = ap (λ (k : Key). k.identifier) is in let g = h.1 in omega (arith, p, g)
 
 -- of places by ascending keys, an earlier one is before a later one
-sorted_at : (xs : List Place) (i j : ℕ) (d : Place) → AreSorted xs → i < j → j < length xs → IsBefore (key_at xs i d) (key_at xs j d)
+sorted_at : (xs : List Place) (i j : ℕ) (d : Place) → AreSorted xs → i < j → j < length xs
+    → IsBefore (key_at xs i d) (key_at xs j d)
 sorted_at [] i j d up lt within = absurd (omega (arith, within))
 sorted_at (x ∷ xs) i zero d up lt within = absurd (omega (arith, lt))
 sorted_at (x ∷ xs) zero (suc j) d up lt within = up.0 j d (omega (arith, within))
 sorted_at (x ∷ xs) (suc i) (suc j) d up lt within = sorted_at xs i j d up.1 (omega (arith, lt)) (omega (arith, within))
 
--- The steps of a search: where the place in the middle is before the key, so are all before it; where it is behind, so are
--- all that follow.
-module _ (places : List Place) (key : Key) (middle : ℕ) (within : middle < length places) (up : AreSorted places) (e : Place) where
+-- The steps of a search: where the place in the middle is before the key, so are all before it;
+-- where it is behind, so are all that follow.
+module _ (places : List Place) (key : Key) (middle : ℕ) (within : middle < length places)
+    (up : AreSorted places) (e : Place) where
   pub search_up : IsBefore (key_at places middle e) key → AreBefore places key (middle + 1)
   search_up is = λ k d lt.
       let here : IsBefore (key_at places middle d) key =
       subst (λ (one : Key). IsBefore one key) (same_key places middle e d within) is in
       ⊎_elim
-      (λ (less : k < middle). before_then (key_at places k d) (key_at places middle d) key (sorted_at places k middle d up less within) here)
-      (λ (from : middle ≤ k).
+      (λ (less : k < middle). before_then (key_at places k d) (key_at places middle d) key
+      (sorted_at places k middle d up less within) here) (λ (from : middle ≤ k).
       let same : middle ≡ k = omega (arith, lt, from) in
       let family : ℕ → Type 0 = λ j. IsBefore (key_at places j d) key in
       subst family same here)
@@ -65,8 +71,8 @@ module _ (places : List Place) (key : Key) (middle : ℕ) (within : middle < len
       let here : IsBefore key (key_at places middle d) =
       subst (λ (one : Key). IsBefore key one) (same_key places middle e d within) is in
       ⊎_elim
-      (λ (more : middle < k). before_then key (key_at places middle d) (key_at places k d) here (sorted_at places middle k d up more below))
-      (λ (most : k ≤ middle).
+      (λ (more : middle < k). before_then key (key_at places middle d) (key_at places k d) here
+      (sorted_at places middle k d up more below)) (λ (most : k ≤ middle).
       let same : middle ≡ k = omega (arith, from, most) in
       let family : ℕ → Type 0 = λ j. IsBefore key (key_at places j d) in
       subst family same here)
@@ -110,7 +116,8 @@ module _ (m : List ℕ) (index : Index) (places : List Place) (same : places ≡
         ap (λ (k : Key). k.identifier) one,
       )
 
-  pub no_child : AreBefore places (key_for parent id) at → AreBehind places (key_for parent id) at → TellsChild (table m) parent id None
+  pub no_child : AreBefore places (key_for parent id) at → AreBehind places (key_for parent id) at
+      → TellsChild (table m) parent id None
   no_child before behind = λ e child known.
       let d = place_of (table m) e in
       let family : List Place → Type 0 = λ ps. Contains ps d in
@@ -156,8 +163,8 @@ puts_behind places place all = record {
 }
 
 -- where the last key is before one, all are
-pub all_before : (places : List Place) (key : Key) (last : ℕ) (d : Place) → last < length places → length places ≤ last + 1
-    → AreSorted places → IsBefore (key_at places last d) key → All (λ p. IsBefore p.key key) places
+pub all_before : (places : List Place) (key : Key) (last : ℕ) (d : Place) → last < length places → length places
+    ≤ last + 1 → AreSorted places → IsBefore (key_at places last d) key → All (λ p. IsBefore p.key key) places
 all_before places key last d within most up is = λ k e lt.
     search_up places key last within up d is k e (omega (arith, lt, most))
 
@@ -178,8 +185,8 @@ all_parts P (x ∷ xs) ys all =
     let rest = all_parts P xs ys (All-tail P x (xs ++ ys) all) in
     (All-cons P x xs (All-head P x (xs ++ ys) all) rest.0, rest.1)
 
-sorted_around : (front back : List Place) (p : Place) → AreSorted (front ++ back) → All (λ q. IsBefore q.key p.key) front
-    → All (λ q. IsBefore p.key q.key) back → AreSorted (front ++ p ∷ back)
+sorted_around : (front back : List Place) (p : Place) → AreSorted (front ++ back)
+    → All (λ q. IsBefore q.key p.key) front → All (λ q. IsBefore p.key q.key) back → AreSorted (front ++ p ∷ back)
 sorted_around [] back p up before behind = (behind, up)
 sorted_around (x ∷ front) back p up before behind =
     let later : Place → Type 0 = λ q. IsBefore x.key q.key in
@@ -196,15 +203,16 @@ module _ (old : List Place) (place : Place) (new : List Place) (puts : Puts old 
   all_put P all own =
       let family : List Place → Type 0 = λ ps. All P ps in
       let parts = all_parts P puts.front puts.back (subst family puts.old_is all) in
-      subst family (sym puts.new_is) (All-append P puts.front (place ∷ puts.back) parts.0 (All-cons P place puts.back own parts.1))
+      subst family (sym puts.new_is)
+      (All-append P puts.front (place ∷ puts.back) parts.0 (All-cons P place puts.back own parts.1))
 
   has_put : (x : Place) → Contains old x → Contains new x
   has_put x has =
       let family : List Place → Type 0 = λ ps. Contains ps x in
       subst family (sym puts.new_is) (⊎_elim
       (λ (left : Contains puts.front x). Contains-append_left puts.front (place ∷ puts.back) x left)
-      (λ (right : Contains puts.back x). Contains-append_right puts.front (place ∷ puts.back) x (contains_more puts.back place x right))
-      (Contains-append_cases puts.front puts.back x (subst family puts.old_is has)))
+      (λ (right : Contains puts.back x). Contains-append_right puts.front (place ∷ puts.back) x (contains_more puts.back
+      place x right)) (Contains-append_cases puts.front puts.back x (subst family puts.old_is has)))
 
   pub length_put : length new ≡ length old + 1
   length_put =
@@ -222,15 +230,16 @@ module _ (old : List Place) (place : Place) (new : List Place) (puts : Puts old 
   sorted_put : AreSorted old → AreSorted new
   sorted_put up =
       let family : List Place → Type 0 = λ ps. AreSorted ps in
-      subst family (sym puts.new_is) (sorted_around puts.front puts.back place (subst family puts.old_is up) puts.before puts.behind)
+      subst family (sym puts.new_is)
+      (sorted_around puts.front puts.back place (subst family puts.old_is up) puts.before puts.behind)
 
 -- a place's key is that of its entry
 pub place_is : (t : List Entry) (p : Place) → IsPlace t p → p ≡ place_of t p.entry
 place_is t p is = ap (λ (k : Key). record { key = k; entry = p.entry }) is.key_is
 
 -- files with one key are one
-pub one_key : (t : List Entry) (p : Place) (e : ℕ) → HaveIdentifiers t → IsPlace t p → 0 < e → IsUsed t e → p.key ≡ (place_of t e).key
-    → p.entry ≡ e
+pub one_key : (t : List Entry) (p : Place) (e : ℕ) → HaveIdentifiers t → IsPlace t p → 0 < e → IsUsed t e
+    → p.key ≡ (place_of t e).key → p.entry ≡ e
 one_key t p e apart is below used same =
     let keys : key_for _ _ ≡ key_for _ _ = sym is.key_is ∙ same in
     apart (entry_in t e).parent p.entry e
@@ -270,7 +279,8 @@ module _ (t : List Entry) (e : ℕ) (places : List Place) (so_far : ArePlacesTo 
 
   pub places_put : (new : List Place) → 0 < e → IsUsed t e → Puts places (place_of t e) new → ArePlacesTo t (e + 1) new
   places_put new below used puts = record {
-    each = all_put places (place_of t e) new puts (IsPlace t) so_far.each (record { below = below; used = used; key_is = refl });
+    each = all_put places (place_of t e) new puts (IsPlace t) so_far.each
+        (record { below = below; used = used; key_is = refl });
     below = all_put places (place_of t e) new puts (λ p. p.entry < e + 1) below_more (omega arith);
     all = λ f some small used_f. elim (eqb_tells f e) [
       | inl same ↦
@@ -292,8 +302,8 @@ places_stored t e places new place so_far below used own small put =
     (omega (arith, long, small), places_put t e places so_far new below used puts)
 
 -- a place whose key another one has is that of a file whose identifier another child has
-pub places_taken : (t : List Entry) (e : ℕ) (places : List Place) (place : Place) → ArePlacesTo t e places → 0 < e → IsUsed t e
-    → place ≡ place_of t e → (All (λ p. p.key ≢ place.key) places → ⊥) → HaveIdentifiers t → ⊥
+pub places_taken : (t : List Entry) (e : ℕ) (places : List Place) (place : Place) → ArePlacesTo t e places → 0 < e
+    → IsUsed t e → place ≡ place_of t e → (All (λ p. p.key ≢ place.key) places → ⊥) → HaveIdentifiers t → ⊥
 places_taken t e places place so_far below used own taken apart =
     let family : Place → Type 0 = λ p. All (λ q. q.key ≢ p.key) places → ⊥ in
     subst family own taken (new_key t e places so_far apart below used)
@@ -310,21 +320,25 @@ one_place places i j d up within also same = ⊎_elim
     (cases_lt i j)
 
 -- where each file has a place, children of one dedicated file have identifiers of their own
-pub places_apart : (t : List Entry) (places : List Place) (end : ℕ) → length t ≤ end → ArePlacesTo t end places → HaveIdentifiers t
+pub places_apart : (t : List Entry) (places : List Place) (end : ℕ) → length t ≤ end
+    → ArePlacesTo t end places → HaveIdentifiers t
 places_apart t places end most all df e f one other same =
     let d = place_of t e in
     let within = used_within t e one.used in
     let also = used_within t f other.used in
     let here = all.all e one.below (omega (arith, within, most)) one.used in
     let there = all.all f other.below (omega (arith, also, most)) other.used in
-    let keys : key_for (entry_in t e).parent (entry_in t e).identifier ≡ key_for (entry_in t f).parent (entry_in t f).identifier =
+    let keys : key_for (entry_in t e).parent (entry_in t e).identifier
+    ≡ key_for (entry_in t f).parent (entry_in t f).identifier =
     ap₂ (λ (a b : ℕ). key_for a b) (one.parent ∙ sym other.parent) same in
-    let at : slice_index_or places there.0 d ≡ place_of t f = get_or_default places there.0 d (place_of t f) there.1 ∙ there.2 in
+    let at : slice_index_or places there.0 d ≡ place_of t f =
+    get_or_default places there.0 d (place_of t f) there.1 ∙ there.2 in
     let is = one_place places here.0 there.0 d all.sorted here.1 there.1
     (ap (λ (p : Place). p.key) here.2 ∙ keys ∙ sym (ap (λ (p : Place). p.key) at)) in
     ap (λ (p : Place). p.entry) (sym here.2 ∙ ap (λ (k : ℕ). slice_index_or places k d) is ∙ at)
 
-pub places_whole : (t : List Entry) (index : Index) (end : ℕ) → length t ≤ end → ArePlacesTo t end index.places.items → IsIndex t index
+pub places_whole : (t : List Entry) (index : Index) (end : ℕ) → length t ≤ end
+    → ArePlacesTo t end index.places.items → IsIndex t index
 places_whole t index end most all = record {
   each = all.each;
   all = λ e some used. let small = used_within t e used in all.all e some (omega (arith, small, most)) used;
@@ -342,7 +356,8 @@ pub any_below : (xs : List ℕ) (n q : ℕ) → All (λ x. x < n) xs → list_an
 any_below [] n q all any = absurd (true≢false (sym any))
 any_below (x ∷ xs) n q all any = elim (eqb_tells q x) [
   | inl same ↦ let h = All-head (λ y. y < n) x xs all in let s = same.1 in omega (arith, h, s)
-  | inr other ↦ any_below xs n q (All-tail (λ y. y < n) x xs all) (sym (ap (λ (b : Bool). b || list_any (λ y. q == y) xs) other.0) ∙ any)
+  | inr other ↦ any_below xs n q (All-tail (λ y. y < n) x xs all)
+      (sym (ap (λ (b : Bool). b || list_any (λ y. q == y) xs) other.0) ∙ any)
 ]
 
 -- the entries of places are apart
@@ -358,7 +373,8 @@ entries_apart t (x ∷ xs) each up =
     All-map (λ y. (x.entry == y) ≡ false) (λ (p : Place). p.entry) xs (λ k d lt.
     let p = slice_index_or xs k d in
     differ x.entry p.entry (λ same.
-    let keys : x.key ≡ p.key = own.key_is ∙ ap (λ (e : ℕ). key_for (entry_in t e).parent (entry_in t e).identifier) same ∙ sym (others k d lt).key_is in
+    let keys : x.key ≡ p.key = own.key_is ∙ ap (λ (e : ℕ). key_for (entry_in t e).parent (entry_in t e).identifier) same
+    ∙ sym (others k d lt).key_is in
     never_before_itself x.key p.key keys (up.0 k d lt))) in
     (recursion_from_All (λ y. (x.entry == y) ≡ false) (map (λ p. p.entry) xs) apart, rest)
 
@@ -371,19 +387,24 @@ room index e is =
     let numbers = map (λ (p : Place). p.entry) items in
     let each = is.indexed.each in
     let some : All (λ y. (0 == y) ≡ false) numbers = All-map (λ y. (0 == y) ≡ false) (λ (p : Place). p.entry) items
-    (λ k d lt. let below = (each k d lt).below in differ 0 (slice_index_or items k d).entry (λ zero_is. let z : ⊥ = omega (arith, zero_is, below) in z)) in
+    (λ k d lt. let below = (each k d lt).below in
+    differ 0 (slice_index_or items k d).entry (λ zero_is. let z : ⊥ = omega (arith, zero_is, below) in z)) in
     let other : All (λ y. (e == y) ≡ false) numbers = All-map (λ y. (e == y) ≡ false) (λ (p : Place). p.entry) items
-    (λ k d lt. differ e (slice_index_or items k d).entry (λ same. (each k d lt).used (ap (λ (f : ℕ). (entry_in t f).kind) (sym same) ∙ is.free))) in
+    (λ k d lt. differ e (slice_index_or items k d).entry
+    (λ same. (each k d lt).used (ap (λ (f : ℕ). (entry_in t f).kind) (sym same) ∙ is.free))) in
     let small : All (λ y. y < 64) numbers = All-map (λ y. y < 64) (λ (p : Place). p.entry) items
     (λ k d lt. in_table t is.size (slice_index_or items k d).entry (each k d lt).used) in
     let all_small : All (λ y. y < 64) (0 ∷ e ∷ numbers) =
-    All-cons (λ y. y < 64) 0 (e ∷ numbers) (omega arith) (All-cons (λ y. y < 64) e numbers (let within = is.within in omega (arith, within)) small) in
-    let first : (0 == e) ≡ false = differ 0 e (λ zero_is. let below = is.below in let z : ⊥ = omega (arith, zero_is, below) in z) in
+    All-cons (λ y. y < 64) 0 (e ∷ numbers) (omega arith)
+    (All-cons (λ y. y < 64) e numbers (let within = is.within in omega (arith, within)) small) in
+    let first : (0 == e) ≡ false =
+    differ 0 e (λ zero_is. let below = is.below in let z : ⊥ = omega (arith, zero_is, below) in z) in
     let apart : IsDistinct (λ a b. a == b) (0 ∷ e ∷ numbers) = (
       recursion_from_All (λ y. (0 == y) ≡ false) (e ∷ numbers) (All-cons (λ y. (0 == y) ≡ false) e numbers first some),
       (recursion_from_All (λ y. (e == y) ≡ false) numbers other, entries_apart t items each is.indexed.sorted),
     ) in
-    let count = length-le_from_distinct_below (0 ∷ e ∷ numbers) 64 apart (λ q any. any_below (0 ∷ e ∷ numbers) 64 q all_small any) in
+    let count = length-le_from_distinct_below (0 ∷ e ∷ numbers) 64 apart
+    (λ q any. any_below (0 ∷ e ∷ numbers) 64 q all_small any) in
     let long = length-map items (λ (p : Place). p.entry) in
     omega (arith, count, long)
   where
@@ -394,8 +415,8 @@ room index e is =
         (cases_lt f 64)
 
 -- A file more
-pub adds_key : (t after : List Entry) (index : Index) (parent id e : ℕ) → IsTable after → AddsEntry t parent id e after → IsIndex t index
-    → All (λ p. p.key ≢ key_for parent id) index.places.items
+pub adds_key : (t after : List Entry) (index : Index) (parent id e : ℕ) → IsTable after → AddsEntry t parent id e after
+    → IsIndex t index → All (λ p. p.key ≢ key_for parent id) index.places.items
 adds_key t after index parent id e rules adds is = λ k d lt same.
     let p = slice_index_or index.places.items k d in
     let place = is.each k d lt in
@@ -412,10 +433,12 @@ adds_key t after index parent id e rules adds is = λ k d lt same.
 -- the place that is added, as the table after tells it
 added_place : (t after : List Entry) (parent id e : ℕ) → AddsEntry t parent id e after
     → place_of after e ≡ record { key = key_for parent id; entry = e }
-added_place t after parent id e adds = λ i. record { key = key_for (adds.parent_is i) (adds.identifier_is i); entry = e }
+added_place t after parent id e adds =
+    λ i. record { key = key_for (adds.parent_is i) (adds.identifier_is i); entry = e }
 
-pub adds_place : (t after : List Entry) (index new : Index) (parent id e : ℕ) (place : Place) → AddsEntry t parent id e after → IsIndex t index
-    → place ≡ record { key = key_for parent id; entry = e } → Puts index.places.items place new.places.items → IsIndex after new
+pub adds_place : (t after : List Entry) (index new : Index) (parent id e : ℕ) (place : Place)
+    → AddsEntry t parent id e after → IsIndex t index → place ≡ record { key = key_for parent id; entry = e }
+    → Puts index.places.items place new.places.items → IsIndex after new
 adds_place t after index new parent id e place adds is told puts =
     let old = index.places.items in
     let items = new.places.items in
@@ -457,15 +480,16 @@ parent_split [] j e d below = absurd (omega (arith, below))
 parent_split (p ∷ ps) zero e d below = refl
 parent_split (p ∷ ps) (suc j) e d below = parent_split ps j e d (omega (arith, below))
 
-pub parent_here : (places : List Place) (k e : ℕ) (d : Place) → k < length places → (slice_index_or places k d).entry ≡ e
-    → parent_by (drop k places) e ≡ (slice_index_or places k d).key.parent
+pub parent_here : (places : List Place) (k e : ℕ) (d : Place) → k < length places
+    → (slice_index_or places k d).entry ≡ e → parent_by (drop k places) e ≡ (slice_index_or places k d).key.parent
 parent_here places k e d lt is = parent_split places k e d lt ∙ elim (eqb_tells (slice_index_or places k d).entry e) [
-  | inl same ↦ ap (λ (b : Bool). if b then (slice_index_or places k d).key.parent else parent_by (drop (suc k) places) e) same.0
+  | inl same ↦
+      ap (λ (b : Bool). if b then (slice_index_or places k d).key.parent else parent_by (drop (suc k) places) e) same.0
   | inr other ↦ absurd (other.1 is)
 ]
 
-pub parent_skip : (places : List Place) (k e : ℕ) (d : Place) → k < length places → (slice_index_or places k d).entry ≢ e
-    → parent_by (drop k places) e ≡ parent_by (drop (k + 1) places) e
+pub parent_skip : (places : List Place) (k e : ℕ) (d : Place) → k < length places
+    → (slice_index_or places k d).entry ≢ e → parent_by (drop k places) e ≡ parent_by (drop (k + 1) places) e
 parent_skip places k e d lt differs =
     let one : k + 1 ≡ suc k = omega arith in
     parent_split places k e d lt
@@ -475,12 +499,15 @@ parent_skip places k e d lt differs =
 
 pub parent_none : (places : List Place) (k e : ℕ) → length places ≤ k → parent_by (drop k places) e ≡ 0
 unfolding parent_by
-parent_none places k e past = ap (λ (ps : List Place). parent_by ps e) (nil_from_length (drop k places) (let l = length-drop k places in omega (arith, l, past)))
+parent_none places k e past = ap (λ (ps : List Place). parent_by ps e)
+    (nil_from_length (drop k places) (let l = length-drop k places in omega (arith, l, past)))
 
 -- Steps to parents.
-pub leads_by-step : (places : List Place) (n top e : ℕ) → e ≢ top → leads_by places (suc n) top e ≡ leads_by places n top (parent_by places e)
+pub leads_by-step : (places : List Place) (n top e : ℕ) → e ≢ top
+    → leads_by places (suc n) top e ≡ leads_by places n top (parent_by places e)
 unfolding leads_by
-leads_by-step places n top e differs = ap (λ (b : Bool). b || leads_by places n top (parent_by places e)) (differ e top differs)
+leads_by-step places n top e differs =
+    ap (λ (b : Bool). b || leads_by places n top (parent_by places e)) (differ e top differs)
 
 pub leads_by-here : (places : List Place) (n top e : ℕ) → e ≡ top → leads_by places n top e ≡ true
 unfolding leads_by

@@ -91,7 +91,8 @@ module _ (m : List ℕ) (rules : IsTable (table m)) (df id : ℕ) (used : IsUsed
   pub told_above_used : (found : Option ℕ) → TellsAbove (table m) df id found → IfSome found (IsUsed (table m))
   told_above_used found told =
       let is_used : Option ℕ → Type 0 = λ o. IfSome o (IsUsed (table m)) in
-      subst is_used (sym told) (one_of_three (not (df == 0) && ((entry_in (table m) (entry_in (table m) df).parent).identifier == id))
+      subst is_used
+      (sym told) (one_of_three (not (df == 0) && ((entry_in (table m) (entry_in (table m) df).parent).identifier == id))
       ((entry_in (table m) df).identifier == id) (master_file == id))
     where
       one_of_three : (above own master : Bool)

@@ -43,11 +43,13 @@ links_keep end m after old only = record {
   };
 }
 
--- The pages behind the old blocks are linked, and the header is renamed: the memory stands for the same tree, in format 2.
+-- The pages behind the old blocks are linked, and the header is renamed:
+-- the memory stands for the same tree, in format 2.
 module _ (end : ℕ) (m mid after : List ℕ) (sized : IsMemory m) (stands : TreeStands m)
     (old : word m HEADER_PAGE MARK_WORD ≢ MARK) (least : OLD_END_PAGE ≤ end) (inside : end ≤ pages_of m)
     (only : LinksAlone OLD_END_PAGE end m mid)
-    (linked : AreLinked OLD_END_PAGE end (word m HEADER_PAGE FREE_HEAD_WORD) mid) (renames : Renames end mid after) where
+    (linked : AreLinked OLD_END_PAGE end (word m HEADER_PAGE FREE_HEAD_WORD) mid)
+    (renames : Renames end mid after) where
   size : length after ≡ length m
   size = renames.size ∙ only.size
 
@@ -64,7 +66,8 @@ module _ (end : ℕ) (m mid after : List ℕ) (sized : IsMemory m) (stands : Tre
       ∙ only.others page place small (inr (inl (let below = of.1 in omega (arith, below))))
 
   old-laid : AreLaid 896 m (extents (table m))
-  old-laid = let family : ℕ → Type 0 = λ n. AreLaid n m (extents (table m)) in subst family (old_count m old) stands.blocks
+  old-laid = let family : ℕ → Type 0 = λ n. AreLaid n m (extents (table m)) in
+      subst family (old_count m old) stands.blocks
 
   old-head : word mid HEADER_PAGE FREE_HEAD_WORD ≡ word m HEADER_PAGE FREE_HEAD_WORD
   old-head = only.others HEADER_PAGE FREE_HEAD_WORD (omega arith) (inl (omega arith))
@@ -89,13 +92,14 @@ module _ (end : ℕ) (m mid after : List ℕ) (sized : IsMemory m) (stands : Tre
         let count : 896 + suc k ≡ end - FIRST_BLOCK_PAGE = omega (arith, all) in
         let head : slice_index after FREE_HEAD ≡ FIRST_BLOCK_PAGE + 896 =
         renames.head ∙ ap (λ (b : Bool). if b then word mid HEADER_PAGE FREE_HEAD_WORD else OLD_END_PAGE) other.0 in
-        let linked-after : AreLinked (FIRST_BLOCK_PAGE + 896) (FIRST_BLOCK_PAGE + 896 + suc k) (slice_index m FREE_HEAD) after =
+        let linked-after : AreLinked (FIRST_BLOCK_PAGE + 896) (FIRST_BLOCK_PAGE + 896 + suc k)
+        (slice_index m FREE_HEAD) after =
         let of_end : ℕ → Type 0 = λ e. AreLinked OLD_END_PAGE e (word m HEADER_PAGE FREE_HEAD_WORD) mid in
         let linked_mid = subst of_end (sym all) linked in
         λ q from below. renames.blocks q 0 (omega (arith, from)) (omega arith) ∙ linked_mid q from below in
         let family : ℕ → Type 0 = λ n. AreLaid n after (extents (table m)) in
-        subst family count (longer_laid 896 k m after (extents (table m)) old-laid size sized (omega (arith, all, inside))
-        (λ q below from. same-blocks q 0 (from, below) (omega arith)) head linked-after).0
+        subst family count (longer_laid 896 k m after (extents (table m)) old-laid size sized
+        (omega (arith, all, inside)) (λ q below from. same-blocks q 0 (from, below) (omega arith)) head linked-after).0
   ]
 
   pub migrated_tree : TreeStands after × (tree_of after ≡ tree_of m)

@@ -13,7 +13,7 @@ use Rattle.file_tree.specs.Keys.{key_for, IsBefore}
 use Rattle.file_tree.specs.Table.{table, entry_in, path_of, IsUsed}
 use Rattle.file_tree.specs.Trees.{tree_of, TreeStands, file_in}
 use Rattle.file_tree.specs.Changes.{Deletes}
-use Rattle.file_tree.specs.DeletionParts.{leads_up}
+use Rattle.file_tree.specs.SubtreeParts.{leads_up}
 use Rattle.file_tree.specs.Indexes.{place_of, IsPlace, AreSorted, IsIndex}
 use Rattle.file_tree.specs.IndexParts.{leads_by, is_outside}
 use Rattle.file_tree.specs.laws.Paths.{one_path}
@@ -31,7 +31,8 @@ sorted_rest false p kept later up = up
 sorted_filter : (keep : Place → Bool) (places : List Place) → AreSorted places → AreSorted (filter keep places)
 sorted_filter keep [] up = tt
 sorted_filter keep (p ∷ places) up =
-    sorted_rest (keep p) p (filter keep places) (All-filter keep (λ q. IsBefore p.key q.key) places up.0) (sorted_filter keep places up.1)
+    sorted_rest (keep p) p (filter keep places) (All-filter keep (λ q. IsBefore p.key q.key) places up.0)
+    (sorted_filter keep places up.1)
 
 -- what passes is kept
 has_here : (b : Bool) (p x : Place) (kept : List Place) → b ≡ true → p ≡ x → Contains (cond b (p ∷ kept) kept) x
@@ -42,15 +43,15 @@ has_later : (b : Bool) (p x : Place) (kept : List Place) → Contains kept x →
 has_later true p x kept has = let lt = has.1 in (suc has.0, omega (arith, lt), has.2)
 has_later false p x kept has = has
 
-has_kept : (keep : Place → Bool) (places : List Place) (x : Place) (k : ℕ) → k < length places → slice_index_or places k x ≡ x
-    → keep x ≡ true → Contains (filter keep places) x
+has_kept : (keep : Place → Bool) (places : List Place) (x : Place) (k : ℕ) → k < length places
+    → slice_index_or places k x ≡ x → keep x ≡ true → Contains (filter keep places) x
 has_kept keep [] x k lt is passes = absurd (omega (arith, lt))
 has_kept keep (p ∷ places) x zero lt is passes = has_here (keep p) p x (filter keep places) (ap keep is ∙ passes) is
 has_kept keep (p ∷ places) x (suc k) lt is passes =
     has_later (keep p) p x (filter keep places) (has_kept keep places x k (omega (arith, lt)) is passes)
 
-module _ (m after : List ℕ) (top : ℕ) (index : Index) (stands : TreeStands m) (above : 0 < top) (used : IsUsed (table m) top)
-    (deletes : Deletes m top after) (is : IsIndex (table m) index) where
+module _ (m after : List ℕ) (top : ℕ) (index : Index) (stands : TreeStands m) (above : 0 < top)
+    (used : IsUsed (table m) top) (deletes : Deletes m top after) (is : IsIndex (table m) index) where
   abbrev t : List Entry
   t = table m
 
@@ -95,15 +96,18 @@ module _ (m after : List ℕ) (top : ℕ) (index : Index) (stands : TreeStands m
           (sym (kept_at path ∙ ap (λ (b : Bool). cond b (get (tree_of m) path) None) kept) ∙ got) in
           let g = found.0 in
           let apart : starts_with nat_eq (path_of t g) (path_of t top) ≡ false =
-          ap (λ (q : Path). starts_with nat_eq q (path_of t top)) found.2 ∙ not_true (starts_with nat_eq path (path_of t top)) kept in
+          ap (λ (q : Path). starts_with nat_eq q (path_of t top)) found.2
+          ∙ not_true (starts_with nat_eq path (path_of t top)) kept in
           let stays = deletes.kept g found.1 apart in
           let now : IsUsed (table after) g = λ none. found.1 (ap (λ (x : Entry). x.kind) (sym stays.0) ∙ none) in
           let one : g ≡ f = one_path (table after) deletes.stands.entries g f now used_f (stays.1 ∙ found.2) in
-          let told : ℕ → Type 0 = λ k. IsUsed t k × (leads_up t 7 top k ≡ false) × (entry_in (table after) k ≡ entry_in t k) in
+          let told : ℕ → Type 0 = λ k. IsUsed t k × (leads_up t 7 top k ≡ false)
+          × (entry_in (table after) k ≡ entry_in t k) in
           subst told one (found.1, within_path t stands.entries top above used g found.1 ∙ apart, stays.0)
 
   -- and a file outside is there after
-  stays : (f : ℕ) → IsUsed t f → leads_up t 7 top f ≡ false → IsUsed (table after) f × (entry_in (table after) f ≡ entry_in t f)
+  stays : (f : ℕ) → IsUsed t f → leads_up t 7 top f ≡ false
+      → IsUsed (table after) f × (entry_in (table after) f ≡ entry_in t f)
   stays f used_f out =
       let same = (deletes.kept f used_f (sym (within_path t stands.entries top above used f used_f) ∙ out)).0 in
       (λ none. used_f (ap (λ (x : Entry). x.kind) (sym same) ∙ none), same)
@@ -117,7 +121,8 @@ module _ (m after : List ℕ) (top : ℕ) (index : Index) (stands : TreeStands m
       let each : All (IsPlace (table after)) (filter keep places) = λ k d lt.
       (let p = slice_index_or (filter keep places) k d in
       let place = old_each k d lt in
-      let out : leads_up t 7 top p.entry ≡ false = sym (leads_is 7 p.entry place.used) ∙ not_true (leads_by places 7 top p.entry) (passes k d lt) in
+      let out : leads_up t 7 top p.entry ≡ false = sym (leads_is 7 p.entry place.used)
+      ∙ not_true (leads_by places 7 top p.entry) (passes k d lt) in
       let now = stays p.entry place.used out in
       record {
         below = place.below;

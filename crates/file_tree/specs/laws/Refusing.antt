@@ -31,7 +31,8 @@ kind_named true false own name short body = refl
 kind_named false none own name short body = refl
 
 file_named : (x : Entry) (bytes name : List ℕ)
-    → is_named name (file_of x bytes).kind ≡ ((x.kind == 1) && (if x.name_length == 0 then false else same_path (name_of x) name))
+    → is_named name (file_of x bytes).kind
+    ≡ ((x.kind == 1) && (if x.name_length == 0 then false else same_path (name_of x) name))
 unfolding file_of
 file_named x bytes name = kind_named (x.kind == 1) (x.name_length == 0) (name_of x) name _ _
 
@@ -48,13 +49,15 @@ path_most t (suc n) e = elim (eqb_tells e 0) [
       omega (arith, parts, both, rest))
 ]
 
-path_whole : (t : List Entry) → (entry_in t 0).parent ≡ 0 → (n e : ℕ) → ancestor t n e ≢ 0 → length (path_in t (suc n) e) ≡ suc n
+path_whole : (t : List Entry) → (entry_in t 0).parent ≡ 0 → (n e : ℕ) → ancestor t n e ≢ 0
+    → length (path_in t (suc n) e) ≡ suc n
 unfolding path_in ancestor
 path_whole t master zero e up =
     let parts = ap (λ (p : Path). length p) (path-below t zero e up) in
     omega (arith, parts)
 path_whole t master (suc n) e up =
-    let some : e ≢ 0 = λ is. up (at_master n (entry_in t e).parent (ap (λ (k : ℕ). (entry_in t k).parent) is ∙ master)) in
+    let some : e ≢ 0 =
+    λ is. up (at_master n (entry_in t e).parent (ap (λ (k : ℕ). (entry_in t k).parent) is ∙ master)) in
     let parts = ap (λ (p : Path). length p) (path-below t (suc n) e some) in
     let both = length-append (path_in t (suc n) (entry_in t e).parent) ((entry_in t e).identifier ∷ []) in
     let rest = path_whole t master n (entry_in t e).parent up in
@@ -122,11 +125,14 @@ module _ (m : List ℕ) (rules : IsTable (table m)) where
         let told = sym (file_named x (content m x) name) ∙ is in
         elim (eqb_tells x.kind 1) [
           | inl df ↦ elim (eqb_tells x.name_length 0) [
-            | inl none ↦ absurd (true≢false (sym told ∙ (λ i. df.0 i && (if none.0 i then false else same_path (name_of x) name))))
+            | inl none ↦
+                absurd (true≢false (sym told
+                ∙ (λ i. df.0 i && (if none.0 i then false else same_path (name_of x) name))))
             | inr some ↦ record {
               kind = df.1;
               some = some.1;
-              name = one_of_same (name_of x) name (sym (λ i. df.0 i && (if some.0 i then false else same_path (name_of x) name)) ∙ told);
+              name = one_of_same (name_of x) name
+                  (sym (λ i. df.0 i && (if some.0 i then false else same_path (name_of x) name)) ∙ told);
             }
           ]
           | inr other ↦ absurd (true≢false (sym told
@@ -140,11 +146,13 @@ module _ (m : List ℕ) (rules : IsTable (table m)) where
     one_name : (f g : ℕ) → IsNamed (table m) name f → IsNamed (table m) name g → f ≡ g
     one_name f g one two =
         let used = named_used f one in
-        let within : f < length (table m) = (let l = length-table m in let small = used_small m f used in omega (arith, l, small)) in
+        let within : f < length (table m) =
+        (let l = length-table m in let small = used_small m f used in omega (arith, l, small)) in
         let file = (rules.each f free_entry within).used used in
         let whole = name_long m f (used_small m f used) in
         let most = file.name.most in
-        let size = length-take-le (entry_in (table m) f).name_length (entry_in (table m) f).name (omega (arith, whole, most)) in
+        let size = length-take-le (entry_in (table m) f).name_length (entry_in (table m) f).name
+        (omega (arith, whole, most)) in
         let some = one.some in
         let long : 0 < length (name_of (entry_in (table m) f)) = omega (arith, size, some) in
         rules.names f g used (named_used g two) long (one.name ∙ sym two.name)

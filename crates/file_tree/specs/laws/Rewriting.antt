@@ -20,7 +20,8 @@ use Rattle.block_chain.specs.Changes.{OnlyContent, overwrite}
 use Rattle.block_chain.specs.Layout.{blocks_of, laid_out, IsExtent, AreLaid}
 use Rattle.block_chain.specs.laws.Counts.{count-append, count-split}
 use Rattle.block_chain.specs.laws.Bytes.{AreBlocks, leads_blocks, blocks_take}
-use Rattle.block_chain.specs.laws.Footprints.{page_words_same, not_among, no_header, laid_kept, extent_kept, extent_bytes}
+use Rattle.block_chain.specs.laws.Footprints.{page_words_same, not_among, no_header, laid_kept}
+use Rattle.block_chain.specs.laws.Footprints.{extent_kept, extent_bytes}
 use Rattle.file_tree.specs.declared.entry.Entry.{Entry}
 use Rattle.file_tree.specs.Cards.{transparent, linear, cyclic, dedicated, elementary, File}
 use Rattle.file_tree.specs.Entries.{file_of, linear_records, cyclic_records, capacity_of, rule_of, name_of}
@@ -66,8 +67,10 @@ file_overwritten x before after bytes offset is becomes =
 
 -- Words of blocks that hold bytes change: entries stay, and so does all that is no block.
 module _ (m after ps : List ℕ) (sized : IsMemory m) (blocks : AreBlocks m ps) (only : OnlyContent m ps after) where
-  other_page : (page place : ℕ) → place < PAGE_WORDS → page < FIRST_BLOCK_PAGE → word after page place ≡ word m page place
-  other_page page place small outside = only.others page place small (inr (not_among m page (λ block. let low = block.0 in let z : ⊥ = omega (arith, low, outside) in z) ps blocks))
+  other_page : (page place : ℕ) → place < PAGE_WORDS → page < FIRST_BLOCK_PAGE
+      → word after page place ≡ word m page place
+  other_page page place small outside = only.others page place small
+      (inr (not_among m page (λ block. let low = block.0 in let z : ⊥ = omega (arith, low, outside) in z) ps blocks))
 
   pub content_table : table after ≡ table m
   content_table = table-same m after (λ page from below.
@@ -96,12 +99,13 @@ module _ (m after ps : List ℕ) (sized : IsMemory m) (blocks : AreBlocks m ps) 
   }
 
   pub content_free : TreeStands m → free_chain after ≡ free_chain m
-  content_free stands = (laid_kept (block_count m) m after (extents (table m)) ps stands.blocks only (no_header m ps blocks)).1
+  content_free stands =
+      (laid_kept (block_count m) m after (extents (table m)) ps stands.blocks only (no_header m ps blocks)).1
 
   -- a file whose blocks are not among these stays
   pub content_file : TreeStands m → (e : ℕ) → IsUsed (table m) e
-      → ((q : ℕ) → 1 ≤ count q (blocks_of m (extent_told (entry_in (table m) e))) → 2 ≤ (entry_in (table m) e).kind → IsNotIn q ps)
-      → file_in after e ≡ file_in m e
+      → ((q : ℕ) → 1 ≤ count q (blocks_of m (extent_told (entry_in (table m) e))) → 2 ≤ (entry_in (table m) e).kind
+      → IsNotIn q ps) → file_in after e ≡ file_in m e
   content_file stands e used apart =
       let x = entry_in (table m) e in
       let same : content after x ≡ content m x = ⊎_elim
@@ -126,8 +130,8 @@ entries_apart m stands e f other e_in f_in e_high f_high q some =
     let most = stands.blocks.once q in
     let parts = count-append q (free_chain m) (laid_out m (extents t)) in
     ⊎_elim
-    (λ (lt : e < f). let both = count_both m q t e f lt (omega (arith, f_in, long)) in omega (arith, one, two, most, parts, both, some))
-    (λ (from : f ≤ e).
+    (λ (lt : e < f). let both = count_both m q t e f lt (omega (arith, f_in, long)) in
+    omega (arith, one, two, most, parts, both, some)) (λ (from : f ≤ e).
     let lt : f < e = omega (arith, from, other) in
     let both = count_both m q t f e lt (omega (arith, e_in, long)) in omega (arith, one, two, most, parts, both, some))
     (cases_lt e f)
@@ -136,8 +140,8 @@ entries_apart m stands e f other e_in f_in e_high f_high q some =
 pub rewritten : (m after : List ℕ) (e offset : ℕ) (bytes : List ℕ) → IsMemory m → TreeStands m → IsUsed (table m) e
     → (entry_in (table m) e).kind ≡ 2 → OnlyContent m (blocks_of m (extent_told (entry_in (table m) e))) after
     → take (entry_in (table m) e).size (bytes_of after (blocks_of m (extent_told (entry_in (table m) e))))
-    ≡ overwrite (take (entry_in (table m) e).size (bytes_of m (blocks_of m (extent_told (entry_in (table m) e))))) offset bytes
-    → Rewrites m e offset bytes after
+    ≡ overwrite (take (entry_in (table m) e).size (bytes_of m (blocks_of m (extent_told (entry_in (table m) e)))))
+    offset bytes → Rewrites m e offset bytes after
 rewritten m after e offset bytes sized stands used is only becomes =
     let t = table m in
     let x = entry_in t e in
@@ -158,8 +162,10 @@ rewritten m after e offset bytes sized stands used is only becomes =
     ∙ file_overwritten x (content m x) (content after x) bytes offset is
     (ap (take x.size) holds ∙ becomes ∙ ap (λ (bs : List ℕ). overwrite (take x.size bs) offset bytes) (sym held)) in
     let before : (f : ℕ) → IsUsed (table after) f → IsUsed t f = λ f u. subst (λ (s : List Entry). IsUsed s f) same u in
-    let now : (f : ℕ) → IsUsed t f → IsUsed (table after) f = λ f u. subst (λ (s : List Entry). IsUsed s f) (sym same) u in
-    let others : (f : ℕ) → f ≢ e → IsUsed (table after) f → IsUsed t f × (file_in after f ≡ file_in m f) = λ f other u. (
+    let now : (f : ℕ) → IsUsed t f → IsUsed (table after) f =
+    λ f u. subst (λ (s : List Entry). IsUsed s f) (sym same) u in
+    let others : (f : ℕ) → f ≢ e → IsUsed (table after) f
+    → IsUsed t f × (file_in after f ≡ file_in m f) = λ f other u. (
       before f u,
       content_file m after ps sized blocks only stands f (before f u) (λ q some f_high.
           entries_apart m stands e f (λ eq. other (sym eq)) e_in (used_small m f (before f u)) high f_high q some),
@@ -182,12 +188,15 @@ pub filled : (m after : List ℕ) (n : ℕ) → IsMemory m → TreeStands m → 
     → SameTree m after
 filled m after n sized stands only =
     let ps = take n (free_chain m) in
-    let blocks : AreBlocks m ps = blocks_take m n (free_chain m) (leads_blocks m _ 0 (free_chain m) stands.blocks.free) in
+    let blocks : AreBlocks m ps =
+    blocks_take m n (free_chain m) (leads_blocks m _ 0 (free_chain m) stands.blocks.free) in
     let same = content_table m after ps sized blocks only in
     record {
-      tree = tree_stays m after stands.entries same (λ e used. content_file m after ps sized blocks only stands e used (λ q some high.
+      tree = tree_stays m after stands.entries same
+          (λ e used. content_file m after ps sized blocks only stands e used (λ q some high.
           let own = ap (count q) (named-some m (entry_in (table m) e) high) in
-          let among = count_named m q (table m) e (let long = length-table m in let small = used_small m e used in omega (arith, long, small)) in
+          let among = count_named m q (table m) e
+          (let long = length-table m in let small = used_small m e used in omega (arith, long, small)) in
           let most = stands.blocks.once q in
           let parts = count-append q (free_chain m) (laid_out m (extents (table m))) in
           let split = count-split q n (free_chain m) in

@@ -1,6 +1,6 @@
 -- What look-ups of a name, of the parent and along a path answer: what SELECT reaches in the tree by them.
-use Rattle.std.specs.Prelude.{◌≡◌, ◌≢◌, ◌⊎◌, ◌<◌, ◌==◌, ℕ, IsTrue, Bool, true, false, not, ◌&&◌, if◌then◌else◌, List, [], ◌∷◌, ◌++◌, length}
-use Rattle.std.specs.Prelude.{map, find, Option, None, Some, IfSome, option_map}
+use Rattle.std.specs.Prelude.{◌≡◌, ◌≢◌, ◌⊎◌, ◌<◌, ◌==◌, ℕ, IsTrue, Bool, true, false, not, ◌&&◌, if◌then◌else◌, List}
+use Rattle.std.specs.Prelude.{[], ◌∷◌, ◌++◌, length, map, find, Option, None, Some, IfSome, option_map}
 use Rattle.std.specs.FinMap.{entries}
 use Rattle.std.proofs.Common.{refl, sym, ◌∙◌, ap, subst, arith, inl, inr, ⊎_elim, true≢false}
 use Rattle.std.proofs.lemmas.Bool.{and_parts}
@@ -15,7 +15,8 @@ use Rattle.file_tree.specs.Table.{table, entry_in, path_of, IsUsed, IsTable}
 use Rattle.file_tree.specs.Trees.{tree_of, TreeStands}
 use Rattle.file_tree.specs.Indexes.{TellsChild}
 use Rattle.file_tree.specs.Parts.{TellsNamed}
-use Rattle.file_tree.specs.laws.Paths.{path-zero, parent-push, identifier-push, not_empty, identifier_path, path_of_child}
+use Rattle.file_tree.specs.laws.Paths.{path-zero, parent-push, identifier-push, not_empty}
+use Rattle.file_tree.specs.laws.Paths.{identifier_path, path_of_child}
 use Rattle.file_tree.specs.laws.Nodes.{Node, used_small, exists-used, exists-none}
 use Rattle.file_tree.specs.laws.Tables.{length-table}
 use Rattle.file_tree.specs.laws.LookUps.{picks, at_root, above_path}
@@ -23,10 +24,12 @@ use Rattle.file_tree.specs.laws.Refusing.{child_told, name_found}
 use Rattle.file_tree.specs.laws.Standing.{stands_tree}
 
 -- one candidate leads somewhere, or not
-one_leads : (leads : Bool) (path : Path) → leads ≡ true → Some path ≡ first_reached (record { leads = leads; path = path } ∷ [])
+one_leads : (leads : Bool) (path : Path) → leads ≡ true
+    → Some path ≡ first_reached (record { leads = leads; path = path } ∷ [])
 one_leads leads path is = sym (picks leads path [] ∙ ap (λ (b : Bool). if b then Some path else None) is)
 
-one_fails : (leads : Bool) (path : Path) → leads ≡ false → None ≡ first_reached (record { leads = leads; path = path } ∷ [])
+one_fails : (leads : Bool) (path : Path) → leads ≡ false
+    → None ≡ first_reached (record { leads = leads; path = path } ∷ [])
 one_fails leads path is = sym (picks leads path [] ∙ ap (λ (b : Bool). if b then Some path else None) is)
 
 -- The parent of a dedicated file but the master file is reached; the master file has none.
@@ -67,17 +70,20 @@ first_of test [] = refl
 first_of test (n ∷ ns) = first_step test n ns (test n) refl (first_of test ns)
 
 -- The file that the table has with a name is reached by it, from everywhere.
-pub name_reached : (m : List ℕ) → IsTable (table m) → (name : List ℕ) (found : Option ℕ) → TellsNamed (table m) name found
+pub name_reached : (m : List ℕ)
+    → IsTable (table m) → (name : List ℕ) (found : Option ℕ) → TellsNamed (table m) name found
     → (df : Path) → option_map (path_of (table m)) found ≡ selected (tree_of m) df (by_name name)
 name_reached m rules name found told df =
     sym (first_of (λ n. is_named name n.1.kind) (entries (tree_of m)) ∙ name_found m rules name found told)
 
-pub named_is_used : (t : List Entry) (name : List ℕ) (found : Option ℕ) → TellsNamed t name found → IfSome found (IsUsed t)
+pub named_is_used : (t : List Entry) (name : List ℕ) (found : Option ℕ) → TellsNamed t name found
+    → IfSome found (IsUsed t)
 named_is_used t name None told = tt
 named_is_used t name (Some e) told = λ free. let k = told.kind in let z : ⊥ = omega (arith, k, free) in z
 
 -- where there is no file, there is none below
-no_child : (tree : Tree) → IsTree tree → (path : Path) (id : ℕ) → exists tree path ≡ false → exists tree (path ++ id ∷ []) ≡ false
+no_child : (tree : Tree) → IsTree tree → (path : Path) (id : ℕ) → exists tree path ≡ false
+    → exists tree (path ++ id ∷ []) ≡ false
 no_child tree is path id none = by_test (exists tree (path ++ id ∷ [])) refl
   where
     by_test : (b : Bool) → exists tree (path ++ id ∷ []) ≡ b → exists tree (path ++ id ∷ []) ≡ false
@@ -85,7 +91,8 @@ no_child tree is path id none = by_test (exists tree (path ++ id ∷ [])) refl
         ∙ ap (exists tree) (parent-push path id) ∙ none))
     by_test false there = there
 
-none_below : (tree : Tree) → IsTree tree → (left path : Path) → exists tree path ≡ false → exists tree (path ++ left) ≡ false
+none_below : (tree : Tree) → IsTree tree → (left path : Path) → exists tree path ≡ false
+    → exists tree (path ++ left) ≡ false
 none_below tree is [] path none = ap (exists tree) (append-nil path) ∙ none
 none_below tree is (id ∷ left) path none =
     ap (exists tree) (sym (append_assoc path (id ∷ []) left))
@@ -96,8 +103,8 @@ pub record IsOnWay (m : List ℕ) (df at : ℕ) (path left : Path) : Type 0 wher
   pub used : IsUsed (table m) at
   pub way : path_of (table m) at ++ left ≡ path_of (table m) df ++ path
 
-pub way_goes_on : (m : List ℕ) → IsTable (table m) → (df at id e : ℕ) (path left : Path) → IsOnWay m df at path (id ∷ left)
-    → TellsChild (table m) at id (Some e) → IsOnWay m df e path left
+pub way_goes_on : (m : List ℕ) → IsTable (table m) → (df at id e : ℕ) (path left : Path)
+    → IsOnWay m df at path (id ∷ left) → TellsChild (table m) at id (Some e) → IsOnWay m df e path left
 way_goes_on m rules df at id e path left on told = record {
   used = told.0.used;
   way = ap (λ (p : Path). p ++ left) (path_of_child (table m) rules at e told.0
@@ -110,7 +117,8 @@ way_goes_on m rules df at id e path left on told = record {
 pub way_ends : (m : List ℕ) → IsTable (table m) → (df at : ℕ) (path : Path) → IsOnWay m df at path []
     → Some (path_of (table m) at) ≡ selected (tree_of m) (path_of (table m) df) (path_from_current path)
 way_ends m rules df at path on =
-    let whole : path_of (table m) at ≡ path_of (table m) df ++ path = sym (append-nil (path_of (table m) at)) ∙ on.way in
+    let whole : path_of (table m) at ≡ path_of (table m) df ++ path =
+    sym (append-nil (path_of (table m) at)) ∙ on.way in
     ap (λ (p : Path). Some p) whole
     ∙ one_leads (exists (tree_of m) (path_of (table m) df ++ path)) (path_of (table m) df ++ path)
     (exists-used m rules at (path_of (table m) df ++ path) on.used whole)
@@ -127,13 +135,14 @@ way_is_lost m stands df at id path left on none =
 
 -- a path from the master file is one from below it
 pub path_below_master : (m : List ℕ) (df path : Path)
-    → selected (tree_of m) (path_of (table m) 0) (path_from_current path) ≡ selected (tree_of m) df (path_from_master path)
+    → selected (tree_of m) (path_of (table m) 0) (path_from_current path)
+    ≡ selected (tree_of m) df (path_from_master path)
 path_below_master m df path =
     ap (λ (p : Path). selected (tree_of m) p (path_from_current path)) (path-zero (table m) 7 0 refl)
 
 -- the file above one that is there is there
-above_there : (m : List ℕ) → TreeStands m → (path left : Path) (id : ℕ) → IsTrue (exists (tree_of m) (path ++ id ∷ left))
-    → IsTrue (exists (tree_of m) (path ++ id ∷ []))
+above_there : (m : List ℕ) → TreeStands m → (path left : Path) (id : ℕ)
+    → IsTrue (exists (tree_of m) (path ++ id ∷ left)) → IsTrue (exists (tree_of m) (path ++ id ∷ []))
 above_there m stands path left id there = by_test (exists (tree_of m) (path ++ id ∷ [])) refl
   where
     by_test : (b : Bool) → exists (tree_of m) (path ++ id ∷ []) ≡ b → IsTrue (exists (tree_of m) (path ++ id ∷ []))
@@ -148,7 +157,8 @@ not_reserved : (m : List ℕ) → IsTable (table m) → (e : ℕ) → IsUsed (ta
 not_reserved m rules e used path id is reserved =
     let below : e ≢ 0 = λ same. not_empty path id (sym is ∙ path-zero (table m) 7 e same) in
     let above : 0 < e = omega (arith, below) in
-    let within : e < length (table m) = (let l = length-table m in let small = used_small m e used in omega (arith, l, small)) in
+    let within : e < length (table m) =
+    (let l = length-table m in let small = used_small m e used in omega (arith, l, small)) in
     let own : (entry_in (table m) e).identifier ≡ id =
     sym (identifier_path (table m) rules e used) ∙ ap identifier is ∙ identifier-push path id in
     let file = (rules.each e free_entry within).used used in

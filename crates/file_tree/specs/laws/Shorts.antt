@@ -82,8 +82,8 @@ unwrap_some : (x y : File) → Some x ≡ Some y → x ≡ y
 unwrap_some x y e = ap (λ (o : Option File). unwrap_or o x) e
 
 -- the one path whose node passes a test
-pub find_one : (test : Node → Bool) (p : Path) (f : File) (ns : List Node) → test (p, f) ≡ true → find_path p ns ≡ Some f
-    → EachNode (λ n. test n ≡ true → n.0 ≡ p) ns → option_map (λ n. n.0) (find test ns) ≡ Some p
+pub find_one : (test : Node → Bool) (p : Path) (f : File) (ns : List Node) → test (p, f) ≡ true → find_path p ns
+    ≡ Some f → EachNode (λ n. test n ≡ true → n.0 ≡ p) ns → option_map (λ n. n.0) (find test ns) ≡ Some p
 find_one test p f [] passes found each = absurd (none_some f found)
 find_one test p f (n ∷ ns) passes found each =
     by_test (test n) refl (λ rest. find_one test p f ns passes rest each.1)

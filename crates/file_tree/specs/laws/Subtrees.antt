@@ -7,9 +7,10 @@ use Rattle.std.proofs.lemmas.Bool.Decides.{eqb_tells}
 use Rattle.file_tree.specs.declared.entry.Entry.{Entry}
 use Rattle.file_tree.specs.Cards.{Path}
 use Rattle.file_tree.specs.Table.{entry_in, ancestor, path_in, path_of, IsUsed, IsTable}
-use Rattle.file_tree.specs.DeletionParts.{leads_up}
+use Rattle.file_tree.specs.SubtreeParts.{leads_up}
 use Rattle.file_tree.specs.laws.Levels.{ancestor-more}
-use Rattle.file_tree.specs.laws.Paths.{path-zero, path-below, path-enough, path_of-child, parent_used, reaches_master, one_path}
+use Rattle.file_tree.specs.laws.Paths.{path-zero, path-below, path-enough, path_of-child, parent_used}
+use Rattle.file_tree.specs.laws.Paths.{reaches_master, one_path}
 
 pub and_false : (b : Bool) → b && false ≡ false
 and_false true = refl
@@ -24,7 +25,8 @@ starts-self (x ∷ q) = elim (eqb_tells x x) [
 ]
 
 -- One identifier more makes no difference to what begins a path, but where the whole is meant.
-pub starts-push : (p q : Path) (x : ℕ) → (p ++ x ∷ [] ≡ q → ⊥) → starts_with nat_eq (p ++ x ∷ []) q ≡ starts_with nat_eq p q
+pub starts-push : (p q : Path) (x : ℕ) → (p ++ x ∷ [] ≡ q → ⊥)
+    → starts_with nat_eq (p ++ x ∷ []) q ≡ starts_with nat_eq p q
 starts-push [] [] x differ = refl
 starts-push [] (y ∷ []) x differ = elim (eqb_tells y x) [
   | inl same ↦ absurd (differ (ap (λ (k : ℕ). k ∷ []) (sym same.1)))
@@ -33,12 +35,14 @@ starts-push [] (y ∷ []) x differ = elim (eqb_tells y x) [
 starts-push [] (y ∷ z ∷ q) x differ = and_false (nat_eq y x)
 starts-push (w ∷ p) [] x differ = refl
 starts-push (w ∷ p) (y ∷ q) x differ = elim (eqb_tells y w) [
-  | inl same ↦ ap (λ (b : Bool). nat_eq y w && b) (starts-push p q x (λ is. differ (ap₂ (λ (k : ℕ) (ks : Path). k ∷ ks) (sym same.1) is)))
+  | inl same ↦ ap (λ (b : Bool). nat_eq y w && b)
+      (starts-push p q x (λ is. differ (ap₂ (λ (k : ℕ) (ks : Path). k ∷ ks) (sym same.1) is)))
   | inr other ↦ ap (λ (b : Bool). b && starts_with nat_eq (p ++ x ∷ []) q) other.0
       ∙ sym (ap (λ (b : Bool). b && starts_with nat_eq p q) other.0)
 ]
 
-pub leads_up-step : (t : List Entry) (n top f : ℕ) → f ≢ top → leads_up t (suc n) top f ≡ leads_up t n top (entry_in t f).parent
+pub leads_up-step : (t : List Entry) (n top f : ℕ) → f ≢ top
+    → leads_up t (suc n) top f ≡ leads_up t n top (entry_in t f).parent
 unfolding leads_up
 leads_up-step t n top f differ = elim (eqb_tells f top) [
   | inl same ↦ absurd (differ same.1)
@@ -74,7 +78,8 @@ module _ (t : List Entry) (rules : IsTable t) (top : ℕ) (above : 0 < top) (use
   stable : (k n f : ℕ) → k + n ≡ 7 → ancestor t n f ≡ 0 → path_in t n f ≡ path_of t f
   stable zero n f sum up = let all : n ≡ 7 = omega (arith, sum) in ap (λ (i : ℕ). path_in t i f) all
   stable (suc k) n f sum up =
-      let more : ancestor t (suc n) f ≡ 0 = ancestor-more t n f ∙ ap (λ (a : ℕ). (entry_in t a).parent) up ∙ rules.master.parent in
+      let more : ancestor t (suc n) f ≡ 0 = ancestor-more t n f ∙ ap (λ (a : ℕ). (entry_in t a).parent) up
+      ∙ rules.master.parent in
       sym (path-enough t n f rules.master.parent up) ∙ stable k (suc n) f (omega (arith, sum)) more
 
   -- the master file is below no other file
@@ -89,8 +94,8 @@ module _ (t : List Entry) (rules : IsTable t) (top : ℕ) (above : 0 < top) (use
     where
       by_path : (q : Path) → path_of t top ≡ q → starts_with nat_eq p (path_of t top) ≡ false
       by_path [] is =
-          let same = one_path t rules top 0 used (λ free. let k = rules.master.kind in let z : ⊥ = omega (arith, k, free) in z)
-          (is ∙ sym (path-zero t 7 0 refl)) in
+          let same = one_path t rules top 0 used (λ free. let k = rules.master.kind in let z : ⊥ =
+          omega (arith, k, free) in z) (is ∙ sym (path-zero t 7 0 refl)) in
           absurd (omega (arith, same, above))
       by_path (x ∷ q) is = (λ i. starts_with nat_eq (none i) (is i))
 
@@ -131,6 +136,7 @@ module _ (t : List Entry) (rules : IsTable t) (top : ℕ) (above : 0 < top) (use
         let here : starts_with nat_eq (path_of t f) (path_of t top) ≡ false = sym (within_path f used_f) ∙ out in
         within_path (entry_in t f).parent (parent_used t rules f some used_f)
         ∙ sym (starts-push (path_of t (entry_in t f).parent) (path_of t top) (entry_in t f).identifier (λ is.
-        true≢false (sym (starts-self (path_of t top)) ∙ ap (λ (p : Path). starts_with nat_eq p (path_of t top)) (sym is ∙ sym grown) ∙ here)))
+        true≢false (sym (starts-self (path_of t top))
+        ∙ ap (λ (p : Path). starts_with nat_eq p (path_of t top)) (sym is ∙ sym grown) ∙ here)))
         ∙ ap (λ (p : Path). starts_with nat_eq p (path_of t top)) (sym grown) ∙ here
   ]

@@ -44,7 +44,8 @@ space_told m now t es None told sized same entries named rules none is =
     let answer : Option FreeSpace → Type 0 = λ o. TellsSpace m o in
     let lies : List ℕ → Type 0 = λ l. AreLaid (block_count m) l es in
     let holds : List Extent → Type 0 = λ l. AreLaid (block_count m) m l in
-    subst answer (sym is) (λ stands. none (subst lies (sym same) (subst holds (sym (named ∙ ap extents entries)) stands.blocks)))
+    subst answer (sym is)
+    (λ stands. none (subst lies (sym same) (subst holds (sym (named ∙ ap extents entries)) stands.blocks)))
 space_told m now t es (Some blocks) told sized same entries named rules laid is =
     let answer : Option FreeSpace → Type 0 = λ o. TellsSpace m o in
     subst answer (sym is) (tells_space m now t es blocks (free_entries t) sized same entries named rules laid refl)

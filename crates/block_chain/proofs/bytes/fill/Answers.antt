@@ -30,14 +30,15 @@ pub fill_block-requires-clause-block : goal.fill_block-requires-clause-block
 fill_block-requires-clause-block g c =
     let m = committed c.args.store.now in
     let lt : c.loop-i._i < c.args.n = omega (arith, c.loop-i-test.true) in
-    block_to_fill m c.args.n c.requires.free c.requires.ready.usable.committed_size c.requires.enough c.loop-i._i c.loop-i.page lt c.loop-i.invariant.page
-    (committed c.loop-i.store) c.loop-i.invariant.only.size
+    block_to_fill m c.args.n c.requires.free c.requires.ready.usable.committed_size c.requires.enough c.loop-i._i
+    c.loop-i.page lt c.loop-i.invariant.page (committed c.loop-i.store) c.loop-i.invariant.only.size
 
 pub returns-in_err-fill_block-clause-any_exit : goal.returns-in_err-fill_block-clause-any_exit
 returns-in_err-fill_block-clause-any_exit g c =
     let m = committed c.args.store.now in
     let lt : c.loop-i._i < c.args.n = omega (arith, c.loop-i-test.true) in
-    let only = only_filled m c.args.n c.requires.free c.requires.ready.usable.committed_size c.requires.enough c.loop-i._i c.loop-i.page lt c.loop-i.invariant.page
+    let only = only_filled m c.args.n c.requires.free
+    c.requires.ready.usable.committed_size c.requires.enough c.loop-i._i c.loop-i.page lt c.loop-i.invariant.page
     (committed c.loop-i.store) (committed c.fill_block.new.store) c.from_be_bytes-word.result
     c.loop-i.invariant.changes.ready.usable.committed_size c.loop-i.invariant.only c.fill_block.ensures.any_exit in
     only
@@ -46,26 +47,30 @@ pub read_link-requires-clause-block : goal.read_link-requires-clause-block
 read_link-requires-clause-block g c =
     let m = committed c.args.store.now in
     let lt : c.loop-i._i < c.args.n = omega (arith, c.loop-i-test.true) in
-    let only = only_filled m c.args.n c.requires.free c.requires.ready.usable.committed_size c.requires.enough c.loop-i._i c.loop-i.page lt c.loop-i.invariant.page
+    let only = only_filled m c.args.n c.requires.free
+    c.requires.ready.usable.committed_size c.requires.enough c.loop-i._i c.loop-i.page lt c.loop-i.invariant.page
     (committed c.loop-i.store) (committed c.fill_block.new.store) c.from_be_bytes-word.result
     c.loop-i.invariant.changes.ready.usable.committed_size c.loop-i.invariant.only c.fill_block.ensures.any_exit in
-    block_to_fill m c.args.n c.requires.free c.requires.ready.usable.committed_size c.requires.enough c.loop-i._i c.loop-i.page lt c.loop-i.invariant.page
-    (committed c.fill_block.new.store) only.size
+    block_to_fill m c.args.n c.requires.free c.requires.ready.usable.committed_size c.requires.enough c.loop-i._i
+    c.loop-i.page lt c.loop-i.invariant.page (committed c.fill_block.new.store) only.size
 
 pub read_link-requires-clause-small : goal.read_link-requires-clause-small
 read_link-requires-clause-small g c =
     let m = committed c.args.store.now in
     let lt : c.loop-i._i < c.args.n = omega (arith, c.loop-i-test.true) in
-    let only = only_filled m c.args.n c.requires.free c.requires.ready.usable.committed_size c.requires.enough c.loop-i._i c.loop-i.page lt c.loop-i.invariant.page
+    let only = only_filled m c.args.n c.requires.free
+    c.requires.ready.usable.committed_size c.requires.enough c.loop-i._i c.loop-i.page lt c.loop-i.invariant.page
     (committed c.loop-i.store) (committed c.fill_block.new.store) c.from_be_bytes-word.result
     c.loop-i.invariant.changes.ready.usable.committed_size c.loop-i.invariant.only c.fill_block.ensures.any_exit in
-    next_small m c.args.n c.requires.free c.requires.ready.usable.committed_size c.requires.enough c.loop-i._i c.loop-i.page lt c.loop-i.invariant.page _ only
+    next_small m c.args.n c.requires.free c.requires.ready.usable.committed_size c.requires.enough c.loop-i._i
+    c.loop-i.page lt c.loop-i.invariant.page _ only
 
 pub returns-in_err-page-2-clause-any_exit : goal.returns-in_err-page-2-clause-any_exit
 returns-in_err-page-2-clause-any_exit g c =
     let m = committed c.args.store.now in
     let lt : c.loop-i._i < c.args.n = omega (arith, c.loop-i-test.true) in
-    let only = only_filled m c.args.n c.requires.free c.requires.ready.usable.committed_size c.requires.enough c.loop-i._i c.loop-i.page lt c.loop-i.invariant.page
+    let only = only_filled m c.args.n c.requires.free
+    c.requires.ready.usable.committed_size c.requires.enough c.loop-i._i c.loop-i.page lt c.loop-i.invariant.page
     (committed c.loop-i.store) (committed c.fill_block.new.store) c.from_be_bytes-word.result
     c.loop-i.invariant.changes.ready.usable.committed_size c.loop-i.invariant.only c.fill_block.ensures.any_exit in
     let family : List ℕ → Type 0 = λ l. OnlyContent m (take c.args.n (free_chain m)) l in
@@ -75,7 +80,8 @@ pub loop-i-preserved : goal.loop-i-preserved
 loop-i-preserved g c =
     let m = committed c.args.store.now in
     let lt : c.loop-i._i < c.args.n = omega (arith, c.loop-i-test.true) in
-    let only = only_filled m c.args.n c.requires.free c.requires.ready.usable.committed_size c.requires.enough c.loop-i._i c.loop-i.page lt c.loop-i.invariant.page
+    let only = only_filled m c.args.n c.requires.free
+    c.requires.ready.usable.committed_size c.requires.enough c.loop-i._i c.loop-i.page lt c.loop-i.invariant.page
     (committed c.loop-i.store) (committed c.fill_block.new.store) c.from_be_bytes-word.result
     c.loop-i.invariant.changes.ready.usable.committed_size c.loop-i.invariant.only c.fill_block.ensures.any_exit in
     let ps = free_chain m in
@@ -86,16 +92,18 @@ loop-i-preserved g c =
     let by_word : ℕ → Type 0 = λ v. AreFilled (committed c.loop-i.store) (take c.loop-i._i ps) v in
     let by_words : List ℕ → Type 0 = λ l. AreFilled l (take (c.loop-i._i + 1) ps) w in
     let by_byte : ℕ → Type 0 = λ v. AreFilled (committed c.read_link.new.store) (take (c.loop-i._i + 1) ps) v in
-    let filled = filled_more (committed c.loop-i.store) _ ps c.args.n c.loop-i._i c.loop-i.page w c.requires.free.once lt
-    c.requires.enough c.loop-i.invariant.page (block_to_fill m c.args.n c.requires.free c.requires.ready.usable.committed_size c.requires.enough c.loop-i._i c.loop-i.page lt c.loop-i.invariant.page
-    (committed c.loop-i.store) c.loop-i.invariant.only.size)
+    let filled = filled_more (committed c.loop-i.store)
+    _ ps c.args.n c.loop-i._i c.loop-i.page w c.requires.free.once lt c.requires.enough c.loop-i.invariant.page
+    (block_to_fill m c.args.n c.requires.free c.requires.ready.usable.committed_size c.requires.enough c.loop-i._i
+    c.loop-i.page lt c.loop-i.invariant.page (committed c.loop-i.store) c.loop-i.invariant.only.size)
     c.loop-i.invariant.changes.ready.usable.committed_size c.in_ok-fill_block.ensures.done
     (subst by_word (sym word) c.loop-i.invariant.filled) in
     record {
       in_range = omega (arith, lt);
       only = subst family (sym read) only;
       filled = subst by_byte word (subst by_words (sym read) filled);
-      page = c.in_ok-page-2.ensures.page ∙ next_to_fill m c.args.n c.requires.free c.requires.ready.usable.committed_size c.requires.enough c.loop-i._i
+      page = c.in_ok-page-2.ensures.page
+          ∙ next_to_fill m c.args.n c.requires.free c.requires.ready.usable.committed_size c.requires.enough c.loop-i._i
           c.loop-i.page lt c.loop-i.invariant.page _ only;
       changes = reads_after _ _ _ _ _
           (changes_on c.loop-i._i 1 _ _ _ _ _ (omega arith) c.loop-i.invariant.changes c.in_ok-fill_block.ensures.store)
@@ -108,8 +116,9 @@ returns-clause-done g c =
     let ps = free_chain m in
     let all : c.loop-i._i ≡ c.args.n = omega (arith, c.loop-i-test.false, c.loop-i.invariant.in_range) in
     let family : ℕ → Type 0 = λ k. AreFilled (committed c.loop-i.store) (take k ps) (filled_word c.args.byte) in
-    first_filled (committed c.loop-i.store) ps c.args.n c.args.byte c.loop-i.invariant.changes.ready.usable.committed_size
-    (blocks_same m (committed c.loop-i.store) ps c.loop-i.invariant.only.size (leads_blocks m _ 0 ps c.requires.free.leads)) c.requires.enough (omega arith)
+    first_filled (committed c.loop-i.store) ps c.args.n
+    c.args.byte c.loop-i.invariant.changes.ready.usable.committed_size (blocks_same m (committed c.loop-i.store)
+    ps c.loop-i.invariant.only.size (leads_blocks m _ 0 ps c.requires.free.leads)) c.requires.enough (omega arith)
     (subst family all c.loop-i.invariant.filled)
 
 pub returns-in_err-page-clause-done : goal.returns-in_err-page-clause-done

@@ -1,5 +1,6 @@
 use Rattle.std.proofs.Common.{rules}
-use Rattle.std.proofs.Common.{◌≡◌, ◌+◌, ◌*◌, ◌%◌, ℕ, List, length, slice_index, slice_set, ◌∙◌, ap, ap₂, subst, inr, arith}
+use Rattle.std.proofs.Common.{◌≡◌, ◌+◌, ◌*◌, ◌%◌, ℕ, List, length, slice_index, slice_set, ◌∙◌, ap, ap₂, subst}
+use Rattle.std.proofs.Common.{inr, arith}
 use Rattle.std.proofs.lemmas.Result.{on_ok_weaker}
 use Rattle.nvm_board.specs.Facts.{address}
 use Rattle.undo_journal.specs.Memory.{current, EndsAt, GoesOn, Joins}
@@ -27,7 +28,8 @@ set-requires-clause-place g c =
 pub returns-clause-store : goal.returns-clause-store
 returns-clause-store g c =
     record {
-      sets = sets_then 0 1 1 _ _ _ (omega arith) (reads_sets _ _ _ c.new_word.ensures.store.only) c.set.ensures.store.sets;
+      sets = sets_then 0 1 1 _ _ _ (omega arith) (reads_sets _ _ _ c.new_word.ensures.store.only)
+          c.set.ensures.store.sets;
       ready = search rules;
       tells = search rules;
     }
@@ -68,13 +70,15 @@ returns-clause-goes_on g c = λ goes.
     omega arith in
     let reads = c.new_word.ensures.store.only.reads in
     let moved = subst (λ (a : ℕ). GoesOn (memory_of c.args.txn.now) a) at goes in
-    runs_then 0 0 0 _ _ _ (omega arith) (reads_runs 0 _ _ reads) (c.set.ensures.goes_on (goes_on_kept _ _ _ reads moved))
+    runs_then 0 0 0 _ _ _ (omega arith) (reads_runs 0 _ _ reads)
+    (c.set.ensures.goes_on (goes_on_kept _ _ _ reads moved))
 
 pub returns-clause-next : goal.returns-clause-next
 returns-clause-next g c =
     let at : PAGE_WORDS * c.args.page + 1 + c.args.k % BLOCK_WORDS ≡ address c.args.page (1 + c.args.k % BLOCK_WORDS) =
     omega arith in
-    on_ok_weaker c.set.result (λ ends. subst (λ (a : ℕ). EndsAt (memory_of c.set.new.self) a) at ends) c.set.ensures.next
+    on_ok_weaker c.set.result
+    (λ ends. subst (λ (a : ℕ). EndsAt (memory_of c.set.new.self) a) at ends) c.set.ensures.next
 
 pub returns-in_err-new-clause-goes_on : goal.returns-in_err-new-clause-goes_on
 returns-in_err-new-clause-goes_on g c = λ goes. reads_runs 0 _ _ c.in_err-new.ensures.store.only.reads

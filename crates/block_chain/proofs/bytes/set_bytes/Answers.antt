@@ -43,9 +43,11 @@ loop-k-init g c =
       ready = c.in_ok-page.ensures.store.ready;
       sets = reads_sets _ _ _ c.walk.ensures.store.only;
       runs = none_yet refl (reads_runs 0 _ _ c.walk.ensures.store.only.reads);
-      counted = λ idle. counted-none (chain_of m c.args.chain) (c.args.offset / 4) _ _ c.walk.ensures.store.only.reads idle;
-      put = put_first m (chain_of m c.args.chain) _ c.args.offset c.args.bytes.now c.requires.chain c.requires.within c.requires.small
-          c.requires.ready.current_size
+      counted = λ idle. counted-none (chain_of m c.args.chain) (c.args.offset / 4) _ _
+          c.walk.ensures.store.only.reads idle;
+      put = put_first m (chain_of m c.args.chain) _
+          c.args.offset
+          c.args.bytes.now c.requires.chain c.requires.within c.requires.small c.requires.ready.current_size
           _ _ some c.in_ok-page.ensures.page c.walk.ensures.store.only.reads.keeps.current_words;
     }
 
@@ -54,23 +56,20 @@ loop-k-init g c =
 pub put_word-requires-clause-block : goal.put_word-requires-clause-block
 put_word-requires-clause-block g c =
     let m = current (memory_of c.args.txn.now) in
-    word_block m (chain_of m c.args.chain) _ c.args.offset c.args.bytes.now c.requires.chain c.requires.within c.requires.small
-    c.requires.ready.current_size
-    _ _ _ c.loop-k.invariant.put (omega (arith, c.loop-k-test.true))
+    word_block m (chain_of m c.args.chain) _ c.args.offset c.args.bytes.now c.requires.chain c.requires.within
+    c.requires.small c.requires.ready.current_size _ _ _ c.loop-k.invariant.put (omega (arith, c.loop-k-test.true))
 
 pub put_word-requires-clause-small : goal.put_word-requires-clause-small
 put_word-requires-clause-small g c =
     let m = current (memory_of c.args.txn.now) in
-    word_small m (chain_of m c.args.chain) _ c.args.offset c.args.bytes.now c.requires.chain c.requires.within c.requires.small
-    c.requires.ready.current_size
-    _ _ _ c.loop-k.invariant.put (omega (arith, c.loop-k-test.true))
+    word_small m (chain_of m c.args.chain) _ c.args.offset c.args.bytes.now c.requires.chain c.requires.within
+    c.requires.small c.requires.ready.current_size _ _ _ c.loop-k.invariant.put (omega (arith, c.loop-k-test.true))
 
 pub put_word-requires-clause-room : goal.put_word-requires-clause-room
 put_word-requires-clause-room g c =
     let m = current (memory_of c.args.txn.now) in
-    let fits = word_fits m (chain_of m c.args.chain) _ c.args.offset c.args.bytes.now c.requires.chain c.requires.within c.requires.small
-    c.requires.ready.current_size
-    _ _ _ c.loop-k.invariant.put (omega (arith, c.loop-k-test.true)) in
+    let fits = word_fits m (chain_of m c.args.chain) _ c.args.offset c.args.bytes.now c.requires.chain c.requires.within
+    c.requires.small c.requires.ready.current_size _ _ _ c.loop-k.invariant.put (omega (arith, c.loop-k-test.true)) in
     omega (arith, fits, c.loop-k.invariant.sets.room, c.requires.room)
 
 pub returns-in_err-put_word-clause-done : goal.returns-in_err-put_word-clause-done
@@ -79,25 +78,24 @@ returns-in_err-put_word-clause-done g c = none_ok _ _ _ c.from_residual-in_err-p
 pub returns-in_err-put_word-clause-store : goal.returns-in_err-put_word-clause-store
 returns-in_err-put_word-clause-store g c =
     let m = current (memory_of c.args.txn.now) in
-    let fits = word_fits m (chain_of m c.args.chain) _ c.args.offset c.args.bytes.now c.requires.chain c.requires.within c.requires.small
-    c.requires.ready.current_size
-    _ _ _ c.loop-k.invariant.put (omega (arith, c.loop-k-test.true)) in
+    let fits = word_fits m (chain_of m c.args.chain) _ c.args.offset c.args.bytes.now c.requires.chain c.requires.within
+    c.requires.small c.requires.ready.current_size _ _ _ c.loop-k.invariant.put (omega (arith, c.loop-k-test.true)) in
     sets_in_handed _ _ _ _ _ c.from_residual-in_err-put_word.ensures.1
     (sets_in_on _ _ _ _ _ _ _ fits c.loop-k.invariant.sets c.in_err-put_word.ensures.store)
 
 pub block_of_word-requires-clause-block : goal.block_of_word-requires-clause-block
 block_of_word-requires-clause-block g c =
     let m = current (memory_of c.args.txn.now) in
-    put_block m (chain_of m c.args.chain) _ c.args.offset c.args.bytes.now c.requires.chain c.requires.within c.requires.small
-    c.requires.ready.current_size
-    _ _ _ c.loop-k.invariant.put (omega (arith, c.loop-k-test.true)) _ c.in_ok-put_word.ensures.done
+    put_block m (chain_of m c.args.chain) _ c.args.offset c.args.bytes.now c.requires.chain c.requires.within
+    c.requires.small c.requires.ready.current_size _ _ _ c.loop-k.invariant.put (omega (arith, c.loop-k-test.true)) _
+    c.in_ok-put_word.ensures.done
 
 pub block_of_word-requires-clause-small : goal.block_of_word-requires-clause-small
 block_of_word-requires-clause-small g c =
     let m = current (memory_of c.args.txn.now) in
-    link_small m (chain_of m c.args.chain) _ c.args.offset c.args.bytes.now c.requires.chain c.requires.within c.requires.small
-    c.requires.ready.current_size
-    _ _ _ c.loop-k.invariant.put (omega (arith, c.loop-k-test.true)) _ c.in_ok-put_word.ensures.done
+    link_small m (chain_of m c.args.chain) _ c.args.offset c.args.bytes.now c.requires.chain c.requires.within
+    c.requires.small c.requires.ready.current_size _ _ _ c.loop-k.invariant.put (omega (arith, c.loop-k-test.true)) _
+    c.in_ok-put_word.ensures.done
 
 pub returns-in_err-page-2-clause-done : goal.returns-in_err-page-2-clause-done
 returns-in_err-page-2-clause-done g c = none_ok _ _ _ c.from_residual-in_err-page-2.ensures.1
@@ -105,9 +103,8 @@ returns-in_err-page-2-clause-done g c = none_ok _ _ _ c.from_residual-in_err-pag
 pub returns-in_err-page-2-clause-store : goal.returns-in_err-page-2-clause-store
 returns-in_err-page-2-clause-store g c =
     let m = current (memory_of c.args.txn.now) in
-    let fits = word_fits m (chain_of m c.args.chain) _ c.args.offset c.args.bytes.now c.requires.chain c.requires.within c.requires.small
-    c.requires.ready.current_size
-    _ _ _ c.loop-k.invariant.put (omega (arith, c.loop-k-test.true)) in
+    let fits = word_fits m (chain_of m c.args.chain) _ c.args.offset c.args.bytes.now c.requires.chain c.requires.within
+    c.requires.small c.requires.ready.current_size _ _ _ c.loop-k.invariant.put (omega (arith, c.loop-k-test.true)) in
     let put = sets_then _ _ _ _ _ _ fits c.loop-k.invariant.sets c.put_word.ensures.store.sets in
     sets_in_handed _ _ _ _ _ c.from_residual-in_err-page-2.ensures.1 (record {
       ready = tt;
@@ -128,14 +125,14 @@ loop-k-preserved g c =
       runs = run_next _ _ _ _ _ _ c.loop-k.invariant.runs refl _ c.put_word.ensures.store.sets.writes
           c.put_word.ensures.goes_on c.loop-k.invariant.put.from c.in_ok-put_word.ensures.next _
           c.block_of_word.ensures.store.only.reads _ _ c.in_ok-page-2.ensures.page;
-      counted = λ idle. counted-more (chain_of m c.args.chain) (c.args.offset / 4) k _ _ _ _ _ (c.loop-k.invariant.counted idle)
-          c.requires.chain.once c.loop-k.invariant.put.from
-          (word_within m (chain_of m c.args.chain) _ c.args.offset c.args.bytes.now c.requires.chain c.requires.within c.requires.small
+      counted = λ idle. counted-more (chain_of m c.args.chain) (c.args.offset / 4)
+          k _ _ _ _ _ (c.loop-k.invariant.counted idle) c.requires.chain.once c.loop-k.invariant.put.from (word_within m
+          (chain_of m c.args.chain) _ c.args.offset c.args.bytes.now c.requires.chain c.requires.within c.requires.small
           c.requires.ready.current_size _ _ _ c.loop-k.invariant.put (omega (arith, c.loop-k-test.true)))
           c.loop-k.invariant.put.block c.in_ok-put_word.ensures.joins c.block_of_word.ensures.store.only.reads;
-      put = put_more m (chain_of m c.args.chain) _ c.args.offset c.args.bytes.now c.requires.chain c.requires.within c.requires.small
-          c.requires.ready.current_size
-          _ _ _ c.loop-k.invariant.put (omega (arith, c.loop-k-test.true)) _ c.in_ok-put_word.ensures.done
+      put = put_more m (chain_of m c.args.chain) _ c.args.offset c.args.bytes.now c.requires.chain c.requires.within
+          c.requires.small c.requires.ready.current_size _
+          _ _ c.loop-k.invariant.put (omega (arith, c.loop-k-test.true)) _ c.in_ok-put_word.ensures.done
           _ _ c.block_of_word.ensures.store.only.reads.keeps.current_words c.in_ok-page-2.ensures.page;
     }
 
@@ -144,15 +141,14 @@ loop-k-preserved g c =
 pub returns-clause-done : goal.returns-clause-done
 returns-clause-done g c =
     let m = current (memory_of c.args.txn.now) in
-    put_last m (chain_of m c.args.chain) _ c.args.offset c.args.bytes.now c.requires.chain c.requires.within c.requires.small
-    c.requires.ready.current_size
-    _ _ _ c.loop-k.invariant.put (omega (arith, c.loop-k-test.false))
+    put_last m (chain_of m c.args.chain) _ c.args.offset c.args.bytes.now c.requires.chain c.requires.within
+    c.requires.small c.requires.ready.current_size _ _ _ c.loop-k.invariant.put (omega (arith, c.loop-k-test.false))
 
 pub returns-clause-store : goal.returns-clause-store
 returns-clause-store g c =
     let m = current (memory_of c.args.txn.now) in
-    let few = put_few m (chain_of m c.args.chain) _ c.args.offset c.args.bytes.now c.requires.chain c.requires.within c.requires.small
-    c.requires.ready.current_size
+    let few = put_few m (chain_of m c.args.chain) _
+    c.args.offset c.args.bytes.now c.requires.chain c.requires.within c.requires.small c.requires.ready.current_size
     _ _ _ c.loop-k.invariant.put (omega (arith, c.loop-k.invariant.within)) in
     record {
       sets = sets_weaker _ _ _ _ few c.loop-k.invariant.sets;
@@ -196,9 +192,9 @@ returns-then-is_empty-clause-counted g c = λ idle.
 pub returns-clause-counted : goal.returns-clause-counted
 returns-clause-counted g c = λ idle.
     let m = current (memory_of c.args.txn.now) in
-    counted-all (chain_of m c.args.chain) c.args.offset (length c.args.bytes.now) c.loop-k.k _ _ (c.loop-k.invariant.counted idle)
-    c.loop-k.invariant.put.some c.loop-k.invariant.put.from (omega (arith, c.loop-k-test.false))
-    (omega (arith, c.loop-k.invariant.within))
+    counted-all (chain_of m c.args.chain) c.args.offset (length c.args.bytes.now) c.loop-k.k
+    _ _ (c.loop-k.invariant.counted idle) c.loop-k.invariant.put.some c.loop-k.invariant.put.from
+    (omega (arith, c.loop-k-test.false)) (omega (arith, c.loop-k.invariant.within))
 
 pub returns-in_err-page-clause-counted : goal.returns-in_err-page-clause-counted
 returns-in_err-page-clause-counted g c = none_ok _ _ _ c.from_residual.ensures.1

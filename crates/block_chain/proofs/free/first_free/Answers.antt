@@ -19,7 +19,8 @@ pub next-requires-clause-block : goal.next-requires-clause-block
 next-requires-clause-block g c =
     let m = current (memory_of c.args.txn.now) in
     let within : c.args.n - 1 < length (free_chain m) = omega (arith, c.requires.some, c.requires.enough) in
-    let same = c.walk.ensures.store.only.reads.keeps.current_words ∙ c.head.ensures.store.only.reads.keeps.current_words in
+    let same = c.walk.ensures.store.only.reads.keeps.current_words
+    ∙ c.head.ensures.store.only.reads.keeps.current_words in
     let last = c.in_ok-last.ensures.page
     ∙ ap₂ (λ (l : List ℕ) (p : ℕ). slice_index (chain l p)
     (c.args.n - 1)) c.head.ensures.store.only.reads.keeps.current_words c.in_ok-first.ensures.page in
@@ -30,7 +31,8 @@ pub next-requires-clause-small : goal.next-requires-clause-small
 next-requires-clause-small g c =
     let m = current (memory_of c.args.txn.now) in
     let within : c.args.n - 1 < length (free_chain m) = omega (arith, c.requires.some, c.requires.enough) in
-    let same = c.walk.ensures.store.only.reads.keeps.current_words ∙ c.head.ensures.store.only.reads.keeps.current_words in
+    let same = c.walk.ensures.store.only.reads.keeps.current_words
+    ∙ c.head.ensures.store.only.reads.keeps.current_words in
     let last = c.in_ok-last.ensures.page
     ∙ ap₂ (λ (l : List ℕ) (p : ℕ). slice_index (chain l p)
     (c.args.n - 1)) c.head.ensures.store.only.reads.keeps.current_words c.in_ok-first.ensures.page in
@@ -41,7 +43,8 @@ pub returns-clause-found : goal.returns-clause-found
 returns-clause-found g c =
     let m = current (memory_of c.args.txn.now) in
     let within : c.args.n - 1 < length (free_chain m) = omega (arith, c.requires.some, c.requires.enough) in
-    let same = c.walk.ensures.store.only.reads.keeps.current_words ∙ c.head.ensures.store.only.reads.keeps.current_words in
+    let same = c.walk.ensures.store.only.reads.keeps.current_words
+    ∙ c.head.ensures.store.only.reads.keeps.current_words in
     let last = c.in_ok-last.ensures.page
     ∙ ap₂ (λ (l : List ℕ) (p : ℕ). slice_index (chain l p)
     (c.args.n - 1)) c.head.ensures.store.only.reads.keeps.current_words c.in_ok-first.ensures.page in
@@ -70,7 +73,8 @@ returns-in_err-rest-clause-found g c = none_ok _ _ _ c.from_residual-in_err-rest
 pub returns-in_err-rest-clause-store : goal.returns-in_err-rest-clause-store
 returns-in_err-rest-clause-store g c =
     reads_in_handed _ _ _ _ c.from_residual-in_err-rest.ensures.1
-    (reads_in_on _ _ _ _ (txn_reads_then _ _ _ c.head.ensures.store.only c.walk.ensures.store.only) c.in_err-rest.ensures.store)
+    (reads_in_on _ _ _ _ (txn_reads_then _ _ _ c.head.ensures.store.only c.walk.ensures.store.only)
+    c.in_err-rest.ensures.store)
 
 pub returns-in_err-last-clause-store : goal.returns-in_err-last-clause-store
 returns-in_err-last-clause-store g c =
@@ -79,4 +83,5 @@ returns-in_err-last-clause-store g c =
 
 pub returns-clause-store : goal.returns-clause-store
 returns-clause-store g c =
-    reads_in_on _ _ _ _ (txn_reads_then _ _ _ c.head.ensures.store.only c.walk.ensures.store.only) c.in_ok-rest.ensures.store
+    reads_in_on _ _ _ _ (txn_reads_then _ _ _ c.head.ensures.store.only c.walk.ensures.store.only)
+    c.in_ok-rest.ensures.store

@@ -60,7 +60,8 @@ returns-in_err-page-2-clause-count g c = none_ok _ _ _ c.from_residual-in_err-pa
 
 pub returns-in_err-page-2-clause-store : goal.returns-in_err-page-2-clause-store
 returns-in_err-page-2-clause-store g c =
-    reads_handed _ _ _ _ c.from_residual-in_err-page-2.ensures.1 (reads_on _ _ _ _ c.loop-page.invariant.reads c.in_err-page-2.ensures.store)
+    reads_handed _ _ _ _ c.from_residual-in_err-page-2.ensures.1
+    (reads_on _ _ _ _ c.loop-page.invariant.reads c.in_err-page-2.ensures.store)
 
 pub loop-page-init : goal.loop-page-init
 loop-page-init g c = record {

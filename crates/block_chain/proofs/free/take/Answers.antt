@@ -60,7 +60,8 @@ pub returns-in_err-set-clause-store : goal.returns-in_err-set-clause-store
 returns-in_err-set-clause-store g c =
     sets_in_handed _ _ _ _ _ c.from_residual-in_err-set.ensures.1 (record {
       ready = tt;
-      sets = sets_then 0 1 2 _ _ _ (omega arith) (reads_sets _ _ _ c.first_free.ensures.store.only) c.set.ensures.store.sets;
+      sets = sets_then 0 1 2 _ _ _ (omega arith) (reads_sets _ _ _ c.first_free.ensures.store.only)
+          c.set.ensures.store.sets;
       tells = c.in_err-set.ensures.store.tells;
     })
 

@@ -23,8 +23,8 @@ write_plain-requires-clause-place g c =
     let invariant = c.loop-page.invariant in
     let lt : c.loop-page.page < c.args.end = omega (arith, c.loop-page-test.true) in
     let pages = pages_same (committed c.args.store.now) (committed c.loop-page.store) invariant.only.size in
-    let inside = page_within (committed c.loop-page.store) c.loop-page.page invariant.changes.ready.usable.committed_size
-    (omega (arith, lt, c.requires.inside, pages)) in
+    let inside = page_within (committed c.loop-page.store) c.loop-page.page
+    invariant.changes.ready.usable.committed_size (omega (arith, lt, c.requires.inside, pages)) in
     let same = current_size c.loop-page.store in
     (inr (omega (arith, c.requires.blocks, invariant.from)), omega (arith, inside, same))
 
@@ -41,7 +41,8 @@ loop-page-preserved g c =
       linked = linked_more c.args.first c.args.end c.args.rest c.loop-page.page _ (committed c.loop-page.store) _
           invariant.changes.ready.usable.committed_size (omega (arith, lt, c.requires.inside, pages))
           (c.from.ensures ∙ c.next_page-next.ensures) c.in_ok-write_plain.ensures.done invariant.linked;
-      changes = changes_on _ 1 _ _ _ _ _ (omega (arith, invariant.from)) invariant.changes c.in_ok-write_plain.ensures.store;
+      changes = changes_on _ 1 _ _ _ _ _ (omega (arith, invariant.from)) invariant.changes
+          c.in_ok-write_plain.ensures.store;
       counted = omega (arith, c.in_ok-write_plain.ensures.counted, invariant.counted, invariant.from);
     }
 

@@ -50,7 +50,8 @@ returns-in_err-word-clause-byte g c = none_ok _ _ _ c.from_residual-in_err-word.
 
 pub returns-in_err-word-clause-store : goal.returns-in_err-word-clause-store
 returns-in_err-word-clause-store g c =
-    reads_handed _ _ _ _ c.from_residual-in_err-word.ensures.1 (reads_on _ _ _ _ c.block_at.ensures.store.only c.in_err-word.ensures.store)
+    reads_handed _ _ _ _ c.from_residual-in_err-word.ensures.1
+    (reads_on _ _ _ _ c.block_at.ensures.store.only c.in_err-word.ensures.store)
 
 pub returns-clause-store : goal.returns-clause-store
 returns-clause-store g c =

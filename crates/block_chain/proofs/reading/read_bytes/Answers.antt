@@ -106,13 +106,15 @@ returns-in_err-page-2-clause-any_exit g c =
     some_more m
     (chain_of m c.args.chain) _ c.args.offset c.args.count c.requires.ready.usable.committed_size c.requires.leads
     c.requires.within
-    _ _ _ _ _ _ _ _ c.loop-at.invariant.reads.keeps.committed_words c.loop-at.invariant.bytes c.bytes_in_word-some.ensures.word
-    c.bytes_in_word-some.ensures.end c.in_ok-word.ensures.word c.append_bytes.ensures.items
+    _ _ _ _ _ _ _ _ c.loop-at.invariant.reads.keeps.committed_words c.loop-at.invariant.bytes
+    c.bytes_in_word-some.ensures.word c.bytes_in_word-some.ensures.end c.in_ok-word.ensures.word
+    c.append_bytes.ensures.items
 
 pub returns-in_err-page-2-clause-store : goal.returns-in_err-page-2-clause-store
 returns-in_err-page-2-clause-store g c =
     reads_handed _ _ _ _ c.from_residual-in_err-page-2.ensures.1
-    (reads_on _ _ _ _ (reads_then _ _ _ c.loop-at.invariant.reads c.read_word.ensures.store.only) c.in_err-page-2.ensures.store)
+    (reads_on _ _ _ _ (reads_then _ _ _ c.loop-at.invariant.reads c.read_word.ensures.store.only)
+    c.in_err-page-2.ensures.store)
 
 pub loop-at-preserved : goal.loop-at-preserved
 loop-at-preserved g c =
@@ -125,9 +127,9 @@ loop-at-preserved g c =
           (chain_of m c.args.chain) _ c.args.offset c.args.count c.requires.ready.usable.committed_size c.requires.leads
           c.requires.within
           _ _ _ _ _ _ _ _ c.loop-at.invariant.reads.keeps.committed_words c.loop-at.invariant.bytes
-          c.bytes_in_word-some.ensures.word c.bytes_in_word-some.ensures.end c.in_ok-word.ensures.word c.append_bytes.ensures.items
-          _ _ c.read_word.ensures.store.only.keeps.committed_words c.bytes_in_word-some.ensures.some c.loop-at-test.true
-          c.in_ok-page-2.ensures.page;
+          c.bytes_in_word-some.ensures.word c.bytes_in_word-some.ensures.end c.in_ok-word.ensures.word
+          c.append_bytes.ensures.items _ _ c.read_word.ensures.store.only.keeps.committed_words
+          c.bytes_in_word-some.ensures.some c.loop-at-test.true c.in_ok-page-2.ensures.page;
     }
 
 pub loop-at-smaller : goal.loop-at-smaller

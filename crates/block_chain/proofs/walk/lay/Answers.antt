@@ -6,7 +6,8 @@ use Rattle.std.proofs.Common.{arith}
 use Rattle.block_chain.proofs.walk.lay.Goals as goal
 
 pub lay_marked-requires-clause-room : goal.lay_marked-requires-clause-room
-lay_marked-requires-clause-room g c = let size = length-replicate {A = ℕ} FEW_BLOCKS 0 in omega (arith, size, c.if-count-le-FEW_BLOCKS.true)
+lay_marked-requires-clause-room g c = let size = length-replicate {A = ℕ} FEW_BLOCKS 0 in
+    omega (arith, size, c.if-count-le-FEW_BLOCKS.true)
 
 pub lay_marked-requires-clause-blank : goal.lay_marked-requires-clause-blank
 lay_marked-requires-clause-blank g c = blank_marks FEW_BLOCKS

@@ -63,7 +63,8 @@ loop-i-init g c =
     c.in_ok-head.ensures.word ∙ ap (λ (l : List ℕ). slice_index l FREE_HEAD) (sym c.requires.ready.same) in
     let walked = some_at _ _ _ c.in-Some.is c.in_ok-walked.ensures.walked in
     let family : List ℕ → Type 0 =
-    λ l. IsWalked (FIRST_BLOCK_PAGE + c.args.count) l c.in_ok-head.head c.args.seen.now c.in-Some.walked c.walk_over.new.seen in
+    λ l. IsWalked (FIRST_BLOCK_PAGE + c.args.count) l c.in_ok-head.head c.args.seen.now
+    c.in-Some.walked c.walk_over.new.seen in
     let from : ℕ → Type 0 = λ p. IsWalked (FIRST_BLOCK_PAGE + c.args.count) m p c.args.seen.now
     c.in-Some.walked c.walk_over.new.seen in
     let w = subst from head (subst family read walked) in
@@ -75,7 +76,8 @@ loop-i-init g c =
       most = (let b = w.blocks in omega (arith, b, most));
       free = w.blocks;
       so_far = laid_free c.args.count m c.args.extents.now
-          c.args.seen.now c.walk_over.new.seen c.in-Some.walked.blocks w.fresh (blank c.args.seen.now c.requires.blank) w.marks w.fine w.blocks;
+          c.args.seen.now c.walk_over.new.seen c.in-Some.walked.blocks w.fresh (blank c.args.seen.now c.requires.blank)
+          w.marks w.fine w.blocks;
     }
 
 pub loop-i-preserved : goal.loop-i-preserved
@@ -90,8 +92,10 @@ loop-i-preserved g c =
     let read = c.loop-i.invariant.reads.keeps.committed_words in
     let found = some_at _ _ _ c.in-Some-2.is c.in_ok-walked-2.ensures.walked in
     let family : List ℕ → Type 0 =
-    λ l. IsWalked (FIRST_BLOCK_PAGE + c.args.count) l c.from.result c.loop-i.seen c.in-Some-2.walked c.walk_over-in-loop-i.new.seen in
-    let start : ℕ → Type 0 = λ p. IsWalked (FIRST_BLOCK_PAGE + c.args.count) m p c.loop-i.seen c.in-Some-2.walked c.walk_over-in-loop-i.new.seen in
+    λ l. IsWalked (FIRST_BLOCK_PAGE + c.args.count) l c.from.result c.loop-i.seen c.in-Some-2.walked
+    c.walk_over-in-loop-i.new.seen in
+    let start : ℕ → Type 0 = λ p. IsWalked (FIRST_BLOCK_PAGE + c.args.count) m p c.loop-i.seen c.in-Some-2.walked
+    c.walk_over-in-loop-i.new.seen in
     let w = subst start from (subst family read found) in
     let yes : IsTrue c.is_extent.result = c.if-not-is_extent.false in
     let blocks : c.in-Some-2.walked.blocks ≡ e.blocks = (c.is_extent.ensures.0 yes).0 in
@@ -104,12 +108,14 @@ loop-i-preserved g c =
     let most = pages_most m MOST_BLOCKS e.chain.first in
     let more = laid_more c.args.count m es i c.loop-i.seen c.loop-i.blocks e d lt refl c.loop-i.invariant.so_far
     c.walk_over-in-loop-i.new.seen extent w.fresh w.marks w.fine in
-    let count : ℕ → Type 0 = λ k. AreLaidSoFar (FIRST_BLOCK_PAGE + c.args.count) m es (i + 1) c.walk_over-in-loop-i.new.seen (c.loop-i.blocks + k) in
+    let count : ℕ → Type 0 = λ k. AreLaidSoFar (FIRST_BLOCK_PAGE + c.args.count) m es (i + 1)
+    c.walk_over-in-loop-i.new.seen (c.loop-i.blocks + k) in
     record {
       ready = c.in_ok-walked-2.ensures.store.ready;
       reads = reads_then _ _ _ c.loop-i.invariant.reads c.walk_over-in-loop-i.ensures.store.only;
       in_range = omega (arith, lt);
-      most = (let fits : c.in-Some-2.walked.blocks ≤ MOST_BLOCKS - c.loop-i.blocks = omega (arith, c.if-walked-blocks.false) in
+      most = (let fits : c.in-Some-2.walked.blocks ≤ MOST_BLOCKS - c.loop-i.blocks =
+          omega (arith, c.if-walked-blocks.false) in
           let b = c.loop-i.invariant.most in omega (arith, fits, b));
       free = c.loop-i.invariant.free;
       so_far = subst count (sym blocks) more;
@@ -128,7 +134,8 @@ returns-in-None-2-clause-found g c = λ laid.
     let stale = c.in_ok-walked-2.ensures.stale c.in-None-2.is in
     let family : List ℕ → Type 0 = λ l. IsFresh (FIRST_BLOCK_PAGE + c.args.count) l c.loop-i.seen c.from.result in
     let start : ℕ → Type 0 = λ p. IsFresh (FIRST_BLOCK_PAGE + c.args.count) m c.loop-i.seen p in
-    let fresh = (laid_fresh c.args.count m es i c.loop-i.seen c.loop-i.blocks e d lt refl c.loop-i.invariant.so_far laid).0 in
+    let fresh =
+    (laid_fresh c.args.count m es i c.loop-i.seen c.loop-i.blocks e d lt refl c.loop-i.invariant.so_far laid).0 in
     stale (subst family (sym read) (subst start (sym from) fresh))
 
 pub returns-then-blocks-count-clause-found : goal.returns-then-blocks-count-clause-found
@@ -136,7 +143,8 @@ returns-then-blocks-count-clause-found g c = λ laid.
     let m = committed c.args.store.now in
     let es = c.args.extents.now in
     let all : c.loop-i._i ≡ length es = omega (arith, c.loop-i-test.false, c.loop-i.invariant.in_range) in
-    let family : ℕ → Type 0 = λ k. AreLaidSoFar (FIRST_BLOCK_PAGE + c.args.count) m es k c.loop-i.seen c.loop-i.blocks in
+    let family : ℕ → Type 0 = λ k. AreLaidSoFar (FIRST_BLOCK_PAGE + c.args.count) m es k
+    c.loop-i.seen c.loop-i.blocks in
     let short : c.loop-i.blocks ≢ c.args.count = c.if-blocks-count.true in
     laid_short c.args.count m es c.loop-i.seen c.loop-i.blocks (subst family all c.loop-i.invariant.so_far) short laid
 
@@ -145,7 +153,8 @@ returns-clause-found g c =
     let m = committed c.args.store.now in
     let es = c.args.extents.now in
     let all : c.loop-i._i ≡ length es = omega (arith, c.loop-i-test.false, c.loop-i.invariant.in_range) in
-    let family : ℕ → Type 0 = λ k. AreLaidSoFar (FIRST_BLOCK_PAGE + c.args.count) m es k c.loop-i.seen c.loop-i.blocks in
+    let family : ℕ → Type 0 = λ k. AreLaidSoFar (FIRST_BLOCK_PAGE + c.args.count) m es k
+    c.loop-i.seen c.loop-i.blocks in
     let whole : c.loop-i.blocks ≡ c.args.count = c.if-blocks-count.false in (
       laid_all c.args.count m es c.loop-i.seen c.loop-i.blocks c.requires.ready.usable.committed_size c.requires.inside
           (subst family all c.loop-i.invariant.so_far) whole,
@@ -164,10 +173,13 @@ returns-then-not-is_extent-clause-found g c = λ laid.
     let read = c.loop-i.invariant.reads.keeps.committed_words in
     let found = some_at _ _ _ c.in-Some-2.is c.in_ok-walked-2.ensures.walked in
     let family : List ℕ → Type 0 =
-    λ l. IsWalked (FIRST_BLOCK_PAGE + c.args.count) l c.from.result c.loop-i.seen c.in-Some-2.walked c.walk_over-in-loop-i.new.seen in
-    let start : ℕ → Type 0 = λ p. IsWalked (FIRST_BLOCK_PAGE + c.args.count) m p c.loop-i.seen c.in-Some-2.walked c.walk_over-in-loop-i.new.seen in
+    λ l. IsWalked (FIRST_BLOCK_PAGE + c.args.count) l c.from.result c.loop-i.seen c.in-Some-2.walked
+    c.walk_over-in-loop-i.new.seen in
+    let start : ℕ → Type 0 = λ p. IsWalked (FIRST_BLOCK_PAGE + c.args.count) m p c.loop-i.seen c.in-Some-2.walked
+    c.walk_over-in-loop-i.new.seen in
     let w = subst start from (subst family read found) in
-    let extent = (laid_fresh c.args.count m es i c.loop-i.seen c.loop-i.blocks e d lt refl c.loop-i.invariant.so_far laid).1 in
+    let extent =
+    (laid_fresh c.args.count m es i c.loop-i.seen c.loop-i.blocks e d lt refl c.loop-i.invariant.so_far laid).1 in
     let fits = laid_fits c.args.count m es i c.loop-i.seen c.loop-i.blocks e d lt refl c.loop-i.invariant.so_far laid in
     let blocks : c.in-Some-2.walked.blocks ≡ e.blocks = w.blocks ∙ extent.blocks in
     let last : c.in-Some-2.walked.last ≡ e.chain.last =
@@ -195,11 +207,13 @@ returns-in_err-walked-2-clause-found g c = none_ok _ _ _ c.from_residual-in_err-
 
 pub returns-in_err-walked-2-clause-store : goal.returns-in_err-walked-2-clause-store
 returns-in_err-walked-2-clause-store g c =
-    reads_handed _ _ _ _ c.from_residual-in_err-walked-2.ensures.1 (reads_on _ _ _ _ c.loop-i.invariant.reads c.in_err-walked-2.ensures.store)
+    reads_handed _ _ _ _ c.from_residual-in_err-walked-2.ensures.1
+    (reads_on _ _ _ _ c.loop-i.invariant.reads c.in_err-walked-2.ensures.store)
 
 pub returns-in_err-walked-clause-store : goal.returns-in_err-walked-clause-store
 returns-in_err-walked-clause-store g c =
-    reads_handed _ _ _ _ c.from_residual-in_err-walked.ensures.1 (reads_on _ _ _ _ c.read.ensures.reads c.in_err-walked.ensures.store)
+    reads_handed _ _ _ _ c.from_residual-in_err-walked.ensures.1
+    (reads_on _ _ _ _ c.read.ensures.reads c.in_err-walked.ensures.store)
 
 pub returns-in-None-clause-store : goal.returns-in-None-clause-store
 returns-in-None-clause-store g c =

@@ -16,8 +16,9 @@ use Rattle.block_chain.proofs.walk.walk_over.Goals as goal
 use Rattle.nvm_board.specs.declared.board.TheConstants.{PAGE_WORDS}
 
 -- where a block is not marked, not all blocks were walked over
-fits_at : (store : Memory) (m : List ℕ) (end from n page : ℕ) (old new : List ℕ) → HasWalked end m from n page old new → IsReady store
-    → end ≤ pages_of (committed store) → ((FIRST_BLOCK_PAGE ≤ page) × (page < end)) × (marked new page ≡ 0) → n < MOST_BLOCKS
+fits_at : (store : Memory) (m : List ℕ) (end from n page : ℕ) (old new : List ℕ) → HasWalked end m from n page old new
+    → IsReady store → end ≤ pages_of (committed store)
+    → ((FIRST_BLOCK_PAGE ≤ page) × (page < end)) × (marked new page ≡ 0) → n < MOST_BLOCKS
 fits_at store m end from n page old new walked ready inside fit =
     let most = ready.usable.committed_size.most in
     walked_less end m from n page old new walked (omega (arith, inside, most)) fit.0 fit.1
@@ -46,8 +47,8 @@ loop-last-preserved g c =
     (let at : PAGE_WORDS * page ≡ address page 0 = omega arith in c.in_ok-page.ensures.word
     ∙ ap (λ (k : ℕ). slice_index (committed c.loop-last.store) k) at)
     ∙ ap (λ (l : List ℕ). link l page) invariant.reads.keeps.committed_words in
-    let more = walked_more c.args.end m c.args.first c.loop-last.blocks page c.args.seen.now c.loop-last.seen invariant.walked
-    c.requires.ready.usable.committed_size c.requires.inside fits some fit.0 fit.1 in
+    let more = walked_more c.args.end m c.args.first c.loop-last.blocks page c.args.seen.now c.loop-last.seen
+    invariant.walked c.requires.ready.usable.committed_size c.requires.inside fits some fit.0 fit.1 in
     record {
       ready = c.in_ok-page.ensures.store.ready;
       reads = reads_then _ _ _ invariant.reads c.read_committed.ensures.store.only;
@@ -55,8 +56,8 @@ loop-last-preserved g c =
       walked = (let family : ℕ → List ℕ
           → Type 0 = λ p l. HasWalked c.args.end m c.args.first (c.loop-last.blocks + 1) p c.args.seen.now l in
           subst (λ (p : ℕ). family p c.mark.new.seen) (sym next) (subst (family (link m page)) (sym seen) more));
-      last = last_more c.args.end m c.args.first c.loop-last.blocks page c.args.seen.now c.loop-last.seen invariant.walked
-          fits some;
+      last = last_more c.args.end m c.args.first c.loop-last.blocks page c.args.seen.now c.loop-last.seen
+          invariant.walked fits some;
     }
 
 pub returns-then-page-ne0-clause-stale : goal.returns-then-page-ne0-clause-stale
@@ -107,12 +108,12 @@ pub returns-clause-store : goal.returns-clause-store
 returns-clause-store g c = reads_so_far _ _ c.loop-last.invariant.reads c.loop-last.invariant.ready
 
 pub loop-last-smaller : goal.loop-last-smaller
-loop-last-smaller g c = let fits = fits_at _ _ _ _ _ _ _ _ c.loop-last.invariant.walked c.requires.ready c.requires.inside
-    (c.mark.ensures.new.0 c.loop-last-test.true) in omega (arith, fits)
+loop-last-smaller g c = let fits = fits_at _ _ _ _ _ _ _ _ c.loop-last.invariant.walked c.requires.ready
+    c.requires.inside (c.mark.ensures.new.0 c.loop-last-test.true) in omega (arith, fits)
 
 pub overflow_add-blocks : goal.overflow_add-blocks
-overflow_add-blocks g c = let fits = fits_at _ _ _ _ _ _ _ _ c.loop-last.invariant.walked c.requires.ready c.requires.inside
-    (c.mark.ensures.new.0 c.loop-last-test.true) in omega (arith, fits)
+overflow_add-blocks g c = let fits = fits_at _ _ _ _ _ _ _ _ c.loop-last.invariant.walked c.requires.ready
+    c.requires.inside (c.mark.ensures.new.0 c.loop-last-test.true) in omega (arith, fits)
 
 pub overflow_cast-last : goal.overflow_cast-last
 overflow_cast-last g c = let block = (c.mark.ensures.new.0 c.loop-last-test.true).0 in

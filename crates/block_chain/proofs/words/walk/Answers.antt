@@ -15,8 +15,8 @@ here : (g : Over) (c : goal.After-next-arg-1 g)
 here g c =
     let within : c.loop-i._i < length (chain (current (memory_of c.args.txn.now)) c.args.first) =
     omega (arith, c.requires.within, c.loop-i-test.true) in
-    at_block _ _ _ _ _ _ c.loop-i.invariant.reads.reads.keeps.current_words c.requires.ready.current_size c.requires.leads c.loop-i.invariant.place
-    within
+    at_block _ _ _ _ _ _ c.loop-i.invariant.reads.reads.keeps.current_words c.requires.ready.current_size
+    c.requires.leads c.loop-i.invariant.place within
 
 pub next-requires-clause-block : goal.next-requires-clause-block
 next-requires-clause-block g c = (here g c).block
@@ -28,8 +28,8 @@ pub loop-i-preserved : goal.loop-i-preserved
 loop-i-preserved g c =
     let within : c.loop-i._i < length (chain (current (memory_of c.args.txn.now)) c.args.first) =
     omega (arith, c.requires.within, c.loop-i-test.true) in
-    let at = at_block _ _ _ _ _ _ c.loop-i.invariant.reads.reads.keeps.current_words c.requires.ready.current_size c.requires.leads
-    c.loop-i.invariant.place within in
+    let at = at_block _ _ _ _ _ _ c.loop-i.invariant.reads.reads.keeps.current_words c.requires.ready.current_size
+    c.requires.leads c.loop-i.invariant.place within in
     record {
       ready = c.in_ok-page.ensures.store.ready;
       reads = txn_reads_then _ _ _ c.loop-i.invariant.reads c.next.ensures.store.only;
@@ -41,4 +41,5 @@ returns-in_err-page-clause-page g c = none_ok _ _ _ c.from_residual.ensures.1
 
 pub returns-in_err-page-clause-store : goal.returns-in_err-page-clause-store
 returns-in_err-page-clause-store g c =
-    reads_in_handed _ _ _ _ c.from_residual.ensures.1 (reads_in_on _ _ _ _ c.loop-i.invariant.reads c.in_err-page.ensures.store)
+    reads_in_handed _ _ _ _ c.from_residual.ensures.1
+    (reads_in_on _ _ _ _ c.loop-i.invariant.reads c.in_err-page.ensures.store)

@@ -14,15 +14,16 @@ returns-clause-turns c =
     record {
       reader_is = c.send.ensures.state;
       follows_so = ap (λ (f : ControlFlow Ending Toward). follows_of f blocks reader.answer) c.saying.ensures
-          ∙ follows-so _ c.send.result blocks c.args.blocks.now.toward_card reader c.send.ensures.next c.send.ensures.out (kept-sends c.args.reader.now c.send.new.self c.args.command.now);
+          ∙ follows-so _ c.send.result blocks c.args.blocks.now.toward_card reader c.send.ensures.next
+          c.send.ensures.out (kept-sends c.args.reader.now c.send.new.self c.args.command.now);
     }
 
 pub returns-clause-busy : goal.returns-clause-busy
 returns-clause-busy c =
     let reader = c.send.new.self in
     let blocks = record c.args.blocks.now { toward_card = c.send.new.out } in
-    subst (λ (f : ControlFlow Ending Toward). OnOk (follows_of f blocks reader.answer) (reader.phase ≡ Busy)) (sym c.saying.ensures)
-    (busy-so c.send.result blocks reader.answer reader.phase c.send.ensures.busy)
+    subst (λ (f : ControlFlow Ending Toward). OnOk (follows_of f blocks reader.answer) (reader.phase ≡ Busy))
+    (sym c.saying.ensures) (busy-so c.send.result blocks reader.answer reader.phase c.send.ensures.busy)
 
 pub returns-clause-idle : goal.returns-clause-idle
 returns-clause-idle c =

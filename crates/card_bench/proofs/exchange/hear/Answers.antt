@@ -17,15 +17,16 @@ returns-clause-turns c =
     subst (λ (l : List ℕ). ReaderTurns (reader_step c.args.reader.now l) reader follows) c.deref.ensures.0 (record {
       reader_is = c.got.ensures.state;
       follows_so = ap (λ (f : ControlFlow Ending Toward). follows_of f blocks reader.answer) c.saying.ensures
-          ∙ follows-so _ c.got.result blocks c.args.blocks.now.toward_card reader c.got.ensures.next c.got.ensures.out c.got.ensures.answer;
+          ∙ follows-so _ c.got.result blocks c.args.blocks.now.toward_card reader c.got.ensures.next
+          c.got.ensures.out c.got.ensures.answer;
     })
 
 pub returns-clause-busy : goal.returns-clause-busy
 returns-clause-busy c =
     let reader = c.got.new.self in
     let blocks = record c.args.blocks.now { toward_card = c.got.new.out } in
-    subst (λ (f : ControlFlow Ending Toward). OnOk (follows_of f blocks reader.answer) (reader.phase ≡ Busy)) (sym c.saying.ensures)
-    (busy-so c.got.result blocks reader.answer reader.phase c.got.ensures.busy)
+    subst (λ (f : ControlFlow Ending Toward). OnOk (follows_of f blocks reader.answer) (reader.phase ≡ Busy))
+    (sym c.saying.ensures) (busy-so c.got.result blocks reader.answer reader.phase c.got.ensures.busy)
 
 pub returns-clause-idle : goal.returns-clause-idle
 returns-clause-idle c =

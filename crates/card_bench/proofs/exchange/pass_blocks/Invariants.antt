@@ -12,6 +12,6 @@ invariant-loop g l = record {
   good : IsGood l.ends.bench;
   power : IsOn l.ends.bench;
   within : l.counter ≤ l.limit;
-  run : HasPassed l.limit (ends_of l.initial.ends) (next_block l.initial.toward l.initial.ends.blocks) (l.limit - l.counter)
-      (ends_of l.ends) (next_block l.toward l.ends.blocks);
+  run : HasPassed l.limit (ends_of l.initial.ends) (next_block l.initial.toward l.initial.ends.blocks)
+      (l.limit - l.counter) (ends_of l.ends) (next_block l.toward l.ends.blocks);
 }

@@ -2,7 +2,7 @@ use Rattle.std.proofs.Common.{ℕ, refl, subst}
 use Rattle.nvm_board.specs.Cut.{cut_facts}
 use Rattle.undo_journal.specs.Spending.{WritesAtMost}
 use Rattle.card_core.specs.Factory.{factory_card}
-use Rattle.card_core.specs.Finding.{Finds}
+use Rattle.card_machine.specs.Finding.{Finds}
 use Rattle.card_bench.proofs.FormatLemmas.{format_succeeds, just_written, new_blocks, new_pages, none_due}
 use Rattle.card_bench.proofs.factory.factory_board.Goals as goal
 
@@ -12,13 +12,14 @@ unreachable-unreachable c =
     let old = cut_facts c.in_ok-new.field-0 in
     let new = cut_facts c.in-Err.field-0.0 in
     format_succeeds old new c.in-Err.field-0.1 is refl
-    (subst (λ (n : ℕ). WritesAtMost n old new) (new_pages old is) c.in-Err.ensures.counts_err) c.in-Err.ensures.power_err
+    (subst (λ (n : ℕ). WritesAtMost n old new) (new_pages old is) c.in-Err.ensures.counts_err)
+    c.in-Err.ensures.power_err
 
 pub returns-clause-card : goal.returns-clause-card
 returns-clause-card c =
     let new = cut_facts c.in-Ok.board in
-    subst (λ (n : ℕ). Finds new.words (factory_card n)) (new_blocks (cut_facts c.in_ok-new.field-0) new c.in_ok-new.ensures.facts c.in-Ok.ensures.written.size)
-    c.in-Ok.ensures.found
+    subst (λ (n : ℕ). Finds new.words (factory_card n)) (new_blocks (cut_facts c.in_ok-new.field-0) new
+    c.in_ok-new.ensures.facts c.in-Ok.ensures.written.size) c.in-Ok.ensures.found
 
 pub returns-clause-counts : goal.returns-clause-counts
 returns-clause-counts c =

@@ -1,5 +1,6 @@
 use Rattle.card_bench.proofs.DarkLines.{dark-spends, dark-unsets}
-use Rattle.card_bench.proofs.Wearing.{block-due, due-spent, few-run, few-steps, not-mute, runs-last, script-lasts, steps-new}
+use Rattle.card_bench.proofs.Wearing.{block-due, due-spent, few-run, few-steps, not-mute, runs-last}
+use Rattle.card_bench.proofs.Wearing.{script-lasts, steps-new}
 use Rattle.card_bench.proofs.laws.counts_last.Goals as goal
 
 pub returns-clause-starts : goal.returns-clause-starts

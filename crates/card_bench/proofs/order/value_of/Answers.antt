@@ -17,7 +17,8 @@ pub loop-digit-preserved : goal.loop-digit-preserved
 loop-digit-preserved c =
     let more = digits-more c.args.digits.now c.loop-digit.digit-index c.requires.decimal c.loop-digit-test.true in
     ap (λ (n : ℕ). c.loop-digit.value * 10 + n) c.from.ensures
-    ∙ ap (λ (n : ℕ). n * 10 + (slice_index c.args.digits.now c.loop-digit.digit-index - 48)) c.loop-digit.invariant ∙ more
+    ∙ ap (λ (n : ℕ). n * 10 + (slice_index c.args.digits.now c.loop-digit.digit-index - 48)) c.loop-digit.invariant
+    ∙ more
 
 pub returns-clause-bound : goal.returns-clause-bound
 returns-clause-bound c =

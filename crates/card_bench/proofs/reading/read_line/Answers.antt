@@ -1,4 +1,5 @@
-use Rattle.std.proofs.Common.{◌≡◌, ◌≤◌, ◌==◌, Err, ◌++◌, ◌+◌, ℕ, false, [], ◌∷◌, sym, ◌∙◌, ap, subst, arith, rules, append_assoc, length, length-append}
+use Rattle.std.proofs.Common.{◌≡◌, ◌≤◌, ◌==◌, Err, ◌++◌, ◌+◌, ℕ, false, [], ◌∷◌, sym, ◌∙◌, ap, subst, arith, rules}
+use Rattle.std.proofs.Common.{append_assoc, length, length-append}
 use Rattle.std.proofs.KnownBytes.{Consumes-kept, Consumes-trans}
 use Rattle.std.proofs.lemmas.List.Elements.{All-append}
 use Rattle.std.specs.Io.KnownBytes.{Consumes}
@@ -45,11 +46,13 @@ loop-preserved g c =
     let line = c.loop.line.items in
     let first = g.R.Read.remaining c.args.reader.now in
     let new = g.R.Read.remaining c.read_part.new.reader in
-    let part = subst (TakesPart (g.R.Read.remaining c.loop.reader) new line c.read_part.new.line.items) c.in-Ok-Begun.field-0-is c.in-Ok-Begun.ensures.part in
+    let part = subst (TakesPart (g.R.Read.remaining c.loop.reader) new line c.read_part.new.line.items)
+    c.in-Ok-Begun.field-0-is c.in-Ok-Begun.ensures.part in
     let most : c.loop.taken + c.in-Ok-Begun.size ≤ SCRIPT_LIMIT = search (rules, arith) in
     let fits : IsTooLong c.read_part.new.line.items → ⊥ = search rules in
     let room : length c.read_part.new.line.items ≤ LINE_LIMIT + 1 = search (rules, arith) in
-    let whole : length c.read_part.new.line.items ≡ length line + length part.0 = ap length part.3 ∙ length-append line part.0 in
+    let whole : length c.read_part.new.line.items ≡ length line + length part.0 = ap length part.3
+    ∙ length-append line part.0 in
     let bytes = part.4 in
     let some = part.5 in
     let before = c.loop.invariant.size in
@@ -60,7 +63,8 @@ loop-preserved g c =
       room = room;
       in_line = subst IsInLine (sym part.3)
           (All-append (λ (b : ℕ). (b == 10) ≡ false) line part.0 c.loop.invariant.in_line part.2);
-      so_far = subst (Consumes first new) (sym part.3) (Consumes-trans _ _ _ line part.0 c.loop.invariant.so_far part.1);
+      so_far = subst (Consumes first new) (sym part.3)
+          (Consumes-trans _ _ _ line part.0 c.loop.invariant.so_far part.1);
       fits = fits;
       counted = omega (arith, whole, bytes, counted);
     }
@@ -70,14 +74,16 @@ returns-then-is_too_long-clause-too_long g c = λ e.
     let line = c.loop.line.items in
     let first = g.R.Read.remaining c.args.reader.now in
     let new = g.R.Read.remaining c.read_part.new.reader in
-    let part = subst (TakesPart (g.R.Read.remaining c.loop.reader) new line c.read_part.new.line.items) c.in-Ok-Begun.field-0-is c.in-Ok-Begun.ensures.part in
+    let part = subst (TakesPart (g.R.Read.remaining c.loop.reader) new line c.read_part.new.line.items)
+    c.in-Ok-Begun.field-0-is c.in-Ok-Begun.ensures.part in
     let taken : Consumes first new (line ++ part.0) = Consumes-trans _ _ _ line part.0 c.loop.invariant.so_far part.1 in
     let whole : IsTooLong c.read_part.new.line.items = search rules in
     let long : IsTooLong (line ++ part.0) = subst IsTooLong part.3 whole in
     let sum = length-append line part.0 in
     let size = part.4 in
     let before = c.loop.invariant.counted in
-    let counted : c.loop.taken + c.in-Ok-Begun.size ≡ c.args.taken.now + length (line ++ part.0) = omega (arith, sum, size, before) in (
+    let counted : c.loop.taken + c.in-Ok-Begun.size ≡ c.args.taken.now + length (line ++ part.0) =
+    omega (arith, sum, size, before) in (
       line ++ part.0,
       taken,
       All-append (λ (b : ℕ). (b == 10) ≡ false) line part.0 c.loop.invariant.in_line part.2,

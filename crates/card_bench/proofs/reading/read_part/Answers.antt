@@ -12,9 +12,13 @@ use Rattle.card_bench.proofs.reading.read_part.Goals as goal
 pub returns-then-is_empty-clause-part : goal.returns-then-is_empty-clause-part
 returns-then-is_empty-clause-part g c =
     let rested = c.fill_buf.follows.lender-at-none in
-    let filled = subst (FillKeeps _ (g.R.Read.remaining rested) (g.R.BufRead.consumable_len rested)) c.in-Ok.is c.fill_buf.follows.holds-at-none in
-    let none : length c.in-Ok.available.now ≡ 0 = search rules in
-    (Consumes-kept _ _ _ [] (Consumes-nil _) filled.0, at_end_of _ _ c.in-Ok.available.now c.in-Ok.ensures.end filled.0 none, refl)
+    let filled = subst (FillKeeps _ (g.R.Read.remaining rested) (g.R.BufRead.consumable_len rested)) c.in-Ok.is
+    c.fill_buf.follows.holds-at-none in
+    let none : length c.in-Ok.available.now ≡ 0 = search rules in (
+      Consumes-kept _ _ _ [] (Consumes-nil _) filled.0,
+      at_end_of _ _ c.in-Ok.available.now c.in-Ok.ensures.end filled.0 none,
+      refl,
+    )
 
 -- what is shown is there
 left-of : (old rested : Option (List ℕ)) (shown : List ℕ) → IfSome old (λ xs. StartsWith xs shown) → Keeps old rested
@@ -30,7 +34,8 @@ left-of (Some xs) (Some ys) shown front kept some = λ none.
 pub returns-then-most-eq0-clause-past : goal.returns-then-most-eq0-clause-past
 returns-then-most-eq0-clause-past g c = λ e.
     let rested = c.fill_buf.follows.lender-at-none in
-    let filled = subst (FillKeeps _ (g.R.Read.remaining rested) (g.R.BufRead.consumable_len rested)) c.in-Ok.is c.fill_buf.follows.holds-at-none in
+    let filled = subst (FillKeeps _ (g.R.Read.remaining rested) (g.R.BufRead.consumable_len rested)) c.in-Ok.is
+    c.fill_buf.follows.holds-at-none in
     (search (rules, arith), left-of _ _ c.in-Ok.available.now c.in-Ok.ensures.front filled.0 (search (rules, arith)))
 
 pub returns-then-is_fed-clause-part : goal.returns-then-is_fed-clause-part
@@ -38,12 +43,14 @@ returns-then-is_fed-clause-part g c =
     let size = c.size_in_line-size.result in
     let seen = take c.min.result c.in-Ok.available.now in
     let rested = c.fill_buf.follows.lender-at-none in
-    let filled = subst (FillKeeps _ (g.R.Read.remaining rested) (g.R.BufRead.consumable_len rested)) c.in-Ok.is c.fill_buf.follows.holds-at-none in
+    let filled = subst (FillKeeps _ (g.R.Read.remaining rested) (g.R.BufRead.consumable_len rested)) c.in-Ok.is
+    c.fill_buf.follows.holds-at-none in
     let whole = subst (λ r. OnOk r (c.try_extend_from_slice.new.self.items ≡ c.args.line.now.items ++ take size seen))
     c.unwrap.ensures c.try_extend_from_slice.ensures.ok in
     let long : length (take size seen) ≡ size = length-take-le size seen (omega (arith, c.if-is_fed.true)) in (
       take size seen,
-      taken-fed _ (g.R.Read.remaining rested) (g.R.Read.remaining c.consume.new.self) (g.R.BufRead.consumable_len rested)
+      taken-fed _
+          (g.R.Read.remaining rested) (g.R.Read.remaining c.consume.new.self) (g.R.BufRead.consumable_len rested)
           c.in-Ok.available.now c.min.result size c.in-Ok.ensures.front c.in-Ok.ensures.end filled.0 filled.1
           c.if-is_fed.true (c.size_in_line-size.ensures.at c.if-is_fed.true) c.consume.ensures.bytes,
       c.size_in_line-size.ensures.before,
@@ -56,15 +63,16 @@ returns-clause-part g c =
     let size = c.size_in_line-size.result in
     let seen = take c.min.result c.in-Ok.available.now in
     let rested = c.fill_buf.follows.lender-at-none in
-    let filled = subst (FillKeeps _ (g.R.Read.remaining rested) (g.R.BufRead.consumable_len rested)) c.in-Ok.is c.fill_buf.follows.holds-at-none in
+    let filled = subst (FillKeeps _ (g.R.Read.remaining rested) (g.R.BufRead.consumable_len rested)) c.in-Ok.is
+    c.fill_buf.follows.holds-at-none in
     let whole = subst (λ r. OnOk r (c.try_extend_from_slice.new.self.items ≡ c.args.line.now.items ++ take size seen))
     c.unwrap.ensures c.try_extend_from_slice.ensures.ok in
     let within = c.size_in_line-size.ensures.within in
     let some : 1 ≤ size = search (rules, arith) in (
       take size seen,
-      taken-of _ (g.R.Read.remaining rested) (g.R.Read.remaining c.consume-2.new.self) (g.R.BufRead.consumable_len rested)
-          c.in-Ok.available.now c.min.result size c.in-Ok.ensures.front c.in-Ok.ensures.end filled.0 filled.1
-          within c.consume-2.ensures.bytes,
+      taken-of _ (g.R.Read.remaining rested) (g.R.Read.remaining c.consume-2.new.self)
+          (g.R.BufRead.consumable_len rested) c.in-Ok.available.now c.min.result size c.in-Ok.ensures.front
+          c.in-Ok.ensures.end filled.0 filled.1 within c.consume-2.ensures.bytes,
       c.size_in_line-size.ensures.before,
       whole,
       length-take-le size seen within,

@@ -4,7 +4,8 @@ use Rattle.card_bench.specs.Endings.{IsRunToLine}
 use Rattle.card_bench.specs.OrderViews.{order_with}
 use Rattle.card_bench.specs.Orders.{order_of}
 use Rattle.card_bench.specs.Scripts.{TakesLine}
-use Rattle.card_bench.proofs.ScriptLines.{begins_run, goes_on, is_done, is_bad, is_too_long, is_unread, is_unwritten, speaks, HasRun}
+use Rattle.card_bench.proofs.ScriptLines.{begins_run, goes_on, is_done, is_bad, is_too_long, is_unread, is_unwritten}
+use Rattle.card_bench.proofs.ScriptLines.{speaks, HasRun}
 use Rattle.card_bench.proofs.SizedOrders.{order_of-in_range}
 use Rattle.card_bench.proofs.script.run_lines.Goals as goal
 
@@ -16,7 +17,8 @@ returns-in-Err-TooLong-clause-stopped g c =
     let holds = g.W.Write.contents c.loop-number.writer in
     subst (λ (n : ℕ). IfSome script (λ bytes. IsRunToLine n bytes held holds)) number
     (is_too_long script _ _ (c.loop-number.number - 1) _ _ _ held holds
-    c.loop-number.invariant.so_far (c.in-Err-TooLong.ensures.too_long (ap Err c.in-Err-TooLong.field-0-is)) c.read_line.ensures.taken)
+    c.loop-number.invariant.so_far (c.in-Err-TooLong.ensures.too_long (ap Err c.in-Err-TooLong.field-0-is))
+    c.read_line.ensures.taken)
 
 -- a fault in a line is not one of the line
 read-apart : Read ≡ TooLong → ⊥
@@ -45,7 +47,8 @@ pub returns-in_default-clause-stopped : goal.returns-in_default-clause-stopped
 returns-in_default-clause-stopped g c =
     let script = g.R.Read.remaining c.args.reader.now in
     let number : (c.loop-number.number - 1) + 1 ≡ c.loop-number.number = omega arith in
-    let bad : order_of c.read_line.new.line.items ≡ None = ap order_of (sym c.deref.ensures.0) ∙ sym c.in_default.ensures in
+    let bad : order_of c.read_line.new.line.items ≡ None = ap order_of (sym c.deref.ensures.0)
+    ∙ sym c.in_default.ensures in
     let held = g.W.Write.contents c.args.writer.now in
     let holds = g.W.Write.contents c.loop-number.writer in
     subst (λ (n : ℕ). IfSome script (λ bytes. IsRunToLine n bytes held holds)) number

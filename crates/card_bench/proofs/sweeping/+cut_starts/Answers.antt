@@ -2,7 +2,8 @@ use Rattle.std.proofs.Common.{◌≡◌, ◌<◌, ◌≤◌, ◌+◌, ◌-◌, �
 use Rattle.undo_journal.specs.laws.Exits.{on_then}
 use Rattle.card_bench.proofs.TallyLemmas.{adds-none, adds-on, adds-weaker}
 use Rattle.card_bench.proofs.SweepLemmas.{behind_none, behind_whole, behind_more}
-use Rattle.card_bench.proofs.CompleteSweeps.{are-behind-none, counts-none, counts-weaker, counts-cut, counts-whole, counts-swept}
+use Rattle.card_bench.proofs.CompleteSweeps.{are-behind-none, counts-none, counts-weaker, counts-cut}
+use Rattle.card_bench.proofs.CompleteSweeps.{counts-whole, counts-swept}
 use Rattle.card_bench.proofs.sweeping.+cut_starts.Goals as goal
 
 pub returns-then-depth-eq0-clause-given : goal.returns-then-depth-eq0-clause-given
@@ -11,8 +12,8 @@ returns-then-depth-eq0-clause-given t c = λ card.
 
 pub returns-then-depth-eq0-clause-complete : goal.returns-then-depth-eq0-clause-complete
 returns-then-depth-eq0-clause-complete t c = on_then _ _ c.look.result
-    (λ complete card. counts-weaker _ _ _ _ (λ all one. are-behind-none _ _ _ all c.if-depth-eq0.true one) (complete card))
-    c.look.ensures.complete
+    (λ complete card. counts-weaker _ _ _ _ (λ all one. are-behind-none _ _ _ all c.if-depth-eq0.true one)
+    (complete card)) c.look.ensures.complete
 
 pub loop-i-init : goal.loop-i-init
 loop-i-init t c = record { so_far = λ card. adds-none _ _; counted = λ card. counts-none _ _ }
@@ -34,8 +35,8 @@ returns-then-i-eq0-clause-complete t c =
     let whole = rw c.in_default.is at c.in_ok-cut.ensures.spared in
     let more : 0 < c.args.depth = omega arith in
     on_then _ _ c.look-then-i-eq0.result
-    (λ complete card. counts-whole _ _ _ _ _ _ _ _ more c.if-i-eq0.true (whole card) (c.loop-i.invariant.counted card) (complete card))
-    c.look-then-i-eq0.ensures.complete
+    (λ complete card. counts-whole _ _ _ _ _ _ _ _ more c.if-i-eq0.true (whole card) (c.loop-i.invariant.counted card)
+    (complete card)) c.look-then-i-eq0.ensures.complete
 
 pub returns-else-i-eq0-clause-given : goal.returns-else-i-eq0-clause-given
 returns-else-i-eq0-clause-given t c = c.loop-i.invariant.so_far

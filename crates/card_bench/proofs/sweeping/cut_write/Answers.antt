@@ -17,7 +17,8 @@ returns-in_default-clause-last c = λ _ card.
 pub returns-in_err-cut_starts-clause-given : goal.returns-in_err-cut_starts-clause-given
 returns-in_err-cut_starts-clause-given c = λ card.
     let cut = rw c.in-Some.is at c.in_ok-torn.ensures.cut in
-    adds-weaker _ _ _ _ (λ given rest. given-by-run _ _ _ _ _ _ _ _ _ (cut card) rest) (c.cut_starts.ensures.given (cut card).has_card)
+    adds-weaker _ _ _ _ (λ given rest. given-by-run _ _ _ _ _ _ _ _ _ (cut card) rest)
+    (c.cut_starts.ensures.given (cut card).has_card)
 
 pub loop-i-init : goal.loop-i-init
 loop-i-init c =
@@ -26,8 +27,8 @@ loop-i-init c =
       so_far = λ card. adds-weaker _ _ _ _ (λ given rest. given-by-run _ _ _ _ _ _ _ _ _ (cut card) rest)
           (c.cut_starts.ensures.given (cut card).has_card);
       counted = λ card. counts-mask _ _ c.words_to_try-words.result 0 _ c.in-Some.torn _ _ _ _ _ _
-          (λ _. c.words_to_try-words.ensures.tried ∙ ap words_tried c.torn_words.ensures.last) (counts-none _ _) (cut card)
-          (c.in_ok-cut_starts.ensures.complete (cut card).has_card);
+          (λ _. c.words_to_try-words.ensures.tried ∙ ap words_tried c.torn_words.ensures.last) (counts-none _ _)
+          (cut card) (c.in_ok-cut_starts.ensures.complete (cut card).has_card);
     }
 
 pub returns-in_err-torn-2-clause-given : goal.returns-in_err-torn-2-clause-given
@@ -42,7 +43,8 @@ returns-in_default-2-clause-last c = λ _ card.
     let spared = rw c.in_default-2.is at c.in_ok-torn-2.ensures.spared in
     let mask : c.mask_at.result ≡ mask_of words c.loop-i.i =
     mask-is words c.loop-i.i c.mask_at.result c.mask_at.ensures.none c.mask_at.ensures.all c.mask_at.ensures.single in
-    let Spares : ℕ → Type 0 = λ m. SparesCommand c.args.k m (cut_facts c.args.board.now) c.args.prepare.now c.args.command.now in
+    let Spares : ℕ → Type 0 = λ m. SparesCommand c.args.k m (cut_facts c.args.board.now)
+    c.args.prepare.now c.args.command.now in
     let few : c.loop-i.i < mask_count_of words = omega (arith, c.loop-i-test.true, c.mask_count-i-end.ensures) in
     counts-last _ _ words c.loop-i.i _ _ _ _ _ _ few (c.loop-i.invariant.counted card) (subst Spares mask (spared card))
 
@@ -59,15 +61,16 @@ loop-i-preserved c =
     let cut = rw c.in-Some-2.is at c.in_ok-torn-2.ensures.cut in
     let mask : c.mask_at.result ≡ mask_of words c.loop-i.i =
     mask-is words c.loop-i.i c.mask_at.result c.mask_at.ensures.none c.mask_at.ensures.all c.mask_at.ensures.single in
-    let Cuts : ℕ → Type 0 = λ m. CutsCommand c.args.k m (cut_facts c.args.board.now) c.args.prepare.now c.args.command.now
-    (cut_facts c.in-Some-2.torn) in
+    let Cuts : ℕ → Type 0 = λ m. CutsCommand c.args.k m (cut_facts c.args.board.now) c.args.prepare.now
+    c.args.command.now (cut_facts c.in-Some-2.torn) in
     let later : c.loop-i.i ≡ 0 → words ≡ words_tried (last_torn c.in-Some-2.torn) = λ first.
     absurd (omega (arith, first)) in
     record {
       so_far = λ card. adds-on _ _ _ _ (c.loop-i.invariant.so_far card)
           (adds-weaker _ _ _ _ (λ given rest. given-by-run _ _ _ _ _ _ _ _ _ (cut card) rest)
           (c.cut_starts-in-loop-i.ensures.given (cut card).has_card));
-      counted = λ card. counts-mask _ _ words c.loop-i.i _ c.in-Some-2.torn _ _ _ _ _ _ later (c.loop-i.invariant.counted card)
+      counted = λ card.
+          counts-mask _ _ words c.loop-i.i _ c.in-Some-2.torn _ _ _ _ _ _ later (c.loop-i.invariant.counted card)
           (subst Cuts mask (cut card)) (c.in_ok-cut_starts-2.ensures.complete (cut card).has_card);
     }
 
@@ -80,5 +83,5 @@ returns-clause-whole c = λ _ card.
     let tried : 1 ≤ mask_count_of words = masks-some words in
     let end : c.loop-i.i ≡ mask_count_of words =
     omega (arith, tried, c.loop-i-test.false, c.loop-i.auto.i-end, c.mask_count-i-end.ensures) in
-    counts-write _ _ words c.loop-i.i _ _ _ _ _ _ c.words_to_try-words.ensures.some c.words_to_try-words.ensures.fits end
-    (c.loop-i.invariant.counted card)
+    counts-write _ _ words c.loop-i.i _ _ _ _ _ _ c.words_to_try-words.ensures.some c.words_to_try-words.ensures.fits
+    end (c.loop-i.invariant.counted card)

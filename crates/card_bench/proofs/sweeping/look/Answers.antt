@@ -9,20 +9,20 @@ use Rattle.card_bench.proofs.sweeping.look.Goals as goal
 pub returns-clause-given : goal.returns-clause-given
 returns-clause-given c = λ card. adds-weaker _ _ _ _
     (λ f same. subst (EndsIn (cut_facts c.args.board.now) c.args.probe.now) (sym same)
-    (ends-in (cut_facts c.args.board.now) c.args.probe.now _ _ _ _ _ _ _ refl refl (c.new-bench.ensures ∙ ap off_with c.in_ok-copy.ensures.facts)
-    c.turn_well.ensures c.free_space_of-free.ensures c.in_ok-trace.ensures card))
-    c.count.ensures.adds
+    (ends-in (cut_facts c.args.board.now) c.args.probe.now _ _
+    _ _ _ _ _ refl refl (c.new-bench.ensures ∙ ap off_with c.in_ok-copy.ensures.facts)
+    c.turn_well.ensures c.free_space_of-free.ensures c.in_ok-trace.ensures card)) c.count.ensures.adds
 
 pub returns-in_err-count-clause-given : goal.returns-in_err-count-clause-given
 returns-in_err-count-clause-given c = λ card. adds-weaker _ _ _ _
     (λ f same. subst (EndsIn (cut_facts c.args.board.now) c.args.probe.now) (sym same)
-    (ends-in (cut_facts c.args.board.now) c.args.probe.now _ _ _ _ _ _ _ refl refl (c.new-bench.ensures ∙ ap off_with c.in_ok-copy.ensures.facts)
-    c.turn_well.ensures c.free_space_of-free.ensures c.in_ok-trace.ensures card))
-    c.count.ensures.adds
+    (ends-in (cut_facts c.args.board.now) c.args.probe.now _ _
+    _ _ _ _ _ refl refl (c.new-bench.ensures ∙ ap off_with c.in_ok-copy.ensures.facts)
+    c.turn_well.ensures c.free_space_of-free.ensures c.in_ok-trace.ensures card)) c.count.ensures.adds
 
 pub returns-clause-complete : goal.returns-clause-complete
 returns-clause-complete c = λ card.
     let end = ends-in (cut_facts c.args.board.now) c.args.probe.now _ _ _ _ _ _ _ refl refl
-    (c.new-bench.ensures ∙ ap off_with c.in_ok-copy.ensures.facts) c.turn_well.ensures c.free_space_of-free.ensures c.in_ok-trace.ensures
-    card in
+    (c.new-bench.ensures ∙ ap off_with c.in_ok-copy.ensures.facts) c.turn_well.ensures c.free_space_of-free.ensures
+    c.in_ok-trace.ensures card in
     counts-one _ _ _ _ _ end c.in_ok-count.ensures.counts

@@ -5,7 +5,7 @@ use Rattle.undo_journal.specs.Memory.{committed}
 use Rattle.card_core.specs.declared.memory_format.MemoryFormat.{MemoryFormat}
 use Rattle.card_core.specs.declared.memory_format.MemoryFormat.TheVariants.{Two}
 use Rattle.pin_store.specs.Pages.{AreMarks}
-use Rattle.card_core.specs.Working.{HoldsPins}
+use Rattle.card_core.specs.StartParts.{HoldsPins}
 use Rattle.pin_store.specs.Pages.{ArePinPages}
 use Rattle.card_core.proofs.check.has_pins.Goals as goal
 
@@ -21,6 +21,7 @@ by-marks m now pins (Err e) same tells = tt
 pub returns-in-Two-clause-pins : goal.returns-in-Two-clause-pins
 returns-in-Two-clause-pins g c =
     let m = committed c.args.store.now in
-    subst (λ (format : MemoryFormat). IfOk c.are_marks.result (λ pins. IsTrue pins ↔ HoldsPins format m)) (sym c.in-Two.is)
-    (by-marks m (committed c.are_pins.new.store) (c.in_ok-are_pins.ensures.pins.0 c.if-not-branch.false) c.are_marks.result
+    subst (λ (format : MemoryFormat). IfOk c.are_marks.result (λ pins. IsTrue pins ↔ HoldsPins format m))
+    (sym c.in-Two.is) (by-marks m
+    (committed c.are_pins.new.store) (c.in_ok-are_pins.ensures.pins.0 c.if-not-branch.false) c.are_marks.result
     c.are_pins.ensures.store.only.keeps.committed_words c.are_marks.ensures.marks)

@@ -3,16 +3,16 @@ use Rattle.card_rules.specs.declared.status.Sw.{Sw}
 use Rattle.undo_journal.specs.declared.error.StoreErr.{StoreErr}
 use Rattle.card_rules.specs.declared.status.TheConstants.Sw.{CONDITIONS_NOT_SATISFIED}
 use Rattle.apdu_core.specs.Requests.{request_of}
-use Rattle.card_core.specs.Served.{CarriesOut}
+use Rattle.card_machine.specs.Served.{CarriesOut}
 use Rattle.card_core.proofs.Carrying.{carried, failed-reading, serves-after, use-ended, refused-by-form}
-use Rattle.card_core.proofs.Readings.{index_still, kept_still}
-use Rattle.card_core.proofs.SpaceKept.{space-same}
-use Rattle.card_core.proofs.Stopping.{err-is, none-failed, reply-failed}
+use Rattle.card_machine.specs.laws.Readings.{index_still, kept_still}
+use Rattle.card_machine.specs.laws.SpaceKept.{space-same}
+use Rattle.card_machine.specs.laws.Stopping.{err-is, none-failed, reply-failed}
 use Rattle.undo_journal.specs.laws.Calls.{reads_same}
-use Rattle.card_core.specs.declared.stop.Stop.{Stop}
-use Rattle.card_core.specs.declared.stop.Stop.TheVariants.{Refused}
-use Rattle.card_core.specs.Stops.{reply}
-use Rattle.card_core.proofs.Answering.{ok_anyway}
+use Rattle.card_machine.specs.declared.stop.Stop.{Stop}
+use Rattle.card_machine.specs.declared.stop.Stop.TheVariants.{Refused}
+use Rattle.card_machine.specs.Stops.{reply}
+use Rattle.card_machine.specs.laws.Answering.{ok_anyway}
 use Rattle.card_core.proofs.commands.obey.Goals as goal
 
 pub returns-in_err-is_in_use-clause-carries : goal.returns-in_err-is_in_use-clause-carries
@@ -23,8 +23,8 @@ returns-in_err-is_in_use-clause-carries g c =
     let bytes = c.args.command.now in
     subst (λ (r : Result Sw StoreErr). CarriesOut bytes old x new x c.args.answer.now.items r) (sym (err-is _ _
     (reply-failed _ _ c.from_residual-in_err-is_in_use.ensures.1)))
-    (subst (λ (text : List ℕ). CarriesOut bytes old x new x text (Err c.in_err-is_in_use.field-0.0)) (sym c.requires.empty)
-    (failed-reading bytes old new x c.requires.whole.kept x c.in_err-is_in_use.field-0.0
+    (subst (λ (text : List ℕ). CarriesOut bytes old x new x text (Err c.in_err-is_in_use.field-0.0))
+    (sym c.requires.empty) (failed-reading bytes old new x c.requires.whole.kept x c.in_err-is_in_use.field-0.0
     c.in_err-is_in_use.ensures.store.only c.in_err-is_in_use.ensures.store.tells))
 
 pub returns-then-not-branch-clause-carries : goal.returns-then-not-branch-clause-carries
@@ -35,8 +35,8 @@ returns-then-not-branch-clause-carries g c =
     let bytes = c.args.command.now in
     let ended = sym c.in_ok-is_in_use.ensures.in_use ∙ c.if-not-branch.true in
     subst (λ (text : List ℕ). CarriesOut bytes old x new x text (Ok CONDITIONS_NOT_SATISFIED)) (sym c.requires.empty)
-    (use-ended bytes old new x c.requires.whole.kept (request_of c.in_ok-command.command) c.in_ok-command.ensures.asked ended
-    c.in_ok-is_in_use.ensures.store.only c.in_ok-is_in_use.ensures.store.ready)
+    (use-ended bytes old new x c.requires.whole.kept (request_of c.in_ok-command.command) c.in_ok-command.ensures.asked
+    ended c.in_ok-is_in_use.ensures.store.only c.in_ok-is_in_use.ensures.store.ready)
 
 pub returns-clause-carries : goal.returns-clause-carries
 returns-clause-carries g c =
@@ -44,9 +44,9 @@ returns-clause-carries g c =
     let x = c.args.lent.now.current in
     let request = request_of c.in_ok-command.command in
     let in_use = sym c.in_ok-is_in_use.ensures.in_use ∙ c.if-not-branch.false in
-    carried c.args.command.now old c.serve.new.lent.store x c.serve.new.lent.current c.serve.new.answer.items (reply c.serve.result) request
-    c.in_ok-command.ensures.asked in_use
-    (serves-after request old c.is_in_use.new.store c.serve.new.lent.store x c.serve.new.lent.current c.serve.new.answer.items
+    carried c.args.command.now old c.serve.new.lent.store x c.serve.new.lent.current c.serve.new.answer.items
+    (reply c.serve.result) request c.in_ok-command.ensures.asked in_use (serves-after request old c.is_in_use.new.store
+    c.serve.new.lent.store x c.serve.new.lent.current c.serve.new.answer.items
     (reply c.serve.result) c.in_ok-is_in_use.ensures.store.only c.serve.ensures.serves)
 
 pub returns-in_err-is_in_use-clause-space : goal.returns-in_err-is_in_use-clause-space
@@ -76,7 +76,8 @@ serve-requires-clause-whole g c =
     let new = c.is_in_use.new.store in
     let reads = c.is_in_use.ensures.store.only in
     record {
-      kept = kept_still old new c.args.lent.now.current reads c.in_ok-is_in_use.ensures.store.ready c.requires.whole.kept;
+      kept = kept_still old new c.args.lent.now.current reads
+          c.in_ok-is_in_use.ensures.store.ready c.requires.whole.kept;
       space = c.requires.whole.space ∙ sym (space-same old new reads.keeps.committed_words);
       index = index_still old new c.args.lent.now.index reads c.requires.whole.index;
     }

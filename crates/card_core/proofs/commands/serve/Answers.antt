@@ -6,13 +6,13 @@ use Rattle.undo_journal.specs.Memory.{Memory}
 use Rattle.apdu_core.specs.declared.commands.Command.{Command}
 use Rattle.apdu_core.specs.Fields.{IsInRange}
 use Rattle.apdu_core.specs.Requests.{request_of}
-use Rattle.card_core.specs.declared.current.Current.{Current}
-use Rattle.card_core.specs.Served.{Serves}
-use Rattle.card_core.specs.Working.{card_in}
-use Rattle.card_core.specs.Pins.{changing, marking}
-use Rattle.card_core.specs.Stages.{commits}
+use Rattle.card_machine.specs.declared.current.Current.{Current}
+use Rattle.card_machine.specs.Served.{Serves}
+use Rattle.card_machine.specs.Working.{card_in}
+use Rattle.card_machine.specs.Pins.{changing, marking}
+use Rattle.card_machine.specs.Stages.{commits}
 use Rattle.card_core.proofs.Looking.{attempt-files, pin-files, space_left}
-use Rattle.card_core.proofs.Serves.{index_left, space_kept}
+use Rattle.card_machine.specs.laws.Serves.{index_left, space_kept}
 use Rattle.card_core.proofs.commands.serve.Goals as goal
 
 module _ (old : Memory) (x : Current) (new : Memory) (y : Current) (result : Result Sw StoreErr) (command this :
@@ -142,7 +142,8 @@ returns-in-ChangeLifeCycle-clause-serves g c =
     silent _ _ _ _ _ _ _ c.in-ChangeLifeCycle.is _ c.requires.empty c.change_life_cycle.ensures.serves
 
 pub returns-in-ChangeLifeCycle-clause-space : goal.returns-in-ChangeLifeCycle-clause-space
-returns-in-ChangeLifeCycle-clause-space g c = space_kept _ _ _ _ c.requires.whole.space c.change_life_cycle.ensures.space
+returns-in-ChangeLifeCycle-clause-space g c =
+    space_kept _ _ _ _ c.requires.whole.space c.change_life_cycle.ensures.space
 
 pub returns-in-TerminateCardUsage-clause-serves : goal.returns-in-TerminateCardUsage-clause-serves
 returns-in-TerminateCardUsage-clause-serves g c =

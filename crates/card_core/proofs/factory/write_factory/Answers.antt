@@ -9,7 +9,7 @@ use Rattle.card_core.specs.Factory.{IsWritten}
 use Rattle.block_chain.specs.Words.{page_words}
 use Rattle.card_core.proofs.FactoryPages.{length-header, page_words-written, page_words-written_other}
 use Rattle.card_core.proofs.Powers.{answered_after, answered_handed}
-use Rattle.card_core.proofs.Stopping.{none-done}
+use Rattle.card_machine.specs.laws.Stopping.{none-done}
 use Rattle.card_core.proofs.factory.write_factory.Goals as goal
 
 pub write-requires-clause-page : goal.write-requires-clause-page
@@ -68,7 +68,8 @@ returns-in_err-write-clause-written g c = none-done _ _ _ c.from_residual.ensure
 
 pub returns-in_err-write-clause-counts : goal.returns-in_err-write-clause-counts
 returns-in_err-write-clause-counts g c = record {
-  writes = ⊎_elim (λ e. omega (arith, e, c.requires.least)) (λ e. omega (arith, e, c.requires.least)) c.in_err-write.ensures.counted_err;
+  writes = ⊎_elim (λ e. omega (arith, e, c.requires.least)) (λ e. omega (arith, e, c.requires.least))
+      c.in_err-write.ensures.counted_err;
   more = ⊎_elim (λ e. omega (arith, e)) (λ e. omega (arith, e)) c.in_err-write.ensures.counted_err;
   cut = aims_written _ _ c.in_err-write.ensures.counted_err c.in_err-write.ensures.cut;
   compares = c.write.ensures.compares;

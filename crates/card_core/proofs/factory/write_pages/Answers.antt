@@ -33,7 +33,8 @@ loop-page-preserved g c =
       size = ap (λ (words : List ℕ). length words) c.in_ok-write.ensures.done
           ∙ length-written m c.factory_page.result (address c.loop-page.page 0) ∙ c.loop-page.invariant.size;
       behind = λ page high.
-          let other : page ≢ c.loop-page.page = λ same. let z : ⊥ = omega (arith, same, high, c.loop-page-test.true) in z in
+          let other : page ≢ c.loop-page.page = λ same. let z : ⊥ =
+          omega (arith, same, high, c.loop-page-test.true) in z in
           ap (λ (words : List ℕ). page_words words page) c.in_ok-write.ensures.done
           ∙ page_words-written_other m c.factory_page.result c.loop-page.page page fits other
           ∙ c.loop-page.invariant.behind page high;
@@ -56,7 +57,8 @@ returns-clause-cut g c = c.loop-page.invariant.cut
 
 pub write-requires-clause-page : goal.write-requires-clause-page
 write-requires-clause-page g c =
-    let pages = pages_same _ _ c.loop-page.invariant.size in omega (arith, pages, c.loop-page-test.true, c.requires.inside)
+    let pages = pages_same _ _ c.loop-page.invariant.size in
+    omega (arith, pages, c.loop-page-test.true, c.requires.inside)
 
 pub returns-clause-written : goal.returns-clause-written
 returns-clause-written g c = record {

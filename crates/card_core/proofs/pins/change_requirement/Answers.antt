@@ -3,19 +3,21 @@ use Rattle.undo_journal.specs.Memory.{committed}
 use Rattle.pin_store.specs.Pins.{marked_pin}
 use Rattle.pin_store.specs.Trials.{pin_in, EndsByOutcome, SetsByMatch}
 use Rattle.pin_store.specs.laws.Tries.{marked_ends}
-use Rattle.card_core.specs.Pins.{is_enabled_by}
-use Rattle.card_core.proofs.Attempts.{charge-stopped, end-made, end-torn, kept-by, refused-by, requires_or_not, taken-by}
-use Rattle.card_core.proofs.Stopping.{reply-failed}
+use Rattle.card_machine.specs.Pins.{is_enabled_by}
+use Rattle.card_core.proofs.Attempts.{charge-stopped, end-made, end-torn, kept-by, refused-by}
+use Rattle.card_core.proofs.Attempts.{requires_or_not, taken-by}
+use Rattle.card_machine.specs.laws.Stopping.{reply-failed}
 use Rattle.card_core.proofs.pins.change_requirement.Goals as goal
 
 pub returns-in_err-charged : goal.returns-in_err-charged
 returns-in_err-charged g c =
     let was = pin_in c.args.store.now (c.args.pin - 1) in
-    charge-stopped _ _ (requires_or_not c.args.pin c.requires.pin c.args.change c.args.shown.now) 5 refl c.args.store.now c.args.current.now
-    c.requires.kept.ready c.requires.kept.card c.requires.kept.current c.take_try.new.store _ c.in_err-charged.field-0.0
-    c.from_residual.ensures.1 c.take_try.ensures.any_exit
+    charge-stopped _ _ (requires_or_not c.args.pin c.requires.pin c.args.change c.args.shown.now)
+    5 refl c.args.store.now c.args.current.now c.requires.kept.ready c.requires.kept.card c.requires.kept.current
+    c.take_try.new.store _ c.in_err-charged.field-0.0 c.from_residual.ensures.1 c.take_try.ensures.any_exit
     (kept-by (c.args.pin - 1) _ _ c.usable_by.ensures was _ _ c.take_try.ensures.kept)
-    c.take_try.ensures.pages c.take_try.ensures.store.reports c.in_err-charged.ensures.store.tells c.take_try.ensures.store.writes
+    c.take_try.ensures.pages
+    c.take_try.ensures.store.reports c.in_err-charged.ensures.store.tells c.take_try.ensures.store.writes
     c.take_try.ensures.shut (refused-by (c.args.pin - 1) _ _ c.usable_by.ensures was _ _ c.in_err-charged.ensures.done)
 
 pub returns-in_err-outcome : goal.returns-in_err-outcome
@@ -27,16 +29,17 @@ returns-in_err-outcome g c =
     let b = c.take_try.new.store in
     let e = c.set_enabled.new.store in
     let exit = subst (λ (on : Bool). (committed e ≡ committed b)
-    ⊎ SetsByMatch c.in_ok-charged.charged c.args.shown.now (marked_pin on (pin_in b c.in_ok-charged.charged)) b e) c.is_enabled_by.ensures
-    c.set_enabled.ensures.any_exit in
-    end-torn _ _ (requires_or_not c.args.pin c.requires.pin c.args.change c.args.shown.now) 5 refl c.args.store.now c.args.current.now
-    c.requires.kept.ready c.requires.kept.card c.requires.kept.current b e c.in_ok-charged.charged
+    ⊎ SetsByMatch c.in_ok-charged.charged c.args.shown.now (marked_pin on (pin_in b c.in_ok-charged.charged)) b e)
+    c.is_enabled_by.ensures c.set_enabled.ensures.any_exit in
+    end-torn _ _ (requires_or_not c.args.pin c.requires.pin c.args.change c.args.shown.now) 5 refl c.args.store.now
+    c.args.current.now c.requires.kept.ready c.requires.kept.card c.requires.kept.current b e c.in_ok-charged.charged
     (taken-by (c.args.pin - 1) _ _ c.usable_by.ensures was _ _ _ c.in_ok-charged.ensures.done)
     c.take_try.ensures.pages c.take_try.ensures.store.writes
     c.take_try.ensures.store.reports (λ p. marked_ends (c.args.pin - 1) (is_enabled_by c.args.change) p small) exit
     c.set_enabled.ensures.spends c.set_enabled.ensures.pages c.set_enabled.ensures.store.reports c.take_try.ensures.shut
     c.set_enabled.ensures.by_gate _
-    c.in_err-outcome.field-0.0 (reply-failed _ _ c.from_residual-in_err-outcome.ensures.1) c.in_err-outcome.ensures.store.tells
+    c.in_err-outcome.field-0.0 (reply-failed _ _ c.from_residual-in_err-outcome.ensures.1)
+    c.in_err-outcome.ensures.store.tells
 
 pub returns : goal.returns
 returns g c =
@@ -47,12 +50,13 @@ returns g c =
     let b = c.take_try.new.store in
     let e = c.set_enabled.new.store in
     let exit = subst (λ (on : Bool). (committed e ≡ committed b)
-    ⊎ SetsByMatch c.in_ok-charged.charged c.args.shown.now (marked_pin on (pin_in b c.in_ok-charged.charged)) b e) c.is_enabled_by.ensures
-    c.set_enabled.ensures.any_exit in
-    let ended = subst (λ (on : Bool). EndsByOutcome c.in_ok-charged.charged c.args.shown.now (marked_pin on (pin_in b c.in_ok-charged.charged)) b e
-    c.in_ok-outcome.outcome) c.is_enabled_by.ensures c.in_ok-outcome.ensures.done in
-    end-made _ _ (requires_or_not c.args.pin c.requires.pin c.args.change c.args.shown.now) 5 refl c.args.store.now c.args.current.now
-    c.requires.kept.ready c.requires.kept.card c.requires.kept.current b e c.in_ok-charged.charged
+    ⊎ SetsByMatch c.in_ok-charged.charged c.args.shown.now (marked_pin on (pin_in b c.in_ok-charged.charged)) b e)
+    c.is_enabled_by.ensures c.set_enabled.ensures.any_exit in
+    let ended = subst (λ (on : Bool). EndsByOutcome c.in_ok-charged.charged c.args.shown.now
+    (marked_pin on (pin_in b c.in_ok-charged.charged)) b e c.in_ok-outcome.outcome) c.is_enabled_by.ensures
+    c.in_ok-outcome.ensures.done in
+    end-made _ _ (requires_or_not c.args.pin c.requires.pin c.args.change c.args.shown.now) 5 refl c.args.store.now
+    c.args.current.now c.requires.kept.ready c.requires.kept.card c.requires.kept.current b e c.in_ok-charged.charged
     (taken-by (c.args.pin - 1) _ _ c.usable_by.ensures was _ _ _ c.in_ok-charged.ensures.done)
     c.take_try.ensures.pages c.take_try.ensures.store.writes
     c.take_try.ensures.store.reports (λ p. marked_ends (c.args.pin - 1) (is_enabled_by c.args.change) p small) exit

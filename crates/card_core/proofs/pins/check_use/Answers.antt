@@ -1,6 +1,6 @@
 use Rattle.undo_journal.specs.laws.Told.{reads_on}
-use Rattle.card_core.specs.declared.stop.Stop.TheVariants.{Failed}
-use Rattle.card_core.proofs.Stopping.{reads-stopped}
+use Rattle.card_machine.specs.declared.stop.Stop.TheVariants.{Failed}
+use Rattle.card_machine.specs.laws.Stopping.{reads-stopped}
 use Rattle.card_core.proofs.pins.check_use.Goals as goal
 
 pub returns-in_err-enabled-clause-store : goal.returns-in_err-enabled-clause-store

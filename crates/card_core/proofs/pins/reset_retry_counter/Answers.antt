@@ -1,26 +1,28 @@
 use Rattle.std.proofs.Common.{Ok, ◌+◌, ◌-◌, ℕ, List, [], Option, option_map, sym, ap, subst, arith}
 use Rattle.apdu_core.specs.Requests.{reset_retry_counter}
 use Rattle.apdu_core.specs.declared.pins.Replacement.{Replacement}
-use Rattle.card_core.specs.Served.{Serves}
+use Rattle.card_machine.specs.Served.{Serves}
 use Rattle.card_core.proofs.Attempts.{asks-unblocking, question-answered}
-use Rattle.card_core.specs.Stops.{reply}
-use Rattle.card_core.proofs.Serves.{handed}
-use Rattle.card_core.proofs.Stopping.{reply-failed}
+use Rattle.card_machine.specs.Stops.{reply}
+use Rattle.card_machine.specs.laws.Serves.{handed}
+use Rattle.card_machine.specs.laws.Stopping.{reply-failed}
 use Rattle.card_core.proofs.pins.reset_retry_counter.Goals as goal
 
 pub returns-in_ok-tell_tries-in-None : goal.returns-in_ok-tell_tries-in-None
 returns-in_ok-tell_tries-in-None g c =
     let none = ap (option_map (λ (values : Replacement). (values.shown.now, values.new.now))) c.in-None.is in
-    subst (λ (values : Option (List ℕ × List ℕ)). Serves (reset_retry_counter c.args.pin values) c.args.store.now c.args.current.now
-    c.tell_tries.new.store c.args.current.now [] (Ok c.in_ok-tell_tries-in-None.field-0)) (sym none)
+    subst (λ (values : Option (List ℕ × List ℕ)). Serves (reset_retry_counter c.args.pin values) c.args.store.now
+    c.args.current.now c.tell_tries.new.store c.args.current.now [] (Ok c.in_ok-tell_tries-in-None.field-0)) (sym none)
     (question-answered _ c.args.pin (8 + (c.args.pin - 1)) (asks-unblocking c.args.pin c.requires.pin) c.args.store.now
-    c.args.current.now c.requires.kept.card c.requires.kept.current c.tell_tries.new.store (Ok c.in_ok-tell_tries-in-None.field-0)
+    c.args.current.now c.requires.kept.card c.requires.kept.current
+    c.tell_tries.new.store (Ok c.in_ok-tell_tries-in-None.field-0)
     c.in_ok-tell_tries-in-None.ensures.told c.in_ok-tell_tries-in-None.ensures.store)
 
 pub returns-in_err-tell_tries-in-None : goal.returns-in_err-tell_tries-in-None
 returns-in_err-tell_tries-in-None g c =
-    handed (reset_retry_counter c.args.pin _) c.args.store.now c.args.current.now c.tell_tries.new.store c.requires.kept.card
-    c.args.current.now [] _ _ (reply-failed _ _ c.from_residual.ensures.1) c.in_err-tell_tries-in-None.ensures.store (omega arith)
+    handed (reset_retry_counter c.args.pin _) c.args.store.now c.args.current.now
+    c.tell_tries.new.store c.requires.kept.card c.args.current.now [] _ _ (reply-failed _ _ c.from_residual.ensures.1)
+    c.in_err-tell_tries-in-None.ensures.store (omega arith)
 
 pub tell_tries-requires-clause-secret : goal.tell_tries-requires-clause-secret
 tell_tries-requires-clause-secret g c = let last = c.requires.pin.last in omega (arith, last)

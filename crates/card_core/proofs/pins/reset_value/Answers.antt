@@ -1,36 +1,41 @@
 use Rattle.std.proofs.Common.{◌≤◌, ◌+◌, ◌-◌, refl, arith}
 use Rattle.pin_store.specs.laws.Tries.{reset_ends}
 use Rattle.card_core.proofs.Attempts.{charge-stopped, end-made, end-torn, resets}
-use Rattle.card_core.proofs.Stopping.{reply-failed}
+use Rattle.card_machine.specs.laws.Stopping.{reply-failed}
 use Rattle.card_core.proofs.pins.reset_value.Goals as goal
 
 pub returns-in_err-charged : goal.returns-in_err-charged
 returns-in_err-charged g c =
-    charge-stopped _ _ (resets c.args.pin c.requires.pin c.args.values.shown.now c.args.values.new.now) 4 refl c.args.store.now c.args.current.now
+    charge-stopped _ _ (resets c.args.pin c.requires.pin c.args.values.shown.now c.args.values.new.now) 4
+    refl c.args.store.now c.args.current.now
     c.requires.kept.ready c.requires.kept.card c.requires.kept.current c.take_try.new.store _ c.in_err-charged.field-0.0
     c.from_residual.ensures.1 c.take_try.ensures.any_exit c.take_try.ensures.kept
-    c.take_try.ensures.pages c.take_try.ensures.store.reports c.in_err-charged.ensures.store.tells c.take_try.ensures.store.writes
-    c.take_try.ensures.shut c.in_err-charged.ensures.done
+    c.take_try.ensures.pages c.take_try.ensures.store.reports c.in_err-charged.ensures.store.tells
+    c.take_try.ensures.store.writes c.take_try.ensures.shut c.in_err-charged.ensures.done
 
 pub returns-in_err-outcome : goal.returns-in_err-outcome
 returns-in_err-outcome g c =
     let large : 8 ≤ 8 + (c.args.pin - 1) = omega arith in
-    end-torn _ _ (resets c.args.pin c.requires.pin c.args.values.shown.now c.args.values.new.now) 4 refl c.args.store.now c.args.current.now
-    c.requires.kept.ready c.requires.kept.card c.requires.kept.current c.take_try.new.store c.reset_counter.new.store c.in_ok-charged.charged
+    end-torn _ _ (resets c.args.pin c.requires.pin c.args.values.shown.now c.args.values.new.now) 4
+    refl c.args.store.now c.args.current.now c.requires.kept.ready c.requires.kept.card
+    c.requires.kept.current c.take_try.new.store c.reset_counter.new.store c.in_ok-charged.charged
     c.in_ok-charged.ensures.done c.take_try.ensures.pages c.take_try.ensures.store.writes
-    c.take_try.ensures.store.reports (λ p. reset_ends (8 + (c.args.pin - 1)) c.args.values.new.now p large) c.reset_counter.ensures.any_exit
-    c.reset_counter.ensures.spends c.reset_counter.ensures.pages c.reset_counter.ensures.store.reports c.take_try.ensures.shut
-    c.reset_counter.ensures.by_gate _
-    c.in_err-outcome.field-0.0 (reply-failed _ _ c.from_residual-in_err-outcome.ensures.1) c.in_err-outcome.ensures.store.tells
+    c.take_try.ensures.store.reports (λ p. reset_ends (8 + (c.args.pin - 1)) c.args.values.new.now p large)
+    c.reset_counter.ensures.any_exit c.reset_counter.ensures.spends c.reset_counter.ensures.pages
+    c.reset_counter.ensures.store.reports c.take_try.ensures.shut c.reset_counter.ensures.by_gate _
+    c.in_err-outcome.field-0.0 (reply-failed _ _ c.from_residual-in_err-outcome.ensures.1)
+    c.in_err-outcome.ensures.store.tells
 
 pub returns : goal.returns
 returns g c =
     let large : 8 ≤ 8 + (c.args.pin - 1) = omega arith in
-    end-made _ _ (resets c.args.pin c.requires.pin c.args.values.shown.now c.args.values.new.now) 4 refl c.args.store.now c.args.current.now
-    c.requires.kept.ready c.requires.kept.card c.requires.kept.current c.take_try.new.store c.reset_counter.new.store c.in_ok-charged.charged
+    end-made _ _ (resets c.args.pin c.requires.pin c.args.values.shown.now c.args.values.new.now) 4
+    refl c.args.store.now c.args.current.now c.requires.kept.ready c.requires.kept.card
+    c.requires.kept.current c.take_try.new.store c.reset_counter.new.store c.in_ok-charged.charged
     c.in_ok-charged.ensures.done c.take_try.ensures.pages c.take_try.ensures.store.writes
-    c.take_try.ensures.store.reports (λ p. reset_ends (8 + (c.args.pin - 1)) c.args.values.new.now p large) c.reset_counter.ensures.any_exit
-    c.reset_counter.ensures.spends c.reset_counter.ensures.pages c.reset_counter.ensures.store.reports c.take_try.ensures.shut
+    c.take_try.ensures.store.reports (λ p. reset_ends (8 + (c.args.pin - 1)) c.args.values.new.now p large)
+    c.reset_counter.ensures.any_exit c.reset_counter.ensures.spends
+    c.reset_counter.ensures.pages c.reset_counter.ensures.store.reports c.take_try.ensures.shut
     c.reset_counter.ensures.by_gate c.in_ok-outcome.outcome
     c.in_ok-outcome.ensures.done c.in_ok-outcome.ensures.store.ready c.in_ok-charged.ensures.counted
     c.after_attempt.result c.after_attempt.ensures

@@ -7,8 +7,8 @@ use Rattle.undo_journal.specs.laws.Told.{changes_after}
 use Rattle.pin_store.specs.Trials.{store_failure}
 use Rattle.pin_store.specs.declared.errors.PinErr.{PinErr}
 use Rattle.pin_store.specs.declared.errors.PinErr.TheVariants as pin_err
-use Rattle.card_core.specs.Stops.{failure_of, stop_of_pin, IfRefused}
-use Rattle.card_core.proofs.Stopping.{changes-stopped}
+use Rattle.card_machine.specs.Stops.{failure_of, stop_of_pin, IfRefused}
+use Rattle.card_machine.specs.laws.Stopping.{changes-stopped}
 use Rattle.card_core.proofs.pins.take_try.Goals as goal
 
 -- what stops a charge: no try is left, or the store failed

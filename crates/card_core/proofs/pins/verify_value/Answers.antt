@@ -1,7 +1,7 @@
 use Rattle.std.proofs.Common.{◌<◌, ◌-◌, refl, arith}
 use Rattle.pin_store.specs.laws.Tries.{verified_ends}
 use Rattle.card_core.proofs.Attempts.{charge-stopped, end-made, end-torn, verifies}
-use Rattle.card_core.proofs.Stopping.{reply-failed}
+use Rattle.card_machine.specs.laws.Stopping.{reply-failed}
 use Rattle.card_core.proofs.pins.verify_value.Goals as goal
 
 pub returns-in_err-charged : goal.returns-in_err-charged
@@ -9,8 +9,8 @@ returns-in_err-charged g c =
     charge-stopped _ _ (verifies c.args.pin c.requires.pin c.args.shown.now) 1 refl c.args.store.now c.args.current.now
     c.requires.kept.ready c.requires.kept.card c.requires.kept.current c.take_try.new.store _ c.in_err-charged.field-0.0
     c.from_residual.ensures.1 c.take_try.ensures.any_exit c.take_try.ensures.kept
-    c.take_try.ensures.pages c.take_try.ensures.store.reports c.in_err-charged.ensures.store.tells c.take_try.ensures.store.writes
-    c.take_try.ensures.shut c.in_err-charged.ensures.done
+    c.take_try.ensures.pages c.take_try.ensures.store.reports c.in_err-charged.ensures.store.tells
+    c.take_try.ensures.store.writes c.take_try.ensures.shut c.in_err-charged.ensures.done
 
 pub returns-in_err-outcome : goal.returns-in_err-outcome
 returns-in_err-outcome g c =
@@ -18,12 +18,13 @@ returns-in_err-outcome g c =
     let last = c.requires.pin.last in
     let small : c.args.pin - 1 < 8 = omega (arith, first, last) in
     end-torn _ _ (verifies c.args.pin c.requires.pin c.args.shown.now) 1 refl c.args.store.now c.args.current.now
-    c.requires.kept.ready c.requires.kept.card c.requires.kept.current c.take_try.new.store c.settle.new.store c.in_ok-charged.charged
-    c.in_ok-charged.ensures.done c.take_try.ensures.pages c.take_try.ensures.store.writes
+    c.requires.kept.ready c.requires.kept.card c.requires.kept.current c.take_try.new.store c.settle.new.store
+    c.in_ok-charged.charged c.in_ok-charged.ensures.done c.take_try.ensures.pages c.take_try.ensures.store.writes
     c.take_try.ensures.store.reports (λ p. verified_ends (c.args.pin - 1) p small) c.settle.ensures.any_exit
     c.settle.ensures.spends c.settle.ensures.pages c.settle.ensures.store.reports c.take_try.ensures.shut
     c.settle.ensures.shut _
-    c.in_err-outcome.field-0.0 (reply-failed _ _ c.from_residual-in_err-outcome.ensures.1) c.in_err-outcome.ensures.store.tells
+    c.in_err-outcome.field-0.0 (reply-failed _ _ c.from_residual-in_err-outcome.ensures.1)
+    c.in_err-outcome.ensures.store.tells
 
 pub returns : goal.returns
 returns g c =
@@ -31,8 +32,8 @@ returns g c =
     let last = c.requires.pin.last in
     let small : c.args.pin - 1 < 8 = omega (arith, first, last) in
     end-made _ _ (verifies c.args.pin c.requires.pin c.args.shown.now) 1 refl c.args.store.now c.args.current.now
-    c.requires.kept.ready c.requires.kept.card c.requires.kept.current c.take_try.new.store c.settle.new.store c.in_ok-charged.charged
-    c.in_ok-charged.ensures.done c.take_try.ensures.pages c.take_try.ensures.store.writes
+    c.requires.kept.ready c.requires.kept.card c.requires.kept.current c.take_try.new.store c.settle.new.store
+    c.in_ok-charged.charged c.in_ok-charged.ensures.done c.take_try.ensures.pages c.take_try.ensures.store.writes
     c.take_try.ensures.store.reports (λ p. verified_ends (c.args.pin - 1) p small) c.settle.ensures.any_exit
     c.settle.ensures.spends c.settle.ensures.pages c.settle.ensures.store.reports c.take_try.ensures.shut
     c.settle.ensures.shut c.in_ok-outcome.outcome

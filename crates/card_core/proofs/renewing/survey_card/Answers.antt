@@ -4,8 +4,8 @@ use Rattle.undo_journal.specs.Memory.{committed}
 use Rattle.undo_journal.specs.laws.Told.{changes_after, changes_handed}
 use Rattle.file_tree.specs.Table.{table}
 use Rattle.file_tree.specs.Indexes.{IsIndex}
-use Rattle.card_core.specs.Cards.{card_space}
-use Rattle.card_core.specs.Standing.{card_of, IsCard, IsOldCard}
+use Rattle.card_machine.specs.Cards.{card_space}
+use Rattle.card_machine.specs.Standing.{card_of, IsCard, IsOldCard}
 use Rattle.card_core.proofs.Migrated.{found-one, found-two, found-where, renewal-writes, renewed-card}
 use Rattle.card_core.proofs.renewing.survey_card.Goals as goal
 
@@ -54,8 +54,8 @@ returns-in_ok-renew-in-One-clause-card g c =
     let old = found-one m _ c.in-Some.found c.in-Some.is c.in-One.is told in
     let migrates = c.in_ok-renew-in-One.ensures.any_exit in (
       inr old,
-      renewed-card mid after c.in_ok-found.ensures.store.ready.usable.committed_size (subst IsOldCard (sym same) old) migrates
-          c.in_ok-renew-in-One.ensures.done.new,
+      renewed-card mid after c.in_ok-found.ensures.store.ready.usable.committed_size (subst IsOldCard (sym same) old)
+          migrates c.in_ok-renew-in-One.ensures.done.new,
       c.in_ok-renew-in-One.ensures.free,
       found-where m mid after _ c.in-Some.found same c.in-Some.is told migrates,
     )

@@ -13,9 +13,11 @@ pub returns-then-mark-eq-MARK-clause-end : goal.returns-then-mark-eq-MARK-clause
 returns-then-mark-eq-MARK-clause-end g c =
     let m = committed c.args.store.now in
     let mark : word m HEADER_PAGE MARK_WORD ≡ MARK =
-    ap (λ (l : List ℕ). slice_index l 0) c.requires.ready.same ∙ sym c.in_ok-mark.ensures.word ∙ c.if-mark-eq-MARK.true in
+    ap (λ (l : List ℕ). slice_index l 0) c.requires.ready.same ∙ sym c.in_ok-mark.ensures.word
+    ∙ c.if-mark-eq-MARK.true in
     IfOk-weaker c.read-then-mark-eq-MARK.result _ _
-    (λ end is. is ∙ ap (λ (l : List ℕ). slice_index l 3) (c.read.ensures.reads.keeps.current_words ∙ sym c.requires.ready.same)
+    (λ end is. is
+    ∙ ap (λ (l : List ℕ). slice_index l 3) (c.read.ensures.reads.keeps.current_words ∙ sym c.requires.ready.same)
     ∙ sym (end_new m mark)) c.read-then-mark-eq-MARK.ensures.word
 
 pub returns-then-mark-eq-MARK-clause-store : goal.returns-then-mark-eq-MARK-clause-store

@@ -1,4 +1,5 @@
-use Rattle.std.proofs.Common.{◌≡◌, ◌≤◌, ◌+◌, ◌++◌, ℕ, Bool, true, false, not, cond, List, [], ◌∷◌, length, take, filter, slice_index_or, sym, ◌∙◌, ap, arith, lit<, append-nil}
+use Rattle.std.proofs.Common.{◌≡◌, ◌≤◌, ◌+◌, ◌++◌, ℕ, Bool, true, false, not, cond, List, [], ◌∷◌, length, take, filter}
+use Rattle.std.proofs.Common.{slice_index_or, sym, ◌∙◌, ap, arith, lit<, append-nil}
 use Rattle.std.proofs.Math.Seq.{take-length}
 use Rattle.std.proofs.lemmas.List.Elements.{filter_more}
 use Rattle.file_tree.specs.declared.index.Place.{Place}
@@ -37,8 +38,10 @@ loop-place-preserved c =
     let next : told c.if-not-is_within.outside.items = elim c.if-not-is_within.branch [
       | then-not-is_within w ↦
           let passes : keep place ≡ true = ap not (sym c.is_within.ensures ∙ w.if-not-is_within.true) in
-          let items : c.if-not-is_within.outside.items ≡ before ++ place ∷ [] = (λ j. (w.outside-is j).items) ∙ w.push.ensures.items in
-          let long : length c.if-not-is_within.outside.items ≡ length before + 1 = (λ j. length (w.outside-is j).items) ∙ w.push.ensures.len in (
+          let items : c.if-not-is_within.outside.items ≡ before ++ place ∷ [] = (λ j. (w.outside-is j).items)
+          ∙ w.push.ensures.items in
+          let long : length c.if-not-is_within.outside.items ≡ length before + 1 = (λ j. length (w.outside-is j).items)
+          ∙ w.push.ensures.len in (
             omega (arith, long, size),
             items
                 ∙ ap (λ (front : List Place). front ++ place ∷ []) so_far

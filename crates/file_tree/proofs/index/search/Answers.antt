@@ -15,7 +15,8 @@ loop-low-init c = record {
   ordered = omega arith;
   within = omega arith;
   few = (let fresh = c.requires.fresh in omega (arith, fresh));
-  left = (let few = c.requires.few in subst (λ (n : ℕ). length c.args.places.now - 0 ≤ halved n) (sym c.requires.fresh) (omega (arith, few)));
+  left = (let few = c.requires.few in subst (λ (n : ℕ). length c.args.places.now - 0 ≤ halved n)
+      (sym c.requires.fresh) (omega (arith, few)));
   before = λ up k d lt. absurd (omega (arith, lt));
   behind = λ up k d from below. absurd (omega (arith, from, below));
 }
@@ -56,7 +57,8 @@ loop-low-preserved-in-Less c =
       ordered = omega (arith, lt);
       within = within;
       few = omega (arith, few, more);
-      left = subst (λ (n : ℕ). high - (middle + 1) ≤ halved n) (sym more) (halved-half c.loop-low.steps (high - (middle + 1)) half);
+      left = subst (λ (n : ℕ). high - (middle + 1) ≤ halved n) (sym more)
+          (halved-half c.loop-low.steps (high - (middle + 1)) half);
       before = λ up. search_up c.args.places.now c.args.key middle inside up no_place (c.in-Less.ensures.order);
       behind = c.loop-low.invariant.behind;
     }
@@ -113,8 +115,11 @@ pub returns-clause-found : goal.returns-clause-found
 returns-clause-found c = λ up.
     let ordered = c.loop-low.invariant.ordered in
     let end = c.loop-low-test.false in
-    let same : c.loop-low.high ≡ c.loop-low.low = omega (arith, ordered, end) in
-    (c.loop-low.invariant.before up, subst (AreBehind c.args.places.now c.args.key) same (c.loop-low.invariant.behind up))
+    let same : c.loop-low.high ≡ c.loop-low.low = omega (arith, ordered, end) in (
+      c.loop-low.invariant.before up,
+      subst (AreBehind c.args.places.now c.args.key) same
+          (c.loop-low.invariant.behind up),
+    )
 
 pub returns-clause-steps : goal.returns-clause-steps
 returns-clause-steps c = let few = c.loop-low.invariant.few in omega (arith, few)

@@ -22,7 +22,8 @@ returns-in_err-entry-clause-found g c = none_ok _ _ _ c.from_residual.ensures.1
 
 pub returns-in_err-entry-clause-store : goal.returns-in_err-entry-clause-store
 returns-in_err-entry-clause-store g c =
-    reads_handed _ _ _ _ c.from_residual.ensures.1 (reads_on _ _ _ _ c.loop-e.invariant.reads c.in_err-entry.ensures.store)
+    reads_handed _ _ _ _ c.from_residual.ensures.1
+    (reads_on _ _ _ _ c.loop-e.invariant.reads c.in_err-entry.ensures.store)
 
 pub returns-then-is_child-clause-store : goal.returns-then-is_child-clause-store
 returns-then-is_child-clause-store g c =
@@ -36,7 +37,8 @@ pub returns-then-is_child-clause-found : goal.returns-then-is_child-clause-found
 returns-then-is_child-clause-found g c =
     let m = committed c.args.store.now in
     let e = c.loop-e.e in
-    let is = c.in_ok-entry.ensures.entry ∙ ap (λ (l : List ℕ). entry_in (table l) e) c.loop-e.invariant.reads.keeps.committed_words in
+    let is = c.in_ok-entry.ensures.entry
+    ∙ ap (λ (l : List ℕ). entry_in (table l) e) c.loop-e.invariant.reads.keeps.committed_words in
     let some : 0 < e = search rules in
     child_there (table m) c.args.df e c.args.short c.in_ok-entry.entry is some (c.is_child.ensures.0 c.if-is_child.true)
 
@@ -44,7 +46,8 @@ pub loop-e-preserved : goal.loop-e-preserved
 loop-e-preserved g c =
     let m = committed c.args.store.now in
     let e = c.loop-e.e in
-    let is = c.in_ok-entry.ensures.entry ∙ ap (λ (l : List ℕ). entry_in (table l) e) c.loop-e.invariant.reads.keeps.committed_words in
+    let is = c.in_ok-entry.ensures.entry
+    ∙ ap (λ (l : List ℕ). entry_in (table l) e) c.loop-e.invariant.reads.keeps.committed_words in
     record {
       ready = c.in_ok-entry.ensures.store.ready;
       reads = reads_then _ _ _ c.loop-e.invariant.reads c.read_entry.ensures.store.only;

@@ -24,8 +24,9 @@ loop-k-preserved c = record {
   way = λ m stands used is.
       let path = c.args.path.now in
       let lt : c.loop-k.k < length path = c.loop-k-test.true in
-      way_goes_on m stands.entries c.args.df c.loop-k.at (slice_index path c.loop-k.k) c.in-Some.child path (drop (c.loop-k.k + 1) path)
-      (next_left m c.args.df c.loop-k.at c.loop-k.k path lt (c.loop-k.invariant.way m stands used is)) (c.in-Some.ensures m is);
+      way_goes_on m stands.entries c.args.df c.loop-k.at (slice_index path c.loop-k.k)
+      c.in-Some.child path (drop (c.loop-k.k + 1) path) (next_left m c.args.df c.loop-k.at c.loop-k.k path lt
+      (c.loop-k.invariant.way m stands used is)) (c.in-Some.ensures m is);
 }
 
 pub returns-in-None-clause-found : goal.returns-in-None-clause-found
@@ -33,7 +34,8 @@ returns-in-None-clause-found c = λ m stands used is.
     let path = c.args.path.now in
     let lt : c.loop-k.k < length path = c.loop-k-test.true in
     way_is_lost m stands c.args.df c.loop-k.at (slice_index path c.loop-k.k) path (drop (c.loop-k.k + 1) path)
-    (next_left m c.args.df c.loop-k.at c.loop-k.k path lt (c.loop-k.invariant.way m stands used is)) (c.in-None.ensures m is)
+    (next_left m c.args.df c.loop-k.at c.loop-k.k path lt (c.loop-k.invariant.way m stands used is))
+    (c.in-None.ensures m is)
 
 pub returns-clause-found : goal.returns-clause-found
 returns-clause-found c = λ m stands used is.

@@ -45,7 +45,8 @@ returns-in_err-read_used-clause-table g c = none_ok _ _ _ c.from_residual.ensure
 
 pub returns-in_err-read_used-clause-store : goal.returns-in_err-read_used-clause-store
 returns-in_err-read_used-clause-store g c =
-    reads_handed _ _ _ _ c.from_residual.ensures.1 (reads_on _ _ _ _ c.loop-e.invariant.reads c.in_err-read_used.ensures.store)
+    reads_handed _ _ _ _ c.from_residual.ensures.1
+    (reads_on _ _ _ _ c.loop-e.invariant.reads c.in_err-read_used.ensures.store)
 
 pub returns-clause-store : goal.returns-clause-store
 returns-clause-store g c =

@@ -12,7 +12,8 @@ returns-then-first-eq0-clause-entry g c =
     let none : slice_index (page_words m (1 + c.args.e)) 0 ≡ 0 =
     index-page_words m (1 + c.args.e) 0 (omega arith) ∙ ap (slice_index m) (sym c.entry_address.ensures)
     ∙ sym c.in_ok-first.ensures.word ∙ c.if-first-eq0.true in
-    c.free.ensures ∙ sym (entry_of-free (page_words m (1 + c.args.e)) none) ∙ sym (entry_in-table m c.args.e c.requires.within)
+    c.free.ensures ∙ sym (entry_of-free (page_words m (1 + c.args.e)) none)
+    ∙ sym (entry_in-table m c.args.e c.requires.within)
 
 pub returns-clause-store : goal.returns-clause-store
 returns-clause-store g c = reads_on _ _ _ _ c.read_committed.ensures.store.only c.read_entry.ensures.store

@@ -15,7 +15,8 @@ loop-k-preserved g c =
     let at = c.loop-k.k in
     let small : at < 11 = search rules in
     let size = c.loop-k.invariant.size in
-    let place : c.entry_address-first.result + at ≡ address (1 + c.args.e) at = omega (arith, c.entry_address-first.ensures) in
+    let place : c.entry_address-first.result + at ≡ address (1 + c.args.e) at =
+    omega (arith, c.entry_address-first.ensures) in
     let kept = c.loop-k.invariant.reads.keeps.committed_words in
     let here : c.in_ok-words.field-0 ≡ word m (1 + c.args.e) at =
     c.in_ok-words.ensures.word
@@ -42,7 +43,8 @@ returns-in_err-words-clause-words g c = none_ok _ _ _ c.from_residual.ensures.1
 
 pub returns-in_err-words-clause-store : goal.returns-in_err-words-clause-store
 returns-in_err-words-clause-store g c =
-    reads_handed _ _ _ _ c.from_residual.ensures.1 (reads_on _ _ _ _ c.loop-k.invariant.reads c.in_err-words.ensures.store)
+    reads_handed _ _ _ _ c.from_residual.ensures.1
+    (reads_on _ _ _ _ c.loop-k.invariant.reads c.in_err-words.ensures.store)
 
 pub returns-clause-store : goal.returns-clause-store
 returns-clause-store g c =

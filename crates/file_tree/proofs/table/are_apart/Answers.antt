@@ -24,7 +24,8 @@ returns-then-not-is_alone c =
     let one = entry_within c.args.entries.now c.loop-e.e _ c.loop-e-test.true in (
       λ is. absurd (true≢false (sym is)),
       λ apart. absurd (true≢false (sym (c.is_alone.ensures.1 (apart c.loop-e.e
-          (λ none. c.is_used.ensures.0 c.if-is_used.true (ap (λ (x : Entry). x.kind) one ∙ none)))) ∙ c.if-not-is_alone.true)),
+          (λ none. c.is_used.ensures.0 c.if-is_used.true (ap (λ (x : Entry). x.kind) one ∙ none))))
+          ∙ c.if-not-is_alone.true)),
     )
 
 pub returns : goal.returns

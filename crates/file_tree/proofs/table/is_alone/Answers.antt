@@ -14,7 +14,8 @@ returns-then-has_identifier_alone c =
     let one = entry_within t c.args.e _ c.requires in
     let neither = c.has_identifier_alone.ensures.0 c.if-has_identifier_alone.true in (
       λ is f lt used alike. alike_none c.args.e (entry_in t c.args.e) (entry_in t f)
-          (ap (λ (x : Entry). x.short) (sym one) ∙ neither.0) (ap (λ (x : Entry). x.name_length) (sym one) ∙ neither.1) alike,
+          (ap (λ (x : Entry). x.short) (sym one) ∙ neither.0)
+          (ap (λ (x : Entry). x.name_length) (sym one) ∙ neither.1) alike,
       λ alone. refl,
     )
 
@@ -47,6 +48,7 @@ returns-then-are_alike c =
 pub returns : goal.returns
 returns c = (
   λ is f above used alike. c.loop-f.invariant f
-      (let within = used_within c.args.entries.now f used in omega (arith, within, c.loop-f-test.false)) above used alike,
+      (let within = used_within c.args.entries.now f used in
+      omega (arith, within, c.loop-f-test.false)) above used alike,
   λ alone. refl,
 )

@@ -4,7 +4,8 @@ use Rattle.file_tree.specs.Table.{IsMasterFile}
 use Rattle.file_tree.specs.laws.Tables.{entry_within}
 use Rattle.file_tree.specs.laws.Alikes.{table_of, table_apart}
 use Rattle.file_tree.proofs.table.is_table.Goals as goal
-use Rattle.file_tree.proofs.table.is_table.Goals.{then-is_master_file, else-is_master_file, then-are_entries, else-are_entries}
+use Rattle.file_tree.proofs.table.is_table.Goals.{then-is_master_file, else-is_master_file, then-are_entries}
+use Rattle.file_tree.proofs.table.is_table.Goals.{else-are_entries}
 
 pub returns-then-are_below_master : goal.returns-then-are_below_master
 returns-then-are_below_master c = elim c.if-are_entries.branch [
@@ -19,8 +20,10 @@ returns-then-are_below_master c = elim c.if-are_entries.branch [
         let here : IsTrue each.are_entries.result = search rules in
         let all = each.are_entries.ensures.0 here in
         let below : IsTrue lower.are_below_master.result = search rules in
-        let stand = lower.are_below_master.ensures.0 below in
-        (λ yes. table_of t first all stand c.requires.apart (c.are_apart.ensures.0 yes), λ stands. c.are_apart.ensures.1 (table_apart t stands))
+        let stand = lower.are_below_master.ensures.0 below in (
+          λ yes. table_of t first all stand c.requires.apart (c.are_apart.ensures.0 yes),
+          λ stands. c.are_apart.ensures.1 (table_apart t stands),
+        )
     | else-is_master_file w ↦ search rules
   ]
   | else-are_entries w ↦ search rules

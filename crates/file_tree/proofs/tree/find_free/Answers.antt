@@ -25,7 +25,8 @@ count_free-entries-requires g c =
     ap (λ (t : List Entry). length t) c.requires.read ∙ length-table (committed c.args.store.now)
 
 -- what was found of the blocks, where they lie as they should and where not
-found_is : (n : ℕ) (now : List ℕ) (es : List Extent) (o answer : Option ℕ) → o ≡ answer → TellsFree n now es o → TellsFree n now es answer
+found_is : (n : ℕ) (now : List ℕ) (es : List Extent) (o answer : Option ℕ) → o ≡ answer → TellsFree n now es o
+    → TellsFree n now es answer
 found_is n now es o answer is told = subst (λ (r : Option ℕ). TellsFree n now es r) is told
 
 pub returns-in_err-blocks-clause-tree : goal.returns-in_err-blocks-clause-tree
@@ -70,8 +71,8 @@ returns-clause-tree g c =
     let count : c.in-Some.count ≡ block_count m = counted m m _ _ _ _ refl c.in-Some.is c.in_ok-count.ensures.count in
     let family : ℕ → Type 0 =
     λ n. TellsFree n (committed c.read_block_count.new.store) c.as_slice.result.now (Some c.in-Some-2.blocks) in
-    space_told m (committed c.read_block_count.new.store) c.args.all.now c.as_slice.result.now (Some c.in-Some-2.blocks) _
-    c.requires.ready.usable.committed_size c.read_block_count.ensures.store.only.keeps.committed_words c.requires.read
+    space_told m (committed c.read_block_count.new.store) c.args.all.now c.as_slice.result.now (Some c.in-Some-2.blocks)
+    _ c.requires.ready.usable.committed_size c.read_block_count.ensures.store.only.keeps.committed_words c.requires.read
     (c.as_slice.ensures.value ∙ c.extents_of-extents.ensures) c.requires.rules
     (subst family count (found_is _ _ _ _ _ c.in-Some-2.is c.in_ok-blocks.ensures.found))
     (λ i. Some (record { blocks = c.in-Some-2.blocks; entries = c.count_free-entries.ensures i }))

@@ -33,10 +33,12 @@ find_free-requires-clause-read g c =
 pub find_free-requires-clause-rules : goal.find_free-requires-clause-rules
 find_free-requires-clause-rules g c =
     let family : List Entry → Type 0 = λ t. IsTable t in
-    subst family (c.as_slice-2.ensures.value ∙ sym c.as_slice-3.ensures.value) (c.is_table.ensures.0 c.if-not-is_table.false)
+    subst family (c.as_slice-2.ensures.value ∙ sym c.as_slice-3.ensures.value)
+    (c.is_table.ensures.0 c.if-not-is_table.false)
 
 -- what was found of the free space, by the words before
-told_before : (m now : List ℕ) (o answer : Option FreeSpace) → now ≡ m → o ≡ answer → TellsSpace now o → TellsSpace m answer
+told_before : (m now : List ℕ) (o answer : Option FreeSpace) → now ≡ m → o ≡ answer
+    → TellsSpace now o → TellsSpace m answer
 told_before m now o answer same is told =
     let by_words : List ℕ → Type 0 = λ l. TellsSpace l answer in
     let by_answer : Option FreeSpace → Type 0 = λ r. TellsSpace now r in
@@ -45,7 +47,8 @@ told_before m now o answer same is told =
 pub returns-clause-tree : goal.returns-clause-tree
 returns-clause-tree g c =
     let m = committed c.args.store.now in
-    let told = told_before m _ _ _ c.fill_table.ensures.store.only.keeps.committed_words c.in-Some-2.is c.in_ok-free.ensures.tree in
+    let told = told_before m _ _ _ c.fill_table.ensures.store.only.keeps.committed_words c.in-Some-2.is
+    c.in_ok-free.ensures.tree in
     let indexed : List Entry → Type 0 = λ t. IsIndex t c.in-Some.index in
     (told.0, told.1, subst indexed (c.as_slice.ensures.value ∙ c.in_ok-fill_table.ensures.table) c.in-Some.ensures.1)
 
@@ -58,8 +61,8 @@ returns-in_default-clause-tree g c = λ stands.
 
 pub returns-in_default-2-clause-tree : goal.returns-in_default-2-clause-tree
 returns-in_default-2-clause-tree g c =
-    told_before (committed c.args.store.now) _ _ None c.fill_table.ensures.store.only.keeps.committed_words c.in_default-2.is
-    c.in_ok-free.ensures.tree
+    told_before (committed c.args.store.now) _ _ None c.fill_table.ensures.store.only.keeps.committed_words
+    c.in_default-2.is c.in_ok-free.ensures.tree
 
 pub returns-in_err-fill_table-clause-tree : goal.returns-in_err-fill_table-clause-tree
 returns-in_err-fill_table-clause-tree g c = none_ok _ _ _ c.from_residual.ensures.1

@@ -12,6 +12,9 @@ pub loop-i-preserved : goal.loop-i-preserved
 loop-i-preserved g c =
     let lt : c.loop-i.i < length c.loop-i.trace = omega (arith, c.requires, c.loop-i.auto.trace) in
     record {
-      so_far = rw (take_more c.args.turns.now c.loop-i.i On c.loop-i-test.true, take_more_set c.loop-i.trace c.loop-i.i c.item.result lt)
-          (plays_more _ _ _ _ _ _ _ c.loop-i.invariant.so_far c.item.ensures);
+      so_far = rw (
+        take_more c.args.turns.now c.loop-i.i On c.loop-i-test.true,
+        take_more_set c.loop-i.trace c.loop-i.i
+            c.item.result lt,
+      ) (plays_more _ _ _ _ _ _ _ c.loop-i.invariant.so_far c.item.ensures);
     }

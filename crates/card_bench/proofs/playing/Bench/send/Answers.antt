@@ -1,6 +1,6 @@
 use Rattle.std.proofs.Common.{rules, sym}
 use Rattle.t1_link.specs.CardTable.{link_step}
-use Rattle.card_core.specs.declared.machine.TheConstants.{COMMAND_WRITES}
+use Rattle.card_machine.specs.declared.spending.TheConstants.{COMMAND_WRITES}
 use Rattle.card_core.specs.Running.{card_found}
 use Rattle.card_bench.specs.BenchStates.{on}
 use Rattle.card_bench.specs.Plays.{HasNoFault}
@@ -16,9 +16,10 @@ returns-in-Err g c =
     let kept = rw c.in-On.is at c.self.invariant in
     let old = rw c.in-On.is at c.self.view_is in
     rw (← old, c.replace_with.ensures.0)
-    (plays_cut c.in-On.powered c.block.new.self c.args.block.now _ (c.in-Err.ensures.lost kept.0) c.in-Err.ensures.has_card c.in-Err.ensures.stage
-    (block-pays c.in-On.powered c.block.new.self (link_step c.in-On.powered.link c.args.block.now).reaction c.in-Err.ensures.stage
-    c.in-Err.ensures.compares kept.1 c.in-Err.ensures.has_card)
+    (plays_cut c.in-On.powered
+    c.block.new.self c.args.block.now _ (c.in-Err.ensures.lost kept.0) c.in-Err.ensures.has_card c.in-Err.ensures.stage
+    (block-pays c.in-On.powered c.block.new.self (link_step c.in-On.powered.link c.args.block.now).reaction
+    c.in-Err.ensures.stage c.in-Err.ensures.compares kept.1 c.in-Err.ensures.has_card)
     (block-compares c.in-On.powered c.block.new.self (link_step c.in-On.powered.link c.args.block.now).reaction
     c.in-Err.ensures.stage c.in-Err.ensures.compares) c.in-Err.ensures.writes
     c.in-Err.ensures.advances c.in-Err.ensures.stands)
@@ -52,4 +53,5 @@ invariant_of-self-in-Ok g c =
 
 pub returns-in-Off : goal.returns-in-Off
 returns-in-Off g c =
-    hears_nothing _ _ (g.B.Board.facts c.in-Off.field-0) c.args.block.now (sym (rw c.in-Off.is at c.self.view_is)) c.self.view_is
+    hears_nothing _ _ (g.B.Board.facts c.in-Off.field-0) c.args.block.now
+    (sym (rw c.in-Off.is at c.self.view_is)) c.self.view_is

@@ -3,11 +3,13 @@ use Rattle.std.specs.Prelude.{◌≡◌, ◌⊎◌, ◌≢◌, ℕ, List, [], Op
 use Rattle.std.proofs.Common.{rules, ap, sym, refl, subst, ◌∙◌}
 use Rattle.card_core.specs.declared.card_state.CardState.TheVariants.{Working, Dark}
 use Rattle.apdu_core.specs.Asked.{asked}
-use Rattle.t1_link.specs.CardTable.{answers, reply_bytes, command_of, link_step, CardLink, Link, Reaction, replies, runs}
-use Rattle.card_core.specs.Comparing.{comparisons, ComparesAsked}
+use Rattle.t1_link.specs.CardTable.{answers, reply_bytes, command_of, link_step, CardLink, Link, Reaction}
+use Rattle.t1_link.specs.CardTable.{replies, runs}
+use Rattle.card_machine.specs.Comparing.{comparisons, ComparesAsked}
 use Rattle.card_core.specs.Running.{card_found}
-use Rattle.card_core.specs.laws.CompareLaws.{asked-none}
-use Rattle.card_bench.specs.CardBlocks.{BlockChangesNothing, BlockCompares, BlockStands, FailsAt, IsBlockStage, IsCutAt, Powered, Replies}
+use Rattle.card_machine.specs.laws.CompareLaws.{asked-none}
+use Rattle.card_bench.specs.CardBlocks.{BlockChangesNothing, BlockCompares, BlockStands, FailsAt, IsBlockStage, IsCutAt}
+use Rattle.card_bench.specs.CardBlocks.{Powered, Replies}
 use Rattle.card_bench.proofs.BlockRuns.{cut-at, of-run, run-replies}
 use Rattle.card_bench.proofs.CardStates.{on_err, works_if_cut}
 use Rattle.card_bench.proofs.powered.Powered.block.Goals as goal
@@ -16,21 +18,22 @@ use Rattle.card_bench.proofs.powered.Powered.block.Goals as goal
 kept-compares : (p : Powered) (reaction : Reaction) → BlockCompares p reaction p
 kept-compares p (replies block) = refl
 kept-compares p (runs command) =
-    asked-none (asked command) (card_found p.card) (comparisons p.card.facts) (card_found p.card) (comparisons p.card.facts)
-    refl refl
+    asked-none (asked command) (card_found p.card) (comparisons p.card.facts) (card_found p.card)
+    (comparisons p.card.facts) refl refl
 
 pub returns-in-Dark-clause-compares : goal.returns-in-Dark-clause-compares
-returns-in-Dark-clause-compares g c = kept-compares c.args.self.now (link_step c.args.self.now.link c.args.got.now).reaction
+returns-in-Dark-clause-compares g c =
+    kept-compares c.args.self.now (link_step c.args.self.now.link c.args.got.now).reaction
 
 -- and where a command waits, the block compares what the command does
 run-compares : (p new : Powered) (reaction : Reaction) (bytes : List ℕ) → command_of reaction ≡ Some bytes
-    → ComparesAsked (asked bytes) (card_found p.card) (comparisons p.card.facts) (card_found new.card) (comparisons
-    new.card.facts)
+    → ComparesAsked (asked bytes) (card_found p.card) (comparisons p.card.facts) (card_found new.card)
+    (comparisons new.card.facts)
     → BlockCompares p reaction new
 run-compares p new (replies block) bytes waits compares = cc
 run-compares p new (runs command) bytes waits compares =
-    subst (λ (o : Option (List ℕ)). ComparesAsked (asked (unwrap_or o [])) (card_found p.card) (comparisons p.card.facts)
-    (card_found new.card) (comparisons new.card.facts)) (sym waits) compares
+    subst (λ (o : Option (List ℕ)). ComparesAsked (asked (unwrap_or o [])) (card_found p.card)
+    (comparisons p.card.facts) (card_found new.card) (comparisons new.card.facts)) (sym waits) compares
 
 pub returns-in_err-command-in-Run-clause-compares : goal.returns-in_err-command-in-Run-clause-compares
 returns-in_err-command-in-Run-clause-compares g c =
@@ -62,17 +65,18 @@ returns-in_ok-command-in-Run-clause-stage g c =
     let waits = ap (λ (e : CardLink). e.waiting) (sym c.take.ensures.state) ∙ c.command.ensures in
     let card = card_found c.command-in-Run.new.self in
     subst (λ (p : Powered). IsBlockStage p (link_step p.link c.args.got.now).reaction card) c.self.view_is
-    (of-run (λ (r : Reaction). IsBlockStage old r card) (link_step old.link c.args.got.now).reaction c.command.result.now waits
-    c.command-in-Run.ensures.stage)
+    (of-run (λ (r : Reaction). IsBlockStage old r card) (link_step old.link c.args.got.now).reaction
+    c.command.result.now waits c.command-in-Run.ensures.stage)
 
 pub returns-in_ok-command-in-Run-clause-idle : goal.returns-in_ok-command-in-Run-clause-idle
 returns-in_ok-command-in-Run-clause-idle g c =
     let old : Powered = record { card = c.self.inside.card; link = c.self.inside.link.link } in
     let waits = ap (λ (e : CardLink). e.waiting) (sym c.take.ensures.state) ∙ c.command.ensures in
     let facts = c.command-in-Run.new.self.facts in
-    subst (λ (p : Powered). BlockChangesNothing p (link_step p.link c.args.got.now).reaction → KeepsBoard p.card.facts facts) c.self.view_is
-    (of-run (λ (r : Reaction). BlockChangesNothing old r → KeepsBoard old.card.facts facts) (link_step old.link c.args.got.now).reaction
-    c.command.result.now waits c.command-in-Run.ensures.idle)
+    subst (λ (p : Powered). BlockChangesNothing p (link_step p.link c.args.got.now).reaction
+    → KeepsBoard p.card.facts facts) c.self.view_is
+    (of-run (λ (r : Reaction). BlockChangesNothing old r → KeepsBoard old.card.facts facts)
+    (link_step old.link c.args.got.now).reaction c.command.result.now waits c.command-in-Run.ensures.idle)
 
 pub returns-in_err-command-in-Run-clause-stage : goal.returns-in_err-command-in-Run-clause-stage
 returns-in_err-command-in-Run-clause-stage g c =
@@ -80,17 +84,18 @@ returns-in_err-command-in-Run-clause-stage g c =
     let waits = ap (λ (e : CardLink). e.waiting) (sym c.take.ensures.state) ∙ c.command.ensures in
     let card = card_found c.command-in-Run.new.self in
     subst (λ (p : Powered). IsBlockStage p (link_step p.link c.args.got.now).reaction card) c.self.view_is
-    (of-run (λ (r : Reaction). IsBlockStage old r card) (link_step old.link c.args.got.now).reaction c.command.result.now waits
-    c.command-in-Run.ensures.stage)
+    (of-run (λ (r : Reaction). IsBlockStage old r card) (link_step old.link c.args.got.now).reaction
+    c.command.result.now waits c.command-in-Run.ensures.stage)
 
 pub returns-in_err-command-in-Run-clause-idle : goal.returns-in_err-command-in-Run-clause-idle
 returns-in_err-command-in-Run-clause-idle g c =
     let old : Powered = record { card = c.self.inside.card; link = c.self.inside.link.link } in
     let waits = ap (λ (e : CardLink). e.waiting) (sym c.take.ensures.state) ∙ c.command.ensures in
     let facts = c.command-in-Run.new.self.facts in
-    subst (λ (p : Powered). BlockChangesNothing p (link_step p.link c.args.got.now).reaction → KeepsBoard p.card.facts facts) c.self.view_is
-    (of-run (λ (r : Reaction). BlockChangesNothing old r → KeepsBoard old.card.facts facts) (link_step old.link c.args.got.now).reaction
-    c.command.result.now waits c.command-in-Run.ensures.idle)
+    subst (λ (p : Powered). BlockChangesNothing p (link_step p.link c.args.got.now).reaction
+    → KeepsBoard p.card.facts facts) c.self.view_is
+    (of-run (λ (r : Reaction). BlockChangesNothing old r → KeepsBoard old.card.facts facts)
+    (link_step old.link c.args.got.now).reaction c.command.result.now waits c.command-in-Run.ensures.idle)
 
 pub returns-in_ok-command-in-Run-clause-compares : goal.returns-in_ok-command-in-Run-clause-compares
 returns-in_ok-command-in-Run-clause-compares g c =
@@ -113,7 +118,8 @@ returns-in_ok-command-in-Run-clause-replies g c =
     let link = ap (λ (e : CardLink). e.link) c.answer.ensures.state ∙ ap (λ (l : Link). (answers l bytes).link) taken in
     let block = c.answer.ensures.block ∙ ap (λ (l : Link). reply_bytes (answers l bytes).reaction) taken in
     subst (λ (p : Powered). p.card.state ≡ Working → Replies p got new out ⊎ FailsAt p got new out) c.self.view_is
-    (λ works. run-replies old new got c.command.result.now bytes out waits link block (c.in_ok-command-in-Run.ensures.done works))
+    (λ works. run-replies old new got c.command.result.now bytes out waits link block
+    (c.in_ok-command-in-Run.ensures.done works))
 
 pub returns-in-Reply-clause-lost : goal.returns-in-Reply-clause-lost
 returns-in-Reply-clause-lost g c = tt

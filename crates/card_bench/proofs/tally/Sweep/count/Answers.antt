@@ -9,10 +9,12 @@ pub invariant_of-self-2 : goal.invariant_of-self-2
 invariant_of-self-2 c =
     let old = c.args.self.now in
     let e : c.push.new.self.items ≡ old.seen.items ++ _ ∷ [] = c.in_ok-push.ensures.items in
-    let New : List Item → Type 0 = λ t. All (λ s. finding s ≢ record { trace = t; free = c.args.free }) old.seen.items in
+    let New : List Item → Type 0 =
+    λ t. All (λ s. finding s ≢ record { trace = t; free = c.args.free }) old.seen.items in
     let P : List Seen → Type 0 = λ l. IsTally (old.runs + 1) l in
     let pushed = subst P (sym e) (tally-push old.runs old.seen.items _ refl
-    (record { sum = old.sum; given = old.given; different = old.different }) (subst New c.deref.ensures.value c.in_default.ensures.new)) in
+    (record { sum = old.sum; given = old.given; different = old.different })
+    (subst New c.deref.ensures.value c.in_default.ensures.new)) in
     record { sum = pushed.sum; given = pushed.given; different = pushed.different }
 
 pub returns-in-Some-clause-counts : goal.returns-in-Some-clause-counts
@@ -24,7 +26,8 @@ returns-in-Some-clause-counts c =
 
 pub returns-clause-counts : goal.returns-clause-counts
 returns-clause-counts c =
-    let New : List Item → Type 0 = λ t. All (λ s. finding s ≢ record { trace = t; free = c.args.free }) c.args.self.now.seen.items in
+    let New : List Item → Type 0 = λ t. All (λ s. finding s ≢ record { trace = t; free = c.args.free })
+    c.args.self.now.seen.items in
     inr (record {
       first = _;
       same = refl;

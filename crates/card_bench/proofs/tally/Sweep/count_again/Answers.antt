@@ -21,5 +21,6 @@ pub returns-clause-again : goal.returns-clause-again
 returns-clause-again c = λ s there.
     let items = c.args.self.now.seen.items in
     let Counted : Seen → List Seen = λ x. slice_set items c.args.place (record x { count = x.count + 1 }) in
-    let same : c.index_mut.result.now ≡ s = c.index_mut.ensures.value ∙ get_or_from_slice_get items c.args.place s _ there in
+    let same : c.index_mut.result.now ≡ s = c.index_mut.ensures.value
+    ∙ get_or_from_slice_get items c.args.place s _ there in
     ap Counted same

@@ -4,25 +4,27 @@ use Rattle.undo_journal.specs.Spending.{Advances, KeepsBoard}
 use Rattle.apdu_core.specs.Asked.{asked}
 use Rattle.card_core.specs.declared.card_state.CardState.{CardState}
 use Rattle.card_core.specs.declared.card_state.CardState.TheVariants.{Working, Failed, Dark}
-use Rattle.card_core.specs.declared.machine.TheConstants.{COMMAND_WRITES}
-use Rattle.card_core.specs.Comparing.{comparisons, ComparesAsked}
-use Rattle.card_core.specs.Finding.{HasCard}
+use Rattle.card_machine.specs.declared.spending.TheConstants.{COMMAND_WRITES}
+use Rattle.card_machine.specs.Comparing.{comparisons, ComparesAsked}
+use Rattle.card_machine.specs.Finding.{HasCard}
 use Rattle.card_core.specs.Running.{card_found, FailsIn, IsCutIn, Running, Steps}
-use Rattle.card_core.specs.Sessions.{Session}
-use Rattle.card_core.specs.Spending.{writes_asked, writes_of}
-use Rattle.card_core.specs.Stages.{ChangesNothing, IsStage}
-use Rattle.card_core.specs.Words.{StandsAsked}
-use Rattle.card_core.specs.Working.{card_in, session_while, table_in}
-use Rattle.card_core.specs.laws.SpendLaws.{few_writes}
-use Rattle.card_core.specs.laws.TouchLaws.{few_updates}
-use Rattle.card_core.proofs.Commanding.{after, still-compares, still-stage, ended-done, ended-kept, ended-lost, ended-unlit, Ends}
+use Rattle.card_machine.specs.Sessions.{Session}
+use Rattle.card_machine.specs.Spending.{writes_asked, writes_of}
+use Rattle.card_machine.specs.Stages.{ChangesNothing, IsStage}
+use Rattle.card_machine.specs.Words.{StandsAsked}
+use Rattle.card_machine.specs.Working.{card_in, table_in}
+use Rattle.card_core.specs.ShownSessions.{session_while}
+use Rattle.card_machine.specs.laws.SpendLaws.{few_writes}
+use Rattle.card_machine.specs.laws.TouchLaws.{few_updates}
+use Rattle.card_core.proofs.Commanding.{after, still-compares, still-stage, ended-done, ended-kept, ended-lost}
+use Rattle.card_core.proofs.Commanding.{ended-unlit, Ends}
 use Rattle.card_core.proofs.machine.Card.command.Given.{Over}
 use Rattle.card_core.proofs.machine.Card.command.Goals.{After-end_command}
 use Rattle.card_core.proofs.machine.Card.command.Goals as goal
 
 -- the end of the command, as the call told it
-ends : (g : Over) (c : After-end_command g) → Ends c.carry_out-carried.result c.self.inside.state c.end_command.new.state
-    c.carry_out-carried.new.answer.items c.end_command.new.answer.items c.end_command.result
+ends : (g : Over) (c : After-end_command g) → Ends c.carry_out-carried.result c.self.inside.state
+    c.end_command.new.state c.carry_out-carried.new.answer.items c.end_command.new.answer.items c.end_command.result
 ends g c = record {
   done = c.end_command.ensures.done;
   failed = c.end_command.ensures.failed;
@@ -58,7 +60,8 @@ returns-clause-idle g c =
     c.in-Working.is) in
     subst (λ (r : Running). ChangesNothing (card_found r) r.session c.args.command.now → KeepsBoard r.facts new)
     c.self.view_is
-    (subst (λ (s : Session). ChangesNothing (card_in inside.lent.store) s c.args.command.now → KeepsBoard inside.lent.store.facts new)
+    (subst (λ (s : Session). ChangesNothing (card_in inside.lent.store) s c.args.command.now
+    → KeepsBoard inside.lent.store.facts new)
     session (λ nothing. (c.carry_out-carried.ensures.carries.idle nothing).board))
 
 pub returns-clause-done : goal.returns-clause-done
@@ -69,12 +72,12 @@ returns-clause-done g c =
     let bytes = c.args.command.now in
     let said = c.end_command.new.answer.items in
     let ready = (c.self.invariant.1 c.in-Working.is).kept.ready in
-    let leaves = after inside.lent.store new inside.lent.current y bytes c.carry_out-carried.new.answer.items said ready inside.state
-    c.end_command.new.state c.in-Working.is c.end_command.result in
+    let leaves = after inside.lent.store new inside.lent.current y bytes c.carry_out-carried.new.answer.items said ready
+    inside.state c.end_command.new.state c.in-Working.is c.end_command.result in
     subst (λ (r : Running). OnOk c.end_command.result (r.state ≡ Working → Steps r bytes leaves said
     ⊎ FailsIn r leaves said)) c.self.view_is
-    (ended-done inside.lent.store new inside.lent.current y bytes c.carry_out-carried.new.answer.items said ready inside.state
-    c.end_command.new.state c.in-Working.is c.end_command.result c.carry_out-carried.result
+    (ended-done inside.lent.store new inside.lent.current y bytes c.carry_out-carried.new.answer.items
+    said ready inside.state c.end_command.new.state c.in-Working.is c.end_command.result c.carry_out-carried.result
     c.carry_out-carried.ensures.carries (ends g c))
 
 pub returns-clause-lost : goal.returns-clause-lost
@@ -85,17 +88,18 @@ returns-clause-lost g c =
     let bytes = c.args.command.now in
     let said = c.end_command.new.answer.items in
     let ready = (c.self.invariant.1 c.in-Working.is).kept.ready in
-    let leaves = after inside.lent.store new inside.lent.current y bytes c.carry_out-carried.new.answer.items said ready inside.state
-    c.end_command.new.state c.in-Working.is c.end_command.result in
+    let leaves = after inside.lent.store new inside.lent.current y bytes c.carry_out-carried.new.answer.items said ready
+    inside.state c.end_command.new.state c.in-Working.is c.end_command.result in
     subst (λ (r : Running). OnErr c.end_command.result (r.state ≡ Working → IsCutIn r leaves said)) c.self.view_is
-    (ended-lost inside.lent.store new inside.lent.current y bytes c.carry_out-carried.new.answer.items said ready inside.state
-    c.end_command.new.state c.in-Working.is c.end_command.result c.carry_out-carried.result
+    (ended-lost inside.lent.store new inside.lent.current y bytes c.carry_out-carried.new.answer.items
+    said ready inside.state c.end_command.new.state c.in-Working.is c.end_command.result c.carry_out-carried.result
     c.carry_out-carried.ensures.carries (ends g c))
 
 pub returns-clause-unlit : goal.returns-clause-unlit
 returns-clause-unlit g c =
     let inside = c.self.inside in
-    ended-unlit inside.lent.store c.carry_out-carried.new.lent.store inside.lent.current c.carry_out-carried.new.lent.current c.args.command.now
+    ended-unlit inside.lent.store c.carry_out-carried.new.lent.store inside.lent.current
+    c.carry_out-carried.new.lent.current c.args.command.now
     c.carry_out-carried.new.answer.items c.end_command.new.answer.items (c.self.invariant.1 c.in-Working.is).kept.ready
     inside.state c.end_command.new.state c.in-Working.is c.end_command.result c.carry_out-carried.result
     c.carry_out-carried.ensures.carries (ends g c)
@@ -103,9 +107,10 @@ returns-clause-unlit g c =
 pub invariant_of-self : goal.invariant_of-self
 invariant_of-self g c =
     let inside = c.self.inside in
-    let kept = ended-kept inside.lent.store c.carry_out-carried.new.lent.store inside.lent.current c.carry_out-carried.new.lent.current
-    c.args.command.now c.carry_out-carried.new.answer.items c.end_command.new.answer.items
-    (c.self.invariant.1 c.in-Working.is).kept.ready inside.state c.end_command.new.state c.in-Working.is c.end_command.result
+    let kept = ended-kept inside.lent.store c.carry_out-carried.new.lent.store
+    inside.lent.current c.carry_out-carried.new.lent.current c.args.command.now c.carry_out-carried.new.answer.items
+    c.end_command.new.answer.items (c.self.invariant.1 c.in-Working.is).kept.ready inside.state c.end_command.new.state
+    c.in-Working.is c.end_command.result
     c.carry_out-carried.result c.carry_out-carried.ensures.carries (ends g c) c.carry_out-carried.new.lent.free
     c.carry_out-carried.ensures.space c.carry_out-carried.new.lent.index c.carry_out-carried.ensures.index in
     (there g c, λ works. let k = kept.0 works in record { kept = k.0; space = k.1; index = k.2 }, kept.1)
@@ -122,13 +127,13 @@ pub returns-clause-writes : goal.returns-clause-writes
 returns-clause-writes g c =
     let writes = c.carry_out-carried.ensures.carries.writes in
     let few = few_writes c.args.command.now in
-    subst (λ (r : Running). c.carry_out-carried.new.lent.store.facts.writes ≤ r.facts.writes + COMMAND_WRITES) c.self.view_is
-    (omega (arith, writes, few))
+    subst (λ (r : Running). c.carry_out-carried.new.lent.store.facts.writes ≤ r.facts.writes + COMMAND_WRITES)
+    c.self.view_is (omega (arith, writes, few))
 
 pub returns-clause-counted : goal.returns-clause-counted
 returns-clause-counted g c =
-    subst (λ (r : Running). c.carry_out-carried.new.lent.store.facts.writes ≤ r.facts.writes + writes_of c.args.command.now)
-    c.self.view_is c.carry_out-carried.ensures.carries.writes
+    subst (λ (r : Running). c.carry_out-carried.new.lent.store.facts.writes
+    ≤ r.facts.writes + writes_of c.args.command.now) c.self.view_is c.carry_out-carried.ensures.carries.writes
 
 pub returns-clause-compares : goal.returns-clause-compares
 returns-clause-compares g c =
@@ -144,7 +149,8 @@ pub returns-in-Failed-clause-stage : goal.returns-in-Failed-clause-stage
 returns-in-Failed-clause-stage g c = still-stage c.args.self.now c.args.command.now
 
 pub returns-in-Failed-clause-idle : goal.returns-in-Failed-clause-idle
-returns-in-Failed-clause-idle g c = λ nothing. record { cut = aim_same _; words = refl; writes = refl; compares = refl; matches = refl }
+returns-in-Failed-clause-idle g c =
+    λ nothing. record { cut = aim_same _; words = refl; writes = refl; compares = refl; matches = refl }
 
 pub returns-in-Failed-clause-writes : goal.returns-in-Failed-clause-writes
 returns-in-Failed-clause-writes g c = omega arith
@@ -163,7 +169,8 @@ pub returns-in-Dark-clause-stage : goal.returns-in-Dark-clause-stage
 returns-in-Dark-clause-stage g c = still-stage c.args.self.now c.args.command.now
 
 pub returns-in-Dark-clause-idle : goal.returns-in-Dark-clause-idle
-returns-in-Dark-clause-idle g c = λ nothing. record { cut = aim_same _; words = refl; writes = refl; compares = refl; matches = refl }
+returns-in-Dark-clause-idle g c =
+    λ nothing. record { cut = aim_same _; words = refl; writes = refl; compares = refl; matches = refl }
 
 pub returns-in-Dark-clause-writes : goal.returns-in-Dark-clause-writes
 returns-in-Dark-clause-writes g c = omega arith
@@ -197,7 +204,8 @@ returns-in-Dark-clause-advances g c = record { more = omega arith; cut = aims_sa
 
 pub returns-in-Failed-clause-stands : goal.returns-in-Failed-clause-stands
 returns-in-Failed-clause-stands g c = λ works.
-    let never : Working ≡ Failed = sym works ∙ (ap (λ (r : Running). r.state) (sym c.self.view_is) ∙ c.in-Failed.is) in cc
+    let never : Working ≡ Failed = sym works
+    ∙ (ap (λ (r : Running). r.state) (sym c.self.view_is) ∙ c.in-Failed.is) in cc
 
 pub returns-in-Dark-clause-stands : goal.returns-in-Dark-clause-stands
 returns-in-Dark-clause-stands g c = λ works.

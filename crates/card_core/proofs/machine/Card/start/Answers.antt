@@ -1,26 +1,27 @@
 use Rattle.std.proofs.Common.{◌≡◌, ℕ, List, Option, None, Result, IfOk, inl, refl, sym, subst, ◌∙◌, ap, arith}
 use Rattle.std.specs.Result.{result_err}
-use Rattle.card_core.proofs.Verified.{marked-none}
+use Rattle.card_machine.specs.laws.Verified.{marked-none}
 use Rattle.undo_journal.specs.declared.error.StoreErr.{StoreErr}
 use Rattle.undo_journal.specs.Memory.{committed}
 use Rattle.undo_journal.specs.Spending.{KeepsBoard, WritesAtMost}
 use Rattle.undo_journal.specs.Undo.{data_words}
-use Rattle.card_core.specs.Finding.{FindsAgain}
+use Rattle.card_machine.specs.Finding.{FindsAgain}
 use Rattle.file_tree.specs.declared.tree.Survey.{Survey}
-use Rattle.card_core.specs.Standing.{IsAnyCard}
+use Rattle.card_machine.specs.Standing.{IsAnyCard}
 use Rattle.card_core.specs.declared.card_state.CardState.TheVariants.{Working, Dark}
-use Rattle.card_core.specs.declared.current.Current.{Current}
-use Rattle.card_core.specs.Working.{IsKept, session_of, table_in, TellsSurvey}
-use Rattle.card_core.proofs.Entries.{master-path}
+use Rattle.card_machine.specs.declared.current.Current.{Current}
+use Rattle.card_machine.specs.Working.{IsKept, session_of, table_in}
+use Rattle.card_core.specs.StartParts.{TellsSurvey}
+use Rattle.card_machine.specs.laws.Entries.{master-path}
 use Rattle.nvm_board.specs.Facts.{Facts}
 use Rattle.card_core.specs.Running.{StartStopsBy}
 use Rattle.undo_journal.specs.laws.Calls.{boards_then, within_more}
 use Rattle.block_chain.specs.Words.{word}
 use Rattle.block_chain.specs.declared.layout.TheConstants.{HEADER_PAGE}
 use Rattle.file_tree.specs.declared.layout.TheConstants.{MARK_WORD}
-use Rattle.card_core.specs.Standing.{IsOldCard}
+use Rattle.card_machine.specs.Standing.{IsOldCard}
 use Rattle.card_core.specs.Starting.{KeepsFormat, power_on_writes}
-use Rattle.card_core.specs.laws.CardLaws.{card_format}
+use Rattle.card_machine.specs.laws.CardLaws.{card_format}
 use Rattle.card_core.proofs.Migrated.{found-again, found-format, found-pages, found-still, spends-on}
 use Rattle.card_core.proofs.Powers.{found-there, starts-kept, stops-found, stops-opening}
 use Rattle.card_core.proofs.machine.Card.start.Goals as goal
@@ -79,8 +80,8 @@ returns-in-Ok-survey_of-clause-has_card g c = (invariant_of-result g c).0
 pub returns-in-Ok-survey_of-clause-found : goal.returns-in-Ok-survey_of-clause-found
 returns-in-Ok-survey_of-clause-found g c =
     found-again (g.B.Board.facts c.args.board).words c.in-Ok.store c.survey_card.new.store
-    c.in-Ok.ensures.ready.usable.committed_size c.in-Ok.ensures.found c.survey_card.ensures.any_exit c.in-Ok.ensures.sound
-    (c.survey_card.ensures.store.reports.sound c.in-Ok.ensures.defined)
+    c.in-Ok.ensures.ready.usable.committed_size c.in-Ok.ensures.found c.survey_card.ensures.any_exit
+    c.in-Ok.ensures.sound (c.survey_card.ensures.store.reports.sound c.in-Ok.ensures.defined)
 
 pub returns-in-Ok-survey_of-clause-format : goal.returns-in-Ok-survey_of-clause-format
 returns-in-Ok-survey_of-clause-format g c =
@@ -91,7 +92,8 @@ pub returns-in-Ok-survey_of-clause-all_pages : goal.returns-in-Ok-survey_of-clau
 returns-in-Ok-survey_of-clause-all_pages g c =
     let kept = invariant_of-result g c in
     found-pages (g.B.Board.facts c.args.board).words c.in-Ok.store c.survey_card.new.store
-    c.in-Ok.ensures.ready.usable.committed_size c.in-Ok.ensures.found c.survey_card.ensures.any_exit (kept.1 refl).kept.card
+    c.in-Ok.ensures.ready.usable.committed_size c.in-Ok.ensures.found
+    c.survey_card.ensures.any_exit (kept.1 refl).kept.card
 
 pub returns-in-Ok-survey_of-clause-shut : goal.returns-in-Ok-survey_of-clause-shut
 returns-in-Ok-survey_of-clause-shut g c =
@@ -107,8 +109,8 @@ pub returns-in-Err-survey_of-clause-found_err : goal.returns-in-Err-survey_of-cl
 returns-in-Err-survey_of-clause-found_err g c =
     subst (λ (now : Facts). FindsAgain (g.B.Board.facts c.args.board).words now.words) (sym c.into_board.ensures)
     (found-again (g.B.Board.facts c.args.board).words c.in-Ok.store c.survey_card.new.store
-    c.in-Ok.ensures.ready.usable.committed_size c.in-Ok.ensures.found c.survey_card.ensures.any_exit c.in-Ok.ensures.sound
-    (c.survey_card.ensures.store.reports.sound c.in-Ok.ensures.defined))
+    c.in-Ok.ensures.ready.usable.committed_size c.in-Ok.ensures.found c.survey_card.ensures.any_exit
+    c.in-Ok.ensures.sound (c.survey_card.ensures.store.reports.sound c.in-Ok.ensures.defined))
 
 pub returns-in-Err-survey_of-clause-format_err : goal.returns-in-Err-survey_of-clause-format_err
 returns-in-Err-survey_of-clause-format_err g c =

@@ -16,8 +16,8 @@ returns-in-Ok-clause-found c = λ m is.
     let places = c.as_slice-places.result.now in
     let same = c.as_slice-places.ensures.value in
     let up = are_sorted m c.args.self.now places same c.args.parent c.args.identifier c.in-Ok.at is in
-    found_child m c.args.self.now places same c.args.parent c.args.identifier c.in-Ok.at is no_place (c.in-Ok.ensures.within)
-    (c.in-Ok.ensures.found up no_place ∙ c.new.ensures)
+    found_child m c.args.self.now places same c.args.parent c.args.identifier c.in-Ok.at is no_place
+    (c.in-Ok.ensures.within) (c.in-Ok.ensures.found up no_place ∙ c.new.ensures)
 
 pub returns-in-Err-clause-found : goal.returns-in-Err-clause-found
 returns-in-Err-clause-found c = λ m is.

@@ -8,7 +8,8 @@ use Rattle.file_tree.specs.Keys.{key_for}
 use Rattle.file_tree.specs.Table.{IsUsed}
 use Rattle.file_tree.specs.Indexes.{place_of}
 use Rattle.file_tree.specs.IndexParts.{ArePlacesTo, TellsPut}
-use Rattle.file_tree.specs.laws.Indexes.{places_none, places_skip, places_stored, places_taken, places_apart, places_whole}
+use Rattle.file_tree.specs.laws.Indexes.{places_none, places_skip, places_stored, places_taken}
+use Rattle.file_tree.specs.laws.Indexes.{places_apart, places_whole}
 use Rattle.file_tree.specs.laws.Kinds.{kind_of_unused}
 use Rattle.file_tree.specs.laws.Tables.{entry_within}
 use Rattle.file_tree.proofs.index.Index.of.Goals as goal
@@ -57,11 +58,13 @@ loop-e-preserved c =
     let below : 0 < e = search rules in
     let small : e < 64 = search rules in
     let all = c.requires in
-    let read = ap (λ (k : ℕ). slice_index_or t k unread) c.from.ensures ∙ entry_within t e unread (omega (arith, all, small)) in
+    let read = ap (λ (k : ℕ). slice_index_or t k unread) c.from.ensures
+    ∙ entry_within t e unread (omega (arith, all, small)) in
     let told : Index → Type 0 = λ i. (length i.places.items < e + 1) × ArePlacesTo t (e + 1) i.places.items in
     let next : told c.if-is_used.index = elim c.if-is_used.branch [
       | then-is_used+else-not-put w ↦
-          let used : IsUsed t e = λ none. c.is_used.ensures.0 w.if-is_used.true (ap (λ (y : Entry). y.kind) read ∙ none) in
+          let used : IsUsed t e =
+          λ none. c.is_used.ensures.0 w.if-is_used.true (ap (λ (y : Entry). y.kind) read ∙ none) in
           let place : Place = record { key = w.new-then-is_used.result; entry = e } in
           let own : place ≡ place_of t e =
           ap (λ (k : Key). record { key = k; entry = e }) w.new-then-is_used.ensures
@@ -72,7 +75,8 @@ loop-e-preserved c =
       | else-is_used w ↦
           subst told (sym w.index-is) (
             omega (arith, size),
-            places_skip t e places so_far (ap (λ (y : Entry). y.kind) (sym read) ∙ kind_of_unused _ _ c.is_used.ensures w.if-is_used.false),
+            places_skip t e places so_far (ap (λ (y : Entry). y.kind) (sym read)
+                ∙ kind_of_unused _ _ c.is_used.ensures w.if-is_used.false),
           )
     ] in
     record { size = next.0; so_far = next.1 }
@@ -86,7 +90,8 @@ returns-then-not-put c =
     let below : 0 < e = search rules in
     let small : e < 64 = search rules in
     let all = c.requires in
-    let read = ap (λ (k : ℕ). slice_index_or t k unread) c.from.ensures ∙ entry_within t e unread (omega (arith, all, small)) in
+    let read = ap (λ (k : ℕ). slice_index_or t k unread) c.from.ensures
+    ∙ entry_within t e unread (omega (arith, all, small)) in
     let used : IsUsed t e = λ none. c.is_used.ensures.0 c.if-is_used.true (ap (λ (y : Entry). y.kind) read ∙ none) in
     let place : Place = record { key = c.new-then-is_used.result; entry = e } in
     let own : place ≡ place_of t e =

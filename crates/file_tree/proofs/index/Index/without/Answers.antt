@@ -10,5 +10,6 @@ returns c = record {
   deleted = λ m after stands above used deletes is.
       let new : Index = record { places = c.places_outside-self.result } in
       pruned m after c.args.entry c.args.self.now stands above used deletes is new
-      (c.places_outside-self.ensures ∙ ap (λ (ps : List Place). filter (is_outside ps c.args.entry) ps) c.as_slice.ensures.value);
+      (c.places_outside-self.ensures
+      ∙ ap (λ (ps : List Place). filter (is_outside ps c.args.entry) ps) c.as_slice.ensures.value);
 }

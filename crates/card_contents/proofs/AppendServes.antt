@@ -1,0 +1,117 @@
+-- What APPEND RECORD leaves, where nothing refuses it: first it only reads, up to the store `mid`, and then it writes.
+use Rattle.std.proofs.Common.{◌≡◌, ◌⊎◌, ◌≤◌, ℕ, List, [], length, Option, Some, Result, Ok, refl, sym, ◌∙◌, ap}
+use Rattle.std.proofs.Common.{subst, arith}
+use Rattle.std.proofs.lemmas.Bool.{eq-eqb}
+use Rattle.std.specs.Result.{IsErrAnd}
+use Rattle.nvm_board.specs.Facts.{IsMemory}
+use Rattle.card_rules.specs.declared.access_mode.AccessBit.TheVariants.{Append}
+use Rattle.card_rules.specs.declared.status.Sw.{Sw}
+use Rattle.card_rules.specs.declared.status.TheConstants.Sw.{DONE}
+use Rattle.undo_journal.specs.declared.error.StoreErr.{StoreErr}
+use Rattle.undo_journal.specs.Calls.{Changes, OnlyReads}
+use Rattle.undo_journal.specs.Commits.{CommitsByGate}
+use Rattle.undo_journal.specs.Memory.{Memory, committed, IsReady}
+use Rattle.apdu_core.specs.Requests.{append_record}
+use Rattle.apdu_core.specs.declared.binary.Target.{Target}
+use Rattle.ef_body.specs.declared.cyclic.Cyclic.{Cyclic as Ring}
+use Rattle.ef_body.specs.declared.layout.TheConstants.{RECORD_WRITES}
+use Rattle.ef_body.specs.Bodies.{cyclic_records, IsCyclic}
+use Rattle.card_machine.specs.declared.current.Current.{Current}
+use Rattle.card_machine.specs.declared.named.Need.{Need}
+use Rattle.card_machine.specs.declared.named.Structure.TheVariants.{Records}
+use Rattle.card_contents.specs.declared.record_file.RecordFile.{RecordFile}
+use Rattle.card_contents.specs.declared.record_file.Room.{Room}
+use Rattle.card_contents.specs.RecordGuards.{IsAppendable}
+use Rattle.card_machine.specs.Served.{Serves}
+use Rattle.card_machine.specs.Standing.{IsCard}
+use Rattle.card_contents.specs.RecordParts.{appended_in, number_added_in, ring_room, wraps_room}
+use Rattle.card_machine.specs.Working.{pointing_from, space_in, table_in}
+use Rattle.card_machine.specs.Working.{IsCurrent}
+use Rattle.card_contents.specs.RecordParts.{RingBecomes}
+use Rattle.card_contents.proofs.RecordBodies.{appended-fits, count-few}
+use Rattle.card_contents.proofs.RecordWrites.{PutsRecords, append-commits, append-effect, append-free, records-made}
+use Rattle.card_contents.proofs.RecordWrites.{records-space, records-torn}
+use Rattle.card_contents.proofs.Recording.{agree}
+
+module _ (old mid new : Memory) (ready : IsReady old) (words : IsCard (committed old)) (x : Current)
+    (current : IsCurrent (table_in old) x) (reads : OnlyReads old mid) where
+  abbrev m : List ℕ
+  m = committed old
+
+  sized : IsMemory m
+  sized = ready.usable.committed_size
+
+  same : committed mid ≡ m
+  same = reads.keeps.committed_words
+
+  module _ (target : Target) (bytes : List ℕ) (file : RecordFile) (room : Room)
+      (found : IsAppendable m x target bytes file room) where
+    stands : IsCyclic m file.ring
+    stands = (agree m sized words x target _ file found.named).stands
+
+    pub appended-body : IsCyclic (committed mid) (ring_room room)
+    appended-body = subst (λ (l : List ℕ). IsCyclic l (ring_room room)) (sym same)
+        (subst (λ (r : Ring). IsCyclic m r) (sym found.ring_is) stands)
+
+    pub appended-long : length bytes ≡ (ring_room room).record_length
+    appended-long = found.long ∙ ap (λ (r : Ring). r.record_length) (sym found.ring_is)
+
+    pub appended-few : file.ring.records ≤ 254
+    appended-few = count-few m file.ring stands
+
+    abbrev records : List (List ℕ)
+    records = appended_in file.wraps file.ring.capacity (cyclic_records m file.ring) bytes
+
+    abbrev need : Need
+    need = record { structure = Records; bit = Append }
+
+    puts : PutsRecords old x target need file (append_record target bytes) records
+    puts = record {
+      found = found.named;
+      none = append-free m sized words x target _ file found.named bytes found.named.named.unrefused found.unfilled
+          (eq-eqb _ _ found.long);
+      commits_is = append-commits m sized words x target _ file found.named bytes found.named.named.unrefused;
+      few = appended-fits m file.ring stands file.wraps found.unfilled bytes;
+      most = refl;
+      unshown = refl;
+    }
+
+    abbrev put : List (List ℕ)
+    put = appended_in (wraps_room room) (ring_room room).capacity (cyclic_records (committed mid) (ring_room room))
+        bytes
+
+    put-are : put ≡ records
+    put-are =
+        let wraps = found.wraps_is in
+        let ring = found.ring_is in
+        let words_same = same in
+        λ i. appended_in (wraps i) (ring i).capacity (cyclic_records (words_same i) (ring i)) bytes
+
+    module _ (any_exit : (committed new ≡ committed mid) ⊎ RingBecomes (wraps_room room) (committed mid)
+        (ring_room room) put (committed new)) (by_gate : CommitsByGate mid new) (told : Option StoreErr)
+        (changes : Changes RECORD_WRITES mid new told) where
+      pub appended-torn : (r : Result Sw StoreErr) (error : StoreErr) → IsErrAnd r (λ f. f ≡ error) → told ≡ Some error
+          → Serves (append_record target bytes) old x new x [] r
+      appended-torn =
+          records-torn old mid new ready words x current target need file _ records puts reads (wraps_room room)
+          found.wraps_is
+          (ring_room room) found.ring_is put put-are any_exit by_gate told changes [] (omega arith)
+
+      pub appended-done : RingBecomes (wraps_room room) (committed mid) (ring_room room) put (committed new) →
+          IsReady new
+          → (number : ℕ) → number ≡ number_added_in file
+          → Serves (append_record target bytes) old x new
+          (pointing_from x target file.number (Some number)) [] (Ok DONE)
+      appended-done becomes ready_now number number_is =
+          subst (λ (k : ℕ). Serves (append_record target bytes) old x new (pointing_from x target file.number (Some k))
+          [] (Ok DONE)) (sym number_is)
+          (records-made old mid new ready words x current target need file _ records puts reads (wraps_room room)
+          found.wraps_is (ring_room room) found.ring_is put put-are any_exit by_gate told changes becomes ready_now
+          (Some (number_added_in file)) [] (omega arith)
+          (append-effect m sized words x target _ file found.named bytes found.named.named.unrefused))
+
+      pub appended-space : RingBecomes (wraps_room room) (committed mid) (ring_room room) put (committed new)
+          → space_in new ≡ space_in old
+      appended-space =
+          records-space old mid new ready words x current target need file _ records puts reads (wraps_room room)
+          found.wraps_is (ring_room room) found.ring_is put put-are any_exit by_gate told changes

@@ -1,0 +1,12 @@
+pub mod BinarySteps
+pub mod RecordBodies
+pub mod Serving
+pub mod Recording
+pub mod RecordTables
+pub mod RecordChanges
+pub mod RecordWrites
+pub mod RecordSums
+pub mod UpdateServes
+pub mod AppendServes
+pub mod IncreaseServes
+pub mod RecordKinds

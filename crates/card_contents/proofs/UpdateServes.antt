@@ -1,0 +1,128 @@
+-- What UPDATE RECORD leaves, where nothing refuses it: first it only reads, up to the store `mid`, and then it writes.
+use Rattle.std.proofs.Common.{◌≡◌, ◌⊎◌, ◌≤◌, ℕ, List, [], length, Option, Some, None, Result, Ok, if◌then◌else◌, refl}
+use Rattle.std.proofs.Common.{sym, ◌∙◌, true, ap, subst, arith}
+use Rattle.std.proofs.lemmas.Bool.{eq-eqb}
+use Rattle.std.specs.Result.{IsErrAnd}
+use Rattle.nvm_board.specs.Facts.{IsMemory}
+use Rattle.card_rules.specs.declared.access_mode.AccessBit.TheVariants.{Update}
+use Rattle.card_rules.specs.declared.status.Sw.{Sw}
+use Rattle.card_rules.specs.declared.status.TheConstants.Sw.{DONE}
+use Rattle.undo_journal.specs.declared.error.StoreErr.{StoreErr}
+use Rattle.undo_journal.specs.Calls.{Changes, OnlyReads}
+use Rattle.undo_journal.specs.Commits.{CommitsByGate}
+use Rattle.undo_journal.specs.Memory.{Memory, committed, IsReady}
+use Rattle.apdu_core.specs.Requests.{update_record}
+use Rattle.apdu_core.specs.declared.binary.Target.{Target}
+use Rattle.apdu_core.specs.declared.records.RecordChoice.{RecordChoice}
+use Rattle.ef_body.specs.declared.cyclic.Cyclic.{Cyclic as Ring}
+use Rattle.ef_body.specs.declared.slot.RecordSlot.{RecordSlot}
+use Rattle.ef_body.specs.declared.layout.TheConstants.{RECORD_WRITES}
+use Rattle.ef_body.specs.Bodies.{cyclic_records, IsCyclic}
+use Rattle.file_tree.specs.Table.{table}
+use Rattle.card_machine.specs.declared.current.Current.{Current}
+use Rattle.card_machine.specs.declared.named.Need.{Need}
+use Rattle.card_contents.specs.declared.record_file.RecordFile.{RecordFile}
+use Rattle.card_machine.specs.Elementary.{file_refusals}
+use Rattle.card_machine.specs.Outcomes.{refused_by}
+use Rattle.card_contents.specs.RecordGuards.{IsReplaceable}
+use Rattle.card_machine.specs.Records.{pointer_after, replaces}
+use Rattle.card_machine.specs.Served.{Serves}
+use Rattle.card_machine.specs.Standing.{card_of, IsCard}
+use Rattle.card_contents.specs.RecordParts.{has_in, number_replaced_in, replaced_in}
+use Rattle.card_machine.specs.Working.{pointer_from, pointing_from, session_of, space_in}
+use Rattle.card_contents.specs.RecordParts.{structure_replaced, RingBecomes}
+use Rattle.card_machine.specs.Working.{table_in, IsCurrent}
+use Rattle.card_contents.proofs.RecordBodies.{has-slot, replaced-fits, slot-few}
+use Rattle.card_contents.proofs.RecordWrites.{PutsRecords, records-made, records-space, records-torn}
+use Rattle.card_contents.proofs.RecordWrites.{replaces-is, update-commits, update-effect, update-free}
+use Rattle.card_contents.proofs.Recording.{agree}
+
+module _ (old mid new : Memory) (ready : IsReady old) (words : IsCard (committed old)) (x : Current)
+    (current : IsCurrent (table_in old) x) (reads : OnlyReads old mid) where
+  abbrev m : List ℕ
+  m = committed old
+
+  sized : IsMemory m
+  sized = ready.usable.committed_size
+
+  same : committed mid ≡ m
+  same = reads.keeps.committed_words
+
+  module _ (target : Target) (choice : RecordChoice) (bytes : List ℕ) (file : RecordFile) (slot : RecordSlot)
+      (found : IsReplaceable m x target choice bytes file slot) where
+    stands : IsCyclic m slot.ring
+    stands = subst (λ (r : Ring). IsCyclic m r) (sym found.ring_is)
+        (agree m sized words x target _ file found.named).stands
+
+    pub replaced-body : IsCyclic (committed mid) slot.ring
+    replaced-body = subst (λ (l : List ℕ). IsCyclic l slot.ring) (sym same) stands
+
+    pub replaced-long : length bytes ≡ slot.ring.record_length
+    replaced-long = found.long ∙ ap (λ (r : Ring). r.record_length) (sym found.ring_is)
+
+    pub replaced-few : slot.number ≤ 255
+    replaced-few = let few = slot-few m slot stands in omega (arith, few)
+
+    abbrev k : ℕ
+    k = number_replaced_in file (pointer_from x target) choice
+
+    abbrev records : List (List ℕ)
+    records = replaced_in file.wraps (cyclic_records m file.ring) k bytes
+
+    free : refused_by (file_refusals (card_of m) (session_of (table m) x) target (replaces choice) Update) ≡ None
+    free = sym (replaces-is (card_of m) (session_of (table m) x) target choice) ∙ found.named.named.unrefused
+
+    abbrev need : Need
+    need = record { structure = structure_replaced choice; bit = Update }
+
+    has : has_in file.ring k ≡ true
+    has = (λ i. has_in (sym found.ring_is i) (sym found.number_is i)) ∙ has-slot slot
+
+    puts : PutsRecords old x target need file (update_record target choice bytes) records
+    puts = record {
+      found = found.named;
+      none = update-free m sized words x target _ file found.named bytes choice free has (eq-eqb _ _ found.long);
+      commits_is = update-commits m sized words x target _ file found.named bytes choice free;
+      few = replaced-fits m file.ring (agree m sized words x target _ file found.named).stands file.wraps k bytes;
+      most = refl;
+      unshown = refl;
+    }
+
+    abbrev put : List (List ℕ)
+    put = replaced_in file.wraps (cyclic_records (committed mid) slot.ring) slot.number bytes
+
+    put-are : put ≡ records
+    put-are = λ i. replaced_in file.wraps (cyclic_records (same i) (found.ring_is i)) (found.number_is i) bytes
+
+    module _ (any_exit : (committed new ≡ committed mid) ⊎ RingBecomes file.wraps (committed mid) slot.ring put
+        (committed new)) (by_gate : CommitsByGate mid new) (told : Option StoreErr)
+        (changes : Changes RECORD_WRITES mid new told) where
+      pub replaced-torn : (r : Result Sw StoreErr) (error : StoreErr) → IsErrAnd r (λ f. f ≡ error) → told ≡ Some error
+          → Serves (update_record target choice bytes) old x new x [] r
+      replaced-torn =
+          records-torn old mid new ready words x current target need file _ records puts reads file.wraps refl slot.ring
+          found.ring_is put put-are any_exit by_gate told changes [] (omega arith)
+
+      pub replaced-done : RingBecomes file.wraps (committed mid) slot.ring put (committed new) → IsReady new
+          → (pointer : Option ℕ)
+          → pointer ≡ (if file.wraps then Some 1 else pointer_after (pointer_from x target) choice slot.number)
+          → Serves (update_record target choice bytes) old x new
+          (pointing_from x target file.number pointer) [] (Ok DONE)
+      replaced-done becomes ready_now pointer pointer_is =
+          let after = if file.wraps then Some 1 else pointer_after (pointer_from x target) choice k in
+          let is : pointer ≡ after = pointer_is ∙ (λ i. if file.wraps then Some 1 else pointer_after (pointer_from x
+          target) choice (found.number_is i)) in
+          subst (λ (p : Option ℕ). Serves (update_record target choice bytes) old x new (pointing_from x target
+          file.number
+          p) [] (Ok DONE)) (sym is)
+          (records-made old mid new ready words x current target need file _ records puts reads file.wraps refl
+          slot.ring
+          found.ring_is put put-are any_exit by_gate told changes becomes ready_now after [] (omega arith)
+          (update-effect m sized words x target _ file found.named bytes choice free))
+
+      pub replaced-space : RingBecomes file.wraps (committed mid) slot.ring put (committed new) → space_in new ≡
+          space_in old
+      replaced-space =
+          records-space old mid new ready words x current target need file _ records puts reads file.wraps refl
+          slot.ring
+          found.ring_is put put-are any_exit by_gate told changes

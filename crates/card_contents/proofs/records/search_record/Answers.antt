@@ -1,0 +1,115 @@
+use Rattle.std.proofs.Common.{◌≡◌, ◌≤◌, lit<, ℕ, List, length, sym, ◌∙◌, ap, subst, arith}
+use Rattle.undo_journal.specs.Memory.{committed}
+use Rattle.undo_journal.specs.laws.Calls.{reads_then}
+use Rattle.undo_journal.specs.laws.Told.{reads_on}
+use Rattle.apdu_core.specs.Requests.{search_record}
+use Rattle.ef_body.specs.Bodies.{cyclic_records}
+use Rattle.ef_body.specs.Searching.{found as found_in}
+use Rattle.card_machine.specs.declared.current.Current.{Current}
+use Rattle.card_machine.specs.Lengths.{asks_less, given, right_length}
+use Rattle.card_machine.specs.Outcomes.{refused}
+use Rattle.card_machine.specs.Records.{place_number, pointer_found, search_status, searching}
+use Rattle.card_machine.specs.Working.{card_in, outcome, pointer_from, pointing_from, session_in, table_in, IsCurrent}
+use Rattle.card_contents.proofs.Recording.{chosen-body, chosen-has, current-is, declined-empty, search-less}
+use Rattle.card_contents.proofs.Recording.{search-refused, search-whole}
+use Rattle.card_machine.specs.laws.Serves.{answered, halted, handed}
+use Rattle.card_machine.specs.laws.Stopping.{reply-failed}
+use Rattle.card_contents.proofs.records.search_record.Goals as goal
+
+pub search-requires : goal.search-requires
+search-requires g c =
+    let found = c.in_ok-found.ensures.found in
+    let stands = chosen-body (committed c.args.store.now) c.requires.kept.ready.usable.committed_size
+    c.requires.kept.card
+    c.args.current.now c.args.target _ _ _ found _ c.find_record.ensures.store.only.keeps.committed_words in
+    let few = stands.slots.few in
+    let number = stands.number in
+    let room : c.in_ok-found.found.slot.ring.records ≤ 256 = omega (arith, few, number) in
+    (lit< tt, (c.in_ok-found.ensures.store.ready, (stands, room)))
+
+pub returns-then-asks_less : goal.returns-then-asks_less
+returns-then-asks_less g c =
+    let old = c.args.store.now in
+    let x = c.args.current.now in
+    let file = c.in_ok-found.found.file in
+    let same = c.find_record.ensures.store.only.keeps.committed_words in
+    let found = c.in_ok-found.ensures.found in
+    let number : c.in_ok-found.found.slot.number ≡ place_number c.args.first (pointer_from x c.args.target) =
+    found.number_is in
+    let has = chosen-has _ _ _ _ _ _ found in
+    let way = c.way_of-way.ensures in
+    let numbers : c.search.new.numbers.items ≡ found_in (searching c.args.direction) (place_number c.args.first
+    (pointer_from x c.args.target)) c.args.text.now (cyclic_records (committed old) file.ring) =
+    c.in_ok-search.ensures.numbers ∙ (λ i. found_in (way i) (number i) c.args.text.now (cyclic_records (same i)
+    (found.ring_is i))) in
+    let less = ap (asks_less c.args.expected) (sym numbers) ∙ sym c.asks_less.ensures
+    ∙ c.if-asks_less.true in
+    let status = ap right_length (sym numbers) ∙ sym c.right_length.ensures in
+    declined-empty (search_record c.args.target c.args.first c.args.direction c.args.text.now c.args.expected) old x
+    c.search.new.store c.args.answer.now.items c.requires.empty (λ _. tt) c.requires.kept.card c.right_length.result
+    (reads_then old c.find_record.new.store c.search.new.store c.find_record.ensures.store.only
+    c.search.ensures.store.only) c.in_ok-search.ensures.store.ready c.requires.kept.current
+    (search-less (committed old) c.requires.kept.ready.usable.committed_size c.requires.kept.card x c.args.target _
+    file found.named found.named.named.unrefused c.args.first c.args.direction c.args.text.now c.args.expected
+    has less
+    ∙ ap (refused (card_in old) (session_in old x)) status)
+
+pub returns : goal.returns
+returns g c =
+    let old = c.args.store.now in
+    let x = c.args.current.now in
+    let file = c.in_ok-found.found.file in
+    let e = c.in_ok-found.found.file.number in
+    let sized = c.requires.kept.ready.usable.committed_size in
+    let same = c.find_record.ensures.store.only.keeps.committed_words in
+    let found = c.in_ok-found.ensures.found in
+    let number : c.in_ok-found.found.slot.number ≡ place_number c.args.first (pointer_from x c.args.target) =
+    found.number_is in
+    let has = chosen-has _ _ _ _ _ _ found in
+    let way = c.way_of-way.ensures in
+    let all : List ℕ = found_in (searching c.args.direction) (place_number c.args.first (pointer_from x c.args.target))
+    c.args.text.now (cyclic_records (committed old) file.ring) in
+    let numbers : c.search.new.numbers.items ≡ all =
+    c.in_ok-search.ensures.numbers ∙ (λ i. found_in (way i) (number i) c.args.text.now (cyclic_records (same i)
+    (found.ring_is i))) in
+    let enough = ap (asks_less c.args.expected) (sym numbers) ∙ sym c.asks_less.ensures
+    ∙ c.if-asks_less.false in
+    let pointer : c.first_of-pointer.result ≡ pointer_found (pointer_from x c.args.target) all =
+    c.first_of-pointer.ensures ∙ (λ i. pointer_found (c.pointer_at.ensures i) (numbers i)) in
+    let y_is : c.pointing.result ≡ pointing_from x c.args.target e (pointer_found (pointer_from x c.args.target) all) =
+    c.pointing.ensures ∙ ap (pointing_from x c.args.target e) pointer in
+    let given_is : c.give.new.answer.items ≡ given c.args.expected all =
+    c.give.ensures.given ∙ ap (given c.args.expected) numbers in
+    let status : c.status_of.result ≡ search_status all = c.status_of.ensures ∙ ap search_status numbers in
+    let current = current-is (committed old) sized c.requires.kept.card x c.args.target _ file found.named
+    c.requires.kept.current
+    (pointer_found (pointer_from x c.args.target) all) in
+    answered (search_record c.args.target c.args.first c.args.direction c.args.text.now c.args.expected) old x
+    c.search.new.store (λ _. tt) c.requires.kept.card c.pointing.result c.give.new.answer.items c.status_of.result
+    (reads_then old c.find_record.new.store
+    c.search.new.store c.find_record.ensures.store.only c.search.ensures.store.only) c.in_ok-search.ensures.store.ready
+    (subst (λ (y : Current). IsCurrent (table_in old) y) (sym y_is) current)
+    c.give.ensures.room
+    (search-whole (committed old) sized c.requires.kept.card x c.args.target _ file found.named
+    found.named.named.unrefused
+    c.args.first c.args.direction c.args.text.now c.args.expected has enough
+    ∙ (λ i. outcome (card_in old) (session_in old (sym y_is i)) (sym given_is i) (sym status i)))
+
+pub returns-in_err-found : goal.returns-in_err-found
+returns-in_err-found g c =
+    let old = c.args.store.now in
+    let x = c.args.current.now in
+    halted (search_record c.args.target c.args.first c.args.direction c.args.text.now c.args.expected) old x
+    c.find_record.new.store (λ _. tt) c.requires.kept.card c.requires.kept.current
+    c.args.answer.now.items c.requires.empty _ _ c.from_residual.ensures.1 c.in_err-found.ensures.store _
+    (λ status refused. search-refused (card_in old) (session_in old x) c.args.target status c.args.first refused
+    c.args.direction c.args.text.now c.args.expected) c.in_err-found.ensures.found
+
+pub returns-in_err-search : goal.returns-in_err-search
+returns-in_err-search g c =
+    let none : length c.args.answer.now.items ≡ 0 = ap (λ (l : List ℕ). length l) c.requires.empty in
+    handed (search_record c.args.target c.args.first c.args.direction c.args.text.now c.args.expected) c.args.store.now
+    c.args.current.now c.search.new.store c.requires.kept.card c.args.current.now c.args.answer.now.items _
+    c.in_err-search.field-0.0 (reply-failed _ _ c.from_residual-in_err-search.ensures.1)
+    (reads_on c.args.store.now c.find_record.new.store c.search.new.store _ c.find_record.ensures.store.only
+    c.in_err-search.ensures.store) (omega (arith, none))

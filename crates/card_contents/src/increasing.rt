@@ -1,0 +1,102 @@
+//! INCREASE (ETSI TS 102 221, 11.1.8).
+ghost use Rattle.std.specs.Prelude.{◌≡◌, ◌≤◌, ◌+◌, ◌++◌, ◌||◌, nat_lt, [], length, Some, OnOk};
+ghost use Rattle.undo_journal.specs.Calls.{Reads};
+ghost use Rattle.undo_journal.specs.Memory.{committed};
+ghost use Rattle.apdu_core.specs.Requests.{increase as increasing};
+ghost use Rattle.card_machine.specs.Outcomes.{refused_by};
+ghost use Rattle.card_contents.specs.RecordGuards.{IsIncreasable};
+ghost use Rattle.card_machine.specs.Served.{Serves};
+ghost use Rattle.card_machine.specs.Steps.{refusals_of};
+ghost use Rattle.card_machine.specs.Stops.{failure, reply, Finds};
+ghost use Rattle.card_machine.specs.Working.{card_in, session_in, space_in, IsKept};
+
+use crate::record_file::FileRecord;
+use crate::records::find_records;
+use apdu_core::{Answer, Sw, Target};
+use card_machine::{Current, Need, ResponseData, Stop, Structure, asks_less, give, right_length};
+use card_rules::AccessBit;
+use card_rules::limits::MOST_ANSWER_DATA;
+use ef_body::Cyclic;
+use undo_journal::{Board, Store};
+
+/// What INCREASE needs of its file.
+const INCREASING: Need = Need {
+    structure: Structure::Cyclic,
+    bit: AccessBit::Update,
+};
+
+/// INCREASE: the sum of the newest record of the current cyclic file and the sent number is the new record 1, which is
+/// the current one then. The new record, and then what was sent, go into `answer`, and the status word is the result.
+pub fn increase<B: Board>(
+    store: &mut Store<B>,
+    current: &mut Current,
+    amount: &[u8],
+    expected: Option<u8>,
+    answer: &mut Answer,
+) -> Result<Sw, Stop>
+    requires kept { IsKept store.old current.old }
+    requires few { length amount.now ≤ 255 }
+    requires empty { answer.old.items ≡ [] }
+    ensures serves { Serves (increasing amount.now expected) store.old current.old store.new current.new
+        answer.new.items (reply result) }
+    ensures space { OnOk (reply result) (space_in store.new ≡ space_in store.old) }
+{
+    let mut sum = ResponseData::new();
+    let found = find_increased(store, current, amount, expected, &mut sum)?;
+    found.slot.replace_oldest(store, &sum)?;
+    give(expected, &answer_of(&sum, amount), answer);
+    *current = current.pointing(Target::Current, found.file.number, Some(1));
+    Ok(Sw::DONE)
+}
+
+/// The newest record of the file that INCREASE is for, and the new one, put into `sum`; or else the refusal: by the
+/// current file; the sent number is too long; there is no record; the sum is too long; Le asks for less than the
+/// answer.
+fn find_increased<B: Board>(
+    store: &mut Store<B>,
+    current: &Current,
+    amount: &[u8],
+    expected: Option<u8>,
+    sum: &mut ResponseData,
+) -> Result<FileRecord, Stop>
+    requires kept { IsKept store.old current.now }
+    requires few { length amount.now ≤ 255 }
+    ensures found { Finds result
+        (λ found. IsIncreasable (committed store.old) current.now amount.now expected found.file found.slot
+        sum.new.items)
+        (λ refusal. refused_by (refusals_of (card_in store.old) (session_in store.old current.now)
+        (increasing amount.now expected)) ≡ Some refusal) }
+    ensures store { Reads store.old store.new (failure result) }
+{
+    let file = find_records(store, current, Target::Current, INCREASING)?;
+    if is_too_long(file.ring, amount) {
+        return Err(Stop::Refused(Sw::WRONG_LENGTH));
+    }
+    let slot = file.ring.raise(store, amount, sum)?;
+    let response = answer_of(sum, amount);
+    if asks_less(expected, &response) {
+        return Err(Stop::Refused(right_length(&response)));
+    }
+    Ok(FileRecord { file, slot })
+}
+
+/// What INCREASE answers: the new record, and then what was sent.
+fn answer_of(sum: &ResponseData, amount: &[u8]) -> ResponseData
+    requires { length sum.now.items + length amount.now ≤ 256 }
+    ensures { result.items ≡ sum.now.items ++ amount.now }
+{
+    let mut response = ResponseData::new();
+    response.try_extend_from_slice(sum).unwrap();
+    response.try_extend_from_slice(amount).unwrap();
+    response
+}
+
+/// More bytes than a record has, or an answer of more than 256 bytes.
+fn is_too_long(ring: Cyclic, amount: &[u8]) -> bool
+    requires { length amount.now ≤ 255 }
+    ensures { result ≡ (nat_lt ring.record_length (length amount.now)
+        || nat_lt 256 (ring.record_length + length amount.now)) }
+{
+    let long = usize::from(ring.record_length);
+    long < amount.len() || MOST_ANSWER_DATA < long + amount.len()
+}

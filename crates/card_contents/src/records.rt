@@ -1,0 +1,295 @@
+//! READ, UPDATE, APPEND and SEARCH RECORD (ISO/IEC 7816-4, 11.4).
+ghost use Rattle.std.specs.Prelude.{◌≡◌, ◌≢◌, ◌≤◌, ◌==◌, ◌&&◌, not, [], length, Some, OnOk};
+ghost use Rattle.undo_journal.specs.Calls.{Reads};
+ghost use Rattle.undo_journal.specs.Memory.{committed};
+ghost use Rattle.apdu_core.specs.Ranges.{IsTarget};
+ghost use Rattle.apdu_core.specs.Requests.{append_record as appending, read_record as reading};
+ghost use Rattle.apdu_core.specs.Requests.{search_record as searching, update_record as updating};
+ghost use Rattle.card_rules.specs.declared.access_mode.AccessBit.TheVariants as AccessBit;
+ghost use Rattle.card_machine.specs.declared.named.Structure.TheVariants as Structure;
+ghost use Rattle.card_machine.specs.Outcomes.{refused_by};
+ghost use Rattle.card_machine.specs.Elementary.{file_refusals};
+ghost use Rattle.card_contents.specs.RecordGuards.{choice_refusals, IsAppendable, IsChosen, IsReplaceable};
+ghost use Rattle.card_machine.specs.Served.{Serves};
+ghost use Rattle.card_machine.specs.Steps.{refusals_of};
+ghost use Rattle.card_machine.specs.Stops.{failure, reply, Finds};
+ghost use Rattle.card_machine.specs.Working.{card_in, fits, session_in, space_in, IsKept};
+ghost use Rattle.card_contents.specs.RecordParts.{structure_replaced, IsRecordFile};
+ghost use Rattle.card_machine.specs.Records.{pointer_found, search_status, searching as searching_way};
+
+use crate::record_file::{FileRecord, RecordFile, Room, pointer_after};
+use apdu_core::{Answer, Direction as Way, RecordChoice, RecordPlace, Sw, Target};
+use card_machine::{
+    Current, Need, ResponseData, Stop, Structure, asks_less, find_file, give, right_length,
+};
+use card_rules::AccessBit;
+use ef_body::Direction;
+use undo_journal::{Board, Store};
+
+/// What READ RECORD and SEARCH RECORD need of their file.
+const READING: Need = Need {
+    structure: Structure::Records,
+    bit: AccessBit::Read,
+};
+
+/// What APPEND RECORD needs of its file.
+const APPENDING: Need = Need {
+    structure: Structure::Records,
+    bit: AccessBit::Append,
+};
+
+/// What UPDATE RECORD needs of its file: of a cyclic one it replaces the record before record 1 alone.
+fn replacing(choice: RecordChoice) -> Need
+    ensures structure { result.structure ≡ structure_replaced choice }
+    ensures bit { result.bit ≡ AccessBit.Update }
+{
+    let structure = match choice {
+        RecordChoice::Previous => Structure::Records,
+        RecordChoice::Next | RecordChoice::At(_) => Structure::Linear,
+    };
+    Need {
+        structure,
+        bit: AccessBit::Update,
+    }
+}
+
+/// A file of records, and where a record that is added to it goes.
+#[derive(Clone, Copy)]
+struct Growing {
+    file: RecordFile,
+    room: Room,
+}
+
+/// The way of a search, as bodies know it.
+fn way_of(direction: Way) -> Direction
+    ensures { result ≡ searching_way direction }
+{
+    match direction {
+        Way::Forward => Direction::Forward,
+        Way::Backward => Direction::Backward,
+    }
+}
+
+/// The file that a command on records names, or else what refuses the command by its file.
+pub(crate) fn find_records<B: Board>(
+    store: &mut Store<B>,
+    current: &Current,
+    target: Target,
+    need: Need,
+) -> Result<RecordFile, Stop>
+    requires kept { IsKept store.old current.now }
+    requires target { IsTarget target }
+    requires records { need.structure ≢ Structure.Bytes }
+    ensures found { Finds result
+        (IsRecordFile (committed store.old) current.now target need)
+        (λ refusal. refused_by (file_refusals (card_in store.old) (session_in store.old current.now) target
+        (fits need.structure) need.bit) ≡ Some refusal) }
+    ensures store { Reads store.old store.new (failure result) }
+{
+    let file = find_file(store, current, target, need)?;
+    Ok(RecordFile::of(file.number, &file.entry))
+}
+
+/// The record that READ RECORD reads, or SEARCH RECORD begins with, or else the refusal: by the file; there is no such
+/// record.
+fn find_record<B: Board>(
+    store: &mut Store<B>,
+    current: &Current,
+    target: Target,
+    choice: RecordChoice,
+) -> Result<FileRecord, Stop>
+    requires kept { IsKept store.old current.now }
+    requires target { IsTarget target }
+    ensures found { Finds result
+        (λ found. IsChosen (committed store.old) current.now target choice found.file found.slot)
+        (λ refusal. refused_by (choice_refusals (card_in store.old) (session_in store.old current.now) target choice)
+        ≡ Some refusal) }
+    ensures store { Reads store.old store.new (failure result) }
+{
+    let file = find_records(store, current, target, READING)?;
+    let number = file.chosen(current.pointer_at(target), choice);
+    let slot = file.ring.find(number)?;
+    Ok(FileRecord { file, slot })
+}
+
+/// READ RECORD: the record goes into `answer`, and the status word is the result. Le is 00 or the length of a record.
+pub fn read_record<B: Board>(
+    store: &mut Store<B>,
+    current: &mut Current,
+    target: Target,
+    choice: RecordChoice,
+    expected: u8,
+    answer: &mut Answer,
+) -> Result<Sw, Stop>
+    requires kept { IsKept store.old current.old }
+    requires target { IsTarget target }
+    requires empty { answer.old.items ≡ [] }
+    ensures { Serves (reading target choice expected) store.old current.old store.new current.new
+        answer.new.items (reply result) }
+{
+    let found = find_record(store, current, target, choice)?;
+    let mut bytes = ResponseData::new();
+    found.slot.read(store, &mut bytes)?;
+    if is_other_length(expected, &bytes) {
+        return Err(Stop::Refused(right_length(&bytes)));
+    }
+    give(Some(expected), &bytes, answer);
+    let pointer = pointer_after(current.pointer_at(target), choice, found.slot.number);
+    *current = current.pointing(target, found.file.number, pointer);
+    Ok(Sw::DONE)
+}
+
+/// UPDATE RECORD: the bytes take the place of a record, in one transaction. Of a cyclic file the oldest record alone
+/// can be replaced (mode previous), and the new one becomes record 1 and the current one.
+pub fn update_record<B: Board>(
+    store: &mut Store<B>,
+    current: &mut Current,
+    target: Target,
+    choice: RecordChoice,
+    bytes: &[u8],
+) -> Result<Sw, Stop>
+    requires kept { IsKept store.old current.old }
+    requires target { IsTarget target }
+    requires some { 1 ≤ length bytes.now }
+    requires few { length bytes.now ≤ 255 }
+    ensures serves { Serves (updating target choice bytes.now) store.old current.old store.new
+        current.new [] (reply result) }
+    ensures space { OnOk (reply result) (space_in store.new ≡ space_in store.old) }
+{
+    let replaced = find_replaced(store, current, target, choice, bytes)?;
+    replaced.replace(store, bytes)?;
+    let file = replaced.file;
+    let pointer = current.pointer_at(target);
+    let after = file.pointer_replaced(pointer, choice, replaced.slot.number);
+    *current = current.pointing(target, file.number, after);
+    Ok(Sw::DONE)
+}
+
+/// The record that UPDATE RECORD replaces by the bytes, or else the refusal: by the file; there is no such record; the
+/// bytes aren't as many as a record has.
+fn find_replaced<B: Board>(
+    store: &mut Store<B>,
+    current: &Current,
+    target: Target,
+    choice: RecordChoice,
+    bytes: &[u8],
+) -> Result<FileRecord, Stop>
+    requires kept { IsKept store.old current.now }
+    requires target { IsTarget target }
+    ensures found { Finds result
+        (λ replaced. IsReplaceable (committed store.old) current.now target choice bytes.now replaced.file
+        replaced.slot)
+        (λ refusal. refused_by (refusals_of (card_in store.old) (session_in store.old current.now)
+        (updating target choice bytes.now)) ≡ Some refusal) }
+    ensures store { Reads store.old store.new (failure result) }
+{
+    let file = find_records(store, current, target, replacing(choice))?;
+    let number = file.replaced(current.pointer_at(target), choice);
+    let slot = file.ring.find(number)?;
+    if !file.takes(bytes) {
+        return Err(Stop::Refused(Sw::WRONG_LENGTH));
+    }
+    Ok(FileRecord { file, slot })
+}
+
+/// APPEND RECORD: the bytes are a new record, the last of a linear file, the first of a cyclic one, in one transaction.
+/// It becomes the current record.
+pub fn append_record<B: Board>(
+    store: &mut Store<B>,
+    current: &mut Current,
+    target: Target,
+    bytes: &[u8],
+) -> Result<Sw, Stop>
+    requires kept { IsKept store.old current.old }
+    requires target { IsTarget target }
+    requires some { 1 ≤ length bytes.now }
+    requires few { length bytes.now ≤ 255 }
+    ensures serves { Serves (appending target bytes.now) store.old current.old store.new current.new [] (reply result) }
+    ensures space { OnOk (reply result) (space_in store.new ≡ space_in store.old) }
+{
+    let growing = find_appended(store, current, target, bytes)?;
+    growing.room.fill(store, bytes)?;
+    let file = growing.file;
+    *current = current.pointing(target, file.number, Some(file.added()));
+    Ok(Sw::DONE)
+}
+
+/// The file that APPEND RECORD adds the bytes to, and where they go, or else the refusal: by the file; it is full; the
+/// bytes aren't as many as a record has.
+fn find_appended<B: Board>(
+    store: &mut Store<B>,
+    current: &Current,
+    target: Target,
+    bytes: &[u8],
+) -> Result<Growing, Stop>
+    requires kept { IsKept store.old current.now }
+    requires target { IsTarget target }
+    ensures found { Finds result
+        (λ growing. IsAppendable (committed store.old) current.now target bytes.now growing.file growing.room)
+        (λ refusal. refused_by (refusals_of (card_in store.old) (session_in store.old current.now)
+        (appending target bytes.now)) ≡ Some refusal) }
+    ensures store { Reads store.old store.new (failure result) }
+{
+    let file = find_records(store, current, target, APPENDING)?;
+    let room = file.find_room()?;
+    if !file.takes(bytes) {
+        return Err(Stop::Refused(Sw::WRONG_LENGTH));
+    }
+    Ok(Growing { file, room })
+}
+
+/// SEARCH RECORD: the numbers of the records that hold the text go into `answer`, and the first of them becomes the
+/// current record. The status word is the result.
+pub fn search_record<B: Board>(
+    store: &mut Store<B>,
+    current: &mut Current,
+    target: Target,
+    first: RecordPlace,
+    direction: Way,
+    text: &[u8],
+    expected: Option<u8>,
+    answer: &mut Answer,
+) -> Result<Sw, Stop>
+    requires kept { IsKept store.old current.old }
+    requires target { IsTarget target }
+    requires few { length text.now ≤ 255 }
+    requires empty { answer.old.items ≡ [] }
+    ensures { Serves (searching target first direction text.now expected) store.old current.old store.new current.new
+        answer.new.items (reply result) }
+{
+    let found = find_record(store, current, target, RecordChoice::At(first))?;
+    let way = way_of(direction);
+    let mut numbers = ResponseData::new();
+    found.slot.search(store, way, text, &mut numbers)?;
+    if asks_less(expected, &numbers) {
+        return Err(Stop::Refused(right_length(&numbers)));
+    }
+    give(expected, &numbers, answer);
+    let pointer = first_of(&numbers, current.pointer_at(target));
+    *current = current.pointing(target, found.file.number, pointer);
+    Ok(status_of(&numbers))
+}
+
+/// Whether Le is neither 00 nor the length of a record.
+fn is_other_length(expected: u8, bytes: &ResponseData) -> bool
+    ensures { result ≡ (not (expected == 0) && not (expected == length bytes.now.items)) }
+{
+    expected != 0 && usize::from(expected) != bytes.len()
+}
+
+/// The record pointer after a search that found these: at the first of them, or where it was.
+fn first_of(numbers: &ResponseData, pointer: Option<u8>) -> Option<u8>
+    ensures { result ≡ pointer_found pointer numbers.now.items }
+{
+    numbers.first().copied().or(pointer)
+}
+
+/// The status word of a search that found these.
+fn status_of(numbers: &ResponseData) -> Sw
+    ensures { result ≡ search_status numbers.now.items }
+{
+    match numbers.first() {
+        Some(_) => Sw::DONE,
+        None => Sw::END_REACHED,
+    }
+}

@@ -1,0 +1,57 @@
+-- What a start finds of a memory, as the code tells it. No public clause names these.
+use Rattle.std.specs.Prelude.{◌≡◌, ◌≤◌, ℕ}
+use Rattle.std.specs.Prelude.{List, Option, Some}
+use Rattle.std.specs.Prelude.{None}
+use Rattle.file_tree.specs.Formats.{block_count}
+use Rattle.file_tree.specs.Spaces.{free_space}
+use Rattle.file_tree.specs.Trees.{tree_of}
+use Rattle.file_tree.specs.Table.{table}
+use Rattle.file_tree.specs.Indexes.{IsIndex}
+use Rattle.file_tree.specs.declared.tree.Survey.{Survey}
+use Rattle.card_machine.specs.Cards.{card_space}
+use Rattle.file_tree.specs.declared.layout.TheConstants.{MARK, OLD_END_PAGE, OLD_MARK}
+use Rattle.pin_store.specs.Pages.{ArePinPages, AreMarks}
+use Rattle.card_machine.specs.Standing.{card_of, IsAnyCard, IsCard, IsHeader, IsOldCard, IsOldHeader}
+use Rattle.card_core.specs.declared.check.Checked.{Checked}
+use Rattle.card_core.specs.declared.memory_format.MemoryFormat.{MemoryFormat}
+use Rattle.card_core.specs.declared.memory_format.MemoryFormat.TheVariants.{One, Two}
+
+-- the words are those of a header, or of a card, of a format
+abbrev pub IsHeaderIn : MemoryFormat → List ℕ → Type 0
+IsHeaderIn One m = IsOldHeader m
+IsHeaderIn Two m = IsHeader m
+
+abbrev pub IsCardIn : MemoryFormat → List ℕ → Type 0
+IsCardIn One m = IsOldCard m
+IsCardIn Two m = IsCard m
+
+-- and these three words are those of one: its mark, where the blocks end, and the state
+abbrev pub AreHeaderWords : ℕ → ℕ → ℕ → Option MemoryFormat → Type 0
+AreHeaderWords mark end state None =
+    ((mark ≡ MARK) → (OLD_END_PAGE ≤ end) → (state ≤ 1) → ⊥) × ((mark ≡ OLD_MARK) → (state ≤ 1) → ⊥)
+AreHeaderWords mark end state (Some One) = (mark ≡ OLD_MARK) × (state ≤ 1)
+AreHeaderWords mark end state (Some Two) = (mark ≡ MARK) × (OLD_END_PAGE ≤ end) × (state ≤ 1)
+
+-- the PINs are those of a memory of a format: of format 2 each has a mark
+abbrev pub HoldsPins : MemoryFormat → List ℕ → Type 0
+HoldsPins One m = ArePinPages m
+HoldsPins Two m = ArePinPages m × AreMarks m
+
+-- what a check of a header answers: its format, or None exactly where it is none
+abbrev pub TellsHeader : List ℕ → Option MemoryFormat → Type 0
+TellsHeader m None = ¬ IsHeader m × ¬ IsOldHeader m
+TellsHeader m (Some format) = IsHeaderIn format m
+
+-- what a check of a memory answers: its format, its free space as it is, and the index of its files, or None exactly
+-- where it is no card's
+abbrev pub TellsCard : List ℕ → Option Checked → Type 0
+TellsCard m None = ¬ IsAnyCard m
+TellsCard m (Some checked) = IsCardIn checked.format m × (checked.tree.free ≡ free_space (block_count m) (tree_of m))
+    × IsIndex (table m) checked.tree.index
+
+-- What is told of a memory that was made one of format 2 if it was a card's: the free space of the card, and where its
+-- files are, or None where it was none's.
+abbrev pub TellsSurvey : List ℕ → List ℕ → Option Survey → Type 0
+TellsSurvey m after None = ¬ IsAnyCard m
+TellsSurvey m after (Some survey) =
+    IsAnyCard m × IsCard after × (survey.free ≡ card_space (card_of after)) × IsIndex (table after) survey.index

@@ -1,0 +1,9 @@
+pub mod FileSteps
+pub mod Above
+pub mod Deletions
+pub mod Creations
+pub mod CreateServes
+pub mod Living
+pub mod LifeServes
+pub mod Ending
+pub mod Missing

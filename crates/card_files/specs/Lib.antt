@@ -1,0 +1,3 @@
+-- What a command on files has found.
+pub mod Changing
+pub mod FileGuards

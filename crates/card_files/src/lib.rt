@@ -1,0 +1,11 @@
+//! The commands on files as such: which file is current, which files there are, and their life cycles.
+#![tactic(auto)]
+
+mod files;
+mod life_cycles;
+mod select;
+mod templates;
+
+pub use files::{create_file, delete_file};
+pub use life_cycles::{change_life_cycle, terminate_card_usage};
+pub use select::select_file;

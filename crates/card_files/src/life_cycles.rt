@@ -1,0 +1,216 @@
+//! Commands on life cycles: ACTIVATE FILE, DEACTIVATE FILE, TERMINATE DF, TERMINATE EF and TERMINATE CARD USAGE
+//! (ISO/IEC 7816-9).
+ghost use Rattle.std.specs.Prelude.{◌≡◌, [], Some, option_map, IfOk, IfSome, OnOk, Ok, Err};
+ghost use Rattle.std.specs.Result.{result_err};
+ghost use Rattle.undo_journal.specs.Calls.{Reads};
+ghost use Rattle.undo_journal.specs.Memory.{committed};
+ghost use Rattle.apdu_core.specs.Requests.{change_life_cycle as changing, terminate_card_usage as terminating};
+ghost use Rattle.file_tree.specs.Indexes.{IsIndex};
+ghost use Rattle.file_tree.specs.Table.{path_of, IsUsed};
+ghost use Rattle.card_files.specs.Changing.{change_at, changed_by, current_changed, is_for_kind, IsChanged};
+ghost use Rattle.card_machine.specs.LifeCycles.{change_bit, change_refusals, changed_file, command_of, no_subject};
+ghost use Rattle.card_machine.specs.Outcomes.{refused_by};
+ghost use Rattle.card_machine.specs.Served.{Serves};
+ghost use Rattle.card_machine.specs.Stops.{failure, reply, Finds};
+ghost use Rattle.card_machine.specs.Working.{card_in, session_in, space_in, table_in, IsKept};
+
+use apdu_core::{LifeCycleChange, Subject, Sw};
+use card_machine::{Current, Stop, allows};
+use card_rules::{AccessBit, LifeCycle, LifeCycleCommand};
+use file_changes::{next_life_cycle, set_life_cycle, terminate_card};
+use file_tree::{Entry, EntryKind, Index, read_entry, select};
+use undo_journal::{Board, Store, StoreErr};
+
+/// A file whose life cycle a command changes: the number of its entry, the entry, and the state after the change.
+#[derive(Clone, Copy)]
+pub(crate) struct Changed {
+    pub number: u8,
+    pub entry: Entry,
+    pub life: LifeCycle,
+}
+
+/// ACTIVATE FILE, DEACTIVATE FILE, TERMINATE DF and TERMINATE EF: the file is in the state that the command brings it
+/// into, by one transaction, and it becomes current anew. Where it is in this state already nothing is written. The
+/// status word is the result.
+pub fn change_life_cycle<B: Board>(
+    store: &mut Store<B>,
+    index: &Index,
+    current: &mut Current,
+    change: LifeCycleChange,
+    subject: Subject,
+) -> Result<Sw, Stop>
+    requires kept { IsKept store.old current.old }
+    requires index { IsIndex (table_in store.old) index.now }
+    ensures serves { Serves (changing change subject) store.old current.old store.new current.new [] (reply result) }
+    ensures space { OnOk (reply result) (space_in store.new ≡ space_in store.old) }
+{
+    let changed = find_change(store, index, current, change, subject)?;
+    set_life_cycle(store, changed.number, changed.life)?;
+    *current = current.at(changed.number, &changed.entry);
+    Ok(Sw::DONE)
+}
+
+/// TERMINATE CARD USAGE: the use of the card ends, by one transaction, where the rule of the master file allows it. The
+/// status word is the result.
+pub fn terminate_card_usage<B: Board>(store: &mut Store<B>, current: &Current) -> Result<Sw, Stop>
+    requires kept { IsKept store.old current.now }
+    ensures { Serves (terminating) store.old current.now store.new current.now [] (reply result) }
+{
+    if !allows(store, current, 0, AccessBit::Terminate)? {
+        return Err(Stop::Refused(Sw::ACCESS_DENIED));
+    }
+    terminate_card(store)?;
+    Ok(Sw::DONE)
+}
+
+/// The file whose life cycle a command changes, or else the refusal: there is no such file; a file above it is
+/// deactivated or terminated, or its own state doesn't allow the change; it isn't of the kind that the command is for;
+/// its rule doesn't allow the change.
+#[tactic(auto, using(undo_journal::specs::laws::Calls::reads_then))]
+fn find_change<B: Board>(
+    store: &mut Store<B>,
+    index: &Index,
+    current: &Current,
+    change: LifeCycleChange,
+    subject: Subject,
+) -> Result<Changed, Stop>
+    requires kept { IsKept store.old current.now }
+    requires index { IsIndex (table_in store.old) index.now }
+    ensures found { Finds result
+        (λ changed. IsChanged (committed store.old) current.now change subject changed)
+        (λ refusal. refused_by (change_refusals (card_in store.old) (session_in store.old current.now) change subject)
+        ≡ Some refusal) }
+    ensures store { Reads store.old store.new (failure result) }
+{
+    let Some(number) = find_changed(store, index, current, change, subject)? else {
+        return Err(Stop::Refused(no_subject(subject)));
+    };
+    read_change(store, current, change, number)
+}
+
+/// What a command on life cycles finds of the file of a used entry:
+/// the change, or the refusal by its life cycle, its kind or its rule.
+#[tactic(auto, using(undo_journal::specs::laws::Calls::reads_then))]
+fn read_change<B: Board>(
+    store: &mut Store<B>,
+    current: &Current,
+    change: LifeCycleChange,
+    number: u8,
+) -> Result<Changed, Stop>
+    requires kept { IsKept store.old current.now }
+    requires used { IsUsed (table_in store.old) number }
+    ensures found { Finds result (λ changed. change_at (committed store.old) current.now change number ≡ Ok changed)
+        (λ refusal. change_at (committed store.old) current.now change number ≡ Err refusal) }
+    ensures store { Reads store.old store.new (failure result) }
+{
+    let next = next_life_cycle(store, number, command_of(change))?;
+    let allowed = allows(store, current, number, bit_of(change))?;
+    let entry = read_entry(store, number)?;
+    Ok(changed_by(change, number, entry, next, allowed)?)
+}
+
+/// The change, or what refuses it: no state after it; a file of another kind; a rule that doesn't allow it.
+fn changed_by(
+    change: LifeCycleChange,
+    number: u8,
+    entry: Entry,
+    next: Option<LifeCycle>,
+    allowed: bool,
+) -> Result<Changed, Sw>
+    ensures { result ≡ changed_by change number entry next allowed }
+{
+    let Some(life) = next else {
+        return Err(Sw::CONDITIONS_NOT_SATISFIED);
+    };
+    if !is_for(change, &entry) {
+        return Err(Sw::WRONG_STRUCTURE);
+    }
+    if !allowed {
+        return Err(Sw::ACCESS_DENIED);
+    }
+    Ok(Changed {
+        number,
+        entry,
+        life,
+    })
+}
+
+/// The entry of the file that a command on life cycles is about.
+#[tactic(auto, using(undo_journal::specs::laws::Calls::reads_then))]
+fn find_changed<B: Board>(
+    store: &mut Store<B>,
+    index: &Index,
+    current: &Current,
+    change: LifeCycleChange,
+    subject: Subject,
+) -> Result<Option<u8>, StoreErr>
+    requires kept { IsKept store.old current.now }
+    requires index { IsIndex (table_in store.old) index.now }
+    ensures found { IfOk result
+        (λ found. changed_file (card_in store.old).tree (session_in store.old current.now) change subject
+        ≡ option_map (path_of (table_in store.old)) found) }
+    ensures used { IfOk result (λ found. IfSome found (IsUsed (table_in store.old))) }
+    ensures store { Reads store.old store.new (result_err result) }
+{
+    match subject {
+        Subject::Current => Ok(current_changed(current, change)),
+        Subject::Identifier(identifier) => select(store, index, current.df, identifier),
+    }
+}
+
+/// The entry of the file that a command is about where it names none.
+fn current_changed(current: &Current, change: LifeCycleChange) -> Option<u8>
+    ensures { result ≡ current_changed current.now change }
+{
+    match change {
+        LifeCycleChange::Activate | LifeCycleChange::Deactivate => {
+            Some(current.ef.unwrap_or(current.df))
+        }
+        LifeCycleChange::TerminateDf => Some(current.df),
+        LifeCycleChange::TerminateEf => current.ef,
+    }
+}
+
+/// The status word where there is no file that a command is about.
+fn no_subject(subject: Subject) -> Sw
+    ensures { result ≡ no_subject subject }
+{
+    match subject {
+        Subject::Current => Sw::NO_CURRENT_EF,
+        Subject::Identifier(_) => Sw::FILE_NOT_FOUND,
+    }
+}
+
+/// The row of the table of states that a command has.
+fn command_of(change: LifeCycleChange) -> LifeCycleCommand
+    ensures { result ≡ command_of change }
+{
+    match change {
+        LifeCycleChange::Activate => LifeCycleCommand::Activate,
+        LifeCycleChange::Deactivate => LifeCycleCommand::Deactivate,
+        LifeCycleChange::TerminateDf | LifeCycleChange::TerminateEf => LifeCycleCommand::Terminate,
+    }
+}
+
+/// What the file's rule must allow.
+fn bit_of(change: LifeCycleChange) -> AccessBit
+    ensures { result ≡ change_bit change }
+{
+    match change {
+        LifeCycleChange::Activate => AccessBit::Activate,
+        LifeCycleChange::Deactivate => AccessBit::Deactivate,
+        LifeCycleChange::TerminateDf | LifeCycleChange::TerminateEf => AccessBit::Terminate,
+    }
+}
+
+/// A command is for the file of this entry: TERMINATE DF for dedicated files,
+/// TERMINATE EF for elementary files, the others for all.
+fn is_for(change: LifeCycleChange, entry: &Entry) -> bool
+    ensures { result ≡ is_for_kind change entry.now.kind }
+{
+    match change {
+        LifeCycleChange::Activate | LifeCycleChange::Deactivate => true,
+        LifeCycleChange::TerminateDf => entry.has_kind(EntryKind::Dedicated),
+        LifeCycleChange::TerminateEf => !entry.has_kind(EntryKind::Dedicated),
+    }
+}

@@ -1,0 +1,3 @@
+pub mod Disabled
+pub mod Allowing
+pub mod NamedEntries

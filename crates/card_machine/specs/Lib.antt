@@ -1,0 +1,33 @@
+-- What is meant: the card and the session, what names reach, one step of the tree machine and its stages, the memory
+-- that stands for a card, what a command that is carried out leaves. The laws stand apart.
+pub mod Cards
+pub mod Sessions
+pub mod Reaching
+pub mod Outcomes
+pub mod Attempts
+pub mod Behaviours
+pub mod Lengths
+pub mod Templates
+pub mod Selecting
+pub mod Guards
+pub mod Elementary
+pub mod Binaries
+pub mod Files
+pub mod Records
+pub mod Increasing
+pub mod LifeCycles
+pub mod Pins
+pub mod Commands
+pub mod Steps
+pub mod Stages
+pub mod Spending
+pub mod Comparing
+pub mod Counting
+pub mod Standing
+pub mod Finding
+pub mod Words
+pub mod Proper
+pub mod Working
+pub mod Stops
+pub mod Served
+pub mod laws

@@ -1,0 +1,67 @@
+-- When a card is well formed as far as its answers need: each byte that it may give is one, and no answer is too long.
+use Rattle.std.specs.Prelude.{◌≡◌, ◌<◌, ◌≤◌, ◌*◌, ℕ, List, length, All, Option, Some, None}
+use Rattle.std.specs.FinMap.{get}
+use Rattle.apdu_core.specs.OfBytes.{AreBytes}
+use Rattle.pin_store.specs.Pins.{HasFewTries}
+use Rattle.card_machine.specs.Cards.{Body, Card, File, Kind, Path, transparent, linear, cyclic, dedicated, elementary}
+use Rattle.card_machine.specs.Cards.{identifier}
+
+-- a record is 1 to 255 bytes
+pub record IsRecord (text : List ℕ) : Type 0 where
+  pub bytes : AreBytes text
+  pub size : length text ≤ 255
+
+-- bytes of a file, at most 32,767
+pub record IsContent (content : List ℕ) : Type 0 where
+  pub bytes : AreBytes content
+  pub size : length content ≤ 32767
+
+-- Records of one length: at most as many as there is room for, which is at most 254, and at most 32,767 bytes.
+pub record AreRecords (long most : ℕ) (records : List (List ℕ)) : Type 0 where
+  pub each : All IsRecord records
+  pub record_length : long ≤ 255
+  pub room : most * long ≤ 32767
+  pub capacity : most ≤ 254
+  pub number : length records ≤ most
+
+-- what an elementary file holds
+abbrev pub IsProperBody : Body → Type 0
+IsProperBody (transparent bytes) = IsContent bytes
+IsProperBody (linear record_length capacity records) = AreRecords record_length capacity records
+IsProperBody (cyclic record_length capacity records) = AreRecords record_length capacity records
+
+-- a name is at most 16 bytes
+pub record IsName (name : List ℕ) : Type 0 where
+  pub bytes : AreBytes name
+  pub size : length name ≤ 16
+
+abbrev pub IsProperName : Option (List ℕ) → Type 0
+IsProperName None = Unit {0}
+IsProperName (Some name) = IsName name
+
+-- a short identifier is at most 30
+abbrev pub IsProperShort : Option ℕ → Type 0
+IsProperShort None = Unit {0}
+IsProperShort (Some n) = n ≤ 30
+
+abbrev pub IsProperKind : Kind → Type 0
+IsProperKind (dedicated name) = IsProperName name
+IsProperKind (elementary short body) = IsProperShort short × IsProperBody body
+
+-- a rule is at most 8 bytes
+pub record IsProperFile (file : File) : Type 0 where
+  pub rule : AreBytes file.rule
+  pub rule_size : length file.rule ≤ 8
+  pub kind : IsProperKind file.kind
+
+-- an identifier is two bytes, and no PIN has more tries left than there may be
+pub record IsProper (c : Card) : Type 0 where
+  pub files : (path : Path) (file : File) → get c.tree path ≡ Some file → IsProperFile file
+  pub identifiers : (path : Path) (file : File) → get c.tree path ≡ Some file → identifier path < 65536
+  pub pins : All HasFewTries c.pins
+
+-- An answer is 2 to 258 bytes: at most 256 of data, and SW1 and SW2.
+pub record IsAnswer (answer : List ℕ) : Type 0 where
+  pub at_least : 2 ≤ length answer
+  pub at_most : length answer ≤ 258
+  pub bytes : AreBytes answer

@@ -1,0 +1,86 @@
+-- What holds of every command: one record of laws for each.
+use Rattle.std.specs.Prelude.{◌≡◌, ◌⊎◌, ◌≤◌, ◌++◌, List, [], ◌∷◌, All, Option, Some, None}
+use Rattle.std.proofs.Common.{refl, sym, subst, lit<}
+use Rattle.std.proofs.lemmas.List.Elements.{All-nil, All-cons}
+use Rattle.apdu_core.specs.declared.binary.Target.{Target}
+use Rattle.apdu_core.specs.declared.binary.Target.TheVariants.{Current, Short}
+use Rattle.apdu_core.specs.Fields.{IsOfBytes, IsSized}
+use Rattle.apdu_core.specs.OfBytes.{IsStatusWord}
+use Rattle.apdu_core.specs.Requests.{Request}
+use Rattle.card_machine.specs.declared.spending.TheConstants.{COMMAND_WRITES}
+use Rattle.card_machine.specs.Attempts.{Attempt, unblocking_of, value_of}
+use Rattle.card_machine.specs.Behaviours.{Behaviour}
+use Rattle.card_machine.specs.Cards.{Card}
+use Rattle.card_machine.specs.Commands.{behaviour_of}
+use Rattle.card_machine.specs.Elementary.{missing}
+use Rattle.card_machine.specs.Outcomes.{Refusal, in_order, refused_by}
+use Rattle.card_machine.specs.Proper.{IsProper}
+use Rattle.card_machine.specs.Sessions.{Session}
+use Rattle.card_machine.specs.Words.{commits_alone, commits_gated}
+use Rattle.card_machine.specs.laws.ProperLaws.{IsFine}
+
+-- each refusal has a status word
+abbrev pub AreWords : List Refusal → Type 0
+AreWords [] = Unit {0}
+AreWords (refusal ∷ refusals) = IsStatusWord refusal.status × AreWords refusals
+
+-- an attempt shows the value of its PIN, or the value that unblocks it
+abbrev pub IsOfItsPin : Attempt → Type 0
+IsOfItsPin a = (a.secret ≡ value_of a.pin) ⊎ (a.secret ≡ unblocking_of a.pin)
+
+-- the same where there is one
+abbrev pub IsOfPin : Option Attempt → Type 0
+IsOfPin None = Unit {0}
+IsOfPin (Some a) = IsOfItsPin a
+
+-- cards with the PINs of this one
+abbrev pub SamePins : Card → List Card → Type 0
+SamePins c = All (λ d. d.pins ≡ c.pins)
+
+-- Of a request and its behaviour. Its refusals have status words. Where it is of bytes and isn't refused, it leaves a
+-- proper card proper, and its answer is short. Sized as commands are, it makes few device writes. What it shows is a
+-- secret of the PIN that it names; where it shows none, every PIN stays. Its commits are those that words of their own
+-- make, and then those of the gate.
+pub record IsLawful (request : Request) (behaviour : Behaviour) : Type 0 where
+  pub words : (c : Card) (s : Session) → AreWords (in_order (behaviour.refusals c s))
+  pub fine : (c : Card) (s : Session) → IsProper c → IsOfBytes request → refused_by (behaviour.refusals c s) ≡ None
+      → IsFine (behaviour.effect c s)
+  pub few : IsSized request → behaviour.most_writes ≤ COMMAND_WRITES
+  pub of_pin : IsOfPin behaviour.shown
+  pub pins : (c : Card) (s : Session) → behaviour.shown ≡ None → SamePins c (behaviour.commits c s)
+  pub by_words : (c : Card) (s : Session)
+      → commits_alone c behaviour.shown
+      ++ commits_gated c behaviour.shown (behaviour.commits c s) ≡ behaviour.commits c s
+
+abbrev pub Lawful : Request → Type 0
+Lawful request = IsLawful request (behaviour_of request)
+
+-- no card, and one
+pub same-none : (c : Card) → SamePins c []
+same-none c = All-nil (λ (d : Card). d.pins ≡ c.pins)
+
+pub same-one : (c d : Card) → d.pins ≡ c.pins → SamePins c (d ∷ [])
+same-one c d same = All-cons (λ (e : Card). e.pins ≡ c.pins) d [] same (same-none c)
+
+-- a command that shows no secret
+module _ (request : Request) (behaviour : Behaviour) where
+  pub lawful-unshown : behaviour.shown ≡ None
+      → ((c : Card) (s : Session) → AreWords (in_order (behaviour.refusals c s)))
+      → ((c : Card) (s : Session) → IsProper c → IsOfBytes request → refused_by (behaviour.refusals c s) ≡ None
+      → IsFine (behaviour.effect c s))
+      → (IsSized request → behaviour.most_writes ≤ COMMAND_WRITES)
+      → ((c : Card) (s : Session) → SamePins c (behaviour.commits c s)) → IsLawful request behaviour
+  lawful-unshown unshown words fine few pins = record {
+    words = words;
+    fine = fine;
+    few = few;
+    of_pin = subst IsOfPin (sym unshown) tt;
+    pins = λ c s is. pins c s;
+    by_words = λ c s. subst (λ (shown : Option Attempt). commits_alone c shown
+        ++ commits_gated c shown (behaviour.commits c s) ≡ behaviour.commits c s) (sym unshown) refl;
+  }
+
+-- where no elementary file is named
+pub missing-word : (target : Target) → IsStatusWord (missing target)
+missing-word Current = lit< tt
+missing-word (Short n) = lit< tt

@@ -1,0 +1,80 @@
+-- Commands on life cycles: proper cards stay proper.
+use Rattle.std.specs.Prelude.{◌≡◌, ◌<◌, ◌==◌, true, [], ◌∷◌, None}
+use Rattle.std.proofs.Common.{arith, refl, lit<}
+use Rattle.std.proofs.lemmas.Bool.{not-false}
+use Rattle.card_rules.specs.declared.access_mode.AccessBit.{AccessBit}
+use Rattle.card_rules.specs.declared.life_cycle.LifeCycle.{LifeCycle}
+use Rattle.card_rules.specs.declared.status.TheConstants.Sw.{DONE}
+use Rattle.card_rules.specs.LifeCycle.{life_cycle_byte}
+use Rattle.card_rules.specs.Rule.{allows}
+use Rattle.apdu_core.specs.declared.files.Subject.{Subject}
+use Rattle.apdu_core.specs.declared.files.Subject.TheVariants as subjects
+use Rattle.apdu_core.specs.declared.life_cycles.LifeCycleChange.{LifeCycleChange}
+use Rattle.apdu_core.specs.OfBytes.{IsStatusWord}
+use Rattle.apdu_core.specs.Requests.{change_life_cycle, terminate_card_usage}
+use Rattle.file_tree.specs.States.{life_at, with_life}
+use Rattle.card_machine.specs.Cards.{Card, File, Path, file_at, identifier}
+use Rattle.card_machine.specs.Guards.{allowed, disabled_of}
+use Rattle.card_machine.specs.LifeCycles.{card_terminated, change_bit, change_refusals, changed_life, changed_path}
+use Rattle.card_machine.specs.LifeCycles.{life_changed}
+use Rattle.card_machine.specs.LifeCycles.{changed_card, no_subject, on_change_life_cycle, on_terminate_card_usage}
+use Rattle.card_machine.specs.LifeCycles.{with_life_at}
+use Rattle.card_machine.specs.Outcomes.{refused_by}
+use Rattle.card_machine.specs.Proper.{IsProper}
+use Rattle.card_machine.specs.Sessions.{Session, marks_of}
+use Rattle.card_machine.specs.laws.Lawful.{Lawful, SamePins, lawful-unshown, same-none, same-one}
+use Rattle.card_machine.specs.laws.ProperLaws.{IsFine, either-if, proper-file_at, proper-insert, short-status}
+use Rattle.card_machine.specs.laws.ProperLaws.{there-identifier, unrefused-each}
+
+-- a state of a life cycle tells nothing that an answer is long by
+proper-with_life_at : (c : Card) (path : Path) (life : LifeCycle) → identifier path < 65536 → IsProper c
+    → IsProper (with_life_at c path life)
+proper-with_life_at c path life small proper =
+    let was = proper-file_at c path proper in
+    proper-insert c path (with_life (file_at c.tree path) life) small proper
+    (record { rule = was.rule; rule_size = was.rule_size; kind = was.kind })
+
+module _ (c : Card) (s : Session) (proper : IsProper c) where
+  -- where a rule allows something there is a file, whose identifier is two bytes
+  allowed-identifier : (path : Path) (bit : AccessBit) → allowed c s path bit ≡ true → identifier path < 65536
+  allowed-identifier path bit is =
+      there-identifier c path
+      (λ (file : File). allows file.rule bit file.life (marks_of s.verified) (disabled_of c)) proper refl is
+
+  pub fine-life_changed : (change : LifeCycleChange) (subject : Subject)
+      → refused_by (change_refusals c s change subject) ≡ None → IsFine (life_changed c s change subject)
+  fine-life_changed change subject unrefused =
+      let path = changed_path c s change subject in
+      -- there is one; its state allows it; it is of the kind; its rule allows it
+      let known = unrefused-each (change_refusals c s change subject) unrefused in
+      let may = not-false (allowed c s path (change_bit change)) known.1.1.1.0 in
+      record {
+        card = proper-with_life_at c path (changed_life c s change subject)
+            (allowed-identifier path (change_bit change) may) proper;
+        response = short-status DONE (lit< tt);
+      }
+
+  pub fine-card_terminated : IsFine (card_terminated c s)
+  fine-card_terminated = record {
+    card = record { files = proper.files; identifiers = proper.identifiers; pins = proper.pins };
+    response = short-status DONE (lit< tt);
+  }
+
+-- the laws of both
+subject-word : (subject : Subject) → IsStatusWord (no_subject subject)
+subject-word subjects.Current = lit< tt
+subject-word (subjects.Identifier id) = lit< tt
+
+pub lawful-life : (change : LifeCycleChange) (subject : Subject) → Lawful (change_life_cycle change subject)
+lawful-life change subject =
+    lawful-unshown (change_life_cycle change subject) (on_change_life_cycle change subject) refl
+    (λ c s. (subject-word subject, (lit< tt, (lit< tt, (lit< tt, tt)))))
+    (λ c s proper small unrefused. fine-life_changed c s proper change subject unrefused) (λ sized. omega arith)
+    (λ c s. either-if (SamePins c) (life_cycle_byte (changed_life c s change subject)
+    == life_cycle_byte (life_at c.tree (changed_path c s change subject))) [] (changed_card c s change subject ∷ [])
+    (same-none c) (same-one c (changed_card c s change subject) refl))
+
+pub lawful-terminate : Lawful terminate_card_usage
+lawful-terminate =
+    lawful-unshown terminate_card_usage on_terminate_card_usage refl (λ c s. (lit< tt, tt))
+    (λ c s proper small unrefused. fine-card_terminated c s proper) (λ sized. omega arith) (λ c s. same-one c _ refl)

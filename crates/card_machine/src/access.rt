@@ -1,0 +1,83 @@
+//! What the rule of a file allows in a session: by the PINs that are verified in it, and those that are disabled.
+ghost use Rattle.std.specs.Prelude.{◌≡◌, ◌<◌, ◌+◌, IfOk};
+ghost use Rattle.card_rules.specs.Pins.{with_pin};
+ghost use Rattle.pin_store.specs.declared.layout.TheConstants.{PINS};
+ghost use Rattle.std.specs.Result.{result_err};
+ghost use Rattle.undo_journal.specs.Calls.{Reads};
+ghost use Rattle.undo_journal.specs.Memory.{committed, IsReady};
+ghost use Rattle.file_tree.specs.Entries.{is_allowed_by};
+ghost use Rattle.file_tree.specs.Table.{path_of, IsUsed};
+ghost use Rattle.card_machine.specs.Guards.{allowed};
+ghost use Rattle.card_machine.specs.Standing.{IsCard};
+ghost use Rattle.card_machine.specs.Working.{card_in, disabled_in, session_in, table_in, IsCurrent};
+
+use crate::current::Current;
+use card_rules::{AccessBit, PinNumber, PinSet};
+use file_changes::{is_allowed, is_allowed_at};
+use file_tree::Entry;
+use pin_store::{PINS, is_enabled};
+use undo_journal::{Board, Store, StoreErr};
+
+/// The PINs that are disabled.
+fn disabled_pins<B: Board>(store: &mut Store<B>) -> Result<PinSet, StoreErr>
+    requires ready { IsReady store.old }
+    ensures disabled { IfOk result (λ disabled. disabled ≡ disabled_in (committed store.old)) }
+    ensures store { Reads store.old store.new (result_err result) }
+{
+    let mut disabled = PinSet::new();
+    for secret in 0..PINS {
+        if !is_enabled(store, secret)? {
+            insert(&mut disabled, secret);
+        }
+    }
+    Ok(disabled)
+}
+
+/// Puts the PIN of a secret into a set.
+fn insert(pins: &mut PinSet, secret: u8)
+    requires { secret < PINS }
+    ensures { pins.new ≡ with_pin pins.old (secret + 1) }
+{
+    if let Some(pin) = PinNumber::new(secret + 1) {
+        pins.insert(pin);
+    }
+}
+
+/// Whether the rule of an entry's file allows what the bit stands for, in this session.
+pub fn allows<B: Board>(
+    store: &mut Store<B>,
+    current: &Current,
+    number: u8,
+    bit: AccessBit,
+) -> Result<bool, StoreErr>
+    requires ready { IsReady store.old }
+    requires card { IsCard (committed store.old) }
+    requires current { IsCurrent (table_in store.old) current.now }
+    requires used { IsUsed (table_in store.old) number }
+    ensures allowed { IfOk result (λ permits. permits
+        ≡ allowed (card_in store.old) (session_in store.old current.now) (path_of (table_in store.old) number) bit) }
+    ensures store { Reads store.old store.new (result_err result) }
+{
+    let disabled = disabled_pins(store)?;
+    is_allowed(store, number, bit, &current.verified, &disabled)
+}
+
+/// The same, by the file's entry, which is at hand. A PIN that is disabled refuses nothing: so the marks of the PINs
+/// are read only where the rule isn't met without them.
+pub(crate) fn allows_at<B: Board>(
+    store: &mut Store<B>,
+    current: &Current,
+    entry: &Entry,
+    bit: AccessBit,
+) -> Result<bool, StoreErr>
+    requires ready { IsReady store.old }
+    ensures allowed { IfOk result (λ permits. permits
+        ≡ is_allowed_by entry.now bit current.now.verified (disabled_in (committed store.old))) }
+    ensures store { Reads store.old store.new (result_err result) }
+{
+    if is_allowed_at(entry, bit, &current.verified, &PinSet::new()) {
+        return Ok(true);
+    }
+    let disabled = disabled_pins(store)?;
+    Ok(is_allowed_at(entry, bit, &current.verified, &disabled))
+}

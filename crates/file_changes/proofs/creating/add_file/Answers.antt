@@ -1,0 +1,87 @@
+use Rattle.std.proofs.Common.{arith, inl, inr, lit<}
+use Rattle.undo_journal.specs.Lent.{memory_of}
+use Rattle.undo_journal.specs.Memory.{current}
+use Rattle.undo_journal.specs.laws.Calls.{runs_then, runs_weaker}
+use Rattle.undo_journal.specs.laws.Exits.{none_ok, on_then}
+use Rattle.undo_journal.specs.laws.Told.{sets_in_handed, sets_in_on, sets_in_within}
+use Rattle.file_changes.proofs.creating.add_file.Goals as goal
+
+pub write_entry-requires-clause-ready : goal.write_entry-requires-clause-ready
+write_entry-requires-clause-ready g c = c.requires.ready
+
+pub write_entry-requires-clause-within : goal.write_entry-requires-clause-within
+write_entry-requires-clause-within g c = c.requires.within
+
+pub write_entry-requires-clause-used : goal.write_entry-requires-clause-used
+write_entry-requires-clause-used g c = c.requires.used
+
+pub write_entry-requires-clause-room : goal.write_entry-requires-clause-room
+write_entry-requires-clause-room g c = omega (arith, c.requires.room)
+
+pub returns-then-blocks-eq0-clause-done : goal.returns-then-blocks-eq0-clause-done
+returns-then-blocks-eq0-clause-done g c =
+    on_then _ _ c.write_entry.result (λ written. inl (c.if-blocks-eq0.true, written)) c.write_entry.ensures.done
+
+pub returns-then-blocks-eq0-clause-store : goal.returns-then-blocks-eq0-clause-store
+returns-then-blocks-eq0-clause-store g c = sets_in_within 11 13 _ _ _ (lit< tt) c.write_entry.ensures.store
+
+pub take-requires-clause-ready : goal.take-requires-clause-ready
+take-requires-clause-ready g c = c.requires.ready
+
+pub take-requires-clause-free : goal.take-requires-clause-free
+take-requires-clause-free g c = c.requires.free
+
+pub take-requires-clause-some : goal.take-requires-clause-some
+take-requires-clause-some g c = omega (arith, c.if-blocks-eq0.false)
+
+pub take-requires-clause-enough : goal.take-requires-clause-enough
+take-requires-clause-enough g c = c.requires.enough
+
+pub take-requires-clause-room : goal.take-requires-clause-room
+take-requires-clause-room g c = omega (arith, c.requires.room)
+
+pub returns-in_err-chain-clause-done : goal.returns-in_err-chain-clause-done
+returns-in_err-chain-clause-done g c = none_ok _ _ _ c.from_residual.ensures.1
+
+pub returns-in_err-chain-clause-store : goal.returns-in_err-chain-clause-store
+returns-in_err-chain-clause-store g c =
+    sets_in_handed 13 _ _ _ _ c.from_residual.ensures.1
+    (sets_in_within 2 13 _ _ _ (lit< tt) c.in_err-chain.ensures.store)
+
+pub write_entry-requires-2-clause-ready : goal.write_entry-requires-2-clause-ready
+write_entry-requires-2-clause-ready g c = c.in_ok-chain.ensures.store.ready
+
+pub write_entry-requires-2-clause-within : goal.write_entry-requires-2-clause-within
+write_entry-requires-2-clause-within g c = c.requires.within
+
+pub write_entry-requires-2-clause-used : goal.write_entry-requires-2-clause-used
+write_entry-requires-2-clause-used g c = c.requires.used
+
+pub write_entry-requires-2-clause-room : goal.write_entry-requires-2-clause-room
+write_entry-requires-2-clause-room g c = omega (arith, c.requires.room, c.take.ensures.store.sets.room)
+
+pub returns-clause-done : goal.returns-clause-done
+returns-clause-done g c =
+    on_then _ _ c.write_entry-2.result
+    (λ written. inr (record {
+      between = current (memory_of c.take.new.txn);
+      chain = c.in_ok-chain.chain;
+      some = omega (arith, c.if-blocks-eq0.false);
+      takes = c.in_ok-chain.ensures.done;
+      writes = written;
+    }))
+    c.write_entry-2.ensures.done
+
+pub returns-clause-store : goal.returns-clause-store
+returns-clause-store g c =
+    sets_in_on 2 11 13 _ _ _ _ (lit< tt) c.take.ensures.store.sets c.write_entry-2.ensures.store
+
+pub returns-then-blocks-eq0-clause-runs : goal.returns-then-blocks-eq0-clause-runs
+returns-then-blocks-eq0-clause-runs g c = runs_weaker 1 3 _ _ (lit< tt) c.write_entry.ensures.runs
+
+pub returns-in_err-chain-clause-runs : goal.returns-in_err-chain-clause-runs
+returns-in_err-chain-clause-runs g c = runs_weaker 2 3 _ _ (lit< tt) c.in_err-chain.ensures.store.sets.writes
+
+pub returns-clause-runs : goal.returns-clause-runs
+returns-clause-runs g c =
+    runs_then 2 1 3 _ _ _ (lit< tt) c.take.ensures.store.sets.writes c.write_entry-2.ensures.runs

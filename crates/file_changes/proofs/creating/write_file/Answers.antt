@@ -1,0 +1,126 @@
+use Rattle.file_tree.specs.Formats.{block_count}
+use Rattle.std.proofs.Common.{rules, ◌≡◌, ◌*◌, ℕ, List, length, take, replicate, sym, ◌∙◌, ap, subst, inl, inr}
+use Rattle.std.proofs.Common.{refl, ⊎_elim, arith}
+use Rattle.undo_journal.specs.Lent.{memory_of}
+use Rattle.undo_journal.specs.Memory.{committed, current, IsReady}
+use Rattle.block_chain.specs.declared.layout.TheConstants.{BLOCK_BYTES}
+use Rattle.block_chain.specs.Chains.{HasFree, free_chain, bytes_of}
+use Rattle.block_chain.specs.Changes.{OnlyContent}
+use Rattle.block_chain.specs.laws.Extents.{laid_has_free}
+use Rattle.file_tree.specs.declared.entry.Entry.{Entry}
+use Rattle.file_tree.specs.declared.layout.TheConstants.{CREATE_WRITES}
+use Rattle.file_tree.specs.NewFiles.{blank}
+use Rattle.file_tree.specs.Table.{table, extents}
+use Rattle.file_changes.specs.CreationParts.{AddsFile, FillsAndAdds}
+use Rattle.file_tree.specs.laws.Rewriting.{filled}
+use Rattle.undo_journal.specs.laws.Endings.{ends, ends_answered, ends_by_gate, ends_done}
+use Rattle.undo_journal.specs.laws.Exits.{on_then}
+use Rattle.undo_journal.specs.laws.Told.{changes_within, changes_handed, changes_on}
+use Rattle.file_changes.proofs.creating.write_file.Goals as goal
+
+-- blocks that were filled, and nothing added
+left_filled : (m blocks now after : List ℕ) → after ≡ now → OnlyContent m blocks now → OnlyContent m blocks after
+left_filled m blocks now after same only = subst (λ (l : List ℕ). OnlyContent m blocks l) (sym same) only
+
+-- and with the file added
+filled_and_added : (m : List ℕ) (e : ℕ) (x : Entry) (n : ℕ) (between after : List ℕ)
+    → OnlyContent m (take n (free_chain m)) between
+    → bytes_of between (take n (free_chain m)) ≡ replicate (BLOCK_BYTES * n) blank → AddsFile between e x n after
+    → FillsAndAdds m e x n after
+filled_and_added m e x n between after only full adds =
+    record { between = between; only = only; filled = full; adds = adds }
+
+pub fill-requires-clause-free : goal.fill-requires-clause-free
+fill-requires-clause-free g c =
+    let m = committed c.args.store.now in
+    laid_has_free (block_count m) m (extents (table m)) c.requires.tree.blocks
+
+pub add_file-work-requires-clause-free : goal.add_file-work-requires-clause-free
+add_file-work-requires-clause-free g c =
+    let m = committed c.args.store.now in
+    let sized = c.requires.ready.usable.committed_size in
+    let after = filled m (committed c.fill.new.store) _ sized c.requires.tree c.fill.ensures.any_exit in
+    let ready : IsReady c.fill.new.store = search rules in
+    let same : current (memory_of c.begin-txn.result) ≡ committed c.fill.new.store =
+    ap current c.begin-txn.ensures.same ∙ sym ready.same in
+    let family : List ℕ → Type 0 = λ l. HasFree l in
+    subst family (sym same) (laid_has_free (block_count (committed c.fill.new.store)) (committed c.fill.new.store)
+    (extents (table (committed c.fill.new.store))) after.stands.blocks)
+
+pub add_file-work-requires-clause-enough : goal.add_file-work-requires-clause-enough
+add_file-work-requires-clause-enough g c =
+    let m = committed c.args.store.now in
+    let sized = c.requires.ready.usable.committed_size in
+    let after = filled m (committed c.fill.new.store) _ sized c.requires.tree c.fill.ensures.any_exit in
+    let ready : IsReady c.fill.new.store = search rules in
+    let same : current (memory_of c.begin-txn.result) ≡ committed c.fill.new.store =
+    ap current c.begin-txn.ensures.same ∙ sym ready.same in
+    let chain = ap (λ (l : List ℕ). length (free_chain l)) same in
+    let free = ap (λ (l : List ℕ). length l) after.free in
+    omega (arith, chain, free, c.requires.enough)
+
+pub returns-clause-any_exit : goal.returns-clause-any_exit
+returns-clause-any_exit g c =
+    let m = committed c.args.store.now in
+    let set = c.add_file-work.ensures in
+    let last = c.store-1.given.1 (sym (set.store.sets.same_store ∙ c.begin-txn.ensures.same_store)) in
+    ⊎_elim (λ still. inl (left_filled m (take c.args.blocks (free_chain m))
+    (committed c.fill.new.store) _ still c.fill.ensures.any_exit))
+    (λ adds. inr (filled_and_added m c.args.e c.args.entry c.args.blocks
+    (committed c.fill.new.store) _ c.fill.ensures.any_exit c.in_ok-fill.ensures.done adds))
+    (ends (λ m after. AddsFile m c.args.e c.args.entry c.args.blocks after) _ c.add_file-work.result _ _
+    (memory_of c.add_file-work.new.txn) _ _ c.begin-txn.ensures.same last c.in_ok-fill.ensures.store.ready
+    set.store.sets.kept set.done c.end.ensures.any_exit)
+
+pub returns-clause-done : goal.returns-clause-done
+returns-clause-done g c =
+    let m = committed c.args.store.now in
+    let set = c.add_file-work.ensures in
+    let last = c.store-1.given.1 (sym (set.store.sets.same_store ∙ c.begin-txn.ensures.same_store)) in
+    on_then _ _ c.end.result
+    (λ adds. filled_and_added m c.args.e c.args.entry c.args.blocks
+    (committed c.fill.new.store) _ c.fill.ensures.any_exit c.in_ok-fill.ensures.done adds)
+    (ends_done (λ m after. AddsFile m c.args.e c.args.entry c.args.blocks after) c.add_file-work.result c.end.result _ _
+    (memory_of c.add_file-work.new.txn) _ _ c.begin-txn.ensures.same last c.in_ok-fill.ensures.store.ready
+    set.done c.end.ensures.answered c.end.ensures.done)
+
+pub returns-clause-store : goal.returns-clause-store
+returns-clause-store g c =
+    let set = c.add_file-work.ensures in
+    let last = c.store-1.given.1 (sym (set.store.sets.same_store ∙ c.begin-txn.ensures.same_store)) in
+    changes_on c.args.blocks 9 CREATE_WRITES _ _ _ _ (omega (arith, c.requires.few)) c.in_ok-fill.ensures.store
+    (ends_answered 13 3 9 c.add_file-work.result c.end.result _ _ (memory_of c.add_file-work.new.txn) _ _ (omega arith)
+    c.begin-txn.ensures.same last c.in_ok-fill.ensures.store.ready set.store.sets.taken set.store.sets.reports set.runs
+    set.store.tells c.end.ensures.store c.end.ensures.answered)
+
+pub returns-in_err-fill-clause-any_exit : goal.returns-in_err-fill-clause-any_exit
+returns-in_err-fill-clause-any_exit g c =
+    inl c.fill.ensures.any_exit
+
+pub returns-in_err-fill-clause-store : goal.returns-in_err-fill-clause-store
+returns-in_err-fill-clause-store g c =
+    changes_handed _ _ _ _ _ c.from_residual.ensures.1
+    (changes_within _ CREATE_WRITES _ _ _ (omega (arith, c.requires.few)) c.in_err-fill.ensures.store)
+
+pub returns-in_err-fill-clause-by_gate : goal.returns-in_err-fill-clause-by_gate
+returns-in_err-fill-clause-by_gate g c =
+    let m = committed c.args.store.now in
+    let sized = c.requires.ready.usable.committed_size in
+    record {
+      filled = committed c.fill.new.store;
+      tree = filled m (committed c.fill.new.store) _ sized c.requires.tree c.fill.ensures.any_exit;
+      gate = inl refl;
+    }
+
+pub returns-clause-by_gate : goal.returns-clause-by_gate
+returns-clause-by_gate g c =
+    let m = committed c.args.store.now in
+    let sized = c.requires.ready.usable.committed_size in
+    let sets = c.add_file-work.ensures.store.sets in
+    let last = c.store-1.given.1 (sym (sets.same_store ∙ c.begin-txn.ensures.same_store)) in
+    record {
+      filled = committed c.fill.new.store;
+      tree = filled m (committed c.fill.new.store) _ sized c.requires.tree c.fill.ensures.any_exit;
+      gate = ends_by_gate _ _ c.fill.new.store _ (memory_of c.add_file-work.new.txn) _ _ c.begin-txn.ensures.same last
+          sets.kept c.end.ensures.any_exit;
+    }

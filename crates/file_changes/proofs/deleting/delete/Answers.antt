@@ -1,0 +1,126 @@
+use Rattle.undo_journal.specs.laws.Transactions.{by_gate_after}
+use Rattle.undo_journal.specs.laws.Exits.{none_ok}
+use Rattle.std.proofs.Common.{◌≡◌, List, length, ◌∙◌, ap, inl, inr, ⊎_elim}
+use Rattle.undo_journal.specs.Memory.{committed}
+use Rattle.file_tree.specs.declared.entry.Entry.{Entry}
+use Rattle.file_changes.specs.DeletionParts.{Removes}
+use Rattle.file_changes.specs.laws.Parting.{length-part}
+use Rattle.file_tree.specs.Table.{table}
+use Rattle.file_changes.specs.laws.Removals.{can_give, removed_deletes, removed_space}
+use Rattle.undo_journal.specs.laws.Told.{changes_after, reads_change, changes_handed}
+use Rattle.file_changes.proofs.deleting.delete.Goals as goal
+
+pub remove-requires-clause-size : goal.remove-requires-clause-size
+remove-requires-clause-size g c =
+    let m = committed c.args.store.now in
+    let removal = c.in_ok-removal.ensures.removal in
+    ap (λ (t : List Entry). length t) (c.as_slice.ensures.value ∙ removal.part) ∙ length-part (table m) c.args.e
+
+pub remove-requires-clause-apart : goal.remove-requires-clause-apart
+remove-requires-clause-apart g c =
+    let m = committed c.args.store.now in
+    let sized = c.requires.ready.usable.committed_size in
+    let read = c.removal_of.ensures.store.only.keeps.committed_words in
+    can_give m _ c.args.e sized c.requires.tree c.requires.below c.requires.used _ c.in_ok-removal.ensures.removal read
+    _ _ c.as_slice.ensures.value c.as_slice-2.ensures.value
+
+pub returns-in_err-remove-clause-any_exit : goal.returns-in_err-remove-clause-any_exit
+returns-in_err-remove-clause-any_exit g c =
+    let m = committed c.args.store.now in
+    let sized = c.requires.ready.usable.committed_size in
+    let read = c.removal_of.ensures.store.only.keeps.committed_words in
+    let after = committed c.remove.new.store in
+    ⊎_elim
+    (λ (kept : after ≡ committed c.removal_of.new.store). inl (kept ∙ read))
+    (λ (removes : Removes (committed c.removal_of.new.store) c.as_slice.result.now c.as_slice-2.result.now after).
+    inr (removed_deletes m _ c.args.e sized c.requires.tree c.requires.below c.requires.used
+    _ c.in_ok-removal.ensures.removal read _ _ c.as_slice.ensures.value c.as_slice-2.ensures.value after removes))
+    c.remove.ensures.any_exit
+
+pub returns-clause-done : goal.returns-clause-done
+returns-clause-done g c =
+    let m = committed c.args.store.now in
+    let sized = c.requires.ready.usable.committed_size in
+    let read = c.removal_of.ensures.store.only.keeps.committed_words in
+    removed_deletes m _ c.args.e sized c.requires.tree c.requires.below
+    c.requires.used _ c.in_ok-removal.ensures.removal read _ _ c.as_slice.ensures.value c.as_slice-2.ensures.value _
+    c.in_ok-remove.ensures.done
+
+pub returns-clause-any_exit : goal.returns-clause-any_exit
+returns-clause-any_exit g c =
+    let m = committed c.args.store.now in
+    let sized = c.requires.ready.usable.committed_size in
+    let read = c.removal_of.ensures.store.only.keeps.committed_words in
+    inr (removed_deletes m _ c.args.e sized c.requires.tree c.requires.below
+    c.requires.used _ c.in_ok-removal.ensures.removal read _ _ c.as_slice.ensures.value c.as_slice-2.ensures.value _
+    c.in_ok-remove.ensures.done)
+
+pub returns-clause-space : goal.returns-clause-space
+returns-clause-space g c =
+    let m = committed c.args.store.now in
+    let sized = c.requires.ready.usable.committed_size in
+    let read = c.removal_of.ensures.store.only.keeps.committed_words in
+    removed_space m _ c.args.e sized c.requires.tree c.requires.below c.requires.used _ c.in_ok-removal.ensures.removal
+    read _ _ c.as_slice.ensures.value c.as_slice-2.ensures.value _ c.in_ok-remove.ensures.done
+
+pub removal_of-requires-clause-ready : goal.removal_of-requires-clause-ready
+removal_of-requires-clause-ready g c = c.requires.ready
+
+pub removal_of-requires-clause-tree : goal.removal_of-requires-clause-tree
+removal_of-requires-clause-tree g c = c.requires.tree
+
+pub removal_of-requires-clause-used : goal.removal_of-requires-clause-used
+removal_of-requires-clause-used g c = c.requires.used
+
+pub removal_of-requires-clause-below : goal.removal_of-requires-clause-below
+removal_of-requires-clause-below g c = c.requires.below
+
+pub returns-in_err-removal-clause-any_exit : goal.returns-in_err-removal-clause-any_exit
+returns-in_err-removal-clause-any_exit g c = inl c.removal_of.ensures.store.only.keeps.committed_words
+
+pub returns-in_err-removal-clause-done : goal.returns-in_err-removal-clause-done
+returns-in_err-removal-clause-done g c = none_ok _ _ _ c.from_residual.ensures.1
+
+pub returns-in_err-removal-clause-space : goal.returns-in_err-removal-clause-space
+returns-in_err-removal-clause-space g c = none_ok _ _ _ c.from_residual.ensures.1
+
+pub returns-in_err-removal-clause-store : goal.returns-in_err-removal-clause-store
+returns-in_err-removal-clause-store g c =
+    changes_handed _ _ _ _ _ c.from_residual.ensures.1
+    (reads_change _ _ _ _ c.requires.ready.idle c.in_err-removal.ensures.store)
+
+pub remove-requires-clause-ready : goal.remove-requires-clause-ready
+remove-requires-clause-ready g c = c.in_ok-removal.ensures.store.ready
+
+pub returns-in_err-remove-clause-done : goal.returns-in_err-remove-clause-done
+returns-in_err-remove-clause-done g c = none_ok _ _ _ c.from_residual-in_err-remove.ensures.1
+
+pub returns-in_err-remove-clause-space : goal.returns-in_err-remove-clause-space
+returns-in_err-remove-clause-space g c = none_ok _ _ _ c.from_residual-in_err-remove.ensures.1
+
+pub returns-in_err-remove-clause-store : goal.returns-in_err-remove-clause-store
+returns-in_err-remove-clause-store g c =
+    changes_handed _ _ _ _ _ c.from_residual-in_err-remove.ensures.1
+    (changes_after _ _ _ _ _ c.removal_of.ensures.store.only c.in_err-remove.ensures.store)
+
+pub returns-clause-store : goal.returns-clause-store
+returns-clause-store g c =
+    changes_after _ _ _ _ _ c.removal_of.ensures.store.only c.in_ok-remove.ensures.store
+
+pub returns-in_err-removal-clause-by_gate : goal.returns-in_err-removal-clause-by_gate
+returns-in_err-removal-clause-by_gate g c = inl c.removal_of.ensures.store.only.keeps.committed_words
+
+pub returns-in_err-remove-clause-by_gate : goal.returns-in_err-remove-clause-by_gate
+returns-in_err-remove-clause-by_gate g c =
+    by_gate_after c.args.store.now c.removal_of.new.store c.remove.new.store
+    c.removal_of.ensures.store.only.keeps.committed_words c.remove.ensures.by_gate
+
+pub returns-clause-by_gate : goal.returns-clause-by_gate
+returns-clause-by_gate g c =
+    by_gate_after c.args.store.now c.removal_of.new.store c.remove.new.store
+    c.removal_of.ensures.store.only.keeps.committed_words c.remove.ensures.by_gate
+
+pub returns-clause-index : goal.returns-clause-index
+returns-clause-index g c =
+    c.without.ensures.deleted (committed c.args.store.now) (committed c.remove.new.store) c.requires.tree
+    c.requires.below c.requires.used (returns-clause-done g c) c.requires.index

@@ -1,0 +1,41 @@
+use Rattle.std.proofs.lemmas.Result.{IfOk-weaker}
+use Rattle.std.proofs.Common.{◌≡◌, ◌||◌, ℕ, List, Bool, true, false, sym, ◌∙◌, ap, ap₂}
+use Rattle.undo_journal.specs.Memory.{committed}
+use Rattle.file_tree.specs.declared.entry.Entry.{Entry}
+use Rattle.file_tree.specs.States.{bars, is_barred}
+use Rattle.file_tree.specs.Table.{table, entry_in, path_of, IsUsed}
+use Rattle.file_tree.specs.Trees.{tree_of, TreeStands}
+use Rattle.file_tree.specs.Entries.{life_told}
+use Rattle.file_tree.specs.Parts.{barred_up}
+use Rattle.file_changes.specs.laws.Barring.{barred_told, life_told_there}
+use Rattle.undo_journal.specs.laws.Told.{reads_none}
+use Rattle.file_changes.proofs.life_cycles.is_barred_at.Goals as goal
+
+-- what the entry's own state and the way up tell
+told : (m : List ℕ) (e : ℕ) (x : Entry) (own up : Bool) → TreeStands m → IsUsed (table m) e → x ≡ entry_in (table m) e
+    → own ≡ bars (life_told x) → up ≡ barred_up (table m) 7 e
+    → (own || up) ≡ is_barred (tree_of m) (path_of (table m) e)
+told m e x own up stands used is here above =
+    ap₂ (λ (a b : Bool). a || b)
+    (here ∙ ap (λ (y : Entry). bars (life_told y)) is ∙ ap bars (sym (life_told_there m stands.entries e used)))
+    (above ∙ barred_told m stands.entries e used)
+
+pub returns-then-bars-clause-barred : goal.returns-then-bars-clause-barred
+returns-then-bars-clause-barred g c =
+    let m = committed c.args.store.now in
+    told m c.args.e c.args.entry.now true (barred_up (table m) 7 c.args.e) c.requires.tree c.requires.used
+    c.requires.entry (sym c.if-bars.true ∙ c.bars.ensures ∙ ap bars c.life_cycle.ensures)
+    (λ i. barred_up (table m) 7 c.args.e)
+
+pub returns-clause-barred : goal.returns-clause-barred
+returns-clause-barred g c =
+    let m = committed c.args.store.now in
+    IfOk-weaker _ _ _ (λ barred is. told m c.args.e c.args.entry.now false barred c.requires.tree c.requires.used
+    c.requires.entry (sym c.if-bars.false ∙ c.bars.ensures ∙ ap bars c.life_cycle.ensures) is)
+    c.is_below_barred.ensures.barred
+
+pub returns-then-bars-clause-store : goal.returns-then-bars-clause-store
+returns-then-bars-clause-store g c = reads_none _ c.requires.ready
+
+pub is_below_barred-requires-clause-parent : goal.is_below_barred-requires-clause-parent
+is_below_barred-requires-clause-parent g c = ap (λ (x : Entry). x.parent) c.requires.entry

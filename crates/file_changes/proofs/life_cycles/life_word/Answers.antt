@@ -1,0 +1,9 @@
+use Rattle.std.proofs.Common.{arith}
+use Rattle.file_changes.proofs.life_cycles.life_word.Goals as goal
+
+pub returns : goal.returns
+returns c = record {
+  kind = omega (arith, c.two_bytes.ensures, c.to_byte.ensures.value);
+  life = omega (arith, c.two_bytes.ensures, c.to_byte.ensures.value);
+  identifier = omega (arith, c.two_bytes.ensures, c.to_byte.ensures.value);
+}

@@ -1,0 +1,124 @@
+use Rattle.file_tree.specs.Formats.{block_count}
+use Rattle.undo_journal.specs.laws.Exits.{none_ok}
+use Rattle.std.proofs.Common.{rules, ◌≡◌, ◌≢◌, ℕ, Bool, false, List, length, Option, None, IsTrue, sym, ◌∙◌, ap, subst}
+use Rattle.std.proofs.Common.{arith, true≢false, inl, inr}
+use Rattle.std.proofs.lemmas.Bool.Decides.{eqb_tells}
+use Rattle.undo_journal.specs.Memory.{committed}
+use Rattle.block_chain.specs.Chains.{free_chain, HasFree}
+use Rattle.block_chain.specs.laws.Extents.{laid_has_free}
+use Rattle.file_tree.specs.declared.entry.Entry.{Entry}
+use Rattle.file_tree.specs.Spaces.{blocks_for}
+use Rattle.file_tree.specs.Table.{table, ancestor, extents}
+use Rattle.file_changes.specs.CreationParts.{TellsFreeEntry}
+use Rattle.file_tree.specs.laws.Tables.{length-table}
+use Rattle.file_changes.specs.laws.Places.{place_deepest, place_none, place_small, place_there}
+use Rattle.undo_journal.specs.laws.Told.{reads_handed, reads_on}
+use Rattle.file_changes.proofs.placing.place_for.Goals as goal
+
+-- what the table that was read tells is so of the memory: the level of a dedicated file, and a free entry
+level_zero : (m : List ℕ) (t : List Entry) (df : ℕ) (b : Bool) → t ≡ table m → b ≡ false
+    → (ancestor t 6 df ≢ 0 → IsTrue b) → ancestor (table m) 6 df ≡ 0
+level_zero m t df b is fails tells = elim (eqb_tells (ancestor t 6 df) 0) [
+  | inl same ↦ sym (ap (λ (s : List Entry). ancestor s 6 df) is) ∙ same.1
+  | inr other ↦ absurd (true≢false (sym (tells other.1) ∙ fails))
+]
+
+free_there : (m : List ℕ) (t : List Entry) (found o : Option ℕ) → t ≡ table m → found ≡ o → TellsFreeEntry t found
+    → TellsFreeEntry (table m) o
+free_there m t found o is same told =
+    let tells : Option ℕ → List Entry → Type 0 = λ p s. TellsFreeEntry s p in
+    subst (λ (s : List Entry). tells o s) is (subst (λ (p : Option ℕ). tells p t) same told)
+
+pub returns-then-is_deepest-clause-place : goal.returns-then-is_deepest-clause-place
+returns-then-is_deepest-clause-place g c =
+    let m = committed c.args.store.now in
+    let sized = c.requires.ready.usable.committed_size in
+    let entries = c.as_slice.ensures.value ∙ c.in_ok-entries.ensures.table in
+    let yes : IsTrue c.is_deepest.result = search rules in
+    let of_table : List Entry → Type 0 = λ t. ancestor t 6 c.args.df ≢ 0 in
+    let deep = subst of_table entries (c.is_deepest.ensures.0 yes) in
+    sym (place_deepest m sized c.requires.tree c.args.df c.requires.df c.args.fcp.now.kind deep)
+
+pub first_free-requires : goal.first_free-requires
+first_free-requires g c =
+    let l = length-table (committed c.args.store.now) in
+    let a = ap (λ (t : List Entry). length t) (c.as_slice-2.ensures.value ∙ c.in_ok-entries.ensures.table) in
+    omega (arith, l, a)
+
+pub returns-in_default-clause-place : goal.returns-in_default-clause-place
+returns-in_default-clause-place g c =
+    let m = committed c.args.store.now in
+    let sized = c.requires.ready.usable.committed_size in
+    let read = c.in_ok-entries.ensures.table in
+    let level = level_zero m _ _ _ (c.as_slice.ensures.value ∙ read) c.if-is_deepest.false c.is_deepest.ensures.1 in
+    let none : c.first_free.result ≡ None = search rules in
+    let free = free_there m _ _ _ (c.as_slice-2.ensures.value ∙ read) none c.first_free.ensures in
+    sym (place_none m sized c.requires.tree c.args.df c.requires.df c.args.fcp.now.kind level free)
+
+pub free_count-requires-clause-free : goal.free_count-requires-clause-free
+free_count-requires-clause-free g c =
+    let m = committed c.args.store.now in
+    let read = c.read_table.ensures.store.only.keeps.committed_words in
+    let family : List ℕ → Type 0 = λ l. HasFree l in
+    subst family (sym read) (laid_has_free (block_count m) m (extents (table m)) c.requires.tree.blocks)
+
+pub returns-then-free-blocks_for-clause-place : goal.returns-then-free-blocks_for-clause-place
+returns-then-free-blocks_for-clause-place g c =
+    let m = committed c.args.store.now in
+    let sized = c.requires.ready.usable.committed_size in
+    let read = c.in_ok-entries.ensures.table in
+    let level = level_zero m _ _ _ (c.as_slice.ensures.value ∙ read) c.if-is_deepest.false c.is_deepest.ensures.1 in
+    let free = free_there m _ _ _ (c.as_slice-2.ensures.value ∙ read) c.in-Some.is c.first_free.ensures in
+    let count = c.in_ok-free.ensures.count
+    ∙ ap (λ (l : List ℕ). length (free_chain l)) c.read_table.ensures.store.only.keeps.committed_words in
+    let blocks = c.blocks_for.ensures ∙ ap blocks_for c.size.ensures in
+    sym (place_small m sized c.requires.tree c.args.df c.requires.df c.args.fcp.now.kind c.in-Some.e level free
+    (omega (arith, count, blocks, c.if-free-blocks_for.true)))
+
+pub returns-clause-place : goal.returns-clause-place
+returns-clause-place g c =
+    let m = committed c.args.store.now in
+    let sized = c.requires.ready.usable.committed_size in
+    let read = c.in_ok-entries.ensures.table in
+    let level = level_zero m _ _ _ (c.as_slice.ensures.value ∙ read) c.if-is_deepest.false c.is_deepest.ensures.1 in
+    let free = free_there m _ _ _ (c.as_slice-2.ensures.value ∙ read) c.in-Some.is c.first_free.ensures in
+    let count = c.in_ok-free.ensures.count
+    ∙ ap (λ (l : List ℕ). length (free_chain l)) c.read_table.ensures.store.only.keeps.committed_words in
+    let blocks = c.blocks_for.ensures ∙ ap blocks_for c.size.ensures in
+    place_there m sized c.requires.tree c.args.df c.requires.df c.args.fcp.now.kind c.in-Some.e level free
+    (omega (arith, count, blocks, c.if-free-blocks_for.false))
+
+pub read_table-requires : goal.read_table-requires
+read_table-requires g c = record { ready = c.requires.ready }
+
+pub returns-in_err-entries-clause-place : goal.returns-in_err-entries-clause-place
+returns-in_err-entries-clause-place g c = none_ok _ _ _ c.from_residual.ensures.1
+
+pub returns-in_err-entries-clause-store : goal.returns-in_err-entries-clause-store
+returns-in_err-entries-clause-store g c =
+    reads_handed _ _ _ _ c.from_residual.ensures.1 c.in_err-entries.ensures.store
+
+pub returns-then-is_deepest-clause-store : goal.returns-then-is_deepest-clause-store
+returns-then-is_deepest-clause-store g c = c.in_ok-entries.ensures.store
+
+pub returns-in_default-clause-store : goal.returns-in_default-clause-store
+returns-in_default-clause-store g c = c.in_ok-entries.ensures.store
+
+pub free_count-requires-clause-ready : goal.free_count-requires-clause-ready
+free_count-requires-clause-ready g c = c.in_ok-entries.ensures.store.ready
+
+pub returns-in_err-free-clause-place : goal.returns-in_err-free-clause-place
+returns-in_err-free-clause-place g c = none_ok _ _ _ c.from_residual-in_err-free.ensures.1
+
+pub returns-in_err-free-clause-store : goal.returns-in_err-free-clause-store
+returns-in_err-free-clause-store g c =
+    reads_handed _ _ _ _ c.from_residual-in_err-free.ensures.1
+    (reads_on _ _ _ _ c.read_table.ensures.store.only c.in_err-free.ensures.store)
+
+pub returns-then-free-blocks_for-clause-store : goal.returns-then-free-blocks_for-clause-store
+returns-then-free-blocks_for-clause-store g c =
+    reads_on _ _ _ _ c.read_table.ensures.store.only c.in_ok-free.ensures.store
+
+pub returns-clause-store : goal.returns-clause-store
+returns-clause-store g c =
+    reads_on _ _ _ _ c.read_table.ensures.store.only c.in_ok-free.ensures.store

@@ -1,0 +1,137 @@
+-- What single steps of a creation find and write. No public clause names these.
+use Rattle.std.specs.Prelude.{◌≡◌, ◌≢◌, ◌==◌, ◌⊎◌, ◌<◌, ◌≤◌, ◌+◌, ◌-◌, ◌*◌, ℕ, if◌then◌else◌, List, ◌++◌, length}
+use Rattle.std.specs.Prelude.{take, replicate, Option, None, Some}
+use Rattle.nvm_board.specs.declared.board.TheConstants.{PAGE_WORDS}
+use Rattle.card_rules.specs.LifeCycle.{life_cycle_byte}
+use Rattle.fcp_template.specs.declared.fcp.Fcp.{Fcp}
+use Rattle.fcp_template.specs.declared.fcp.FileKind.{FileKind}
+use Rattle.fcp_template.specs.declared.fcp.FileKind.TheVariants as kinds
+use Rattle.fcp_template.specs.Views.{size_of_kind, name_bytes}
+use Rattle.block_chain.specs.declared.layout.TheConstants.{BLOCK_BYTES}
+use Rattle.block_chain.specs.declared.chain.Chain.{Chain}
+use Rattle.block_chain.specs.Words.{word, page_words}
+use Rattle.block_chain.specs.Chains.{free_chain, bytes_of}
+use Rattle.block_chain.specs.Changes.{OnlyContent, Takes}
+use Rattle.file_tree.specs.Formats.{block_count}
+use Rattle.file_tree.specs.declared.layout.TheConstants.{FIRST_ENTRY_PAGE}
+use Rattle.file_tree.specs.declared.entry.Entry.{Entry}
+use Rattle.file_changes.specs.declared.placing.Place.{Place}
+use Rattle.file_changes.specs.declared.placing.Place.TheVariants.{At, Refused}
+use Rattle.file_tree.specs.Spaces.{blocks_for}
+use Rattle.file_tree.specs.Entries.{entry_of}
+use Rattle.file_tree.specs.Table.{table, entry_in, ancestor, path_of}
+use Rattle.file_tree.specs.Trees.{tree_of}
+use Rattle.file_tree.specs.NewFiles.{blank, taken_refusal, place_refusal, creation_refusal}
+
+-- an entry is free, or none is
+abbrev pub TellsFreeEntry : List Entry → Option ℕ → Type 0
+TellsFreeEntry t None = (f : ℕ) → f < 64 → (entry_in t f).kind ≢ 0
+TellsFreeEntry t (Some e) = (e < 64) × ((entry_in t e).kind ≡ 0)
+
+-- An entry is free, in a dedicated file that is not on the last level, and there are enough free blocks.
+pub record IsPlace (m : List ℕ) (df : ℕ) (kind : FileKind) (e : ℕ) : Type 0 where
+  pub small : e < 64
+  pub free : (entry_in (table m) e).kind ≡ 0
+  pub level : ancestor (table m) 6 df ≡ 0
+  pub enough : blocks_for (size_of_kind kind) ≤ length (free_chain m)
+
+-- a place, where there is one, or why not
+abbrev pub TellsPlace : List ℕ → ℕ → FileKind → Place → Type 0
+TellsPlace m df kind (Refused status) =
+    place_refusal (block_count m) (tree_of m) (path_of (table m) df) kind ≡ Some status
+TellsPlace m df kind (At e) =
+    (place_refusal (block_count m) (tree_of m) (path_of (table m) df) kind ≡ None) × IsPlace m df kind e
+
+-- a place for a new file, or the first reason why it is refused
+abbrev pub FindsPlace : List ℕ → ℕ → Fcp → Place → Type 0
+FindsPlace m df fcp (Refused status) =
+    creation_refusal (block_count m) (tree_of m) (path_of (table m) df) fcp ≡ Some status
+FindsPlace m df fcp (At e) = (taken_refusal (tree_of m) (path_of (table m) df) fcp ≡ None)
+    × (place_refusal (block_count m) (tree_of m) (path_of (table m) df) fcp.kind ≡ None) × IsPlace m df fcp.kind e
+
+-- so many bytes, with zeros behind those that are there
+abbrev pub padded : ℕ → List ℕ → List ℕ
+padded n bytes = bytes ++ replicate (n - length bytes) 0
+
+-- the number of a kind in an entry
+abbrev pub kind_number : FileKind → ℕ
+kind_number (kinds.Df name) = 1
+kind_number (kinds.Transparent short size) = 2
+kind_number (kinds.Linear short records) = 3
+kind_number (kinds.Cyclic short records) = 4
+
+-- how many bytes a record has; 0 where the kind has none
+abbrev pub record_length_of_kind : FileKind → ℕ
+record_length_of_kind (kinds.Df name) = 0
+record_length_of_kind (kinds.Transparent short size) = 0
+record_length_of_kind (kinds.Linear short records) = records.record_length
+record_length_of_kind (kinds.Cyclic short records) = records.record_length
+
+-- how many records exist; 0 where the kind has none
+abbrev pub existing_of_kind : FileKind → ℕ
+existing_of_kind (kinds.Df name) = 0
+existing_of_kind (kinds.Transparent short size) = 0
+existing_of_kind (kinds.Linear short records) = records.existing
+existing_of_kind (kinds.Cyclic short records) = records.existing
+
+-- no blocks
+abbrev pub no_chain : Chain
+no_chain = record { first = 0; last = 0 }
+
+-- the entry of a new file
+abbrev pub entry_for : Fcp → ℕ → ℕ → Chain → Entry
+entry_for fcp parent short chain = record {
+  kind = kind_number fcp.kind;
+  life = life_cycle_byte fcp.life_cycle;
+  identifier = fcp.identifier;
+  parent = parent;
+  short = short;
+  name_length = length (name_bytes fcp.kind);
+  rule_length = length fcp.rule;
+  rule = padded 8 fcp.rule;
+  name = padded 16 (name_bytes fcp.kind);
+  size = size_of_kind fcp.kind;
+  record_length = record_length_of_kind fcp.kind;
+  first = chain.first;
+  last = chain.last;
+  records = existing_of_kind fcp.kind;
+  start = 0;
+}
+
+-- 0 stands for no short identifier
+abbrev pub short_option : ℕ → Option ℕ
+short_option short = if short == 0 then None else Some short
+
+-- An entry's words are written on its page, and no other page changes.
+pub record WritesEntry (m : List ℕ) (e : ℕ) (x : Entry) (after : List ℕ) : Type 0 where
+  pub size : length after ≡ length m
+  pub entry : entry_of (page_words after (FIRST_ENTRY_PAGE + e)) ≡ x
+  pub others : (page place : ℕ) → place < PAGE_WORDS → page ≢ FIRST_ENTRY_PAGE + e
+      → word after page place ≡ word m page place
+
+-- an entry with the blocks of a chain
+abbrev pub with_chain : Entry → Chain → Entry
+with_chain x c = record x { first = c.first; last = c.last }
+
+-- The first free blocks are taken, and an entry that names them is written.
+pub record TakesAndWrites (m : List ℕ) (e : ℕ) (x : Entry) (n : ℕ) (after : List ℕ) : Type 0 where
+  pub between : List ℕ
+  pub chain : Chain
+  pub some : 1 ≤ n
+  pub takes : Takes m n chain between
+  pub writes : WritesEntry between e (with_chain x chain) after
+
+-- a new file's entry is written, over blocks that are taken where it has some
+abbrev pub AddsFile : List ℕ → ℕ → Entry → ℕ → List ℕ → Type 0
+AddsFile m e x n after = ((n ≡ 0) × WritesEntry m e x after) ⊎ TakesAndWrites m e x n after
+
+-- First the blocks are filled.
+pub record FillsAndAdds (m : List ℕ) (e : ℕ) (x : Entry) (n : ℕ) (after : List ℕ) : Type 0 where
+  pub between : List ℕ
+  pub only : OnlyContent m (take n (free_chain m)) between
+  pub filled : bytes_of between (take n (free_chain m)) ≡ replicate (BLOCK_BYTES * n) blank
+  pub adds : AddsFile between e x n after
+
+-- at most free blocks are other, or all is done
+abbrev pub FillsOrAdds : List ℕ → ℕ → Entry → ℕ → List ℕ → Type 0
+FillsOrAdds m e x n after = OnlyContent m (take n (free_chain m)) after ⊎ FillsAndAdds m e x n after

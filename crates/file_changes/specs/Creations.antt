@@ -1,0 +1,33 @@
+-- What creating a file answers, and makes of the tree.
+use Rattle.std.specs.Prelude.{◌≡◌, ℕ, List, [], ◌∷◌, ◌++◌, None, Some}
+use Rattle.fcp_template.specs.declared.fcp.Fcp.{Fcp}
+use Rattle.file_changes.specs.declared.creating.Creation.{Creation}
+use Rattle.file_changes.specs.declared.creating.Creation.TheVariants.{Created, Refused}
+use Rattle.file_tree.specs.Formats.{block_count}
+use Rattle.file_tree.specs.Spaces.{free_space}
+use Rattle.file_tree.specs.Table.{table, path_of, IsUsed}
+use Rattle.file_tree.specs.Trees.{tree_of}
+use Rattle.file_tree.specs.Changes.{Creates, with_freed}
+use Rattle.file_tree.specs.Indexes.{AddsEntry}
+use Rattle.file_tree.specs.NewFiles.{new_file, short_of_new, creation_refusal}
+
+-- A file more stands in a dedicated file, new as its file control parameters tell.
+abbrev pub CreatesNew : List ℕ → ℕ → Fcp → List ℕ → Type 0
+CreatesNew m df fcp after =
+    Creates m df fcp.identifier (new_file fcp (short_of_new (tree_of m) (path_of (table m) df) fcp)) after
+
+-- The file of an entry is new: nothing refused it, and it took so many blocks and an entry.
+pub record IsCreated (m : List ℕ) (df : ℕ) (fcp : Fcp) (e blocks : ℕ) (after : List ℕ) : Type 0 where
+  pub none : creation_refusal (block_count m) (tree_of m) (path_of (table m) df) fcp ≡ None
+  pub creates : CreatesNew m df fcp after
+  pub used : IsUsed (table after) e
+  pub path : path_of (table after) e ≡ path_of (table m) df ++ fcp.identifier ∷ []
+  pub adds : AddsEntry (table m) df fcp.identifier e (table after)
+  pub space : free_space (block_count m) (tree_of m)
+      ≡ with_freed (free_space (block_count after) (tree_of after)) (record { blocks = blocks; entries = 1 })
+
+-- a file is created, or why not
+abbrev pub TellsCreation : List ℕ → ℕ → Fcp → Creation → List ℕ → Type 0
+TellsCreation m df fcp (Refused status) after =
+    (creation_refusal (block_count m) (tree_of m) (path_of (table m) df) fcp ≡ Some status) × (after ≡ m)
+TellsCreation m df fcp (Created e blocks) after = IsCreated m df fcp e blocks after

@@ -1,0 +1,56 @@
+-- What single steps of a deletion find and free. No public clause names these.
+use Rattle.std.specs.Prelude.{◌≡◌, ◌≢◌, ◌==◌, ◌⊎◌, ◌<◌, ◌+◌, ◌&&◌, ℕ, Bool, not, if◌then◌else◌, List, map, length}
+use Rattle.std.specs.List.{range_with_len, sum_by}
+use Rattle.nvm_board.specs.declared.board.TheConstants.{PAGE_WORDS}
+use Rattle.block_chain.specs.declared.chain.Chain.{Chain}
+use Rattle.block_chain.specs.Words.{word}
+use Rattle.block_chain.specs.Chains.{HasFree, AreApart}
+use Rattle.block_chain.specs.Changes.{GivesBack}
+use Rattle.block_chain.specs.Layout.{chains_of}
+use Rattle.file_tree.specs.declared.layout.TheConstants.{FIRST_ENTRY_PAGE, ENTRIES}
+use Rattle.file_tree.specs.declared.entry.Entry.{Entry}
+use Rattle.file_changes.specs.declared.deleting.Removal.{Removal}
+use Rattle.file_tree.specs.Entries.{free_entry}
+use Rattle.file_tree.specs.Table.{table, entry_in, extents, free_entries}
+use Rattle.file_tree.specs.SubtreeParts.{leads_up}
+
+-- whether an entry's file is the one of another entry, or stands below it
+abbrev pub is_gone : List Entry → ℕ → ℕ → Bool
+is_gone t top f = not ((entry_in t f).kind == 0) && leads_up t 7 top f
+
+-- an entry, where it goes with another one; else a free one
+abbrev pub going : List Entry → ℕ → ℕ → Entry
+going t top f = if is_gone t top f then entry_in t f else free_entry
+
+-- the part that goes
+unfoldable pub part_below : List Entry → ℕ → List Entry
+part_below t top = map (going t top) (range_with_len 0 64)
+
+-- The part of the table that goes, the chains of its extents, and how many blocks and entries they are.
+pub record IsRemoval (m : List ℕ) (e : ℕ) (removal : Removal) : Type 0 where
+  pub part : removal.part.items ≡ part_below (table m) e
+  pub chains : removal.chains.items ≡ chains_of (extents (part_below (table m) e))
+  pub blocks : removal.space.blocks ≡ sum_by (λ x. x.blocks) (extents (part_below (table m) e))
+  pub entries : removal.space.entries + free_entries (part_below (table m) e) ≡ 64
+
+-- The first so many entries of a part are freed, by their word 0, and no other word is other.
+pub record FreesUpTo (m : List ℕ) (part : List Entry) (k : ℕ) (after : List ℕ) : Type 0 where
+  pub size : length after ≡ length m
+  pub freed : (f : ℕ) → f < k → (entry_in part f).kind ≢ 0 → word after (FIRST_ENTRY_PAGE + f) 0 ≡ 0
+  pub others : (page place : ℕ) → place < PAGE_WORDS
+      → (place ≢ 0) ⊎ ((f : ℕ) → f < k → page ≡ FIRST_ENTRY_PAGE + f → (entry_in part f).kind ≡ 0)
+      → word after page place ≡ word m page place
+
+-- all of its entries
+abbrev pub FreesEntries : List ℕ → List Entry → List ℕ → Type 0
+FreesEntries m part after = FreesUpTo m part ENTRIES after
+
+-- They are freed, and then chains are given back.
+pub record Removes (m : List ℕ) (part : List Entry) (chains : List Chain) (after : List ℕ) : Type 0 where
+  pub between : List ℕ
+  pub freed : FreesEntries m part between
+  pub given : GivesBack between chains after
+
+-- after they are freed, chains can be given back
+abbrev pub CanGive : List ℕ → List Entry → List Chain → Type 0
+CanGive m part chains = (between : List ℕ) → FreesEntries m part between → HasFree between × AreApart between chains

@@ -1,0 +1,279 @@
+//! Creating a file.
+
+ghost use Rattle.std.specs.Prelude.{◌≡◌, ◌≢◌, ◌⊎◌, ◌&&◌, ◌<◌, ◌≤◌, nat_le, length, Some, IfOk, OnOk};
+ghost use Rattle.std.specs.Prelude.{MatchResult, if◌then◌else◌};
+ghost use Rattle.std.specs.Result.{result_err};
+ghost use Rattle.undo_journal.specs.Memory.{committed, current, room, InRuns, IsOpen, IsReady};
+ghost use Rattle.undo_journal.specs.Lent.{memory_of};
+ghost use Rattle.undo_journal.specs.Calls.{OnlyReads, Reads, Changes, SetsIn};
+ghost use Rattle.card_rules.specs.declared.status.Sw.{Sw};
+ghost use Rattle.fcp_template.specs.declared.fcp.ShortIdentifier.TheVariants.{Absent};
+ghost use Rattle.fcp_template.specs.Ranges.{IsCreatable};
+ghost use Rattle.block_chain.specs.Chains.{HasFree, free_chain};
+ghost use Rattle.file_tree.specs.Adding.{AddsByGate};
+ghost use Rattle.file_tree.specs.Formats.{block_count};
+ghost use Rattle.file_tree.specs.Kinds.{kind_byte};
+ghost use Rattle.file_tree.specs.declared.layout.TheConstants.{CREATE_WRITES, MOST_FILE_BLOCKS};
+ghost use Rattle.file_tree.specs.Table.{table, entry_in, path_of, IsUsed};
+ghost use Rattle.file_tree.specs.Trees.{tree_of, TreeStands};
+ghost use Rattle.file_tree.specs.Changes.{SameTree};
+ghost use Rattle.file_tree.specs.Indexes.{IsIndex};
+ghost use Rattle.file_changes.specs.Creations.{CreatesNew, TellsCreation};
+ghost use Rattle.file_tree.specs.NewFiles.{low_bits, short_for, short_of_new, creation_refusal};
+ghost use Rattle.file_changes.specs.CreationParts.{FindsPlace, AddsFile, FillsAndAdds, FillsOrAdds};
+ghost use Rattle.file_changes.specs.CreationParts.{entry_for, kind_number, record_length_of_kind, existing_of_kind};
+ghost use Rattle.file_changes.specs.CreationParts.{padded, no_chain, short_option};
+
+use crate::placing::{Place, place_for};
+use crate::refusing::taken;
+use crate::writing::write_entry;
+use block_chain::{fill, take};
+use card_rules::Sw;
+use card_rules::limits::MOST_SHORT;
+use fcp_template::{Fcp, FileKind, ShortIdentifier};
+use file_tree::{Entry, EntryKind, Index, blocks_for, find_short};
+use undo_journal::{Board, Store, StoreErr, Txn};
+
+/// What came of a creation.
+#[derive(Clone, Copy)]
+pub enum Creation {
+    /// The file of this entry is new, and has so many blocks.
+    Created { entry: u8, blocks: u16 },
+    /// The first reason why it is refused, as a status word. Nothing was changed.
+    Refused(Sw),
+}
+
+/// What each byte of a new file is.
+const BLANK: u8 = 0xFF;
+
+/// The low five bits of an identifier, if they are 1 to 30; else 0.
+fn low_short(identifier: u16) -> u8
+    ensures { result ≡ (if nat_le 1 (low_bits identifier) && nat_le (low_bits identifier) 30 then low_bits identifier
+        else 0) }
+{
+    let low = (identifier % 32) as u8;
+    if (1..=MOST_SHORT).contains(&low) {
+        low
+    } else {
+        0
+    }
+}
+
+/// The low five bits of an identifier as a short identifier, if no child has it; 0 for none.
+fn short_by_default<B: Board>(store: &mut Store<B>, df: u8, identifier: u16) -> Result<u8, StoreErr>
+    requires ready { IsReady store.old }
+    requires tree { TreeStands (committed store.old) }
+    requires df { IsUsed (table (committed store.old)) df }
+    ensures short { IfOk result (λ n. short_option n
+        ≡ short_for (tree_of (committed store.old)) (path_of (table (committed store.old)) df) identifier Absent) }
+    ensures store { Reads store.old store.new (result_err result) }
+{
+    let low = low_short(identifier);
+    if low == 0 {
+        return Ok(0);
+    }
+    match find_short(store, df, low)? {
+        Some(_) => Ok(0),
+        None => Ok(low),
+    }
+}
+
+/// The short identifier of a new file; 0 for none. A dedicated file has none.
+fn short_of<B: Board>(store: &mut Store<B>, df: u8, fcp: &Fcp<'_>) -> Result<u8, StoreErr>
+    requires ready { IsReady store.old }
+    requires tree { TreeStands (committed store.old) }
+    requires df { IsUsed (table (committed store.old)) df }
+    requires fcp { IsCreatable fcp.now }
+    ensures short { IfOk result (λ n. short_option n
+        ≡ short_of_new (tree_of (committed store.old)) (path_of (table (committed store.old)) df) fcp.now) }
+    ensures store { Reads store.old store.new (result_err result) }
+{
+    if let FileKind::Df { .. } = fcp.kind {
+        return Ok(0);
+    }
+    match fcp.kind.short() {
+        ShortIdentifier::Absent => short_by_default(store, df, fcp.identifier),
+        ShortIdentifier::Empty => Ok(0),
+        ShortIdentifier::Given(number) => Ok(number),
+    }
+}
+
+/// The kind of the entry of a file.
+fn entry_kind(kind: &FileKind<'_>) -> EntryKind
+    ensures { kind_byte result ≡ kind_number kind.now }
+{
+    match kind {
+        FileKind::Df { .. } => EntryKind::Dedicated,
+        FileKind::Transparent { .. } => EntryKind::Transparent,
+        FileKind::Linear { .. } => EntryKind::Linear,
+        FileKind::Cyclic { .. } => EntryKind::Cyclic,
+    }
+}
+
+/// How many bytes a record of a file has, and how many records of a new one exist; 0 where its kind has no records.
+fn records_of(kind: &FileKind<'_>) -> (u8, u8)
+    ensures { result ≡ (record_length_of_kind kind.now, existing_of_kind kind.now) }
+{
+    match kind {
+        FileKind::Df { .. } | FileKind::Transparent { .. } => (0, 0),
+        FileKind::Linear { records, .. } | FileKind::Cyclic { records, .. } => (
+            records.record_length,
+            records.existing,
+        ),
+    }
+}
+
+/// Some bytes, with zeros behind them.
+fn padded<const N: usize>(bytes: &[u8]) -> [u8; N]
+    requires { length bytes.now ≤ N }
+    ensures { result ≡ padded N bytes.now }
+{
+    let mut all = [0; N];
+    for i in 0..bytes.len() {
+        all[i] = bytes[i];
+    }
+    all
+}
+
+/// The entry of a new file, without its blocks.
+fn entry_for(fcp: &Fcp<'_>, parent: u8, short: u8) -> Entry
+    requires { IsCreatable fcp.now }
+    ensures { result ≡ entry_for fcp.now parent short no_chain }
+{
+    let name = fcp.kind.name();
+    let rule = fcp.rule.as_bytes();
+    let (record_length, existing) = records_of(&fcp.kind);
+    Entry {
+        kind: entry_kind(&fcp.kind).to_byte(),
+        life: fcp.life_cycle.to_byte(),
+        identifier: fcp.identifier,
+        parent,
+        short,
+        name_length: name.len() as u8,
+        rule_length: rule.len() as u8,
+        rule: padded(rule),
+        name: padded(name),
+        size: fcp.kind.size(),
+        record_length: u16::from(record_length),
+        first: 0,
+        last: 0,
+        records: u16::from(existing),
+        start: 0,
+    }
+}
+
+/// Writes the entry of a new file, and takes its blocks, if it has some.
+fn add_file<B: Board>(
+    txn: &mut Txn<'_, B>,
+    e: u8,
+    entry: Entry,
+    blocks: u16,
+) -> Result<(), StoreErr>
+    requires ready { IsOpen (memory_of txn.old) }
+    requires within { e < 64 }
+    requires used { entry.kind ≢ 0 }
+    requires free { HasFree (current (memory_of txn.old)) }
+    requires enough { blocks ≤ length (free_chain (current (memory_of txn.old))) }
+    requires room { 13 ≤ room (memory_of txn.old) }
+    ensures done { OnOk result (AddsFile (current (memory_of txn.old)) e entry blocks (current (memory_of txn.new))) }
+    ensures store { SetsIn 13 txn.old txn.new (result_err result) }
+    ensures runs { InRuns 3 (memory_of txn.old) (memory_of txn.new) }
+{
+    if blocks == 0 {
+        return write_entry(txn, e, entry);
+    }
+    let chain = take(txn, blocks)?;
+    let entry = Entry {
+        first: chain.first,
+        last: chain.last,
+        ..entry
+    };
+    write_entry(txn, e, entry)
+}
+
+/// Fills the blocks of a new file, and then adds it in a transaction.
+fn write_file<B: Board>(
+    store: &mut Store<B>,
+    e: u8,
+    entry: Entry,
+    blocks: u16,
+) -> Result<(), StoreErr>
+    requires ready { IsReady store.old }
+    requires within { e < 64 }
+    requires used { entry.kind ≢ 0 }
+    requires tree { TreeStands (committed store.old) }
+    requires enough { blocks ≤ length (free_chain (committed store.old)) }
+    requires few { blocks ≤ MOST_FILE_BLOCKS }
+    ensures any_exit { FillsOrAdds (committed store.old) e entry blocks (committed store.new) }
+    ensures done { OnOk result (FillsAndAdds (committed store.old) e entry blocks (committed store.new)) }
+    ensures by_gate { AddsByGate store.old store.new }
+    ensures store { Changes CREATE_WRITES store.old store.new (result_err result) }
+{
+    fill(store, blocks, BLANK)?;
+    let mut txn = store.begin();
+    let work = add_file(&mut txn, e, entry, blocks);
+    txn.end(work)
+}
+
+/// The place of a new file in a dedicated file, or the first reason why it is refused.
+fn find_place<B: Board>(
+    store: &mut Store<B>,
+    index: &Index,
+    df: u8,
+    fcp: &Fcp<'_>,
+) -> Result<Place, StoreErr>
+    requires ready { IsReady store.old }
+    requires tree { TreeStands (committed store.old) }
+    requires df { IsUsed (table (committed store.old)) df }
+    requires index { IsIndex (table (committed store.old)) index.now }
+    requires fcp { IsCreatable fcp.now }
+    ensures found { IfOk result (FindsPlace (committed store.old) df fcp.now) }
+    ensures store { Reads store.old store.new (result_err result) }
+{
+    match taken(store, index, df, fcp)? {
+        Some(status) => Ok(Place::Refused(status)),
+        None => place_for(store, df, fcp),
+    }
+}
+
+/// Creates a file in the dedicated file of an entry, as its file control parameters tell: all its bytes, or the records
+/// that exist, are FF. Its blocks are filled first; then one transaction takes them and writes its entry. Where it is
+/// refused nothing is changed, and nothing is written. The index follows once all is done.
+///
+/// # Errors
+/// What the store answers: power was lost, or the device failed.
+/// The tree is then as it was, or as after the creation; and the index as it was.
+pub fn create<B: Board>(
+    store: &mut Store<B>,
+    index: &mut Index,
+    df: u8,
+    fcp: &Fcp<'_>,
+) -> Result<Creation, StoreErr>
+    requires ready { IsReady store.old }
+    requires tree { TreeStands (committed store.old) }
+    requires df { (entry_in (table (committed store.old)) df).kind ≡ 1 }
+    requires fcp { IsCreatable fcp.now }
+    requires index { IsIndex (table (committed store.old)) index.old }
+    ensures any_exit { SameTree (committed store.old) (committed store.new)
+        ⊎ CreatesNew (committed store.old) df fcp.now (committed store.new) }
+    ensures by_gate { AddsByGate store.old store.new }
+    ensures store { Changes CREATE_WRITES store.old store.new (result_err result) }
+    ensures idle { (status : Sw)
+        → creation_refusal (block_count (committed store.old)) (tree_of (committed store.old))
+        (path_of (table (committed store.old)) df) fcp.now ≡ Some status
+        → OnlyReads store.old store.new }
+    ensures done { IfOk result
+        (λ creation. TellsCreation (committed store.old) df fcp.now creation (committed store.new)) }
+    ensures index { MatchResult result (λ creation. IsIndex (table (committed store.new)) index.new)
+        (λ error. index.new ≡ index.old) }
+{
+    let entry = match find_place(store, index, df, fcp)? {
+        Place::At(entry) => entry,
+        Place::Refused(status) => return Ok(Creation::Refused(status)),
+    };
+    let short = short_of(store, df, fcp)?;
+    let blocks = blocks_for(fcp.kind.size());
+    write_file(store, entry, entry_for(fcp, df, short), blocks)?;
+    index.with(df, fcp.identifier, entry);
+    Ok(Creation::Created { entry, blocks })
+}

@@ -1,0 +1,211 @@
+//! Deleting a file, with all files below it.
+
+ghost use Rattle.std.specs.Prelude.{◌≡◌, ◌⊎◌, ◌<◌, ◌≤◌, ◌+◌, length, IfOk, OnOk, MatchResult};
+ghost use Rattle.std.specs.List.{sum_by};
+ghost use Rattle.std.specs.Result.{result_err};
+ghost use Rattle.undo_journal.specs.Commits.{CommitsByGate};
+ghost use Rattle.undo_journal.specs.Memory.{committed, current, room, IsOpen, IsReady};
+ghost use Rattle.undo_journal.specs.Lent.{memory_of};
+ghost use Rattle.undo_journal.specs.Calls.{Reads, Changes, SetsIn};
+ghost use Rattle.block_chain.specs.declared.layout.TheConstants.{MOST_BLOCKS};
+ghost use Rattle.block_chain.specs.Layout.{chains_of};
+ghost use Rattle.file_tree.specs.declared.layout.TheConstants.{DELETE_WRITES};
+ghost use Rattle.file_tree.specs.Formats.{block_count};
+ghost use Rattle.file_tree.specs.Spaces.{free_space};
+ghost use Rattle.file_tree.specs.Table.{extents, table, IsUsed};
+ghost use Rattle.file_tree.specs.Trees.{tree_of, TreeStands};
+ghost use Rattle.file_tree.specs.Changes.{Deletes, with_freed};
+ghost use Rattle.file_tree.specs.Indexes.{IsIndex};
+ghost use Rattle.file_changes.specs.DeletionParts.{IsRemoval, going, part_below, CanGive, FreesEntries, Removes};
+ghost use Rattle.file_tree.specs.SubtreeParts.{leads_up};
+
+use arrayvec::ArrayVec;
+use block_chain::{Chain, Extent, give_back};
+use file_tree::{
+    DEEPEST, ENTRIES, ENTRIES_END, Entry, ExtentList, FreeSpace, Index, TABLE_ROOM, Table,
+    count_free, entry_address, extents_of, parent_of, read_table,
+};
+use undo_journal::{Board, Store, StoreErr, Txn};
+
+/// The chains of some elementary files.
+type ChainList = ArrayVec<Chain, TABLE_ROOM>;
+
+/// An entry is another one, or stands below it: at most seven steps to parents lead to that.
+fn is_within(entries: &[Entry], top: u8, e: u8) -> bool
+    ensures { result ≡ leads_up entries.now 7 top e }
+{
+    let mut at = e;
+    for _step in 0..DEEPEST {
+        if at == top {
+            return true;
+        }
+        at = parent_of(entries, at);
+    }
+    at == top
+}
+
+/// An entry that goes with another one, as it is in the part that goes; else a free one.
+fn going_entry(entries: &[Entry], top: u8, e: u8) -> Entry
+    requires { e < length entries.now }
+    ensures { result ≡ going entries.now top e }
+{
+    let entry = entries[usize::from(e)];
+    if entry.is_used() && is_within(entries, top, e) {
+        entry
+    } else {
+        Entry::free()
+    }
+}
+
+/// The part of a table that a file and all files below it have; free entries stand for the others.
+fn part_of(entries: &[Entry], top: u8) -> Table
+    requires { length entries.now ≡ 64 }
+    ensures { result.items ≡ part_below entries.now top }
+{
+    let mut part = Table::new();
+    for e in 0..ENTRIES_END {
+        part.push(going_entry(entries, top, e));
+    }
+    part
+}
+
+/// The chains of extents.
+fn chains_in(extents: &[Extent]) -> ChainList
+    requires { length extents.now ≤ 64 }
+    ensures { result.items ≡ chains_of extents.now }
+{
+    let mut chains = ChainList::new();
+    for extent in extents {
+        chains.push(extent.chain);
+    }
+    chains
+}
+
+/// How many blocks extents have together.
+fn blocks_in(extents: &[Extent]) -> u16
+    requires { sum_by (λ x. x.blocks) extents.now ≤ MOST_BLOCKS }
+    ensures { result ≡ sum_by (λ x. x.blocks) extents.now }
+{
+    let mut blocks = 0;
+    for extent in extents {
+        blocks += extent.blocks;
+    }
+    blocks
+}
+
+/// Frees each entry of which a part of the table has a file.
+fn free_part<B: Board>(txn: &mut Txn<'_, B>, part: &[Entry]) -> Result<(), StoreErr>
+    requires ready { IsOpen (memory_of txn.old) }
+    requires size { length part.now ≡ 64 }
+    requires room { 64 ≤ room (memory_of txn.old) }
+    ensures done { OnOk result (FreesEntries (current (memory_of txn.old)) part.now (current (memory_of txn.new))) }
+    ensures store { SetsIn 64 txn.old txn.new (result_err result) }
+{
+    for e in 0..ENTRIES_END {
+        if part[usize::from(e)].is_used() {
+            txn.set(entry_address(e), 0)?;
+        }
+    }
+    Ok(())
+}
+
+/// Frees the entries of a part of the table, and gives chains back.
+fn take_away<B: Board>(
+    txn: &mut Txn<'_, B>,
+    part: &[Entry],
+    chains: &[Chain],
+) -> Result<(), StoreErr>
+    requires ready { IsOpen (memory_of txn.old) }
+    requires size { length part.now ≡ 64 }
+    requires apart { CanGive (current (memory_of txn.old)) part.now chains.now }
+    requires room { 64 + (length chains.now + 1) ≤ room (memory_of txn.old) }
+    ensures done { OnOk result
+        (Removes (current (memory_of txn.old)) part.now chains.now (current (memory_of txn.new))) }
+    ensures store { SetsIn (64 + (length chains.now + 1)) txn.old txn.new (result_err result) }
+{
+    free_part(txn, part)?;
+    give_back(txn, chains)
+}
+
+/// The same, in a transaction: all of it, or nothing.
+fn remove<B: Board>(store: &mut Store<B>, part: &[Entry], chains: &[Chain]) -> Result<(), StoreErr>
+    requires ready { IsReady store.old }
+    requires size { length part.now ≡ 64 }
+    requires apart { CanGive (committed store.old) part.now chains.now }
+    requires few { length chains.now ≤ 64 }
+    ensures any_exit { (committed store.new ≡ committed store.old)
+        ⊎ Removes (committed store.old) part.now chains.now (committed store.new) }
+    ensures done { OnOk result (Removes (committed store.old) part.now chains.now (committed store.new)) }
+    ensures by_gate { CommitsByGate store.old store.new }
+    ensures store { Changes DELETE_WRITES store.old store.new (result_err result) }
+{
+    let mut txn = store.begin();
+    let work = take_away(&mut txn, part, chains);
+    txn.end(work)
+}
+
+/// What goes with a file: its entries and those of all files below it, their chains, and how much they take.
+#[derive(Drop)]
+struct Removal {
+    part: Table,
+    chains: ChainList,
+    space: FreeSpace,
+}
+
+/// What goes with the file of an entry.
+fn removal_of<B: Board>(store: &mut Store<B>, e: u8) -> Result<Removal, StoreErr>
+    requires ready { IsReady store.old }
+    requires tree { TreeStands (committed store.old) }
+    requires used { IsUsed (table (committed store.old)) e }
+    requires below { 0 < e }
+    ensures removal { IfOk result (IsRemoval (committed store.old) e) }
+    ensures store { Reads store.old store.new (result_err result) }
+{
+    let entries = read_table(store)?;
+    let part = part_of(entries.as_slice(), e);
+    let extents = extents_of(part.as_slice());
+    let space = FreeSpace {
+        blocks: blocks_in(extents.as_slice()),
+        entries: ENTRIES - count_free(part.as_slice()),
+    };
+    let chains = chains_in(extents.as_slice());
+    Ok(Removal {
+        part,
+        chains,
+        space,
+    })
+}
+
+/// Deletes the file of an entry, with all files below it, in one transaction: their entries are free then, and their
+/// blocks. The answer is how many of both. The master file (entry 0) is not deleted.
+/// The index follows once all is done.
+///
+/// # Errors
+/// What the store answers: power was lost, or the device failed.
+/// The tree is then as it was, or as after the deletion; and the index as it was.
+pub fn delete<B: Board>(
+    store: &mut Store<B>,
+    index: &mut Index,
+    e: u8,
+) -> Result<FreeSpace, StoreErr>
+    requires ready { IsReady store.old }
+    requires tree { TreeStands (committed store.old) }
+    requires used { IsUsed (table (committed store.old)) e }
+    requires below { 0 < e }
+    requires index { IsIndex (table (committed store.old)) index.old }
+    ensures any_exit { (committed store.new ≡ committed store.old)
+        ⊎ Deletes (committed store.old) e (committed store.new) }
+    ensures done { OnOk result (Deletes (committed store.old) e (committed store.new)) }
+    ensures space { IfOk result (λ freed.
+        free_space (block_count (committed store.new)) (tree_of (committed store.new))
+        ≡ with_freed (free_space (block_count (committed store.old)) (tree_of (committed store.old))) freed) }
+    ensures by_gate { CommitsByGate store.old store.new }
+    ensures store { Changes DELETE_WRITES store.old store.new (result_err result) }
+    ensures index { MatchResult result (λ freed. IsIndex (table (committed store.new)) index.new)
+        (λ error. index.new ≡ index.old) }
+{
+    let removal = removal_of(store, e)?;
+    remove(store, removal.part.as_slice(), removal.chains.as_slice())?;
+    index.without(e);
+    Ok(removal.space)
+}

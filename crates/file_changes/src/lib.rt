@@ -1,0 +1,16 @@
+//! What changes the tree of files: files are created and deleted, and their life cycles change.
+#![tactic(auto)]
+
+mod creating;
+mod deleting;
+mod life_cycles;
+mod placing;
+mod refusing;
+mod writing;
+
+pub use creating::{Creation, create};
+pub use deleting::delete;
+pub use life_cycles::{
+    is_allowed, is_allowed_at, is_barred, is_barred_at, next_life_cycle, set_life_cycle,
+    terminate_card,
+};

@@ -1,0 +1,218 @@
+//! Life cycles of files (ISO/IEC 7816-9; ISO/IEC 7816-4, 7.4.10): which files are barred, and a file in another state.
+
+ghost use Rattle.std.specs.Prelude.{◌≡◌, ◌⊎◌, slice_set, IfOk, OnOk};
+ghost use Rattle.std.specs.Result.{result_err};
+ghost use Rattle.undo_journal.specs.Undo.{IsDataAddress};
+ghost use Rattle.undo_journal.specs.Commits.{CommitsByGate};
+ghost use Rattle.undo_journal.specs.Memory.{committed, IsReady};
+ghost use Rattle.undo_journal.specs.Calls.{OnlyReads, Reads, Changes};
+ghost use Rattle.card_rules.specs.LifeCycle.{life_cycle_byte};
+ghost use Rattle.file_tree.specs.States.{bars, is_allowed, is_barred, life_at, next_life};
+ghost use Rattle.file_tree.specs.States.{with_card_terminated, ChangesLife};
+ghost use Rattle.file_tree.specs.Table.{table, entry_in, path_of, IsUsed};
+ghost use Rattle.file_tree.specs.Trees.{tree_of, TreeStands};
+ghost use Rattle.file_tree.specs.Entries.{is_allowed_by};
+ghost use Rattle.file_tree.specs.Parts.{barred_up, TellsLife};
+
+use crate::writing::two_bytes;
+use block_chain::HEADER_PAGE;
+use card_rules::{AccessBit, LifeCycle, LifeCycleCommand, PinSet, allows};
+use file_tree::{
+    CARD_TERMINATED, DEEPEST, Entry, STATE_WORD, entry_address, read_entry, read_entry_head,
+};
+use undo_journal::{Board, PAGE_WORDS, Store, StoreErr};
+
+/// A file in this state bars itself and all files below it.
+fn bars(life: LifeCycle) -> bool
+    ensures { result ≡ bars life }
+{
+    matches!(life, LifeCycle::Deactivated | LifeCycle::Terminated)
+}
+
+/// A file above that of an entry is deactivated or terminated. By at most seven steps from child to parent all files
+/// above are met; each step reads the head of one entry, and a file that bars ends the way. `parent` is the number that
+/// the entry tells of its parent.
+fn is_below_barred<B: Board>(store: &mut Store<B>, e: u8, parent: u8) -> Result<bool, StoreErr>
+    requires ready { IsReady store.old }
+    requires tree { TreeStands (committed store.old) }
+    requires used { IsUsed (table (committed store.old)) e }
+    requires parent { parent ≡ (entry_in (table (committed store.old)) e).parent }
+    ensures barred { IfOk result (λ barred. barred ≡ barred_up (table (committed store.old)) 7 e) }
+    ensures store { Reads store.old store.new (result_err result) }
+{
+    let mut at = e;
+    let mut above = parent;
+    for _step in 0..DEEPEST {
+        if at == 0 {
+            return Ok(false);
+        }
+        let head = read_entry_head(store, above)?;
+        if bars(head.life_cycle()) {
+            return Ok(true);
+        }
+        at = above;
+        above = head.parent;
+    }
+    Ok(false)
+}
+
+/// The file of an entry is barred: it, or a file above it, is deactivated or terminated.
+///
+/// # Errors
+/// What the store answers: power was lost, or the device failed.
+pub fn is_barred<B: Board>(store: &mut Store<B>, e: u8) -> Result<bool, StoreErr>
+    requires ready { IsReady store.old }
+    requires tree { TreeStands (committed store.old) }
+    requires used { IsUsed (table (committed store.old)) e }
+    ensures barred { IfOk result (λ barred. barred
+        ≡ is_barred (tree_of (committed store.old)) (path_of (table (committed store.old)) e)) }
+    ensures store { Reads store.old store.new (result_err result) }
+{
+    let entry = read_entry(store, e)?;
+    is_barred_at(store, e, &entry)
+}
+
+/// The same, where the entry is at hand: it isn't read again.
+///
+/// # Errors
+/// What the store answers: power was lost, or the device failed.
+pub fn is_barred_at<B: Board>(store: &mut Store<B>, e: u8, entry: &Entry) -> Result<bool, StoreErr>
+    requires ready { IsReady store.old }
+    requires tree { TreeStands (committed store.old) }
+    requires used { IsUsed (table (committed store.old)) e }
+    requires entry { entry.now ≡ entry_in (table (committed store.old)) e }
+    ensures barred { IfOk result (λ barred. barred
+        ≡ is_barred (tree_of (committed store.old)) (path_of (table (committed store.old)) e)) }
+    ensures store { Reads store.old store.new (result_err result) }
+{
+    if bars(entry.life_cycle()) {
+        return Ok(true);
+    }
+    is_below_barred(store, e, entry.parent)
+}
+
+/// The state of an entry's file after a life cycle command. None where it is refused, as its conditions of use aren't
+/// satisfied: a file above is deactivated or terminated, or the state found does not allow it.
+///
+/// # Errors
+/// What the store answers: power was lost, or the device failed.
+pub fn next_life_cycle<B: Board>(
+    store: &mut Store<B>,
+    e: u8,
+    command: LifeCycleCommand,
+) -> Result<Option<LifeCycle>, StoreErr>
+    requires ready { IsReady store.old }
+    requires tree { TreeStands (committed store.old) }
+    requires used { IsUsed (table (committed store.old)) e }
+    ensures next { IfOk result (λ next. next
+        ≡ next_life (tree_of (committed store.old)) (path_of (table (committed store.old)) e) command) }
+    ensures store { Reads store.old store.new (result_err result) }
+{
+    let entry = read_entry(store, e)?;
+    let barred = is_below_barred(store, e, entry.parent)?;
+    if barred {
+        return Ok(None);
+    }
+    Ok(LifeCycle::next_state(command, entry.life_cycle()))
+}
+
+/// The first word of an entry in another state.
+fn life_word(entry: &Entry, state: LifeCycle) -> u32
+    ensures { TellsLife entry.now (life_cycle_byte state) result }
+{
+    two_bytes(entry.kind, state.to_byte(), entry.identifier)
+}
+
+/// Writes a word, in a transaction.
+fn write_word<B: Board>(store: &mut Store<B>, at: u16, word: u32) -> Result<(), StoreErr>
+    requires ready { IsReady store.old }
+    requires place { IsDataAddress (committed store.old) at }
+    ensures any_exit { (committed store.new ≡ committed store.old)
+        ⊎ (committed store.new ≡ slice_set (committed store.old) at word) }
+    ensures done { OnOk result (committed store.new ≡ slice_set (committed store.old) at word) }
+    ensures by_gate { CommitsByGate store.old store.new }
+    ensures store { Changes 4 store.old store.new (result_err result) }
+{
+    let mut txn = store.begin();
+    let work = txn.set(at, word);
+    txn.end(work)
+}
+
+/// Brings the file of an entry into a state: ACTIVATE, DEACTIVATE and TERMINATE, once nothing refuses them. Where the
+/// file is in this state nothing is written.
+///
+/// # Errors
+/// What the store answers: power was lost, or the device failed.
+/// The file is then in the state that it was in, or in the new one.
+pub fn set_life_cycle<B: Board>(
+    store: &mut Store<B>,
+    e: u8,
+    state: LifeCycle,
+) -> Result<(), StoreErr>
+    requires ready { IsReady store.old }
+    requires tree { TreeStands (committed store.old) }
+    requires used { IsUsed (table (committed store.old)) e }
+    ensures any_exit { (committed store.new ≡ committed store.old)
+        ⊎ ChangesLife (committed store.old) e state (committed store.new) }
+    ensures done { OnOk result (ChangesLife (committed store.old) e state (committed store.new)) }
+    ensures stays { life_at (tree_of (committed store.old)) (path_of (table (committed store.old)) e) ≡ state
+        → OnlyReads store.old store.new }
+    ensures by_gate { CommitsByGate store.old store.new }
+    ensures store { Changes 4 store.old store.new (result_err result) }
+{
+    let entry = read_entry(store, e)?;
+    if entry.has_life_cycle(state) {
+        return Ok(());
+    }
+    write_word(store, entry_address(e), life_word(&entry, state))
+}
+
+/// Whether the access rule of an entry's file allows what the bit stands for, where these PINs are verified, and these
+/// are disabled (ISO/IEC 7816-4, 9.3.3).
+///
+/// # Errors
+/// What the store answers: power was lost, or the device failed.
+pub fn is_allowed<B: Board>(
+    store: &mut Store<B>,
+    e: u8,
+    bit: AccessBit,
+    verified: &PinSet,
+    disabled: &PinSet,
+) -> Result<bool, StoreErr>
+    requires ready { IsReady store.old }
+    requires tree { TreeStands (committed store.old) }
+    requires used { IsUsed (table (committed store.old)) e }
+    ensures allowed { IfOk result (λ allowed. allowed ≡ is_allowed (tree_of (committed store.old))
+        (path_of (table (committed store.old)) e) bit verified.now disabled.now) }
+    ensures store { Reads store.old store.new (result_err result) }
+{
+    let entry = read_entry(store, e)?;
+    Ok(is_allowed_at(&entry, bit, verified, disabled))
+}
+
+/// The same, where the entry is at hand: its rule is asked where it lies.
+pub fn is_allowed_at(entry: &Entry, bit: AccessBit, verified: &PinSet, disabled: &PinSet) -> bool
+    ensures { result ≡ is_allowed_by entry.now bit verified.now disabled.now }
+{
+    allows(entry.rule(), bit, entry.life_cycle(), verified, disabled)
+}
+
+/// Ends the use of the card: the state of the card in the header is "terminated". No other word changes. A card whose
+/// use has ended already is to take no such command: the word would be written again.
+///
+/// # Errors
+/// What the store answers: power was lost, or the device failed. The state is then as it was, or "terminated".
+pub fn terminate_card<B: Board>(store: &mut Store<B>) -> Result<(), StoreErr>
+    requires ready { IsReady store.old }
+    ensures any_exit { (committed store.new ≡ committed store.old)
+        ⊎ (committed store.new ≡ with_card_terminated (committed store.old)) }
+    ensures done { OnOk result (committed store.new ≡ with_card_terminated (committed store.old)) }
+    ensures by_gate { CommitsByGate store.old store.new }
+    ensures store { Changes 4 store.old store.new (result_err result) }
+{
+    write_word(
+        store,
+        PAGE_WORDS * HEADER_PAGE + STATE_WORD,
+        CARD_TERMINATED,
+    )
+}

@@ -1,0 +1,49 @@
+//! Where a new file finds a place.
+
+ghost use Rattle.std.specs.Prelude.{◌≡◌, IfOk};
+ghost use Rattle.std.specs.Result.{result_err};
+ghost use Rattle.undo_journal.specs.Memory.{committed, IsReady};
+ghost use Rattle.undo_journal.specs.Calls.{Reads};
+ghost use Rattle.file_tree.specs.Table.{table, IsUsed};
+ghost use Rattle.file_tree.specs.Trees.{TreeStands};
+ghost use Rattle.file_changes.specs.CreationParts.{TellsPlace};
+
+use crate::refusing::{first_free, is_deepest};
+use block_chain::free_count;
+use card_rules::Sw;
+use fcp_template::Fcp;
+use file_tree::{blocks_for, read_table};
+use undo_journal::{Board, Store, StoreErr};
+
+/// The place of a new file: an entry that no file has. Or why there is none.
+#[derive(Clone, Copy)]
+pub(crate) enum Place {
+    At(u8),
+    Refused(Sw),
+}
+
+/// The place of a new file in a dedicated file, if there is one.
+pub(crate) fn place_for<B: Board>(
+    store: &mut Store<B>,
+    df: u8,
+    fcp: &Fcp<'_>,
+) -> Result<Place, StoreErr>
+    requires ready { IsReady store.old }
+    requires tree { TreeStands (committed store.old) }
+    requires df { IsUsed (table (committed store.old)) df }
+    ensures place { IfOk result (TellsPlace (committed store.old) df fcp.now.kind) }
+    ensures store { Reads store.old store.new (result_err result) }
+{
+    let entries = read_table(store)?;
+    if is_deepest(entries.as_slice(), df) {
+        return Ok(Place::Refused(Sw::CONDITIONS_NOT_SATISFIED));
+    }
+    let Some(e) = first_free(entries.as_slice()) else {
+        return Ok(Place::Refused(Sw::NO_ROOM));
+    };
+    let free = free_count(store)?;
+    if free < blocks_for(fcp.kind.size()) {
+        return Ok(Place::Refused(Sw::NO_ROOM));
+    }
+    Ok(Place::At(e))
+}

@@ -1,0 +1,114 @@
+//! Whether a new file is refused, and why.
+
+ghost use Rattle.std.specs.Prelude.{◌≡◌, ◌≢◌, ◌↔◌, length, IfOk, IsTrue, if◌then◌else◌, Some, None};
+ghost use Rattle.std.specs.Result.{result_err};
+ghost use Rattle.undo_journal.specs.Memory.{committed, IsReady};
+ghost use Rattle.undo_journal.specs.Calls.{Reads};
+ghost use Rattle.card_rules.specs.declared.status.TheConstants.Sw.{FILE_EXISTS, NAME_EXISTS, WRONG_DATA};
+ghost use Rattle.fcp_template.specs.Ranges.{IsShort, IsCreatable};
+ghost use Rattle.file_tree.specs.Table.{ancestor, table, path_of, IsUsed};
+ghost use Rattle.file_tree.specs.Trees.{tree_of, TreeStands};
+ghost use Rattle.file_tree.specs.Indexes.{IsIndex};
+ghost use Rattle.file_tree.specs.NewFiles.{has_short_given, taken_refusal};
+ghost use Rattle.file_changes.specs.CreationParts.{TellsFreeEntry};
+
+use card_rules::Sw;
+use fcp_template::{Fcp, ShortIdentifier};
+use file_tree::{
+    DEEPEST, ENTRIES_END, Entry, Index, ancestor, entry_named, find_short, read_table,
+};
+use undo_journal::{Board, Store, StoreErr};
+
+/// A dedicated file is on the last level: six steps to parents do not lead to the master file.
+pub(crate) fn is_deepest(entries: &[Entry], df: u8) -> bool
+    ensures { IsTrue result ↔ (ancestor entries.now 6 df ≢ 0) }
+{
+    ancestor(entries, DEEPEST - 1, df) != 0
+}
+
+/// The first entry that no file has.
+pub(crate) fn first_free(entries: &[Entry]) -> Option<u8>
+    requires { length entries.now ≡ 64 }
+    ensures { TellsFreeEntry entries.now result }
+{
+    for e in 0..ENTRIES_END {
+        if !entries[usize::from(e)].is_used() {
+            return Some(e);
+        }
+    }
+    None
+}
+
+/// A child of the dedicated file has the short identifier that is given.
+fn is_short_taken<B: Board>(
+    store: &mut Store<B>,
+    df: u8,
+    short: ShortIdentifier,
+) -> Result<bool, StoreErr>
+    requires ready { IsReady store.old }
+    requires tree { TreeStands (committed store.old) }
+    requires df { IsUsed (table (committed store.old)) df }
+    requires short { IsShort short }
+    ensures taken { IfOk result (λ taken. taken
+        ≡ has_short_given (tree_of (committed store.old)) (path_of (table (committed store.old)) df) short) }
+    ensures store { Reads store.old store.new (result_err result) }
+{
+    match short {
+        ShortIdentifier::Given(number) => {
+            let found = find_short(store, df, number)?;
+            Ok(found.is_some())
+        }
+        ShortIdentifier::Absent | ShortIdentifier::Empty => Ok(false),
+    }
+}
+
+/// Which names of a new file other files have.
+#[derive(Clone, Copy)]
+struct TakenNames {
+    identifier: bool,
+    name: bool,
+    short: bool,
+}
+
+/// The first reason why a new file is refused: its identifier is taken, its name, or its short identifier.
+fn first_taken(taken: TakenNames) -> Option<Sw>
+    ensures { result ≡ (if taken.identifier then Some FILE_EXISTS else if taken.name then Some NAME_EXISTS else
+        if taken.short then Some WRONG_DATA else None) }
+{
+    if taken.identifier {
+        Some(Sw::FILE_EXISTS)
+    } else if taken.name {
+        Some(Sw::NAME_EXISTS)
+    } else if taken.short {
+        Some(Sw::WRONG_DATA)
+    } else {
+        None
+    }
+}
+
+/// Why a name of a new file is taken, if one is: its identifier, its name, or its short identifier.
+pub(crate) fn taken<B: Board>(
+    store: &mut Store<B>,
+    index: &Index,
+    df: u8,
+    fcp: &Fcp<'_>,
+) -> Result<Option<Sw>, StoreErr>
+    requires ready { IsReady store.old }
+    requires tree { TreeStands (committed store.old) }
+    requires df { IsUsed (table (committed store.old)) df }
+    requires index { IsIndex (table (committed store.old)) index.now }
+    requires fcp { IsCreatable fcp.now }
+    ensures taken { IfOk result (λ status. status
+        ≡ taken_refusal (tree_of (committed store.old)) (path_of (table (committed store.old)) df) fcp.now) }
+    ensures store { Reads store.old store.new (result_err result) }
+{
+    let child = index.child(df, fcp.identifier);
+    let entries = read_table(store)?;
+    let named = entry_named(entries.as_slice(), fcp.kind.name());
+    let short = is_short_taken(store, df, fcp.kind.short())?;
+    Ok(first_taken(TakenNames {
+        identifier: child.is_some(),
+        name: named.is_some(),
+        short,
+    }))
+}

@@ -1,0 +1,86 @@
+//! Entries written within a transaction.
+
+ghost use Rattle.std.specs.Prelude.{◌≡◌, ◌≢◌, ◌∷◌, [], ◌<◌, ◌≤◌, ◌+◌, ◌*◌, OnOk, length, take, drop};
+ghost use Rattle.std.specs.Result.{result_err};
+ghost use Rattle.undo_journal.specs.Memory.{current, room, InRuns, IsOpen};
+ghost use Rattle.undo_journal.specs.Lent.{memory_of};
+ghost use Rattle.undo_journal.specs.Calls.{SetsIn};
+ghost use Rattle.block_chain.specs.Words.{word_bytes};
+ghost use Rattle.file_tree.specs.Entries.{entry_told};
+ghost use Rattle.file_changes.specs.CreationParts.{WritesEntry};
+
+use file_tree::{ENTRY_WORDS, Entry, entry_address};
+use undo_journal::{Board, StoreErr, Txn};
+
+/// The words that tell an entry.
+fn words_of(entry: Entry) -> [u32; ENTRY_WORDS]
+    ensures { entry_told result ≡ entry }
+{
+    let rule = entry.rule;
+    let name = entry.name;
+    [
+        two_bytes(entry.kind, entry.life, entry.identifier),
+        four_bytes(
+            entry.parent,
+            entry.short,
+            entry.name_length,
+            entry.rule_length,
+        ),
+        word_at(&rule, 0),
+        word_at(&rule, 4),
+        word_at(&name, 0),
+        word_at(&name, 4),
+        word_at(&name, 8),
+        word_at(&name, 12),
+        halves(entry.size, entry.record_length),
+        halves(entry.first, entry.last),
+        halves(entry.records, entry.start),
+    ]
+}
+
+/// The word of four bytes, from a place on.
+fn word_at(bytes: &[u8], at: usize) -> u32
+    requires { at + 4 ≤ length bytes.now }
+    ensures { word_bytes result ≡ take 4 (drop at bytes.now) }
+{
+    four_bytes(bytes[at], bytes[at + 1], bytes[at + 2], bytes[at + 3])
+}
+
+/// The word of four bytes.
+fn four_bytes(first: u8, second: u8, third: u8, fourth: u8) -> u32
+    ensures { word_bytes result ≡ first ∷ second ∷ third ∷ fourth ∷ [] }
+{
+    u32::from_be_bytes([first, second, third, fourth])
+}
+
+/// Two bytes, and behind them two more.
+pub(crate) fn two_bytes(first: u8, second: u8, low: u16) -> u32
+    ensures { result ≡ 16777216 * first + 65536 * second + low }
+{
+    0x100_0000 * u32::from(first) + 0x1_0000 * u32::from(second) + u32::from(low)
+}
+
+/// Two halves of a word.
+fn halves(high: u16, low: u16) -> u32
+    ensures { result ≡ 65536 * high + low }
+{
+    0x1_0000 * u32::from(high) + u32::from(low)
+}
+
+/// Writes an entry's words on its page: one set a word.
+pub(crate) fn write_entry<B: Board>(
+    txn: &mut Txn<'_, B>,
+    e: u8,
+    entry: Entry,
+) -> Result<(), StoreErr>
+    requires ready { IsOpen (memory_of txn.old) }
+    requires within { e < 64 }
+    requires used { entry.kind ≢ 0 }
+    requires room { 11 ≤ room (memory_of txn.old) }
+    ensures done { OnOk result (WritesEntry (current (memory_of txn.old)) e entry (current (memory_of txn.new))) }
+    ensures store { SetsIn 11 txn.old txn.new (result_err result) }
+    ensures runs { InRuns 1 (memory_of txn.old) (memory_of txn.new) }
+{
+    let words = words_of(entry);
+    txn.set_run(entry_address(e), &words)
+}

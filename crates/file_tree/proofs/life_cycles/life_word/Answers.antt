@@ -1,9 +1,0 @@
-use Rattle.std.proofs.Common.{arith}
-use Rattle.file_tree.proofs.life_cycles.life_word.Goals as goal
-
-pub returns : goal.returns
-returns c = record {
-  kind = omega (arith, c.two_bytes.ensures, c.to_byte.ensures.value);
-  life = omega (arith, c.two_bytes.ensures, c.to_byte.ensures.value);
-  identifier = omega (arith, c.two_bytes.ensures, c.to_byte.ensures.value);
-}
