@@ -4,6 +4,8 @@ use Rattle.std.specs.Prelude.{◌≡◌, Option, Some, None, Result, Ok, Err}
 use Rattle.card_rules.specs.declared.status.Sw.{Sw}
 use Rattle.card_rules.specs.declared.status.TheConstants.Sw.{METHOD_BLOCKED}
 use Rattle.undo_journal.specs.declared.error.StoreErr.{StoreErr}
+use Rattle.undo_journal.specs.Calls.{Reads}
+use Rattle.undo_journal.specs.Memory.{Memory}
 use Rattle.ef_body.specs.declared.error.BodyErr.{BodyErr}
 use Rattle.ef_body.specs.declared.error.BodyErr.TheVariants as body
 use Rattle.pin_store.specs.declared.errors.PinErr.{PinErr}
@@ -45,6 +47,13 @@ abbrev pub Finds : {T : Type 0} → Result T Stop → (T → Type 0) → (Sw →
 Finds (Ok x) found refused = found x
 Finds (Err stop) found refused = IfRefused stop refused
 
+-- Calls that only read, with no transaction open, and find what a command needs, or else refuse the command, unless the
+-- store fails.
+pub record Looks {T : Type 0} (old new : Memory) (result : Result T Stop) (found : T → Type 0) (refused : Sw → Type 0)
+    : Type 0 where
+  pub told : Finds result found refused
+  pub store : Reads old new (failure result)
+
 -- a check, which finds nothing but that: it refuses just where a refusal is due
-abbrev pub Checks : {T : Type 0} → Option Sw → Result T Stop → Type 0
-Checks due result = Finds result (λ _. due ≡ None) (λ status. due ≡ Some status)
+abbrev pub Checks : {T : Type 0} → Memory → Memory → Option Sw → Result T Stop → Type 0
+Checks old new due result = Looks old new result (λ _. due ≡ None) (λ status. due ≡ Some status)

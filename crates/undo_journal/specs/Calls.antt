@@ -1,5 +1,6 @@
 -- What calls leave of a store, or of a transaction: what stays as it was, and what they tell.
-use Rattle.std.specs.Prelude.{◌≡◌, ◌+◌, ◌≤◌, ℕ, Option, Some, None}
+use Rattle.std.specs.Prelude.{◌≡◌, ◌+◌, ◌≤◌, ℕ, Option, Some, None, Result, IfOk}
+use Rattle.std.specs.Result.{result_err}
 use Rattle.undo_journal.specs.declared.error.StoreErr.{StoreErr}
 use Rattle.undo_journal.specs.declared.txn.Txn.{Txn}
 use Rattle.undo_journal.specs.Lent.{memory_of, store_of}
@@ -65,3 +66,8 @@ pub record SetsIn {B : Type 0} (n : ℕ) (old new : Txn B) (told : Option StoreE
   pub sets : Sets n old new
   pub ready : UnlessFailed told (IsOpen (memory_of new))
   pub tells : (memory_of new).failed ≡ told
+
+-- Calls that only read, with no transaction open, and learn what they are asked for, unless the store fails.
+pub record Learns {T : Type 0} (old new : Memory) (result : Result T StoreErr) (fact : T → Type 0) : Type 0 where
+  pub told : IfOk result fact
+  pub store : Reads old new (result_err result)
