@@ -1,7 +1,6 @@
 //! Whether the words of a memory are those of a card, and in which format.
-ghost use Rattle.std.specs.Prelude.{◌≡◌, ◌<◌, ◌≤◌, ◌↔◌, IfOk, IsTrue, MatchOption};
-ghost use Rattle.std.specs.Result.{result_err};
-ghost use Rattle.undo_journal.specs.Calls.{Reads};
+ghost use Rattle.std.specs.Prelude.{◌≡◌, ◌<◌, ◌≤◌, ◌↔◌, IsTrue, MatchOption};
+ghost use Rattle.undo_journal.specs.Calls.{Learns};
 ghost use Rattle.undo_journal.specs.Memory.{committed, IsReady};
 ghost use Rattle.block_chain.specs.Words.{word};
 ghost use Rattle.block_chain.specs.declared.layout.TheConstants.{HEADER_PAGE};
@@ -28,8 +27,7 @@ pub(crate) struct Checked {
 fn header_word<B: Board>(store: &mut Store<B>, place: u16) -> Result<u32, StoreErr>
     requires ready { IsReady store.old }
     requires place { place < PAGE_WORDS }
-    ensures word { IfOk result (λ w. w ≡ word (committed store.old) HEADER_PAGE place) }
-    ensures store { Reads store.old store.new (result_err result) }
+    ensures { Learns store.old store.new result (λ w. w ≡ word (committed store.old) HEADER_PAGE place) }
 {
     store.read(PAGE_WORDS * HEADER_PAGE + place)
 }
@@ -53,8 +51,7 @@ fn format_of(mark: u32, end: u32, state: u32) -> Option<MemoryFormat>
 #[tactic(auto, using(undo_journal::specs::laws::Calls::reads_then))]
 fn find_format<B: Board>(store: &mut Store<B>) -> Result<Option<MemoryFormat>, StoreErr>
     requires ready { IsReady store.old }
-    ensures header { IfOk result (TellsHeader (committed store.old)) }
-    ensures store { Reads store.old store.new (result_err result) }
+    ensures { Learns store.old store.new result (TellsHeader (committed store.old)) }
 {
     let mark = header_word(store, MARK_WORD)?;
     let end = header_word(store, PAGES_WORD)?;
@@ -66,8 +63,7 @@ fn find_format<B: Board>(store: &mut Store<B>) -> Result<Option<MemoryFormat>, S
 #[tactic(auto, using(undo_journal::specs::laws::Calls::reads_then))]
 fn has_pins<B: Board>(store: &mut Store<B>, format: MemoryFormat) -> Result<bool, StoreErr>
     requires ready { IsReady store.old }
-    ensures pins { IfOk result (λ pins. IsTrue pins ↔ HoldsPins format (committed store.old)) }
-    ensures store { Reads store.old store.new (result_err result) }
+    ensures { Learns store.old store.new result (λ pins. IsTrue pins ↔ HoldsPins format (committed store.old)) }
 {
     if !are_pins(store)? {
         return Ok(false);
@@ -83,8 +79,7 @@ fn has_pins<B: Board>(store: &mut Store<B>, format: MemoryFormat) -> Result<bool
 #[tactic(auto, using(undo_journal::specs::laws::Calls::reads_then))]
 pub(crate) fn find_card<B: Board>(store: &mut Store<B>) -> Result<Option<Checked>, StoreErr>
     requires ready { IsReady store.old }
-    ensures card { IfOk result (TellsCard (committed store.old)) }
-    ensures store { Reads store.old store.new (result_err result) }
+    ensures { Learns store.old store.new result (TellsCard (committed store.old)) }
 {
     let Some(format) = find_format(store)? else {
         return Ok(None);

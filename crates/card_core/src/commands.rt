@@ -1,7 +1,6 @@
 //! A command on a card: one step of the tree machine.
-ghost use Rattle.std.specs.Prelude.{◌≡◌, ◌==◌, [], IfOk, OnOk};
-ghost use Rattle.std.specs.Result.{result_err};
-ghost use Rattle.undo_journal.specs.Calls.{Reads};
+ghost use Rattle.std.specs.Prelude.{◌≡◌, ◌==◌, [], OnOk};
+ghost use Rattle.undo_journal.specs.Calls.{Learns};
 ghost use Rattle.undo_journal.specs.Memory.{IsReady};
 ghost use Rattle.apdu_core.specs.Fields.{IsInRange};
 ghost use Rattle.apdu_core.specs.Requests.{request_of};
@@ -61,8 +60,7 @@ fn obey<B: Board>(lent: &mut Lent<B>, command: &[u8], answer: &mut Answer) -> Re
 /// The use of the card has not ended.
 fn is_in_use<B: Board>(store: &mut Store<B>) -> Result<bool, StoreErr>
     requires ready { IsReady store.old }
-    ensures in_use { IfOk result (λ in_use. in_use ≡ (card_in store.old).in_use) }
-    ensures store { Reads store.old store.new (result_err result) }
+    ensures { Learns store.old store.new result (λ in_use. in_use ≡ (card_in store.old).in_use) }
 {
     let state = store.read(PAGE_WORDS * HEADER_PAGE + STATE_WORD)?;
     Ok(state == CARD_IN_USE)

@@ -1,10 +1,10 @@
 //! Commands on PINs: VERIFY, CHANGE REFERENCE DATA, RESET RETRY COUNTER, DISABLE and ENABLE VERIFICATION REQUIREMENT
 //! (ISO/IEC 7816-4, 11.5 and 11.6). A try is taken away, lastingly, before anything is compared.
-ghost use Rattle.std.specs.Prelude.{◌≡◌, ◌⊎◌, ◌<◌, ◌+◌, [], Some, option_map, IfOk, OnOk, IsSome};
+ghost use Rattle.std.specs.Prelude.{◌≡◌, ◌⊎◌, ◌<◌, ◌+◌, [], Some, option_map, OnOk, IsSome};
 ghost use Rattle.std.specs.Result.{result_err};
 ghost use Rattle.nvm_board.specs.declared.board.TheConstants.{SECRETS};
 ghost use Rattle.undo_journal.specs.Commits.{StaysShut};
-ghost use Rattle.undo_journal.specs.Calls.{OnlyReads, Reads, Changes};
+ghost use Rattle.undo_journal.specs.Calls.{Learns, OnlyReads, Changes};
 ghost use Rattle.undo_journal.specs.Memory.{committed, IsReady};
 ghost use Rattle.card_rules.specs.Pins.{IsPinNumber};
 ghost use Rattle.apdu_core.specs.Requests.{change_reference_data as changing, reset_retry_counter as resetting};
@@ -184,8 +184,8 @@ fn tell_tries<B: Board>(store: &mut Store<B>, secret: u8) -> Result<Sw, StoreErr
     requires ready { IsReady store.old }
     requires secret { secret < SECRETS }
     requires pages { ArePinPages (committed store.old) }
-    ensures told { IfOk result (λ status. status ≡ tries_told (tries_left secret (pin_in store.old secret))) }
-    ensures store { Reads store.old store.new (result_err result) }
+    ensures { Learns store.old store.new result
+        (λ status. status ≡ tries_told (tries_left secret (pin_in store.old secret))) }
 {
     let left = tries(store, secret)?;
     Ok(tries_status(left))
@@ -216,8 +216,7 @@ fn check_use<B: Board>(store: &mut Store<B>, secret: u8, usable: Usable) -> Resu
     requires ready { IsReady store.old }
     requires secret { secret < SECRETS }
     requires pages { ArePinPages (committed store.old) }
-    ensures refusal { Checks (refused_use usable secret (pin_in store.old secret)) result }
-    ensures store { Reads store.old store.new (failure result) }
+    ensures { Checks store.old store.new (refused_use usable secret (pin_in store.old secret)) result }
 {
     if tries(store, secret)? == 0 {
         return Err(Stop::Refused(Sw::METHOD_BLOCKED));

@@ -7,6 +7,7 @@ use Rattle.card_core.specs.declared.memory_format.MemoryFormat.TheVariants.{Two}
 use Rattle.pin_store.specs.Pages.{AreMarks}
 use Rattle.card_core.specs.StartParts.{HoldsPins}
 use Rattle.pin_store.specs.Pages.{ArePinPages}
+use Rattle.undo_journal.specs.laws.Told.{reads_on}
 use Rattle.card_core.proofs.check.has_pins.Goals as goal
 
 -- where the PINs may be those of a card, their marks tell
@@ -18,10 +19,12 @@ by-marks m now pins (Ok marked) same tells = (
 )
 by-marks m now pins (Err e) same tells = tt
 
-pub returns-in-Two-clause-pins : goal.returns-in-Two-clause-pins
-returns-in-Two-clause-pins g c =
-    let m = committed c.args.store.now in
-    subst (λ (format : MemoryFormat). IfOk c.are_marks.result (λ pins. IsTrue pins ↔ HoldsPins format m))
-    (sym c.in-Two.is) (by-marks m
-    (committed c.are_pins.new.store) (c.in_ok-are_pins.ensures.pins.0 c.if-not-branch.false) c.are_marks.result
-    c.are_pins.ensures.store.only.keeps.committed_words c.are_marks.ensures.marks)
+pub returns-in-Two : goal.returns-in-Two
+returns-in-Two g c = record {
+  told = let m = committed c.args.store.now in
+        subst (λ (format : MemoryFormat). IfOk c.are_marks.result (λ pins. IsTrue pins ↔ HoldsPins format m))
+        (sym c.in-Two.is) (by-marks m
+        (committed c.are_pins.new.store) (c.in_ok-are_pins.ensures.pins.0 c.if-not-branch.false) c.are_marks.result
+        c.are_pins.ensures.store.only.keeps.committed_words c.are_marks.ensures.marks);
+  store = reads_on _ _ _ _ c.are_pins.ensures.store.only c.are_marks.ensures.store;
+}

@@ -33,7 +33,7 @@ returns-then-not-branch-clause-carries g c =
     let x = c.args.lent.now.current in
     let new = c.is_in_use.new.store in
     let bytes = c.args.command.now in
-    let ended = sym c.in_ok-is_in_use.ensures.in_use ∙ c.if-not-branch.true in
+    let ended = sym c.in_ok-is_in_use.ensures.told ∙ c.if-not-branch.true in
     subst (λ (text : List ℕ). CarriesOut bytes old x new x text (Ok CONDITIONS_NOT_SATISFIED)) (sym c.requires.empty)
     (use-ended bytes old new x c.requires.whole.kept (request_of c.in_ok-command.command) c.in_ok-command.ensures.asked
     ended c.in_ok-is_in_use.ensures.store.only c.in_ok-is_in_use.ensures.store.ready)
@@ -43,7 +43,7 @@ returns-clause-carries g c =
     let old = c.args.lent.now.store in
     let x = c.args.lent.now.current in
     let request = request_of c.in_ok-command.command in
-    let in_use = sym c.in_ok-is_in_use.ensures.in_use ∙ c.if-not-branch.false in
+    let in_use = sym c.in_ok-is_in_use.ensures.told ∙ c.if-not-branch.false in
     carried c.args.command.now old c.serve.new.lent.store x c.serve.new.lent.current c.serve.new.answer.items
     (reply c.serve.result) request c.in_ok-command.ensures.asked in_use (serves-after request old c.is_in_use.new.store
     c.serve.new.lent.store x c.serve.new.lent.current c.serve.new.answer.items

@@ -1,9 +1,12 @@
+use Rattle.std.proofs.Common.{rules}
 use Rattle.undo_journal.specs.laws.Told.{reads_on}
 use Rattle.card_machine.specs.declared.stop.Stop.TheVariants.{Failed}
 use Rattle.card_machine.specs.laws.Stopping.{reads-stopped}
 use Rattle.card_core.proofs.pins.check_use.Goals as goal
 
-pub returns-in_err-enabled-clause-store : goal.returns-in_err-enabled-clause-store
-returns-in_err-enabled-clause-store g c =
-    reads-stopped _ (Failed c.in_err-enabled.field-0.0) c.from_residual-in_err-enabled.ensures.1 _ _
-    (reads_on _ _ _ _ c.tries.ensures.store.only c.in_err-enabled.ensures.store)
+pub returns-in_err-enabled : goal.returns-in_err-enabled
+returns-in_err-enabled g c = record {
+  told = search rules;
+  store = reads-stopped _ (Failed c.in_err-enabled.field-0.0) c.from_residual-in_err-enabled.ensures.1 _ _
+        (reads_on _ _ _ _ c.tries.ensures.store.only c.in_err-enabled.ensures.store);
+}

@@ -13,7 +13,7 @@ pub returns-in_err-renew-in-One-clause-store : goal.returns-in_err-renew-in-One-
 returns-in_err-renew-in-One-clause-store g c =
     let m = committed c.args.store.now in
     let same = c.find_card.ensures.store.only.keeps.committed_words in
-    let old = found-one m _ c.in-Some.found c.in-Some.is c.in-One.is c.in_ok-found.ensures.card in
+    let old = found-one m _ c.in-Some.found c.in-Some.is c.in-One.is c.in_ok-found.ensures.told in
     let told = Some c.in_err-renew-in-One.field-0.0 in
     let first = c.args.store.now in
     let last = c.renew.new.store in
@@ -26,7 +26,7 @@ pub returns-in-Two-clause-card : goal.returns-in-Two-clause-card
 returns-in-Two-clause-card g c =
     let m = committed c.args.store.now in
     let same = sym c.find_card.ensures.store.only.keeps.committed_words in
-    let there = found-two m _ c.in-Some.found c.in-Some.is c.in-Two.is c.in_ok-found.ensures.card in (
+    let there = found-two m _ c.in-Some.found c.in-Some.is c.in-Two.is c.in_ok-found.ensures.told in (
       inl there.0,
       subst IsCard same there.0,
       there.1 ∙ ap (λ (l : List ℕ). card_space (card_of l)) same,
@@ -37,7 +37,7 @@ pub returns-in_ok-renew-in-One-clause-store : goal.returns-in_ok-renew-in-One-cl
 returns-in_ok-renew-in-One-clause-store g c =
     let m = committed c.args.store.now in
     let same = c.find_card.ensures.store.only.keeps.committed_words in
-    let old = found-one m _ c.in-Some.found c.in-Some.is c.in-One.is c.in_ok-found.ensures.card in
+    let old = found-one m _ c.in-Some.found c.in-Some.is c.in-One.is c.in_ok-found.ensures.told in
     let first = c.args.store.now in
     let last = c.renew.new.store in
     let changes = changes_after _ first c.find_card.new.store last None c.find_card.ensures.store.only
@@ -50,7 +50,7 @@ returns-in_ok-renew-in-One-clause-card g c =
     let mid = committed c.find_card.new.store in
     let after = committed c.renew.new.store in
     let same = c.find_card.ensures.store.only.keeps.committed_words in
-    let told = c.in_ok-found.ensures.card in
+    let told = c.in_ok-found.ensures.told in
     let old = found-one m _ c.in-Some.found c.in-Some.is c.in-One.is told in
     let migrates = c.in_ok-renew-in-One.ensures.any_exit in (
       inr old,
