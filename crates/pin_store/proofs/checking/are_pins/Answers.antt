@@ -1,4 +1,4 @@
-use Rattle.std.proofs.Common.{◌≡◌, ◌≤◌, ◌↔◌, ℕ, List, subst, sym, ◌∙◌, true≢false, arith, rules}
+use Rattle.std.proofs.Common.{◌≡◌, ℕ, List, subst, sym, ◌∙◌, true≢false, arith}
 use Rattle.std.proofs.lemmas.Result.{IfOk-weaker}
 use Rattle.undo_journal.specs.Memory.{committed}
 use Rattle.undo_journal.specs.laws.Told.{reads_on}

@@ -1,7 +1,6 @@
 use Rattle.std.proofs.Common.{inl, rules}
 use Rattle.pin_store.specs.Renewals.{renewal_writes, renewed_pin}
 use Rattle.pin_store.specs.Trials.{pin_in}
-use Rattle.pin_store.specs.laws.AllPins.{renewed_pages}
 use Rattle.pin_store.proofs.Settled.{pages_stay, compares_more, compares_then, match_told, matched_sets}
 use Rattle.pin_store.proofs.Settled.{matched_sets_or_not, end_told}
 use Rattle.undo_journal.specs.laws.Transactions.{by_gate_after}
@@ -31,9 +30,7 @@ returns-in_err-put_renewed g c = record {
   done = search rules;
   by_gate = by_gate_after c.args.store.now c.compare.new.store c.put_renewed.new.store c.compare.ensures.kept
       c.put_renewed.ensures.by_gate;
-  pages = renewed_pages _ _ c.args.renewal c.secret-secret.result
-      (pages_stay _ _ c.compare.ensures.kept c.requires.pages)
-      c.put_renewed.ensures.any_exit;
+  pages = c.put_renewed.ensures.pages (pages_stay _ _ c.compare.ensures.kept c.requires.pages);
   store = leaves_handed _ _ _ _ c.from_residual-in_err-put_renewed.ensures.1
       (leaves_on _ _ _ _ c.compare.ensures.store.reports (changes_leave _ _ _ _ c.in_err-put_renewed.ensures.store));
   spends = compares_then (renewal_writes c.args.renewal) _ _ _ _ c.compare.ensures.spends
@@ -60,9 +57,7 @@ returns-in_ok-put_renewed g c = record {
       c.put_renewed.ensures.store.writes
       c.in_ok-put_renewed.ensures.done);
   by_gate = search rules;
-  pages = renewed_pages _ _ c.args.renewal c.secret-secret.result
-      (pages_stay _ _ c.compare.ensures.kept c.requires.pages)
-      c.put_renewed.ensures.any_exit;
+  pages = c.put_renewed.ensures.pages (pages_stay _ _ c.compare.ensures.kept c.requires.pages);
   store = leaves_on _ _ _ _ c.compare.ensures.store.reports (changes_leave _ _ _ _ c.in_ok-put_renewed.ensures.store);
   spends = compares_then (renewal_writes c.args.renewal) _ _ _ _ c.compare.ensures.spends
       c.put_renewed.ensures.store.writes;

@@ -6,9 +6,6 @@ use Rattle.pin_store.proofs.Settled.{matched_sets_or_not, end_told}
 use Rattle.undo_journal.specs.laws.Told.{leaves_on, leaves_handed, changes_leave}
 use Rattle.pin_store.proofs.settling.settle.Goals as goal
 
-pub put_tries-requires-clause-pages : goal.put_tries-requires-clause-pages
-put_tries-requires-clause-pages g c = pages_stay _ _ c.compare.ensures.kept c.requires.pages
-
 pub returns-in_err-outcome : goal.returns-in_err-outcome
 returns-in_err-outcome g c = record {
   any_exit = inl c.compare.ensures.kept;
@@ -29,7 +26,7 @@ returns-in_err-put_tries g c = record {
       c.put_tries.ensures.any_exit;
   done = search rules;
   by_gate = search rules;
-  pages = search rules;
+  pages = c.put_tries.ensures.pages (pages_stay _ _ c.compare.ensures.kept c.requires.pages);
   store = leaves_handed _ _ _ _ c.from_residual-in_err-put_tries.ensures.1
       (leaves_on _ _ _ _ c.compare.ensures.store.reports (changes_leave _ _ _ _ c.in_err-put_tries.ensures.store));
   spends = compares_then 1 _ _ _ _ c.compare.ensures.spends c.put_tries.ensures.store.writes;
@@ -52,7 +49,7 @@ returns-in_ok-put_tries g c = record {
       c.put_tries.ensures.store.writes
       c.in_ok-put_tries.ensures.done);
   by_gate = search rules;
-  pages = search rules;
+  pages = c.put_tries.ensures.pages (pages_stay _ _ c.compare.ensures.kept c.requires.pages);
   store = leaves_on _ _ _ _ c.compare.ensures.store.reports (changes_leave _ _ _ _ c.in_ok-put_tries.ensures.store);
   spends = compares_then 1 _ _ _ _ c.compare.ensures.spends c.put_tries.ensures.store.writes;
   counted = search rules;
