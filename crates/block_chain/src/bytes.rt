@@ -1,5 +1,5 @@
 //! Bytes of a chain that are set within a transaction, and of free blocks that are filled before one.
-ghost use Rattle.std.specs.Prelude.{◌≡◌, ◌+◌, ◌-◌, ◌*◌, ◌/◌, ◌<◌, ◌≤◌, ℕ, length, take, replicate, IfOk, OnOk};
+ghost use Rattle.std.specs.Prelude.{◌≡◌, ◌↔◌, ◌+◌, ◌-◌, ◌*◌, ◌/◌, ◌<◌, ◌≤◌, ℕ, length, take, replicate, IfOk, OnOk};
 ghost use Rattle.std.specs.Prelude.{slice_index, ◌%◌, ◌==◌, if◌then◌else◌, IsTrue};
 ghost use Rattle.undo_journal.specs.Undo.{IsDataAddress};
 ghost use Rattle.std.specs.Result.{result_err};
@@ -51,8 +51,7 @@ fn overwritten_byte(byte: u8, at: u16, offset: u16, bytes: &[u8]) -> u8
 
 /// Whether bytes that are put from an offset on take the place of all four of a word, whose first byte is that at `at`.
 fn covers_word(at: u16, offset: u16, bytes: &[u8]) -> bool
-    ensures low { IsTrue result → offset ≤ at }
-    ensures high { IsTrue result → at + 4 ≤ offset + length bytes.now }
+    ensures { IsTrue result ↔ ((offset ≤ at) × (at + 4 ≤ offset + length bytes.now)) }
 {
     offset <= at && usize::from(at - offset) + 4 <= bytes.len()
 }

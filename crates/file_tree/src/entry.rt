@@ -1,6 +1,6 @@
 //! File entries, as their pages hold them.
 
-ghost use Rattle.std.specs.Prelude.{◌≡◌, ◌≢◌, ◌↔◌, ◌<◌, ◌++◌, IfSome, IsNone, IsTrue};
+ghost use Rattle.std.specs.Prelude.{◌≡◌, ◌≢◌, ◌↔◌, ◌<◌, ◌++◌, take, IfSome, IsNone, IsTrue};
 ghost use Rattle.card_rules.specs.LifeCycle.{life_cycle_byte};
 ghost use Rattle.block_chain.specs.Words.{word_bytes};
 ghost use Rattle.file_tree.specs.Kinds.{kind_byte};
@@ -158,16 +158,14 @@ impl Entry {
     pub fn name(&self) -> &[u8]
         ensures { result.now ≡ name_of self.now }
     {
-        let length = usize::from(self.name_length).min(self.name.len());
-        &self.name[..length]
+        first_bytes(&self.name, self.name_length)
     }
 
     /// The access rule.
     pub fn rule(&self) -> &[u8]
         ensures { result.now ≡ rule_of self.now }
     {
-        let length = usize::from(self.rule_length).min(self.rule.len());
-        &self.rule[..length]
+        first_bytes(&self.rule, self.rule_length)
     }
 
     /// The blocks that an elementary file has: as many as its size takes, in the chain that the entry names.
@@ -220,6 +218,14 @@ fn state_of(life: u8) -> LifeCycle
     ensures { result ≡ state_told life }
 {
     LifeCycle::from_byte(life).unwrap_or(LifeCycle::Activated)
+}
+
+/// The first bytes of some, so many as are meant, or all where there are fewer.
+fn first_bytes(bytes: &[u8], length: u8) -> &[u8]
+    ensures { result.now ≡ take length bytes.now }
+{
+    let length = usize::from(length).min(bytes.len());
+    &bytes[..length]
 }
 
 /// The first two bytes of a word.

@@ -1,6 +1,6 @@
 //! Where each file is by its parent and identifier, held in working memory, so that no store is read to find it.
 
-ghost use Rattle.std.specs.Prelude.{◌≡◌, ◌<◌, ◌≤◌, ℕ, List, All, IsTrue, length, filter, option_map};
+ghost use Rattle.std.specs.Prelude.{◌≡◌, ◌<◌, ◌≤◌, ◌↔◌, ℕ, List, All, IsTrue, length, filter, option_map};
 ghost use Rattle.std.specs.List.Sorted.{IsSearchInRange};
 ghost use Rattle.file_tree.specs.declared.entry.Entry.{Entry};
 ghost use Rattle.file_tree.specs.Keys.{IsBefore};
@@ -60,11 +60,11 @@ fn search(places: &[Place], key: Key, steps: &mut Steps) -> Result<usize, usize>
 
 /// Whether a key is behind those of all places, which ascend.
 fn is_behind(places: &[Place], key: Key) -> bool
-    ensures { AreSorted places.now → IsTrue result → All (λ place. IsBefore place.key key) places.now }
+    ensures { AreSorted places.now → (IsTrue result ↔ All (λ place. IsBefore place.key key) places.now) }
 {
     let end = places.len();
     if end == 0 {
-        return false;
+        return true;
     }
     let mut steps = Steps::new();
     match steps.compare(places[end - 1].key, key) {

@@ -3,7 +3,7 @@
 ghost use Rattle.std.specs.Prelude.{◌≡◌, ◌==◌, ◌≤◌, ◌↔◌, ℕ, List, IsTrue, IfOk, IfSome, option_map};
 ghost use Rattle.std.specs.Result.{result_err};
 ghost use Rattle.undo_journal.specs.Memory.{committed, IsReady};
-ghost use Rattle.undo_journal.specs.Calls.{Reads};
+ghost use Rattle.undo_journal.specs.Calls.{Learns, Reads};
 ghost use Rattle.file_tree.specs.Reaching.{reached, child_by_short};
 ghost use Rattle.file_tree.specs.Table.{IsChild, table, entry_in, path_of, IsUsed, IsTable};
 ghost use Rattle.file_tree.specs.Trees.{tree_of, TreeStands};
@@ -31,8 +31,7 @@ fn is_child(entry: &Entry, df: u8, short: u8) -> bool
 /// The entry of the child of a dedicated file with this short identifier, if it has one.
 fn first_child<B: Board>(store: &mut Store<B>, df: u8, short: u8) -> Result<Reached, StoreErr>
     requires ready { IsReady store.old }
-    ensures found { IfOk result (TellsShort (table (committed store.old)) df short) }
-    ensures store { Reads store.old store.new (result_err result) }
+    ensures { Learns store.old store.new result (TellsShort (table (committed store.old)) df short) }
 {
     for e in 1..ENTRIES_END {
         let entry = read_entry(store, e)?;
@@ -73,8 +72,7 @@ fn find_beside<B: Board>(
     requires tree { TreeStands (committed store.old) }
     requires df { IsUsed (table (committed store.old)) df }
     requires index { IsIndex (table (committed store.old)) index.now }
-    ensures found { IfOk result (TellsBeside (table (committed store.old)) df identifier) }
-    ensures store { Reads store.old store.new (result_err result) }
+    ensures { Learns store.old store.new result (TellsBeside (table (committed store.old)) df identifier) }
 {
     if df == 0 {
         return Ok(None);

@@ -1,3 +1,2 @@
 mod Counting
-mod Pages
 mod Settled

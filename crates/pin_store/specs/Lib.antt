@@ -3,4 +3,5 @@ pub mod Pins
 pub mod Pages
 pub mod Trials
 pub mod Renewals
+pub mod Puts
 pub mod laws

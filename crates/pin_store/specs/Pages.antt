@@ -37,6 +37,10 @@ pins_of m = map (pin_at m) (range_with_len 0 PINS)
 unfoldable pub unmarked_pins_of : List ℕ → List Pin
 unmarked_pins_of m = map (λ pin. enabled_pin (pin_at m pin)) (range_with_len 0 PINS)
 
+-- this word of each PIN's page is at most so much
+pub record AreAtMost (most place : ℕ) (m : List ℕ) : Type 0 where
+  pub each : (pin : ℕ) → pin < PINS → pin_word m pin place ≤ most
+
 -- a PIN has at most 3 tries, and its unblocking value at most 10
 pub record IsPinPage (m : List ℕ) (pin : ℕ) : Type 0 where
   pub tries : pin_word m pin 0 ≤ TRIES

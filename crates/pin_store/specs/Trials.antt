@@ -1,16 +1,18 @@
 -- What a charge and the ends that follow it leave of a store, and the law that binds them:
 -- a comparison costs a lasting try.
-use Rattle.std.specs.Prelude.{◌≡◌, ◌⊎◌, ◌<◌, ◌≤◌, ◌+◌, ℕ, List, slice_index, Option, Some, None, Result, Ok, Err}
+use Rattle.std.specs.Prelude.{◌≡◌, ◌⊎◌, ◌<◌, ◌≤◌, ◌+◌, ℕ, List, slice_index, Option, Some, None, Result, Ok, Err, IfOk}
+use Rattle.std.specs.Result.{result_err}
 use Rattle.nvm_board.specs.Aims.{AimsOn}
 use Rattle.nvm_board.specs.Facts.{Facts, RisesAt, raised}
 use Rattle.undo_journal.specs.declared.error.StoreErr.{StoreErr}
+use Rattle.undo_journal.specs.Calls.{Leaves}
 use Rattle.undo_journal.specs.Memory.{Memory, committed}
 use Rattle.pin_store.specs.declared.errors.PinErr.{PinErr}
 use Rattle.pin_store.specs.declared.errors.PinErr.TheVariants as pin_err
 use Rattle.pin_store.specs.declared.errors.Outcome.{Outcome}
 use Rattle.pin_store.specs.declared.errors.Outcome.TheVariants.{Matched, Wrong}
 use Rattle.pin_store.specs.Pins.{Pin, owner, kept, tries_left, full_tries, charged_pin}
-use Rattle.pin_store.specs.Pages.{pin_at, IsApart, IsMark, SetsPin}
+use Rattle.pin_store.specs.Pages.{pin_at, ArePinPages, IsApart, IsMark, SetsPin}
 use Rattle.pin_store.specs.declared.layout.TheConstants.{PINS}
 
 -- the PIN of a secret, as what is committed has it
@@ -71,6 +73,18 @@ end_writes writes (Wrong left) = 0
 abbrev pub EndsByOutcome : ℕ → List ℕ → Pin → Memory → Memory → Outcome → Type 0
 EndsByOutcome secret shown now old new Matched = SetsByMatch secret shown now old new
 EndsByOutcome secret shown now old new (Wrong left) = IsWrong secret shown left old new
+
+-- A call that ends a charge: it compares once, and a match sets the PIN to what `set` makes of it, in so many device
+-- writes; at each exit the PIN is set so, or all is as it was. `gate` says what becomes of the gate.
+pub record Ends (gate : Memory → Memory → Type 0) (writes secret : ℕ) (shown : List ℕ) (set : Pin → Pin)
+    (old new : Memory) (result : Result Outcome StoreErr) : Type 0 where
+  pub any_exit : (committed new ≡ committed old) ⊎ SetsByMatch secret shown (set (pin_in old secret)) old new
+  pub done : IfOk result (EndsByOutcome secret shown (set (pin_in old secret)) old new)
+  pub by_gate : gate old new
+  pub pages : ArePinPages (committed new)
+  pub store : Leaves old new (result_err result)
+  pub spends : ComparesOnce writes secret old.facts new.facts
+  pub counted : IfOk result (λ outcome. new.facts.writes ≡ old.facts.writes + end_writes writes outcome)
 
 -- A match of what was shown was counted, and all tries of it are there again.
 pub record FillsByMatch (secret : ℕ) (shown : List ℕ) (old new : Memory) : Type 0 where

@@ -51,7 +51,7 @@ pub fn one_pin_is_set()
 
 /// The PIN law: a comparison costs a lasting try. It holds of the store before a charge and at each of its exits, and
 /// of the store before a charge and at each exit of the end that spends its receipt: what `charge`, `settle`, `change`,
-/// `reset_counter` and `set_enabled` leave, by their clauses `any_exit`, `store` and `spends`, is all that it asks.
+/// `reset_counter` and `set_enabled` leave, by their `any_exit`, `store` and `spends`, is all that it asks.
 pub fn a_comparison_costs_a_try()
     ensures charge { (secret : ℕ) (shown : List ℕ) (a b : Memory) → (committed b ≡ committed a) ⊎ Charges secret a b
         → WritesAtMost 1 a.facts b.facts → KeepsPinLaw secret shown a b }

@@ -1,13 +1,11 @@
 //! PINs that are set after a match.
-ghost use Rattle.std.specs.Prelude.{◌≡◌, ◌⊎◌, ◌+◌, ◌≤◌, OnOk, if◌then◌else◌};
-ghost use Rattle.std.specs.Result.{result_err};
-ghost use Rattle.undo_journal.specs.Calls.{Changes, SetsIn};
+ghost use Rattle.std.specs.Prelude.{◌≡◌, ◌≤◌, if◌then◌else◌};
 ghost use Rattle.undo_journal.specs.Commits.{CommitsByGate, StaysShut};
 ghost use Rattle.undo_journal.specs.Lent.{memory_of};
-ghost use Rattle.undo_journal.specs.Memory.{committed, current, room, CountsCommit, InRuns, IsOpen, IsReady};
-ghost use Rattle.pin_store.specs.Pins.{changed_pin, marked_pin, owner, reset_pin, tries_left, verified_pin, with_tries};
+ghost use Rattle.undo_journal.specs.Memory.{room, IsOpen, IsReady};
+ghost use Rattle.pin_store.specs.Pins.{changed_pin, marked_pin, reset_pin, tries_left, verified_pin, with_tries};
+ghost use Rattle.pin_store.specs.Puts.{PutsIts, SetsIts};
 ghost use Rattle.pin_store.specs.Renewals.{renewal_runs, renewal_sets, renewal_writes, renewed_pin};
-ghost use Rattle.pin_store.specs.Pages.{pin_at, ArePinPages, SetsPin};
 ghost use Rattle.pin_store.specs.Trials.{pin_in};
 
 use crate::layout::{PIN_MARK_WORD, TRIES, UNBLOCKING_TRIES};
@@ -29,11 +27,7 @@ pub(crate) enum Renewal<'a> {
 fn set_value<B: Board>(txn: &mut Txn<'_, B>, secret: u8, new: &[u8; 8]) -> Result<(), StoreErr>
     requires ready { IsOpen (memory_of txn.old) }
     requires room { 3 ≤ room (memory_of txn.old) }
-    ensures done { OnOk result (SetsPin (current (memory_of txn.old)) (owner secret)
-        (changed_pin new.now (pin_at (current (memory_of txn.old)) (owner secret))) (current (memory_of txn.new))) }
-    ensures store { SetsIn 3 txn.old txn.new (result_err result) }
-    ensures counted { OnOk result (CountsCommit 5 (memory_of txn.old) (memory_of txn.new)) }
-    ensures runs { InRuns 2 (memory_of txn.old) (memory_of txn.new) }
+    ensures { SetsIts 3 2 secret (changed_pin new.now) txn.old txn.new result }
 {
     let [first, second] = words_of(new);
     txn.set_run(address_of(secret, 0), &[u32::from(TRIES)])?;
@@ -45,11 +39,7 @@ fn set_value<B: Board>(txn: &mut Txn<'_, B>, secret: u8, new: &[u8; 8]) -> Resul
 fn set_all<B: Board>(txn: &mut Txn<'_, B>, secret: u8, new: &[u8; 8]) -> Result<(), StoreErr>
     requires ready { IsOpen (memory_of txn.old) }
     requires room { 4 ≤ room (memory_of txn.old) }
-    ensures done { OnOk result (SetsPin (current (memory_of txn.old)) (owner secret)
-        (reset_pin new.now (pin_at (current (memory_of txn.old)) (owner secret))) (current (memory_of txn.new))) }
-    ensures store { SetsIn 4 txn.old txn.new (result_err result) }
-    ensures counted { OnOk result (CountsCommit 4 (memory_of txn.old) (memory_of txn.new)) }
-    ensures runs { InRuns 1 (memory_of txn.old) (memory_of txn.new) }
+    ensures { SetsIts 4 1 secret (reset_pin new.now) txn.old txn.new result }
 {
     let [first, second] = words_of(new);
     txn.set_run(
@@ -62,11 +52,7 @@ fn set_all<B: Board>(txn: &mut Txn<'_, B>, secret: u8, new: &[u8; 8]) -> Result<
 fn set_mark<B: Board>(txn: &mut Txn<'_, B>, secret: u8, enabled: bool) -> Result<(), StoreErr>
     requires ready { IsOpen (memory_of txn.old) }
     requires room { 2 ≤ room (memory_of txn.old) }
-    ensures done { OnOk result (SetsPin (current (memory_of txn.old)) (owner secret)
-        (marked_pin enabled (pin_at (current (memory_of txn.old)) (owner secret))) (current (memory_of txn.new))) }
-    ensures store { SetsIn 2 txn.old txn.new (result_err result) }
-    ensures counted { OnOk result (CountsCommit 5 (memory_of txn.old) (memory_of txn.new)) }
-    ensures runs { InRuns 2 (memory_of txn.old) (memory_of txn.new) }
+    ensures { SetsIts 2 2 secret (marked_pin enabled) txn.old txn.new result }
 {
     txn.set_run(address_of(secret, 0), &[u32::from(TRIES)])?;
     txn.set_run(address_of(secret, PIN_MARK_WORD), &[mark_of(enabled)])
@@ -82,16 +68,8 @@ fn mark_of(enabled: bool) -> u32
 /// Sets the tries of a secret, to fewer or as many, in one device write.
 pub(crate) fn put_left<B: Board>(store: &mut Store<B>, secret: u8, left: u8) -> Result<(), StoreErr>
     requires ready { IsReady store.old }
-    requires pages { ArePinPages (committed store.old) }
     requires fewer { left ≤ tries_left secret (pin_in store.old secret) }
-    ensures any_exit { (committed store.new ≡ committed store.old) ⊎ SetsPin (committed store.old) (owner secret)
-        (with_tries secret left (pin_in store.old secret)) (committed store.new) }
-    ensures done { OnOk result (SetsPin (committed store.old) (owner secret)
-        (with_tries secret left (pin_in store.old secret)) (committed store.new)) }
-    ensures pages { ArePinPages (committed store.new) }
-    ensures shut { StaysShut store.old store.new }
-    ensures store { Changes 1 store.old store.new (result_err result) }
-    ensures counted { OnOk result (store.new.facts.writes ≡ store.old.facts.writes + 1) }
+    ensures { PutsIts StaysShut 1 secret (with_tries secret left) store.old store.new result }
 {
     store.put_alone(address_of(secret, tries_place(secret)), u32::from(left))
 }
@@ -99,15 +77,7 @@ pub(crate) fn put_left<B: Board>(store: &mut Store<B>, secret: u8, left: u8) -> 
 /// Sets the tries of a PIN to 3, in one device write.
 pub(crate) fn put_tries<B: Board>(store: &mut Store<B>, secret: u8) -> Result<(), StoreErr>
     requires ready { IsReady store.old }
-    requires pages { ArePinPages (committed store.old) }
-    ensures any_exit { (committed store.new ≡ committed store.old) ⊎ SetsPin (committed store.old) (owner secret)
-        (verified_pin (pin_in store.old secret)) (committed store.new) }
-    ensures done { OnOk result (SetsPin (committed store.old) (owner secret)
-        (verified_pin (pin_in store.old secret)) (committed store.new)) }
-    ensures pages { ArePinPages (committed store.new) }
-    ensures shut { StaysShut store.old store.new }
-    ensures store { Changes 1 store.old store.new (result_err result) }
-    ensures counted { OnOk result (store.new.facts.writes ≡ store.old.facts.writes + 1) }
+    ensures { PutsIts StaysShut 1 secret verified_pin store.old store.new result }
 {
     store.put_alone(address_of(secret, 0), u32::from(TRIES))
 }
@@ -120,13 +90,8 @@ fn set_renewed<B: Board>(
 ) -> Result<(), StoreErr>
     requires ready { IsOpen (memory_of txn.old) }
     requires room { 4 ≤ room (memory_of txn.old) }
-    ensures done { OnOk result (SetsPin (current (memory_of txn.old)) (owner secret)
-        (renewed_pin renewal.entry (pin_at (current (memory_of txn.old)) (owner secret)))
-        (current (memory_of txn.new))) }
-    ensures store { SetsIn (renewal_sets renewal.entry) txn.old txn.new (result_err result) }
-    ensures counted { OnOk result
-        (CountsCommit (renewal_writes renewal.entry) (memory_of txn.old) (memory_of txn.new)) }
-    ensures runs { InRuns (renewal_runs renewal.entry) (memory_of txn.old) (memory_of txn.new) }
+    ensures { SetsIts (renewal_sets renewal.entry) (renewal_runs renewal.entry) secret (renewed_pin renewal.entry)
+        txn.old txn.new result }
 {
     match renewal {
         Renewal::Value(new) => set_value(txn, secret, new),
@@ -142,13 +107,8 @@ pub(crate) fn put_renewed<B: Board>(
     renewal: Renewal<'_>,
 ) -> Result<(), StoreErr>
     requires ready { IsReady store.old }
-    ensures any_exit { (committed store.new ≡ committed store.old) ⊎ SetsPin (committed store.old) (owner secret)
-        (renewed_pin renewal.entry (pin_in store.old secret)) (committed store.new) }
-    ensures done { OnOk result (SetsPin (committed store.old) (owner secret)
-        (renewed_pin renewal.entry (pin_in store.old secret)) (committed store.new)) }
-    ensures by_gate { CommitsByGate store.old store.new }
-    ensures store { Changes (renewal_writes renewal.entry) store.old store.new (result_err result) }
-    ensures counted { OnOk result (store.new.facts.writes ≡ store.old.facts.writes + renewal_writes renewal.entry) }
+    ensures { PutsIts CommitsByGate (renewal_writes renewal.entry) secret (renewed_pin renewal.entry)
+        store.old store.new result }
 {
     let mut txn = store.begin();
     let work = set_renewed(&mut txn, secret, renewal);

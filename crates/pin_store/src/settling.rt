@@ -1,5 +1,5 @@
 //! The ends that follow a charge: each compares once, what was charged, and sets the PIN where it was right.
-ghost use Rattle.std.specs.Prelude.{◌≡◌, ◌⊎◌, ◌+◌, ◌<◌, ◌≤◌, if◌then◌else◌, IfOk};
+ghost use Rattle.std.specs.Prelude.{◌≡◌, ◌<◌, ◌≤◌, if◌then◌else◌, IfOk};
 ghost use Rattle.std.specs.Result.{result_err};
 ghost use Rattle.undo_journal.specs.Calls.{Reads, Leaves};
 ghost use Rattle.undo_journal.specs.Commits.{CommitsByGate, StaysShut};
@@ -9,7 +9,7 @@ ghost use Rattle.pin_store.specs.declared.layout.TheConstants.{PINS};
 ghost use Rattle.pin_store.specs.Pins.{changed_pin, kept, marked_pin, reset_pin, verified_pin};
 ghost use Rattle.pin_store.specs.Renewals.{renewal_writes, renewed_pin};
 ghost use Rattle.pin_store.specs.Pages.{ArePinPages};
-ghost use Rattle.pin_store.specs.Trials.{end_writes, pin_in, Compared, ComparesOnce, EndsByOutcome, SetsByMatch};
+ghost use Rattle.pin_store.specs.Trials.{pin_in, Compared, ComparesOnce, Ends};
 
 use crate::charging::{Charged, tries};
 use crate::errors::Outcome;
@@ -30,16 +30,7 @@ pub fn settle<B: Board>(
     requires ready { IsReady store.old }
     requires secret { charged < PINS }
     requires pages { ArePinPages (committed store.old) }
-    ensures any_exit { (committed store.new ≡ committed store.old)
-        ⊎ SetsByMatch charged shown.now (verified_pin (pin_in store.old charged)) store.old store.new }
-    ensures done { IfOk result (EndsByOutcome charged shown.now
-        (verified_pin (pin_in store.old charged)) store.old store.new) }
-    ensures pages { ArePinPages (committed store.new) }
-    ensures store { Leaves store.old store.new (result_err result) }
-    ensures shut { StaysShut store.old store.new }
-    ensures spends { ComparesOnce 1 charged store.old.facts store.new.facts }
-    ensures counted { IfOk result (λ outcome. store.new.facts.writes
-        ≡ store.old.facts.writes + end_writes 1 outcome) }
+    ensures { Ends StaysShut 1 charged shown.now verified_pin store.old store.new result }
 {
     let secret = charged.secret();
     let outcome = compare(store, charged, shown)?;
@@ -64,16 +55,7 @@ pub fn change<B: Board>(
     requires ready { IsReady store.old }
     requires secret { charged < PINS }
     requires pages { ArePinPages (committed store.old) }
-    ensures any_exit { (committed store.new ≡ committed store.old)
-        ⊎ SetsByMatch charged shown.now (changed_pin new.now (pin_in store.old charged)) store.old store.new }
-    ensures done { IfOk result (EndsByOutcome charged shown.now
-        (changed_pin new.now (pin_in store.old charged)) store.old store.new) }
-    ensures by_gate { CommitsByGate store.old store.new }
-    ensures pages { ArePinPages (committed store.new) }
-    ensures store { Leaves store.old store.new (result_err result) }
-    ensures spends { ComparesOnce 5 charged store.old.facts store.new.facts }
-    ensures counted { IfOk result (λ outcome. store.new.facts.writes
-        ≡ store.old.facts.writes + end_writes 5 outcome) }
+    ensures { Ends CommitsByGate 5 charged shown.now (changed_pin new.now) store.old store.new result }
 {
     renew(store, charged, shown, Renewal::Value(new))
 }
@@ -93,16 +75,7 @@ pub fn reset_counter<B: Board>(
     requires ready { IsReady store.old }
     requires secret { PINS ≤ charged }
     requires pages { ArePinPages (committed store.old) }
-    ensures any_exit { (committed store.new ≡ committed store.old)
-        ⊎ SetsByMatch charged shown.now (reset_pin new.now (pin_in store.old charged)) store.old store.new }
-    ensures done { IfOk result (EndsByOutcome charged shown.now
-        (reset_pin new.now (pin_in store.old charged)) store.old store.new) }
-    ensures by_gate { CommitsByGate store.old store.new }
-    ensures pages { ArePinPages (committed store.new) }
-    ensures store { Leaves store.old store.new (result_err result) }
-    ensures spends { ComparesOnce 4 charged store.old.facts store.new.facts }
-    ensures counted { IfOk result (λ outcome. store.new.facts.writes
-        ≡ store.old.facts.writes + end_writes 4 outcome) }
+    ensures { Ends CommitsByGate 4 charged shown.now (reset_pin new.now) store.old store.new result }
 {
     renew(store, charged, shown, Renewal::ValueAndTries(new))
 }
@@ -122,16 +95,7 @@ pub fn set_enabled<B: Board>(
     requires ready { IsReady store.old }
     requires secret { charged < PINS }
     requires pages { ArePinPages (committed store.old) }
-    ensures any_exit { (committed store.new ≡ committed store.old)
-        ⊎ SetsByMatch charged shown.now (marked_pin enabled (pin_in store.old charged)) store.old store.new }
-    ensures done { IfOk result (EndsByOutcome charged shown.now
-        (marked_pin enabled (pin_in store.old charged)) store.old store.new) }
-    ensures by_gate { CommitsByGate store.old store.new }
-    ensures pages { ArePinPages (committed store.new) }
-    ensures store { Leaves store.old store.new (result_err result) }
-    ensures spends { ComparesOnce 5 charged store.old.facts store.new.facts }
-    ensures counted { IfOk result (λ outcome. store.new.facts.writes
-        ≡ store.old.facts.writes + end_writes 5 outcome) }
+    ensures { Ends CommitsByGate 5 charged shown.now (marked_pin enabled) store.old store.new result }
 {
     renew(store, charged, shown, Renewal::Mark(enabled))
 }
@@ -146,16 +110,8 @@ fn renew<B: Board>(
 ) -> Result<Outcome, StoreErr>
     requires ready { IsReady store.old }
     requires pages { ArePinPages (committed store.old) }
-    ensures any_exit { (committed store.new ≡ committed store.old)
-        ⊎ SetsByMatch charged shown.now (renewed_pin renewal.entry (pin_in store.old charged)) store.old store.new }
-    ensures done { IfOk result (EndsByOutcome charged shown.now
-        (renewed_pin renewal.entry (pin_in store.old charged)) store.old store.new) }
-    ensures by_gate { CommitsByGate store.old store.new }
-    ensures pages { ArePinPages (committed store.new) }
-    ensures store { Leaves store.old store.new (result_err result) }
-    ensures spends { ComparesOnce (renewal_writes renewal.entry) charged store.old.facts store.new.facts }
-    ensures counted { IfOk result (λ outcome. store.new.facts.writes
-        ≡ store.old.facts.writes + end_writes (renewal_writes renewal.entry) outcome) }
+    ensures { Ends CommitsByGate (renewal_writes renewal.entry) charged shown.now (renewed_pin renewal.entry)
+        store.old store.new result }
 {
     let secret = charged.secret();
     let outcome = compare(store, charged, shown)?;

@@ -1,8 +1,7 @@
 -- What a search among places finds, and what one place more, or fewer places, are the index of.
-use Rattle.std.specs.Prelude.{◌≡◌, ◌≢◌, ◌==◌, ◌⊎◌, ◌<◌, ◌≤◌, ◌+◌, ◌/◌, ◌||◌, ℕ, zero, suc, Bool, true, false}
+use Rattle.std.specs.Prelude.{◌≡◌, ◌≢◌, ◌==◌, ◌<◌, ◌≤◌, ◌+◌, ◌/◌, ◌||◌, ℕ, zero, suc, Bool, true, false}
 use Rattle.std.specs.Prelude.{if◌then◌else◌, List, [], ◌∷◌, ◌++◌, map, length, take, drop, insert, slice_index_or, All}
-use Rattle.std.specs.Prelude.{Contains, None, Some, Result, Ok, Err}
-use Rattle.std.specs.List.Sorted.{IsSearchInRange}
+use Rattle.std.specs.Prelude.{Contains, None, Some}
 use Rattle.std.specs.List.{IsDistinct, list_any}
 use Rattle.std.proofs.Common.{refl, sym, ◌∙◌, ap, ap₂, subst, arith, inl, inr, ⊎_elim, true≢false, length-take}
 use Rattle.std.proofs.Common.{get_or-take, get_or-drop, length-drop}
@@ -22,7 +21,7 @@ use Rattle.file_tree.specs.declared.index.Index.{Index}
 use Rattle.file_tree.specs.Keys.{key_for, IsBefore}
 use Rattle.file_tree.specs.Table.{table, entry_in, IsUsed, IsTable, HaveIdentifiers}
 use Rattle.file_tree.specs.Indexes.{place_of, IsPlace, AreSorted, IsIndex, IsFreeIn, AddsEntry, TellsChild}
-use Rattle.file_tree.specs.IndexParts.{key_at, AreBefore, AreBehind, TellsSearch, TellsPut, halved, Puts, ArePlacesTo}
+use Rattle.file_tree.specs.IndexParts.{key_at, AreBefore, AreBehind, TellsPut, halved, Puts, ArePlacesTo}
 use Rattle.file_tree.specs.IndexParts.{parent_by, leads_by}
 use Rattle.file_tree.specs.laws.Tables.{entry_past}
 use Rattle.file_tree.specs.laws.Alikes.{used_within}

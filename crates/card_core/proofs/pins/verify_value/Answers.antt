@@ -22,7 +22,7 @@ returns-in_err-outcome g c =
     c.in_ok-charged.charged c.in_ok-charged.ensures.done c.take_try.ensures.pages c.take_try.ensures.store.writes
     c.take_try.ensures.store.reports (λ p. verified_ends (c.args.pin - 1) p small) c.settle.ensures.any_exit
     c.settle.ensures.spends c.settle.ensures.pages c.settle.ensures.store.reports c.take_try.ensures.shut
-    c.settle.ensures.shut _
+    c.settle.ensures.by_gate _
     c.in_err-outcome.field-0.0 (reply-failed _ _ c.from_residual-in_err-outcome.ensures.1)
     c.in_err-outcome.ensures.store.tells
 
@@ -36,7 +36,7 @@ returns g c =
     c.in_ok-charged.charged c.in_ok-charged.ensures.done c.take_try.ensures.pages c.take_try.ensures.store.writes
     c.take_try.ensures.store.reports (λ p. verified_ends (c.args.pin - 1) p small) c.settle.ensures.any_exit
     c.settle.ensures.spends c.settle.ensures.pages c.settle.ensures.store.reports c.take_try.ensures.shut
-    c.settle.ensures.shut c.in_ok-outcome.outcome
+    c.settle.ensures.by_gate c.in_ok-outcome.outcome
     c.in_ok-outcome.ensures.done c.in_ok-outcome.ensures.store.ready c.in_ok-charged.ensures.counted
     c.after_attempt.result c.after_attempt.ensures c.status_of.result c.status_of.ensures
 

@@ -12,13 +12,13 @@ pub returns-clause-found : goal.returns-clause-found
 returns-clause-found g c =
     let some : c.args.short ≢ 0 = λ none. let z : ⊥ = omega (arith, none, c.requires.some) in z in
     IfOk-weaker _ _ _ (short_named (committed c.args.store.now) c.requires.tree.entries c.args.df c.args.short
-    c.requires.df some) c.first_child.ensures.found
+    c.requires.df some) c.first_child.ensures.told
 
 pub returns-clause-elementary : goal.returns-clause-elementary
 returns-clause-elementary g c =
     let some : c.args.short ≢ 0 = λ none. let z : ⊥ = omega (arith, none, c.requires.some) in z in
     IfOk-weaker _ _ _ (short_found (committed c.args.store.now) c.requires.tree.entries c.args.df c.args.short
-    c.requires.df some) c.first_child.ensures.found
+    c.requires.df some) c.first_child.ensures.told
 
 pub first_child-requires : goal.first_child-requires
 first_child-requires g c = record { ready = c.requires.ready }
@@ -34,4 +34,4 @@ told_is_child t df n (Some e) told = told.0
 pub returns-clause-child : goal.returns-clause-child
 returns-clause-child g c =
     IfOk-weaker _ _ _ (told_is_child (table (committed c.args.store.now)) c.args.df c.args.short)
-    c.first_child.ensures.found
+    c.first_child.ensures.told

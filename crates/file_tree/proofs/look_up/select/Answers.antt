@@ -33,13 +33,13 @@ returns-in-Some-2-clause-found g c =
     let m = committed c.args.store.now in
     let told : Option ℕ → Type 0 = λ o. TellsBeside (table m) c.args.df c.args.identifier o in
     reached_beside m c.requires.tree.entries c.args.df c.args.identifier c.requires.df c.in-Some-2.beside
-    (c.in_default.ensures m c.requires.index) (subst told c.in-Some-2.is c.in_ok-beside.ensures.found)
+    (c.in_default.ensures m c.requires.index) (subst told c.in-Some-2.is c.in_ok-beside.ensures.told)
 
 pub returns-in-Some-2-clause-used : goal.returns-in-Some-2-clause-used
 returns-in-Some-2-clause-used g c =
     let m = committed c.args.store.now in
     let told : Option ℕ → Type 0 = λ o. TellsBeside (table m) c.args.df c.args.identifier o in
-    (subst told c.in-Some-2.is c.in_ok-beside.ensures.found).1.used
+    (subst told c.in-Some-2.is c.in_ok-beside.ensures.told).1.used
 
 pub returns-in-Some-2-clause-store : goal.returns-in-Some-2-clause-store
 returns-in-Some-2-clause-store g c = c.in_ok-beside.ensures.store
@@ -49,7 +49,7 @@ returns-clause-found g c =
     let m = committed c.args.store.now in
     let told : Option ℕ → Type 0 = λ o. TellsBeside (table m) c.args.df c.args.identifier o in
     reached_above m c.requires.tree.entries c.args.df c.args.identifier c.requires.df c.find_above.result
-    (c.in_default.ensures m c.requires.index) (subst told c.in_default-2.is c.in_ok-beside.ensures.found)
+    (c.in_default.ensures m c.requires.index) (subst told c.in_default-2.is c.in_ok-beside.ensures.told)
     (c.find_above.ensures m c.requires.tree.entries c.requires.df c.requires.index)
 
 pub returns-clause-used : goal.returns-clause-used

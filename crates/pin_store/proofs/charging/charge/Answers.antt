@@ -32,9 +32,13 @@ pub returns-then-left-eq0-clause-pages : goal.returns-then-left-eq0-clause-pages
 returns-then-left-eq0-clause-pages g c =
     pages_stay _ _ c.tries.ensures.store.only.keeps.committed_words c.requires.pages
 
-pub put_left-requires-clause-pages : goal.put_left-requires-clause-pages
-put_left-requires-clause-pages g c =
-    pages_stay _ _ c.tries.ensures.store.only.keeps.committed_words c.requires.pages
+pub returns-in_err-put_left-clause-pages : goal.returns-in_err-put_left-clause-pages
+returns-in_err-put_left-clause-pages g c =
+    c.put_left.ensures.pages (pages_stay _ _ c.tries.ensures.store.only.keeps.committed_words c.requires.pages)
+
+pub returns-clause-pages : goal.returns-clause-pages
+returns-clause-pages g c =
+    c.put_left.ensures.pages (pages_stay _ _ c.tries.ensures.store.only.keeps.committed_words c.requires.pages)
 
 pub returns-in_err-put_left-clause-any_exit : goal.returns-in_err-put_left-clause-any_exit
 returns-in_err-put_left-clause-any_exit g c =

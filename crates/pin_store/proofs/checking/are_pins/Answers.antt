@@ -1,54 +1,51 @@
-use Rattle.std.proofs.Common.{◌<◌, ℕ, List, refl, sym, ◌∙◌, subst, true≢false, below_more, arith}
+use Rattle.std.proofs.Common.{◌≡◌, ℕ, List, subst, sym, ◌∙◌, true≢false, arith}
+use Rattle.std.proofs.lemmas.Result.{IfOk-weaker}
 use Rattle.undo_journal.specs.Memory.{committed}
-use Rattle.undo_journal.specs.laws.Calls.{reads_same, reads_then}
-use Rattle.pin_store.specs.declared.layout.TheConstants.{PINS}
-use Rattle.pin_store.specs.Pages.{IsPinPage}
-use Rattle.undo_journal.specs.laws.Told.{reads_handed, reads_on}
+use Rattle.undo_journal.specs.laws.Told.{reads_on}
+use Rattle.pin_store.specs.declared.layout.TheConstants.{TRIES, UNBLOCKING_TRIES}
+use Rattle.pin_store.specs.Pages.{AreAtMost, ArePinPages}
 use Rattle.pin_store.proofs.checking.are_pins.Goals as goal
 
-pub loop-pin-init : goal.loop-pin-init
-loop-pin-init g c = record {
-  ready = c.requires.ready;
-  reads = reads_same _;
-  so_far = λ pin none. absurd (omega (arith, none));
+-- pages have few tries where both their words are small
+few-tries : (m : List ℕ) (tries unblocking : ℕ) → tries ≡ TRIES → unblocking ≡ UNBLOCKING_TRIES
+    → AreAtMost tries 0 m → AreAtMost unblocking 1 m → ArePinPages m
+few-tries m tries unblocking is also first second = record {
+  each = λ pin small. let few = first.each pin small in let many = second.each pin small in record {
+    tries = omega (arith, is, few);
+    unblocking_tries = omega (arith, also, many);
+  };
 }
 
-pub loop-pin-preserved : goal.loop-pin-preserved
-loop-pin-preserved g c =
+tries-few : (m : List ℕ) (tries : ℕ) → tries ≡ TRIES → ArePinPages m → AreAtMost tries 0 m
+tries-few m tries is pages = record {
+  each = λ pin small. let page = pages.each pin small in let few = page.tries in omega (arith, is, few);
+}
+
+unblocking-few : (m : List ℕ) (most : ℕ) → most ≡ UNBLOCKING_TRIES → ArePinPages m → AreAtMost most 1 m
+unblocking-few m most is pages = record {
+  each = λ pin small. let page = pages.each pin small in let few = page.unblocking_tries in omega (arith, is, few);
+}
+
+pub returns-then-not-branch : goal.returns-then-not-branch
+returns-then-not-branch g c = record {
+  told = (
+    λ no. absurd (true≢false (sym no)),
+    λ pages. absurd (true≢false
+        (sym (c.in_ok-are_at_most.ensures.told.1 (tries-few _ _ c.from.ensures pages)) ∙ c.if-not-branch.true)),
+  );
+  store = c.in_ok-are_at_most.ensures.store;
+}
+
+pub returns : goal.returns
+returns g c =
     let m = committed c.args.store.now in
-    let here : IsPinPage m c.loop-pin.pin =
-    subst (λ (l : List ℕ). IsPinPage l c.loop-pin.pin) c.loop-pin.invariant.reads.keeps.committed_words
-    (c.in_ok-is_pin_page.ensures.page.0 c.if-not-branch.false) in
-    record {
-      ready = c.in_ok-is_pin_page.ensures.store.ready;
-      reads = reads_then _ _ _ c.loop-pin.invariant.reads c.is_pin_page.ensures.store.only;
-      so_far = below_more (λ (pin : ℕ). IsPinPage m pin) c.loop-pin.pin c.loop-pin.invariant.so_far here;
+    let same = c.are_at_most.ensures.store.only.keeps.committed_words in
+    let first = c.in_ok-are_at_most.ensures.told.0 c.if-not-branch.false in record {
+      told = IfOk-weaker c.are_at_most-2.result _ _ (λ few told. (
+        λ yes. few-tries m _ _ c.from.ensures c.from-2.ensures first
+            (subst (λ (l : List ℕ). AreAtMost c.from-2.result 1 l) same (told.0 yes)),
+        λ pages. told.1 (subst (λ (l : List ℕ). AreAtMost c.from-2.result 1 l) (sym same)
+            (unblocking-few m _ c.from-2.ensures pages)),
+      )) c.are_at_most-2.ensures.told;
+      store = reads_on _ _ _ _ c.are_at_most.ensures.store.only c.are_at_most-2.ensures.store;
     }
-
-pub returns-in_err-is_pin_page-clause-store : goal.returns-in_err-is_pin_page-clause-store
-returns-in_err-is_pin_page-clause-store g c =
-    reads_handed _ _ _ _ c.from_residual.ensures.1
-    (reads_on _ _ _ _ c.loop-pin.invariant.reads c.in_err-is_pin_page.ensures.store)
-
-pub returns-then-not-branch-clause-store : goal.returns-then-not-branch-clause-store
-returns-then-not-branch-clause-store g c =
-    reads_on _ _ _ _ c.loop-pin.invariant.reads c.in_ok-is_pin_page.ensures.store
-
-pub returns-then-not-branch-clause-pins : goal.returns-then-not-branch-clause-pins
-returns-then-not-branch-clause-pins g c =
-    let here : c.loop-pin.pin < PINS = omega (arith, c.loop-pin-test.true) in
-    let now = committed c.loop-pin.store in (
-      λ no. absurd (true≢false (sym no)),
-      λ all. absurd (true≢false (sym (c.in_ok-is_pin_page.ensures.page.1
-          (subst (λ (l : List ℕ). IsPinPage l c.loop-pin.pin) (sym c.loop-pin.invariant.reads.keeps.committed_words)
-          (all.each c.loop-pin.pin here))) ∙ c.if-not-branch.true)),
-    )
-
-pub returns-clause-pins : goal.returns-clause-pins
-returns-clause-pins g c = (
-  λ _. record {
-    each = λ pin small. let below : pin < c.loop-pin.pin = omega (arith, small, c.loop-pin-test.false) in
-        c.loop-pin.invariant.so_far pin below;
-  },
-  λ _. refl,
-)

@@ -1,18 +1,16 @@
 use Rattle.std.specs.Prelude.{if◌then◌else◌}
-use Rattle.std.proofs.Common.{◌≡◌, ℕ, List, slice_set, sym, ◌∙◌, ap, subst, ⊎_elim}
+use Rattle.std.proofs.Common.{◌≡◌, ℕ, List, slice_set, sym, ◌∙◌, ap, subst, ⊎_elim, rules}
 use Rattle.std.proofs.Math.Logic.{⊎_map}
 use Rattle.nvm_board.specs.Facts.{address}
 use Rattle.undo_journal.specs.Memory.{committed}
 use Rattle.pin_store.specs.Pins.{is_unblocking, owner, with_tries}
-use Rattle.pin_store.specs.Pages.{pin_page, pin_at, ArePinPages, SetsPin}
+use Rattle.pin_store.specs.Pages.{pin_page, pin_at, SetsPin}
 use Rattle.pin_store.specs.laws.AllPins.{left_pages}
 use Rattle.pin_store.specs.laws.PinPages.{sets_tries}
 use Rattle.undo_journal.specs.laws.Exits.{on_then}
+use Rattle.pin_store.proofs.Settled.{pages_stay}
 use Rattle.pin_store.proofs.putting.put_left.Given.{Over}
 use Rattle.pin_store.proofs.putting.put_left.Goals as goal
-
-pub returns-clause-store : goal.returns-clause-store
-returns-clause-store g c = search
 
 set : (g : Over) (c : goal.After-put_alone g) (after : List ℕ)
     → after ≡ slice_set (committed c.args.store.now) c.address_of.result c.from.result
@@ -31,18 +29,13 @@ set g c after done =
     (with_tries secret c.args.left (pin_at m (owner secret))) l in
     subst family (sym (done ∙ word)) (sets_tries m secret c.args.left c.requires.ready.usable.committed_size)
 
-pub returns-clause-any_exit : goal.returns-clause-any_exit
-returns-clause-any_exit g c = ⊎_map (λ same. same) (λ done. set g c _ done) c.put_alone.ensures.any_exit
-
-pub returns-clause-done : goal.returns-clause-done
-returns-clause-done g c = on_then _ _ c.put_alone.result (λ done. set g c _ done) c.put_alone.ensures.done
-
-pub returns-clause-pages : goal.returns-clause-pages
-returns-clause-pages g c =
-    let m = committed c.args.store.now in
-    let after = committed c.put_alone.new.self in
-    ⊎_elim
-    (λ (same : after ≡ m). subst (λ (l : List ℕ). ArePinPages l) (sym same) c.requires.pages)
-    (λ (done : after ≡ slice_set m c.address_of.result c.from.result).
-    left_pages m after c.args.secret c.args.left c.requires.fewer c.requires.pages (set g c after done))
-    c.put_alone.ensures.any_exit
+pub returns : goal.returns
+returns g c = record {
+  any_exit = ⊎_map (λ same. same) (λ done. set g c _ done) c.put_alone.ensures.any_exit;
+  done = on_then _ _ c.put_alone.result (λ done. set g c _ done) c.put_alone.ensures.done;
+  by_gate = search rules;
+  pages = λ pages. ⊎_elim (λ same. pages_stay _ _ same pages)
+      (λ done. left_pages _ _ c.args.secret c.args.left c.requires.fewer pages (set g c _ done)) c.put_alone.ensures.any_exit;
+  store = search;
+  counted = search rules;
+}

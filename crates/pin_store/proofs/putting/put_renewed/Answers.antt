@@ -5,6 +5,7 @@ use Rattle.undo_journal.specs.laws.Endings.{ends, ends_answered, ends_by_gate, e
 use Rattle.pin_store.specs.Pins.{owner}
 use Rattle.pin_store.specs.Renewals.{renewal_runs, renewal_sets, renewal_writes, renewed_pin}
 use Rattle.pin_store.specs.Pages.{pin_at, SetsPin}
+use Rattle.pin_store.specs.laws.AllPins.{renewed_pages}
 use Rattle.pin_store.proofs.putting.put_renewed.Goals as goal
 
 pub set_renewed-work-requires-clause-ready : goal.set_renewed-work-requires-clause-ready
@@ -14,42 +15,28 @@ set_renewed-work-requires-clause-ready g c =
 pub set_renewed-work-requires-clause-room : goal.set_renewed-work-requires-clause-room
 set_renewed-work-requires-clause-room g c = omega (arith, c.begin-txn.ensures.room)
 
-pub returns-clause-any_exit : goal.returns-clause-any_exit
-returns-clause-any_exit g c =
+pub returns : goal.returns
+returns g c =
     let set = c.set_renewed-work.ensures in
     let last = c.store-1.given.1 (sym (set.store.sets.same_store ∙ c.begin-txn.ensures.same_store)) in
-    ends (λ m after. SetsPin m (owner c.args.secret) (renewed_pin c.args.renewal (pin_at m (owner c.args.secret)))
-    after) _ c.set_renewed-work.result _ _ (memory_of c.set_renewed-work.new.txn) _ _ c.begin-txn.ensures.same last
-    c.requires.ready set.store.sets.kept set.done c.end.ensures.any_exit
-
-pub returns-clause-done : goal.returns-clause-done
-returns-clause-done g c =
-    let set = c.set_renewed-work.ensures in
-    let last = c.store-1.given.1 (sym (set.store.sets.same_store ∙ c.begin-txn.ensures.same_store)) in
-    ends_done (λ m after. SetsPin m (owner c.args.secret) (renewed_pin c.args.renewal (pin_at m (owner c.args.secret)))
-    after) c.set_renewed-work.result c.end.result _ _ (memory_of c.set_renewed-work.new.txn) _ _
-    c.begin-txn.ensures.same last c.requires.ready set.done c.end.ensures.answered c.end.ensures.done
-
-pub returns-clause-by_gate : goal.returns-clause-by_gate
-returns-clause-by_gate g c =
-    let set = c.set_renewed-work.ensures in
-    let last = c.store-1.given.1 (sym (set.store.sets.same_store ∙ c.begin-txn.ensures.same_store)) in
-    ends_by_gate _ _ _ _ (memory_of c.set_renewed-work.new.txn) _ _ c.begin-txn.ensures.same last set.store.sets.kept
-    c.end.ensures.any_exit
-
-pub returns-clause-store : goal.returns-clause-store
-returns-clause-store g c =
-    let set = c.set_renewed-work.ensures in
-    let last = c.store-1.given.1 (sym (set.store.sets.same_store ∙ c.begin-txn.ensures.same_store)) in
-    ends_answered (renewal_sets c.args.renewal) (renewal_runs c.args.renewal) (renewal_writes c.args.renewal)
-    c.set_renewed-work.result c.end.result _ _ (memory_of c.set_renewed-work.new.txn) _ _ (omega arith)
-    c.begin-txn.ensures.same last c.requires.ready set.store.sets.taken set.store.sets.reports set.runs set.store.tells
-    c.end.ensures.store c.end.ensures.answered
-
-pub returns-clause-counted : goal.returns-clause-counted
-returns-clause-counted g c =
-    let set = c.set_renewed-work.ensures in
-    let last = c.store-1.given.1 (sym (set.store.sets.same_store ∙ c.begin-txn.ensures.same_store)) in
-    ends_counted (renewal_writes c.args.renewal)
-    c.set_renewed-work.result c.end.result _ _ (memory_of c.set_renewed-work.new.txn) _ _ c.begin-txn.ensures.same last
-    c.requires.ready set.counted c.end.ensures.answered c.end.ensures.counted
+    let either = ends (λ m after. SetsPin m (owner c.args.secret)
+    (renewed_pin c.args.renewal (pin_at m (owner c.args.secret))) after) _ c.set_renewed-work.result _ _
+    (memory_of c.set_renewed-work.new.txn) _ _ c.begin-txn.ensures.same last
+    c.requires.ready set.store.sets.kept set.done c.end.ensures.any_exit in record {
+      any_exit = either;
+      done = ends_done (λ m after. SetsPin m (owner c.args.secret)
+          (renewed_pin c.args.renewal (pin_at m (owner c.args.secret))) after) c.set_renewed-work.result c.end.result
+          _ _ (memory_of c.set_renewed-work.new.txn) _ _ c.begin-txn.ensures.same last c.requires.ready set.done
+          c.end.ensures.answered c.end.ensures.done;
+      by_gate = ends_by_gate _ _ _ _ (memory_of c.set_renewed-work.new.txn) _ _ c.begin-txn.ensures.same last
+          set.store.sets.kept c.end.ensures.any_exit;
+      pages = λ pages. renewed_pages _ _ c.args.renewal c.args.secret pages either;
+      store = ends_answered (renewal_sets c.args.renewal) (renewal_runs c.args.renewal)
+          (renewal_writes c.args.renewal) c.set_renewed-work.result c.end.result _ _
+          (memory_of c.set_renewed-work.new.txn) _ _ (omega arith) c.begin-txn.ensures.same last c.requires.ready
+          set.store.sets.taken set.store.sets.reports set.runs set.store.tells c.end.ensures.store
+          c.end.ensures.answered;
+      counted = ends_counted (renewal_writes c.args.renewal) c.set_renewed-work.result c.end.result _ _
+          (memory_of c.set_renewed-work.new.txn) _ _ c.begin-txn.ensures.same last c.requires.ready set.counted
+          c.end.ensures.answered c.end.ensures.counted;
+    }

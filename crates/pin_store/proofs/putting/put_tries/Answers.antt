@@ -1,13 +1,14 @@
-use Rattle.std.proofs.Common.{◌≡◌, ◌<◌, ℕ, List, slice_set, sym, ◌∙◌, subst, arith, ⊎_elim}
+use Rattle.std.proofs.Common.{◌≡◌, ◌<◌, ℕ, List, slice_set, sym, ◌∙◌, subst, arith, ⊎_elim, rules}
 use Rattle.std.proofs.Math.Logic.{⊎_map}
 use Rattle.nvm_board.specs.Facts.{address}
 use Rattle.undo_journal.specs.Memory.{committed}
 use Rattle.pin_store.specs.declared.layout.TheConstants.{PINS, TRIES}
 use Rattle.pin_store.specs.Pins.{owner, verified_pin}
-use Rattle.pin_store.specs.Pages.{pin_page, pin_at, ArePinPages, SetsPin}
+use Rattle.pin_store.specs.Pages.{pin_page, pin_at, SetsPin}
 use Rattle.pin_store.specs.laws.AllPins.{verified_pages}
 use Rattle.pin_store.specs.laws.PinPages.{sets_verified}
 use Rattle.undo_journal.specs.laws.Exits.{on_then}
+use Rattle.pin_store.proofs.Settled.{pages_stay}
 use Rattle.pin_store.proofs.putting.put_tries.Given.{Over}
 use Rattle.pin_store.proofs.putting.put_tries.Goals as goal
 
@@ -24,18 +25,13 @@ set g c after done =
     let family : List ℕ → Type 0 = λ l. SetsPin m pin (verified_pin (pin_at m pin)) l in
     subst family (sym (done ∙ word)) (sets_verified m pin c.requires.ready.usable.committed_size small)
 
-pub returns-clause-any_exit : goal.returns-clause-any_exit
-returns-clause-any_exit g c = ⊎_map (λ same. same) (λ done. set g c _ done) c.put_alone.ensures.any_exit
-
-pub returns-clause-done : goal.returns-clause-done
-returns-clause-done g c = on_then _ _ c.put_alone.result (λ done. set g c _ done) c.put_alone.ensures.done
-
-pub returns-clause-pages : goal.returns-clause-pages
-returns-clause-pages g c =
-    let m = committed c.args.store.now in
-    let after = committed c.put_alone.new.self in
-    ⊎_elim
-    (λ (same : after ≡ m). subst (λ (l : List ℕ). ArePinPages l) (sym same) c.requires.pages)
-    (λ (done : after ≡ slice_set m c.address_of.result c.from.result).
-    verified_pages m after c.args.secret c.requires.pages (set g c after done))
-    c.put_alone.ensures.any_exit
+pub returns : goal.returns
+returns g c = record {
+  any_exit = ⊎_map (λ same. same) (λ done. set g c _ done) c.put_alone.ensures.any_exit;
+  done = on_then _ _ c.put_alone.result (λ done. set g c _ done) c.put_alone.ensures.done;
+  by_gate = search rules;
+  pages = λ pages. ⊎_elim (λ same. pages_stay _ _ same pages)
+      (λ done. verified_pages _ _ c.args.secret pages (set g c _ done)) c.put_alone.ensures.any_exit;
+  store = search rules;
+  counted = search rules;
+}

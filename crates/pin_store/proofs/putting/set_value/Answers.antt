@@ -1,4 +1,4 @@
-use Rattle.std.proofs.Common.{◌≡◌, ◌<◌, ℕ, List, [], ◌∷◌, slice_index, slice_set, sym, ◌∙◌, subst, arith, lit<}
+use Rattle.std.proofs.Common.{◌≡◌, ◌<◌, ℕ, List, [], ◌∷◌, slice_index, slice_set, sym, ◌∙◌, subst, arith, lit<, rules}
 use Rattle.nvm_board.specs.Facts.{address}
 use Rattle.nvm_board.specs.Torn.{written}
 use Rattle.undo_journal.specs.Lent.{memory_of}
@@ -13,45 +13,42 @@ use Rattle.undo_journal.specs.laws.Told.{sets_in_on}
 use Rattle.pin_store.proofs.Counting.{value_counts}
 use Rattle.pin_store.proofs.putting.set_value.Goals as goal
 
-pub returns-clause-done : goal.returns-clause-done
-returns-clause-done g c =
-    let m = current (memory_of c.args.txn.now) in
-    let pin = owner c.args.secret in
-    let new = c.args.new.now in
-    let first = slice_index c.words_of.result 0 in
-    let second = slice_index c.words_of.result 1 in
-    let small : pin < PINS = omega arith in
-    let between : current (memory_of c.set_run.new.self) ≡ slice_set m (address (pin_page pin) 0) TRIES =
-    c.in_ok-set_run.ensures.done ∙ (λ i. slice_set m (c.address_of.ensures i) (c.from.ensures i)) in
-    let words : written (current (memory_of c.set_run.new.self)) c.address_of-2.result (first ∷ second ∷ [])
-    ≡ written (slice_set m (address (pin_page pin) 0) TRIES) (address (pin_page pin) 2) (first ∷ second ∷ []) =
-    λ i. written (between i) (c.address_of-2.ensures i) (first ∷ second ∷ []) in
-    let family : List ℕ → Type 0 = λ after. SetsPin m pin (changed_pin new (pin_at m pin)) after in
-    on_then _ _ c.set_run-2.result
-    (λ done. subst family (sym (done ∙ words))
-    (sets_value m new pin first second c.requires.ready.current_size small c.words_of.ensures))
-    c.set_run-2.ensures.done
+pub returns : goal.returns
+returns g c = record {
+  done = let m = current (memory_of c.args.txn.now) in
+      let pin = owner c.args.secret in
+      let new = c.args.new.now in
+      let first = slice_index c.words_of.result 0 in
+      let second = slice_index c.words_of.result 1 in
+      let small : pin < PINS = omega arith in
+      let between : current (memory_of c.set_run.new.self) ≡ slice_set m (address (pin_page pin) 0) TRIES =
+      c.in_ok-set_run.ensures.done ∙ (λ i. slice_set m (c.address_of.ensures i) (c.from.ensures i)) in
+      let words : written (current (memory_of c.set_run.new.self)) c.address_of-2.result (first ∷ second ∷ [])
+      ≡ written (slice_set m (address (pin_page pin) 0) TRIES) (address (pin_page pin) 2) (first ∷ second ∷ []) =
+      λ i. written (between i) (c.address_of-2.ensures i) (first ∷ second ∷ []) in
+      let family : List ℕ → Type 0 = λ after. SetsPin m pin (changed_pin new (pin_at m pin)) after in
+      on_then _ _ c.set_run-2.result
+      (λ done. subst family (sym (done ∙ words))
+      (sets_value m new pin first second c.requires.ready.current_size small c.words_of.ensures))
+      c.set_run-2.ensures.done;
+  store = sets_in_on 1 2 3 _ _ _ _ (lit< tt) c.set_run.ensures.store.sets c.set_run-2.ensures.store;
+  counted = on_then _ _ c.set_run-2.result
+      (λ waits idle. value_counts (pin_page (owner c.args.secret)) c.from.result (slice_index c.words_of.result 0)
+      (slice_index c.words_of.result 1) _ _ _ c.address_of.result c.address_of-2.result idle c.address_of.ensures
+      c.address_of-2.ensures c.in_ok-set_run.ensures.waits waits)
+      c.set_run-2.ensures.waits;
+  runs = let page = pin_page (owner c.args.secret) in
+      runs_then 1 1 2 _ _ _ (lit< tt)
+      (runs_in_page page 0 c.address_of.result 1 _ _ c.address_of.ensures (omega arith) c.set_run.ensures.runs)
+      (runs_in_page page 2 c.address_of-2.result 2 _ _ c.address_of-2.ensures (omega arith) c.set_run-2.ensures.runs);
+}
 
-pub returns-clause-store : goal.returns-clause-store
-returns-clause-store g c =
-    sets_in_on 1 2 3 _ _ _ _ (lit< tt) c.set_run.ensures.store.sets c.set_run-2.ensures.store
-
-pub returns-in_err-set_run-clause-runs : goal.returns-in_err-set_run-clause-runs
-returns-in_err-set_run-clause-runs g c =
-    runs_weaker 1 2 _ _ (lit< tt)
-    (runs_in_page (pin_page (owner c.args.secret)) 0 c.address_of.result 1 _ _ c.address_of.ensures (omega arith)
-    c.in_err-set_run.ensures.runs)
-
-pub returns-clause-runs : goal.returns-clause-runs
-returns-clause-runs g c =
-    let page = pin_page (owner c.args.secret) in
-    runs_then 1 1 2 _ _ _ (lit< tt)
-    (runs_in_page page 0 c.address_of.result 1 _ _ c.address_of.ensures (omega arith) c.set_run.ensures.runs)
-    (runs_in_page page 2 c.address_of-2.result 2 _ _ c.address_of-2.ensures (omega arith) c.set_run-2.ensures.runs)
-
-pub returns-clause-counted : goal.returns-clause-counted
-returns-clause-counted g c = on_then _ _ c.set_run-2.result
-    (λ waits idle. value_counts (pin_page (owner c.args.secret)) c.from.result (slice_index c.words_of.result 0)
-    (slice_index c.words_of.result 1) _ _ _ c.address_of.result c.address_of-2.result idle c.address_of.ensures
-    c.address_of-2.ensures c.in_ok-set_run.ensures.waits waits)
-    c.set_run-2.ensures.waits
+pub returns-in_err-set_run : goal.returns-in_err-set_run
+returns-in_err-set_run g c = record {
+  done = search rules;
+  store = search rules;
+  counted = search rules;
+  runs = runs_weaker 1 2 _ _ (lit< tt)
+      (runs_in_page (pin_page (owner c.args.secret)) 0 c.address_of.result 1 _ _ c.address_of.ensures (omega arith)
+      c.in_err-set_run.ensures.runs);
+}

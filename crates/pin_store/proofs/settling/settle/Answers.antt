@@ -1,4 +1,4 @@
-use Rattle.std.proofs.Common.{inl}
+use Rattle.std.proofs.Common.{inl, rules}
 use Rattle.pin_store.specs.Pins.{verified_pin}
 use Rattle.pin_store.specs.Trials.{pin_in}
 use Rattle.pin_store.proofs.Settled.{pages_stay, compares_more, compares_then, match_told, matched_sets}
@@ -6,66 +6,62 @@ use Rattle.pin_store.proofs.Settled.{matched_sets_or_not, end_told}
 use Rattle.undo_journal.specs.laws.Told.{leaves_on, leaves_handed, changes_leave}
 use Rattle.pin_store.proofs.settling.settle.Goals as goal
 
-pub returns-in_err-outcome-clause-any_exit : goal.returns-in_err-outcome-clause-any_exit
-returns-in_err-outcome-clause-any_exit g c = inl c.compare.ensures.kept
+pub returns-in_err-outcome : goal.returns-in_err-outcome
+returns-in_err-outcome g c = record {
+  any_exit = inl c.compare.ensures.kept;
+  done = search rules;
+  by_gate = search rules;
+  pages = pages_stay _ _ c.compare.ensures.kept c.requires.pages;
+  store = search rules;
+  spends = compares_more 1 _ _ _ c.compare.ensures.spends;
+  counted = search rules;
+}
 
-pub returns-in_err-outcome-clause-pages : goal.returns-in_err-outcome-clause-pages
-returns-in_err-outcome-clause-pages g c = pages_stay _ _ c.compare.ensures.kept c.requires.pages
+pub returns-in_err-put_tries : goal.returns-in_err-put_tries
+returns-in_err-put_tries g c = record {
+  any_exit = matched_sets_or_not 1 c.args.charged c.secret-secret.result c.args.shown.now verified_pin _ _ _
+      c.secret-secret.ensures.secret (match_told c.args.charged c.args.shown.now c.args.store.now c.compare.new.store
+      c.in_ok-outcome.outcome c.in-Matched.is c.in_ok-outcome.ensures.done) c.compare.ensures.kept
+      c.put_tries.ensures.store.writes
+      c.put_tries.ensures.any_exit;
+  done = search rules;
+  by_gate = search rules;
+  pages = c.put_tries.ensures.pages (pages_stay _ _ c.compare.ensures.kept c.requires.pages);
+  store = leaves_handed _ _ _ _ c.from_residual-in_err-put_tries.ensures.1
+      (leaves_on _ _ _ _ c.compare.ensures.store.reports (changes_leave _ _ _ _ c.in_err-put_tries.ensures.store));
+  spends = compares_then 1 _ _ _ _ c.compare.ensures.spends c.put_tries.ensures.store.writes;
+  counted = search rules;
+}
 
-pub returns-in_err-outcome-clause-spends : goal.returns-in_err-outcome-clause-spends
-returns-in_err-outcome-clause-spends g c = compares_more 1 _ _ _ c.compare.ensures.spends
+pub returns-in_ok-put_tries : goal.returns-in_ok-put_tries
+returns-in_ok-put_tries g c = record {
+  any_exit = matched_sets_or_not 1 c.args.charged c.secret-secret.result c.args.shown.now verified_pin _ _ _
+      c.secret-secret.ensures.secret (match_told c.args.charged c.args.shown.now c.args.store.now c.compare.new.store
+      c.in_ok-outcome.outcome c.in-Matched.is c.in_ok-outcome.ensures.done) c.compare.ensures.kept
+      c.put_tries.ensures.store.writes
+      c.put_tries.ensures.any_exit;
+  done = end_told c.args.charged c.args.shown.now (verified_pin
+      (pin_in c.args.store.now c.args.charged)) c.args.store.now
+      c.put_tries.new.store c.in_ok-outcome.outcome c.in-Matched.is
+      (matched_sets 1 c.args.charged c.secret-secret.result c.args.shown.now verified_pin _ _ _
+      c.secret-secret.ensures.secret (match_told c.args.charged c.args.shown.now c.args.store.now c.compare.new.store
+      c.in_ok-outcome.outcome c.in-Matched.is c.in_ok-outcome.ensures.done) c.compare.ensures.kept
+      c.put_tries.ensures.store.writes
+      c.in_ok-put_tries.ensures.done);
+  by_gate = search rules;
+  pages = c.put_tries.ensures.pages (pages_stay _ _ c.compare.ensures.kept c.requires.pages);
+  store = leaves_on _ _ _ _ c.compare.ensures.store.reports (changes_leave _ _ _ _ c.in_ok-put_tries.ensures.store);
+  spends = compares_then 1 _ _ _ _ c.compare.ensures.spends c.put_tries.ensures.store.writes;
+  counted = search rules;
+}
 
-pub put_tries-requires-clause-pages : goal.put_tries-requires-clause-pages
-put_tries-requires-clause-pages g c = pages_stay _ _ c.compare.ensures.kept c.requires.pages
-
-pub returns-in_err-put_tries-clause-any_exit : goal.returns-in_err-put_tries-clause-any_exit
-returns-in_err-put_tries-clause-any_exit g c =
-    matched_sets_or_not 1 c.args.charged c.secret-secret.result c.args.shown.now verified_pin _ _ _
-    c.secret-secret.ensures.secret (match_told c.args.charged c.args.shown.now c.args.store.now c.compare.new.store
-    c.in_ok-outcome.outcome c.in-Matched.is c.in_ok-outcome.ensures.done) c.compare.ensures.kept
-    c.put_tries.ensures.store.writes
-    c.put_tries.ensures.any_exit
-
-pub returns-in_err-put_tries-clause-store : goal.returns-in_err-put_tries-clause-store
-returns-in_err-put_tries-clause-store g c =
-    leaves_handed _ _ _ _ c.from_residual-in_err-put_tries.ensures.1
-    (leaves_on _ _ _ _ c.compare.ensures.store.reports (changes_leave _ _ _ _ c.in_err-put_tries.ensures.store))
-
-pub returns-in_err-put_tries-clause-spends : goal.returns-in_err-put_tries-clause-spends
-returns-in_err-put_tries-clause-spends g c =
-    compares_then 1 _ _ _ _ c.compare.ensures.spends c.put_tries.ensures.store.writes
-
-pub returns-in_ok-put_tries-clause-any_exit : goal.returns-in_ok-put_tries-clause-any_exit
-returns-in_ok-put_tries-clause-any_exit g c =
-    matched_sets_or_not 1 c.args.charged c.secret-secret.result c.args.shown.now verified_pin _ _ _
-    c.secret-secret.ensures.secret (match_told c.args.charged c.args.shown.now c.args.store.now c.compare.new.store
-    c.in_ok-outcome.outcome c.in-Matched.is c.in_ok-outcome.ensures.done) c.compare.ensures.kept
-    c.put_tries.ensures.store.writes
-    c.put_tries.ensures.any_exit
-
-pub returns-in_ok-put_tries-clause-done : goal.returns-in_ok-put_tries-clause-done
-returns-in_ok-put_tries-clause-done g c =
-    end_told c.args.charged c.args.shown.now (verified_pin (pin_in c.args.store.now c.args.charged)) c.args.store.now
-    c.put_tries.new.store c.in_ok-outcome.outcome c.in-Matched.is
-    (matched_sets 1 c.args.charged c.secret-secret.result c.args.shown.now verified_pin _ _ _
-    c.secret-secret.ensures.secret (match_told c.args.charged c.args.shown.now c.args.store.now c.compare.new.store
-    c.in_ok-outcome.outcome c.in-Matched.is c.in_ok-outcome.ensures.done) c.compare.ensures.kept
-    c.put_tries.ensures.store.writes
-    c.in_ok-put_tries.ensures.done)
-
-pub returns-in_ok-put_tries-clause-store : goal.returns-in_ok-put_tries-clause-store
-returns-in_ok-put_tries-clause-store g c =
-    leaves_on _ _ _ _ c.compare.ensures.store.reports (changes_leave _ _ _ _ c.in_ok-put_tries.ensures.store)
-
-pub returns-in_ok-put_tries-clause-spends : goal.returns-in_ok-put_tries-clause-spends
-returns-in_ok-put_tries-clause-spends g c =
-    compares_then 1 _ _ _ _ c.compare.ensures.spends c.put_tries.ensures.store.writes
-
-pub returns-in_default-clause-any_exit : goal.returns-in_default-clause-any_exit
-returns-in_default-clause-any_exit g c = inl c.compare.ensures.kept
-
-pub returns-in_default-clause-pages : goal.returns-in_default-clause-pages
-returns-in_default-clause-pages g c = pages_stay _ _ c.compare.ensures.kept c.requires.pages
-
-pub returns-in_default-clause-spends : goal.returns-in_default-clause-spends
-returns-in_default-clause-spends g c = compares_more 1 _ _ _ c.compare.ensures.spends
+pub returns-in_default : goal.returns-in_default
+returns-in_default g c = record {
+  any_exit = inl c.compare.ensures.kept;
+  done = search rules;
+  by_gate = search rules;
+  pages = pages_stay _ _ c.compare.ensures.kept c.requires.pages;
+  store = search rules;
+  spends = compares_more 1 _ _ _ c.compare.ensures.spends;
+  counted = search rules;
+}

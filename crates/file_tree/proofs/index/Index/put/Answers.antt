@@ -19,7 +19,7 @@ returns-then-is_behind c = λ up.
     let old = c.args.self.now.places.items in
     let same = c.as_slice.ensures.value in
     let before : List Place → Type 0 = λ ps. All (λ p. IsBefore p.key c.args.place.key) ps in
-    let all = subst before same (c.is_behind.ensures (subst sorted (sym same) up) c.if-is_behind.true) in
+    let all = subst before same ((c.is_behind.ensures (subst sorted (sym same) up)).0 c.if-is_behind.true) in
     let after : List Place → Type 0 = λ ps. Puts old c.args.place ps in
     subst after (sym c.push.ensures.items) (puts_behind old c.args.place all)
 
