@@ -147,6 +147,13 @@ found-two m told checked there is tells =
     let card = subst (λ (format : MemoryFormat). IsCardIn format m) is says.0 in
     (card, says.1 ∙ sym (card_space_is m card), says.2)
 
+-- what was told to be free, of a memory that was only read since
+pub found-free : (m mid : List ℕ) (told : Option Checked) (checked : Checked) → mid ≡ m → told ≡ Some checked
+    → TellsCard m told → checked.tree.free ≡ free_space (block_count mid) (tree_of mid)
+found-free m mid told checked same there tells =
+    let says = subst (λ (o : Option Checked). TellsCard m o) there tells in
+    says.1 ∙ sym (ap (λ (l : List ℕ). free_space (block_count l) (tree_of l)) same)
+
 -- each file is where it was, once the memory was migrated
 pub found-where : (m mid after : List ℕ) (told : Option Checked) (checked : Checked) → mid ≡ m → told ≡ Some checked
     → TellsCard m told → Migrates mid after → IsIndex (table after) checked.tree.index

@@ -1,17 +1,16 @@
 //! Commands on PINs: VERIFY, CHANGE REFERENCE DATA, RESET RETRY COUNTER, DISABLE and ENABLE VERIFICATION REQUIREMENT
 //! (ISO/IEC 7816-4, 11.5 and 11.6). A try is taken away, lastingly, before anything is compared.
-ghost use Rattle.std.specs.Prelude.{◌≡◌, ◌⊎◌, ◌<◌, ◌+◌, [], Some, option_map, OnOk, IsSome};
+ghost use Rattle.std.specs.Prelude.{◌≡◌, ◌<◌, ◌+◌, [], Some, option_map, IsSome};
 ghost use Rattle.std.specs.Result.{result_err};
 ghost use Rattle.nvm_board.specs.declared.board.TheConstants.{SECRETS};
-ghost use Rattle.undo_journal.specs.Commits.{StaysShut};
-ghost use Rattle.undo_journal.specs.Calls.{Learns, OnlyReads, Changes};
+ghost use Rattle.undo_journal.specs.Calls.{Learns};
 ghost use Rattle.undo_journal.specs.Memory.{committed, IsReady};
 ghost use Rattle.card_rules.specs.Pins.{IsPinNumber};
 ghost use Rattle.apdu_core.specs.Requests.{change_reference_data as changing, reset_retry_counter as resetting};
 ghost use Rattle.apdu_core.specs.Requests.{verify as verifying, change_requirement as requiring};
 ghost use Rattle.pin_store.specs.Pages.{ArePinPages};
 ghost use Rattle.pin_store.specs.Pins.{Pin, tries_left};
-ghost use Rattle.pin_store.specs.Trials.{pin_in, Charges};
+ghost use Rattle.pin_store.specs.Trials.{pin_in, Charges, TakesTry};
 ghost use Rattle.card_machine.specs.Outcomes.{first_applying};
 ghost use Rattle.card_machine.specs.Pins.{is_enabled_by, tries_told, unusable_by};
 ghost use Rattle.card_machine.specs.Served.{Serves};
@@ -196,16 +195,12 @@ fn take_try<B: Board>(store: &mut Store<B>, secret: u8, usable: Usable) -> Resul
     requires ready { IsReady store.old }
     requires secret { secret < SECRETS }
     requires pages { ArePinPages (committed store.old) }
-    ensures any_exit { (committed store.new ≡ committed store.old) ⊎ Charges secret store.old store.new }
     ensures done { Finds result
         (λ charged. (charged ≡ secret) × Charges secret store.old store.new
         × (refused_use usable secret (pin_in store.old secret) ≡ None))
         (λ refusal. (refused_use usable secret (pin_in store.old secret) ≡ Some refusal) × IsReady store.new) }
-    ensures kept { IsSome (refused_use usable secret (pin_in store.old secret)) → OnlyReads store.old store.new }
-    ensures pages { ArePinPages (committed store.new) }
-    ensures shut { StaysShut store.old store.new }
-    ensures store { Changes 1 store.old store.new (failure result) }
-    ensures counted { OnOk result (store.new.facts.writes ≡ store.old.facts.writes + 1) }
+    ensures takes { TakesTry secret (IsSome (refused_use usable secret (pin_in store.old secret))) store.old store.new
+        result (failure result) }
 {
     check_use(store, secret, usable)?;
     Ok(charge(store, secret)?)

@@ -1,11 +1,12 @@
 -- What a charge and the ends that follow it leave of a store, and the law that binds them:
 -- a comparison costs a lasting try.
-use Rattle.std.specs.Prelude.{◌≡◌, ◌⊎◌, ◌<◌, ◌≤◌, ◌+◌, ℕ, List, slice_index, Option, Some, None, Result, Ok, Err, IfOk}
+use Rattle.std.specs.Prelude.{◌≡◌, ◌⊎◌, ◌<◌, ◌≤◌, ◌+◌, ℕ, List, slice_index, Option, Some, None, Result, Ok, Err, IfOk, OnOk}
 use Rattle.std.specs.Result.{result_err}
 use Rattle.nvm_board.specs.Aims.{AimsOn}
 use Rattle.nvm_board.specs.Facts.{Facts, RisesAt, raised}
 use Rattle.undo_journal.specs.declared.error.StoreErr.{StoreErr}
-use Rattle.undo_journal.specs.Calls.{Leaves}
+use Rattle.undo_journal.specs.Calls.{Changes, Leaves, OnlyReads}
+use Rattle.undo_journal.specs.Commits.{StaysShut}
 use Rattle.undo_journal.specs.Memory.{Memory, committed}
 use Rattle.pin_store.specs.declared.errors.PinErr.{PinErr}
 use Rattle.pin_store.specs.declared.errors.PinErr.TheVariants as pin_err
@@ -73,6 +74,17 @@ end_writes writes (Wrong left) = 0
 abbrev pub EndsByOutcome : ℕ → List ℕ → Pin → Memory → Memory → Outcome → Type 0
 EndsByOutcome secret shown now old new Matched = SetsByMatch secret shown now old new
 EndsByOutcome secret shown now old new (Wrong left) = IsWrong secret shown left old new
+
+-- What a call leaves that takes a try of a secret away, or is refused: at each exit all is as it was, or the try is
+-- gone, by one device write; what is refused writes nothing.
+pub record TakesTry {T E : Type 0} (secret : ℕ) (refused : Type 0) (old new : Memory) (result : Result T E)
+    (told : Option StoreErr) : Type 0 where
+  pub any_exit : (committed new ≡ committed old) ⊎ Charges secret old new
+  pub kept : refused → OnlyReads old new
+  pub pages : ArePinPages (committed new)
+  pub shut : StaysShut old new
+  pub store : Changes 1 old new told
+  pub counted : OnOk result (new.facts.writes ≡ old.facts.writes + 1)
 
 -- A call that ends a charge: it compares once, and a match sets the PIN to what `set` makes of it, in so many device
 -- writes; at each exit the PIN is set so, or all is as it was. `gate` says what becomes of the gate.

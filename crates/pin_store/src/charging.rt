@@ -1,14 +1,13 @@
 //! The tries of a secret, and the charge that takes one away before anything is compared.
-ghost use Rattle.std.specs.Prelude.{◌≡◌, ◌⊎◌, ◌+◌, ◌<◌, IfOk, IsErrOf, OnOk};
+ghost use Rattle.std.specs.Prelude.{◌≡◌, ◌<◌, IfOk, IsErrOf};
 ghost use Rattle.std.specs.Result.{result_err};
 ghost use Rattle.nvm_board.specs.declared.board.TheConstants.{SECRETS};
-ghost use Rattle.undo_journal.specs.Calls.{OnlyReads, Reads, Changes};
-ghost use Rattle.undo_journal.specs.Commits.{StaysShut};
+ghost use Rattle.undo_journal.specs.Calls.{Reads};
 ghost use Rattle.undo_journal.specs.Memory.{committed, IsReady};
 ghost use Rattle.pin_store.specs.declared.errors.PinErr.TheVariants.{Blocked};
 ghost use Rattle.pin_store.specs.Pins.{tries_left};
 ghost use Rattle.pin_store.specs.Pages.{ArePinPages};
-ghost use Rattle.pin_store.specs.Trials.{pin_in, store_failure, Charges};
+ghost use Rattle.pin_store.specs.Trials.{pin_in, store_failure, Charges, TakesTry};
 
 use crate::errors::PinErr;
 use crate::layout::PIN_MARK_WORD;
@@ -73,24 +72,20 @@ pub fn is_enabled<B: Board>(store: &mut Store<B>, secret: u8) -> Result<bool, St
     Ok(mark == 1)
 }
 
-/// Takes a try of a secret away, lastingly, in one device write (`counted`). Nothing is compared, at no exit: the
-/// counts of comparisons and of matches stay (`store`).
+/// Takes a try of a secret away, lastingly, in one device write (`counted` of `takes`). Nothing is compared, at no exit:
+/// the counts of comparisons and of matches stay (`store` of `takes`).
 ///
 /// # Errors
-/// `Blocked` exactly where no try is left (`blocked`, `done`): then nothing is written, at no exit (`kept`). Else what
+/// `Blocked` exactly where no try is left (`blocked`, `done`): then nothing is written, at no exit (`kept` of `takes`). Else what
 /// the store answers: power was lost, or the device failed. The try may be gone then, and no receipt is given.
 pub fn charge<B: Board>(store: &mut Store<B>, secret: u8) -> Result<Charged, PinErr>
     requires ready { IsReady store.old }
     requires secret { secret < SECRETS }
     requires pages { ArePinPages (committed store.old) }
-    ensures any_exit { (committed store.new ≡ committed store.old) ⊎ Charges secret store.old store.new }
     ensures done { IfOk result (λ charged. (charged ≡ secret) × Charges secret store.old store.new) }
     ensures blocked { IsErrOf result Blocked → (tries_left secret (pin_in store.old secret) ≡ 0) × IsReady store.new }
-    ensures kept { tries_left secret (pin_in store.old secret) ≡ 0 → OnlyReads store.old store.new }
-    ensures pages { ArePinPages (committed store.new) }
-    ensures shut { StaysShut store.old store.new }
-    ensures store { Changes 1 store.old store.new (store_failure result) }
-    ensures counted { OnOk result (store.new.facts.writes ≡ store.old.facts.writes + 1) }
+    ensures takes { TakesTry secret (tries_left secret (pin_in store.old secret) ≡ 0) store.old store.new result
+        (store_failure result) }
 {
     let left = tries(store, secret)?;
     if left == 0 {

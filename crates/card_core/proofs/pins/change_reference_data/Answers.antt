@@ -9,9 +9,9 @@ returns-in_err-charged g c =
     charge-stopped _ _ (changes c.args.pin c.requires.pin c.args.values.shown.now c.args.values.new.now) 5
     refl c.args.store.now c.args.current.now
     c.requires.kept.ready c.requires.kept.card c.requires.kept.current c.take_try.new.store _ c.in_err-charged.field-0.0
-    c.from_residual.ensures.1 c.take_try.ensures.any_exit c.take_try.ensures.kept
-    c.take_try.ensures.pages c.take_try.ensures.store.reports c.in_err-charged.ensures.store.tells
-    c.take_try.ensures.store.writes c.take_try.ensures.shut c.in_err-charged.ensures.done
+    c.from_residual.ensures.1 c.take_try.ensures.takes.any_exit c.take_try.ensures.takes.kept
+    c.take_try.ensures.takes.pages c.take_try.ensures.takes.store.reports c.in_err-charged.ensures.takes.store.tells
+    c.take_try.ensures.takes.store.writes c.take_try.ensures.takes.shut c.in_err-charged.ensures.done
 
 pub returns-in_err-outcome : goal.returns-in_err-outcome
 returns-in_err-outcome g c =
@@ -21,10 +21,10 @@ returns-in_err-outcome g c =
     end-torn _ _ (changes c.args.pin c.requires.pin c.args.values.shown.now c.args.values.new.now) 5
     refl c.args.store.now c.args.current.now c.requires.kept.ready c.requires.kept.card
     c.requires.kept.current c.take_try.new.store c.change.new.store c.in_ok-charged.charged
-    c.in_ok-charged.ensures.done c.take_try.ensures.pages c.take_try.ensures.store.writes
-    c.take_try.ensures.store.reports (λ p. changed_ends (c.args.pin - 1) c.args.values.new.now p small)
+    c.in_ok-charged.ensures.done c.take_try.ensures.takes.pages c.take_try.ensures.takes.store.writes
+    c.take_try.ensures.takes.store.reports (λ p. changed_ends (c.args.pin - 1) c.args.values.new.now p small)
     c.change.ensures.any_exit c.change.ensures.spends c.change.ensures.pages c.change.ensures.store.reports
-    c.take_try.ensures.shut c.change.ensures.by_gate _
+    c.take_try.ensures.takes.shut c.change.ensures.by_gate _
     c.in_err-outcome.field-0.0 (reply-failed _ _ c.from_residual-in_err-outcome.ensures.1)
     c.in_err-outcome.ensures.store.tells
 
@@ -36,11 +36,11 @@ returns g c =
     end-made _ _ (changes c.args.pin c.requires.pin c.args.values.shown.now c.args.values.new.now) 5
     refl c.args.store.now c.args.current.now c.requires.kept.ready c.requires.kept.card
     c.requires.kept.current c.take_try.new.store c.change.new.store c.in_ok-charged.charged
-    c.in_ok-charged.ensures.done c.take_try.ensures.pages c.take_try.ensures.store.writes
-    c.take_try.ensures.store.reports (λ p. changed_ends (c.args.pin - 1) c.args.values.new.now p small)
+    c.in_ok-charged.ensures.done c.take_try.ensures.takes.pages c.take_try.ensures.takes.store.writes
+    c.take_try.ensures.takes.store.reports (λ p. changed_ends (c.args.pin - 1) c.args.values.new.now p small)
     c.change.ensures.any_exit c.change.ensures.spends c.change.ensures.pages c.change.ensures.store.reports
-    c.take_try.ensures.shut c.change.ensures.by_gate c.in_ok-outcome.outcome
-    c.in_ok-outcome.ensures.done c.in_ok-outcome.ensures.store.ready c.in_ok-charged.ensures.counted
+    c.take_try.ensures.takes.shut c.change.ensures.by_gate c.in_ok-outcome.outcome
+    c.in_ok-outcome.ensures.done c.in_ok-outcome.ensures.store.ready c.in_ok-charged.ensures.takes.counted
     c.after_attempt.result c.after_attempt.ensures
     c.status_of.result c.status_of.ensures
 
@@ -51,7 +51,7 @@ pub take_try-requires-clause-pages : goal.take_try-requires-clause-pages
 take_try-requires-clause-pages g c = c.requires.kept.card.pins
 
 pub change-requires-clause-pages : goal.change-requires-clause-pages
-change-requires-clause-pages g c = c.take_try.ensures.pages
+change-requires-clause-pages g c = c.take_try.ensures.takes.pages
 
 pub after_attempt-requires : goal.after_attempt-requires
 after_attempt-requires g c = c.requires.pin

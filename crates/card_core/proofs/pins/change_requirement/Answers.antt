@@ -14,11 +14,11 @@ returns-in_err-charged g c =
     let was = pin_in c.args.store.now (c.args.pin - 1) in
     charge-stopped _ _ (requires_or_not c.args.pin c.requires.pin c.args.change c.args.shown.now)
     5 refl c.args.store.now c.args.current.now c.requires.kept.ready c.requires.kept.card c.requires.kept.current
-    c.take_try.new.store _ c.in_err-charged.field-0.0 c.from_residual.ensures.1 c.take_try.ensures.any_exit
-    (kept-by (c.args.pin - 1) _ _ c.usable_by.ensures was _ _ c.take_try.ensures.kept)
-    c.take_try.ensures.pages
-    c.take_try.ensures.store.reports c.in_err-charged.ensures.store.tells c.take_try.ensures.store.writes
-    c.take_try.ensures.shut (refused-by (c.args.pin - 1) _ _ c.usable_by.ensures was _ _ c.in_err-charged.ensures.done)
+    c.take_try.new.store _ c.in_err-charged.field-0.0 c.from_residual.ensures.1 c.take_try.ensures.takes.any_exit
+    (kept-by (c.args.pin - 1) _ _ c.usable_by.ensures was _ _ c.take_try.ensures.takes.kept)
+    c.take_try.ensures.takes.pages
+    c.take_try.ensures.takes.store.reports c.in_err-charged.ensures.takes.store.tells c.take_try.ensures.takes.store.writes
+    c.take_try.ensures.takes.shut (refused-by (c.args.pin - 1) _ _ c.usable_by.ensures was _ _ c.in_err-charged.ensures.done)
 
 pub returns-in_err-outcome : goal.returns-in_err-outcome
 returns-in_err-outcome g c =
@@ -34,9 +34,9 @@ returns-in_err-outcome g c =
     end-torn _ _ (requires_or_not c.args.pin c.requires.pin c.args.change c.args.shown.now) 5 refl c.args.store.now
     c.args.current.now c.requires.kept.ready c.requires.kept.card c.requires.kept.current b e c.in_ok-charged.charged
     (taken-by (c.args.pin - 1) _ _ c.usable_by.ensures was _ _ _ c.in_ok-charged.ensures.done)
-    c.take_try.ensures.pages c.take_try.ensures.store.writes
-    c.take_try.ensures.store.reports (λ p. marked_ends (c.args.pin - 1) (is_enabled_by c.args.change) p small) exit
-    c.set_enabled.ensures.spends c.set_enabled.ensures.pages c.set_enabled.ensures.store.reports c.take_try.ensures.shut
+    c.take_try.ensures.takes.pages c.take_try.ensures.takes.store.writes
+    c.take_try.ensures.takes.store.reports (λ p. marked_ends (c.args.pin - 1) (is_enabled_by c.args.change) p small) exit
+    c.set_enabled.ensures.spends c.set_enabled.ensures.pages c.set_enabled.ensures.store.reports c.take_try.ensures.takes.shut
     c.set_enabled.ensures.by_gate _
     c.in_err-outcome.field-0.0 (reply-failed _ _ c.from_residual-in_err-outcome.ensures.1)
     c.in_err-outcome.ensures.store.tells
@@ -58,11 +58,11 @@ returns g c =
     end-made _ _ (requires_or_not c.args.pin c.requires.pin c.args.change c.args.shown.now) 5 refl c.args.store.now
     c.args.current.now c.requires.kept.ready c.requires.kept.card c.requires.kept.current b e c.in_ok-charged.charged
     (taken-by (c.args.pin - 1) _ _ c.usable_by.ensures was _ _ _ c.in_ok-charged.ensures.done)
-    c.take_try.ensures.pages c.take_try.ensures.store.writes
-    c.take_try.ensures.store.reports (λ p. marked_ends (c.args.pin - 1) (is_enabled_by c.args.change) p small) exit
-    c.set_enabled.ensures.spends c.set_enabled.ensures.pages c.set_enabled.ensures.store.reports c.take_try.ensures.shut
+    c.take_try.ensures.takes.pages c.take_try.ensures.takes.store.writes
+    c.take_try.ensures.takes.store.reports (λ p. marked_ends (c.args.pin - 1) (is_enabled_by c.args.change) p small) exit
+    c.set_enabled.ensures.spends c.set_enabled.ensures.pages c.set_enabled.ensures.store.reports c.take_try.ensures.takes.shut
     c.set_enabled.ensures.by_gate c.in_ok-outcome.outcome
-    ended c.in_ok-outcome.ensures.store.ready c.in_ok-charged.ensures.counted
+    ended c.in_ok-outcome.ensures.store.ready c.in_ok-charged.ensures.takes.counted
     c.after_attempt.result c.after_attempt.ensures
     c.status_of.result c.status_of.ensures
 
@@ -73,7 +73,7 @@ pub take_try-requires-clause-pages : goal.take_try-requires-clause-pages
 take_try-requires-clause-pages g c = c.requires.kept.card.pins
 
 pub set_enabled-requires-clause-pages : goal.set_enabled-requires-clause-pages
-set_enabled-requires-clause-pages g c = c.take_try.ensures.pages
+set_enabled-requires-clause-pages g c = c.take_try.ensures.takes.pages
 
 pub after_attempt-requires : goal.after_attempt-requires
 after_attempt-requires g c = c.requires.pin

@@ -9,9 +9,9 @@ returns-in_err-charged g c =
     charge-stopped _ _ (resets c.args.pin c.requires.pin c.args.values.shown.now c.args.values.new.now) 4
     refl c.args.store.now c.args.current.now
     c.requires.kept.ready c.requires.kept.card c.requires.kept.current c.take_try.new.store _ c.in_err-charged.field-0.0
-    c.from_residual.ensures.1 c.take_try.ensures.any_exit c.take_try.ensures.kept
-    c.take_try.ensures.pages c.take_try.ensures.store.reports c.in_err-charged.ensures.store.tells
-    c.take_try.ensures.store.writes c.take_try.ensures.shut c.in_err-charged.ensures.done
+    c.from_residual.ensures.1 c.take_try.ensures.takes.any_exit c.take_try.ensures.takes.kept
+    c.take_try.ensures.takes.pages c.take_try.ensures.takes.store.reports c.in_err-charged.ensures.takes.store.tells
+    c.take_try.ensures.takes.store.writes c.take_try.ensures.takes.shut c.in_err-charged.ensures.done
 
 pub returns-in_err-outcome : goal.returns-in_err-outcome
 returns-in_err-outcome g c =
@@ -19,10 +19,10 @@ returns-in_err-outcome g c =
     end-torn _ _ (resets c.args.pin c.requires.pin c.args.values.shown.now c.args.values.new.now) 4
     refl c.args.store.now c.args.current.now c.requires.kept.ready c.requires.kept.card
     c.requires.kept.current c.take_try.new.store c.reset_counter.new.store c.in_ok-charged.charged
-    c.in_ok-charged.ensures.done c.take_try.ensures.pages c.take_try.ensures.store.writes
-    c.take_try.ensures.store.reports (λ p. reset_ends (8 + (c.args.pin - 1)) c.args.values.new.now p large)
+    c.in_ok-charged.ensures.done c.take_try.ensures.takes.pages c.take_try.ensures.takes.store.writes
+    c.take_try.ensures.takes.store.reports (λ p. reset_ends (8 + (c.args.pin - 1)) c.args.values.new.now p large)
     c.reset_counter.ensures.any_exit c.reset_counter.ensures.spends c.reset_counter.ensures.pages
-    c.reset_counter.ensures.store.reports c.take_try.ensures.shut c.reset_counter.ensures.by_gate _
+    c.reset_counter.ensures.store.reports c.take_try.ensures.takes.shut c.reset_counter.ensures.by_gate _
     c.in_err-outcome.field-0.0 (reply-failed _ _ c.from_residual-in_err-outcome.ensures.1)
     c.in_err-outcome.ensures.store.tells
 
@@ -32,12 +32,12 @@ returns g c =
     end-made _ _ (resets c.args.pin c.requires.pin c.args.values.shown.now c.args.values.new.now) 4
     refl c.args.store.now c.args.current.now c.requires.kept.ready c.requires.kept.card
     c.requires.kept.current c.take_try.new.store c.reset_counter.new.store c.in_ok-charged.charged
-    c.in_ok-charged.ensures.done c.take_try.ensures.pages c.take_try.ensures.store.writes
-    c.take_try.ensures.store.reports (λ p. reset_ends (8 + (c.args.pin - 1)) c.args.values.new.now p large)
+    c.in_ok-charged.ensures.done c.take_try.ensures.takes.pages c.take_try.ensures.takes.store.writes
+    c.take_try.ensures.takes.store.reports (λ p. reset_ends (8 + (c.args.pin - 1)) c.args.values.new.now p large)
     c.reset_counter.ensures.any_exit c.reset_counter.ensures.spends
-    c.reset_counter.ensures.pages c.reset_counter.ensures.store.reports c.take_try.ensures.shut
+    c.reset_counter.ensures.pages c.reset_counter.ensures.store.reports c.take_try.ensures.takes.shut
     c.reset_counter.ensures.by_gate c.in_ok-outcome.outcome
-    c.in_ok-outcome.ensures.done c.in_ok-outcome.ensures.store.ready c.in_ok-charged.ensures.counted
+    c.in_ok-outcome.ensures.done c.in_ok-outcome.ensures.store.ready c.in_ok-charged.ensures.takes.counted
     c.after_attempt.result c.after_attempt.ensures
     c.status_of.result c.status_of.ensures
 
@@ -48,7 +48,7 @@ pub take_try-requires-clause-pages : goal.take_try-requires-clause-pages
 take_try-requires-clause-pages g c = c.requires.kept.card.pins
 
 pub reset_counter-requires-clause-pages : goal.reset_counter-requires-clause-pages
-reset_counter-requires-clause-pages g c = c.take_try.ensures.pages
+reset_counter-requires-clause-pages g c = c.take_try.ensures.takes.pages
 
 pub after_attempt-requires : goal.after_attempt-requires
 after_attempt-requires g c = c.requires.pin

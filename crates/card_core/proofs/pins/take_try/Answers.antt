@@ -1,4 +1,4 @@
-use Rattle.std.proofs.Common.{◌≡◌, Err, Result, refl, subst}
+use Rattle.std.proofs.Common.{◌≡◌, Err, Result, refl, subst, rules}
 use Rattle.card_rules.specs.declared.status.Sw.{Sw}
 use Rattle.card_rules.specs.declared.status.TheConstants.Sw.{METHOD_BLOCKED}
 use Rattle.undo_journal.specs.Calls.{Changes}
@@ -23,8 +23,14 @@ charge-said : (e : PinErr) (Q : Sw → Type 0) → (e ≡ pin_err.Blocked → Q 
 charge-said pin_err.Blocked Q said = said refl
 charge-said (pin_err.Store e) Q said = tt
 
-pub returns-in_err-charge-clause-store : goal.returns-in_err-charge-clause-store
-returns-in_err-charge-clause-store g c =
-    changes-stopped _ (stop_of_pin c.in_err-charge.field-0.0) c.from_residual-in_err-charge.ensures.1 1 _ _
-    (changes_after 1 _ _ _ _ c.check_use.ensures.store.only
-    (charge-failed _ _ c.charge.result c.in_err-charge.field-0.0 c.in_err-charge.was c.charge.ensures.store))
+pub returns-in_err-charge-clause-takes : goal.returns-in_err-charge-clause-takes
+returns-in_err-charge-clause-takes g c = record {
+  any_exit = search rules;
+  kept = search rules;
+  pages = search rules;
+  shut = search rules;
+  store = changes-stopped _ (stop_of_pin c.in_err-charge.field-0.0) c.from_residual-in_err-charge.ensures.1 1 _ _
+        (changes_after 1 _ _ _ _ c.check_use.ensures.store.only
+        (charge-failed _ _ c.charge.result c.in_err-charge.field-0.0 c.in_err-charge.was c.charge.ensures.takes.store));
+  counted = search rules;
+}

@@ -8,9 +8,9 @@ pub returns-in_err-charged : goal.returns-in_err-charged
 returns-in_err-charged g c =
     charge-stopped _ _ (verifies c.args.pin c.requires.pin c.args.shown.now) 1 refl c.args.store.now c.args.current.now
     c.requires.kept.ready c.requires.kept.card c.requires.kept.current c.take_try.new.store _ c.in_err-charged.field-0.0
-    c.from_residual.ensures.1 c.take_try.ensures.any_exit c.take_try.ensures.kept
-    c.take_try.ensures.pages c.take_try.ensures.store.reports c.in_err-charged.ensures.store.tells
-    c.take_try.ensures.store.writes c.take_try.ensures.shut c.in_err-charged.ensures.done
+    c.from_residual.ensures.1 c.take_try.ensures.takes.any_exit c.take_try.ensures.takes.kept
+    c.take_try.ensures.takes.pages c.take_try.ensures.takes.store.reports c.in_err-charged.ensures.takes.store.tells
+    c.take_try.ensures.takes.store.writes c.take_try.ensures.takes.shut c.in_err-charged.ensures.done
 
 pub returns-in_err-outcome : goal.returns-in_err-outcome
 returns-in_err-outcome g c =
@@ -19,9 +19,9 @@ returns-in_err-outcome g c =
     let small : c.args.pin - 1 < 8 = omega (arith, first, last) in
     end-torn _ _ (verifies c.args.pin c.requires.pin c.args.shown.now) 1 refl c.args.store.now c.args.current.now
     c.requires.kept.ready c.requires.kept.card c.requires.kept.current c.take_try.new.store c.settle.new.store
-    c.in_ok-charged.charged c.in_ok-charged.ensures.done c.take_try.ensures.pages c.take_try.ensures.store.writes
-    c.take_try.ensures.store.reports (λ p. verified_ends (c.args.pin - 1) p small) c.settle.ensures.any_exit
-    c.settle.ensures.spends c.settle.ensures.pages c.settle.ensures.store.reports c.take_try.ensures.shut
+    c.in_ok-charged.charged c.in_ok-charged.ensures.done c.take_try.ensures.takes.pages c.take_try.ensures.takes.store.writes
+    c.take_try.ensures.takes.store.reports (λ p. verified_ends (c.args.pin - 1) p small) c.settle.ensures.any_exit
+    c.settle.ensures.spends c.settle.ensures.pages c.settle.ensures.store.reports c.take_try.ensures.takes.shut
     c.settle.ensures.by_gate _
     c.in_err-outcome.field-0.0 (reply-failed _ _ c.from_residual-in_err-outcome.ensures.1)
     c.in_err-outcome.ensures.store.tells
@@ -33,11 +33,11 @@ returns g c =
     let small : c.args.pin - 1 < 8 = omega (arith, first, last) in
     end-made _ _ (verifies c.args.pin c.requires.pin c.args.shown.now) 1 refl c.args.store.now c.args.current.now
     c.requires.kept.ready c.requires.kept.card c.requires.kept.current c.take_try.new.store c.settle.new.store
-    c.in_ok-charged.charged c.in_ok-charged.ensures.done c.take_try.ensures.pages c.take_try.ensures.store.writes
-    c.take_try.ensures.store.reports (λ p. verified_ends (c.args.pin - 1) p small) c.settle.ensures.any_exit
-    c.settle.ensures.spends c.settle.ensures.pages c.settle.ensures.store.reports c.take_try.ensures.shut
+    c.in_ok-charged.charged c.in_ok-charged.ensures.done c.take_try.ensures.takes.pages c.take_try.ensures.takes.store.writes
+    c.take_try.ensures.takes.store.reports (λ p. verified_ends (c.args.pin - 1) p small) c.settle.ensures.any_exit
+    c.settle.ensures.spends c.settle.ensures.pages c.settle.ensures.store.reports c.take_try.ensures.takes.shut
     c.settle.ensures.by_gate c.in_ok-outcome.outcome
-    c.in_ok-outcome.ensures.done c.in_ok-outcome.ensures.store.ready c.in_ok-charged.ensures.counted
+    c.in_ok-outcome.ensures.done c.in_ok-outcome.ensures.store.ready c.in_ok-charged.ensures.takes.counted
     c.after_attempt.result c.after_attempt.ensures c.status_of.result c.status_of.ensures
 
 pub take_try-requires-clause-secret : goal.take_try-requires-clause-secret
@@ -47,7 +47,7 @@ pub take_try-requires-clause-pages : goal.take_try-requires-clause-pages
 take_try-requires-clause-pages g c = c.requires.kept.card.pins
 
 pub settle-requires-clause-pages : goal.settle-requires-clause-pages
-settle-requires-clause-pages g c = c.take_try.ensures.pages
+settle-requires-clause-pages g c = c.take_try.ensures.takes.pages
 
 pub after_attempt-requires : goal.after_attempt-requires
 after_attempt-requires g c = c.requires.pin

@@ -6,20 +6,20 @@ use Rattle.file_tree.specs.Table.{table}
 use Rattle.file_tree.specs.Indexes.{IsIndex}
 use Rattle.card_machine.specs.Cards.{card_space}
 use Rattle.card_machine.specs.Standing.{card_of, IsCard, IsOldCard}
-use Rattle.card_core.proofs.Migrated.{found-one, found-two, found-where, renewal-writes, renewed-card}
+use Rattle.card_core.proofs.Migrated.{found-free, found-one, found-two, found-where, grown-space, renewal-writes, renewed-card}
 use Rattle.card_core.proofs.renewing.survey_card.Goals as goal
 
-pub returns-in_err-renew-in-One-clause-store : goal.returns-in_err-renew-in-One-clause-store
-returns-in_err-renew-in-One-clause-store g c =
+pub returns-in_err-migrate-in-One-clause-store : goal.returns-in_err-migrate-in-One-clause-store
+returns-in_err-migrate-in-One-clause-store g c =
     let m = committed c.args.store.now in
     let same = c.find_card.ensures.store.only.keeps.committed_words in
     let old = found-one m _ c.in-Some.found c.in-Some.is c.in-One.is c.in_ok-found.ensures.told in
-    let told = Some c.in_err-renew-in-One.field-0.0 in
+    let told = Some c.in_err-migrate-in-One.field-0.0 in
     let first = c.args.store.now in
-    let last = c.renew.new.store in
+    let last = c.migrate.new.store in
     let changes = changes_after _ first c.find_card.new.store last told c.find_card.ensures.store.only
-    c.in_err-renew-in-One.ensures.store in
-    changes_handed _ first last _ _ c.from_residual-in_err-renew-in-One.ensures.1
+    c.in_err-migrate-in-One.ensures.store in
+    changes_handed _ first last _ _ c.from_residual-in_err-migrate-in-One.ensures.1
     (subst (λ (n : ℕ). Changes n first last told) (renewal-writes m (committed c.find_card.new.store) same old) changes)
 
 pub returns-in-Two-clause-card : goal.returns-in-Two-clause-card
@@ -33,29 +33,32 @@ returns-in-Two-clause-card g c =
       subst (λ (l : List ℕ). IsIndex (table l) c.in-Some.found.tree.index) same there.2,
     )
 
-pub returns-in_ok-renew-in-One-clause-store : goal.returns-in_ok-renew-in-One-clause-store
-returns-in_ok-renew-in-One-clause-store g c =
+pub returns-in_ok-migrate-in-One-clause-store : goal.returns-in_ok-migrate-in-One-clause-store
+returns-in_ok-migrate-in-One-clause-store g c =
     let m = committed c.args.store.now in
     let same = c.find_card.ensures.store.only.keeps.committed_words in
     let old = found-one m _ c.in-Some.found c.in-Some.is c.in-One.is c.in_ok-found.ensures.told in
     let first = c.args.store.now in
-    let last = c.renew.new.store in
+    let last = c.migrate.new.store in
     let changes = changes_after _ first c.find_card.new.store last None c.find_card.ensures.store.only
-    c.in_ok-renew-in-One.ensures.store in
+    c.in_ok-migrate-in-One.ensures.store in
     subst (λ (n : ℕ). Changes n first last None) (renewal-writes m (committed c.find_card.new.store) same old) changes
 
-pub returns-in_ok-renew-in-One-clause-card : goal.returns-in_ok-renew-in-One-clause-card
-returns-in_ok-renew-in-One-clause-card g c =
+pub returns-in_ok-migrate-in-One-clause-card : goal.returns-in_ok-migrate-in-One-clause-card
+returns-in_ok-migrate-in-One-clause-card g c =
     let m = committed c.args.store.now in
     let mid = committed c.find_card.new.store in
-    let after = committed c.renew.new.store in
+    let after = committed c.migrate.new.store in
     let same = c.find_card.ensures.store.only.keeps.committed_words in
     let told = c.in_ok-found.ensures.told in
     let old = found-one m _ c.in-Some.found c.in-Some.is c.in-One.is told in
-    let migrates = c.in_ok-renew-in-One.ensures.any_exit in (
+    let sized = c.in_ok-found.ensures.store.ready.usable.committed_size in
+    let was = subst IsOldCard (sym same) old in
+    let migrates = c.in_ok-migrate-in-One.ensures.any_exit in
+    let new = c.in_ok-migrate-in-One.ensures.done.new in (
       inr old,
-      renewed-card mid after c.in_ok-found.ensures.store.ready.usable.committed_size (subst IsOldCard (sym same) old)
-          migrates c.in_ok-renew-in-One.ensures.done.new,
-      c.in_ok-renew-in-One.ensures.free,
+      renewed-card mid after sized was migrates new,
+      grown-space mid after c.in-Some.found.tree.free c.pages.result c.pages.ensures.committed sized was migrates new
+          (found-free m mid _ c.in-Some.found same c.in-Some.is told),
       found-where m mid after _ c.in-Some.found same c.in-Some.is told migrates,
     )
