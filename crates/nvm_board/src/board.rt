@@ -6,6 +6,7 @@ ghost use Rattle.nvm_board.specs.Facts.{Facts, AreWords, CountsFit, Answered, Is
 ghost use Rattle.nvm_board.specs.Facts.{address, raised, pages_of, IsMemory};
 ghost use Rattle.nvm_board.specs.Aims.{AimStays, AimsAtWrite, due_of};
 ghost use Rattle.nvm_board.specs.Torn.{Torn, written};
+ghost use Rattle.nvm_board.specs.Calls.{TellsWord};
 
 /// Pages of a board at least.
 pub const LEAST_PAGES: u16 = 1024;
@@ -57,14 +58,7 @@ pub trait Board {
     /// The word at an address.
     fn read(&mut self, at: u16) -> Result<u32, DeviceErr>
         requires { at < length (facts self.old).words }
-        ensures word { IfOk result (λ w. w ≡ slice_index (facts self.old).words at) }
-        ensures light { Answered (facts self.old) (facts self.new) result }
-        ensures worn { IsLostRightly (facts self.old) (facts self.new) result }
-        ensures cut { AimStays (facts self.old) (facts self.new) }
-        ensures words { (facts self.new).words ≡ (facts self.old).words }
-        ensures writes { (facts self.new).writes ≡ (facts self.old).writes }
-        ensures compares { (facts self.new).compares ≡ (facts self.old).compares }
-        ensures matches { (facts self.new).matches ≡ (facts self.old).matches };
+        ensures { TellsWord at (facts self.old) (facts self.new) result };
 
     /// Writes 1 to 16 words of one page, from its word `first` on. After an error each of them is old or
     /// new by itself.

@@ -125,6 +125,7 @@ impl Board for CutBoard {
     ghost use Rattle.nvm_board.specs.declared.board.TheConstants.{PAGE_WORDS, SECRETS};
     ghost use Rattle.nvm_board.specs.Facts.{Answered, IsLostRightly, RisesAt, address, raised, pages_of};
     ghost use Rattle.nvm_board.specs.Aims.{AimStays, AimsAtWrite};
+    ghost use Rattle.nvm_board.specs.Calls.{TellsWord};
     ghost use Rattle.nvm_board.specs.Torn.{Torn, written};
     ghost use Rattle.nvm_board.specs.Cut.{cut_facts, last_torn, ArmAfter, TornAfter};
     ghost use Rattle.nvm_board.specs.laws.Counts.{cut_counts_fit, ram_memory};
@@ -138,14 +139,7 @@ impl Board for CutBoard {
     #[tactic(auto, unfolding(crate::specs::Facts::IsLostRightly))]
     fn read(&mut self, at: u16) -> Result<u32, DeviceErr>
         requires { at < length (cut_facts self.old).words }
-        ensures word { IfOk result (λ w. w ≡ slice_index (cut_facts self.old).words at) }
-        ensures light { Answered (cut_facts self.old) (cut_facts self.new) result }
-        ensures worn { IsLostRightly (cut_facts self.old) (cut_facts self.new) result }
-        ensures cut { AimStays (cut_facts self.old) (cut_facts self.new) }
-        ensures words { (cut_facts self.new).words ≡ (cut_facts self.old).words }
-        ensures writes { (cut_facts self.new).writes ≡ (cut_facts self.old).writes }
-        ensures compares { (cut_facts self.new).compares ≡ (cut_facts self.old).compares }
-        ensures matches { (cut_facts self.new).matches ≡ (cut_facts self.old).matches }
+        ensures tells { TellsWord at (cut_facts self.old) (cut_facts self.new) result }
 
         // Only writes bring the cut nearer.
         ensures arm { (cut_facts self.new).pending ≡ (cut_facts self.old).pending }

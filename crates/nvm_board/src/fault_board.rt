@@ -205,6 +205,7 @@ impl Board for FaultBoard {
     ghost use Rattle.nvm_board.specs.declared.board.DeviceErr.TheVariants.{Fault};
     ghost use Rattle.nvm_board.specs.Aims.{AimStays, AimsAtWrite};
     ghost use Rattle.nvm_board.specs.Facts.{Answered, IsLostRightly, RisesAt, address, raised, pages_of};
+    ghost use Rattle.nvm_board.specs.Calls.{TellsWord};
     ghost use Rattle.nvm_board.specs.Torn.{Torn, written};
     ghost use Rattle.nvm_board.specs.Faulty.{fault_facts, counting, AfterCall, AfterWrite};
     ghost use Rattle.nvm_board.specs.laws.Counts.{fault_counts_fit, ram_memory};
@@ -218,14 +219,7 @@ impl Board for FaultBoard {
     #[tactic(auto, unfolding(crate::specs::Facts::IsLostRightly))]
     fn read(&mut self, at: u16) -> Result<u32, DeviceErr>
         requires { at < length (fault_facts self.old).words }
-        ensures word { IfOk result (λ w. w ≡ slice_index (fault_facts self.old).words at) }
-        ensures light { Answered (fault_facts self.old) (fault_facts self.new) result }
-        ensures worn { IsLostRightly (fault_facts self.old) (fault_facts self.new) result }
-        ensures cut { AimStays (fault_facts self.old) (fault_facts self.new) }
-        ensures words { (fault_facts self.new).words ≡ (fault_facts self.old).words }
-        ensures writes { (fault_facts self.new).writes ≡ (fault_facts self.old).writes }
-        ensures compares { (fault_facts self.new).compares ≡ (fault_facts self.old).compares }
-        ensures matches { (fault_facts self.new).matches ≡ (fault_facts self.old).matches }
+        ensures tells { TellsWord at (fault_facts self.old) (fault_facts self.new) result }
         ensures fault { AfterCall (counting self.old).counted (fault_facts self.old) (fault_facts self.new) result }
         ensures counts { counting self.new ≡ counting self.old }
     {
