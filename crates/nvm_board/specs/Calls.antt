@@ -2,7 +2,7 @@
 use Rattle.std.specs.Prelude.{◌≡◌, ◌⊎◌, ◌+◌, ◌↔◌, if◌then◌else◌, ℕ, List, Bool, Result, IsTrue, IfOk, OnOk, OnErr}
 use Rattle.std.specs.Prelude.{slice_index}
 use Rattle.nvm_board.specs.declared.board.DeviceErr.{DeviceErr}
-use Rattle.nvm_board.specs.Facts.{Facts, Answered, IsLostRightly, RisesAt, address, raised}
+use Rattle.nvm_board.specs.Facts.{Facts, Answered, IsLostRightly, RisesAt, raised}
 use Rattle.nvm_board.specs.Aims.{AimStays, AimsAtWrite}
 use Rattle.nvm_board.specs.Torn.{Torn, written}
 
@@ -16,3 +16,31 @@ pub record TellsWord (at : ℕ) (old new : Facts) (result : Result ℕ DeviceErr
   pub writes : new.writes ≡ old.writes
   pub compares : new.compares ≡ old.compares
   pub matches : new.matches ≡ old.matches
+
+-- A write turns each word of a run, from an address on, from old to new. After an error each of them is old or new by
+-- itself. Nothing else raises the writes.
+pub record Writes {T : Type 0} (at : ℕ) (run : List ℕ) (old new : Facts) (result : Result T DeviceErr) : Type 0 where
+  pub done : OnOk result (new.words ≡ written old.words at run)
+  pub torn : Torn old.words at run new.words
+  pub light : Answered old new result
+  pub worn : IsLostRightly old new result
+  pub cut : AimsAtWrite old new
+  pub counted : OnOk result (new.writes ≡ old.writes + 1)
+  pub counted_err : OnErr result ((new.writes ≡ old.writes) ⊎ (new.writes ≡ old.writes + 1))
+  pub compares : new.compares ≡ old.compares
+  pub matches : new.matches ≡ old.matches
+
+-- A comparison tells whether the shown bytes are the kept ones of a secret. It is counted, and so is a match. Nothing
+-- else raises these counts.
+pub record Compares (secret : ℕ) (kept shown : List ℕ) (old new : Facts) (result : Result Bool DeviceErr)
+    : Type 0 where
+  pub equal : IfOk result (λ e. IsTrue e ↔ (kept ≡ shown))
+  pub light : Answered old new result
+  pub worn : IsLostRightly old new result
+  pub cut : AimStays old new
+  pub words : new.words ≡ old.words
+  pub writes : new.writes ≡ old.writes
+  pub compared : OnOk result (new.compares ≡ raised old.compares secret)
+  pub compared_err : OnErr result (RisesAt old.compares secret new.compares)
+  pub matched : IfOk result (λ e. new.matches ≡ (if e then raised old.matches secret else old.matches))
+  pub matched_err : OnErr result (RisesAt old.matches secret new.matches)

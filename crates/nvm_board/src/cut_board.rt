@@ -20,11 +20,10 @@ pub struct CutBoard {
 }
 
 impl CutBoard {
-    ghost use Rattle.std.specs.Prelude.{◌≡◌, ◌⊎◌, ◌+◌, ◌<◌, ◌≤◌, length, is_some, IfOk, OnOk, OnErr};
-    ghost use Rattle.nvm_board.specs.Aims.{AimsAtWrite};
+    ghost use Rattle.std.specs.Prelude.{◌≡◌, ◌+◌, ◌<◌, ◌≤◌, length, is_some, IfOk};
+    ghost use Rattle.nvm_board.specs.Calls.{Writes};
     ghost use Rattle.nvm_board.specs.Cut.{cut_facts, last_torn, ArmAfter, TornAfter};
-    ghost use Rattle.nvm_board.specs.Facts.{Answered, IsLostRightly, address, pages_of};
-    ghost use Rattle.nvm_board.specs.Torn.{Torn, written};
+    ghost use Rattle.nvm_board.specs.Facts.{address, pages_of};
 
     /// A lit board of 1,024 pages whose words and counts are 0, with no cut to come.
     ///
@@ -92,17 +91,7 @@ impl CutBoard {
         requires page { page < pages_of (cut_facts self.old).words }
         requires some { 0 < length words.now }
         requires run { first + length words.now ≤ PAGE_WORDS }
-        ensures done { OnOk result ((cut_facts self.new).words ≡ written (cut_facts self.old).words (address page first)
-            words.now) }
-        ensures torn { Torn (cut_facts self.old).words (address page first) words.now (cut_facts self.new).words }
-        ensures light { Answered (cut_facts self.old) (cut_facts self.new) result }
-        ensures worn { IsLostRightly (cut_facts self.old) (cut_facts self.new) result }
-        ensures cut { AimsAtWrite (cut_facts self.old) (cut_facts self.new) }
-        ensures counted { OnOk result ((cut_facts self.new).writes ≡ (cut_facts self.old).writes + 1) }
-        ensures counted_err { OnErr result (((cut_facts self.new).writes ≡ (cut_facts self.old).writes)
-            ⊎ ((cut_facts self.new).writes ≡ (cut_facts self.old).writes + 1)) }
-        ensures compares { (cut_facts self.new).compares ≡ (cut_facts self.old).compares }
-        ensures matches { (cut_facts self.new).matches ≡ (cut_facts self.old).matches }
+        ensures writes { Writes (address page first) words.now (cut_facts self.old) (cut_facts self.new) result }
         ensures arm { ArmAfter (address page first) words.now (cut_facts self.old) (cut_facts self.new) result }
         ensures torn_words { TornAfter (length words.now) (cut_facts self.old)
             (last_torn self.old) (last_torn self.new) }
@@ -120,13 +109,10 @@ impl CutBoard {
 }
 
 impl Board for CutBoard {
-    ghost use Rattle.std.specs.Prelude.{◌≡◌, ◌⊎◌, ◌+◌, ◌<◌, ◌≤◌, ◌↔◌, if◌then◌else◌, length, IsTrue, IfOk, OnOk, OnErr};
-    ghost use Rattle.std.specs.Prelude.{slice_index};
+    ghost use Rattle.std.specs.Prelude.{◌≡◌, ◌+◌, ◌<◌, ◌≤◌, length};
     ghost use Rattle.nvm_board.specs.declared.board.TheConstants.{PAGE_WORDS, SECRETS};
-    ghost use Rattle.nvm_board.specs.Facts.{Answered, IsLostRightly, RisesAt, address, raised, pages_of};
-    ghost use Rattle.nvm_board.specs.Aims.{AimStays, AimsAtWrite};
-    ghost use Rattle.nvm_board.specs.Calls.{TellsWord};
-    ghost use Rattle.nvm_board.specs.Torn.{Torn, written};
+    ghost use Rattle.nvm_board.specs.Calls.{TellsWord, Writes, Compares};
+    ghost use Rattle.nvm_board.specs.Facts.{address, pages_of};
     ghost use Rattle.nvm_board.specs.Cut.{cut_facts, last_torn, ArmAfter, TornAfter};
     ghost use Rattle.nvm_board.specs.laws.Counts.{cut_counts_fit, ram_memory};
 
@@ -152,17 +138,7 @@ impl Board for CutBoard {
         requires page { page < pages_of (cut_facts self.old).words }
         requires some { 0 < length words.now }
         requires run { first + length words.now ≤ PAGE_WORDS }
-        ensures done { OnOk result ((cut_facts self.new).words ≡ written (cut_facts self.old).words (address page first)
-            words.now) }
-        ensures torn { Torn (cut_facts self.old).words (address page first) words.now (cut_facts self.new).words }
-        ensures light { Answered (cut_facts self.old) (cut_facts self.new) result }
-        ensures worn { IsLostRightly (cut_facts self.old) (cut_facts self.new) result }
-        ensures cut { AimsAtWrite (cut_facts self.old) (cut_facts self.new) }
-        ensures counted { OnOk result ((cut_facts self.new).writes ≡ (cut_facts self.old).writes + 1) }
-        ensures counted_err { OnErr result (((cut_facts self.new).writes ≡ (cut_facts self.old).writes)
-            ⊎ ((cut_facts self.new).writes ≡ (cut_facts self.old).writes + 1)) }
-        ensures compares { (cut_facts self.new).compares ≡ (cut_facts self.old).compares }
-        ensures matches { (cut_facts self.new).matches ≡ (cut_facts self.old).matches }
+        ensures writes { Writes (address page first) words.now (cut_facts self.old) (cut_facts self.new) result }
         ensures arm { ArmAfter (address page first) words.now (cut_facts self.old) (cut_facts self.new) result }
         ensures torn_words { TornAfter (length words.now) (cut_facts self.old)
             (last_torn self.old) (last_torn self.new) }
@@ -176,18 +152,7 @@ impl Board for CutBoard {
     #[tactic(auto, unfolding(crate::specs::Facts::IsLostRightly))]
     fn compare(&mut self, secret: u8, kept: &[u8; 8], shown: &[u8; 8]) -> Result<bool, DeviceErr>
         requires { secret < SECRETS }
-        ensures equal { IfOk result (λ e. IsTrue e ↔ (kept.now ≡ shown.now)) }
-        ensures light { Answered (cut_facts self.old) (cut_facts self.new) result }
-        ensures worn { IsLostRightly (cut_facts self.old) (cut_facts self.new) result }
-        ensures cut { AimStays (cut_facts self.old) (cut_facts self.new) }
-        ensures words { (cut_facts self.new).words ≡ (cut_facts self.old).words }
-        ensures writes { (cut_facts self.new).writes ≡ (cut_facts self.old).writes }
-        ensures compared { OnOk result ((cut_facts self.new).compares ≡ raised (cut_facts self.old).compares secret) }
-        ensures compared_err { OnErr result
-            (RisesAt (cut_facts self.old).compares secret (cut_facts self.new).compares) }
-        ensures matched { IfOk result (λ e. (cut_facts self.new).matches
-            ≡ (if e then raised (cut_facts self.old).matches secret else (cut_facts self.old).matches)) }
-        ensures matched_err { OnErr result (RisesAt (cut_facts self.old).matches secret (cut_facts self.new).matches) }
+        ensures compares { Compares secret kept.now shown.now (cut_facts self.old) (cut_facts self.new) result }
 
         // Only writes bring the cut nearer.
         ensures arm { (cut_facts self.new).pending ≡ (cut_facts self.old).pending }

@@ -199,14 +199,10 @@ impl FaultBoard {
 }
 
 impl Board for FaultBoard {
-    ghost use Rattle.std.specs.Prelude.{◌⊎◌, ◌+◌, ◌↔◌, if◌then◌else◌, length, IsTrue, IsErrOf, OnOk, OnErr, Err};
-    ghost use Rattle.std.specs.Prelude.{slice_index};
+    ghost use Rattle.std.specs.Prelude.{◌+◌, length};
     ghost use Rattle.nvm_board.specs.declared.board.TheConstants.{PAGE_WORDS, SECRETS};
-    ghost use Rattle.nvm_board.specs.declared.board.DeviceErr.TheVariants.{Fault};
-    ghost use Rattle.nvm_board.specs.Aims.{AimStays, AimsAtWrite};
-    ghost use Rattle.nvm_board.specs.Facts.{Answered, IsLostRightly, RisesAt, address, raised, pages_of};
-    ghost use Rattle.nvm_board.specs.Calls.{TellsWord};
-    ghost use Rattle.nvm_board.specs.Torn.{Torn, written};
+    ghost use Rattle.nvm_board.specs.Calls.{TellsWord, Writes, Compares};
+    ghost use Rattle.nvm_board.specs.Facts.{address, pages_of};
     ghost use Rattle.nvm_board.specs.Faulty.{fault_facts, counting, AfterCall, AfterWrite};
     ghost use Rattle.nvm_board.specs.laws.Counts.{fault_counts_fit, ram_memory};
 
@@ -236,17 +232,7 @@ impl Board for FaultBoard {
         requires page { page < pages_of (fault_facts self.old).words }
         requires some { 0 < length words.now }
         requires run { first + length words.now ≤ PAGE_WORDS }
-        ensures done { OnOk result ((fault_facts self.new).words
-            ≡ written (fault_facts self.old).words (address page first) words.now) }
-        ensures torn { Torn (fault_facts self.old).words (address page first) words.now (fault_facts self.new).words }
-        ensures light { Answered (fault_facts self.old) (fault_facts self.new) result }
-        ensures worn { IsLostRightly (fault_facts self.old) (fault_facts self.new) result }
-        ensures cut { AimsAtWrite (fault_facts self.old) (fault_facts self.new) }
-        ensures counted { OnOk result ((fault_facts self.new).writes ≡ (fault_facts self.old).writes + 1) }
-        ensures counted_err { OnErr result (((fault_facts self.new).writes ≡ (fault_facts self.old).writes)
-            ⊎ ((fault_facts self.new).writes ≡ (fault_facts self.old).writes + 1)) }
-        ensures compares { (fault_facts self.new).compares ≡ (fault_facts self.old).compares }
-        ensures matches { (fault_facts self.new).matches ≡ (fault_facts self.old).matches }
+        ensures writes { Writes (address page first) words.now (fault_facts self.old) (fault_facts self.new) result }
         ensures fault { AfterWrite (counting self.old).counted (address page first) words.now (fault_facts self.old)
             (fault_facts self.new) result }
         ensures counts { counting self.new ≡ counting self.old }
@@ -263,20 +249,7 @@ impl Board for FaultBoard {
     #[tactic(auto, unfolding(crate::specs::Facts::IsLostRightly))]
     fn compare(&mut self, secret: u8, kept: &[u8; 8], shown: &[u8; 8]) -> Result<bool, DeviceErr>
         requires { secret < SECRETS }
-        ensures equal { IfOk result (λ e. IsTrue e ↔ (kept.now ≡ shown.now)) }
-        ensures light { Answered (fault_facts self.old) (fault_facts self.new) result }
-        ensures worn { IsLostRightly (fault_facts self.old) (fault_facts self.new) result }
-        ensures cut { AimStays (fault_facts self.old) (fault_facts self.new) }
-        ensures words { (fault_facts self.new).words ≡ (fault_facts self.old).words }
-        ensures writes { (fault_facts self.new).writes ≡ (fault_facts self.old).writes }
-        ensures compared { OnOk result ((fault_facts self.new).compares
-            ≡ raised (fault_facts self.old).compares secret) }
-        ensures compared_err { OnErr result
-            (RisesAt (fault_facts self.old).compares secret (fault_facts self.new).compares) }
-        ensures matched { IfOk result (λ e. (fault_facts self.new).matches
-            ≡ (if e then raised (fault_facts self.old).matches secret else (fault_facts self.old).matches)) }
-        ensures matched_err { OnErr result
-            (RisesAt (fault_facts self.old).matches secret (fault_facts self.new).matches) }
+        ensures compares { Compares secret kept.now shown.now (fault_facts self.old) (fault_facts self.new) result }
         ensures fault { AfterCall (counting self.old).counted (fault_facts self.old) (fault_facts self.new) result }
         ensures counts { counting self.new ≡ counting self.old }
     {

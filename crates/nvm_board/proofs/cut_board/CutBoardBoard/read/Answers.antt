@@ -7,9 +7,9 @@ pub returns-clause-tells : goal.returns-clause-tells
 returns-clause-tells c = record {
   word = search rules;
   light = answered_armed c.args.self.now.arm (ram_facts c.args.self.now.ram) (ram_facts c.read.new.self) _ refl
-        c.read.ensures.light;
+      c.read.ensures.light;
   worn = lost_armed c.args.self.now.arm (ram_facts c.args.self.now.ram) (ram_facts c.read.new.self) _ refl
-        c.read.ensures.worn;
+      c.read.ensures.worn;
   cut = search rules;
   words = search rules;
   writes = search rules;
