@@ -1,8 +1,10 @@
 -- What each call of a board tells, and what it leaves of the board.
 use Rattle.std.specs.Prelude.{◌≡◌, ◌⊎◌, ◌+◌, ◌↔◌, if◌then◌else◌, ℕ, List, Bool, Result, IsTrue, IfOk, OnOk, OnErr}
-use Rattle.std.specs.Prelude.{slice_index}
+use Rattle.std.specs.Prelude.{◌<◌, ◌≤◌, ◌-◌, Some, length, slice_index}
+use Rattle.nvm_board.specs.declared.board.Arm.{Arm}
 use Rattle.nvm_board.specs.declared.board.DeviceErr.{DeviceErr}
-use Rattle.nvm_board.specs.Facts.{Facts, Answered, IsLostRightly, RisesAt, raised}
+use Rattle.nvm_board.specs.declared.board.TheConstants.{PAGE_WORDS}
+use Rattle.nvm_board.specs.Facts.{Facts, Answered, IsLostRightly, RisesAt, raised, pages_of}
 use Rattle.nvm_board.specs.Aims.{AimStays, AimsAtWrite}
 use Rattle.nvm_board.specs.Torn.{Torn, written}
 
@@ -16,6 +18,12 @@ pub record TellsWord (at : ℕ) (old new : Facts) (result : Result ℕ DeviceErr
   pub writes : new.writes ≡ old.writes
   pub compares : new.compares ≡ old.compares
   pub matches : new.matches ≡ old.matches
+
+-- What a write asks for: words that lie in one page of the board, from the page's word `first` on.
+pub record FitsPage (number first : ℕ) (words : List ℕ) (board : Facts) : Type 0 where
+  pub page : number < pages_of board.words
+  pub some : 0 < length words
+  pub run : first + length words ≤ PAGE_WORDS
 
 -- A write turns each word of a run, from an address on, from old to new. After an error each of them is old or new by
 -- itself. Nothing else raises the writes.
@@ -44,3 +52,9 @@ pub record Compares (secret : ℕ) (kept shown : List ℕ) (old new : Facts) (re
   pub compared_err : OnErr result (RisesAt old.compares secret new.compares)
   pub matched : IfOk result (λ e. new.matches ≡ (if e then raised old.matches secret else old.matches))
   pub matched_err : OnErr result (RisesAt old.matches secret new.matches)
+
+-- What is set to come at the kth write, by this mask, takes the place of what was set before. Nothing else changes, but
+-- that a cut may be due.
+pub record Arms (k mask : ℕ) (old new : Facts) : Type 0 where
+  pub due : new.due ≤ 1
+  pub same : new ≡ record old { due = new.due; pending = Some (record { whole_writes = k - 1; mask = mask }) }

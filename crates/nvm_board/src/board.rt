@@ -1,9 +1,9 @@
 //! What a board is: its calls, and what each does to its words, its light and its counts.
-ghost use Rattle.std.specs.Prelude.{◌≡◌, ◌+◌, ◌-◌, ◌<◌, ◌≤◌, ◌↔◌, true, false, length, Some, IsErr, OnOk, OnErr};
-ghost use Rattle.nvm_board.specs.declared.board.TheConstants.{PAGE_WORDS, SECRETS, COUNT_END};
+ghost use Rattle.std.specs.Prelude.{◌≡◌, ◌<◌, ◌≤◌, ◌↔◌, true, false, length, IsErr, OnOk, OnErr};
+ghost use Rattle.nvm_board.specs.declared.board.TheConstants.{SECRETS, COUNT_END};
 ghost use Rattle.nvm_board.specs.Facts.{Facts, AreWords, CountsFit, IsWornOut, address, pages_of, IsMemory};
 ghost use Rattle.nvm_board.specs.Aims.{due_of};
-ghost use Rattle.nvm_board.specs.Calls.{TellsWord, Writes, Compares};
+ghost use Rattle.nvm_board.specs.Calls.{TellsWord, FitsPage, Writes, Compares, Arms};
 
 /// Pages of a board at least.
 pub const LEAST_PAGES: u16 = 1024;
@@ -60,9 +60,7 @@ pub trait Board {
     /// Writes 1 to 16 words of one page, from its word `first` on. After an error each of them is old or
     /// new by itself.
     fn write(&mut self, page: u16, first: u8, words: &[u32]) -> Result<(), DeviceErr>
-        requires page { page < pages_of (facts self.old).words }
-        requires some { 0 < length words.now }
-        requires run { first + length words.now ≤ PAGE_WORDS }
+        requires { FitsPage page first words.now (facts self.old) }
         ensures { Writes (address page first) words.now (facts self.old) (facts self.new) result };
 
     /// Whether the shown bytes are the kept ones of a secret. Each comparison and each match is counted.
@@ -107,11 +105,7 @@ pub trait Armed: Socket {
     /// word is new, from bit 0. It takes the place of what was set before.
     fn arm(&mut self, k: u32, mask: u16)
         requires { 1 ≤ k }
-        ensures due { (Self.facts self.new).due ≤ 1 }
-        ensures same { Self.facts self.new ≡ record (Self.facts self.old) {
-          due = (Self.facts self.new).due;
-          pending = Some record { whole_writes = k - 1; mask = mask };
-        } };
+        ensures { Arms k mask (Self.facts self.old) (Self.facts self.new) };
 }
 
 /// A board that has no faults, and loses power by the cut alone that is set on it, or where a count stands at its end.

@@ -168,10 +168,9 @@ impl RamBoard {
 }
 
 impl Board for RamBoard {
-    ghost use Rattle.std.specs.Prelude.{◌≡◌, ◌+◌, ◌<◌, ◌≤◌, length, OnErr};
-    ghost use Rattle.nvm_board.specs.declared.board.TheConstants.{PAGE_WORDS};
-    ghost use Rattle.nvm_board.specs.Calls.{Writes};
-    ghost use Rattle.nvm_board.specs.Facts.{address, pages_of};
+    ghost use Rattle.std.specs.Prelude.{◌≡◌, OnErr};
+    ghost use Rattle.nvm_board.specs.Calls.{FitsPage, Writes};
+    ghost use Rattle.nvm_board.specs.Facts.{address};
     ghost use Rattle.nvm_board.specs.Ram.{ram_facts};
     ghost use Rattle.nvm_board.specs.laws.Counts.{ram_counts_fit, ram_memory};
 
@@ -191,9 +190,7 @@ impl Board for RamBoard {
 
     #[tactic(auto, unfolding(crate::specs::Facts::IsLostRightly))]
     fn write(&mut self, page: u16, first: u8, words: &[u32]) -> Result<(), DeviceErr>
-        requires page { page < pages_of (ram_facts self.old).words }
-        requires some { 0 < length words.now }
-        requires run { first + length words.now ≤ PAGE_WORDS }
+        requires { FitsPage page first words.now (ram_facts self.old) }
         ensures writes { Writes (address page first) words.now (ram_facts self.old) (ram_facts self.new) result }
 
         // A write that fails isn't counted.

@@ -4,24 +4,25 @@ use Rattle.nvm_board.specs.Ram.{ram_facts}
 use Rattle.nvm_board.proofs.WithArm.{answered_armed, lost_armed, unarmed_after, aims_unarmed}
 use Rattle.nvm_board.proofs.cut_board.CutBoardBoard.write.Goals as goal
 
-pub returns-in-None-clause-writes : goal.returns-in-None-clause-writes
-returns-in-None-clause-writes c = record {
-  done = search rules;
-  torn = search rules;
-  light = answered_armed c.args.self.now.arm (ram_facts c.args.self.now.ram) (ram_facts c.write.new.self) _ refl
-      c.write.ensures.writes.light;
-  worn = lost_armed c.args.self.now.arm (ram_facts c.args.self.now.ram) (ram_facts c.write.new.self) _ refl
-      c.write.ensures.writes.worn;
-  cut = aims_unarmed c.args.self.now.arm (ram_facts c.args.self.now.ram) (ram_facts c.write.new.self) c.in-None.is
-      c.write.ensures.writes.cut;
-  counted = search rules;
-  counted_err = search rules;
-  compares = search rules;
-  matches = search rules;
-}
-
-pub returns-in-None-clause-arm : goal.returns-in-None-clause-arm
-returns-in-None-clause-arm c =
-    unarmed_after (address c.args.page c.args.first) c.args.words.now c.args.self.now.arm
-    (ram_facts c.args.self.now.ram) (ram_facts c.write.new.self) _ c.in-None.is refl refl c.write.ensures.writes.light
-    c.write.ensures.writes.worn
+pub returns-in-None : goal.returns-in-None
+returns-in-None c =
+    let old = ram_facts c.args.self.now.ram in
+    let new = ram_facts c.write.new.self in
+    let a = c.args.self.now.arm in
+    let told = c.write.ensures.writes in
+    record {
+      writes = record {
+        done = told.done;
+        torn = told.torn;
+        light = answered_armed a old new _ refl told.light;
+        worn = lost_armed a old new _ refl told.worn;
+        cut = aims_unarmed a old new c.in-None.is told.cut;
+        counted = told.counted;
+        counted_err = told.counted_err;
+        compares = told.compares;
+        matches = told.matches;
+      };
+      arm = unarmed_after (address c.args.page c.args.first) c.args.words.now a old new _ c.in-None.is refl refl
+          told.light told.worn;
+      torn_words = search rules;
+    }

@@ -28,19 +28,20 @@ returns-in-Some-clause-writes c = record {
 
 pub returns-in_err-write-clause-writes : goal.returns-in_err-write-clause-writes
 unfolding IsLostRightly
-returns-in_err-write-clause-writes c = record {
-  done = search rules;
-  torn = search rules;
-  light =
-      let old = c.args.self.now in
-      tells_handed_on old.arm old.faults _ _ _ _ c.from_residual.ensures.1 c.in_err-write.ensures.writes.light refl refl;
-  worn = search rules;
-  cut = search rules;
-  counted = search rules;
-  counted_err = search rules;
-  compares = search rules;
-  matches = search rules;
-}
+returns-in_err-write-clause-writes c =
+    let old = c.args.self.now in
+    let told = c.in_err-write.ensures.writes in
+    record {
+      done = search rules;
+      torn = told.torn;
+      light = tells_handed_on old.arm old.faults _ _ _ _ c.from_residual.ensures.1 told.light refl refl;
+      worn = search rules;
+      cut = search rules;
+      counted = search rules;
+      counted_err = search rules;
+      compares = told.compares;
+      matches = told.matches;
+    }
 
 pub returns-in_err-write-clause-fault : goal.returns-in_err-write-clause-fault
 returns-in_err-write-clause-fault c =
@@ -49,11 +50,12 @@ returns-in_err-write-clause-fault c =
     let a = c.args.self.now.arm in
     let n = c.args.self.now.faults in
     let at = address c.args.page c.args.first in
+    let told = c.in_err-write.ensures.writes in
     error_armed
     (λ r. AfterWrite c.args.self.now.counted at c.args.words.now (with_fault a n old) (with_fault a n new) r) _ _
     c.from_residual.ensures.1
     (record {
-      pending = counted_err a n old new _ refl refl refl c.in_err-write.ensures.writes.light c.in_err-write.ensures.writes.worn
+      pending = counted_err a n old new _ refl refl refl told.light told.worn
           (λ mask lit. c.firing.ensures.spared c.in_default.is (c.is_dark.ensures ∙ lit) mask);
       words = λ mask lit fires. absurd (c.firing.ensures.spared c.in_default.is (c.is_dark.ensures ∙ lit) mask fires);
     })
