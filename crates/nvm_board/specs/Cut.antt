@@ -1,12 +1,13 @@
 -- What contracts know of a board that loses power at a write of one's choice.
 use Rattle.std.specs.Prelude.{◌≡◌, ◌+◌, ℕ, List, Option, Some, None, Result, IsOk, IsErr}
-use Rattle.std.specs.Prelude.{IsErrOf, true, false}
+use Rattle.std.specs.Prelude.{IsErrOf, true, false, length}
 use Rattle.nvm_board.specs.declared.board.Arm.{Arm}
 use Rattle.nvm_board.specs.declared.board.DeviceErr.{DeviceErr}
 use Rattle.nvm_board.specs.declared.board.DeviceErr.TheVariants.{PowerLost}
 use Rattle.nvm_board.specs.declared.cut_board.CutBoard.{CutBoard}
-use Rattle.nvm_board.specs.Facts.{Facts, IsWorn}
+use Rattle.nvm_board.specs.Facts.{Facts, IsWorn, new_board}
 use Rattle.nvm_board.specs.Aims.{due_of}
+use Rattle.nvm_board.specs.Calls.{Writes}
 use Rattle.nvm_board.specs.Ram.{ram_facts}
 use Rattle.nvm_board.specs.Torn.{IsTornBy}
 
@@ -48,3 +49,15 @@ pub record TornAfter (size : ℕ) (old : Facts) (had has : ℕ) : Type 0 where
   pub dark : old.dark ≡ true → has ≡ had
   pub unarmed : old.pending ≡ None → has ≡ had
   pub before : (left mask : ℕ) → old.pending ≡ Some (record { whole_writes = left + 1; mask = mask }) → has ≡ had
+
+-- a write of this run, on a board of which a cut may be set to come
+pub record WritesOrTears {T : Type 0} (at : ℕ) (run : List ℕ) (old new : CutBoard) (result : Result T DeviceErr)
+    : Type 0 where
+  pub writes : Writes at run (cut_facts old) (cut_facts new) result
+  pub arm : ArmAfter at run (cut_facts old) (cut_facts new) result
+  pub torn_words : TornAfter (length run) (cut_facts old) (last_torn old) (last_torn new)
+
+-- a new board of so many pages, of which no write was torn
+pub record IsNewCutBoard (pages : ℕ) (b : CutBoard) : Type 0 where
+  pub facts : cut_facts b ≡ new_board pages
+  pub torn : last_torn b ≡ 0

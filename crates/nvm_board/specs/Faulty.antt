@@ -1,5 +1,5 @@
 -- What contracts know of a board that fails at a call of one's choice.
-use Rattle.std.specs.Prelude.{◌≡◌, ◌+◌, ◌<◌, ℕ, List, Option, Some, None, Result, IsOk, IsErr, IsErrAnd, IsErrOf}
+use Rattle.std.specs.Prelude.{◌≡◌, ◌+◌, ◌-◌, ◌<◌, ℕ, List, Option, Some, None, Result, IsOk, IsErr, IsErrAnd, IsErrOf}
 use Rattle.std.specs.Prelude.{true, false}
 use Rattle.nvm_board.specs.declared.board.TheConstants.{COUNT_END}
 use Rattle.nvm_board.specs.declared.board.Arm.{Arm}
@@ -8,7 +8,7 @@ use Rattle.nvm_board.specs.declared.board.DeviceErr.TheVariants.{PowerLost, Faul
 use Rattle.nvm_board.specs.declared.fault_board.Counted.{Counted}
 use Rattle.nvm_board.specs.declared.fault_board.Counted.TheVariants.{Calls, Writes}
 use Rattle.nvm_board.specs.declared.fault_board.FaultBoard.{FaultBoard}
-use Rattle.nvm_board.specs.Facts.{Facts, IsWorn}
+use Rattle.nvm_board.specs.Facts.{Facts, IsWorn, new_board}
 use Rattle.nvm_board.specs.Ram.{ram_facts}
 use Rattle.nvm_board.specs.Torn.{IsTornBy}
 
@@ -23,6 +23,17 @@ pub record Counting : Type 0 where
 
 abbrev pub counting : FaultBoard → Counting
 counting b = record { counted = b.counted; armed_by = b.armed_by }
+
+-- a new board of so many pages, with no fault to come, and what an arm of it counts
+pub record IsNewFaultBoard (pages : ℕ) (counted : Counted) (b : FaultBoard) : Type 0 where
+  pub facts : fault_facts b ≡ new_board pages
+  pub counts : counting b ≡ record { counted = counted; armed_by = counted }
+
+-- A fault is set to come at the kth of what is counted, and takes the place of what was set before.
+pub record SetsFault (counted : Counted) (k mask : ℕ) (old new : FaultBoard) : Type 0 where
+  pub facts : fault_facts new
+      ≡ record (fault_facts old) { pending = Some (record { whole_writes = k - 1; mask = mask }) }
+  pub counts : counting new ≡ record (counting old) { counted = counted }
 
 -- A call that no fault falls into. It leaves this arm pending; or power is lost in it for a count at its end, and the
 -- arm stays.

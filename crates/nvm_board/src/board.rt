@@ -1,11 +1,9 @@
 //! What a board is: its calls, and what each does to its words, its light and its counts.
-ghost use Rattle.std.specs.Prelude.{◌≡◌, ◌⊎◌, ◌+◌, ◌-◌, ◌<◌, ◌≤◌, ◌↔◌, if◌then◌else◌, true, false, length, Some};
-ghost use Rattle.std.specs.Prelude.{IsTrue, IsErr, IfOk, OnOk, OnErr, slice_index};
-ghost use Rattle.nvm_board.specs.declared.board.TheConstants.{PAGE_WORDS, SECRETS, COUNT_END};
-ghost use Rattle.nvm_board.specs.Facts.{Facts, AreWords, CountsFit, Answered, IsLostRightly, RisesAt, IsWornOut};
-ghost use Rattle.nvm_board.specs.Facts.{address, raised, pages_of, IsMemory};
-ghost use Rattle.nvm_board.specs.Aims.{AimStays, AimsAtWrite, due_of};
-ghost use Rattle.nvm_board.specs.Torn.{Torn, written};
+ghost use Rattle.std.specs.Prelude.{◌≡◌, ◌<◌, ◌≤◌, ◌↔◌, true, false, length, IsErr, OnOk, OnErr};
+ghost use Rattle.nvm_board.specs.declared.board.TheConstants.{SECRETS, COUNT_END};
+ghost use Rattle.nvm_board.specs.Facts.{Facts, AreWords, CountsFit, IsWornOut, address, pages_of, IsMemory};
+ghost use Rattle.nvm_board.specs.Aims.{due_of};
+ghost use Rattle.nvm_board.specs.Calls.{TellsWord, FitsPage, Writes, Compares, Arms};
 
 /// Pages of a board at least.
 pub const LEAST_PAGES: u16 = 1024;
@@ -57,51 +55,18 @@ pub trait Board {
     /// The word at an address.
     fn read(&mut self, at: u16) -> Result<u32, DeviceErr>
         requires { at < length (facts self.old).words }
-        ensures word { IfOk result (λ w. w ≡ slice_index (facts self.old).words at) }
-        ensures light { Answered (facts self.old) (facts self.new) result }
-        ensures worn { IsLostRightly (facts self.old) (facts self.new) result }
-        ensures cut { AimStays (facts self.old) (facts self.new) }
-        ensures words { (facts self.new).words ≡ (facts self.old).words }
-        ensures writes { (facts self.new).writes ≡ (facts self.old).writes }
-        ensures compares { (facts self.new).compares ≡ (facts self.old).compares }
-        ensures matches { (facts self.new).matches ≡ (facts self.old).matches };
+        ensures { TellsWord at (facts self.old) (facts self.new) result };
 
     /// Writes 1 to 16 words of one page, from its word `first` on. After an error each of them is old or
     /// new by itself.
     fn write(&mut self, page: u16, first: u8, words: &[u32]) -> Result<(), DeviceErr>
-        requires page { page < pages_of (facts self.old).words }
-        requires some { 0 < length words.now }
-        requires run { first + length words.now ≤ PAGE_WORDS }
-        ensures done { OnOk result ((facts self.new).words ≡ written (facts self.old).words (address page first)
-            words.now) }
-        ensures torn { Torn (facts self.old).words (address page first) words.now (facts self.new).words }
-        ensures light { Answered (facts self.old) (facts self.new) result }
-        ensures worn { IsLostRightly (facts self.old) (facts self.new) result }
-        ensures cut { AimsAtWrite (facts self.old) (facts self.new) }
-
-        // Nothing else raises the writes.
-        ensures counted { OnOk result ((facts self.new).writes ≡ (facts self.old).writes + 1) }
-        ensures counted_err { OnErr result (((facts self.new).writes ≡ (facts self.old).writes)
-            ⊎ ((facts self.new).writes ≡ (facts self.old).writes + 1)) }
-        ensures compares { (facts self.new).compares ≡ (facts self.old).compares }
-        ensures matches { (facts self.new).matches ≡ (facts self.old).matches };
+        requires { FitsPage page first words.now (facts self.old) }
+        ensures { Writes (address page first) words.now (facts self.old) (facts self.new) result };
 
     /// Whether the shown bytes are the kept ones of a secret. Each comparison and each match is counted.
     fn compare(&mut self, secret: u8, kept: &[u8; 8], shown: &[u8; 8]) -> Result<bool, DeviceErr>
         requires { secret < SECRETS }
-        ensures equal { IfOk result (λ e. IsTrue e ↔ (kept.now ≡ shown.now)) }
-        ensures light { Answered (facts self.old) (facts self.new) result }
-        ensures worn { IsLostRightly (facts self.old) (facts self.new) result }
-        ensures cut { AimStays (facts self.old) (facts self.new) }
-        ensures words { (facts self.new).words ≡ (facts self.old).words }
-        ensures writes { (facts self.new).writes ≡ (facts self.old).writes }
-
-        // Nothing else raises these counts.
-        ensures compared { OnOk result ((facts self.new).compares ≡ raised (facts self.old).compares secret) }
-        ensures compared_err { OnErr result (RisesAt (facts self.old).compares secret (facts self.new).compares) }
-        ensures matched { IfOk result (λ e. (facts self.new).matches
-            ≡ (if e then raised (facts self.old).matches secret else (facts self.old).matches)) }
-        ensures matched_err { OnErr result (RisesAt (facts self.old).matches secret (facts self.new).matches) };
+        ensures { Compares secret kept.now shown.now (facts self.old) (facts self.new) result };
 
     /// Each board has whole pages, 1,024 to 4,096.
     ghost sized: { (board : Self) → IsMemory (facts board).words };
@@ -140,11 +105,7 @@ pub trait Armed: Socket {
     /// word is new, from bit 0. It takes the place of what was set before.
     fn arm(&mut self, k: u32, mask: u16)
         requires { 1 ≤ k }
-        ensures due { (Self.facts self.new).due ≤ 1 }
-        ensures same { Self.facts self.new ≡ record (Self.facts self.old) {
-          due = (Self.facts self.new).due;
-          pending = Some record { whole_writes = k - 1; mask = mask };
-        } };
+        ensures { Arms k mask (Self.facts self.old) (Self.facts self.new) };
 }
 
 /// A board that has no faults, and loses power by the cut alone that is set on it, or where a count stands at its end.

@@ -1,7 +1,6 @@
 //! A board in working memory that loses power at a write of one's choice.
 ghost use Rattle.std.specs.Prelude.{◌≡◌, ◌≤◌, IfOk};
 ghost use Rattle.nvm_board.specs.declared.board.TheConstants.{LEAST_PAGES, MOST_PAGES, PAGE_WORDS};
-ghost use Rattle.nvm_board.specs.Facts.{new_board};
 
 use crate::arming::{firing, nearer};
 use crate::board::{Arm, Armed, Board, DeviceErr, Faultless, LEAST_PAGES, Socket, WornOut};
@@ -20,19 +19,17 @@ pub struct CutBoard {
 }
 
 impl CutBoard {
-    ghost use Rattle.std.specs.Prelude.{◌≡◌, ◌⊎◌, ◌+◌, ◌<◌, ◌≤◌, length, is_some, IfOk, OnOk, OnErr};
-    ghost use Rattle.nvm_board.specs.Aims.{AimsAtWrite};
-    ghost use Rattle.nvm_board.specs.Cut.{cut_facts, last_torn, ArmAfter, TornAfter};
-    ghost use Rattle.nvm_board.specs.Facts.{Answered, IsLostRightly, address, pages_of};
-    ghost use Rattle.nvm_board.specs.Torn.{Torn, written};
+    ghost use Rattle.std.specs.Prelude.{◌≡◌, ◌≤◌, is_some, IfOk};
+    ghost use Rattle.nvm_board.specs.Calls.{FitsPage};
+    ghost use Rattle.nvm_board.specs.Cut.{cut_facts, last_torn, IsNewCutBoard, WritesOrTears};
+    ghost use Rattle.nvm_board.specs.Facts.{address};
 
     /// A lit board of 1,024 pages whose words and counts are 0, with no cut to come.
     ///
     /// # Errors
     /// There is too little memory for the words.
     pub fn new(alloc: Global) -> Result<CutBoard, AllocError>
-        ensures facts { IfOk result (λ b. cut_facts b ≡ new_board LEAST_PAGES) }
-        ensures torn { IfOk result (λ b. last_torn b ≡ 0) }
+        ensures { IfOk result (IsNewCutBoard LEAST_PAGES) }
     {
         CutBoard::with_pages(alloc, LEAST_PAGES)
     }
@@ -44,8 +41,7 @@ impl CutBoard {
     pub fn with_pages(alloc: Global, pages: u16) -> Result<CutBoard, AllocError>
         requires least { LEAST_PAGES ≤ pages }
         requires most { pages ≤ MOST_PAGES }
-        ensures facts { IfOk result (λ b. cut_facts b ≡ new_board pages) }
-        ensures torn { IfOk result (λ b. last_torn b ≡ 0) }
+        ensures { IfOk result (IsNewCutBoard pages) }
     {
         Ok(CutBoard {
             ram: RamBoard::with_pages(alloc, pages)?,
@@ -89,23 +85,8 @@ impl CutBoard {
     #[inline(never)]
     #[tactic(auto, unfolding(crate::specs::Facts::IsLostRightly))]
     fn write_armed(&mut self, page: u16, first: u8, words: &[u32]) -> Result<(), DeviceErr>
-        requires page { page < pages_of (cut_facts self.old).words }
-        requires some { 0 < length words.now }
-        requires run { first + length words.now ≤ PAGE_WORDS }
-        ensures done { OnOk result ((cut_facts self.new).words ≡ written (cut_facts self.old).words (address page first)
-            words.now) }
-        ensures torn { Torn (cut_facts self.old).words (address page first) words.now (cut_facts self.new).words }
-        ensures light { Answered (cut_facts self.old) (cut_facts self.new) result }
-        ensures worn { IsLostRightly (cut_facts self.old) (cut_facts self.new) result }
-        ensures cut { AimsAtWrite (cut_facts self.old) (cut_facts self.new) }
-        ensures counted { OnOk result ((cut_facts self.new).writes ≡ (cut_facts self.old).writes + 1) }
-        ensures counted_err { OnErr result (((cut_facts self.new).writes ≡ (cut_facts self.old).writes)
-            ⊎ ((cut_facts self.new).writes ≡ (cut_facts self.old).writes + 1)) }
-        ensures compares { (cut_facts self.new).compares ≡ (cut_facts self.old).compares }
-        ensures matches { (cut_facts self.new).matches ≡ (cut_facts self.old).matches }
-        ensures arm { ArmAfter (address page first) words.now (cut_facts self.old) (cut_facts self.new) result }
-        ensures torn_words { TornAfter (length words.now) (cut_facts self.old)
-            (last_torn self.old) (last_torn self.new) }
+        requires { FitsPage page first words.now (cut_facts self.old) }
+        ensures { WritesOrTears (address page first) words.now self.old self.new result }
     {
         if let Some(mask) = firing(self.arm, self.ram.is_dark()) {
             self.arm = None;
@@ -120,13 +101,11 @@ impl CutBoard {
 }
 
 impl Board for CutBoard {
-    ghost use Rattle.std.specs.Prelude.{◌≡◌, ◌⊎◌, ◌+◌, ◌<◌, ◌≤◌, ◌↔◌, if◌then◌else◌, length, IsTrue, IfOk, OnOk, OnErr};
-    ghost use Rattle.std.specs.Prelude.{slice_index};
-    ghost use Rattle.nvm_board.specs.declared.board.TheConstants.{PAGE_WORDS, SECRETS};
-    ghost use Rattle.nvm_board.specs.Facts.{Answered, IsLostRightly, RisesAt, address, raised, pages_of};
-    ghost use Rattle.nvm_board.specs.Aims.{AimStays, AimsAtWrite};
-    ghost use Rattle.nvm_board.specs.Torn.{Torn, written};
-    ghost use Rattle.nvm_board.specs.Cut.{cut_facts, last_torn, ArmAfter, TornAfter};
+    ghost use Rattle.std.specs.Prelude.{◌≡◌, ◌<◌, length};
+    ghost use Rattle.nvm_board.specs.declared.board.TheConstants.{SECRETS};
+    ghost use Rattle.nvm_board.specs.Calls.{TellsWord, FitsPage, Compares};
+    ghost use Rattle.nvm_board.specs.Facts.{address};
+    ghost use Rattle.nvm_board.specs.Cut.{cut_facts, WritesOrTears};
     ghost use Rattle.nvm_board.specs.laws.Counts.{cut_counts_fit, ram_memory};
 
     ghost facts = { cut_facts };
@@ -138,14 +117,7 @@ impl Board for CutBoard {
     #[tactic(auto, unfolding(crate::specs::Facts::IsLostRightly))]
     fn read(&mut self, at: u16) -> Result<u32, DeviceErr>
         requires { at < length (cut_facts self.old).words }
-        ensures word { IfOk result (λ w. w ≡ slice_index (cut_facts self.old).words at) }
-        ensures light { Answered (cut_facts self.old) (cut_facts self.new) result }
-        ensures worn { IsLostRightly (cut_facts self.old) (cut_facts self.new) result }
-        ensures cut { AimStays (cut_facts self.old) (cut_facts self.new) }
-        ensures words { (cut_facts self.new).words ≡ (cut_facts self.old).words }
-        ensures writes { (cut_facts self.new).writes ≡ (cut_facts self.old).writes }
-        ensures compares { (cut_facts self.new).compares ≡ (cut_facts self.old).compares }
-        ensures matches { (cut_facts self.new).matches ≡ (cut_facts self.old).matches }
+        ensures tells { TellsWord at (cut_facts self.old) (cut_facts self.new) result }
 
         // Only writes bring the cut nearer.
         ensures arm { (cut_facts self.new).pending ≡ (cut_facts self.old).pending }
@@ -155,23 +127,8 @@ impl Board for CutBoard {
 
     #[tactic(auto, unfolding(crate::specs::Facts::IsLostRightly))]
     fn write(&mut self, page: u16, first: u8, words: &[u32]) -> Result<(), DeviceErr>
-        requires page { page < pages_of (cut_facts self.old).words }
-        requires some { 0 < length words.now }
-        requires run { first + length words.now ≤ PAGE_WORDS }
-        ensures done { OnOk result ((cut_facts self.new).words ≡ written (cut_facts self.old).words (address page first)
-            words.now) }
-        ensures torn { Torn (cut_facts self.old).words (address page first) words.now (cut_facts self.new).words }
-        ensures light { Answered (cut_facts self.old) (cut_facts self.new) result }
-        ensures worn { IsLostRightly (cut_facts self.old) (cut_facts self.new) result }
-        ensures cut { AimsAtWrite (cut_facts self.old) (cut_facts self.new) }
-        ensures counted { OnOk result ((cut_facts self.new).writes ≡ (cut_facts self.old).writes + 1) }
-        ensures counted_err { OnErr result (((cut_facts self.new).writes ≡ (cut_facts self.old).writes)
-            ⊎ ((cut_facts self.new).writes ≡ (cut_facts self.old).writes + 1)) }
-        ensures compares { (cut_facts self.new).compares ≡ (cut_facts self.old).compares }
-        ensures matches { (cut_facts self.new).matches ≡ (cut_facts self.old).matches }
-        ensures arm { ArmAfter (address page first) words.now (cut_facts self.old) (cut_facts self.new) result }
-        ensures torn_words { TornAfter (length words.now) (cut_facts self.old)
-            (last_torn self.old) (last_torn self.new) }
+        requires { FitsPage page first words.now (cut_facts self.old) }
+        ensures { WritesOrTears (address page first) words.now self.old self.new result }
     {
         match self.arm {
             None => self.ram.write(page, first, words),
@@ -182,18 +139,7 @@ impl Board for CutBoard {
     #[tactic(auto, unfolding(crate::specs::Facts::IsLostRightly))]
     fn compare(&mut self, secret: u8, kept: &[u8; 8], shown: &[u8; 8]) -> Result<bool, DeviceErr>
         requires { secret < SECRETS }
-        ensures equal { IfOk result (λ e. IsTrue e ↔ (kept.now ≡ shown.now)) }
-        ensures light { Answered (cut_facts self.old) (cut_facts self.new) result }
-        ensures worn { IsLostRightly (cut_facts self.old) (cut_facts self.new) result }
-        ensures cut { AimStays (cut_facts self.old) (cut_facts self.new) }
-        ensures words { (cut_facts self.new).words ≡ (cut_facts self.old).words }
-        ensures writes { (cut_facts self.new).writes ≡ (cut_facts self.old).writes }
-        ensures compared { OnOk result ((cut_facts self.new).compares ≡ raised (cut_facts self.old).compares secret) }
-        ensures compared_err { OnErr result
-            (RisesAt (cut_facts self.old).compares secret (cut_facts self.new).compares) }
-        ensures matched { IfOk result (λ e. (cut_facts self.new).matches
-            ≡ (if e then raised (cut_facts self.old).matches secret else (cut_facts self.old).matches)) }
-        ensures matched_err { OnErr result (RisesAt (cut_facts self.old).matches secret (cut_facts self.new).matches) }
+        ensures compares { Compares secret kept.now shown.now (cut_facts self.old) (cut_facts self.new) result }
 
         // Only writes bring the cut nearer.
         ensures arm { (cut_facts self.new).pending ≡ (cut_facts self.old).pending }
@@ -223,16 +169,14 @@ impl Socket for CutBoard {
 }
 
 impl Armed for CutBoard {
-    ghost use Rattle.std.specs.Prelude.{◌≡◌, ◌-◌, ◌≤◌, Some};
+    ghost use Rattle.std.specs.Prelude.{◌≡◌, ◌≤◌};
+    ghost use Rattle.nvm_board.specs.Calls.{Arms};
     ghost use Rattle.nvm_board.specs.Cut.{cut_facts};
 
     fn arm(&mut self, k: u32, mask: u16)
         requires { 1 ≤ k }
+        ensures arms { Arms k mask (cut_facts self.old) (cut_facts self.new) }
         ensures due { (cut_facts self.new).due ≡ 1 }
-        ensures same { cut_facts self.new ≡ record (cut_facts self.old) {
-          due = (cut_facts self.new).due;
-          pending = Some record { whole_writes = k - 1; mask = mask };
-        } }
     {
         self.arm = Some(Arm {
             whole_writes: k - 1,

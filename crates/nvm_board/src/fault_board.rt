@@ -1,7 +1,6 @@
 //! A board in working memory that fails once, at a call or at a write of one's choice.
 ghost use Rattle.std.specs.Prelude.{◌≡◌, ◌<◌, ◌≤◌, false, IfOk};
 ghost use Rattle.nvm_board.specs.declared.board.TheConstants.{COUNT_END, LEAST_PAGES, MOST_PAGES};
-ghost use Rattle.nvm_board.specs.Facts.{new_board};
 
 use crate::arming::{firing, nearer};
 use crate::board::{Arm, Armed, Board, COUNT_END, DeviceErr, LEAST_PAGES, Socket, WornOut};
@@ -32,11 +31,11 @@ pub struct FaultBoard {
 }
 
 impl FaultBoard {
-    ghost use Rattle.std.specs.Prelude.{◌-◌, ◌+◌, ℕ, length, Some, None, is_some};
+    ghost use Rattle.std.specs.Prelude.{◌+◌, ℕ, length, Some, None, is_some};
     ghost use Rattle.nvm_board.specs.declared.board.TheConstants.{PAGE_WORDS};
     ghost use Rattle.nvm_board.specs.declared.fault_board.Counted.TheVariants.{Calls, Writes};
     ghost use Rattle.nvm_board.specs.Facts.{address, pages_of};
-    ghost use Rattle.nvm_board.specs.Faulty.{fault_facts, counting, IsFaulty, LeavesRun};
+    ghost use Rattle.nvm_board.specs.Faulty.{fault_facts, counting, IsNewFaultBoard, SetsFault, IsFaulty, LeavesRun};
 
     /// A lit board of 1,024 pages whose words and counts are 0, with no fault to come. `Armed::arm` sets one at a call,
     /// whatever the mask.
@@ -44,8 +43,7 @@ impl FaultBoard {
     /// # Errors
     /// There is too little memory for the words.
     pub fn on_calls(alloc: Global) -> Result<FaultBoard, AllocError>
-        ensures facts { IfOk result (λ b. fault_facts b ≡ new_board LEAST_PAGES) }
-        ensures counts { IfOk result (λ b. counting b ≡ record { counted = Calls; armed_by = Calls }) }
+        ensures { IfOk result (IsNewFaultBoard LEAST_PAGES Calls) }
     {
         FaultBoard::with_pages(alloc, LEAST_PAGES, Counted::Calls)
     }
@@ -55,8 +53,7 @@ impl FaultBoard {
     /// # Errors
     /// There is too little memory for the words.
     pub fn on_writes(alloc: Global) -> Result<FaultBoard, AllocError>
-        ensures facts { IfOk result (λ b. fault_facts b ≡ new_board LEAST_PAGES) }
-        ensures counts { IfOk result (λ b. counting b ≡ record { counted = Writes; armed_by = Writes }) }
+        ensures { IfOk result (IsNewFaultBoard LEAST_PAGES Writes) }
     {
         FaultBoard::with_pages(alloc, LEAST_PAGES, Counted::Writes)
     }
@@ -68,8 +65,7 @@ impl FaultBoard {
     pub fn with_pages(alloc: Global, pages: u16, counted: Counted) -> Result<FaultBoard, AllocError>
         requires least { LEAST_PAGES ≤ pages }
         requires most { pages ≤ MOST_PAGES }
-        ensures facts { IfOk result (λ b. fault_facts b ≡ new_board pages) }
-        ensures counts { IfOk result (λ b. counting b ≡ record { counted = counted; armed_by = counted }) }
+        ensures { IfOk result (IsNewFaultBoard pages counted) }
     {
         Ok(FaultBoard {
             ram: RamBoard::with_pages(alloc, pages)?,
@@ -108,9 +104,7 @@ impl FaultBoard {
     /// the place of what was set before.
     pub fn arm_call(&mut self, k: u32)
         requires { 1 ≤ k }
-        ensures facts { fault_facts self.new ≡ record (fault_facts self.old)
-            { pending = Some record { whole_writes = k - 1; mask = 0 } } }
-        ensures counts { counting self.new ≡ record (counting self.old) { counted = Calls } }
+        ensures { SetsFault Calls k 0 self.old self.new }
     {
         self.set(Counted::Calls, k, 0);
     }
@@ -119,9 +113,7 @@ impl FaultBoard {
     /// what was set before.
     pub fn arm_write(&mut self, k: u32, mask: u16)
         requires { 1 ≤ k }
-        ensures facts { fault_facts self.new ≡ record (fault_facts self.old)
-            { pending = Some record { whole_writes = k - 1; mask = mask } } }
-        ensures counts { counting self.new ≡ record (counting self.old) { counted = Writes } }
+        ensures { SetsFault Writes k mask self.old self.new }
     {
         self.set(Counted::Writes, k, mask);
     }
@@ -129,9 +121,7 @@ impl FaultBoard {
     /// Sets what is to come.
     fn set(&mut self, counted: Counted, k: u32, mask: u16)
         requires { 1 ≤ k }
-        ensures facts { fault_facts self.new ≡ record (fault_facts self.old)
-            { pending = Some record { whole_writes = k - 1; mask = mask } } }
-        ensures counts { counting self.new ≡ record (counting self.old) { counted = counted } }
+        ensures { SetsFault counted k mask self.old self.new }
     {
         self.arm = Some(Arm {
             whole_writes: k - 1,
@@ -199,13 +189,10 @@ impl FaultBoard {
 }
 
 impl Board for FaultBoard {
-    ghost use Rattle.std.specs.Prelude.{◌⊎◌, ◌+◌, ◌↔◌, if◌then◌else◌, length, IsTrue, IsErrOf, OnOk, OnErr, Err};
-    ghost use Rattle.std.specs.Prelude.{slice_index};
-    ghost use Rattle.nvm_board.specs.declared.board.TheConstants.{PAGE_WORDS, SECRETS};
-    ghost use Rattle.nvm_board.specs.declared.board.DeviceErr.TheVariants.{Fault};
-    ghost use Rattle.nvm_board.specs.Aims.{AimStays, AimsAtWrite};
-    ghost use Rattle.nvm_board.specs.Facts.{Answered, IsLostRightly, RisesAt, address, raised, pages_of};
-    ghost use Rattle.nvm_board.specs.Torn.{Torn, written};
+    ghost use Rattle.std.specs.Prelude.{length};
+    ghost use Rattle.nvm_board.specs.declared.board.TheConstants.{SECRETS};
+    ghost use Rattle.nvm_board.specs.Calls.{TellsWord, FitsPage, Writes, Compares};
+    ghost use Rattle.nvm_board.specs.Facts.{address};
     ghost use Rattle.nvm_board.specs.Faulty.{fault_facts, counting, AfterCall, AfterWrite};
     ghost use Rattle.nvm_board.specs.laws.Counts.{fault_counts_fit, ram_memory};
 
@@ -218,14 +205,7 @@ impl Board for FaultBoard {
     #[tactic(auto, unfolding(crate::specs::Facts::IsLostRightly))]
     fn read(&mut self, at: u16) -> Result<u32, DeviceErr>
         requires { at < length (fault_facts self.old).words }
-        ensures word { IfOk result (λ w. w ≡ slice_index (fault_facts self.old).words at) }
-        ensures light { Answered (fault_facts self.old) (fault_facts self.new) result }
-        ensures worn { IsLostRightly (fault_facts self.old) (fault_facts self.new) result }
-        ensures cut { AimStays (fault_facts self.old) (fault_facts self.new) }
-        ensures words { (fault_facts self.new).words ≡ (fault_facts self.old).words }
-        ensures writes { (fault_facts self.new).writes ≡ (fault_facts self.old).writes }
-        ensures compares { (fault_facts self.new).compares ≡ (fault_facts self.old).compares }
-        ensures matches { (fault_facts self.new).matches ≡ (fault_facts self.old).matches }
+        ensures tells { TellsWord at (fault_facts self.old) (fault_facts self.new) result }
         ensures fault { AfterCall (counting self.old).counted (fault_facts self.old) (fault_facts self.new) result }
         ensures counts { counting self.new ≡ counting self.old }
     {
@@ -239,20 +219,8 @@ impl Board for FaultBoard {
 
     #[tactic(auto, unfolding(crate::specs::Facts::IsLostRightly))]
     fn write(&mut self, page: u16, first: u8, words: &[u32]) -> Result<(), DeviceErr>
-        requires page { page < pages_of (fault_facts self.old).words }
-        requires some { 0 < length words.now }
-        requires run { first + length words.now ≤ PAGE_WORDS }
-        ensures done { OnOk result ((fault_facts self.new).words
-            ≡ written (fault_facts self.old).words (address page first) words.now) }
-        ensures torn { Torn (fault_facts self.old).words (address page first) words.now (fault_facts self.new).words }
-        ensures light { Answered (fault_facts self.old) (fault_facts self.new) result }
-        ensures worn { IsLostRightly (fault_facts self.old) (fault_facts self.new) result }
-        ensures cut { AimsAtWrite (fault_facts self.old) (fault_facts self.new) }
-        ensures counted { OnOk result ((fault_facts self.new).writes ≡ (fault_facts self.old).writes + 1) }
-        ensures counted_err { OnErr result (((fault_facts self.new).writes ≡ (fault_facts self.old).writes)
-            ⊎ ((fault_facts self.new).writes ≡ (fault_facts self.old).writes + 1)) }
-        ensures compares { (fault_facts self.new).compares ≡ (fault_facts self.old).compares }
-        ensures matches { (fault_facts self.new).matches ≡ (fault_facts self.old).matches }
+        requires { FitsPage page first words.now (fault_facts self.old) }
+        ensures writes { Writes (address page first) words.now (fault_facts self.old) (fault_facts self.new) result }
         ensures fault { AfterWrite (counting self.old).counted (address page first) words.now (fault_facts self.old)
             (fault_facts self.new) result }
         ensures counts { counting self.new ≡ counting self.old }
@@ -269,20 +237,7 @@ impl Board for FaultBoard {
     #[tactic(auto, unfolding(crate::specs::Facts::IsLostRightly))]
     fn compare(&mut self, secret: u8, kept: &[u8; 8], shown: &[u8; 8]) -> Result<bool, DeviceErr>
         requires { secret < SECRETS }
-        ensures equal { IfOk result (λ e. IsTrue e ↔ (kept.now ≡ shown.now)) }
-        ensures light { Answered (fault_facts self.old) (fault_facts self.new) result }
-        ensures worn { IsLostRightly (fault_facts self.old) (fault_facts self.new) result }
-        ensures cut { AimStays (fault_facts self.old) (fault_facts self.new) }
-        ensures words { (fault_facts self.new).words ≡ (fault_facts self.old).words }
-        ensures writes { (fault_facts self.new).writes ≡ (fault_facts self.old).writes }
-        ensures compared { OnOk result ((fault_facts self.new).compares
-            ≡ raised (fault_facts self.old).compares secret) }
-        ensures compared_err { OnErr result
-            (RisesAt (fault_facts self.old).compares secret (fault_facts self.new).compares) }
-        ensures matched { IfOk result (λ e. (fault_facts self.new).matches
-            ≡ (if e then raised (fault_facts self.old).matches secret else (fault_facts self.old).matches)) }
-        ensures matched_err { OnErr result
-            (RisesAt (fault_facts self.old).matches secret (fault_facts self.new).matches) }
+        ensures compares { Compares secret kept.now shown.now (fault_facts self.old) (fault_facts self.new) result }
         ensures fault { AfterCall (counting self.old).counted (fault_facts self.old) (fault_facts self.new) result }
         ensures counts { counting self.new ≡ counting self.old }
     {
@@ -332,16 +287,14 @@ impl Socket for FaultBoard {
 }
 
 impl Armed for FaultBoard {
-    ghost use Rattle.std.specs.Prelude.{◌≡◌, ◌-◌, ◌≤◌, Some};
+    ghost use Rattle.std.specs.Prelude.{◌≡◌, ◌≤◌};
+    ghost use Rattle.nvm_board.specs.Calls.{Arms};
     ghost use Rattle.nvm_board.specs.Faulty.{fault_facts, counting};
 
     fn arm(&mut self, k: u32, mask: u16)
         requires { 1 ≤ k }
+        ensures arms { Arms k mask (fault_facts self.old) (fault_facts self.new) }
         ensures due { (fault_facts self.new).due ≡ 0 }
-        ensures same { fault_facts self.new ≡ record (fault_facts self.old) {
-          due = (fault_facts self.new).due;
-          pending = Some record { whole_writes = k - 1; mask = mask };
-        } }
         ensures counts { counting self.new ≡ record (counting self.old) { counted = (counting self.old).armed_by } }
     {
         self.set(self.armed_by, k, mask);

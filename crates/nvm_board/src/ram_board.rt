@@ -168,12 +168,10 @@ impl RamBoard {
 }
 
 impl Board for RamBoard {
-    ghost use Rattle.std.specs.Prelude.{◌≡◌, ◌+◌, ◌<◌, ◌≤◌, length, OnOk, OnErr};
-    ghost use Rattle.nvm_board.specs.declared.board.TheConstants.{PAGE_WORDS};
-    ghost use Rattle.nvm_board.specs.Aims.{AimsAtWrite};
-    ghost use Rattle.nvm_board.specs.Facts.{Answered, IsLostRightly, address, pages_of};
+    ghost use Rattle.std.specs.Prelude.{◌≡◌, OnErr};
+    ghost use Rattle.nvm_board.specs.Calls.{FitsPage, Writes};
+    ghost use Rattle.nvm_board.specs.Facts.{address};
     ghost use Rattle.nvm_board.specs.Ram.{ram_facts};
-    ghost use Rattle.nvm_board.specs.Torn.{Torn, written};
     ghost use Rattle.nvm_board.specs.laws.Counts.{ram_counts_fit, ram_memory};
 
     ghost facts = { ram_facts };
@@ -192,21 +190,11 @@ impl Board for RamBoard {
 
     #[tactic(auto, unfolding(crate::specs::Facts::IsLostRightly))]
     fn write(&mut self, page: u16, first: u8, words: &[u32]) -> Result<(), DeviceErr>
-        requires page { page < pages_of (ram_facts self.old).words }
-        requires some { 0 < length words.now }
-        requires run { first + length words.now ≤ PAGE_WORDS }
-        ensures done { OnOk result ((ram_facts self.new).words ≡ written (ram_facts self.old).words (address page first)
-            words.now) }
-        ensures torn { Torn (ram_facts self.old).words (address page first) words.now (ram_facts self.new).words }
-        ensures light { Answered (ram_facts self.old) (ram_facts self.new) result }
-        ensures worn { IsLostRightly (ram_facts self.old) (ram_facts self.new) result }
-        ensures cut { AimsAtWrite (ram_facts self.old) (ram_facts self.new) }
-        ensures counted { OnOk result ((ram_facts self.new).writes ≡ (ram_facts self.old).writes + 1) }
+        requires { FitsPage page first words.now (ram_facts self.old) }
+        ensures writes { Writes (address page first) words.now (ram_facts self.old) (ram_facts self.new) result }
 
         // A write that fails isn't counted.
-        ensures counted_err { OnErr result ((ram_facts self.new).writes ≡ (ram_facts self.old).writes) }
-        ensures compares { (ram_facts self.new).compares ≡ (ram_facts self.old).compares }
-        ensures matches { (ram_facts self.new).matches ≡ (ram_facts self.old).matches }
+        ensures uncounted { OnErr result ((ram_facts self.new).writes ≡ (ram_facts self.old).writes) }
     {
         if self.dark {
             return Err(DeviceErr::PowerLost);

@@ -1,4 +1,5 @@
-use Rattle.std.proofs.Common.{◌+◌, ◌≤◌, refl, sym, ◌∙◌, ap, length, arith}
+use Rattle.std.proofs.Common.{◌≡◌, ◌+◌, ◌≤◌, ℕ, refl, sym, ◌∙◌, ap, length, arith, rules}
+use Rattle.std.specs.Prelude.{false}
 use Rattle.nvm_board.specs.Cut.{ArmAfter}
 use Rattle.nvm_board.specs.Facts.{Facts, address, Answered, IsLostRightly}
 use Rattle.nvm_board.specs.laws.Torn.{Torn-IsTornBy}
@@ -7,70 +8,88 @@ use Rattle.nvm_board.proofs.WithArm.{with_arm, answered_armed, lost_armed, error
 use Rattle.nvm_board.proofs.WithArm.{spared_ok, answered_torn, arm_spent, aims_armed, aims_nearer}
 use Rattle.nvm_board.proofs.cut_board.CutBoard.write_armed.Goals as goal
 
-pub returns-in-Some-clause-torn : goal.returns-in-Some-clause-torn
-returns-in-Some-clause-torn c =
-    let old = c.args.self.now.ram in
-    let fits : address c.args.page c.args.first + length c.args.words.now ≤ length old.words.items =
-    omega (arith, old.sized) in
-    Torn-IsTornBy _ _ _ _ _ fits c.tear.ensures.torn
-
-pub returns-in-Some-clause-light : goal.returns-in-Some-clause-light
-returns-in-Some-clause-light c =
+pub returns-in-Some : goal.returns-in-Some
+unfolding IsLostRightly
+returns-in-Some c =
+    let old = ram_facts c.args.self.now.ram in
+    let new = ram_facts c.tear.new.self in
+    let a = c.args.self.now.arm in
+    let mask = c.in-Some.mask in
+    let fires = c.in-Some.ensures.fires.1 in
+    let lit = sym c.is_dark.ensures ∙ c.in-Some.ensures.fires.0 in
     let same = c.tear.ensures.same in
-    answered_torn c.args.self.now.arm (ram_facts c.args.self.now.ram) (ram_facts c.tear.new.self) c.in-Some.mask
-    c.in-Some.ensures.fires.1
-    (sym c.is_dark.ensures ∙ c.in-Some.ensures.fires.0) (ap (λ (f : Facts). f.dark) same)
-    (ap (λ (f : Facts). f.faults) same) (ap (λ (f : Facts). f.cuts) same)
+    let fits : address c.args.page c.args.first + length c.args.words.now ≤ length old.words =
+    omega (arith, c.args.self.now.ram.sized) in
+    record {
+      writes = record {
+        done = search rules;
+        torn = Torn-IsTornBy _ _ _ _ _ fits c.tear.ensures.torn;
+        light = answered_torn a old new mask fires lit (ap (λ (f : Facts). f.dark) same)
+            (ap (λ (f : Facts). f.faults) same) (ap (λ (f : Facts). f.cuts) same);
+        worn = search rules;
+        cut = search rules;
+        counted = search rules;
+        counted_err = search rules;
+        compares = search rules;
+        matches = search rules;
+      };
+      arm = arm_spent _ _ a old new mask fires lit c.tear.ensures.torn;
+      torn_words = search rules;
+    }
 
-pub returns-in-Some-clause-arm : goal.returns-in-Some-clause-arm
-returns-in-Some-clause-arm c =
-    arm_spent _ _ c.args.self.now.arm (ram_facts c.args.self.now.ram) (ram_facts c.tear.new.self) c.in-Some.mask
-    c.in-Some.ensures.fires.1 (sym c.is_dark.ensures ∙ c.in-Some.ensures.fires.0) c.tear.ensures.torn
-
-pub returns-in_err-write-clause-light : goal.returns-in_err-write-clause-light
-returns-in_err-write-clause-light c =
-    let old = ram_facts c.args.self.now.ram in
-    let new = ram_facts c.write.new.self in
-    let a = c.args.self.now.arm in
-    error_armed (λ r. Answered (with_arm a old) (with_arm a new) r) _ _ c.from_residual.ensures.1
-    (answered_armed a old new _ refl c.in_err-write.ensures.light)
-
-pub returns-in_err-write-clause-worn : goal.returns-in_err-write-clause-worn
-returns-in_err-write-clause-worn c =
-    let old = ram_facts c.args.self.now.ram in
-    let new = ram_facts c.write.new.self in
-    let a = c.args.self.now.arm in
-    error_armed (λ r. IsLostRightly (with_arm a old) (with_arm a new) r) _ _ c.from_residual.ensures.1
-    (lost_armed a old new _ refl c.in_err-write.ensures.worn)
-
-pub returns-in_err-write-clause-arm : goal.returns-in_err-write-clause-arm
-returns-in_err-write-clause-arm c =
+pub returns-in_err-write : goal.returns-in_err-write
+returns-in_err-write c =
     let old = ram_facts c.args.self.now.ram in
     let new = ram_facts c.write.new.self in
     let a = c.args.self.now.arm in
     let at = address c.args.page c.args.first in
-    error_armed (λ r. ArmAfter at c.args.words.now (with_arm a old) (with_arm a new) r) _ _ c.from_residual.ensures.1
-    (spared_err at c.args.words.now a old new _ refl refl c.in_err-write.ensures.light c.in_err-write.ensures.worn
-    (λ mask lit. c.firing.ensures.spared c.in_default.is (c.is_dark.ensures ∙ lit) mask))
+    let run = c.args.words.now in
+    let told = c.in_err-write.ensures in
+    let handed = c.from_residual.ensures.1 in
+    record {
+      writes = record {
+        done = search rules;
+        torn = told.writes.torn;
+        light = error_armed (λ r. Answered (with_arm a old) (with_arm a new) r) _ _ handed
+            (answered_armed a old new _ refl told.writes.light);
+        worn = error_armed (λ r. IsLostRightly (with_arm a old) (with_arm a new) r) _ _ handed
+            (lost_armed a old new _ refl told.writes.worn);
+        cut = aims_armed a old new told.uncounted told.writes.cut;
+        counted = search rules;
+        counted_err = search rules;
+        compares = told.writes.compares;
+        matches = told.writes.matches;
+      };
+      arm = error_armed (λ r. ArmAfter at run (with_arm a old) (with_arm a new) r) _ _ handed
+          (spared_err at run a old new _ refl refl told.writes.light told.writes.worn
+          (λ mask lit. c.firing.ensures.spared c.in_default.is (c.is_dark.ensures ∙ lit) mask));
+      torn_words = search rules;
+    }
 
-pub returns-clause-light : goal.returns-clause-light
-returns-clause-light c =
-    answered_spared c.args.self.now.arm c.nearer-self.result (ram_facts c.args.self.now.ram)
-    (ram_facts c.write.new.self) _ c.nearer-self.ensures.due (c.in_ok-write.ensures.light.ok refl)
-
-pub returns-clause-arm : goal.returns-clause-arm
-returns-clause-arm c =
-    spared_ok _ _ c.args.self.now.arm c.nearer-self.result (ram_facts c.args.self.now.ram) (ram_facts c.write.new.self)
-    _ (c.in_ok-write.ensures.light.ok refl).was_lit c.nearer-self.ensures.none c.nearer-self.ensures.before
-    (λ mask lit. c.firing.ensures.spared c.in_default.is (c.is_dark.ensures ∙ lit) mask)
-
-pub returns-in_err-write-clause-cut : goal.returns-in_err-write-clause-cut
-returns-in_err-write-clause-cut c =
-    aims_armed c.args.self.now.arm (ram_facts c.args.self.now.ram) (ram_facts c.write.new.self)
-    c.in_err-write.ensures.counted_err c.in_err-write.ensures.cut
-
-pub returns-clause-cut : goal.returns-clause-cut
-returns-clause-cut c =
-    aims_nearer c.args.self.now.arm c.nearer-self.result (ram_facts c.args.self.now.ram) (ram_facts c.write.new.self)
-    (c.in_ok-write.ensures.light.ok refl).was_lit c.in_ok-write.ensures.counted c.nearer-self.ensures.none
-    c.nearer-self.ensures.before (λ mask lit. c.firing.ensures.spared c.in_default.is (c.is_dark.ensures ∙ lit) mask)
+pub returns : goal.returns
+unfolding IsLostRightly
+returns c =
+    let old = ram_facts c.args.self.now.ram in
+    let new = ram_facts c.write.new.self in
+    let a = c.args.self.now.arm in
+    let b = c.nearer-self.result in
+    let nearer = c.nearer-self.ensures in
+    let told = c.in_ok-write.ensures.writes in
+    let was_lit = (told.light.ok refl).was_lit in
+    let never = λ (mask : ℕ) (lit : old.dark ≡ false). c.firing.ensures.spared c.in_default.is
+        (c.is_dark.ensures ∙ lit) mask in
+    record {
+      writes = record {
+        done = told.done;
+        torn = told.torn;
+        light = answered_spared a b old new _ nearer.due (told.light.ok refl);
+        worn = search rules;
+        cut = aims_nearer a b old new was_lit told.counted nearer.none nearer.before never;
+        counted = told.counted;
+        counted_err = search rules;
+        compares = told.compares;
+        matches = told.matches;
+      };
+      arm = spared_ok _ _ a b old new _ was_lit nearer.none nearer.before never;
+      torn_words = search rules;
+    }

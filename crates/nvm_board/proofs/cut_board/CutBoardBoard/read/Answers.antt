@@ -1,14 +1,18 @@
-use Rattle.std.proofs.Common.{refl}
+use Rattle.std.proofs.Common.{refl, rules}
 use Rattle.nvm_board.specs.Ram.{ram_facts}
 use Rattle.nvm_board.proofs.WithArm.{answered_armed, lost_armed}
 use Rattle.nvm_board.proofs.cut_board.CutBoardBoard.read.Goals as goal
 
-pub returns-clause-light : goal.returns-clause-light
-returns-clause-light c =
-    answered_armed c.args.self.now.arm (ram_facts c.args.self.now.ram) (ram_facts c.read.new.self) _ refl
-    c.read.ensures.light
-
-pub returns-clause-worn : goal.returns-clause-worn
-returns-clause-worn c =
-    lost_armed c.args.self.now.arm (ram_facts c.args.self.now.ram) (ram_facts c.read.new.self) _ refl
-    c.read.ensures.worn
+pub returns-clause-tells : goal.returns-clause-tells
+returns-clause-tells c = record {
+  word = search rules;
+  light = answered_armed c.args.self.now.arm (ram_facts c.args.self.now.ram) (ram_facts c.read.new.self) _ refl
+      c.read.ensures.light;
+  worn = lost_armed c.args.self.now.arm (ram_facts c.args.self.now.ram) (ram_facts c.read.new.self) _ refl
+      c.read.ensures.worn;
+  cut = search rules;
+  words = search rules;
+  writes = search rules;
+  compares = search rules;
+  matches = search rules;
+}

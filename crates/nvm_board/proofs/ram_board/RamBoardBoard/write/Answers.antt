@@ -1,4 +1,4 @@
-use Rattle.std.proofs.Common.{◌++◌, ℕ, List, length, take, drop, refl, ap, ap₂, sym, ◌∙◌, subst, inl, inr}
+use Rattle.std.proofs.Common.{◌++◌, ℕ, List, length, take, drop, refl, ap, ap₂, sym, ◌∙◌, subst, inl, inr, rules}
 use Rattle.std.proofs.Math.Seq.{take-append_seam}
 use Rattle.nvm_board.specs.Facts.{Facts, address}
 use Rattle.nvm_board.specs.Torn.{Torn, written}
@@ -6,17 +6,37 @@ use Rattle.nvm_board.specs.laws.Torn.{Torn-none, Torn-all}
 use Rattle.nvm_board.proofs.Telling.{off_tells, off_rightly, worn_tells, worn_rightly, lit_tells, lit_rightly}
 use Rattle.nvm_board.proofs.ram_board.RamBoardBoard.write.Goals as goal
 
-pub returns-then-self-clause-torn : goal.returns-then-self-clause-torn
-returns-then-self-clause-torn c = Torn-none _ _ _
+pub returns-then-self-clause-writes : goal.returns-then-self-clause-writes
+returns-then-self-clause-writes c = record {
+  done = search rules;
+  torn = Torn-none _ _ _;
+  light = off_tells _ c.if-self.true;
+  worn = off_rightly _ _ c.if-self.true;
+  cut = search rules;
+  counted = search rules;
+  counted_err = search rules;
+  compares = search rules;
+  matches = search rules;
+}
 
-pub returns-then-self-2-clause-torn : goal.returns-then-self-2-clause-torn
-returns-then-self-2-clause-torn c =
-    let at = address c.args.page c.args.first in
-    let torn : List ℕ → Type 0 = Torn c.args.self.now.words.items at c.args.words.now in
-    subst torn (sym (ap (λ (f : Facts). f.words) c.go_dark.ensures)) (Torn-none _ _ _)
+pub returns-then-self-2-clause-writes : goal.returns-then-self-2-clause-writes
+returns-then-self-2-clause-writes c = record {
+  done = search rules;
+  torn =
+      let at = address c.args.page c.args.first in
+      let torn : List ℕ → Type 0 = Torn c.args.self.now.words.items at c.args.words.now in
+      subst torn (sym (ap (λ (f : Facts). f.words) c.go_dark.ensures)) (Torn-none _ _ _);
+  light = worn_tells _ _ c.if-self.false (inr (inl c.if-self-2.true)) c.go_dark.ensures;
+  worn = worn_rightly _ _ _ (inr (inl c.if-self-2.true));
+  cut = search rules;
+  counted = search rules;
+  counted_err = search rules;
+  compares = search rules;
+  matches = search rules;
+}
 
-pub returns-clause-torn : goal.returns-clause-torn
-returns-clause-torn c =
+pub returns-clause-writes : goal.returns-clause-writes
+returns-clause-writes c =
     let at = address c.args.page c.args.first in
     let old = c.args.self.now.words.items in
     let torn : List ℕ → Type 0 = Torn old at c.args.words.now in
@@ -26,28 +46,15 @@ returns-clause-torn c =
     let size = sym (c.put_run.ensures.size ∙ c.as_mut_slice.ensures.len) in
     let rest = drop (length all) old in
     let back = ap (λ (n : ℕ). take n (all ++ rest)) size ∙ take-append_seam all rest in
-    subst torn (sym (back ∙ put)) (Torn-all _ _ _)
-
-pub returns-then-self-clause-light : goal.returns-then-self-clause-light
-returns-then-self-clause-light c = off_tells _ c.if-self.true
-
-pub returns-then-self-clause-worn : goal.returns-then-self-clause-worn
-returns-then-self-clause-worn c = off_rightly _ _ c.if-self.true
-
-pub returns-then-self-2-clause-light : goal.returns-then-self-2-clause-light
-returns-then-self-2-clause-light c =
-    worn_tells _ _ c.if-self.false (inr (inl c.if-self-2.true)) c.go_dark.ensures
-
-pub returns-then-self-2-clause-worn : goal.returns-then-self-2-clause-worn
-returns-then-self-2-clause-worn c = worn_rightly _ _ _ (inr (inl c.if-self-2.true))
-
-pub returns-clause-light : goal.returns-clause-light
-returns-clause-light c =
     let lit = c.if-self.false in
-    lit_tells _ _ _ (record { was_lit = lit; lit = lit; faults = refl; cuts = refl; due = refl })
-
-pub returns-clause-worn : goal.returns-clause-worn
-returns-clause-worn c = lit_rightly _ _ _
-
-pub returns-clause-counted : goal.returns-clause-counted
-returns-clause-counted c = refl
+    record {
+      done = back ∙ put;
+      torn = subst torn (sym (back ∙ put)) (Torn-all _ _ _);
+      light = lit_tells _ _ _ (record { was_lit = lit; lit = lit; faults = refl; cuts = refl; due = refl });
+      worn = lit_rightly _ _ _;
+      cut = search rules;
+      counted = refl;
+      counted_err = search rules;
+      compares = refl;
+      matches = refl;
+    }
