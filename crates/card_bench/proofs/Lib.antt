@@ -3,6 +3,7 @@ pub mod BlockRuns
 pub mod BlocksOnLine
 pub mod CardStates
 pub mod DarkLines
+pub mod DeskTurns
 mod CommandsGiven
 pub mod ExchangeInWorld
 pub mod ExchangeRuns

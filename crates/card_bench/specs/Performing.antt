@@ -4,6 +4,7 @@ use Rattle.nvm_board.specs.Facts.{Facts}
 use Rattle.t1_link.specs.ReaderTable.{Reader, fresh_reader}
 use Rattle.card_bench.specs.Orders.{Order}
 use Rattle.card_bench.specs.Orders.{Nothing, On, Off, Free, Apdu, Block, Cut, Lose, Garble}
+use Rattle.card_bench.specs.declared.playing.Turn.{Turn}
 use Rattle.card_bench.specs.declared.playing.Turn.TheVariants as turn
 use Rattle.card_bench.specs.declared.playing.Item.{Item}
 use Rattle.card_bench.specs.declared.playing.Item.TheVariants as item
@@ -23,7 +24,7 @@ shown item.Mute = prints_mute
 shown item.Dark = prints_dark
 shown (item.Reply block) = prints_bytes block
 
--- the reader's end after a power-on: a fresh one, where the card started
+-- the reader's end after a turn: a fresh one, where the card started
 abbrev pub reader_after : Item → Option Reader
 reader_after item.Atr = Some fresh_reader
 reader_after item.Quiet = None
@@ -45,10 +46,11 @@ pub record IsArmed (number mask : ℕ) (old new : BenchState) : Type 0 where
     pending = Some record { whole_writes = number - 1; mask = mask };
   })
 
--- A turn at the desk, and what is printed of it. What is pending on the line stays.
-pub record PerformsOn (old new : Desk) (prints : Print) : Type 0 where
+-- A turn at the desk, and what is printed of it. Only a card that started has a reader's end before it, a fresh one:
+-- after any other turn no command is sent any more. What is pending on the line stays.
+pub record TakesTurn (taken : Turn) (old new : Desk) (prints : Print) : Type 0 where
   pub came : Item
-  pub turn : GoodTurn old.bench turn.On came new.bench
+  pub turn : GoodTurn old.bench taken came new.bench
   pub reader : new.reader ≡ reader_after came
   pub line : new.line ≡ old.line
   pub printed : prints ≡ shown came
@@ -88,7 +90,7 @@ PerformsCommand (on powered) old command new prints = Commands old old.reader co
 -- A line is carried out.
 abbrev pub Performs : Order → Desk → Desk → Print → Type 0
 Performs Nothing old new prints = (new ≡ old) × (prints ≡ prints_nothing)
-Performs On old new prints = PerformsOn old new prints
+Performs On old new prints = TakesTurn turn.On old new prints
 Performs Off old new prints = PerformsOff old new prints
 Performs Free old new prints = (new ≡ old) × (prints ≡ free_shown old.bench)
 Performs (Apdu command) old new prints = PerformsCommand old.bench old command new prints

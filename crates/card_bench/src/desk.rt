@@ -8,8 +8,7 @@ ghost use Rattle.card_bench.specs.Exchanges.{printed_by};
 ghost use Rattle.card_bench.specs.ExchangeViews.{ended_of};
 ghost use Rattle.card_bench.specs.OrderViews.{order_with};
 ghost use Rattle.card_bench.specs.Orders.{IsSized};
-ghost use Rattle.card_bench.specs.Performing.{Performs, PerformsBlock, PerformsCommand, PerformsOff};
-ghost use Rattle.card_bench.specs.Performing.{PerformsOn, free_shown};
+ghost use Rattle.card_bench.specs.Performing.{Performs, PerformsCommand, TakesTurn, free_shown};
 ghost use Rattle.card_bench.specs.Plays.{IsGood};
 ghost use Rattle.card_bench.specs.Printouts.{prints_nothing, text_of};
 
@@ -108,6 +107,7 @@ impl<B: Socket> Desk<B> {
 
 impl<B: Armed + Faultless> Desk<B> {
     /// Does what a line asks for, with the bytes that it gave. What comes of it can then be printed.
+    #[tactic(auto, using(crate::proofs::DeskTurns::off_taken, crate::proofs::DeskTurns::block_taken))]
     pub(crate) fn perform(&mut self, order: Order, given: &[u8])
         requires sized { IsSized (order_with order given.now) }
         requires good { IsGood self.old.desk.bench }
@@ -117,55 +117,30 @@ impl<B: Armed + Faultless> Desk<B> {
         self.came = Came::Nothing;
         match order {
             Order::Nothing => {}
-            Order::On => self.turn_on(),
-            Order::Off => self.turn_off(),
+            Order::On => self.turn(Turn::On),
+            Order::Off => self.turn(Turn::Off),
             Order::Free => self.tell_free(),
             Order::Apdu => self.command(given),
-            Order::Block => self.take_block(given),
+            Order::Block => self.turn(Turn::Block(given)),
             Order::Cut { number, mask } => self.ends.bench.arm_well(number, mask),
             Order::Lose(number) => self.ends.line.lose(number),
             Order::Garble(number) => self.ends.line.garble(number),
         }
     }
 
-    /// Power off if it is on, and then a start. A card that starts has a fresh reader's end before it.
-    fn turn_on(&mut self)
+    /// A turn at the bench. Only a card that starts has a fresh reader's end before it; after any other turn no command
+    /// is sent any more.
+    fn turn(&mut self, turn: Turn<'_>)
         requires good { IsGood self.old.desk.bench }
         ensures good { IsGood self.new.desk.bench }
-        ensures performs { PerformsOn self.old.desk self.new.desk self.new.prints }
+        ensures taken { TakesTurn turn.entry self.old.desk self.new.desk self.new.prints }
     {
         self.came = self
             .ends
             .bench
-            .turn_well(Turn::On, &mut self.ends.blocks.toward_reader);
+            .turn_well(turn, &mut self.ends.blocks.toward_reader);
         self.in_step = self.came.is_started();
         self.ends.reader.reset();
-    }
-
-    /// Power off. No command is sent any more.
-    fn turn_off(&mut self)
-        requires good { IsGood self.old.desk.bench }
-        ensures good { IsGood self.new.desk.bench }
-        ensures performs { PerformsOff self.old.desk self.new.desk self.new.prints }
-    {
-        self.came = self
-            .ends
-            .bench
-            .turn_well(Turn::Off, &mut self.ends.blocks.toward_reader);
-        self.in_step = false;
-    }
-
-    /// A block straight to the card's end, of which the reader's end doesn't know.
-    fn take_block(&mut self, block: &[u8])
-        requires good { IsGood self.old.desk.bench }
-        ensures good { IsGood self.new.desk.bench }
-        ensures performs { PerformsBlock self.old.desk block.now self.new.desk self.new.prints }
-    {
-        self.came = self
-            .ends
-            .bench
-            .turn_well(Turn::Block(block), &mut self.ends.blocks.toward_reader);
-        self.in_step = false;
     }
 
     /// The free space, which is told of every card that works, and on a board without faults each card does.

@@ -17,32 +17,17 @@ ghost use Rattle.file_tree.specs.Trees.{tree_of, TreeStands};
 ghost use Rattle.file_tree.specs.Changes.{Deletes, with_freed};
 ghost use Rattle.file_tree.specs.Indexes.{IsIndex};
 ghost use Rattle.file_changes.specs.DeletionParts.{IsRemoval, going, part_below, CanGive, FreesEntries, Removes};
-ghost use Rattle.file_tree.specs.SubtreeParts.{leads_up};
 
 use arrayvec::ArrayVec;
 use block_chain::{Chain, Extent, give_back};
 use file_tree::{
-    DEEPEST, ENTRIES, ENTRIES_END, Entry, ExtentList, FreeSpace, Index, TABLE_ROOM, Table,
-    count_free, entry_address, extents_of, parent_of, read_table,
+    ENTRIES, ENTRIES_END, Entry, ExtentList, FreeSpace, Index, TABLE_ROOM, Table, count_free,
+    entry_address, extents_of, is_within, parent_of, read_table,
 };
 use undo_journal::{Board, Store, StoreErr, Txn};
 
 /// The chains of some elementary files.
 type ChainList = ArrayVec<Chain, TABLE_ROOM>;
-
-/// An entry is another one, or stands below it: at most seven steps to parents lead to that.
-fn is_within(entries: &[Entry], top: u8, e: u8) -> bool
-    ensures { result ≡ leads_up entries.now 7 top e }
-{
-    let mut at = e;
-    for _step in 0..DEEPEST {
-        if at == top {
-            return true;
-        }
-        at = parent_of(entries, at);
-    }
-    at == top
-}
 
 /// An entry that goes with another one, as it is in the part that goes; else a free one.
 fn going_entry(entries: &[Entry], top: u8, e: u8) -> Entry
@@ -50,7 +35,7 @@ fn going_entry(entries: &[Entry], top: u8, e: u8) -> Entry
     ensures { result ≡ going entries.now top e }
 {
     let entry = entries[usize::from(e)];
-    if entry.is_used() && is_within(entries, top, e) {
+    if entry.is_used() && is_within(|at| parent_of(entries, at), top, e) {
         entry
     } else {
         Entry::free()

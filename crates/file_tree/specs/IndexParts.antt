@@ -1,5 +1,5 @@
 -- What single steps of a search and of a change of an index find. No public clause names these.
-use Rattle.std.specs.Prelude.{◌≡◌, ◌≢◌, ◌==◌, ◌<◌, ◌≤◌, ◌/◌, ◌||◌, ◌++◌, ℕ, zero, suc, Bool, true, false, not}
+use Rattle.std.specs.Prelude.{◌≡◌, ◌≢◌, ◌==◌, ◌<◌, ◌≤◌, ◌/◌, ◌++◌, ℕ, zero, suc, Bool, true, false, not}
 use Rattle.std.specs.Prelude.{if◌then◌else◌, List, [], ◌∷◌}
 use Rattle.std.specs.Prelude.{All, Contains, length, slice_index_or, Option, None, Some, Result, Ok, Err}
 use Rattle.file_tree.specs.declared.entry.Entry.{Entry}
@@ -8,6 +8,7 @@ use Rattle.file_tree.specs.declared.index.Place.{Place}
 use Rattle.file_tree.specs.declared.index.Index.{Index}
 use Rattle.file_tree.specs.Keys.{IsBefore}
 use Rattle.file_tree.specs.Table.{IsUsed, HaveIdentifiers}
+use Rattle.file_tree.specs.SubtreeParts.{leads}
 use Rattle.file_tree.specs.Indexes.{AreSorted, IsPlace, IsIndex, place_of}
 
 -- the key of the place with a number
@@ -62,10 +63,9 @@ unfoldable pub parent_by : List Place → ℕ → ℕ
 parent_by [] e = 0
 parent_by (p ∷ ps) e = if p.entry == e then p.key.parent else parent_by ps e
 
--- whether at most so many steps to parents lead from an entry to another one, or it is that
-unfoldable pub leads_by : List Place → ℕ → ℕ → ℕ → Bool
-leads_by places zero top e = e == top
-leads_by places (suc n) top e = (e == top) || leads_by places n top (parent_by places e)
+-- whether at most so many steps to these parents lead from an entry to another one, or it is that
+abbrev pub leads_by : List Place → ℕ → ℕ → ℕ → Bool
+leads_by places n top e = leads (parent_by places) n top e
 
 -- whether a place is neither that of an entry's file nor of a file below it
 abbrev pub is_outside : List Place → ℕ → Place → Bool

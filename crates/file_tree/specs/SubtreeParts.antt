@@ -1,9 +1,17 @@
 -- What single steps of the change of an index, and of a deletion, find. No public clause names this.
-use Rattle.std.specs.Prelude.{◌==◌, ◌||◌, ℕ, zero, suc, Bool, List}
+use Rattle.std.specs.Prelude.{◌≡◌, ◌==◌, ◌<◌, ◌||◌, ℕ, zero, suc, Bool, List}
 use Rattle.file_tree.specs.declared.entry.Entry.{Entry}
 use Rattle.file_tree.specs.Table.{entry_in}
 
 -- whether at most so many steps to parents lead from an entry to another one, or it is that
-unfoldable pub leads_up : List Entry → ℕ → ℕ → ℕ → Bool
-leads_up t zero top f = f == top
-leads_up t (suc n) top f = (f == top) || leads_up t n top (entry_in t f).parent
+unfoldable pub leads : (ℕ → ℕ) → ℕ → ℕ → ℕ → Bool
+leads parent zero top e = e == top
+leads parent (suc n) top e = (e == top) || leads parent n top (parent e)
+
+-- steps to the parents that the entries name
+abbrev pub leads_up : List Entry → ℕ → ℕ → ℕ → Bool
+leads_up t n top f = leads (λ e. (entry_in t e).parent) n top f
+
+-- what calls answer is the parent: no answer is another
+abbrev pub TellsParents : (ℕ → ℕ → Type 0) → (ℕ → ℕ) → Type 0
+TellsParents answers parent = (e told : ℕ) → e < 256 → answers e told → told ≡ parent e

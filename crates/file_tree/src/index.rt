@@ -8,11 +8,12 @@ ghost use Rattle.file_tree.specs.Table.{table, entry_in, path_of, IsUsed, IsTabl
 ghost use Rattle.file_tree.specs.Trees.{tree_of, TreeStands};
 ghost use Rattle.file_tree.specs.Changes.{Deletes};
 ghost use Rattle.file_tree.specs.Indexes.{AreSorted, IsIndex, IsFreeIn, AddsEntry, TellsChild, child_by_identifier};
-ghost use Rattle.file_tree.specs.IndexParts.{TellsSearch, TellsPut, TellsIndex, parent_by, leads_by, is_outside};
+ghost use Rattle.file_tree.specs.IndexParts.{TellsSearch, TellsPut, TellsIndex, parent_by, is_outside};
 
 use crate::entry::Entry;
-use crate::layout::{DEEPEST, ENTRIES_END};
+use crate::layout::ENTRIES_END;
 use crate::look_up::Reached;
+use crate::parents::is_within;
 use crate::steps::{Key, Steps};
 use arrayvec::ArrayVec;
 use std::cmp::Ordering;
@@ -85,20 +86,6 @@ fn parent_of(places: &[Place], entry: u8) -> u8
     0
 }
 
-/// An entry is another one, or stands below it: at most seven steps to parents lead to that.
-fn is_within(places: &[Place], top: u8, entry: u8) -> bool
-    ensures { result ≡ leads_by places.now 7 top entry }
-{
-    let mut at = entry;
-    for _step in 0..DEEPEST {
-        if at == top {
-            return true;
-        }
-        at = parent_of(places, at);
-    }
-    at == top
-}
-
 /// The places of all files but that of an entry and those below it.
 fn places_outside(places: &[Place], top: u8) -> PlaceList
     requires { length places.now ≤ 63 }
@@ -106,7 +93,7 @@ fn places_outside(places: &[Place], top: u8) -> PlaceList
 {
     let mut outside = PlaceList::new();
     for place in places {
-        if !is_within(places, top, place.entry) {
+        if !is_within(|e| parent_of(places, e), top, place.entry) {
             outside.push(*place);
         }
     }

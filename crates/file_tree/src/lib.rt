@@ -10,6 +10,7 @@ pub mod laws;
 mod layout;
 mod look_up;
 mod naming;
+mod parents;
 mod reading;
 mod rules;
 mod space;
@@ -27,6 +28,7 @@ pub use layout::{
 };
 pub use look_up::{Reached, find_short, select};
 pub use naming::{entry_named, find_name, find_parent, find_path, find_path_from_master};
+pub use parents::is_within;
 pub use reading::{read_entry, read_entry_head, read_table};
 pub use space::{FreeSpace, blocks_for};
 pub use steps::Steps;

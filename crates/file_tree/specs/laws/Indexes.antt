@@ -22,7 +22,7 @@ use Rattle.file_tree.specs.Keys.{key_for, IsBefore}
 use Rattle.file_tree.specs.Table.{table, entry_in, IsUsed, IsTable, HaveIdentifiers}
 use Rattle.file_tree.specs.Indexes.{place_of, IsPlace, AreSorted, IsIndex, IsFreeIn, AddsEntry, TellsChild}
 use Rattle.file_tree.specs.IndexParts.{key_at, AreBefore, AreBehind, TellsPut, halved, Puts, ArePlacesTo}
-use Rattle.file_tree.specs.IndexParts.{parent_by, leads_by}
+use Rattle.file_tree.specs.IndexParts.{parent_by}
 use Rattle.file_tree.specs.laws.Tables.{entry_past}
 use Rattle.file_tree.specs.laws.Alikes.{used_within}
 
@@ -500,26 +500,3 @@ pub parent_none : (places : List Place) (k e : ℕ) → length places ≤ k → 
 unfolding parent_by
 parent_none places k e past = ap (λ (ps : List Place). parent_by ps e)
     (nil_from_length (drop k places) (let l = length-drop k places in omega (arith, l, past)))
-
--- Steps to parents.
-pub leads_by-step : (places : List Place) (n top e : ℕ) → e ≢ top
-    → leads_by places (suc n) top e ≡ leads_by places n top (parent_by places e)
-unfolding leads_by
-leads_by-step places n top e differs =
-    ap (λ (b : Bool). b || leads_by places n top (parent_by places e)) (differ e top differs)
-
-pub leads_by-here : (places : List Place) (n top e : ℕ) → e ≡ top → leads_by places n top e ≡ true
-unfolding leads_by
-leads_by-here places zero top e is = elim (eqb_tells e top) [
-  | inl same ↦ same.0
-  | inr other ↦ absurd (other.1 is)
-]
-leads_by-here places (suc n) top e is = elim (eqb_tells e top) [
-  | inl same ↦ ap (λ (b : Bool). b || leads_by places n top (parent_by places e)) same.0
-  | inr other ↦ absurd (other.1 is)
-]
-
-pub leads_by-zero : (places : List Place) (n top e : ℕ) → n ≡ 0 → leads_by places n top e ≡ (e == top)
-unfolding leads_by
-leads_by-zero places zero top e none = refl
-leads_by-zero places (suc n) top e none = absurd (omega (arith, none))

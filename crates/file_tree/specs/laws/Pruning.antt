@@ -13,7 +13,7 @@ use Rattle.file_tree.specs.Keys.{key_for, IsBefore}
 use Rattle.file_tree.specs.Table.{table, entry_in, path_of, IsUsed}
 use Rattle.file_tree.specs.Trees.{tree_of, TreeStands, file_in}
 use Rattle.file_tree.specs.Changes.{Deletes}
-use Rattle.file_tree.specs.SubtreeParts.{leads_up}
+use Rattle.file_tree.specs.SubtreeParts.{leads, leads_up}
 use Rattle.file_tree.specs.Indexes.{place_of, IsPlace, AreSorted, IsIndex}
 use Rattle.file_tree.specs.IndexParts.{leads_by, is_outside}
 use Rattle.file_tree.specs.laws.Paths.{one_path}
@@ -59,7 +59,7 @@ module _ (m after : List ℕ) (top : ℕ) (index : Index) (stands : TreeStands m
   places = index.places.items
 
   leads_is : (n e : ℕ) → IsUsed t e → leads_by places n top e ≡ leads_up t n top e
-  unfolding leads_by leads_up
+  unfolding leads
   leads_is zero e used_e = refl
   leads_is (suc n) e used_e = ap (λ (b : Bool). (e == top) || b)
       (ap (leads_by places n top) (parent_is t index stands.entries is e used_e)

@@ -7,7 +7,7 @@ use Rattle.std.proofs.lemmas.Bool.Decides.{eqb_tells}
 use Rattle.file_tree.specs.declared.entry.Entry.{Entry}
 use Rattle.file_tree.specs.Cards.{Path}
 use Rattle.file_tree.specs.Table.{entry_in, ancestor, path_in, path_of, IsUsed, IsTable}
-use Rattle.file_tree.specs.SubtreeParts.{leads_up}
+use Rattle.file_tree.specs.SubtreeParts.{leads, leads_up}
 use Rattle.file_tree.specs.laws.Levels.{ancestor-more}
 use Rattle.file_tree.specs.laws.Paths.{path-zero, path-below, path-enough, path_of-child, parent_used}
 use Rattle.file_tree.specs.laws.Paths.{reaches_master, one_path}
@@ -41,37 +41,37 @@ starts-push (w ∷ p) (y ∷ q) x differ = elim (eqb_tells y w) [
       ∙ sym (ap (λ (b : Bool). b && starts_with nat_eq p q) other.0)
 ]
 
-pub leads_up-step : (t : List Entry) (n top f : ℕ) → f ≢ top
-    → leads_up t (suc n) top f ≡ leads_up t n top (entry_in t f).parent
-unfolding leads_up
-leads_up-step t n top f differ = elim (eqb_tells f top) [
+-- Steps to parents.
+pub leads-step : (parent : ℕ → ℕ) (n top e : ℕ) → e ≢ top → leads parent (suc n) top e ≡ leads parent n top (parent e)
+unfolding leads
+leads-step parent n top e differ = elim (eqb_tells e top) [
   | inl same ↦ absurd (differ same.1)
-  | inr other ↦ ap (λ (b : Bool). b || leads_up t n top (entry_in t f).parent) other.0
+  | inr other ↦ ap (λ (b : Bool). b || leads parent n top (parent e)) other.0
 ]
 
-pub leads_up-here : (t : List Entry) (n top f : ℕ) → f ≡ top → leads_up t n top f ≡ true
-unfolding leads_up
-leads_up-here t zero top f is = elim (eqb_tells f top) [
+pub leads-here : (parent : ℕ → ℕ) (n top e : ℕ) → e ≡ top → leads parent n top e ≡ true
+unfolding leads
+leads-here parent zero top e is = elim (eqb_tells e top) [
   | inl same ↦ same.0
   | inr other ↦ absurd (other.1 is)
 ]
-leads_up-here t (suc n) top f is = elim (eqb_tells f top) [
-  | inl same ↦ ap (λ (b : Bool). b || leads_up t n top (entry_in t f).parent) same.0
+leads-here parent (suc n) top e is = elim (eqb_tells e top) [
+  | inl same ↦ ap (λ (b : Bool). b || leads parent n top (parent e)) same.0
   | inr other ↦ absurd (other.1 is)
 ]
 
-pub leads_up-none : (t : List Entry) (top f : ℕ) → f ≢ top → leads_up t 0 top f ≡ false
-unfolding leads_up
-leads_up-none t top f differ = elim (eqb_tells f top) [
+pub leads-none : (parent : ℕ → ℕ) (top e : ℕ) → e ≢ top → leads parent 0 top e ≡ false
+unfolding leads
+leads-none parent top e differ = elim (eqb_tells e top) [
   | inl same ↦ absurd (differ same.1)
   | inr other ↦ other.0
 ]
 
 -- without a step it leads to itself alone
-pub leads_up-zero : (t : List Entry) (n top f : ℕ) → n ≡ 0 → leads_up t n top f ≡ (f == top)
-unfolding leads_up
-leads_up-zero t zero top f none = refl
-leads_up-zero t (suc n) top f none = absurd (omega (arith, none))
+pub leads-zero : (parent : ℕ → ℕ) (n top e : ℕ) → n ≡ 0 → leads parent n top e ≡ (e == top)
+unfolding leads
+leads-zero parent zero top e none = refl
+leads-zero parent (suc n) top e none = absurd (omega (arith, none))
 
 module _ (t : List Entry) (rules : IsTable t) (top : ℕ) (above : 0 < top) (used : IsUsed t top) where
   -- the path over as many steps as lead to the master file is the whole
@@ -84,9 +84,9 @@ module _ (t : List Entry) (rules : IsTable t) (top : ℕ) (above : 0 < top) (use
 
   -- the master file is below no other file
   pub master_out : (n f : ℕ) → f ≡ 0 → leads_up t n top f ≡ false
-  master_out zero f is = leads_up-none t top f (λ same. let z : ⊥ = omega (arith, is, same, above) in z)
+  master_out zero f is = leads-none (λ e. (entry_in t e).parent) top f (λ same. let z : ⊥ = omega (arith, is, same, above) in z)
   master_out (suc n) f is =
-      leads_up-step t n top f (λ same. let z : ⊥ = omega (arith, is, same, above) in z)
+      leads-step (λ e. (entry_in t e).parent) n top f (λ same. let z : ⊥ = omega (arith, is, same, above) in z)
       ∙ master_out n (entry_in t f).parent (ap (λ (k : ℕ). (entry_in t k).parent) is ∙ rules.master.parent)
 
   empty_out : (p : Path) → p ≡ [] → starts_with nat_eq p (path_of t top) ≡ false
@@ -108,13 +108,13 @@ module _ (t : List Entry) (rules : IsTable t) (top : ℕ) (above : 0 < top) (use
     | inr below ↦ elim (eqb_tells f top) [
       | inl same ↦
           let whole = stable (7 - suc n) (suc n) f (omega (arith, few)) up ∙ ap (path_of t) same.1 in
-          leads_up-here t (suc n) top f same.1
+          leads-here (λ e. (entry_in t e).parent) (suc n) top f same.1
           ∙ sym (ap (λ (p : Path). starts_with nat_eq p (path_of t top)) whole ∙ starts-self (path_of t top))
       | inr other ↦
           let some : 0 < f = (let d = below.1 in omega (arith, d)) in
           let whole = stable (7 - suc n) (suc n) f (omega (arith, few)) up in
           let parts = path-below t n f below.1 in
-          leads_up-step t n top f other.1
+          leads-step (λ e. (entry_in t e).parent) n top f other.1
           ∙ within_is n (entry_in t f).parent (omega (arith, few)) up (parent_used t rules f some used_f)
           ∙ sym (starts-push (path_in t n (entry_in t f).parent) (path_of t top) (entry_in t f).identifier
           (λ is. other.1 (one_path t rules f top used_f used (sym whole ∙ parts ∙ is))))

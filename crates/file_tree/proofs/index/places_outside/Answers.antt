@@ -1,10 +1,11 @@
 use Rattle.std.proofs.Common.{◌≡◌, ◌≤◌, ◌+◌, ◌++◌, ℕ, Bool, true, false, not, cond, List, [], ◌∷◌, length, take, filter}
-use Rattle.std.proofs.Common.{slice_index_or, sym, ◌∙◌, ap, arith, lit<, append-nil}
+use Rattle.std.proofs.Common.{slice_index_or, sym, ◌∙◌, ap, arith, rules, lit<, append-nil}
 use Rattle.std.proofs.Math.Seq.{take-length}
 use Rattle.std.proofs.lemmas.List.Elements.{filter_more}
 use Rattle.file_tree.specs.declared.index.Place.{Place}
 use Rattle.file_tree.specs.Keys.{key_for}
-use Rattle.file_tree.specs.IndexParts.{is_outside}
+use Rattle.file_tree.specs.IndexParts.{is_outside, parent_by}
+use Rattle.file_tree.specs.SubtreeParts.{leads}
 use Rattle.file_tree.proofs.index.places_outside.Goals as goal
 use Rattle.file_tree.proofs.index.places_outside.Goals.{then-not-is_within, else-not-is_within}
 
@@ -35,9 +36,11 @@ loop-place-preserved c =
     let so_far = c.loop-place.invariant.so_far in
     let more = filter_more keep places k no_place c.loop-place-test.true in
     let told : List Place → Type 0 = λ ps. (length ps ≤ k + 1) × (ps ≡ filter keep (take (k + 1) places)) in
+    let within : c.is_within.result ≡ leads (parent_by places) 7 c.args.top place.entry =
+    c.is_within.ensures (parent_by places) (λ e told small answers. search rules) in
     let next : told c.if-not-is_within.outside.items = elim c.if-not-is_within.branch [
       | then-not-is_within w ↦
-          let passes : keep place ≡ true = ap not (sym c.is_within.ensures ∙ w.if-not-is_within.true) in
+          let passes : keep place ≡ true = ap not (sym within ∙ w.if-not-is_within.true) in
           let items : c.if-not-is_within.outside.items ≡ before ++ place ∷ [] = (λ j. (w.outside-is j).items)
           ∙ w.push.ensures.items in
           let long : length c.if-not-is_within.outside.items ≡ length before + 1 = (λ j. length (w.outside-is j).items)
@@ -48,7 +51,7 @@ loop-place-preserved c =
                 ∙ sym (more ∙ ap (λ (b : Bool). filter keep (take k places) ++ cond b (place ∷ []) []) passes),
           )
       | else-not-is_within w ↦
-          let fails : keep place ≡ false = ap not (sym c.is_within.ensures ∙ w.if-not-is_within.false) in
+          let fails : keep place ≡ false = ap not (sym within ∙ w.if-not-is_within.false) in
           let items : c.if-not-is_within.outside.items ≡ before = (λ j. (w.outside-is j).items) in
           let long = ap (λ (ps : List Place). length ps) items in (
             omega (arith, long, size),

@@ -1,0 +1,43 @@
+-- What turns at the desk are to a script: power off, and a block straight to the card's end.
+use Rattle.std.proofs.Common.{◌≡◌, ◌∙◌, List, ℕ, None, Bor}
+use Rattle.card_bench.specs.declared.playing.Turn.TheVariants as turn
+use Rattle.card_bench.specs.declared.playing.Item.{Item}
+use Rattle.card_bench.specs.declared.playing.Item.TheVariants.{Atr, Quiet, Mute, Dark, Reply}
+use Rattle.card_bench.specs.BenchStates.{BenchState, off, on}
+use Rattle.card_bench.specs.Exchanges.{Desk}
+use Rattle.card_bench.specs.Performing.{PerformsBlock, PerformsOff, TakesTurn, reader_after, shown}
+use Rattle.card_bench.specs.Printouts.{Print}
+use Rattle.card_bench.specs.Turns.{GoodTurn, TakesBlock}
+
+-- nothing comes of power off
+off-by : (old new : Desk) (prints : Print) (came : Item) → GoodTurn old.bench turn.Off came new.bench
+    → new.reader ≡ reader_after came → new.line ≡ old.line → prints ≡ shown came → PerformsOff old new prints
+off-by old new prints Atr good reader line printed = absurd good.one
+off-by old new prints Quiet good reader line printed =
+    record { turn = good; reader = reader; line = line; printed = printed }
+off-by old new prints Mute good reader line printed = absurd good.one
+off-by old new prints Dark good reader line printed = absurd good.one
+off-by old new prints (Reply block) good reader line printed = absurd good.one
+
+pub off_taken : (old new : Desk) (prints : Print) → TakesTurn turn.Off old new prints → PerformsOff old new prints
+off_taken old new prints taken = off-by old new prints taken.came taken.turn taken.reader taken.line taken.printed
+
+-- no card starts by a block
+none-started : (old new : BenchState) (got : List ℕ) (came : Item) → TakesBlock old got came new
+    → reader_after came ≡ None
+none-started (off facts) new got Atr one = absurd one
+none-started (on powered) new got Atr one = absurd one
+none-started old new got Quiet one = λ i. None
+none-started old new got Mute one = λ i. None
+none-started old new got Dark one = λ i. None
+none-started old new got (Reply block) one = λ i. None
+
+pub block_taken : (old new : Desk) (got : Bor (List ℕ)) (prints : Print) → TakesTurn (turn.Block got) old new prints
+    → PerformsBlock old got.now new prints
+block_taken old new got prints taken = record {
+  came = taken.came;
+  turn = record { one = taken.turn.one; counts = taken.turn.counts; wears = taken.turn.wears };
+  reader = taken.reader ∙ none-started old.bench new.bench got.now taken.came taken.turn.one;
+  line = taken.line;
+  printed = taken.printed;
+}

@@ -1,0 +1,21 @@
+//! Steps from files to their parents.
+
+ghost use Rattle.std.specs.Prelude.{◌≡◌, ℕ};
+ghost use Rattle.file_tree.specs.SubtreeParts.{leads, TellsParents};
+
+use crate::layout::DEEPEST;
+
+/// An entry is another one, or stands below it: at most seven steps to parents lead to that.
+pub fn is_within<F: Fn(u8) -> u8>(parent_of: F, top: u8, e: u8) -> bool
+    requires { F.IsAlwaysCallable parent_of }
+    ensures { (parent : ℕ → ℕ) → TellsParents (F.post parent_of) parent → result ≡ leads parent 7 top e }
+{
+    let mut at = e;
+    for _step in 0..DEEPEST {
+        if at == top {
+            return true;
+        }
+        at = parent_of(at);
+    }
+    at == top
+}
