@@ -1,13 +1,12 @@
 //! INCREASE (ETSI TS 102 221, 11.1.8).
 ghost use Rattle.std.specs.Prelude.{◌≡◌, ◌≤◌, ◌+◌, ◌++◌, ◌||◌, nat_lt, [], length, Some, OnOk};
-ghost use Rattle.undo_journal.specs.Calls.{Reads};
 ghost use Rattle.undo_journal.specs.Memory.{committed};
 ghost use Rattle.apdu_core.specs.Requests.{increase as increasing};
 ghost use Rattle.card_machine.specs.Outcomes.{refused_by};
 ghost use Rattle.card_contents.specs.RecordGuards.{IsIncreasable};
 ghost use Rattle.card_machine.specs.Served.{Serves};
 ghost use Rattle.card_machine.specs.Steps.{refusals_of};
-ghost use Rattle.card_machine.specs.Stops.{failure, reply, Finds};
+ghost use Rattle.card_machine.specs.Stops.{reply, Looks};
 ghost use Rattle.card_machine.specs.Working.{card_in, session_in, space_in, IsKept};
 
 use crate::record_file::FileRecord;
@@ -61,12 +60,11 @@ fn find_increased<B: Board>(
 ) -> Result<FileRecord, Stop>
     requires kept { IsKept store.old current.now }
     requires few { length amount.now ≤ 255 }
-    ensures found { Finds result
+    ensures { Looks store.old store.new result
         (λ found. IsIncreasable (committed store.old) current.now amount.now expected found.file found.slot
         sum.new.items)
         (λ refusal. refused_by (refusals_of (card_in store.old) (session_in store.old current.now)
         (increasing amount.now expected)) ≡ Some refusal) }
-    ensures store { Reads store.old store.new (failure result) }
 {
     let file = find_records(store, current, Target::Current, INCREASING)?;
     if is_too_long(file.ring, amount) {

@@ -1,6 +1,5 @@
 //! READ, UPDATE, APPEND and SEARCH RECORD (ISO/IEC 7816-4, 11.4).
 ghost use Rattle.std.specs.Prelude.{◌≡◌, ◌≢◌, ◌≤◌, ◌==◌, ◌&&◌, not, [], length, Some, OnOk};
-ghost use Rattle.undo_journal.specs.Calls.{Reads};
 ghost use Rattle.undo_journal.specs.Memory.{committed};
 ghost use Rattle.apdu_core.specs.Ranges.{IsTarget};
 ghost use Rattle.apdu_core.specs.Requests.{append_record as appending, read_record as reading};
@@ -12,7 +11,7 @@ ghost use Rattle.card_machine.specs.Elementary.{file_refusals};
 ghost use Rattle.card_contents.specs.RecordGuards.{choice_refusals, IsAppendable, IsChosen, IsReplaceable};
 ghost use Rattle.card_machine.specs.Served.{Serves};
 ghost use Rattle.card_machine.specs.Steps.{refusals_of};
-ghost use Rattle.card_machine.specs.Stops.{failure, reply, Finds};
+ghost use Rattle.card_machine.specs.Stops.{reply, Looks};
 ghost use Rattle.card_machine.specs.Working.{card_in, fits, session_in, space_in, IsKept};
 ghost use Rattle.card_contents.specs.RecordParts.{structure_replaced, IsRecordFile};
 ghost use Rattle.card_machine.specs.Records.{pointer_found, search_status, searching as searching_way};
@@ -80,11 +79,10 @@ pub(crate) fn find_records<B: Board>(
     requires kept { IsKept store.old current.now }
     requires target { IsTarget target }
     requires records { need.structure ≢ Structure.Bytes }
-    ensures found { Finds result
+    ensures { Looks store.old store.new result
         (IsRecordFile (committed store.old) current.now target need)
         (λ refusal. refused_by (file_refusals (card_in store.old) (session_in store.old current.now) target
         (fits need.structure) need.bit) ≡ Some refusal) }
-    ensures store { Reads store.old store.new (failure result) }
 {
     let file = find_file(store, current, target, need)?;
     Ok(RecordFile::of(file.number, &file.entry))
@@ -100,11 +98,10 @@ fn find_record<B: Board>(
 ) -> Result<FileRecord, Stop>
     requires kept { IsKept store.old current.now }
     requires target { IsTarget target }
-    ensures found { Finds result
+    ensures { Looks store.old store.new result
         (λ found. IsChosen (committed store.old) current.now target choice found.file found.slot)
         (λ refusal. refused_by (choice_refusals (card_in store.old) (session_in store.old current.now) target choice)
         ≡ Some refusal) }
-    ensures store { Reads store.old store.new (failure result) }
 {
     let file = find_records(store, current, target, READING)?;
     let number = file.chosen(current.pointer_at(target), choice);
@@ -176,12 +173,11 @@ fn find_replaced<B: Board>(
 ) -> Result<FileRecord, Stop>
     requires kept { IsKept store.old current.now }
     requires target { IsTarget target }
-    ensures found { Finds result
+    ensures { Looks store.old store.new result
         (λ replaced. IsReplaceable (committed store.old) current.now target choice bytes.now replaced.file
         replaced.slot)
         (λ refusal. refused_by (refusals_of (card_in store.old) (session_in store.old current.now)
         (updating target choice bytes.now)) ≡ Some refusal) }
-    ensures store { Reads store.old store.new (failure result) }
 {
     let file = find_records(store, current, target, replacing(choice))?;
     let number = file.replaced(current.pointer_at(target), choice);
@@ -224,11 +220,10 @@ fn find_appended<B: Board>(
 ) -> Result<Growing, Stop>
     requires kept { IsKept store.old current.now }
     requires target { IsTarget target }
-    ensures found { Finds result
+    ensures { Looks store.old store.new result
         (λ growing. IsAppendable (committed store.old) current.now target bytes.now growing.file growing.room)
         (λ refusal. refused_by (refusals_of (card_in store.old) (session_in store.old current.now)
         (appending target bytes.now)) ≡ Some refusal) }
-    ensures store { Reads store.old store.new (failure result) }
 {
     let file = find_records(store, current, target, APPENDING)?;
     let room = file.find_room()?;

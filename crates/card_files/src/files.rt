@@ -1,7 +1,6 @@
 //! Commands on files as such: CREATE FILE and DELETE FILE (ISO/IEC 7816-9).
 ghost use Rattle.std.specs.Prelude.{◌≡◌, ◌||◌, [], true, option_map, Some, IfOk, IfSome, OnOk};
-ghost use Rattle.std.specs.Result.{result_err};
-ghost use Rattle.undo_journal.specs.Calls.{Reads};
+ghost use Rattle.undo_journal.specs.Calls.{Learns};
 ghost use Rattle.undo_journal.specs.Memory.{committed};
 ghost use Rattle.apdu_core.specs.Requests.{create_file as creation, delete_file as deletion};
 ghost use Rattle.card_rules.specs.declared.access_mode.AccessBit.TheVariants.{DeleteChild, DeleteSelf};
@@ -14,7 +13,7 @@ ghost use Rattle.card_machine.specs.Guards.{allowed};
 ghost use Rattle.card_machine.specs.Outcomes.{refused_by};
 ghost use Rattle.card_machine.specs.Reaching.{subject_of};
 ghost use Rattle.card_machine.specs.Served.{Serves};
-ghost use Rattle.card_machine.specs.Stops.{failure, reply, Checks, Finds};
+ghost use Rattle.card_machine.specs.Stops.{Looks, reply, Checks};
 ghost use Rattle.card_machine.specs.Working.{card_in, file_refusal, session_in, space_in, table_in, IsKept};
 
 use apdu_core::{Subject, Sw};
@@ -64,11 +63,10 @@ fn find_new_file<'a, B: Board>(
     template: &'a [u8],
 ) -> Result<Fcp<'a>, Stop>
     requires kept { IsKept store.old current.now }
-    ensures found { Finds result
+    ensures { Looks store.old store.new result
         (λ fcp. IsNewFile (committed store.old) current.now template.now fcp)
         (λ refusal. refused_by (create_refusals (card_in store.old) (session_in store.old current.now) template.now)
         ≡ Some refusal) }
-    ensures store { Reads store.old store.new (failure result) }
 {
     if is_barred(store, current.df)? {
         return Err(Stop::Refused(Sw::CONDITIONS_NOT_SATISFIED));
@@ -136,11 +134,10 @@ fn find_deletable<B: Board>(
 ) -> Result<Named, Stop>
     requires kept { IsKept store.old current.now }
     requires index { IsIndex (table_in store.old) index.now }
-    ensures found { Finds result
+    ensures { Looks store.old store.new result
         (λ file. IsDeletable (committed store.old) current.now subject file.number file.entry)
         (λ refusal. refused_by (delete_refusals (card_in store.old) (session_in store.old current.now) subject)
         ≡ Some refusal) }
-    ensures store { Reads store.old store.new (failure result) }
 {
     let Some(number) = find_subject(store, index, current, subject)? else {
         return Err(Stop::Refused(Sw::FILE_NOT_FOUND));
@@ -165,12 +162,11 @@ fn check_deletion<B: Board>(
     requires kept { IsKept store.old current.now }
     requires used { IsUsed (table_in store.old) number }
     requires above { IsUsed (table_in store.old) parent }
-    ensures refusal { Checks (file_refusal
+    ensures { Checks store.old store.new (file_refusal
         (is_barred_at (card_in store.old).tree (path_of (table_in store.old) parent)) true
         (allowed (card_in store.old) (session_in store.old current.now) (path_of (table_in store.old) number) DeleteSelf
         || allowed (card_in store.old) (session_in store.old current.now) (path_of (table_in store.old) parent)
         DeleteChild)) result }
-    ensures store { Reads store.old store.new (failure result) }
 {
     let barred = is_barred(store, parent)?;
     let own = allows(store, current, number, AccessBit::DeleteSelf)?;
@@ -194,10 +190,10 @@ fn find_subject<B: Board>(
 ) -> Result<Option<u8>, StoreErr>
     requires kept { IsKept store.old current.now }
     requires index { IsIndex (table_in store.old) index.now }
-    ensures found { IfOk result (λ found. subject_of (card_in store.old).tree (session_in store.old current.now) subject
+    ensures found { Learns store.old store.new result
+        (λ found. subject_of (card_in store.old).tree (session_in store.old current.now) subject
         ≡ option_map (path_of (table_in store.old)) found) }
     ensures used { IfOk result (λ found. IfSome found (IsUsed (table_in store.old))) }
-    ensures store { Reads store.old store.new (result_err result) }
 {
     match subject {
         Subject::Current => Ok(Some(current.ef.unwrap_or(current.df))),

@@ -1,8 +1,7 @@
 //! Commands on life cycles: ACTIVATE FILE, DEACTIVATE FILE, TERMINATE DF, TERMINATE EF and TERMINATE CARD USAGE
 //! (ISO/IEC 7816-9).
 ghost use Rattle.std.specs.Prelude.{◌≡◌, [], Some, option_map, IfOk, IfSome, OnOk, Ok, Err};
-ghost use Rattle.std.specs.Result.{result_err};
-ghost use Rattle.undo_journal.specs.Calls.{Reads};
+ghost use Rattle.undo_journal.specs.Calls.{Learns};
 ghost use Rattle.undo_journal.specs.Memory.{committed};
 ghost use Rattle.apdu_core.specs.Requests.{change_life_cycle as changing, terminate_card_usage as terminating};
 ghost use Rattle.file_tree.specs.Indexes.{IsIndex};
@@ -11,7 +10,7 @@ ghost use Rattle.card_files.specs.Changing.{change_at, changed_by, current_chang
 ghost use Rattle.card_machine.specs.LifeCycles.{change_bit, change_refusals, changed_file, command_of, no_subject};
 ghost use Rattle.card_machine.specs.Outcomes.{refused_by};
 ghost use Rattle.card_machine.specs.Served.{Serves};
-ghost use Rattle.card_machine.specs.Stops.{failure, reply, Finds};
+ghost use Rattle.card_machine.specs.Stops.{Looks, reply};
 ghost use Rattle.card_machine.specs.Working.{card_in, session_in, space_in, table_in, IsKept};
 
 use apdu_core::{LifeCycleChange, Subject, Sw};
@@ -76,11 +75,10 @@ fn find_change<B: Board>(
 ) -> Result<Changed, Stop>
     requires kept { IsKept store.old current.now }
     requires index { IsIndex (table_in store.old) index.now }
-    ensures found { Finds result
+    ensures { Looks store.old store.new result
         (λ changed. IsChanged (committed store.old) current.now change subject changed)
         (λ refusal. refused_by (change_refusals (card_in store.old) (session_in store.old current.now) change subject)
         ≡ Some refusal) }
-    ensures store { Reads store.old store.new (failure result) }
 {
     let Some(number) = find_changed(store, index, current, change, subject)? else {
         return Err(Stop::Refused(no_subject(subject)));
@@ -99,9 +97,9 @@ fn read_change<B: Board>(
 ) -> Result<Changed, Stop>
     requires kept { IsKept store.old current.now }
     requires used { IsUsed (table_in store.old) number }
-    ensures found { Finds result (λ changed. change_at (committed store.old) current.now change number ≡ Ok changed)
+    ensures { Looks store.old store.new result
+        (λ changed. change_at (committed store.old) current.now change number ≡ Ok changed)
         (λ refusal. change_at (committed store.old) current.now change number ≡ Err refusal) }
-    ensures store { Reads store.old store.new (failure result) }
 {
     let next = next_life_cycle(store, number, command_of(change))?;
     let allowed = allows(store, current, number, bit_of(change))?;
@@ -146,11 +144,10 @@ fn find_changed<B: Board>(
 ) -> Result<Option<u8>, StoreErr>
     requires kept { IsKept store.old current.now }
     requires index { IsIndex (table_in store.old) index.now }
-    ensures found { IfOk result
+    ensures found { Learns store.old store.new result
         (λ found. changed_file (card_in store.old).tree (session_in store.old current.now) change subject
         ≡ option_map (path_of (table_in store.old)) found) }
     ensures used { IfOk result (λ found. IfSome found (IsUsed (table_in store.old))) }
-    ensures store { Reads store.old store.new (result_err result) }
 {
     match subject {
         Subject::Current => Ok(current_changed(current, change)),

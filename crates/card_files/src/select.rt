@@ -1,7 +1,7 @@
 //! SELECT (ISO/IEC 7816-4, 11.2.2).
 ghost use Rattle.std.specs.Prelude.{◌≡◌, ◌<◌, [], None, Some, option_map, IfOk, IfSome, OnErr};
 ghost use Rattle.std.specs.Result.{result_err};
-ghost use Rattle.undo_journal.specs.Calls.{Reads};
+ghost use Rattle.undo_journal.specs.Calls.{Learns};
 ghost use Rattle.undo_journal.specs.Memory.{IsReady};
 ghost use Rattle.apdu_core.specs.Ranges.{IsFilePath, IsSelector};
 ghost use Rattle.apdu_core.specs.Requests.{select as selection};
@@ -11,7 +11,7 @@ ghost use Rattle.file_tree.specs.Table.{entry_in, path_of, IsUsed};
 ghost use Rattle.card_machine.specs.Reaching.{selected_from};
 ghost use Rattle.card_machine.specs.Selecting.{selection_status};
 ghost use Rattle.card_machine.specs.Served.{Serves};
-ghost use Rattle.card_machine.specs.Stops.{failure, reply, Finds};
+ghost use Rattle.card_machine.specs.Stops.{Looks, reply};
 ghost use Rattle.card_machine.specs.Working.{card_in, data_in, session_in, table_in, template_in, IsGiven, IsKept};
 ghost use Rattle.card_machine.specs.Working.{IsToldEntry};
 
@@ -66,11 +66,10 @@ fn find_selected<B: Board>(
     requires kept { IsKept store.old current }
     requires index { IsIndex (table_in store.old) index.now }
     requires selector { IsSelector selector }
-    ensures found { IfOk result (λ found. selected_from (card_in store.old).tree (session_in store.old
+    ensures found { Learns store.old store.new result (λ found. selected_from (card_in store.old).tree (session_in store.old
         current).current_df (selection_of selector.entry)
         ≡ option_map (path_of (table_in store.old)) found) }
     ensures used { IfOk result (λ found. IfSome found (IsUsed (table_in store.old))) }
-    ensures store { Reads store.old store.new (result_err result) }
 {
     match selector {
         Selector::MasterFile => Ok(Some(0)),
@@ -111,12 +110,11 @@ fn give_data<B: Board>(
     requires within { e < 64 }
     requires told { IsToldEntry (entry_in (table_in store.old) e) }
     requires empty { answer.old.items ≡ [] }
-    ensures data { Finds result
+    ensures data { Looks store.old store.new result
         (λ _. IsGiven expected (data_in returned (entry_in (table_in store.old) e)) answer.new.items None)
         (λ refusal. IsGiven expected (data_in returned (entry_in (table_in store.old) e))
         answer.new.items (Some refusal)) }
     ensures nothing { OnErr result (answer.new.items ≡ []) }
-    ensures store { Reads store.old store.new (failure result) }
 {
     match returned {
         Returned::Nothing => Ok(()),

@@ -1,15 +1,13 @@
 //! What the rule of a file allows in a session: by the PINs that are verified in it, and those that are disabled.
-ghost use Rattle.std.specs.Prelude.{◌≡◌, ◌<◌, ◌+◌, IfOk};
+ghost use Rattle.std.specs.Prelude.{◌≡◌, ◌<◌, ◌+◌};
 ghost use Rattle.card_rules.specs.Pins.{with_pin};
 ghost use Rattle.pin_store.specs.declared.layout.TheConstants.{PINS};
-ghost use Rattle.std.specs.Result.{result_err};
-ghost use Rattle.undo_journal.specs.Calls.{Reads};
+ghost use Rattle.undo_journal.specs.Calls.{Learns};
 ghost use Rattle.undo_journal.specs.Memory.{committed, IsReady};
 ghost use Rattle.file_tree.specs.Entries.{is_allowed_by};
 ghost use Rattle.file_tree.specs.Table.{path_of, IsUsed};
 ghost use Rattle.card_machine.specs.Guards.{allowed};
-ghost use Rattle.card_machine.specs.Standing.{IsCard};
-ghost use Rattle.card_machine.specs.Working.{card_in, disabled_in, session_in, table_in, IsCurrent};
+ghost use Rattle.card_machine.specs.Working.{card_in, disabled_in, session_in, table_in, IsKept};
 
 use crate::current::Current;
 use card_rules::{AccessBit, PinNumber, PinSet};
@@ -21,8 +19,7 @@ use undo_journal::{Board, Store, StoreErr};
 /// The PINs that are disabled.
 fn disabled_pins<B: Board>(store: &mut Store<B>) -> Result<PinSet, StoreErr>
     requires ready { IsReady store.old }
-    ensures disabled { IfOk result (λ disabled. disabled ≡ disabled_in (committed store.old)) }
-    ensures store { Reads store.old store.new (result_err result) }
+    ensures { Learns store.old store.new result (λ disabled. disabled ≡ disabled_in (committed store.old)) }
 {
     let mut disabled = PinSet::new();
     for secret in 0..PINS {
@@ -50,13 +47,10 @@ pub fn allows<B: Board>(
     number: u8,
     bit: AccessBit,
 ) -> Result<bool, StoreErr>
-    requires ready { IsReady store.old }
-    requires card { IsCard (committed store.old) }
-    requires current { IsCurrent (table_in store.old) current.now }
+    requires kept { IsKept store.old current.now }
     requires used { IsUsed (table_in store.old) number }
-    ensures allowed { IfOk result (λ permits. permits
+    ensures { Learns store.old store.new result (λ permits. permits
         ≡ allowed (card_in store.old) (session_in store.old current.now) (path_of (table_in store.old) number) bit) }
-    ensures store { Reads store.old store.new (result_err result) }
 {
     let disabled = disabled_pins(store)?;
     is_allowed(store, number, bit, &current.verified, &disabled)
@@ -71,9 +65,8 @@ pub(crate) fn allows_at<B: Board>(
     bit: AccessBit,
 ) -> Result<bool, StoreErr>
     requires ready { IsReady store.old }
-    ensures allowed { IfOk result (λ permits. permits
+    ensures { Learns store.old store.new result (λ permits. permits
         ≡ is_allowed_by entry.now bit current.now.verified (disabled_in (committed store.old))) }
-    ensures store { Reads store.old store.new (result_err result) }
 {
     if is_allowed_at(entry, bit, &current.verified, &PinSet::new()) {
         return Ok(true);

@@ -2,7 +2,7 @@
 //! and what refuses the command by that file.
 ghost use Rattle.std.specs.Prelude.{◌≡◌, Some, option_map, IfOk, IfSome};
 ghost use Rattle.std.specs.Result.{result_err};
-ghost use Rattle.undo_journal.specs.Calls.{Reads};
+ghost use Rattle.undo_journal.specs.Calls.{Learns};
 ghost use Rattle.undo_journal.specs.Memory.{committed};
 ghost use Rattle.apdu_core.specs.Ranges.{IsTarget};
 ghost use Rattle.file_tree.specs.States.{is_barred};
@@ -11,7 +11,7 @@ ghost use Rattle.card_machine.specs.Elementary.{file_refusals, missing as missin
 ghost use Rattle.card_machine.specs.Guards.{allowed};
 ghost use Rattle.card_machine.specs.Outcomes.{refused_by};
 ghost use Rattle.card_machine.specs.Reaching.{target_of};
-ghost use Rattle.card_machine.specs.Stops.{failure, Checks, Finds};
+ghost use Rattle.card_machine.specs.Stops.{Checks, Looks};
 ghost use Rattle.card_machine.specs.Working.{card_in, file_refusal, fits, fits_kind, session_in, table_in};
 ghost use Rattle.card_machine.specs.Working.{IsElementary, IsKept, IsNamed};
 
@@ -62,11 +62,10 @@ pub fn find_file<B: Board>(
 ) -> Result<Named, Stop>
     requires kept { IsKept store.old current.now }
     requires target { IsTarget target }
-    ensures found { Finds result
+    ensures { Looks store.old store.new result
         (λ file. IsNamed (committed store.old) current.now target need file.number file.entry)
         (λ refusal. refused_by (file_refusals (card_in store.old) (session_in store.old current.now) target
         (fits need.structure) need.bit) ≡ Some refusal) }
-    ensures store { Reads store.old store.new (failure result) }
 {
     let Some(number) = find_target(store, current, target)? else {
         return Err(Stop::Refused(missing(target)));
@@ -88,11 +87,10 @@ fn check_file<B: Board>(
     requires kept { IsKept store.old current.now }
     requires used { IsUsed (table_in store.old) number }
     requires entry { entry.now ≡ entry_in (table_in store.old) number }
-    ensures refusal { Checks (file_refusal
+    ensures { Checks store.old store.new (file_refusal
         (is_barred (card_in store.old).tree (path_of (table_in store.old) number))
         (fits_kind need.structure entry.now.kind) (allowed (card_in store.old) (session_in store.old current.now)
         (path_of (table_in store.old) number) need.bit)) result }
-    ensures store { Reads store.old store.new (failure result) }
 {
     let findings = Findings {
         barred: is_barred_at(store, number, entry)?,
@@ -153,10 +151,10 @@ pub(crate) fn find_target<B: Board>(
 ) -> Result<Option<u8>, StoreErr>
     requires kept { IsKept store.old current.now }
     requires target { IsTarget target }
-    ensures found { IfOk result (λ found. target_of (card_in store.old).tree (session_in store.old current.now) target
+    ensures found { Learns store.old store.new result
+        (λ found. target_of (card_in store.old).tree (session_in store.old current.now) target
         ≡ option_map (path_of (table_in store.old)) found) }
     ensures child { IfOk result (λ found. IfSome found (IsElementary (table_in store.old) current.now.df)) }
-    ensures store { Reads store.old store.new (result_err result) }
 {
     match target {
         Target::Current => Ok(current.ef),

@@ -21,13 +21,13 @@ returns-in_err-file g c =
     halted (read_binary c.args.target c.args.offset c.args.expected) old x c.find_file.new.store (λ _. tt)
     c.requires.kept.card c.requires.kept.current c.args.answer.now.items c.requires.empty _ _ c.from_residual.ensures.1
     c.in_err-file.ensures.store _ (read-refused (card_in old) (session_in old x) c.args.target c.args.offset
-    c.args.expected) c.in_err-file.ensures.found
+    c.args.expected) c.in_err-file.ensures.told
 
 pub read-requires : goal.read-requires
 read-requires g c =
     let stands = found-body (committed c.args.store.now) c.requires.kept.ready.usable.committed_size
     c.requires.kept.card c.args.current.now c.args.target Read c.in_ok-file.file.number c.in_ok-file.file.entry
-    c.in_ok-file.ensures.found c.body_of-body.result c.body_of-body.ensures (committed c.find_file.new.store)
+    c.in_ok-file.ensures.told c.body_of-body.result c.body_of-body.ensures (committed c.find_file.new.store)
     c.find_file.ensures.store.only.keeps.committed_words in
     let most = asked-most c.args.expected (omega arith) in
     (lit< tt, (c.in_ok-file.ensures.store.ready, (stands, omega (arith, most, c.most_of.ensures))))
@@ -50,7 +50,7 @@ returns-in_err-read g c =
     (body-said _ _ _ e c.in_err-read.ensures.refusal c.in_err-read.ensures.refused (λ status past kept. (
       kept.0,
       found-read-past (committed old) c.requires.kept.ready.usable.committed_size c.requires.kept.card x c.args.target
-          c.in_ok-file.file.number c.in_ok-file.file.entry c.in_ok-file.ensures.found c.body_of-body.result
+          c.in_ok-file.file.number c.in_ok-file.file.entry c.in_ok-file.ensures.told c.body_of-body.result
           c.body_of-body.ensures (committed mid) c.find_file.ensures.store.only.keeps.committed_words c.args.offset
           c.args.expected status past,
     )))
@@ -62,7 +62,7 @@ returns g c =
     let mid = c.find_file.new.store in
     let new = c.read.new.store in
     let request = read_binary c.args.target c.args.offset c.args.expected in
-    let found = c.in_ok-file.ensures.found in
+    let found = c.in_ok-file.ensures.told in
     let e = c.in_ok-file.file.number in
     let body = c.body_of-body.result in
     let text = c.read.new.bytes.items in

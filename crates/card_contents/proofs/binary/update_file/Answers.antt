@@ -21,7 +21,7 @@ returns-in_err-file-clause-serves g c =
     halted (update_binary c.args.target c.args.offset c.args.bytes.now) old x c.find_file.new.store (λ _. tt)
     c.requires.kept.card c.requires.kept.current [] refl _ _ c.from_residual.ensures.1 c.in_err-file.ensures.store _
     (update-refused (card_in old) (session_in old x) c.args.target c.args.offset c.args.bytes.now)
-    c.in_err-file.ensures.found
+    c.in_err-file.ensures.told
 
 pub returns-in_err-file-clause-space : goal.returns-in_err-file-clause-space
 returns-in_err-file-clause-space g c =
@@ -31,7 +31,7 @@ returns-in_err-file-clause-space g c =
 pub update-requires-clause-body : goal.update-requires-clause-body
 update-requires-clause-body g c =
     found-body (committed c.args.store.now) c.requires.kept.ready.usable.committed_size c.requires.kept.card
-    c.args.current.now c.args.target Update c.in_ok-file.file.number c.in_ok-file.file.entry c.in_ok-file.ensures.found
+    c.args.current.now c.args.target Update c.in_ok-file.file.number c.in_ok-file.file.entry c.in_ok-file.ensures.told
     c.body_of-body.result c.body_of-body.ensures (committed c.find_file.new.store)
     c.find_file.ensures.store.only.keeps.committed_words
 
@@ -40,7 +40,7 @@ returns-in_err-update-clause-serves g c =
     let old = c.args.store.now in
     let mid = c.find_file.new.store in
     found-stopped old mid c.requires.kept.ready c.requires.kept.card c.args.current.now c.args.target
-    c.in_ok-file.file.number c.in_ok-file.file.entry c.in_ok-file.ensures.found c.body_of-body.result
+    c.in_ok-file.file.number c.in_ok-file.file.entry c.in_ok-file.ensures.told c.body_of-body.result
     c.body_of-body.ensures c.args.offset c.args.bytes.now c.find_file.ensures.store.only c.requires.kept.current
     c.in_ok-file.ensures.store.ready
     c.update.new.store c.update.ensures.any_exit c.update.ensures.by_gate c.update.ensures.store.reports
@@ -64,7 +64,7 @@ returns-clause-serves g c =
     let request = update_binary c.args.target c.args.offset c.args.bytes.now in
     subst (λ (y : Current). Serves request old x new y [] (Ok DONE)) (sym c.naming.ensures)
     (found-made old mid c.requires.kept.ready c.requires.kept.card x c.args.target c.in_ok-file.file.number
-    c.in_ok-file.file.entry c.in_ok-file.ensures.found c.body_of-body.result
+    c.in_ok-file.file.entry c.in_ok-file.ensures.told c.body_of-body.result
     c.body_of-body.ensures c.args.offset c.args.bytes.now c.find_file.ensures.store.only c.in_ok-update.ensures.refusal
     new c.update.ensures.any_exit c.update.ensures.by_gate c.update.ensures.store.reports c.update.ensures.store.writes
     c.in_ok-update.ensures.done c.in_ok-update.ensures.store.ready c.requires.kept.current)
@@ -76,7 +76,7 @@ returns-clause-space g c =
     let mid = c.find_file.new.store in
     let new = c.update.new.store in
     found-space old mid c.requires.kept.ready c.requires.kept.card x c.args.target c.in_ok-file.file.number
-    c.in_ok-file.file.entry c.in_ok-file.ensures.found c.body_of-body.result
+    c.in_ok-file.file.entry c.in_ok-file.ensures.told c.body_of-body.result
     c.body_of-body.ensures c.args.offset c.args.bytes.now c.find_file.ensures.store.only c.in_ok-update.ensures.refusal
     new c.update.ensures.any_exit c.update.ensures.by_gate c.update.ensures.store.reports c.update.ensures.store.writes
     c.in_ok-update.ensures.done

@@ -16,28 +16,28 @@ use Rattle.card_contents.proofs.increasing.increase.Goals as goal
 
 pub replace_oldest-requires-clause-body : goal.replace_oldest-requires-clause-body
 replace_oldest-requires-clause-body g c =
-    let found = c.in_ok-found.ensures.found in
+    let found = c.in_ok-found.ensures.told in
     increased-body c.args.store.now c.find_increased.new.store c.find_increased.new.store c.requires.kept.ready
     c.requires.kept.card c.args.current.now c.requires.kept.current c.find_increased.ensures.store.only _ _ _ _ _
     found _ c.deref.ensures.0
 
 pub replace_oldest-requires-clause-size : goal.replace_oldest-requires-clause-size
 replace_oldest-requires-clause-size g c =
-    let found = c.in_ok-found.ensures.found in
+    let found = c.in_ok-found.ensures.told in
     increased-long c.args.store.now c.find_increased.new.store c.find_increased.new.store c.requires.kept.ready
     c.requires.kept.card c.args.current.now c.requires.kept.current c.find_increased.ensures.store.only _ _ _ _ _
     found _ c.deref.ensures.0
 
 pub answer_of-requires : goal.answer_of-requires
 answer_of-requires g c =
-    let found = c.in_ok-found.ensures.found in
+    let found = c.in_ok-found.ensures.told in
     increased-short c.args.store.now c.find_increased.new.store c.find_increased.new.store c.requires.kept.ready
     c.requires.kept.card c.args.current.now c.requires.kept.current c.find_increased.ensures.store.only _ _ _ _ _
     found _ c.deref.ensures.0
 
 pub returns-in_err-replace_oldest-clause-serves : goal.returns-in_err-replace_oldest-clause-serves
 returns-in_err-replace_oldest-clause-serves g c =
-    let found = c.in_ok-found.ensures.found in
+    let found = c.in_ok-found.ensures.told in
     increased-torn c.args.store.now c.find_increased.new.store c.replace_oldest.new.store c.requires.kept.ready
     c.requires.kept.card
     c.args.current.now c.requires.kept.current c.find_increased.ensures.store.only _ _ _ _ _ found _ c.deref.ensures.0
@@ -49,7 +49,7 @@ pub returns-clause-serves : goal.returns-clause-serves
 returns-clause-serves g c =
     let old = c.args.store.now in
     let x = c.args.current.now in
-    let found = c.in_ok-found.ensures.found in
+    let found = c.in_ok-found.ensures.told in
     subst (λ (y : Current). Serves (increase c.args.amount.now c.args.expected) old x c.replace_oldest.new.store y
     c.give.new.answer.items (Ok DONE)) (sym c.pointing.ensures)
     (increased-done old c.find_increased.new.store c.replace_oldest.new.store c.requires.kept.ready
@@ -63,7 +63,7 @@ returns-clause-serves g c =
 
 pub returns-clause-space : goal.returns-clause-space
 returns-clause-space g c =
-    let found = c.in_ok-found.ensures.found in
+    let found = c.in_ok-found.ensures.told in
     increased-space c.args.store.now c.find_increased.new.store c.replace_oldest.new.store c.requires.kept.ready
     c.requires.kept.card
     c.args.current.now c.requires.kept.current c.find_increased.ensures.store.only _ _ _ _ _ found _ c.deref.ensures.0
@@ -77,7 +77,7 @@ returns-in_err-found-clause-serves g c =
     let request = increase c.args.amount.now c.args.expected in
     halted request old x c.find_increased.new.store (λ _. tt) c.requires.kept.card c.requires.kept.current
     c.args.answer.now.items c.requires.empty _ _ c.from_residual.ensures.1 c.in_err-found.ensures.store _
-    (λ status. served-refused (card_in old) (session_in old x) request status) c.in_err-found.ensures.found
+    (λ status. served-refused (card_in old) (session_in old x) request status) c.in_err-found.ensures.told
 
 pub returns-in_err-found-clause-space : goal.returns-in_err-found-clause-space
 returns-in_err-found-clause-space g c =

@@ -15,20 +15,20 @@ use Rattle.card_contents.proofs.records.append_record.Goals as goal
 
 pub fill-requires-clause-body : goal.fill-requires-clause-body
 fill-requires-clause-body g c =
-    let found = c.in_ok-growing.ensures.found in
+    let found = c.in_ok-growing.ensures.told in
     appended-body c.args.store.now c.find_appended.new.store c.find_appended.new.store c.requires.kept.ready
     c.requires.kept.card c.args.current.now c.requires.kept.current c.find_appended.ensures.store.only _ _ _ _ found
 
 pub fill-requires-clause-size : goal.fill-requires-clause-size
 fill-requires-clause-size g c =
-    let found = c.in_ok-growing.ensures.found in
+    let found = c.in_ok-growing.ensures.told in
     appended-long c.args.store.now c.find_appended.new.store c.find_appended.new.store c.requires.kept.ready
     c.requires.kept.card
     c.args.current.now c.requires.kept.current c.find_appended.ensures.store.only _ _ _ _ found
 
 pub returns-in_err-fill-clause-serves : goal.returns-in_err-fill-clause-serves
 returns-in_err-fill-clause-serves g c =
-    let found = c.in_ok-growing.ensures.found in
+    let found = c.in_ok-growing.ensures.told in
     appended-torn c.args.store.now c.find_appended.new.store c.fill.new.store c.requires.kept.ready c.requires.kept.card
     c.args.current.now c.requires.kept.current c.find_appended.ensures.store.only _ _ _ _ found
     c.fill.ensures.any_exit c.fill.ensures.by_gate _
@@ -36,7 +36,7 @@ returns-in_err-fill-clause-serves g c =
 
 pub added-requires : goal.added-requires
 added-requires g c =
-    let found = c.in_ok-growing.ensures.found in
+    let found = c.in_ok-growing.ensures.told in
     appended-few c.args.store.now c.find_appended.new.store c.find_appended.new.store c.requires.kept.ready
     c.requires.kept.card c.args.current.now c.requires.kept.current c.find_appended.ensures.store.only _ _ _ _ found
 
@@ -45,7 +45,7 @@ returns-clause-serves g c =
     let old = c.args.store.now in
     let x = c.args.current.now in
     let growing = c.in_ok-growing.growing in
-    let found = c.in_ok-growing.ensures.found in
+    let found = c.in_ok-growing.ensures.told in
     subst (λ (y : Current). Serves (append_record c.args.target c.args.bytes.now) old x c.fill.new.store y []
     (Ok DONE)) (sym c.pointing.ensures)
     (appended-done old c.find_appended.new.store c.fill.new.store c.requires.kept.ready c.requires.kept.card x
@@ -56,7 +56,7 @@ returns-clause-serves g c =
 
 pub returns-clause-space : goal.returns-clause-space
 returns-clause-space g c =
-    let found = c.in_ok-growing.ensures.found in
+    let found = c.in_ok-growing.ensures.told in
     appended-space c.args.store.now c.find_appended.new.store c.fill.new.store c.requires.kept.ready
     c.requires.kept.card
     c.args.current.now c.requires.kept.current c.find_appended.ensures.store.only _ _ _ _ found
@@ -70,7 +70,7 @@ returns-in_err-growing-clause-serves g c =
     let request = append_record c.args.target c.args.bytes.now in
     halted request old x c.find_appended.new.store (λ _. tt) c.requires.kept.card c.requires.kept.current [] refl _ _
     c.from_residual.ensures.1 c.in_err-growing.ensures.store _
-    (λ status. served-refused (card_in old) (session_in old x) request status) c.in_err-growing.ensures.found
+    (λ status. served-refused (card_in old) (session_in old x) request status) c.in_err-growing.ensures.told
 
 pub returns-in_err-growing-clause-space : goal.returns-in_err-growing-clause-space
 returns-in_err-growing-clause-space g c =

@@ -21,7 +21,7 @@ use Rattle.card_contents.proofs.records.read_record.Goals as goal
 
 pub read-requires : goal.read-requires
 read-requires g c =
-    let found = c.in_ok-found.ensures.found in
+    let found = c.in_ok-found.ensures.told in
     let stands = chosen-body (committed c.args.store.now) c.requires.kept.ready.usable.committed_size
     c.requires.kept.card
     c.args.current.now c.args.target _ _ _ found _ c.find_record.ensures.store.only.keeps.committed_words in
@@ -35,7 +35,7 @@ returns-then-is_other_length g c =
     let x = c.args.current.now in
     let file = c.in_ok-found.found.file in
     let same = c.find_record.ensures.store.only.keeps.committed_words in
-    let found = c.in_ok-found.ensures.found in
+    let found = c.in_ok-found.ensures.told in
     let number = found.number_is in
     let has = chosen-has _ _ _ _ _ _ found in
     let text : c.read.new.bytes.items ≡ record_of (cyclic_records (committed old) file.ring) (chosen_in file
@@ -55,7 +55,7 @@ returns-then-is_other_length g c =
 
 pub pointer_after-pointer-requires : goal.pointer_after-pointer-requires
 pointer_after-pointer-requires g c =
-    let found = c.in_ok-found.ensures.found in
+    let found = c.in_ok-found.ensures.told in
     let stands = chosen-body (committed c.args.store.now) c.requires.kept.ready.usable.committed_size
     c.requires.kept.card
     c.args.current.now c.args.target _ _ _ found _ refl in
@@ -70,7 +70,7 @@ returns g c =
     let e = c.in_ok-found.found.file.number in
     let sized = c.requires.kept.ready.usable.committed_size in
     let same = c.find_record.ensures.store.only.keeps.committed_words in
-    let found = c.in_ok-found.ensures.found in
+    let found = c.in_ok-found.ensures.told in
     let number = found.number_is in
     let has = chosen-has _ _ _ _ _ _ found in
     let text : c.read.new.bytes.items ≡ record_of (cyclic_records (committed old) file.ring) (chosen_in file
@@ -110,7 +110,7 @@ returns-in_err-found g c =
     c.requires.kept.card c.requires.kept.current c.args.answer.now.items c.requires.empty _ _ c.from_residual.ensures.1
     c.in_err-found.ensures.store _
     (λ status refused. read-refused (card_in old) (session_in old x) c.args.target status c.args.choice refused
-    c.args.expected) c.in_err-found.ensures.found
+    c.args.expected) c.in_err-found.ensures.told
 
 pub returns-in_err-read : goal.returns-in_err-read
 returns-in_err-read g c =

@@ -18,7 +18,7 @@ use Rattle.card_contents.proofs.records.search_record.Goals as goal
 
 pub search-requires : goal.search-requires
 search-requires g c =
-    let found = c.in_ok-found.ensures.found in
+    let found = c.in_ok-found.ensures.told in
     let stands = chosen-body (committed c.args.store.now) c.requires.kept.ready.usable.committed_size
     c.requires.kept.card
     c.args.current.now c.args.target _ _ _ found _ c.find_record.ensures.store.only.keeps.committed_words in
@@ -33,7 +33,7 @@ returns-then-asks_less g c =
     let x = c.args.current.now in
     let file = c.in_ok-found.found.file in
     let same = c.find_record.ensures.store.only.keeps.committed_words in
-    let found = c.in_ok-found.ensures.found in
+    let found = c.in_ok-found.ensures.told in
     let number : c.in_ok-found.found.slot.number ≡ place_number c.args.first (pointer_from x c.args.target) =
     found.number_is in
     let has = chosen-has _ _ _ _ _ _ found in
@@ -62,7 +62,7 @@ returns g c =
     let e = c.in_ok-found.found.file.number in
     let sized = c.requires.kept.ready.usable.committed_size in
     let same = c.find_record.ensures.store.only.keeps.committed_words in
-    let found = c.in_ok-found.ensures.found in
+    let found = c.in_ok-found.ensures.told in
     let number : c.in_ok-found.found.slot.number ≡ place_number c.args.first (pointer_from x c.args.target) =
     found.number_is in
     let has = chosen-has _ _ _ _ _ _ found in
@@ -103,7 +103,7 @@ returns-in_err-found g c =
     c.find_record.new.store (λ _. tt) c.requires.kept.card c.requires.kept.current
     c.args.answer.now.items c.requires.empty _ _ c.from_residual.ensures.1 c.in_err-found.ensures.store _
     (λ status refused. search-refused (card_in old) (session_in old x) c.args.target status c.args.first refused
-    c.args.direction c.args.text.now c.args.expected) c.in_err-found.ensures.found
+    c.args.direction c.args.text.now c.args.expected) c.in_err-found.ensures.told
 
 pub returns-in_err-search : goal.returns-in_err-search
 returns-in_err-search g c =

@@ -16,20 +16,20 @@ use Rattle.card_contents.proofs.records.update_record.Goals as goal
 
 pub replace-requires-clause-body : goal.replace-requires-clause-body
 replace-requires-clause-body g c =
-    let found = c.in_ok-replaced.ensures.found in
+    let found = c.in_ok-replaced.ensures.told in
     replaced-body c.args.store.now c.find_replaced.new.store c.find_replaced.new.store c.requires.kept.ready
     c.requires.kept.card c.args.current.now c.requires.kept.current c.find_replaced.ensures.store.only _ _ _ _ _ found
 
 pub replace-requires-clause-size : goal.replace-requires-clause-size
 replace-requires-clause-size g c =
-    let found = c.in_ok-replaced.ensures.found in
+    let found = c.in_ok-replaced.ensures.told in
     replaced-long c.args.store.now c.find_replaced.new.store c.find_replaced.new.store c.requires.kept.ready
     c.requires.kept.card
     c.args.current.now c.requires.kept.current c.find_replaced.ensures.store.only _ _ _ _ _ found
 
 pub returns-in_err-replace-clause-serves : goal.returns-in_err-replace-clause-serves
 returns-in_err-replace-clause-serves g c =
-    let found = c.in_ok-replaced.ensures.found in
+    let found = c.in_ok-replaced.ensures.told in
     replaced-torn c.args.store.now c.find_replaced.new.store c.replace.new.store c.requires.kept.ready
     c.requires.kept.card
     c.args.current.now c.requires.kept.current c.find_replaced.ensures.store.only _ _ _ _ _ found
@@ -38,7 +38,7 @@ returns-in_err-replace-clause-serves g c =
 
 pub pointer_replaced-after-requires : goal.pointer_replaced-after-requires
 pointer_replaced-after-requires g c =
-    let found = c.in_ok-replaced.ensures.found in
+    let found = c.in_ok-replaced.ensures.told in
     replaced-few c.args.store.now c.find_replaced.new.store c.find_replaced.new.store c.requires.kept.ready
     c.requires.kept.card c.args.current.now c.requires.kept.current c.find_replaced.ensures.store.only _ _ _ _ _ found
 
@@ -49,7 +49,7 @@ returns-clause-serves g c =
     let file = c.in_ok-replaced.replaced.file in
     let slot = c.in_ok-replaced.replaced.slot in
     let choice = c.args.choice in
-    let found = c.in_ok-replaced.ensures.found in
+    let found = c.in_ok-replaced.ensures.told in
     subst (λ (y : Current). Serves (update_record c.args.target choice c.args.bytes.now) old x c.replace.new.store y []
     (Ok DONE)) (sym c.pointing.ensures)
     (replaced-done old c.find_replaced.new.store c.replace.new.store c.requires.kept.ready c.requires.kept.card x
@@ -61,7 +61,7 @@ returns-clause-serves g c =
 
 pub returns-clause-space : goal.returns-clause-space
 returns-clause-space g c =
-    let found = c.in_ok-replaced.ensures.found in
+    let found = c.in_ok-replaced.ensures.told in
     replaced-space c.args.store.now c.find_replaced.new.store c.replace.new.store c.requires.kept.ready
     c.requires.kept.card
     c.args.current.now c.requires.kept.current c.find_replaced.ensures.store.only _ _ _ _ _ found
@@ -74,7 +74,7 @@ returns-in_err-replaced-clause-serves g c =
     let request = update_record c.args.target c.args.choice c.args.bytes.now in
     halted request old x c.find_replaced.new.store (λ _. tt) c.requires.kept.card c.requires.kept.current [] refl _ _
     c.from_residual.ensures.1 c.in_err-replaced.ensures.store _
-    (λ status. served-refused (card_in old) (session_in old x) request status) c.in_err-replaced.ensures.found
+    (λ status. served-refused (card_in old) (session_in old x) request status) c.in_err-replaced.ensures.told
 
 pub returns-in_err-replaced-clause-space : goal.returns-in_err-replaced-clause-space
 returns-in_err-replaced-clause-space g c =

@@ -20,7 +20,7 @@ use Rattle.card_files.proofs.files.create_file.Goals as goal
 
 pub returns-in_err-entry-clause-serves : goal.returns-in_err-entry-clause-serves
 returns-in_err-entry-clause-serves g c =
-    let found = c.in_ok-fcp.ensures.found in
+    let found = c.in_ok-fcp.ensures.told in
     creation-torn _ c.find_new_file.new.store c.create.new.store c.requires.kept.ready
     c.requires.kept.card c.args.current.now c.requires.kept.current c.args.template.now c.in_ok-fcp.fcp found
     c.find_new_file.ensures.store.only _ _ (reply-failed _ _ c.from_residual-in_err-entry.ensures.1)
@@ -30,7 +30,7 @@ returns-in_err-entry-clause-serves g c =
 pub returns-in-Refused-clause-serves : goal.returns-in-Refused-clause-serves
 returns-in-Refused-clause-serves g c =
     let x = c.args.current.now in
-    let found = c.in_ok-fcp.ensures.found in
+    let found = c.in_ok-fcp.ensures.told in
     let tells = subst (λ (creation : Creation). TellsCreation (committed c.find_new_file.new.store) x.df c.in_ok-fcp.fcp
     creation (committed c.create.new.store)) c.in-Refused.is c.in_ok-entry.ensures.done in
     creation-refused _ c.find_new_file.new.store c.create.new.store c.requires.kept.ready c.requires.kept.card x
@@ -39,7 +39,7 @@ returns-in-Refused-clause-serves g c =
 
 pub read_entry-requires-clause-within : goal.read_entry-requires-clause-within
 read_entry-requires-clause-within g c =
-    let found = c.in_ok-fcp.ensures.found in
+    let found = c.in_ok-fcp.ensures.told in
     used_small (committed c.create.new.store) c.in-Created.entry
     (creation-used _ c.find_new_file.new.store
     c.create.new.store c.requires.kept.ready c.requires.kept.card c.args.current.now c.requires.kept.current
@@ -48,7 +48,7 @@ read_entry-requires-clause-within g c =
 
 pub returns-in_err-entry-2-clause-serves : goal.returns-in_err-entry-2-clause-serves
 returns-in_err-entry-2-clause-serves g c =
-    let found = c.in_ok-fcp.ensures.found in
+    let found = c.in_ok-fcp.ensures.told in
     created-torn _ c.find_new_file.new.store
     c.create.new.store c.requires.kept.ready c.requires.kept.card c.args.current.now c.requires.kept.current
     c.args.template.now c.in_ok-fcp.fcp found c.find_new_file.ensures.store.only c.in-Created.entry
@@ -59,7 +59,7 @@ returns-in_err-entry-2-clause-serves g c =
 
 pub overflow_sub-free : goal.overflow_sub-free
 overflow_sub-free g c =
-    let found = c.in_ok-fcp.ensures.found in
+    let found = c.in_ok-fcp.ensures.told in
     creation-taken _ c.find_new_file.new.store c.create.new.store c.requires.kept.ready
     c.requires.kept.card c.args.current.now c.requires.kept.current c.args.template.now c.in_ok-fcp.fcp
     found c.find_new_file.ensures.store.only c.in-Created.entry c.in-Created.blocks c.in_ok-entry.field-0
@@ -67,7 +67,7 @@ overflow_sub-free g c =
 
 pub overflow_sub-free-2 : goal.overflow_sub-free-2
 overflow_sub-free-2 g c =
-    let found = c.in_ok-fcp.ensures.found in
+    let found = c.in_ok-fcp.ensures.told in
     creation-taken-one _ c.find_new_file.new.store c.create.new.store c.requires.kept.ready c.requires.kept.card
     c.args.current.now c.requires.kept.current c.args.template.now c.in_ok-fcp.fcp
     found c.find_new_file.ensures.store.only c.in-Created.entry c.in-Created.blocks c.in_ok-entry.field-0
@@ -78,7 +78,7 @@ returns-clause-serves g c =
     let old = c.args.store.now in
     let x = c.args.current.now in
     let new = c.read_entry.new.store in
-    let found = c.in_ok-fcp.ensures.found in
+    let found = c.in_ok-fcp.ensures.told in
     subst (λ (y : Current). Serves (create_file c.args.template.now) old x new y [] (Ok DONE)) (sym c.at.ensures)
     (created-done old c.find_new_file.new.store c.create.new.store c.requires.kept.ready c.requires.kept.card x
     c.requires.kept.current c.args.template.now c.in_ok-fcp.fcp found c.find_new_file.ensures.store.only
@@ -89,7 +89,7 @@ returns-clause-serves g c =
 
 pub returns-clause-space : goal.returns-clause-space
 returns-clause-space g c =
-    let found = c.in_ok-fcp.ensures.found in
+    let found = c.in_ok-fcp.ensures.told in
     created-counts _ c.find_new_file.new.store
     c.create.new.store c.requires.kept.ready c.requires.kept.card c.args.current.now c.requires.kept.current
     c.args.template.now c.in_ok-fcp.fcp found c.find_new_file.ensures.store.only c.in-Created.entry
@@ -113,7 +113,7 @@ returns-in_err-fcp-clause-serves g c =
     let template = c.args.template.now in
     halted (create_file template) old x c.find_new_file.new.store (λ _. tt)
     c.requires.kept.card c.requires.kept.current [] refl _ _ c.from_residual.ensures.1 c.in_err-fcp.ensures.store _
-    (λ status. create-refusal (card_in old) (session_in old x) template status) c.in_err-fcp.ensures.found
+    (λ status. create-refusal (card_in old) (session_in old x) template status) c.in_err-fcp.ensures.told
 
 pub returns-in_err-fcp-clause-space : goal.returns-in_err-fcp-clause-space
 returns-in_err-fcp-clause-space g c =

@@ -28,7 +28,7 @@ returns-in_err-freed-clause-serves g c =
     let x = c.args.current.now in
     let mid = c.find_deletable.new.store in
     let new = c.delete.new.store in
-    let found = c.in_ok-file.ensures.found in
+    let found = c.in_ok-file.ensures.told in
     let same = c.find_deletable.ensures.store.only.keeps.committed_words in
     let reads = c.find_deletable.ensures.store.only in
     let request = delete_file c.args.subject in
@@ -55,7 +55,7 @@ returns-clause-serves g c =
     let x = c.args.current.now in
     let mid = c.find_deletable.new.store in
     let new = c.delete.new.store in
-    let found = c.in_ok-file.ensures.found in
+    let found = c.in_ok-file.ensures.told in
     let same = c.find_deletable.ensures.store.only.keeps.committed_words in
     let reads = c.find_deletable.ensures.store.only in
     let request = delete_file c.args.subject in
@@ -82,7 +82,7 @@ returns-clause-serves g c =
 pub returns-clause-space : goal.returns-clause-space
 returns-clause-space g c =
     let m = committed c.args.store.now in
-    let found = c.in_ok-file.ensures.found in
+    let found = c.in_ok-file.ensures.told in
     let same = c.find_deletable.ensures.store.only.keeps.committed_words in
     let card = any-stands m c.requires.kept.ready.usable.committed_size c.requires.kept.card c.args.current.now
     c.args.subject c.in_ok-file.file.number found.below found.used found.place (committed c.find_deletable.new.store)
@@ -99,7 +99,7 @@ pub overflow_add-free : goal.overflow_add-free
 overflow_add-free g c =
     let m = committed c.args.store.now in
     let new = c.delete.new.store in
-    let found = c.in_ok-file.ensures.found in
+    let found = c.in_ok-file.ensures.told in
     let same = c.find_deletable.ensures.store.only.keeps.committed_words in
     let card = any-stands m c.requires.kept.ready.usable.committed_size c.requires.kept.card c.args.current.now
     c.args.subject c.in_ok-file.file.number found.below found.used found.place (committed c.find_deletable.new.store)
@@ -116,7 +116,7 @@ returns-in_err-file-clause-serves g c =
     let x = c.args.current.now in
     halted (delete_file c.args.subject) old x c.find_deletable.new.store (λ _. tt) c.requires.kept.card
     c.requires.kept.current [] refl _ _ c.from_residual.ensures.1 c.in_err-file.ensures.store _
-    (λ status. delete-refused (card_in old) (session_in old x) c.args.subject status) c.in_err-file.ensures.found
+    (λ status. delete-refused (card_in old) (session_in old x) c.args.subject status) c.in_err-file.ensures.told
 
 pub returns-in_err-file-clause-space : goal.returns-in_err-file-clause-space
 returns-in_err-file-clause-space g c =

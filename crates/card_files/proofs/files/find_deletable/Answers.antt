@@ -1,4 +1,4 @@
-use Rattle.std.proofs.Common.{◌≡◌, ◌<◌, ℕ, List, Option, Some, IfSome, option_map, sym, ◌∙◌, ap, subst, arith}
+use Rattle.std.proofs.Common.{◌≡◌, ◌<◌, ℕ, List, Option, Some, IfSome, option_map, sym, ◌∙◌, ap, subst, arith, rules}
 use Rattle.undo_journal.specs.Memory.{committed}
 use Rattle.undo_journal.specs.laws.Calls.{reads_then}
 use Rattle.file_tree.specs.Cards.{Path}
@@ -19,14 +19,16 @@ use Rattle.card_machine.specs.declared.stop.Stop.TheVariants.{Failed}
 use Rattle.card_machine.specs.laws.Stopping.{finds-stopped, reads-stopped, refused-weaker}
 use Rattle.card_files.proofs.files.find_deletable.Goals as goal
 
-pub returns-then-number-eq0-clause-found : goal.returns-then-number-eq0-clause-found
-returns-then-number-eq0-clause-found g c =
-    let m = committed c.args.store.now in
-    let t = table m in
-    let master : c.in-Some.number ≡ 0 = omega arith in
-    delete-master (card_of m) (session_of t c.args.current.now) c.args.subject
-    (c.in_ok-number.ensures.found ∙ ap (λ (o : Option ℕ). option_map (path_of t) o) c.in-Some.is
-    ∙ ap (λ (p : Path). Some p) (path-zero t 7 c.in-Some.number master))
+pub returns-then-number-eq0 : goal.returns-then-number-eq0
+returns-then-number-eq0 g c = record {
+  told = let m = committed c.args.store.now in
+        let t = table m in
+        let master : c.in-Some.number ≡ 0 = omega arith in
+        delete-master (card_of m) (session_of t c.args.current.now) c.args.subject
+        (c.in_ok-number.ensures.found.told ∙ ap (λ (o : Option ℕ). option_map (path_of t) o) c.in-Some.is
+        ∙ ap (λ (p : Path). Some p) (path-zero t 7 c.in-Some.number master));
+  store = search rules;
+}
 
 pub read_entry-requires-clause-within : goal.read_entry-requires-clause-within
 read_entry-requires-clause-within g c =
@@ -34,16 +36,58 @@ read_entry-requires-clause-within g c =
     used_small m c.in-Some.number
     (subst (λ (o : Option ℕ). IfSome o (IsUsed (table m))) c.in-Some.is c.in_ok-number.ensures.used)
 
-pub returns-in_err-check_deletion-clause-store : goal.returns-in_err-check_deletion-clause-store
-returns-in_err-check_deletion-clause-store g c =
-    reads-stopped _ _ c.from_residual-in_err-check_deletion.ensures.1 _ _
-    (reads_on _ _ _ _ (reads_then _ _ _ c.find_subject.ensures.store.only c.read_entry.ensures.store.only)
-    c.in_err-check_deletion.ensures.store)
+pub returns-in_err-check_deletion : goal.returns-in_err-check_deletion
+returns-in_err-check_deletion g c = record {
+  told = let m = committed c.args.store.now in
+        let t = table m in
+        let x = c.args.current.now in
+        let e = c.in-Some.number in
+        let used = subst (λ (o : Option ℕ). IfSome o (IsUsed t)) c.in-Some.is c.in_ok-number.ensures.used in
+        let place = c.in_ok-number.ensures.found.told ∙ ap (λ (o : Option ℕ). option_map (path_of t) o) c.in-Some.is in
+        let same = c.read_entry.ensures.store.only.keeps.committed_words
+        ∙ c.find_subject.ensures.found.store.only.keeps.committed_words in
+        let entry : c.in_ok-entry.entry ≡ entry_in t e =
+        c.in_ok-entry.ensures.entry ∙ ap (λ (l : List ℕ). entry_in (table l) e)
+        c.find_subject.ensures.found.store.only.keeps.committed_words in
+        let below : 0 < e = omega arith in
+        let verdict : Option Sw = deletion_verdict (committed c.read_entry.new.store) x e c.in_ok-entry.entry.parent in
+        let refused : Option Sw = refused_by (delete_refusals (card_of m) (session_of t x) c.args.subject) in
+        finds-stopped _ c.in_err-check_deletion.field-0.0 c.from_residual-in_err-check_deletion.ensures.1 _
+        (λ (status : Sw). refused ≡ Some status)
+        (refused-weaker c.in_err-check_deletion.field-0.0 (λ (status : Sw). verdict ≡ Some status)
+        (λ (status : Sw). refused ≡ Some status) (λ (status : Sw) (due : verdict ≡ Some status).
+        file-verdict m c.requires.kept.ready.usable.committed_size c.requires.kept.card x c.args.subject e below used place
+        ∙ ap (λ (y : Entry). deletion_verdict m x e y.parent) (sym entry)
+        ∙ ap (λ (l : List ℕ). deletion_verdict l x e c.in_ok-entry.entry.parent) (sym same)
+        ∙ due) c.in_err-check_deletion.ensures.told);
+  store = reads-stopped _ _ c.from_residual-in_err-check_deletion.ensures.1 _ _
+        (reads_on _ _ _ _ (reads_then _ _ _ c.find_subject.ensures.found.store.only c.read_entry.ensures.store.only)
+        c.in_err-check_deletion.ensures.store);
+}
 
-pub returns-clause-store : goal.returns-clause-store
-returns-clause-store g c =
-    reads_on _ _ _ _ (reads_then _ _ _ c.find_subject.ensures.store.only c.read_entry.ensures.store.only)
-    c.in_ok-check_deletion.ensures.store
+pub returns : goal.returns
+returns g c = record {
+  told = let m = committed c.args.store.now in
+        let t = table m in
+        let x = c.args.current.now in
+        let e = c.in-Some.number in
+        let used = subst (λ (o : Option ℕ). IfSome o (IsUsed t)) c.in-Some.is c.in_ok-number.ensures.used in
+        let place = c.in_ok-number.ensures.found.told ∙ ap (λ (o : Option ℕ). option_map (path_of t) o) c.in-Some.is in
+        let same = c.read_entry.ensures.store.only.keeps.committed_words
+        ∙ c.find_subject.ensures.found.store.only.keeps.committed_words in
+        let entry : c.in_ok-entry.entry ≡ entry_in t e =
+        c.in_ok-entry.ensures.entry ∙ ap (λ (l : List ℕ). entry_in (table l) e)
+        c.find_subject.ensures.found.store.only.keeps.committed_words in
+        let below : 0 < e = omega arith in
+        deletable m c.requires.kept.ready.usable.committed_size c.requires.kept.card x c.args.subject e below used place
+        (file-verdict m c.requires.kept.ready.usable.committed_size c.requires.kept.card x c.args.subject e below used place
+        ∙ ap (λ (y : Entry). deletion_verdict m x e y.parent) (sym entry)
+        ∙ ap (λ (l : List ℕ). deletion_verdict l x e c.in_ok-entry.entry.parent) (sym same)
+        ∙ c.in_ok-check_deletion.ensures.told)
+        c.in_ok-entry.entry entry;
+  store = reads_on _ _ _ _ (reads_then _ _ _ c.find_subject.ensures.found.store.only c.read_entry.ensures.store.only)
+        c.in_ok-check_deletion.ensures.store;
+}
 
 pub check_deletion-requires-clause-above : goal.check_deletion-requires-clause-above
 check_deletion-requires-clause-above g c =
@@ -51,74 +95,30 @@ check_deletion-requires-clause-above g c =
     let e = c.in-Some.number in
     let used = subst (λ (o : Option ℕ). IfSome o (IsUsed (table m))) c.in-Some.is c.in_ok-number.ensures.used in
     let same = c.read_entry.ensures.store.only.keeps.committed_words
-    ∙ c.find_subject.ensures.store.only.keeps.committed_words in
+    ∙ c.find_subject.ensures.found.store.only.keeps.committed_words in
     let entry : c.in_ok-entry.entry ≡ entry_in (table m) e =
     c.in_ok-entry.ensures.entry ∙ ap (λ (l : List ℕ). entry_in (table l) e)
-    c.find_subject.ensures.store.only.keeps.committed_words in
+    c.find_subject.ensures.found.store.only.keeps.committed_words in
     let below : 0 < e = omega arith in
     subst (λ (l : List ℕ). IsUsed (table l) c.in_ok-entry.entry.parent) (sym same)
     (subst (λ (y : Entry). IsUsed (table m) y.parent) (sym entry)
     (parent_used (table m) c.requires.kept.card.tree.entries e below used))
 
-pub returns-in_err-check_deletion-clause-found : goal.returns-in_err-check_deletion-clause-found
-returns-in_err-check_deletion-clause-found g c =
-    let m = committed c.args.store.now in
-    let t = table m in
-    let x = c.args.current.now in
-    let e = c.in-Some.number in
-    let used = subst (λ (o : Option ℕ). IfSome o (IsUsed t)) c.in-Some.is c.in_ok-number.ensures.used in
-    let place = c.in_ok-number.ensures.found ∙ ap (λ (o : Option ℕ). option_map (path_of t) o) c.in-Some.is in
-    let same = c.read_entry.ensures.store.only.keeps.committed_words
-    ∙ c.find_subject.ensures.store.only.keeps.committed_words in
-    let entry : c.in_ok-entry.entry ≡ entry_in t e =
-    c.in_ok-entry.ensures.entry ∙ ap (λ (l : List ℕ). entry_in (table l) e)
-    c.find_subject.ensures.store.only.keeps.committed_words in
-    let below : 0 < e = omega arith in
-    let verdict : Option Sw = deletion_verdict (committed c.read_entry.new.store) x e c.in_ok-entry.entry.parent in
-    let refused : Option Sw = refused_by (delete_refusals (card_of m) (session_of t x) c.args.subject) in
-    finds-stopped _ c.in_err-check_deletion.field-0.0 c.from_residual-in_err-check_deletion.ensures.1 _
-    (λ (status : Sw). refused ≡ Some status)
-    (refused-weaker c.in_err-check_deletion.field-0.0 (λ (status : Sw). verdict ≡ Some status)
-    (λ (status : Sw). refused ≡ Some status) (λ (status : Sw) (due : verdict ≡ Some status).
-    file-verdict m c.requires.kept.ready.usable.committed_size c.requires.kept.card x c.args.subject e below used place
-    ∙ ap (λ (y : Entry). deletion_verdict m x e y.parent) (sym entry)
-    ∙ ap (λ (l : List ℕ). deletion_verdict l x e c.in_ok-entry.entry.parent) (sym same)
-    ∙ due) c.in_err-check_deletion.ensures.refusal)
-
-pub returns-clause-found : goal.returns-clause-found
-returns-clause-found g c =
-    let m = committed c.args.store.now in
-    let t = table m in
-    let x = c.args.current.now in
-    let e = c.in-Some.number in
-    let used = subst (λ (o : Option ℕ). IfSome o (IsUsed t)) c.in-Some.is c.in_ok-number.ensures.used in
-    let place = c.in_ok-number.ensures.found ∙ ap (λ (o : Option ℕ). option_map (path_of t) o) c.in-Some.is in
-    let same = c.read_entry.ensures.store.only.keeps.committed_words
-    ∙ c.find_subject.ensures.store.only.keeps.committed_words in
-    let entry : c.in_ok-entry.entry ≡ entry_in t e =
-    c.in_ok-entry.ensures.entry ∙ ap (λ (l : List ℕ). entry_in (table l) e)
-    c.find_subject.ensures.store.only.keeps.committed_words in
-    let below : 0 < e = omega arith in
-    deletable m c.requires.kept.ready.usable.committed_size c.requires.kept.card x c.args.subject e below used place
-    (file-verdict m c.requires.kept.ready.usable.committed_size c.requires.kept.card x c.args.subject e below used place
-    ∙ ap (λ (y : Entry). deletion_verdict m x e y.parent) (sym entry)
-    ∙ ap (λ (l : List ℕ). deletion_verdict l x e c.in_ok-entry.entry.parent) (sym same)
-    ∙ c.in_ok-check_deletion.ensures.refusal)
-    c.in_ok-entry.entry entry
-
-pub returns-in_err-entry-clause-store : goal.returns-in_err-entry-clause-store
-returns-in_err-entry-clause-store g c =
-    reads-stopped _ (Failed c.in_err-entry.field-0.0) c.from_residual-in_err-entry.ensures.1 _ _
-    (reads_on _ _ _ _ c.find_subject.ensures.store.only c.in_err-entry.ensures.store)
+pub returns-in_err-entry : goal.returns-in_err-entry
+returns-in_err-entry g c = record {
+  told = search rules;
+  store = reads-stopped _ (Failed c.in_err-entry.field-0.0) c.from_residual-in_err-entry.ensures.1 _ _
+        (reads_on _ _ _ _ c.find_subject.ensures.found.store.only c.in_err-entry.ensures.store);
+}
 
 pub check_deletion-requires-clause-kept : goal.check_deletion-requires-clause-kept
 check_deletion-requires-clause-kept g c =
-    kept_still _ _ _ (reads_then _ _ _ c.find_subject.ensures.store.only c.read_entry.ensures.store.only)
+    kept_still _ _ _ (reads_then _ _ _ c.find_subject.ensures.found.store.only c.read_entry.ensures.store.only)
     c.in_ok-entry.ensures.store.ready c.requires.kept
 
 pub check_deletion-requires-clause-used : goal.check_deletion-requires-clause-used
 check_deletion-requires-clause-used g c =
     used_still c.args.store.now c.read_entry.new.store c.in-Some.number
-    (reads_then c.args.store.now c.find_subject.new.store c.read_entry.new.store c.find_subject.ensures.store.only
+    (reads_then c.args.store.now c.find_subject.new.store c.read_entry.new.store c.find_subject.ensures.found.store.only
     c.read_entry.ensures.store.only) (subst (λ (o : Option ℕ). IfSome o (IsUsed (table (committed c.args.store.now))))
     c.in-Some.is c.in_ok-number.ensures.used)

@@ -1,4 +1,4 @@
-use Rattle.std.proofs.Common.{◌∙◌, sym}
+use Rattle.std.proofs.Common.{◌∙◌, sym, rules}
 use Rattle.undo_journal.specs.Memory.{committed}
 use Rattle.undo_journal.specs.laws.Told.{reads_on}
 use Rattle.file_tree.specs.Table.{table}
@@ -15,73 +15,74 @@ pub is_barred-requires-clause-used : goal.is_barred-requires-clause-used
 is_barred-requires-clause-used g c =
     df_used (table (committed c.args.store.now)) c.args.current.now c.requires.kept.current
 
-pub returns-then-branch-clause-found : goal.returns-then-branch-clause-found
-returns-then-branch-clause-found g c =
-    let old = c.args.store.now in
-    let x = c.args.current.now in
-    create-barred (card_in old) (session_in old x) c.args.template.now
-    (barred-is (committed old) x c.in_ok-is_barred.field-0 c.in_ok-is_barred.ensures.barred ∙ c.if-branch.true)
+pub returns-then-branch : goal.returns-then-branch
+returns-then-branch g c = record {
+  told = let old = c.args.store.now in
+        let x = c.args.current.now in
+        create-barred (card_in old) (session_in old x) c.args.template.now
+        (barred-is (committed old) x c.in_ok-is_barred.field-0 c.in_ok-is_barred.ensures.barred ∙ c.if-branch.true);
+  store = search rules;
+}
 
-pub returns-in_default-clause-found : goal.returns-in_default-clause-found
-returns-in_default-clause-found g c =
-    let old = c.args.store.now in
-    let x = c.args.current.now in
-    unread-step (card_in old) (session_in old x) c.args.template.now
-    (barred-is (committed old) x c.in_ok-is_barred.field-0 c.in_ok-is_barred.ensures.barred ∙ c.if-branch.false)
-    c.parse.result (sym c.parse.ensures.value) c.in_default.not-Ok
+pub returns-in_default : goal.returns-in_default
+returns-in_default g c = record {
+  told = let old = c.args.store.now in
+        let x = c.args.current.now in
+        unread-step (card_in old) (session_in old x) c.args.template.now
+        (barred-is (committed old) x c.in_ok-is_barred.field-0 c.in_ok-is_barred.ensures.barred ∙ c.if-branch.false)
+        c.parse.result (sym c.parse.ensures.value) c.in_default.not-Ok;
+  store = search rules;
+}
 
-pub allows-requires-clause-card : goal.allows-requires-clause-card
-allows-requires-clause-card g c =
-    card_still c.args.store.now c.is_barred.new.store c.is_barred.ensures.store.only c.requires.kept.card
-
-pub allows-requires-clause-current : goal.allows-requires-clause-current
-allows-requires-clause-current g c =
-    current_still c.args.store.now c.is_barred.new.store c.args.current.now c.is_barred.ensures.store.only
-    c.requires.kept.current
+pub allows-requires-clause-kept : goal.allows-requires-clause-kept
+allows-requires-clause-kept g c = record {
+  ready = search rules;
+  card = card_still c.args.store.now c.is_barred.new.store c.is_barred.ensures.store.only c.requires.kept.card;
+  current = current_still c.args.store.now c.is_barred.new.store c.args.current.now c.is_barred.ensures.store.only
+        c.requires.kept.current;
+}
 
 pub allows-requires-clause-used : goal.allows-requires-clause-used
 allows-requires-clause-used g c =
     used_still c.args.store.now c.is_barred.new.store c.args.current.now.df c.is_barred.ensures.store.only
     (df_used (table (committed c.args.store.now)) c.args.current.now c.requires.kept.current)
 
-pub returns-in_err-allows-clause-store : goal.returns-in_err-allows-clause-store
-returns-in_err-allows-clause-store g c =
-    reads-stopped _ (Failed c.in_err-allows.field-0.0) c.from_residual-in_err-allows.ensures.1 _ _
-    (reads_on _ _ _ _ c.is_barred.ensures.store.only c.in_err-allows.ensures.store)
+pub returns-in_err-allows : goal.returns-in_err-allows
+returns-in_err-allows g c = record {
+  told = search rules;
+  store = reads-stopped _ (Failed c.in_err-allows.field-0.0) c.from_residual-in_err-allows.ensures.1 _ _
+        (reads_on _ _ _ _ c.is_barred.ensures.store.only c.in_err-allows.ensures.store);
+}
 
-pub returns-then-not-branch-clause-found : goal.returns-then-not-branch-clause-found
-returns-then-not-branch-clause-found g c =
-    let old = c.args.store.now in
-    let x = c.args.current.now in
-    let fcp = c.in-Ok.fcp in
-    create-denied (card_in old) (session_in old x) c.args.template.now
-    (barred-is (committed old) x c.in_ok-is_barred.field-0 c.in_ok-is_barred.ensures.barred ∙ c.if-branch.false)
-    fcp (sym c.parse.ensures.value ∙ c.in-Ok.is)
-    (permits-is (committed old) (committed c.is_barred.new.store) x
-    c.is_barred.ensures.store.only.keeps.committed_words c.creation_bit-bit.result (creation_bit fcp.kind)
-    c.creation_bit-bit.ensures c.in_ok-allows.field-0
-    c.in_ok-allows.ensures.allowed ∙ c.if-not-branch.true)
+pub returns-then-not-branch : goal.returns-then-not-branch
+returns-then-not-branch g c = record {
+  told = let old = c.args.store.now in
+        let x = c.args.current.now in
+        let fcp = c.in-Ok.fcp in
+        create-denied (card_in old) (session_in old x) c.args.template.now
+        (barred-is (committed old) x c.in_ok-is_barred.field-0 c.in_ok-is_barred.ensures.barred ∙ c.if-branch.false)
+        fcp (sym c.parse.ensures.value ∙ c.in-Ok.is)
+        (permits-is (committed old) (committed c.is_barred.new.store) x
+        c.is_barred.ensures.store.only.keeps.committed_words c.creation_bit-bit.result (creation_bit fcp.kind)
+        c.creation_bit-bit.ensures c.in_ok-allows.field-0
+        c.in_ok-allows.ensures.told ∙ c.if-not-branch.true);
+  store = reads_on _ _ _ _ c.is_barred.ensures.store.only c.in_ok-allows.ensures.store;
+}
 
-pub returns-then-not-branch-clause-store : goal.returns-then-not-branch-clause-store
-returns-then-not-branch-clause-store g c =
-    reads_on _ _ _ _ c.is_barred.ensures.store.only c.in_ok-allows.ensures.store
-
-pub returns-clause-found : goal.returns-clause-found
-returns-clause-found g c =
-    let old = c.args.store.now in
-    let x = c.args.current.now in
-    let fcp = c.in-Ok.fcp in
-    record {
-      told = sym c.parse.ensures.value ∙ c.in-Ok.is;
-      creatable = c.in-Ok.ensures.ranges;
-      unbarred = barred-is (committed old) x c.in_ok-is_barred.field-0 c.in_ok-is_barred.ensures.barred
-          ∙ c.if-branch.false;
-      permitted = permits-is (committed old) (committed c.is_barred.new.store) x
-          c.is_barred.ensures.store.only.keeps.committed_words c.creation_bit-bit.result (creation_bit fcp.kind)
-          c.creation_bit-bit.ensures c.in_ok-allows.field-0
-          c.in_ok-allows.ensures.allowed ∙ c.if-not-branch.false;
-    }
-
-pub returns-clause-store : goal.returns-clause-store
-returns-clause-store g c =
-    reads_on _ _ _ _ c.is_barred.ensures.store.only c.in_ok-allows.ensures.store
+pub returns : goal.returns
+returns g c = record {
+  told = let old = c.args.store.now in
+        let x = c.args.current.now in
+        let fcp = c.in-Ok.fcp in
+        record {
+          told = sym c.parse.ensures.value ∙ c.in-Ok.is;
+          creatable = c.in-Ok.ensures.ranges;
+          unbarred = barred-is (committed old) x c.in_ok-is_barred.field-0 c.in_ok-is_barred.ensures.barred
+              ∙ c.if-branch.false;
+          permitted = permits-is (committed old) (committed c.is_barred.new.store) x
+              c.is_barred.ensures.store.only.keeps.committed_words c.creation_bit-bit.result (creation_bit fcp.kind)
+              c.creation_bit-bit.ensures c.in_ok-allows.field-0
+              c.in_ok-allows.ensures.told ∙ c.if-not-branch.false;
+        };
+  store = reads_on _ _ _ _ c.is_barred.ensures.store.only c.in_ok-allows.ensures.store;
+}

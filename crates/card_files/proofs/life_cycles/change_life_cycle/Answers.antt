@@ -17,7 +17,7 @@ returns-clause-serves g c =
     let x = c.args.current.now in
     let mid = c.find_change.new.store in
     let new = c.set_life_cycle.new.store in
-    let found = c.in_ok-changed.ensures.found in
+    let found = c.in_ok-changed.ensures.told in
     subst (λ (y : Current). Serves (change_life_cycle c.args.change c.args.subject) old x new y [] (Ok DONE))
     (sym c.at.ensures)
     (change-made old mid new c.requires.kept.ready c.requires.kept.card x
@@ -32,7 +32,7 @@ returns-clause-space g c =
     let x = c.args.current.now in
     let mid = c.find_change.new.store in
     let new = c.set_life_cycle.new.store in
-    let found = c.in_ok-changed.ensures.found in
+    let found = c.in_ok-changed.ensures.told in
     change-space old mid new c.requires.kept.ready c.requires.kept.card x
     c.requires.kept.current c.args.change c.args.subject c.in_ok-changed.changed found c.find_change.ensures.store.only
     c.set_life_cycle.ensures.any_exit c.set_life_cycle.ensures.by_gate c.set_life_cycle.ensures.stays
@@ -45,7 +45,7 @@ returns-in_err-changed-clause-serves g c =
     halted (change_life_cycle c.args.change c.args.subject) old x c.find_change.new.store (λ _. tt) c.requires.kept.card
     c.requires.kept.current [] refl _ _ c.from_residual.ensures.1 c.in_err-changed.ensures.store _
     (λ status. change-refused (card_in old) (session_in old x) c.args.change c.args.subject status)
-    c.in_err-changed.ensures.found
+    c.in_err-changed.ensures.told
 
 pub returns-in_err-changed-clause-space : goal.returns-in_err-changed-clause-space
 returns-in_err-changed-clause-space g c =
@@ -58,7 +58,7 @@ returns-in_err-set_life_cycle-clause-serves g c =
     let mid = c.find_change.new.store in
     let new = c.set_life_cycle.new.store in
     change-torn old mid new c.requires.kept.ready c.requires.kept.card c.args.current.now c.requires.kept.current
-    c.args.change c.args.subject c.in_ok-changed.changed c.in_ok-changed.ensures.found c.find_change.ensures.store.only
+    c.args.change c.args.subject c.in_ok-changed.changed c.in_ok-changed.ensures.told c.find_change.ensures.store.only
     c.set_life_cycle.ensures.any_exit c.set_life_cycle.ensures.by_gate c.set_life_cycle.ensures.stays
     c.set_life_cycle.ensures.store.reports c.set_life_cycle.ensures.store.writes _ _
     (reply-failed _ _ c.from_residual-in_err-set_life_cycle.ensures.1) c.in_err-set_life_cycle.ensures.store.tells

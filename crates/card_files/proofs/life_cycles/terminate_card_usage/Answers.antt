@@ -21,7 +21,7 @@ returns-then-not-branch g c =
     c.allows.ensures.store.only
     c.in_ok-allows.ensures.store.ready c.requires.kept.current
     (end-refused (committed old) x c.in_ok-allows.field-0
-    c.in_ok-allows.ensures.allowed denied)
+    c.in_ok-allows.ensures.told denied)
 
 pub returns-in_err-terminate_card : goal.returns-in_err-terminate_card
 returns-in_err-terminate_card g c =
@@ -30,7 +30,7 @@ returns-in_err-terminate_card g c =
     let new = c.terminate_card.new.store in
     let granted : c.in_ok-allows.field-0 ≡ true = c.if-not-branch.false in
     end-torn old mid new c.requires.kept.ready c.requires.kept.card c.args.current.now c.requires.kept.current
-    (sym granted ∙ c.in_ok-allows.ensures.allowed) c.allows.ensures.store.only
+    (sym granted ∙ c.in_ok-allows.ensures.told) c.allows.ensures.store.only
     c.terminate_card.ensures.any_exit c.terminate_card.ensures.by_gate c.terminate_card.ensures.store.reports
     c.terminate_card.ensures.store.writes _ _ (reply-failed _ _ c.from_residual-in_err-terminate_card.ensures.1)
     c.in_err-terminate_card.ensures.store.tells
@@ -42,6 +42,6 @@ returns g c =
     let new = c.terminate_card.new.store in
     let granted : c.in_ok-allows.field-0 ≡ true = c.if-not-branch.false in
     end-made old mid new c.requires.kept.ready c.requires.kept.card c.args.current.now c.requires.kept.current
-    (sym granted ∙ c.in_ok-allows.ensures.allowed) c.allows.ensures.store.only
+    (sym granted ∙ c.in_ok-allows.ensures.told) c.allows.ensures.store.only
     c.terminate_card.ensures.any_exit c.terminate_card.ensures.by_gate c.terminate_card.ensures.store.reports
     c.terminate_card.ensures.store.writes c.in_ok-terminate_card.ensures.done c.in_ok-terminate_card.ensures.store.ready

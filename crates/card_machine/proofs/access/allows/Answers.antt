@@ -12,29 +12,27 @@ use Rattle.card_machine.proofs.Allowing.{allowed-by-marks}
 use Rattle.card_machine.specs.laws.Readings.{tree_still, used_still}
 use Rattle.card_machine.proofs.access.allows.Goals as goal
 
-pub returns-clause-allowed : goal.returns-clause-allowed
-returns-clause-allowed g c =
-    let m = committed c.args.store.now in
-    let x = c.args.current.now in
-    let e = c.args.number in
-    let same = c.disabled_pins.ensures.store.only.keeps.committed_words in
-    let disabled = c.in_ok-disabled.ensures.disabled in
-    let is : is_allowed (tree_of (committed c.disabled_pins.new.store))
-    (path_of (table (committed c.disabled_pins.new.store)) e) c.args.bit x.verified c.in_ok-disabled.disabled
-    ≡ allowed (card_of m) (session_of (table m) x) (path_of (table m) e) c.args.bit =
-    (λ i. is_allowed (tree_of (same i)) (path_of (table (same i)) e) c.args.bit x.verified (disabled i))
-    ∙ allowed-by-marks m c.requires.card x c.requires.current.marks e c.args.bit in
-    subst (λ (b : Bool). IfOk c.is_allowed.result (λ permits. permits ≡ b)) is c.is_allowed.ensures.allowed
+pub returns : goal.returns
+returns g c = record {
+  told = let m = committed c.args.store.now in
+        let x = c.args.current.now in
+        let e = c.args.number in
+        let same = c.disabled_pins.ensures.store.only.keeps.committed_words in
+        let disabled = c.in_ok-disabled.ensures.told in
+        let is : is_allowed (tree_of (committed c.disabled_pins.new.store))
+        (path_of (table (committed c.disabled_pins.new.store)) e) c.args.bit x.verified c.in_ok-disabled.disabled
+        ≡ allowed (card_of m) (session_of (table m) x) (path_of (table m) e) c.args.bit =
+        (λ i. is_allowed (tree_of (same i)) (path_of (table (same i)) e) c.args.bit x.verified (disabled i))
+        ∙ allowed-by-marks m c.requires.kept.card x c.requires.kept.current.marks e c.args.bit in
+        subst (λ (b : Bool). IfOk c.is_allowed.result (λ permits. permits ≡ b)) is c.is_allowed.ensures.allowed;
+  store = reads_on _ _ _ _ c.disabled_pins.ensures.store.only c.is_allowed.ensures.store;
+}
 
 pub is_allowed-requires-clause-tree : goal.is_allowed-requires-clause-tree
 is_allowed-requires-clause-tree g c =
-    tree_still c.args.store.now c.disabled_pins.new.store c.disabled_pins.ensures.store.only c.requires.card
+    tree_still c.args.store.now c.disabled_pins.new.store c.disabled_pins.ensures.store.only c.requires.kept.card
 
 pub is_allowed-requires-clause-used : goal.is_allowed-requires-clause-used
 is_allowed-requires-clause-used g c =
     used_still c.args.store.now c.disabled_pins.new.store c.args.number
     c.disabled_pins.ensures.store.only c.requires.used
-
-pub returns-clause-store : goal.returns-clause-store
-returns-clause-store g c =
-    reads_on _ _ _ _ c.disabled_pins.ensures.store.only c.is_allowed.ensures.store

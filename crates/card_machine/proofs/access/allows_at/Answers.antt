@@ -7,31 +7,28 @@ use Rattle.file_tree.specs.Entries.{is_allowed_by, life_told, rule_of}
 use Rattle.card_machine.specs.Working.{disabled_in}
 use Rattle.card_machine.proofs.access.allows_at.Goals as goal
 
-pub returns-then-is_allowed_at-clause-allowed : goal.returns-then-is_allowed_at-clause-allowed
-returns-then-is_allowed_at-clause-allowed g c =
-    let entry = c.args.entry.now in
-    let bit = c.args.bit in
-    let verified = c.args.current.now.verified in
-    sym (allows-anyhow (rule_of entry) bit (life_told entry) verified (disabled_in (committed c.args.store.now))
-    (sym (c.is_allowed_at.ensures
-    ∙ ap (λ (disabled : List Bool). is_allowed_by entry bit verified disabled) c.new.ensures)
-    ∙ c.if-is_allowed_at.true))
+pub returns-then-is_allowed_at : goal.returns-then-is_allowed_at
+returns-then-is_allowed_at g c = record {
+  told = let entry = c.args.entry.now in
+        let bit = c.args.bit in
+        let verified = c.args.current.now.verified in
+        sym (allows-anyhow (rule_of entry) bit (life_told entry) verified (disabled_in (committed c.args.store.now))
+        (sym (c.is_allowed_at.ensures
+        ∙ ap (λ (disabled : List Bool). is_allowed_by entry bit verified disabled) c.new.ensures)
+        ∙ c.if-is_allowed_at.true));
+  store = reads_none _ c.requires.ready;
+}
 
-pub returns-then-is_allowed_at-clause-store : goal.returns-then-is_allowed_at-clause-store
-returns-then-is_allowed_at-clause-store g c = reads_none _ c.requires.ready
+pub returns : goal.returns
+returns g c = record {
+  told = c.is_allowed_at-2.ensures
+        ∙ ap (λ (disabled : List Bool). is_allowed_by c.args.entry.now c.args.bit c.args.current.now.verified disabled)
+        c.in_ok-disabled.ensures.told;
+  store = c.in_ok-disabled.ensures.store;
+}
 
-pub returns-clause-allowed : goal.returns-clause-allowed
-returns-clause-allowed g c =
-    c.is_allowed_at-2.ensures
-    ∙ ap (λ (disabled : List Bool). is_allowed_by c.args.entry.now c.args.bit c.args.current.now.verified disabled)
-    c.in_ok-disabled.ensures.disabled
-
-pub returns-in_err-disabled-clause-allowed : goal.returns-in_err-disabled-clause-allowed
-returns-in_err-disabled-clause-allowed g c = none_ok _ _ _ c.from_residual.ensures.1
-
-pub returns-in_err-disabled-clause-store : goal.returns-in_err-disabled-clause-store
-returns-in_err-disabled-clause-store g c =
-    reads_handed _ _ _ _ c.from_residual.ensures.1 c.in_err-disabled.ensures.store
-
-pub returns-clause-store : goal.returns-clause-store
-returns-clause-store g c = c.in_ok-disabled.ensures.store
+pub returns-in_err-disabled : goal.returns-in_err-disabled
+returns-in_err-disabled g c = record {
+  told = none_ok _ _ _ c.from_residual.ensures.1;
+  store = reads_handed _ _ _ _ c.from_residual.ensures.1 c.in_err-disabled.ensures.store;
+}

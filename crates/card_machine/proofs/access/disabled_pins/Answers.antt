@@ -1,4 +1,4 @@
-use Rattle.std.proofs.Common.{◌≡◌, ◌<◌, ◌+◌, ℕ, Bool, List, sym, ◌∙◌, ap, subst, arith}
+use Rattle.std.proofs.Common.{◌≡◌, ◌<◌, ◌+◌, ℕ, Bool, List, sym, ◌∙◌, ap, subst, arith, rules}
 use Rattle.undo_journal.specs.Memory.{committed}
 use Rattle.undo_journal.specs.laws.Calls.{reads_same, reads_then}
 use Rattle.undo_journal.specs.laws.Told.{reads_handed, reads_on, reads_so_far}
@@ -19,10 +19,12 @@ loop-secret-init g c = record {
 pub is_enabled-requires-clause-ready : goal.is_enabled-requires-clause-ready
 is_enabled-requires-clause-ready g c = c.loop-secret.invariant.ready
 
-pub returns-in_err-is_enabled-clause-store : goal.returns-in_err-is_enabled-clause-store
-returns-in_err-is_enabled-clause-store g c =
-    reads_handed _ _ _ _ c.from_residual.ensures.1
-    (reads_on _ _ _ _ c.loop-secret.invariant.reads c.in_err-is_enabled.ensures.store)
+pub returns-in_err-is_enabled : goal.returns-in_err-is_enabled
+returns-in_err-is_enabled g c = record {
+  told = search rules;
+  store = reads_handed _ _ _ _ c.from_residual.ensures.1
+        (reads_on _ _ _ _ c.loop-secret.invariant.reads c.in_err-is_enabled.ensures.store);
+}
 
 pub loop-secret-preserved : goal.loop-secret-preserved
 loop-secret-preserved g c =
@@ -49,12 +51,11 @@ loop-secret-preserved g c =
       ];
     }
 
-pub returns-clause-disabled : goal.returns-clause-disabled
-returns-clause-disabled g c =
-    let end : c.loop-secret.secret ≡ 8 = omega (arith, c.loop-secret-test.false, c.loop-secret.auto.secret-end) in
-    all-told (committed c.args.store.now) c.loop-secret.disabled
-    (subst (λ (n : ℕ). TellsMarks (committed c.args.store.now) n c.loop-secret.disabled) end
-    c.loop-secret.invariant.so_far)
-
-pub returns-clause-store : goal.returns-clause-store
-returns-clause-store g c = reads_so_far _ _ c.loop-secret.invariant.reads c.loop-secret.invariant.ready
+pub returns : goal.returns
+returns g c = record {
+  told = let end : c.loop-secret.secret ≡ 8 = omega (arith, c.loop-secret-test.false, c.loop-secret.auto.secret-end) in
+        all-told (committed c.args.store.now) c.loop-secret.disabled
+        (subst (λ (n : ℕ). TellsMarks (committed c.args.store.now) n c.loop-secret.disabled) end
+        c.loop-secret.invariant.so_far);
+  store = reads_so_far _ _ c.loop-secret.invariant.reads c.loop-secret.invariant.ready;
+}

@@ -1,4 +1,4 @@
-use Rattle.std.proofs.Common.{◌≡◌, ℕ, List, Option, Some, None, IfSome, option_map, sym, ◌∙◌, ap, subst, if◌then◌else◌}
+use Rattle.std.proofs.Common.{◌≡◌, ℕ, List, Option, Some, None, IfSome, option_map, sym, ◌∙◌, ap, subst, if◌then◌else◌, rules}
 use Rattle.std.specs.Option.{is_none}
 use Rattle.card_rules.specs.declared.status.Sw.{Sw}
 use Rattle.card_machine.specs.Elementary.{file_refusals, missing}
@@ -27,78 +27,79 @@ read_entry-requires-clause-within g c =
     c.in_ok-number.ensures.child in
     used_small (committed c.args.store.now) c.in-Some.number file.child.used
 
-pub returns-in_err-check_file-clause-store : goal.returns-in_err-check_file-clause-store
-returns-in_err-check_file-clause-store g c =
-    reads-stopped _ _ c.from_residual-in_err-check_file.ensures.1 _ _
-    (reads_on _ _ _ _ (reads_then _ _ _ c.find_target.ensures.store.only c.read_entry.ensures.store.only)
-    c.in_err-check_file.ensures.store)
+pub returns-in_err-check_file : goal.returns-in_err-check_file
+returns-in_err-check_file g c = record {
+  told = let m = committed c.args.store.now in
+        let t = table m in
+        let e = c.in-Some.number in
+        let file = subst (λ (o : Option ℕ). IfSome o (IsElementary t c.args.current.now.df)) c.in-Some.is
+        c.in_ok-number.ensures.child in
+        let place = c.in_ok-number.ensures.found.told ∙ ap (λ (o : Option ℕ). option_map (path_of t) o) c.in-Some.is in
+        let same = c.read_entry.ensures.store.only.keeps.committed_words
+        ∙ c.find_target.ensures.found.store.only.keeps.committed_words in
+        let entry : c.in_ok-entry.entry ≡ entry_in t e =
+        c.in_ok-entry.ensures.entry ∙ ap (λ (l : List ℕ). entry_in (table l) e)
+        c.find_target.ensures.found.store.only.keeps.committed_words in
+        let l = committed c.read_entry.new.store in
+        let verdict : Option Sw = file_refusal (is_barred (card_of l).tree (path_of (table l) e))
+        (fits_kind c.args.need.structure c.in_ok-entry.entry.kind)
+        (allowed (card_of l) (session_of (table l) c.args.current.now) (path_of (table l) e) c.args.need.bit) in
+        let refused : Option Sw = refused_by (file_refusals (card_of m) (session_of t c.args.current.now) c.args.target
+        (fits c.args.need.structure) c.args.need.bit) in
+        finds-stopped _ c.in_err-check_file.field-0.0 c.from_residual-in_err-check_file.ensures.1 _
+        (λ (status : Sw). refused ≡ Some status)
+        (refused-weaker c.in_err-check_file.field-0.0 (λ (status : Sw). verdict ≡ Some status)
+        (λ (status : Sw). refused ≡ Some status) (λ (status : Sw) (due : verdict ≡ Some status).
+        entry-refusal m c.requires.kept.ready.usable.committed_size c.requires.kept.card c.args.current.now c.args.target
+        c.args.need e file place
+        ∙ ap (λ (y : Entry). file_refusal (is_barred (card_of m).tree (path_of t e)) (fits_kind c.args.need.structure
+        y.kind) (allowed (card_of m) (session_of t c.args.current.now) (path_of t e) c.args.need.bit)) (sym entry)
+        ∙ ap (λ (l : List ℕ). file_refusal (is_barred (card_of l).tree (path_of (table l) e))
+        (fits_kind c.args.need.structure c.in_ok-entry.entry.kind)
+        (allowed (card_of l) (session_of (table l) c.args.current.now) (path_of (table l) e) c.args.need.bit)) (sym same)
+        ∙ due) c.in_err-check_file.ensures.told);
+  store = reads-stopped _ _ c.from_residual-in_err-check_file.ensures.1 _ _
+        (reads_on _ _ _ _ (reads_then _ _ _ c.find_target.ensures.found.store.only c.read_entry.ensures.store.only)
+        c.in_err-check_file.ensures.store);
+}
 
-pub returns-in_err-check_file-clause-found : goal.returns-in_err-check_file-clause-found
-returns-in_err-check_file-clause-found g c =
-    let m = committed c.args.store.now in
-    let t = table m in
-    let e = c.in-Some.number in
-    let file = subst (λ (o : Option ℕ). IfSome o (IsElementary t c.args.current.now.df)) c.in-Some.is
-    c.in_ok-number.ensures.child in
-    let place = c.in_ok-number.ensures.found ∙ ap (λ (o : Option ℕ). option_map (path_of t) o) c.in-Some.is in
-    let same = c.read_entry.ensures.store.only.keeps.committed_words
-    ∙ c.find_target.ensures.store.only.keeps.committed_words in
-    let entry : c.in_ok-entry.entry ≡ entry_in t e =
-    c.in_ok-entry.ensures.entry ∙ ap (λ (l : List ℕ). entry_in (table l) e)
-    c.find_target.ensures.store.only.keeps.committed_words in
-    let l = committed c.read_entry.new.store in
-    let verdict : Option Sw = file_refusal (is_barred (card_of l).tree (path_of (table l) e))
-    (fits_kind c.args.need.structure c.in_ok-entry.entry.kind)
-    (allowed (card_of l) (session_of (table l) c.args.current.now) (path_of (table l) e) c.args.need.bit) in
-    let refused : Option Sw = refused_by (file_refusals (card_of m) (session_of t c.args.current.now) c.args.target
-    (fits c.args.need.structure) c.args.need.bit) in
-    finds-stopped _ c.in_err-check_file.field-0.0 c.from_residual-in_err-check_file.ensures.1 _
-    (λ (status : Sw). refused ≡ Some status)
-    (refused-weaker c.in_err-check_file.field-0.0 (λ (status : Sw). verdict ≡ Some status)
-    (λ (status : Sw). refused ≡ Some status) (λ (status : Sw) (due : verdict ≡ Some status).
-    entry-refusal m c.requires.kept.ready.usable.committed_size c.requires.kept.card c.args.current.now c.args.target
-    c.args.need e file place
-    ∙ ap (λ (y : Entry). file_refusal (is_barred (card_of m).tree (path_of t e)) (fits_kind c.args.need.structure
-    y.kind) (allowed (card_of m) (session_of t c.args.current.now) (path_of t e) c.args.need.bit)) (sym entry)
-    ∙ ap (λ (l : List ℕ). file_refusal (is_barred (card_of l).tree (path_of (table l) e))
-    (fits_kind c.args.need.structure c.in_ok-entry.entry.kind)
-    (allowed (card_of l) (session_of (table l) c.args.current.now) (path_of (table l) e) c.args.need.bit)) (sym same)
-    ∙ due) c.in_err-check_file.ensures.refusal)
-
-pub returns-clause-found : goal.returns-clause-found
-returns-clause-found g c =
-    let m = committed c.args.store.now in
-    let t = table m in
-    let e = c.in-Some.number in
-    let file = subst (λ (o : Option ℕ). IfSome o (IsElementary t c.args.current.now.df)) c.in-Some.is
-    c.in_ok-number.ensures.child in
-    let place = c.in_ok-number.ensures.found ∙ ap (λ (o : Option ℕ). option_map (path_of t) o) c.in-Some.is in
-    let same = c.read_entry.ensures.store.only.keeps.committed_words
-    ∙ c.find_target.ensures.store.only.keeps.committed_words in
-    let entry : c.in_ok-entry.entry ≡ entry_in t e =
-    c.in_ok-entry.ensures.entry ∙ ap (λ (l : List ℕ). entry_in (table l) e)
-    c.find_target.ensures.store.only.keeps.committed_words in
-    let none = entry-refusal m c.requires.kept.ready.usable.committed_size c.requires.kept.card c.args.current.now
-    c.args.target c.args.need e file place
-    ∙ ap (λ (y : Entry). file_refusal (is_barred (card_of m).tree (path_of t e))
-    (fits_kind c.args.need.structure y.kind)
-    (allowed (card_of m) (session_of t c.args.current.now) (path_of t e) c.args.need.bit)) (sym entry)
-    ∙ ap (λ (l : List ℕ). file_refusal (is_barred (card_of l).tree (path_of (table l) e))
-    (fits_kind c.args.need.structure c.in_ok-entry.entry.kind)
-    (allowed (card_of l) (session_of (table l) c.args.current.now) (path_of (table l) e) c.args.need.bit)) (sym same)
-    ∙ c.in_ok-check_file.ensures.refusal in
-    entry-named m c.requires.kept.ready.usable.committed_size c.requires.kept.card c.args.current.now c.args.target
-    c.args.need e file place none c.in_ok-entry.entry entry
+pub returns : goal.returns
+returns g c = record {
+  told = let m = committed c.args.store.now in
+        let t = table m in
+        let e = c.in-Some.number in
+        let file = subst (λ (o : Option ℕ). IfSome o (IsElementary t c.args.current.now.df)) c.in-Some.is
+        c.in_ok-number.ensures.child in
+        let place = c.in_ok-number.ensures.found.told ∙ ap (λ (o : Option ℕ). option_map (path_of t) o) c.in-Some.is in
+        let same = c.read_entry.ensures.store.only.keeps.committed_words
+        ∙ c.find_target.ensures.found.store.only.keeps.committed_words in
+        let entry : c.in_ok-entry.entry ≡ entry_in t e =
+        c.in_ok-entry.ensures.entry ∙ ap (λ (l : List ℕ). entry_in (table l) e)
+        c.find_target.ensures.found.store.only.keeps.committed_words in
+        let none = entry-refusal m c.requires.kept.ready.usable.committed_size c.requires.kept.card c.args.current.now
+        c.args.target c.args.need e file place
+        ∙ ap (λ (y : Entry). file_refusal (is_barred (card_of m).tree (path_of t e))
+        (fits_kind c.args.need.structure y.kind)
+        (allowed (card_of m) (session_of t c.args.current.now) (path_of t e) c.args.need.bit)) (sym entry)
+        ∙ ap (λ (l : List ℕ). file_refusal (is_barred (card_of l).tree (path_of (table l) e))
+        (fits_kind c.args.need.structure c.in_ok-entry.entry.kind)
+        (allowed (card_of l) (session_of (table l) c.args.current.now) (path_of (table l) e) c.args.need.bit)) (sym same)
+        ∙ c.in_ok-check_file.ensures.told in
+        entry-named m c.requires.kept.ready.usable.committed_size c.requires.kept.card c.args.current.now c.args.target
+        c.args.need e file place none c.in_ok-entry.entry entry;
+  store = reads_on _ _ _ _ (reads_then _ _ _ c.find_target.ensures.found.store.only c.read_entry.ensures.store.only)
+        c.in_ok-check_file.ensures.store;
+}
 
 pub check_file-requires-clause-kept : goal.check_file-requires-clause-kept
 check_file-requires-clause-kept g c =
-    kept_still _ _ _ (reads_then _ _ _ c.find_target.ensures.store.only c.read_entry.ensures.store.only)
+    kept_still _ _ _ (reads_then _ _ _ c.find_target.ensures.found.store.only c.read_entry.ensures.store.only)
     c.in_ok-entry.ensures.store.ready c.requires.kept
 
 pub check_file-requires-clause-used : goal.check_file-requires-clause-used
 check_file-requires-clause-used g c =
     let same = c.read_entry.ensures.store.only.keeps.committed_words
-    ∙ c.find_target.ensures.store.only.keeps.committed_words in
+    ∙ c.find_target.ensures.found.store.only.keeps.committed_words in
     let file = subst (λ (o : Option ℕ). IfSome o (IsElementary (table (committed c.args.store.now))
     c.args.current.now.df)) c.in-Some.is c.in_ok-number.ensures.child in
     subst (λ (l : List ℕ). IsUsed (table l) c.in-Some.number) (sym same) file.child.used
@@ -109,22 +110,21 @@ check_file-requires-clause-entry g c =
     ∙ ap (λ (l : List ℕ). entry_in (table l) c.in-Some.number)
     (sym c.read_entry.ensures.store.only.keeps.committed_words)
 
-pub returns-in_err-entry-clause-store : goal.returns-in_err-entry-clause-store
-returns-in_err-entry-clause-store g c =
-    reads-stopped _ (Failed c.in_err-entry.field-0.0) c.from_residual-in_err-entry.ensures.1 _ _
-    (reads_on _ _ _ _ c.find_target.ensures.store.only c.in_err-entry.ensures.store)
+pub returns-in_err-entry : goal.returns-in_err-entry
+returns-in_err-entry g c = record {
+  told = search rules;
+  store = reads-stopped _ (Failed c.in_err-entry.field-0.0) c.from_residual-in_err-entry.ensures.1 _ _
+        (reads_on _ _ _ _ c.find_target.ensures.found.store.only c.in_err-entry.ensures.store);
+}
 
-pub returns-clause-store : goal.returns-clause-store
-returns-clause-store g c =
-    reads_on _ _ _ _ (reads_then _ _ _ c.find_target.ensures.store.only c.read_entry.ensures.store.only)
-    c.in_ok-check_file.ensures.store
+absent : {A : Type 0} (o : Option A) (status : Sw) (rest : Option Sw) → o ≡ None
+    → (if is_none o then Some status else rest) ≡ Some status
+absent o status rest is = ap (λ (p : Option _). if is_none p then Some status else rest) is
 
-pub returns-in_default-clause-found : goal.returns-in_default-clause-found
-returns-in_default-clause-found g c =
-    let none = c.in_ok-number.ensures.found
-    ∙ ap (λ (o : Option ℕ). option_map (path_of (table (committed c.args.store.now))) o) c.in_default.is in
-    absent _ (missing c.args.target) _ none ∙ ap (λ (s : Sw). Some s) (sym c.missing.ensures)
-  where
-    absent : {A : Type 0} (o : Option A) (status : Sw) (rest : Option Sw) → o ≡ None
-        → (if is_none o then Some status else rest) ≡ Some status
-    absent o status rest is = ap (λ (p : Option _). if is_none p then Some status else rest) is
+pub returns-in_default : goal.returns-in_default
+returns-in_default g c = record {
+  told = let none = c.in_ok-number.ensures.found.told
+        ∙ ap (λ (o : Option ℕ). option_map (path_of (table (committed c.args.store.now))) o) c.in_default.is in
+        absent _ (missing c.args.target) _ none ∙ ap (λ (s : Sw). Some s) (sym c.missing.ensures);
+  store = search rules;
+}
