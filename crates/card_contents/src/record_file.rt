@@ -1,12 +1,11 @@
 //! An elementary file of records, as its entry tells of it, and what a command finds of it before it writes.
-ghost use Rattle.std.specs.Prelude.{◌≡◌, ◌≤◌, ◌⊎◌, ◌==◌, if◌then◌else◌, false, length, None, Some, IfOk, OnOk};
+ghost use Rattle.std.specs.Prelude.{◌≡◌, ◌≤◌, ◌⊎◌, ◌==◌, if◌then◌else◌, false, length, None, Some, IfOk};
 ghost use Rattle.std.specs.Result.{result_err};
 ghost use Rattle.card_rules.specs.declared.status.TheConstants.Sw.{NO_ROOM};
-ghost use Rattle.undo_journal.specs.Commits.{CommitsByGate};
-ghost use Rattle.undo_journal.specs.Calls.{Changes};
 ghost use Rattle.undo_journal.specs.Memory.{committed, IsReady};
 ghost use Rattle.ef_body.specs.declared.layout.TheConstants.{RECORD_WRITES};
 ghost use Rattle.ef_body.specs.Bodies.{cyclic_records, IsCyclic};
+ghost use Rattle.ef_body.specs.Calls.{Commits};
 ghost use Rattle.file_tree.specs.declared.kinds.EntryKind.TheVariants as kinds;
 ghost use Rattle.file_tree.specs.Kinds.{kind_byte};
 ghost use Rattle.card_machine.specs.Records.{next_record, place_number, pointer_after, previous_record};
@@ -175,14 +174,9 @@ impl FileRecord {
         requires ready { IsReady store.old }
         requires body { IsCyclic (committed store.old) self.slot.ring }
         requires size { length bytes.now ≡ self.slot.ring.record_length }
-        ensures any_exit { (committed store.new ≡ committed store.old)
-            ⊎ RingBecomes self.file.wraps (committed store.old) self.slot.ring (replaced_in self.file.wraps
-            (cyclic_records (committed store.old) self.slot.ring) self.slot.number bytes.now) (committed store.new) }
-        ensures by_gate { CommitsByGate store.old store.new }
-        ensures done { OnOk result (RingBecomes self.file.wraps (committed store.old) self.slot.ring (replaced_in
-            self.file.wraps (cyclic_records (committed store.old) self.slot.ring) self.slot.number bytes.now)
-            (committed store.new)) }
-        ensures store { Changes RECORD_WRITES store.old store.new (result_err result) }
+        ensures { Commits (RingBecomes self.file.wraps (committed store.old) self.slot.ring (replaced_in
+            self.file.wraps (cyclic_records (committed store.old) self.slot.ring) self.slot.number bytes.now))
+            RECORD_WRITES store.old store.new result }
     {
         if self.file.wraps {
             self.slot.replace_oldest(store, bytes)
@@ -198,15 +192,9 @@ impl Room {
         requires ready { IsReady store.old }
         requires body { IsCyclic (committed store.old) (ring_room self) }
         requires size { length bytes.now ≡ (ring_room self).record_length }
-        ensures any_exit { (committed store.new ≡ committed store.old)
-            ⊎ RingBecomes (wraps_room self) (committed store.old) (ring_room self) (appended_in (wraps_room self)
-            (ring_room self).capacity (cyclic_records (committed store.old) (ring_room self))
-            bytes.now) (committed store.new) }
-        ensures by_gate { CommitsByGate store.old store.new }
-        ensures done { OnOk result (RingBecomes (wraps_room self) (committed store.old) (ring_room self) (appended_in
+        ensures { Commits (RingBecomes (wraps_room self) (committed store.old) (ring_room self) (appended_in
             (wraps_room self) (ring_room self).capacity (cyclic_records (committed store.old) (ring_room self))
-            bytes.now) (committed store.new)) }
-        ensures store { Changes RECORD_WRITES store.old store.new (result_err result) }
+            bytes.now)) RECORD_WRITES store.old store.new result }
     {
         match self {
             Room::Behind(slot) => slot.append(store, bytes),

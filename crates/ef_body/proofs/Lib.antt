@@ -5,3 +5,4 @@ pub mod Adding
 pub mod Increasing
 pub mod Bytes
 pub mod Finding
+pub mod Calling

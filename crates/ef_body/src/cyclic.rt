@@ -1,20 +1,17 @@
 //! Cyclic bodies: records of one length, the newest first (ETSI TS 102 221, 8.2.2.3).
-ghost use Rattle.std.specs.Prelude.{◌≡◌, ◌≤◌, ◌<◌, ◌⊎◌, ◌↔◌, ◌+◌, [], min, length, None, Some, IsTrue, IfOk};
-ghost use Rattle.std.specs.Prelude.{ℕ, List, OnOk};
+ghost use Rattle.std.specs.Prelude.{◌≡◌, ◌≤◌, ◌<◌, ◌⊎◌, ◌↔◌, ◌+◌, min, length, None, Some, IsTrue, IfOk, OnOk};
 ghost use Rattle.std.specs.Result.{result_err};
 ghost use Rattle.undo_journal.specs.Commits.{CommitsByGate};
 ghost use Rattle.undo_journal.specs.Memory.{committed, IsReady};
-ghost use Rattle.block_chain.specs.Changes.{AppendsSome};
 ghost use Rattle.undo_journal.specs.Calls.{OnlyReads, Reads, Changes};
 ghost use Rattle.ef_body.specs.declared.layout.TheConstants.{RECORD_WRITES};
 ghost use Rattle.card_rules.specs.declared.status.Sw.{Sw};
 ghost use Rattle.ef_body.specs.Records.{front, record_of};
-ghost use Rattle.ef_body.specs.Numbers.{spelled};
 ghost use Rattle.ef_body.specs.Searching.{found};
-ghost use Rattle.ef_body.specs.Refusals.{missing_record, unraised, raised_number, Decides, DecidesUnlessFailed};
-ghost use Rattle.ef_body.specs.Refusals.{IfRefused, failure};
+ghost use Rattle.ef_body.specs.Refusals.{missing_record, unraised, failure};
 ghost use Rattle.ef_body.specs.Bodies.{cyclic_records, IsCyclic};
 ghost use Rattle.ef_body.specs.Changes.{CyclicBecomes, Increases};
+ghost use Rattle.ef_body.specs.Calls.{Commits, CommitsUnlessRefused, FindsRecord, ReadsUnlessRefused, ReceivesSum};
 
 use crate::error::{BodyErr, from_store};
 use crate::number::add;
@@ -52,9 +49,7 @@ impl Cyclic {
     /// # Errors
     /// 6A83 exactly where there is no such record.
     pub fn find(self, number: u16) -> Result<RecordSlot, Sw>
-        ensures found { IfOk result (λ slot. (slot.ring ≡ self) × (slot.number ≡ number)) }
-        ensures refusal { (records : List (List ℕ)) → length records ≡ self.records
-            → missing_record records number ≡ result_err result }
+        ensures { FindsRecord self number result }
     {
         if !self.has_record(number) {
             return Err(Sw::RECORD_NOT_FOUND);
@@ -77,13 +72,8 @@ impl Cyclic {
         requires ready { IsReady store.old }
         requires body { IsCyclic (committed store.old) self }
         requires room { self.record_length ≤ N }
-        ensures bytes { OnOk result (bytes.new.items ≡ record_of (cyclic_records (committed store.old) self) number) }
-        ensures any_exit { AppendsSome [] (record_of (cyclic_records (committed store.old) self) number)
-            bytes.new.items }
-        ensures refusal { Decides (missing_record (cyclic_records (committed store.old) self) number)
-            (result_err result) }
-        ensures refused { IfRefused (result_err result) ((bytes.new.items ≡ []) × (store.new ≡ store.old)) }
-        ensures store { Reads store.old store.new (failure (result_err result)) }
+        ensures { ReadsUnlessRefused (missing_record (cyclic_records (committed store.old) self) number)
+            (record_of (cyclic_records (committed store.old) self) number) store.old store.new bytes.new.items result }
     {
         bytes.clear();
         let slot = self.find(number)?;
@@ -99,16 +89,9 @@ impl Cyclic {
         requires ready { IsReady store.old }
         requires body { IsCyclic (committed store.old) self }
         requires size { length bytes.now ≡ self.record_length }
-        ensures any_exit { (committed store.new ≡ committed store.old)
-            ⊎ CyclicBecomes (committed store.old) self (front (length (cyclic_records (committed store.old) self))
-            bytes.now (cyclic_records (committed store.old) self)) (committed store.new) }
-        ensures done { OnOk result
+        ensures { CommitsUnlessRefused (missing_record (cyclic_records (committed store.old) self) 1)
             (CyclicBecomes (committed store.old) self (front (length (cyclic_records (committed store.old) self))
-            bytes.now (cyclic_records (committed store.old) self)) (committed store.new)) }
-        ensures refusal { Decides (missing_record (cyclic_records (committed store.old) self) 1) (result_err result) }
-        ensures refused { IfRefused (result_err result) (store.new ≡ store.old) }
-        ensures by_gate { CommitsByGate store.old store.new }
-        ensures store { Changes RECORD_WRITES store.old store.new (failure (result_err result)) }
+            bytes.now (cyclic_records (committed store.old) self))) RECORD_WRITES store.old store.new result }
     {
         let newest = self.find(1)?;
         from_store(newest.replace_oldest(store, bytes))
@@ -123,14 +106,9 @@ impl Cyclic {
         requires ready { IsReady store.old }
         requires body { IsCyclic (committed store.old) self }
         requires size { length bytes.now ≡ self.record_length }
-        ensures any_exit { (committed store.new ≡ committed store.old)
-            ⊎ CyclicBecomes (committed store.old) self
-            (front self.capacity bytes.now (cyclic_records (committed store.old) self)) (committed store.new) }
-        ensures done { OnOk result (CyclicBecomes (committed store.old) self (front self.capacity bytes.now
-            (cyclic_records (committed store.old) self)) (committed store.new)) }
-        ensures refusal { Decides None (result_err result) }
-        ensures by_gate { CommitsByGate store.old store.new }
-        ensures store { Changes RECORD_WRITES store.old store.new (failure (result_err result)) }
+        ensures { CommitsUnlessRefused None (CyclicBecomes (committed store.old) self
+            (front self.capacity bytes.now (cyclic_records (committed store.old) self))) RECORD_WRITES store.old
+            store.new result }
     {
         from_store(self.push_front(store, bytes))
     }
@@ -143,13 +121,9 @@ impl Cyclic {
         requires ready { IsReady store.old }
         requires body { IsCyclic (committed store.old) self }
         requires size { length bytes.now ≡ self.record_length }
-        ensures any_exit { (committed store.new ≡ committed store.old)
-            ⊎ CyclicBecomes (committed store.old) self
-            (front self.capacity bytes.now (cyclic_records (committed store.old) self)) (committed store.new) }
-        ensures done { OnOk result (CyclicBecomes (committed store.old) self (front self.capacity bytes.now
-            (cyclic_records (committed store.old) self)) (committed store.new)) }
-        ensures by_gate { CommitsByGate store.old store.new }
-        ensures store { Changes RECORD_WRITES store.old store.new (result_err result) }
+        ensures { Commits (CyclicBecomes (committed store.old) self
+            (front self.capacity bytes.now (cyclic_records (committed store.old) self))) RECORD_WRITES store.old
+            store.new result }
     {
         put_front(self, store, bytes, self.appended())
     }
@@ -182,14 +156,8 @@ impl Cyclic {
         requires sent { length sent.now ≤ self.record_length }
         requires room { self.record_length ≤ N }
         ensures found { IfOk result (λ slot. (slot.ring ≡ self) × (slot.number ≡ 1)) }
-        ensures bytes { OnOk result (bytes.new.items ≡ spelled self.record_length (raised_number (cyclic_records
-            (committed store.old) self) sent.now)) }
-        ensures emptied { IfRefused (result_err result) (bytes.new.items ≡ []) }
-        ensures buffer { AppendsSome [] (record_of (cyclic_records (committed store.old) self) 1) bytes.new.items
-            ⊎ (bytes.new.items ≡ spelled self.record_length (raised_number (cyclic_records (committed store.old) self)
-            sent.now)) }
-        ensures refusal { DecidesUnlessFailed (unraised self.record_length (cyclic_records (committed store.old) self)
-            sent.now) (result_err result) }
+        ensures sum { ReceivesSum self.record_length (cyclic_records (committed store.old) self) sent.now
+            bytes.new.items result }
         ensures store { Reads store.old store.new (failure (result_err result)) }
     {
         bytes.clear();
@@ -219,20 +187,13 @@ impl Cyclic {
         requires body { IsCyclic (committed store.old) self }
         requires sent { length sent.now ≤ self.record_length }
         requires room { self.record_length ≤ N }
-        ensures bytes { OnOk result (bytes.new.items ≡ spelled self.record_length (raised_number (cyclic_records
-            (committed store.old) self) sent.now)) }
+        ensures sum { ReceivesSum self.record_length (cyclic_records (committed store.old) self) sent.now
+            bytes.new.items result }
         ensures any_exit { (committed store.new ≡ committed store.old)
             ⊎ Increases (committed store.old) self sent.now (committed store.new) }
         ensures done { OnOk result (Increases (committed store.old) self sent.now (committed store.new)) }
-        ensures emptied { IfRefused (result_err result) (bytes.new.items ≡ []) }
-        ensures buffer { AppendsSome [] (record_of (cyclic_records (committed store.old) self) 1) bytes.new.items
-            ⊎ (bytes.new.items ≡ spelled self.record_length (raised_number (cyclic_records (committed store.old) self)
-            sent.now)) }
-        ensures refusal { DecidesUnlessFailed (unraised self.record_length
-            (cyclic_records (committed store.old) self) sent.now) (result_err result) }
         ensures refused { (status : Sw) → unraised self.record_length (cyclic_records (committed store.old) self)
-            sent.now
-            ≡ Some status → OnlyReads store.old store.new }
+            sent.now ≡ Some status → OnlyReads store.old store.new }
         ensures by_gate { CommitsByGate store.old store.new }
         ensures store { Changes RECORD_WRITES store.old store.new (failure (result_err result)) }
     {
@@ -258,14 +219,9 @@ impl Cyclic {
         requires ready { IsReady store.old }
         requires body { IsCyclic (committed store.old) self }
         requires room { self.records ≤ N }
-        ensures numbers { OnOk result (numbers.new.items
-            ≡ found direction first text.now (cyclic_records (committed store.old) self)) }
-        ensures any_exit { AppendsSome [] (found direction first text.now (cyclic_records (committed store.old) self))
-            numbers.new.items }
-        ensures refusal { Decides (missing_record (cyclic_records (committed store.old) self) first)
-            (result_err result) }
-        ensures refused { IfRefused (result_err result) ((numbers.new.items ≡ []) × (store.new ≡ store.old)) }
-        ensures store { Reads store.old store.new (failure (result_err result)) }
+        ensures { ReadsUnlessRefused (missing_record (cyclic_records (committed store.old) self) first)
+            (found direction first text.now (cyclic_records (committed store.old) self)) store.old store.new
+            numbers.new.items result }
     {
         numbers.clear();
         let slot = self.find(first)?;

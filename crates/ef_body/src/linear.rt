@@ -1,17 +1,15 @@
 //! Linear bodies: records of one length, in number order (ETSI TS 102 221, 8.2.2.2).
-ghost use Rattle.std.specs.Prelude.{◌≡◌, ◌≤◌, ◌<◌, ◌+◌, ◌-◌, ◌*◌, ◌⊎◌, ◌↔◌, ◌++◌, ◌∷◌, [], length, slice_set, IsTrue};
-ghost use Rattle.std.specs.Prelude.{ℕ, List, IfOk, OnOk};
+ghost use Rattle.std.specs.Prelude.{◌≡◌, ◌≤◌, ◌<◌, ◌+◌, ◌-◌, ◌↔◌, ◌++◌, ◌∷◌, [], length, slice_set, IsTrue};
+ghost use Rattle.std.specs.Prelude.{ℕ, List, IfOk};
 ghost use Rattle.std.specs.Result.{result_err};
-ghost use Rattle.undo_journal.specs.Commits.{CommitsByGate};
 ghost use Rattle.undo_journal.specs.Memory.{committed, IsReady};
-ghost use Rattle.block_chain.specs.Changes.{AppendsSome};
-ghost use Rattle.undo_journal.specs.Calls.{Reads, Changes};
 ghost use Rattle.ef_body.specs.declared.layout.TheConstants.{UPDATE_WRITES, RECORD_WRITES};
 ghost use Rattle.ef_body.specs.Records.{record_of};
 ghost use Rattle.ef_body.specs.Searching.{found};
-ghost use Rattle.ef_body.specs.Refusals.{missing_record, full, Decides, IfRefused, failure};
+ghost use Rattle.ef_body.specs.Refusals.{missing_record, full};
 ghost use Rattle.ef_body.specs.Bodies.{linear_records, ring_of, IsLinear};
 ghost use Rattle.ef_body.specs.Changes.{LinearBecomes};
+ghost use Rattle.ef_body.specs.Calls.{CommitsUnlessRefused, FindsRecord, ReadsUnlessRefused};
 
 use crate::cyclic::Cyclic;
 use crate::error::{BodyErr, from_store};
@@ -53,9 +51,7 @@ impl Linear {
     /// # Errors
     /// 6A83 exactly where there is no such record.
     pub fn find(self, number: u16) -> Result<RecordSlot, Sw>
-        ensures found { IfOk result (λ slot. (slot.ring ≡ ring_of self) × (slot.number ≡ number)) }
-        ensures refusal { (records : List (List ℕ)) → length records ≡ self.records
-            → missing_record records number ≡ result_err result }
+        ensures { FindsRecord (ring_of self) number result }
     {
         self.ring().find(number)
     }
@@ -97,13 +93,8 @@ impl Linear {
         requires ready { IsReady store.old }
         requires body { IsLinear (committed store.old) self }
         requires room { self.record_length ≤ N }
-        ensures bytes { OnOk result (bytes.new.items ≡ record_of (linear_records (committed store.old) self) number) }
-        ensures any_exit { AppendsSome [] (record_of (linear_records (committed store.old) self) number)
-            bytes.new.items }
-        ensures refusal { Decides (missing_record (linear_records (committed store.old) self) number)
-            (result_err result) }
-        ensures refused { IfRefused (result_err result) ((bytes.new.items ≡ []) × (store.new ≡ store.old)) }
-        ensures store { Reads store.old store.new (failure (result_err result)) }
+        ensures { ReadsUnlessRefused (missing_record (linear_records (committed store.old) self) number)
+            (record_of (linear_records (committed store.old) self) number) store.old store.new bytes.new.items result }
     {
         self.ring().read(store, number, bytes)
     }
@@ -121,16 +112,9 @@ impl Linear {
         requires ready { IsReady store.old }
         requires body { IsLinear (committed store.old) self }
         requires size { length bytes.now ≡ self.record_length }
-        ensures any_exit { (committed store.new ≡ committed store.old)
-            ⊎ LinearBecomes (committed store.old) self (slice_set (linear_records (committed store.old) self)
-            (number - 1) bytes.now) (committed store.new) }
-        ensures done { OnOk result (LinearBecomes (committed store.old) self
-            (slice_set (linear_records (committed store.old) self) (number - 1) bytes.now) (committed store.new)) }
-        ensures refusal { Decides (missing_record (linear_records (committed store.old) self) number)
-            (result_err result) }
-        ensures refused { IfRefused (result_err result) (store.new ≡ store.old) }
-        ensures by_gate { CommitsByGate store.old store.new }
-        ensures store { Changes UPDATE_WRITES store.old store.new (failure (result_err result)) }
+        ensures { CommitsUnlessRefused (missing_record (linear_records (committed store.old) self) number)
+            (LinearBecomes (committed store.old) self (slice_set (linear_records (committed store.old) self)
+            (number - 1) bytes.now)) UPDATE_WRITES store.old store.new result }
     {
         let slot = self.find(number)?;
         from_store(slot.replace(store, bytes))
@@ -145,15 +129,9 @@ impl Linear {
         requires ready { IsReady store.old }
         requires body { IsLinear (committed store.old) self }
         requires size { length bytes.now ≡ self.record_length }
-        ensures any_exit { (committed store.new ≡ committed store.old)
-            ⊎ LinearBecomes (committed store.old) self (linear_records (committed store.old) self ++ bytes.now ∷ [])
-            (committed store.new) }
-        ensures done { OnOk result (LinearBecomes (committed store.old) self (linear_records (committed store.old) self
-            ++ bytes.now ∷ []) (committed store.new)) }
-        ensures refusal { Decides (full self.capacity (linear_records (committed store.old) self)) (result_err result) }
-        ensures refused { IfRefused (result_err result) (store.new ≡ store.old) }
-        ensures by_gate { CommitsByGate store.old store.new }
-        ensures store { Changes RECORD_WRITES store.old store.new (failure (result_err result)) }
+        ensures { CommitsUnlessRefused (full self.capacity (linear_records (committed store.old) self))
+            (LinearBecomes (committed store.old) self (linear_records (committed store.old) self ++ bytes.now ∷ []))
+            RECORD_WRITES store.old store.new result }
     {
         let slot = self.find_room()?;
         from_store(slot.append(store, bytes))
@@ -177,14 +155,9 @@ impl Linear {
         requires ready { IsReady store.old }
         requires body { IsLinear (committed store.old) self }
         requires room { self.records ≤ N }
-        ensures numbers { OnOk result (numbers.new.items
-            ≡ found direction first text.now (linear_records (committed store.old) self)) }
-        ensures any_exit { AppendsSome [] (found direction first text.now (linear_records (committed store.old) self))
-            numbers.new.items }
-        ensures refusal { Decides (missing_record (linear_records (committed store.old) self) first)
-            (result_err result) }
-        ensures refused { IfRefused (result_err result) ((numbers.new.items ≡ []) × (store.new ≡ store.old)) }
-        ensures store { Reads store.old store.new (failure (result_err result)) }
+        ensures { ReadsUnlessRefused (missing_record (linear_records (committed store.old) self) first)
+            (found direction first text.now (linear_records (committed store.old) self)) store.old store.new
+            numbers.new.items result }
     {
         self.ring().search(store, direction, first, text, numbers)
     }

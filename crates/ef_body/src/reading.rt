@@ -1,11 +1,9 @@
 //! Records that are read.
-ghost use Rattle.std.specs.Prelude.{◌≡◌, ◌≤◌, [], OnOk};
-ghost use Rattle.std.specs.Result.{result_err};
+ghost use Rattle.std.specs.Prelude.{◌≤◌};
 ghost use Rattle.undo_journal.specs.Memory.{committed, IsReady};
-ghost use Rattle.undo_journal.specs.Calls.{Reads};
-ghost use Rattle.block_chain.specs.Changes.{AppendsSome};
 ghost use Rattle.ef_body.specs.Records.{record_of};
 ghost use Rattle.ef_body.specs.Bodies.{cyclic_records, IsCyclic};
+ghost use Rattle.ef_body.specs.Calls.{ReadsInto};
 
 use crate::slot::{RecordSlot, offset_of, slot_of};
 use arrayvec::ArrayVec;
@@ -25,11 +23,8 @@ impl RecordSlot {
         requires ready { IsReady store.old }
         requires body { IsCyclic (committed store.old) self.ring }
         requires room { self.ring.record_length ≤ N }
-        ensures bytes { OnOk result (bytes.new.items
-            ≡ record_of (cyclic_records (committed store.old) self.ring) self.number) }
-        ensures any_exit { AppendsSome [] (record_of (cyclic_records (committed store.old) self.ring) self.number)
-            bytes.new.items }
-        ensures store { Reads store.old store.new (result_err result) }
+        ensures { ReadsInto (record_of (cyclic_records (committed store.old) self.ring) self.number) store.old
+            store.new bytes.new.items result }
     {
         bytes.clear();
         let offset = offset_of(self.ring, slot_of(self.ring, self.number));

@@ -1,14 +1,13 @@
 //! Records that hold a text.
 ghost use Rattle.std.specs.Prelude.{◌≡◌, ◌≤◌, ◌<◌, ◌+◌, ◌-◌, ◌++◌, ◌∷◌, [], cond, drop, nat_eq, length};
-ghost use Rattle.std.specs.Prelude.{slice_index, IfOk, OnOk};
+ghost use Rattle.std.specs.Prelude.{slice_index};
 ghost use Rattle.std.specs.List.{starts_with};
-ghost use Rattle.std.specs.Result.{result_err};
 ghost use Rattle.undo_journal.specs.Memory.{committed, IsReady};
-ghost use Rattle.block_chain.specs.Changes.{AppendsSome};
-ghost use Rattle.undo_journal.specs.Calls.{Reads};
+ghost use Rattle.undo_journal.specs.Calls.{Learns};
 ghost use Rattle.ef_body.specs.Records.{record_of};
 ghost use Rattle.ef_body.specs.Searching.{stands_in, numbers_on, found};
 ghost use Rattle.ef_body.specs.Bodies.{cyclic_records, IsCyclic};
+ghost use Rattle.ef_body.specs.Calls.{ReadsInto};
 
 use crate::cyclic::Cyclic;
 use crate::layout::MOST_RECORD_BYTES;
@@ -56,9 +55,8 @@ fn record_holds<B: Board>(
     requires body { IsCyclic (committed store.old) body }
     requires first { 1 ≤ number }
     requires last { number ≤ body.records }
-    ensures holds { IfOk result (λ holds. holds
+    ensures { Learns store.old store.new result (λ holds. holds
         ≡ stands_in text.now (record_of (cyclic_records (committed store.old) body) number)) }
-    ensures store { Reads store.old store.new (result_err result) }
 {
     let mut bytes = ArrayVec::<u8, MOST_RECORD_BYTES>::new();
     let slot = RecordSlot { ring: body, number };
@@ -121,11 +119,8 @@ fn search_records<B: Board, const N: usize>(
     requires exists { first ≤ body.records }
     requires room { body.records ≤ N }
     requires empty { numbers.old.items ≡ [] }
-    ensures numbers { OnOk result (numbers.new.items
-        ≡ found direction first text.now (cyclic_records (committed store.old) body)) }
-    ensures any_exit { AppendsSome [] (found direction first text.now (cyclic_records (committed store.old) body))
-        numbers.new.items }
-    ensures store { Reads store.old store.new (result_err result) }
+    ensures { ReadsInto (found direction first text.now (cyclic_records (committed store.old) body)) store.old
+        store.new numbers.new.items result }
 {
     let steps = steps_of(direction, first, body.records);
     for step in 0..steps {
@@ -153,11 +148,8 @@ impl RecordSlot {
         requires ready { IsReady store.old }
         requires body { IsCyclic (committed store.old) self.ring }
         requires room { self.ring.records ≤ N }
-        ensures numbers { OnOk result (numbers.new.items
-            ≡ found direction self.number text.now (cyclic_records (committed store.old) self.ring)) }
-        ensures any_exit { AppendsSome [] (found direction self.number text.now (cyclic_records (committed store.old)
-            self.ring)) numbers.new.items }
-        ensures store { Reads store.old store.new (result_err result) }
+        ensures { ReadsInto (found direction self.number text.now (cyclic_records (committed store.old) self.ring))
+            store.old store.new numbers.new.items result }
     {
         numbers.clear();
         search_records(self.ring, store, direction, self.number, text, numbers)

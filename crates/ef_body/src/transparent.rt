@@ -1,15 +1,13 @@
 //! Transparent bodies: bytes (ISO/IEC 7816-4, 7.3.2 and 11.3).
-ghost use Rattle.std.specs.Prelude.{◌≡◌, ◌≤◌, ◌<◌, ◌+◌, ◌*◌, ◌⊎◌, ◌↔◌, [], min, length, take, drop, IsTrue, OnOk};
-ghost use Rattle.std.specs.Result.{result_err};
-ghost use Rattle.undo_journal.specs.Commits.{CommitsByGate};
+ghost use Rattle.std.specs.Prelude.{◌≡◌, ◌≤◌, ◌<◌, ◌+◌, ◌↔◌, min, length, take, drop, IsTrue, OnOk};
 ghost use Rattle.undo_journal.specs.Memory.{committed, IsReady};
-ghost use Rattle.undo_journal.specs.Calls.{Reads, Changes};
 ghost use Rattle.undo_journal.specs.Spending.{transaction_writes, WritesAtMost};
-ghost use Rattle.block_chain.specs.Changes.{overwrite, touched_blocks, touched_words, AppendsSome};
+ghost use Rattle.block_chain.specs.Changes.{overwrite, touched_blocks, touched_words};
 ghost use Rattle.block_chain.specs.Writes.{put_writes};
-ghost use Rattle.ef_body.specs.Refusals.{past_end, overlong, Decides, IfRefused, failure};
+ghost use Rattle.ef_body.specs.Refusals.{past_end, overlong};
 ghost use Rattle.ef_body.specs.Bodies.{transparent_bytes, IsTransparent};
 ghost use Rattle.ef_body.specs.Changes.{update_writes, TransparentBecomes};
+ghost use Rattle.ef_body.specs.Calls.{CommitsUnlessRefused, ReadsUnlessRefused};
 
 use crate::error::{BodyErr, from_store};
 use crate::writing::put_bytes;
@@ -57,13 +55,9 @@ impl Transparent {
         requires ready { IsReady store.old }
         requires body { IsTransparent (committed store.old) self }
         requires room { most ≤ N }
-        ensures bytes { OnOk result (bytes.new.items
-            ≡ take most (drop offset (transparent_bytes (committed store.old) self))) }
-        ensures any_exit { AppendsSome [] (take most (drop offset (transparent_bytes (committed store.old) self)))
-            bytes.new.items }
-        ensures refusal { Decides (past_end (transparent_bytes (committed store.old) self) offset) (result_err result) }
-        ensures refused { IfRefused (result_err result) ((bytes.new.items ≡ []) × (store.new ≡ store.old)) }
-        ensures store { Reads store.old store.new (failure (result_err result)) }
+        ensures { ReadsUnlessRefused (past_end (transparent_bytes (committed store.old) self) offset)
+            (take most (drop offset (transparent_bytes (committed store.old) self))) store.old store.new
+            bytes.new.items result }
     {
         bytes.clear();
         if self.ends_at(offset) {
@@ -88,17 +82,10 @@ impl Transparent {
         requires ready { IsReady store.old }
         requires body { IsTransparent (committed store.old) self }
         requires few { length bytes.now ≤ 255 }
-        ensures any_exit { (committed store.new ≡ committed store.old)
-            ⊎ TransparentBecomes (committed store.old) self (overwrite (transparent_bytes (committed store.old) self)
-            offset bytes.now) (committed store.new) }
-        ensures done { OnOk result (TransparentBecomes (committed store.old) self (overwrite (transparent_bytes
-            (committed store.old) self) offset bytes.now) (committed store.new)) }
-        ensures refusal { Decides (overlong (transparent_bytes (committed store.old) self) offset bytes.now)
-            (result_err result) }
-        ensures refused { IfRefused (result_err result) (store.new ≡ store.old) }
-        ensures by_gate { CommitsByGate store.old store.new }
-        ensures store { Changes (transaction_writes (touched_words offset (length bytes.now))
-            (touched_blocks offset (length bytes.now))) store.old store.new (failure (result_err result)) }
+        ensures commits { CommitsUnlessRefused (overlong (transparent_bytes (committed store.old) self) offset
+            bytes.now) (TransparentBecomes (committed store.old) self (overwrite (transparent_bytes
+            (committed store.old) self) offset bytes.now)) (transaction_writes (touched_words offset
+            (length bytes.now)) (touched_blocks offset (length bytes.now))) store.old store.new result }
         ensures counted { OnOk result (store.new.facts.writes
             ≡ store.old.facts.writes + put_writes offset (length bytes.now)) }
         ensures writes { WritesAtMost (update_writes (length bytes.now)) store.old.facts store.new.facts }

@@ -1,9 +1,8 @@
 //! The words of bodies that are written, each time in one transaction.
-ghost use Rattle.std.specs.Prelude.{◌≡◌, ◌⊎◌, ◌≤◌, ◌<◌, ◌+◌, ◌*◌, ◌-◌, ◌++◌, ◌∷◌, [], length, slice_set, OnOk};
+ghost use Rattle.std.specs.Prelude.{◌≡◌, ◌≤◌, ◌<◌, ◌+◌, ◌*◌, ◌-◌, ◌++◌, ◌∷◌, [], length, slice_set, OnOk};
 ghost use Rattle.std.specs.Result.{result_err};
-ghost use Rattle.undo_journal.specs.Commits.{CommitsByGate};
 ghost use Rattle.undo_journal.specs.Memory.{committed, current, room, InRuns, IsOpen, IsReady};
-ghost use Rattle.undo_journal.specs.Calls.{Changes, SetsIn};
+ghost use Rattle.undo_journal.specs.Calls.{SetsIn};
 ghost use Rattle.undo_journal.specs.Lent.{memory_of};
 ghost use Rattle.undo_journal.specs.declared.layout.TheConstants.{GATE};
 ghost use Rattle.block_chain.specs.Chains.{chain_of as blocks_of_chain, IsChain};
@@ -15,6 +14,7 @@ ghost use Rattle.ef_body.specs.Records.{front};
 ghost use Rattle.ef_body.specs.Bodies.{counts_word, cyclic_records, IsCyclic};
 ghost use Rattle.undo_journal.specs.Spending.{transaction_writes};
 ghost use Rattle.ef_body.specs.Changes.{CyclicBecomes, PutsRecord, RecordsBecome};
+ghost use Rattle.ef_body.specs.Calls.{Commits};
 
 use crate::cyclic::Cyclic;
 use crate::slot::{FreeSlot, RecordSlot, offset_of, slot_of};
@@ -40,14 +40,9 @@ pub(crate) fn put_bytes<B: Board>(
     requires within { offset + length bytes.now ≤ BLOCK_BYTES * length (blocks_of_chain (committed store.old) chain) }
     requires small { offset + length bytes.now ≤ FILE_BYTES }
     requires few { length bytes.now ≤ 255 }
-    ensures any_exit { (committed store.new ≡ committed store.old)
-        ⊎ Overwrites (committed store.old) (blocks_of_chain (committed store.old) chain) offset
-        bytes.now (committed store.new) }
-    ensures done { OnOk result (Overwrites (committed store.old) (blocks_of_chain (committed store.old) chain) offset
-        bytes.now (committed store.new)) }
-    ensures by_gate { CommitsByGate store.old store.new }
-    ensures store { Changes (transaction_writes (touched_words offset (length bytes.now))
-        (touched_blocks offset (length bytes.now))) store.old store.new (result_err result) }
+    ensures commits { Commits (Overwrites (committed store.old) (blocks_of_chain (committed store.old) chain) offset
+        bytes.now) (transaction_writes (touched_words offset (length bytes.now)) (touched_blocks offset
+        (length bytes.now))) store.old store.new result }
     ensures counted { OnOk result (store.new.facts.writes
         ≡ store.old.facts.writes + put_writes offset (length bytes.now)) }
 {
@@ -72,12 +67,8 @@ fn put_record<B: Board>(
     requires small { offset + length bytes.now ≤ FILE_BYTES }
     requires few { length bytes.now ≤ 255 }
     requires entry { told_at < GATE }
-    ensures any_exit { (committed store.new ≡ committed store.old)
-        ⊎ PutsRecord (committed store.old) chain offset bytes.now told_at told (committed store.new) }
-    ensures done { OnOk result
-        (PutsRecord (committed store.old) chain offset bytes.now told_at told (committed store.new)) }
-    ensures by_gate { CommitsByGate store.old store.new }
-    ensures store { Changes RECORD_WRITES store.old store.new (result_err result) }
+    ensures { Commits (PutsRecord (committed store.old) chain offset bytes.now told_at told) RECORD_WRITES store.old
+        store.new result }
 {
     let mut txn = store.begin();
     let work = set_record(&mut txn, chain, offset, bytes, told_at, told);
@@ -124,14 +115,8 @@ pub(crate) fn put_front<B: Board>(
     requires some { 1 ≤ records }
     requires most { records ≤ body.capacity }
     requires more { records ≤ body.records + 1 }
-    ensures any_exit { (committed store.new ≡ committed store.old)
-        ⊎ CyclicBecomes (committed store.old) body (front records bytes.now (cyclic_records (committed store.old)
-        body))
-        (committed store.new) }
-    ensures done { OnOk result (CyclicBecomes (committed store.old) body (front records bytes.now (cyclic_records
-        (committed store.old) body)) (committed store.new)) }
-    ensures by_gate { CommitsByGate store.old store.new }
-    ensures store { Changes RECORD_WRITES store.old store.new (result_err result) }
+    ensures { Commits (CyclicBecomes (committed store.old) body (front records bytes.now (cyclic_records
+        (committed store.old) body))) RECORD_WRITES store.old store.new result }
 {
     let start = slot_of(body, body.capacity);
     let offset = offset_of(body, start);
@@ -148,13 +133,9 @@ impl RecordSlot {
         requires ready { IsReady store.old }
         requires body { IsCyclic (committed store.old) self.ring }
         requires size { length bytes.now ≡ self.ring.record_length }
-        ensures any_exit { (committed store.new ≡ committed store.old)
-            ⊎ RecordsBecome (committed store.old) self.ring (slice_set (cyclic_records (committed store.old) self.ring)
-            (self.number - 1) bytes.now) (committed store.new) }
-        ensures done { OnOk result (RecordsBecome (committed store.old) self.ring (slice_set
-            (cyclic_records (committed store.old) self.ring) (self.number - 1) bytes.now) (committed store.new)) }
-        ensures by_gate { CommitsByGate store.old store.new }
-        ensures store { Changes UPDATE_WRITES store.old store.new (result_err result) }
+        ensures { Commits (RecordsBecome (committed store.old) self.ring (slice_set
+            (cyclic_records (committed store.old) self.ring) (self.number - 1) bytes.now)) UPDATE_WRITES store.old
+            store.new result }
     {
         let offset = offset_of(self.ring, slot_of(self.ring, self.number));
         put_bytes(store, self.ring.chain, offset, bytes)
@@ -174,14 +155,9 @@ impl RecordSlot {
         requires ready { IsReady store.old }
         requires body { IsCyclic (committed store.old) self.ring }
         requires size { length bytes.now ≡ self.ring.record_length }
-        ensures any_exit { (committed store.new ≡ committed store.old)
-            ⊎ CyclicBecomes (committed store.old) self.ring (front (length (cyclic_records (committed store.old)
-            self.ring)) bytes.now (cyclic_records (committed store.old) self.ring)) (committed store.new) }
-        ensures done { OnOk result (CyclicBecomes (committed store.old) self.ring (front (length (cyclic_records
-            (committed store.old) self.ring)) bytes.now (cyclic_records (committed store.old) self.ring))
-            (committed store.new)) }
-        ensures by_gate { CommitsByGate store.old store.new }
-        ensures store { Changes RECORD_WRITES store.old store.new (result_err result) }
+        ensures { Commits (CyclicBecomes (committed store.old) self.ring (front (length (cyclic_records
+            (committed store.old) self.ring)) bytes.now (cyclic_records (committed store.old) self.ring)))
+            RECORD_WRITES store.old store.new result }
     {
         put_front(self.ring, store, bytes, self.ring.records)
     }
@@ -197,13 +173,8 @@ impl FreeSlot {
         requires ready { IsReady store.old }
         requires body { IsCyclic (committed store.old) self.ring }
         requires size { length bytes.now ≡ self.ring.record_length }
-        ensures any_exit { (committed store.new ≡ committed store.old)
-            ⊎ RecordsBecome (committed store.old) self.ring (cyclic_records (committed store.old) self.ring ++ bytes.now
-            ∷ []) (committed store.new) }
-        ensures done { OnOk result (RecordsBecome (committed store.old) self.ring (cyclic_records (committed store.old)
-            self.ring ++ bytes.now ∷ []) (committed store.new)) }
-        ensures by_gate { CommitsByGate store.old store.new }
-        ensures store { Changes RECORD_WRITES store.old store.new (result_err result) }
+        ensures { Commits (RecordsBecome (committed store.old) self.ring (cyclic_records (committed store.old)
+            self.ring ++ bytes.now ∷ [])) RECORD_WRITES store.old store.new result }
     {
         let ring = self.ring;
         let offset = offset_of(ring, slot_of(ring, ring.records + 1));

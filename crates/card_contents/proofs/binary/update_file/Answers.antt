@@ -43,15 +43,17 @@ returns-in_err-update-clause-serves g c =
     c.in_ok-file.file.number c.in_ok-file.file.entry c.in_ok-file.ensures.told c.body_of-body.result
     c.body_of-body.ensures c.args.offset c.args.bytes.now c.find_file.ensures.store.only c.requires.kept.current
     c.in_ok-file.ensures.store.ready
-    c.update.new.store c.update.ensures.any_exit c.update.ensures.by_gate c.update.ensures.store.reports
-    c.update.ensures.store.writes c.in_err-update.field-0.0 c.in_err-update.ensures.refusal
-    c.in_err-update.ensures.refused c.in_err-update.ensures.store.tells _ c.from_residual-in_err-update.ensures.1
+    c.update.new.store c.update.ensures.commits.any_exit c.update.ensures.commits.by_gate
+    c.update.ensures.commits.store.reports
+    c.update.ensures.commits.store.writes c.in_err-update.field-0.0 c.in_err-update.ensures.commits.refusal
+    c.in_err-update.ensures.commits.refused c.in_err-update.ensures.commits.store.tells _
+    c.from_residual-in_err-update.ensures.1
 
 pub returns-in_err-update-clause-space : goal.returns-in_err-update-clause-space
 returns-in_err-update-clause-space g c =
     let old = c.args.store.now in
     let mid = c.find_file.new.store in
-    body-kept _ _ c.from_residual-in_err-update.ensures.1 _ _ c.in_err-update.ensures.refused
+    body-kept _ _ c.from_residual-in_err-update.ensures.1 _ _ c.in_err-update.ensures.commits.refused
     (λ (kept : c.update.new.store ≡ mid). ap (λ (m : Memory). space_in m) kept
     ∙ space-same old mid c.find_file.ensures.store.only.keeps.committed_words)
 
@@ -65,9 +67,11 @@ returns-clause-serves g c =
     subst (λ (y : Current). Serves request old x new y [] (Ok DONE)) (sym c.naming.ensures)
     (found-made old mid c.requires.kept.ready c.requires.kept.card x c.args.target c.in_ok-file.file.number
     c.in_ok-file.file.entry c.in_ok-file.ensures.told c.body_of-body.result
-    c.body_of-body.ensures c.args.offset c.args.bytes.now c.find_file.ensures.store.only c.in_ok-update.ensures.refusal
-    new c.update.ensures.any_exit c.update.ensures.by_gate c.update.ensures.store.reports c.update.ensures.store.writes
-    c.in_ok-update.ensures.done c.in_ok-update.ensures.store.ready c.requires.kept.current)
+    c.body_of-body.ensures c.args.offset c.args.bytes.now c.find_file.ensures.store.only
+    c.in_ok-update.ensures.commits.refusal
+    new c.update.ensures.commits.any_exit c.update.ensures.commits.by_gate c.update.ensures.commits.store.reports
+    c.update.ensures.commits.store.writes
+    c.in_ok-update.ensures.commits.done c.in_ok-update.ensures.commits.store.ready c.requires.kept.current)
 
 pub returns-clause-space : goal.returns-clause-space
 returns-clause-space g c =
@@ -77,6 +81,8 @@ returns-clause-space g c =
     let new = c.update.new.store in
     found-space old mid c.requires.kept.ready c.requires.kept.card x c.args.target c.in_ok-file.file.number
     c.in_ok-file.file.entry c.in_ok-file.ensures.told c.body_of-body.result
-    c.body_of-body.ensures c.args.offset c.args.bytes.now c.find_file.ensures.store.only c.in_ok-update.ensures.refusal
-    new c.update.ensures.any_exit c.update.ensures.by_gate c.update.ensures.store.reports c.update.ensures.store.writes
-    c.in_ok-update.ensures.done
+    c.body_of-body.ensures c.args.offset c.args.bytes.now c.find_file.ensures.store.only
+    c.in_ok-update.ensures.commits.refusal
+    new c.update.ensures.commits.any_exit c.update.ensures.commits.by_gate c.update.ensures.commits.store.reports
+    c.update.ensures.commits.store.writes
+    c.in_ok-update.ensures.commits.done

@@ -27,7 +27,7 @@ returns-then-is_too_long g c = record {
 pub answer_of-response-requires : goal.answer_of-response-requires
 answer_of-response-requires g c =
     let ring = c.in_ok-file.file.ring in
-    let sum_is = c.in_ok-slot.ensures.bytes in
+    let sum_is = c.in_ok-slot.ensures.sum.bytes in
     let size = ap (λ (l : List ℕ). length l) sum_is in
     let long = length-spelled ring.record_length (raised_number (cyclic_records (committed c.find_records.new.store)
     ring) c.args.amount.now) in
@@ -43,9 +43,9 @@ returns-then-asks_less g c = record {
         let expected = c.args.expected in
         let same = c.find_records.ensures.store.only.keeps.committed_words in
         let found = c.in_ok-file.ensures.told in
-        let sum_is = c.in_ok-slot.ensures.bytes in
+        let sum_is = c.in_ok-slot.ensures.sum.bytes in
         let free = ap (λ (l : List ℕ). unraised ring.record_length (cyclic_records l ring) sent) (sym same)
-        ∙ c.in_ok-slot.ensures.refusal in
+        ∙ c.in_ok-slot.ensures.sum.refusal in
         let data_is : c.answer_of-response.result.items
         ≡ spelled ring.record_length (raised_number (cyclic_records m ring) sent) ++ sent =
         c.answer_of-response.ensures ∙ ap (λ (l : List ℕ). l ++ sent) (sum_is
@@ -64,13 +64,13 @@ returns g c = record {
   told = let ring = c.in_ok-file.file.ring in
         let sent = c.args.amount.now in
         let same = c.find_records.ensures.store.only.keeps.committed_words in
-        let sum_is = c.in_ok-slot.ensures.bytes in
+        let sum_is = c.in_ok-slot.ensures.sum.bytes in
         record {
           named = c.in_ok-file.ensures.told;
           ring_is = c.in_ok-slot.ensures.found.0;
           short = sym c.is_too_long.ensures ∙ c.if-is_too_long.false;
           raises = ap (λ (l : List ℕ). unraised ring.record_length (cyclic_records l ring) sent) (sym same)
-              ∙ c.in_ok-slot.ensures.refusal;
+              ∙ c.in_ok-slot.ensures.sum.refusal;
           sum_is = sum_is
               ∙ ap (λ (l : List ℕ). spelled ring.record_length (raised_number (cyclic_records l ring) sent)) same;
           enough = ap (asks_less c.args.expected) (sym c.answer_of-response.ensures) ∙ sym c.asks_less.ensures
@@ -118,8 +118,9 @@ returns-in_err-slot g c = record {
         let found = c.in_ok-file.ensures.told in
         let e = c.in_err-slot.field-0.0 in
         finds-stopped _ (stop_of_body e) c.from_residual-in_err-slot.ensures.1 _ _
-        (body-decided _ _ e c.in_err-slot.ensures.refusal (λ status due.
-        increase-unraised (committed c.args.store.now) c.requires.kept.ready.usable.committed_size c.requires.kept.card
+        (body-decided _ _ e c.in_err-slot.ensures.sum.refusal (λ status due.
+        increase-unraised (committed c.args.store.now) c.requires.kept.ready.usable.committed_size
+        c.requires.kept.card
         c.args.current.now _ c.in_ok-file.file found sent c.args.expected found.named.unrefused
         (sym c.is_too_long.ensures ∙ c.if-is_too_long.false) status
         (ap (λ (l : List ℕ). unraised ring.record_length (cyclic_records l ring) sent)

@@ -40,7 +40,7 @@ returns-then-asks_less g c =
     let way = c.way_of-way.ensures in
     let numbers : c.search.new.numbers.items ≡ found_in (searching c.args.direction) (place_number c.args.first
     (pointer_from x c.args.target)) c.args.text.now (cyclic_records (committed old) file.ring) =
-    c.in_ok-search.ensures.numbers ∙ (λ i. found_in (way i) (number i) c.args.text.now (cyclic_records (same i)
+    c.in_ok-search.ensures.bytes ∙ (λ i. found_in (way i) (number i) c.args.text.now (cyclic_records (same i)
     (found.ring_is i))) in
     let less = ap (asks_less c.args.expected) (sym numbers) ∙ sym c.asks_less.ensures
     ∙ c.if-asks_less.true in
@@ -67,16 +67,18 @@ returns g c =
     found.number_is in
     let has = chosen-has _ _ _ _ _ _ found in
     let way = c.way_of-way.ensures in
-    let all : List ℕ = found_in (searching c.args.direction) (place_number c.args.first (pointer_from x c.args.target))
+    let all : List ℕ = found_in (searching c.args.direction) (place_number c.args.first
+    (pointer_from x c.args.target))
     c.args.text.now (cyclic_records (committed old) file.ring) in
     let numbers : c.search.new.numbers.items ≡ all =
-    c.in_ok-search.ensures.numbers ∙ (λ i. found_in (way i) (number i) c.args.text.now (cyclic_records (same i)
+    c.in_ok-search.ensures.bytes ∙ (λ i. found_in (way i) (number i) c.args.text.now (cyclic_records (same i)
     (found.ring_is i))) in
     let enough = ap (asks_less c.args.expected) (sym numbers) ∙ sym c.asks_less.ensures
     ∙ c.if-asks_less.false in
     let pointer : c.first_of-pointer.result ≡ pointer_found (pointer_from x c.args.target) all =
     c.first_of-pointer.ensures ∙ (λ i. pointer_found (c.pointer_at.ensures i) (numbers i)) in
-    let y_is : c.pointing.result ≡ pointing_from x c.args.target e (pointer_found (pointer_from x c.args.target) all) =
+    let y_is : c.pointing.result ≡ pointing_from x c.args.target e (pointer_found (pointer_from x c.args.target) all)
+    =
     c.pointing.ensures ∙ ap (pointing_from x c.args.target e) pointer in
     let given_is : c.give.new.answer.items ≡ given c.args.expected all =
     c.give.ensures.given ∙ ap (given c.args.expected) numbers in
@@ -87,7 +89,8 @@ returns g c =
     answered (search_record c.args.target c.args.first c.args.direction c.args.text.now c.args.expected) old x
     c.search.new.store (λ _. tt) c.requires.kept.card c.pointing.result c.give.new.answer.items c.status_of.result
     (reads_then old c.find_record.new.store
-    c.search.new.store c.find_record.ensures.store.only c.search.ensures.store.only) c.in_ok-search.ensures.store.ready
+    c.search.new.store c.find_record.ensures.store.only c.search.ensures.store.only)
+    c.in_ok-search.ensures.store.ready
     (subst (λ (y : Current). IsCurrent (table_in old) y) (sym y_is) current)
     c.give.ensures.room
     (search-whole (committed old) sized c.requires.kept.card x c.args.target _ file found.named
@@ -108,7 +111,8 @@ returns-in_err-found g c =
 pub returns-in_err-search : goal.returns-in_err-search
 returns-in_err-search g c =
     let none : length c.args.answer.now.items ≡ 0 = ap (λ (l : List ℕ). length l) c.requires.empty in
-    handed (search_record c.args.target c.args.first c.args.direction c.args.text.now c.args.expected) c.args.store.now
+    handed (search_record c.args.target c.args.first c.args.direction c.args.text.now c.args.expected)
+    c.args.store.now
     c.args.current.now c.search.new.store c.requires.kept.card c.args.current.now c.args.answer.now.items _
     c.in_err-search.field-0.0 (reply-failed _ _ c.from_residual-in_err-search.ensures.1)
     (reads_on c.args.store.now c.find_record.new.store c.search.new.store _ c.find_record.ensures.store.only

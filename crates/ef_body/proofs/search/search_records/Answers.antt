@@ -4,7 +4,7 @@ use Rattle.std.proofs.lemmas.List.{length-take-le, take_all}
 use Rattle.std.specs.List.{filter}
 use Rattle.undo_journal.specs.Memory.{committed}
 use Rattle.undo_journal.specs.laws.Calls.{reads_same, reads_then}
-use Rattle.undo_journal.specs.laws.Told.{reads_on, reads_handed}
+use Rattle.undo_journal.specs.laws.Told.{reads_on, reads_handed, reads_so_far}
 use Rattle.ef_body.specs.Records.{record_of}
 use Rattle.ef_body.specs.Searching.{stands_in, numbers_on}
 use Rattle.ef_body.specs.Bodies.{cyclic_records, IsCyclic}
@@ -24,12 +24,6 @@ record_holds-requires-clause-body g c =
     subst (λ (m : List ℕ). IsCyclic m c.args.body) (sym c.loop-step.invariant.reads.keeps.committed_words)
     c.requires.body
 
-pub returns-in_err-holds-clause-store : goal.returns-in_err-holds-clause-store
-returns-in_err-holds-clause-store g c =
-    reads_handed _ _ _ _ c.from_residual.ensures.1
-    (reads_on _ _ _ _ c.loop-step.invariant.reads c.in_err-holds.ensures.store)
-
--- what is looked at in the step
 pub note-requires : goal.note-requires
 note-requires g c =
     let m = committed c.args.store.now in
@@ -60,7 +54,7 @@ loop-step-preserved g c =
     let lt : c.loop-step.step < length numbers = omega (arith, steps, c.loop-step-test.true) in
     let number = c.number_at-number.ensures.number in
     let holds : c.in_ok-holds.holds ≡ test (slice_index numbers c.loop-step.step) =
-    c.in_ok-holds.ensures.holds
+    c.in_ok-holds.ensures.told
     ∙ ap (λ (l : List ℕ). stands_in c.args.text.now (record_of (cyclic_records l body) c.number_at-number.result))
     c.loop-step.invariant.reads.keeps.committed_words ∙ ap test number in
     let here : cond c.in_ok-holds.holds (c.number_at-number.result ∷ []) []
@@ -73,28 +67,29 @@ loop-step-preserved g c =
           ∙ sym (filter-next test numbers c.loop-step.step lt);
     }
 
-pub returns-clause-numbers : goal.returns-clause-numbers
-returns-clause-numbers g c =
+pub returns-in_err-holds : goal.returns-in_err-holds
+returns-in_err-holds g c = record {
+  bytes = search rules;
+  any_exit = found_some c.args.direction c.args.first c.args.body.records c.loop-step.step c.args.text.now
+      (cyclic_records (committed c.args.store.now) c.args.body) _ (length-cyclic (committed c.args.store.now)
+      c.args.body c.requires.body) c.loop-step.invariant.so_far;
+  store = reads_handed _ _ _ _ c.from_residual.ensures.1
+      (reads_on _ _ _ _ c.loop-step.invariant.reads c.in_err-holds.ensures.store);
+}
+
+pub returns : goal.returns
+returns g c =
     let m = committed c.args.store.now in
     let body = c.args.body in
     let numbers = numbers_on c.args.direction c.args.first body.records in
     let test : ℕ → Bool = λ n. stands_in c.args.text.now (record_of (cyclic_records m body) n) in
     let steps = c.steps_of-steps.ensures in
     let all : length numbers ≤ c.loop-step.step = omega (arith, steps, c.loop-step-test.false) in
-    c.loop-step.invariant.so_far ∙ ap (filter test) (take_all c.loop-step.step numbers all)
-    ∙ ap (λ (n : ℕ). filter test (numbers_on c.args.direction c.args.first n)) (sym (length-cyclic m body
-    c.requires.body))
-
-pub returns-in_err-holds-clause-any_exit : goal.returns-in_err-holds-clause-any_exit
-returns-in_err-holds-clause-any_exit g c =
-    let m = committed c.args.store.now in
-    found_some c.args.direction c.args.first c.args.body.records c.loop-step.step c.args.text.now
-    (cyclic_records m c.args.body) _
-    (length-cyclic m c.args.body c.requires.body) c.loop-step.invariant.so_far
-
-pub returns-clause-any_exit : goal.returns-clause-any_exit
-returns-clause-any_exit g c =
-    let m = committed c.args.store.now in
-    found_some c.args.direction c.args.first c.args.body.records c.loop-step.step c.args.text.now
-    (cyclic_records m c.args.body) _
-    (length-cyclic m c.args.body c.requires.body) c.loop-step.invariant.so_far
+    let many = length-cyclic m body c.requires.body in
+    record {
+      bytes = c.loop-step.invariant.so_far ∙ ap (filter test) (take_all c.loop-step.step numbers all)
+          ∙ ap (λ (n : ℕ). filter test (numbers_on c.args.direction c.args.first n)) (sym many);
+      any_exit = found_some c.args.direction c.args.first body.records c.loop-step.step c.args.text.now
+          (cyclic_records m body) _ many c.loop-step.invariant.so_far;
+      store = reads_so_far _ _ c.loop-step.invariant.reads c.loop-step.invariant.ready;
+    }

@@ -24,45 +24,36 @@ set_bytes-work-requires-clause-chain g c =
 pub set_bytes-work-requires-clause-within : goal.set_bytes-work-requires-clause-within
 set_bytes-work-requires-clause-within g c =
     subst (λ (m : List ℕ). c.args.offset + length c.args.bytes.now ≤ BLOCK_BYTES * length (chain_of m c.args.chain))
-    (begun c.args.store.now (memory_of c.begin-txn.result) c.begin-txn.ensures.same c.requires.ready) c.requires.within
+    (begun c.args.store.now (memory_of c.begin-txn.result) c.begin-txn.ensures.same c.requires.ready)
+    c.requires.within
 
 pub set_bytes-work-requires-clause-room : goal.set_bytes-work-requires-clause-room
 set_bytes-work-requires-clause-room g c =
     let most = touched_few c.args.offset (length c.args.bytes.now) c.requires.few in
     omega (arith, most, c.begin-txn.ensures.room)
 
-pub returns-clause-any_exit : goal.returns-clause-any_exit
-returns-clause-any_exit g c =
+pub returns-clause-commits : goal.returns-clause-commits
+returns-clause-commits g c =
     let set = c.set_bytes-work.ensures in
     let last = c.store-1.given.1 (sym (set.store.sets.same_store ∙ c.begin-txn.ensures.same_store)) in
-    ends (λ m after. Overwrites m (chain_of m c.args.chain) c.args.offset c.args.bytes.now after)
-    _ c.set_bytes-work.result _ _ (memory_of c.set_bytes-work.new.txn) _ _ c.begin-txn.ensures.same last
-    c.requires.ready set.store.sets.kept set.done c.end.ensures.any_exit
-
-pub returns-clause-done : goal.returns-clause-done
-returns-clause-done g c =
-    let set = c.set_bytes-work.ensures in
-    let last = c.store-1.given.1 (sym (set.store.sets.same_store ∙ c.begin-txn.ensures.same_store)) in
-    ends_done (λ m after. Overwrites m (chain_of m c.args.chain) c.args.offset c.args.bytes.now after)
-    c.set_bytes-work.result c.end.result _ _ (memory_of c.set_bytes-work.new.txn) _ _ c.begin-txn.ensures.same last
-    c.requires.ready set.done c.end.ensures.answered c.end.ensures.done
-
-pub returns-clause-by_gate : goal.returns-clause-by_gate
-returns-clause-by_gate g c =
-    let set = c.set_bytes-work.ensures in
-    let last = c.store-1.given.1 (sym (set.store.sets.same_store ∙ c.begin-txn.ensures.same_store)) in
-    ends_by_gate _ _ _ _ (memory_of c.set_bytes-work.new.txn) _ _ c.begin-txn.ensures.same last set.store.sets.kept
-    c.end.ensures.any_exit
-
-pub returns-clause-store : goal.returns-clause-store
-returns-clause-store g c =
-    let set = c.set_bytes-work.ensures in
-    let last = c.store-1.given.1 (sym (set.store.sets.same_store ∙ c.begin-txn.ensures.same_store)) in
-    ends_answered (touched_words c.args.offset (length c.args.bytes.now)) (touched_blocks c.args.offset
-    (length c.args.bytes.now)) (transaction_writes (touched_words c.args.offset (length c.args.bytes.now))
-    (touched_blocks c.args.offset (length c.args.bytes.now))) c.set_bytes-work.result c.end.result _
-    _ (memory_of c.set_bytes-work.new.txn) _ _ (omega arith) c.begin-txn.ensures.same last c.requires.ready
-    set.store.sets.taken set.store.sets.reports set.runs set.store.tells c.end.ensures.store c.end.ensures.answered
+    record {
+      any_exit = ends (λ m after. Overwrites m (chain_of m c.args.chain) c.args.offset c.args.bytes.now after)
+          _ c.set_bytes-work.result _ _ (memory_of c.set_bytes-work.new.txn) _ _ c.begin-txn.ensures.same last
+          c.requires.ready set.store.sets.kept set.done c.end.ensures.any_exit;
+      done = ends_done (λ m after. Overwrites m (chain_of m c.args.chain) c.args.offset c.args.bytes.now after)
+          c.set_bytes-work.result c.end.result _ _ (memory_of c.set_bytes-work.new.txn) _ _ c.begin-txn.ensures.same
+          last
+          c.requires.ready set.done c.end.ensures.answered c.end.ensures.done;
+      by_gate = ends_by_gate _ _ _ _ (memory_of c.set_bytes-work.new.txn) _ _ c.begin-txn.ensures.same last
+          set.store.sets.kept
+          c.end.ensures.any_exit;
+      store = ends_answered (touched_words c.args.offset (length c.args.bytes.now)) (touched_blocks c.args.offset
+          (length c.args.bytes.now)) (transaction_writes (touched_words c.args.offset (length c.args.bytes.now))
+          (touched_blocks c.args.offset (length c.args.bytes.now))) c.set_bytes-work.result c.end.result _
+          _ (memory_of c.set_bytes-work.new.txn) _ _ (omega arith) c.begin-txn.ensures.same last c.requires.ready
+          set.store.sets.taken set.store.sets.reports set.runs set.store.tells c.end.ensures.store
+          c.end.ensures.answered;
+    }
 
 pub returns-clause-counted : goal.returns-clause-counted
 returns-clause-counted g c =

@@ -24,7 +24,8 @@ set_record-work-requires-clause-chain g c =
 pub set_record-work-requires-clause-within : goal.set_record-work-requires-clause-within
 set_record-work-requires-clause-within g c =
     subst (λ (m : List ℕ). c.args.offset + length c.args.bytes.now ≤ BLOCK_BYTES * length (chain_of m c.args.chain))
-    (begun c.args.store.now (memory_of c.begin-txn.result) c.begin-txn.ensures.same c.requires.ready) c.requires.within
+    (begun c.args.store.now (memory_of c.begin-txn.result) c.begin-txn.ensures.same c.requires.ready)
+    c.requires.within
 
 pub set_record-work-requires-clause-room : goal.set_record-work-requires-clause-room
 set_record-work-requires-clause-room g c =
@@ -32,37 +33,30 @@ set_record-work-requires-clause-room g c =
     let blocks = touched_few_blocks c.args.offset (length c.args.bytes.now) c.requires.few in
     omega (arith, most, c.begin-txn.ensures.room)
 
-pub returns-clause-any_exit : goal.returns-clause-any_exit
-returns-clause-any_exit g c =
-    let set = c.set_record-work.ensures in
-    let last = c.store-1.given.1 (sym (set.store.sets.same_store ∙ c.begin-txn.ensures.same_store)) in
-    ends (λ m after. PutsRecord m c.args.chain c.args.offset c.args.bytes.now c.args.told_at c.args.told after)
-    _ c.set_record-work.result _ _ (memory_of c.set_record-work.new.txn) _ _ c.begin-txn.ensures.same last
-    c.requires.ready set.store.sets.kept set.done c.end.ensures.any_exit
-
-pub returns-clause-done : goal.returns-clause-done
-returns-clause-done g c =
-    let set = c.set_record-work.ensures in
-    let last = c.store-1.given.1 (sym (set.store.sets.same_store ∙ c.begin-txn.ensures.same_store)) in
-    ends_done (λ m after. PutsRecord m c.args.chain c.args.offset c.args.bytes.now c.args.told_at c.args.told after)
-    c.set_record-work.result c.end.result _ _ (memory_of c.set_record-work.new.txn) _ _ c.begin-txn.ensures.same last
-    c.requires.ready set.done c.end.ensures.answered c.end.ensures.done
-
-pub returns-clause-by_gate : goal.returns-clause-by_gate
-returns-clause-by_gate g c =
-    let set = c.set_record-work.ensures in
-    let last = c.store-1.given.1 (sym (set.store.sets.same_store ∙ c.begin-txn.ensures.same_store)) in
-    ends_by_gate _ _ _ _ (memory_of c.set_record-work.new.txn) _ _ c.begin-txn.ensures.same last set.store.sets.kept
-    c.end.ensures.any_exit
-
-pub returns-clause-store : goal.returns-clause-store
-returns-clause-store g c =
+pub returns : goal.returns
+returns g c =
     let set = c.set_record-work.ensures in
     let last = c.store-1.given.1 (sym (set.store.sets.same_store ∙ c.begin-txn.ensures.same_store)) in
     let most = touched_few c.args.offset (length c.args.bytes.now) c.requires.few in
     let blocks = touched_few_blocks c.args.offset (length c.args.bytes.now) c.requires.few in
-    ends_answered (touched_words c.args.offset (length c.args.bytes.now) + 1)
-    (touched_blocks c.args.offset (length c.args.bytes.now) + 1) RECORD_WRITES
-    c.set_record-work.result c.end.result _ _ (memory_of c.set_record-work.new.txn) _ _ (omega (arith, most, blocks))
-    c.begin-txn.ensures.same last c.requires.ready set.store.sets.taken set.store.sets.reports set.runs set.store.tells
-    c.end.ensures.store c.end.ensures.answered
+    record {
+      any_exit = ends (λ m after. PutsRecord m c.args.chain c.args.offset c.args.bytes.now c.args.told_at c.args.told
+          after)
+          _ c.set_record-work.result _ _ (memory_of c.set_record-work.new.txn) _ _ c.begin-txn.ensures.same last
+          c.requires.ready set.store.sets.kept set.done c.end.ensures.any_exit;
+      done = ends_done (λ m after. PutsRecord m c.args.chain c.args.offset c.args.bytes.now c.args.told_at
+          c.args.told after)
+          c.set_record-work.result c.end.result _ _ (memory_of c.set_record-work.new.txn) _ _
+          c.begin-txn.ensures.same last
+          c.requires.ready set.done c.end.ensures.answered c.end.ensures.done;
+      by_gate = ends_by_gate _ _ _ _ (memory_of c.set_record-work.new.txn) _ _ c.begin-txn.ensures.same last
+          set.store.sets.kept
+          c.end.ensures.any_exit;
+      store = ends_answered (touched_words c.args.offset (length c.args.bytes.now) + 1)
+          (touched_blocks c.args.offset (length c.args.bytes.now) + 1) RECORD_WRITES
+          c.set_record-work.result c.end.result _ _ (memory_of c.set_record-work.new.txn) _ _
+          (omega (arith, most, blocks))
+          c.begin-txn.ensures.same last c.requires.ready set.store.sets.taken set.store.sets.reports set.runs
+          set.store.tells
+          c.end.ensures.store c.end.ensures.answered;
+    }

@@ -13,7 +13,7 @@ use Rattle.ef_body.proofs.cyclic.Cyclic.increase.Goals as goal
 pub replace_oldest-requires-clause-size : goal.replace_oldest-requires-clause-size
 replace_oldest-requires-clause-size g c =
     let m = committed c.args.store.now in
-    ap (λ (l : List ℕ). length l) (c.deref.ensures.0 ∙ c.in_ok-newest.ensures.bytes)
+    ap (λ (l : List ℕ). length l) (c.deref.ensures.0 ∙ c.in_ok-newest.ensures.sum.bytes)
     ∙ length-spelled c.args.self.record_length (raised_number (cyclic_records m c.args.self) c.args.sent.now)
     ∙ ap (λ (r : Cyclic). r.record_length) (sym c.in_ok-newest.ensures.found.0)
 

@@ -6,13 +6,18 @@ use Rattle.ef_body.proofs.Refusing.{refused_undecided}
 use Rattle.ef_body.proofs.Increasing.{unraised_unfound, too_high, not_too_high, is_sum}
 use Rattle.ef_body.proofs.cyclic.Cyclic.raise.Goals as goal
 
-pub returns-in_err-newest-clause-refusal : goal.returns-in_err-newest-clause-refusal
-returns-in_err-newest-clause-refusal g c =
+pub returns-in_err-newest-clause-sum : goal.returns-in_err-newest-clause-sum
+returns-in_err-newest-clause-sum g c =
     let m = committed c.args.store.now in
     let rs = cyclic_records m c.args.self in
-    refused_undecided _ _ c.from_residual.ensures.1 _
-    (unraised_unfound c.args.self.record_length rs c.args.sent.now _
-    (c.in_err-newest.ensures.refusal rs (length-cyclic m c.args.self c.requires.body)))
+    record {
+      bytes = search rules;
+      emptied = search rules;
+      buffer = inl (record { some = 0; is = c.clear.ensures });
+      refusal = refused_undecided _ _ c.from_residual.ensures.1 _
+          (unraised_unfound c.args.self.record_length rs c.args.sent.now _
+          (c.in_err-newest.ensures.refusal rs (length-cyclic m c.args.self c.requires.body)));
+    }
 
 pub add-requires : goal.add-requires
 add-requires g c =
@@ -24,8 +29,8 @@ add-requires g c =
     ∙ length-record m c.args.self 1 c.requires.ready.usable.committed_size c.requires.body (omega arith) some in
     (search rules, omega (arith, long, c.requires.sent))
 
-pub returns-then-add-clause-refusal : goal.returns-then-add-clause-refusal
-returns-then-add-clause-refusal g c =
+pub returns-then-add-clause-sum : goal.returns-then-add-clause-sum
+returns-then-add-clause-sum g c =
     let m = committed c.args.store.now in
     let rs = cyclic_records m c.args.self in
     let at = c.in_ok-newest.ensures.found in
@@ -34,11 +39,18 @@ returns-then-add-clause-refusal g c =
     let read = c.in_ok-read.ensures.bytes ∙ received_record c.args.self 1 c.in_ok-newest.newest at m in
     let long = ap (λ (l : List ℕ). length l) read
     ∙ length-record m c.args.self 1 c.requires.ready.usable.committed_size c.requires.body (omega arith) some in
-    too_high c.args.self.record_length rs c.args.sent.now c.read.new.bytes.items c.add.new.number.items c.add.result
-    (omega (arith, many, some)) read long c.add.ensures.size c.add.ensures.digits c.add.ensures.sum c.if-add.true
+    record {
+      bytes = tt;
+      emptied = c.clear-then-add.ensures;
+      buffer = inl (record { some = 0; is = c.clear-then-add.ensures });
+      refusal = too_high c.args.self.record_length rs c.args.sent.now c.read.new.bytes.items c.add.new.number.items
+          c.add.result
+          (omega (arith, many, some)) read long c.add.ensures.size c.add.ensures.digits c.add.ensures.sum
+          c.if-add.true;
+    }
 
-pub returns-clause-refusal : goal.returns-clause-refusal
-returns-clause-refusal g c =
+pub returns-clause-sum : goal.returns-clause-sum
+returns-clause-sum g c =
     let m = committed c.args.store.now in
     let rs = cyclic_records m c.args.self in
     let at = c.in_ok-newest.ensures.found in
@@ -47,26 +59,15 @@ returns-clause-refusal g c =
     let read = c.in_ok-read.ensures.bytes ∙ received_record c.args.self 1 c.in_ok-newest.newest at m in
     let long = ap (λ (l : List ℕ). length l) read
     ∙ length-record m c.args.self 1 c.requires.ready.usable.committed_size c.requires.body (omega arith) some in
-    not_too_high c.args.self.record_length rs c.args.sent.now c.read.new.bytes.items c.add.new.number.items
+    let sum = is_sum c.args.self.record_length rs c.args.sent.now c.read.new.bytes.items c.add.new.number.items
     c.add.result (omega (arith, many, some)) read long c.add.ensures.size c.add.ensures.digits c.add.ensures.sum
-    c.if-add.false
-
-pub returns-clause-bytes : goal.returns-clause-bytes
-returns-clause-bytes g c =
-    let m = committed c.args.store.now in
-    let rs = cyclic_records m c.args.self in
-    let at = c.in_ok-newest.ensures.found in
-    let some = received_last c.args.self 1 c.in_ok-newest.newest at in
-    let many = length-cyclic m c.args.self c.requires.body in
-    let read = c.in_ok-read.ensures.bytes ∙ received_record c.args.self 1 c.in_ok-newest.newest at m in
-    let long = ap (λ (l : List ℕ). length l) read
-    ∙ length-record m c.args.self 1 c.requires.ready.usable.committed_size c.requires.body (omega arith) some in
-    is_sum c.args.self.record_length rs c.args.sent.now c.read.new.bytes.items c.add.new.number.items
-    c.add.result (omega (arith, many, some)) read long c.add.ensures.size c.add.ensures.digits c.add.ensures.sum
-    c.if-add.false
-
-pub returns-then-add-clause-buffer : goal.returns-then-add-clause-buffer
-returns-then-add-clause-buffer g c = inl (record { some = 0; is = c.clear-then-add.ensures })
-
-pub returns-clause-buffer : goal.returns-clause-buffer
-returns-clause-buffer g c = inr (returns-clause-bytes g c)
+    c.if-add.false in
+    record {
+      bytes = sum;
+      emptied = tt;
+      buffer = inr sum;
+      refusal = not_too_high c.args.self.record_length rs c.args.sent.now c.read.new.bytes.items
+          c.add.new.number.items
+          c.add.result (omega (arith, many, some)) read long c.add.ensures.size c.add.ensures.digits c.add.ensures.sum
+          c.if-add.false;
+    }

@@ -1,7 +1,7 @@
-use Rattle.std.proofs.Common.{rules, ◌≡◌, ℕ, List, [], OnOk, arith, subst}
+use Rattle.std.proofs.Common.{rules, ℕ, List, arith, subst}
 use Rattle.std.proofs.lemmas.Result.{on_ok_weaker}
 use Rattle.undo_journal.specs.Memory.{committed}
-use Rattle.block_chain.specs.Changes.{AppendsSome}
+use Rattle.ef_body.specs.Calls.{ReadsInto}
 use Rattle.ef_body.specs.laws.Slots.{slot-within}
 use Rattle.ef_body.proofs.Becoming.{record_at}
 use Rattle.ef_body.proofs.Bytes.{all_appended, length-emptied, some_appended}
@@ -30,19 +30,14 @@ read_bytes-requires g c =
       ),
     )
 
-pub returns-clause-bytes : goal.returns-clause-bytes
-returns-clause-bytes g c =
-    let m = committed c.args.store.now in
+pub returns : goal.returns
+returns g c =
     let slot = c.args.self in
-    subst (λ (l : List ℕ). OnOk c.read_bytes.result (c.read_bytes.new.out.items ≡ l))
-    (record_at m slot.ring slot.number c.requires.body slot.from_first slot.to_last c.slot_of.result _
-    c.slot_of.ensures.slot c.offset_of-offset.ensures)
-    (on_ok_weaker c.read_bytes.result (all_appended _ _ _ c.clear.ensures) c.read_bytes.ensures.done)
-
-pub returns-clause-any_exit : goal.returns-clause-any_exit
-returns-clause-any_exit g c =
-    let slot = c.args.self in
-    subst (λ (l : List ℕ). AppendsSome [] l c.read_bytes.new.out.items)
+    subst (λ (l : List ℕ). ReadsInto l c.args.store.now c.read_bytes.new.store c.read_bytes.new.out.items
+    c.read_bytes.result)
     (record_at (committed c.args.store.now) slot.ring slot.number c.requires.body slot.from_first slot.to_last
-    c.slot_of.result _ c.slot_of.ensures.slot c.offset_of-offset.ensures)
-    (some_appended _ _ _ c.clear.ensures c.read_bytes.ensures.any_exit)
+    c.slot_of.result _ c.slot_of.ensures.slot c.offset_of-offset.ensures) (record {
+      bytes = on_ok_weaker c.read_bytes.result (all_appended _ _ _ c.clear.ensures) c.read_bytes.ensures.done;
+      any_exit = some_appended _ _ _ c.clear.ensures c.read_bytes.ensures.any_exit;
+      store = c.read_bytes.ensures.store;
+    })

@@ -1,23 +1,19 @@
-use Rattle.std.proofs.Math.Logic.{⊎_map}
-use Rattle.std.proofs.lemmas.Result.{on_ok_weaker}
+use Rattle.std.proofs.Common.{◌≤◌, arith, length}
 use Rattle.undo_journal.specs.Memory.{committed}
 use Rattle.ef_body.proofs.Becoming.{ring_put}
+use Rattle.ef_body.proofs.Calling.{commits_weaker, commits_within}
+use Rattle.ef_body.proofs.Putting.{touched_few, touched_few_blocks}
 use Rattle.ef_body.proofs.slot.RecordSlot.replace.Goals as goal
 
-pub returns-clause-any_exit : goal.returns-clause-any_exit
-returns-clause-any_exit g c =
+pub returns : goal.returns
+returns g c =
     let slot = c.args.self in
-    ⊎_map (λ kept. kept)
+    let short = c.requires.body.slots.short in
+    let few : length c.args.bytes.now ≤ 255 = omega (arith, short, c.requires.size) in
+    let words = touched_few c.offset_of-offset.result (length c.args.bytes.now) few in
+    let blocks = touched_few_blocks c.offset_of-offset.result (length c.args.bytes.now) few in
+    commits_weaker _ _ _ c.put_bytes.result _ _
     (ring_put (committed c.args.store.now) (committed c.put_bytes.new.store) slot.ring slot.number c.args.bytes.now
     c.requires.ready.usable.committed_size c.requires.body c.requires.size slot.from_first slot.to_last
     c.slot_of.result c.offset_of-offset.result c.slot_of.ensures.slot c.offset_of-offset.ensures)
-    c.put_bytes.ensures.any_exit
-
-pub returns-clause-done : goal.returns-clause-done
-returns-clause-done g c =
-    let slot = c.args.self in
-    on_ok_weaker c.put_bytes.result
-    (ring_put (committed c.args.store.now) (committed c.put_bytes.new.store) slot.ring slot.number c.args.bytes.now
-    c.requires.ready.usable.committed_size c.requires.body c.requires.size slot.from_first slot.to_last
-    c.slot_of.result c.offset_of-offset.result c.slot_of.ensures.slot c.offset_of-offset.ensures)
-    c.put_bytes.ensures.done
+    (commits_within _ _ _ _ _ _ (omega (arith, words, blocks)) c.put_bytes.ensures.commits)
