@@ -8,6 +8,7 @@ pub mod OfBytes
 pub mod Sizes
 pub mod Ranges
 pub mod Fields
+pub mod Parsing
 pub mod Rows
 pub mod SelectRows
 pub mod BinaryRows

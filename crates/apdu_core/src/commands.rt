@@ -1,8 +1,6 @@
 //! Commands as values, and their parsing: class, instruction, P1 and P2, and then lengths (ISO/IEC 7816-4, clause 5).
-ghost use Rattle.std.specs.Prelude.{IfOk};
 ghost use Rattle.apdu_core.specs.Asked.{asked, asked_by_row, row_of};
-ghost use Rattle.apdu_core.specs.Fields.{IsInRange};
-ghost use Rattle.apdu_core.specs.Requests.{Gives};
+ghost use Rattle.apdu_core.specs.Parsing.{IsParsed};
 
 use crate::binary::{Target, parse_read_binary, parse_update_binary};
 use crate::files::{Subject, parse_create_file, parse_delete_file};
@@ -117,8 +115,7 @@ impl<'a> Command<'a> {
     /// The status word of a refusal is the first in this order: too few bytes for a header 6700, class 6E00,
     /// instruction 6D00, P1 and P2 6A86, and then lengths 6700.
     pub fn parse(bytes: &'a [u8]) -> Result<Command<'a>, Sw>
-        ensures asked { Gives result (asked bytes.now) }
-        ensures ranges { IfOk result IsInRange }
+        ensures { IsParsed result (asked bytes.now) }
     {
         let [class, instruction, p1, p2, rest @ ..] = bytes else {
             return Err(Sw::WRONG_LENGTH);
@@ -133,8 +130,7 @@ impl<'a> Command<'a> {
 
 /// Reads what follows the class of a command of class 00, whose instructions ISO/IEC 7816-4 and 7816-9 fix.
 fn parse_standard<'a>(instruction: u8, p1: u8, p2: u8, rest: &'a [u8]) -> Result<Command<'a>, Sw>
-    ensures asked { Gives result (asked_by_row (row_of 0x00 instruction) p1 p2 rest.now) }
-    ensures ranges { IfOk result IsInRange }
+    ensures { IsParsed result (asked_by_row (row_of 0x00 instruction) p1 p2 rest.now) }
 {
     match instruction {
         0x04 => parse_life_cycle_change(LifeCycleChange::Deactivate, p1, p2, rest),
@@ -162,8 +158,7 @@ fn parse_standard<'a>(instruction: u8, p1: u8, p2: u8, rest: &'a [u8]) -> Result
 
 /// Reads what follows the class of a command of class 80.
 fn parse_proprietary<'a>(instruction: u8, p1: u8, p2: u8, rest: &'a [u8]) -> Result<Command<'a>, Sw>
-    ensures asked { Gives result (asked_by_row (row_of 0x80 instruction) p1 p2 rest.now) }
-    ensures ranges { IfOk result IsInRange }
+    ensures { IsParsed result (asked_by_row (row_of 0x80 instruction) p1 p2 rest.now) }
 {
     match instruction {
         0x32 => parse_increase(p1, p2, rest),

@@ -1,10 +1,9 @@
 //! Commands on files as such: CREATE FILE and DELETE FILE (ISO/IEC 7816-9).
-ghost use Rattle.std.specs.Prelude.{◌≡◌, ◌==◌, ◌||◌, ◌&&◌, not, Some, is_some, is_ok, IfOk, IfErr, length};
+ghost use Rattle.std.specs.Prelude.{◌≡◌, ◌==◌, ◌||◌, ◌&&◌, not, Some, is_some, length};
 ghost use Rattle.card_rules.specs.declared.status.TheConstants.Sw.{WRONG_LENGTH};
 ghost use Rattle.apdu_core.specs.Asked.{asked_by_row};
 ghost use Rattle.apdu_core.specs.FileRows.{create_file_row, delete_file_row, subject_named};
-ghost use Rattle.apdu_core.specs.Fields.{IsInRange};
-ghost use Rattle.apdu_core.specs.Requests.{Gives};
+ghost use Rattle.apdu_core.specs.Parsing.{IsParsed, Reads};
 
 use crate::commands::Command;
 use crate::form::{CommandBody, no_parameters};
@@ -26,10 +25,8 @@ impl Subject {
     /// # Errors
     /// 6700 for every other number of bytes, or where Le stands.
     pub(crate) fn of(body: CommandBody<'_>) -> Result<Subject, Sw>
-        ensures known { is_ok result ≡ (((length body.entry.sent.now == 0) || (length body.entry.sent.now == 2))
-            && not (is_some body.entry.expected)) }
-        ensures named { IfOk result (λ subject. subject ≡ subject_named body.entry.sent.now) }
-        ensures refusal { IfErr result (λ refusal. refusal ≡ WRONG_LENGTH) }
+        ensures { Reads result (((length body.entry.sent.now == 0) || (length body.entry.sent.now == 2))
+            && not (is_some body.entry.expected)) (λ subject. subject ≡ subject_named body.entry.sent.now) WRONG_LENGTH }
     {
         match (body.sent, body.expected) {
             ([], None) => Ok(Subject::Current),
@@ -42,8 +39,7 @@ impl Subject {
 /// Reads P1, P2 and what follows the header of CREATE FILE. Other P1 and P2 than 00 00 are 6A86; no data, or Le, are
 /// 6700.
 pub(crate) fn parse_create_file<'a>(p1: u8, p2: u8, rest: &'a [u8]) -> Result<Command<'a>, Sw>
-    ensures asked { Gives result (asked_by_row (Some create_file_row) p1 p2 rest.now) }
-    ensures ranges { IfOk result IsInRange }
+    ensures { IsParsed result (asked_by_row (Some create_file_row) p1 p2 rest.now) }
 {
     no_parameters(p1, p2)?;
     let template = CommandBody::parse(rest)?.text_alone()?;
@@ -53,8 +49,7 @@ pub(crate) fn parse_create_file<'a>(p1: u8, p2: u8, rest: &'a [u8]) -> Result<Co
 /// Reads P1, P2 and what follows the header of DELETE FILE. Other P1 and P2 than 00 00 are 6A86, other lengths than 0
 /// and 2 are 6700, and so is Le.
 pub(crate) fn parse_delete_file<'a>(p1: u8, p2: u8, rest: &'a [u8]) -> Result<Command<'a>, Sw>
-    ensures asked { Gives result (asked_by_row (Some delete_file_row) p1 p2 rest.now) }
-    ensures ranges { IfOk result IsInRange }
+    ensures { IsParsed result (asked_by_row (Some delete_file_row) p1 p2 rest.now) }
 {
     no_parameters(p1, p2)?;
     let subject = Subject::of(CommandBody::parse(rest)?)?;

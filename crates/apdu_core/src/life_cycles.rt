@@ -1,9 +1,8 @@
 //! Commands on life cycles (ISO/IEC 7816-9).
-ghost use Rattle.std.specs.Prelude.{Some, IfOk};
+ghost use Rattle.std.specs.Prelude.{Some};
 ghost use Rattle.apdu_core.specs.Asked.{asked_by_row};
 ghost use Rattle.apdu_core.specs.LifeCycleRows.{life_cycle_row, terminate_card_usage_row};
-ghost use Rattle.apdu_core.specs.Fields.{IsInRange};
-ghost use Rattle.apdu_core.specs.Requests.{Gives};
+ghost use Rattle.apdu_core.specs.Parsing.{IsParsed};
 
 use crate::commands::Command;
 use crate::files::Subject;
@@ -31,8 +30,7 @@ pub(crate) fn parse_life_cycle_change<'a>(
     p2: u8,
     rest: &'a [u8],
 ) -> Result<Command<'a>, Sw>
-    ensures asked { Gives result (asked_by_row (Some (life_cycle_row change)) p1 p2 rest.now) }
-    ensures ranges { IfOk result IsInRange }
+    ensures { IsParsed result (asked_by_row (Some (life_cycle_row change)) p1 p2 rest.now) }
 {
     no_parameters(p1, p2)?;
     let subject = Subject::of(CommandBody::parse(rest)?)?;
@@ -46,8 +44,7 @@ pub(crate) fn parse_terminate_card_usage<'a>(
     p2: u8,
     rest: &'a [u8],
 ) -> Result<Command<'a>, Sw>
-    ensures asked { Gives result (asked_by_row (Some terminate_card_usage_row) p1 p2 rest.now) }
-    ensures ranges { IfOk result IsInRange }
+    ensures { IsParsed result (asked_by_row (Some terminate_card_usage_row) p1 p2 rest.now) }
 {
     no_parameters(p1, p2)?;
     let body = CommandBody::parse(rest)?;

@@ -1,11 +1,10 @@
 //! Commands on PINs (ISO/IEC 7816-4, 11.5).
-ghost use Rattle.std.specs.Prelude.{◌≡◌, ◌==◌, Some, is_some, is_ok, IfOk, IfErr, IfSome, length, take, drop};
+ghost use Rattle.std.specs.Prelude.{◌≡◌, ◌==◌, Some, length, take, drop};
 ghost use Rattle.card_rules.specs.declared.status.TheConstants.Sw.{WRONG_PARAMETERS};
 ghost use Rattle.apdu_core.specs.Asked.{asked_by_row};
 ghost use Rattle.apdu_core.specs.PinRows.{verify_row, change_reference_data_row, reset_retry_counter_row, is_pin};
 ghost use Rattle.apdu_core.specs.PinRows.{requirement_row};
-ghost use Rattle.apdu_core.specs.Fields.{IsInRange};
-ghost use Rattle.apdu_core.specs.Requests.{Gives};
+ghost use Rattle.apdu_core.specs.Parsing.{IsParsed, Names, Reads};
 
 use crate::commands::Command;
 use crate::form::CommandBody;
@@ -21,9 +20,8 @@ pub struct Replacement<'a> {
 impl<'a> Replacement<'a> {
     /// The two values in these bytes, if they are 16.
     fn of(sent: &'a [u8]) -> Option<Replacement<'a>>
-        ensures known { is_some result ≡ (length sent.now == 16) }
-        ensures shown { IfSome result (λ values. values.shown.now ≡ take 8 sent.now) }
-        ensures new { IfSome result (λ values. values.new.now ≡ drop 8 sent.now) }
+        ensures { Names result (length sent.now == 16) (λ values.
+            (values.shown.now ≡ take 8 sent.now) × (values.new.now ≡ drop 8 sent.now)) }
     {
         let (shown, rest) = sent.split_first_chunk::<8>()?;
         let new = rest.as_array::<8>()?;
@@ -45,9 +43,7 @@ pub enum RequirementChange {
 /// # Errors
 /// 6A86 where they name none.
 fn pin_named(p1: u8, p2: u8) -> Result<u8, Sw>
-    ensures known { is_ok result ≡ is_pin p1 p2 }
-    ensures pin { IfOk result (λ pin. pin ≡ p2) }
-    ensures refusal { IfErr result (λ refusal. refusal ≡ WRONG_PARAMETERS) }
+    ensures { Reads result (is_pin p1 p2) (λ pin. pin ≡ p2) WRONG_PARAMETERS }
 {
     if p1 == 0x00 && (1..=PINS).contains(&p2) {
         Ok(p2)
@@ -59,8 +55,7 @@ fn pin_named(p1: u8, p2: u8) -> Result<u8, Sw>
 /// Reads P1, P2 and what follows the header of VERIFY (ISO/IEC 7816-4, 11.5.6). P1 and P2 that name no PIN are 6A86,
 /// other lengths than 0 and 8 are 6700, and so is Le.
 pub(crate) fn parse_verify<'a>(p1: u8, p2: u8, rest: &'a [u8]) -> Result<Command<'a>, Sw>
-    ensures asked { Gives result (asked_by_row (Some verify_row) p1 p2 rest.now) }
-    ensures ranges { IfOk result IsInRange }
+    ensures { IsParsed result (asked_by_row (Some verify_row) p1 p2 rest.now) }
 {
     let pin = pin_named(p1, p2)?;
     let body = CommandBody::parse(rest)?;
@@ -78,8 +73,7 @@ pub(crate) fn parse_change_reference_data<'a>(
     p2: u8,
     rest: &'a [u8],
 ) -> Result<Command<'a>, Sw>
-    ensures asked { Gives result (asked_by_row (Some change_reference_data_row) p1 p2 rest.now) }
-    ensures ranges { IfOk result IsInRange }
+    ensures { IsParsed result (asked_by_row (Some change_reference_data_row) p1 p2 rest.now) }
 {
     let pin = pin_named(p1, p2)?;
     let body = CommandBody::parse(rest)?;
@@ -96,8 +90,7 @@ pub(crate) fn parse_reset_retry_counter<'a>(
     p2: u8,
     rest: &'a [u8],
 ) -> Result<Command<'a>, Sw>
-    ensures asked { Gives result (asked_by_row (Some reset_retry_counter_row) p1 p2 rest.now) }
-    ensures ranges { IfOk result IsInRange }
+    ensures { IsParsed result (asked_by_row (Some reset_retry_counter_row) p1 p2 rest.now) }
 {
     let pin = pin_named(p1, p2)?;
     let body = CommandBody::parse(rest)?;
@@ -116,8 +109,7 @@ pub(crate) fn parse_requirement_change<'a>(
     p2: u8,
     rest: &'a [u8],
 ) -> Result<Command<'a>, Sw>
-    ensures asked { Gives result (asked_by_row (Some (requirement_row change)) p1 p2 rest.now) }
-    ensures ranges { IfOk result IsInRange }
+    ensures { IsParsed result (asked_by_row (Some (requirement_row change)) p1 p2 rest.now) }
 {
     let pin = pin_named(p1, p2)?;
     let body = CommandBody::parse(rest)?;
