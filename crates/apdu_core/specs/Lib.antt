@@ -8,7 +8,6 @@ pub mod OfBytes
 pub mod Sizes
 pub mod Ranges
 pub mod Fields
-pub mod Parsing
 pub mod Rows
 pub mod SelectRows
 pub mod BinaryRows
@@ -17,5 +16,6 @@ pub mod RecordRows
 pub mod LifeCycleRows
 pub mod PinRows
 pub mod Asked
+pub mod Parsing
 pub mod Listing
 pub mod laws

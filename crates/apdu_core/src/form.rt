@@ -6,17 +6,27 @@ ghost use Rattle.apdu_core.specs.Parsing.{Reads, ReadsBody};
 
 use card_rules::Sw;
 
-/// Looks whether P1 and P2 are 00 00, of a command that has no parameters.
-///
-/// # Errors
-/// 6A86 where they are not.
-pub(crate) fn no_parameters(p1: u8, p2: u8) -> Result<(), Sw>
-    ensures { Reads result (is_no_parameter p1 p2) (λ _. Unit {0}) WRONG_PARAMETERS }
-{
-    if p1 != 0x00 || p2 != 0x00 {
-        return Err(Sw::WRONG_PARAMETERS);
+/// What follows the instruction: P1, P2, and the bytes after the header.
+#[derive(Clone, Copy)]
+pub(crate) struct Operands<'a> {
+    pub p1: u8,
+    pub p2: u8,
+    pub rest: &'a [u8],
+}
+
+impl Operands<'_> {
+    /// Looks whether P1 and P2 are 00 00, of a command that has no parameters.
+    ///
+    /// # Errors
+    /// 6A86 where they are not.
+    pub fn no_parameters(self) -> Result<(), Sw>
+        ensures { Reads result (is_no_parameter self.entry.p1 self.entry.p2) (λ _. Unit {0}) WRONG_PARAMETERS }
+    {
+        if self.p1 != 0x00 || self.p2 != 0x00 {
+            return Err(Sw::WRONG_PARAMETERS);
+        }
+        Ok(())
     }
-    Ok(())
 }
 
 /// What follows the header: the bytes that are sent, and Le.

@@ -1,13 +1,12 @@
 //! Commands on PINs (ISO/IEC 7816-4, 11.5).
 ghost use Rattle.std.specs.Prelude.{◌≡◌, ◌==◌, Some, length, take, drop};
 ghost use Rattle.card_rules.specs.declared.status.TheConstants.Sw.{WRONG_PARAMETERS};
-ghost use Rattle.apdu_core.specs.Asked.{asked_by_row};
 ghost use Rattle.apdu_core.specs.PinRows.{verify_row, change_reference_data_row, reset_retry_counter_row, is_pin};
 ghost use Rattle.apdu_core.specs.PinRows.{requirement_row};
-ghost use Rattle.apdu_core.specs.Parsing.{IsParsed, Names, Reads};
+ghost use Rattle.apdu_core.specs.Parsing.{Parses, Names, Reads};
 
-use crate::commands::Command;
-use crate::form::CommandBody;
+use crate::commands::{Command, Parsed};
+use crate::form::{CommandBody, Operands};
 use card_rules::{PINS, Sw};
 
 /// A value that is shown, and the new value of the PIN.
@@ -54,11 +53,11 @@ fn pin_named(p1: u8, p2: u8) -> Result<u8, Sw>
 
 /// Reads P1, P2 and what follows the header of VERIFY (ISO/IEC 7816-4, 11.5.6). P1 and P2 that name no PIN are 6A86,
 /// other lengths than 0 and 8 are 6700, and so is Le.
-pub(crate) fn parse_verify<'a>(p1: u8, p2: u8, rest: &'a [u8]) -> Result<Command<'a>, Sw>
-    ensures { IsParsed result (asked_by_row (Some verify_row) p1 p2 rest.now) }
+pub(crate) fn parse_verify(operands: Operands<'_>) -> Parsed<'_>
+    ensures { Parses (Some verify_row) operands.entry result }
 {
-    let pin = pin_named(p1, p2)?;
-    let body = CommandBody::parse(rest)?;
+    let pin = pin_named(operands.p1, operands.p2)?;
+    let body = CommandBody::parse(operands.rest)?;
     let shown = body.sent.as_array::<8>();
     if body.expected.is_some() || shown.is_none() && !body.sent.is_empty() {
         return Err(Sw::WRONG_LENGTH);
@@ -68,15 +67,11 @@ pub(crate) fn parse_verify<'a>(p1: u8, p2: u8, rest: &'a [u8]) -> Result<Command
 
 /// Reads P1, P2 and what follows the header of CHANGE REFERENCE DATA (ISO/IEC 7816-4, 11.5.7). P1 and P2 that name no
 /// PIN are 6A86, another length than 16 is 6700, and so is Le.
-pub(crate) fn parse_change_reference_data<'a>(
-    p1: u8,
-    p2: u8,
-    rest: &'a [u8],
-) -> Result<Command<'a>, Sw>
-    ensures { IsParsed result (asked_by_row (Some change_reference_data_row) p1 p2 rest.now) }
+pub(crate) fn parse_change_reference_data(operands: Operands<'_>) -> Parsed<'_>
+    ensures { Parses (Some change_reference_data_row) operands.entry result }
 {
-    let pin = pin_named(p1, p2)?;
-    let body = CommandBody::parse(rest)?;
+    let pin = pin_named(operands.p1, operands.p2)?;
+    let body = CommandBody::parse(operands.rest)?;
     match Replacement::of(body.sent) {
         Some(values) if body.expected.is_none() => Ok(Command::ChangeReferenceData { pin, values }),
         _ => Err(Sw::WRONG_LENGTH),
@@ -85,15 +80,11 @@ pub(crate) fn parse_change_reference_data<'a>(
 
 /// Reads P1, P2 and what follows the header of RESET RETRY COUNTER (ISO/IEC 7816-4, 11.5.10). P1 and P2 that name no
 /// PIN are 6A86, other lengths than 0 and 16 are 6700, and so is Le.
-pub(crate) fn parse_reset_retry_counter<'a>(
-    p1: u8,
-    p2: u8,
-    rest: &'a [u8],
-) -> Result<Command<'a>, Sw>
-    ensures { IsParsed result (asked_by_row (Some reset_retry_counter_row) p1 p2 rest.now) }
+pub(crate) fn parse_reset_retry_counter(operands: Operands<'_>) -> Parsed<'_>
+    ensures { Parses (Some reset_retry_counter_row) operands.entry result }
 {
-    let pin = pin_named(p1, p2)?;
-    let body = CommandBody::parse(rest)?;
+    let pin = pin_named(operands.p1, operands.p2)?;
+    let body = CommandBody::parse(operands.rest)?;
     let values = Replacement::of(body.sent);
     if body.expected.is_some() || values.is_none() && !body.sent.is_empty() {
         return Err(Sw::WRONG_LENGTH);
@@ -103,16 +94,14 @@ pub(crate) fn parse_reset_retry_counter<'a>(
 
 /// Reads P1, P2 and what follows the header of DISABLE VERIFICATION REQUIREMENT and ENABLE VERIFICATION REQUIREMENT
 /// (ISO/IEC 7816-4, 11.5). P1 and P2 that name no PIN are 6A86, another length than 8 is 6700, and so is Le.
-pub(crate) fn parse_requirement_change<'a>(
+pub(crate) fn parse_requirement_change(
     change: RequirementChange,
-    p1: u8,
-    p2: u8,
-    rest: &'a [u8],
-) -> Result<Command<'a>, Sw>
-    ensures { IsParsed result (asked_by_row (Some (requirement_row change)) p1 p2 rest.now) }
+    operands: Operands<'_>,
+) -> Parsed<'_>
+    ensures { Parses (Some (requirement_row change)) operands.entry result }
 {
-    let pin = pin_named(p1, p2)?;
-    let body = CommandBody::parse(rest)?;
+    let pin = pin_named(operands.p1, operands.p2)?;
+    let body = CommandBody::parse(operands.rest)?;
     match body.sent.as_array::<8>() {
         Some(shown) if body.expected.is_none() => Ok(Command::ChangeRequirement {
             change,

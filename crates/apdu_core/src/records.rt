@@ -1,15 +1,14 @@
 //! Commands on records (ISO/IEC 7816-4, 11.4), and INCREASE (ETSI TS 102 221, 11.1.8).
 ghost use Rattle.std.specs.Prelude.{◌≡◌, ◌&&◌, Some, IfSome};
-ghost use Rattle.apdu_core.specs.Asked.{asked_by_row};
-ghost use Rattle.apdu_core.specs.Parsing.{IsParsed, Names};
+ghost use Rattle.apdu_core.specs.Parsing.{Parses, Names};
 ghost use Rattle.apdu_core.specs.Ranges.{IsTarget, IsRecordPlace, IsRecordChoice};
 ghost use Rattle.apdu_core.specs.RecordRows.{read_record_row, update_record_row, append_record_row, search_record_row};
 ghost use Rattle.apdu_core.specs.RecordRows.{increase_row, is_record_file, record_file, record_place, is_choice};
 ghost use Rattle.apdu_core.specs.RecordRows.{record_choice, is_direction, direction};
 
 use crate::binary::Target;
-use crate::commands::Command;
-use crate::form::{CommandBody, no_parameters};
+use crate::commands::{Command, Parsed};
+use crate::form::{CommandBody, Operands};
 use card_rules::Sw;
 
 /// A record by its number, or the current one.
@@ -118,11 +117,11 @@ impl RecordName {
 
 /// Reads P1, P2 and what follows the header of READ RECORD (ISO/IEC 7816-4, 11.4.3). P1 and P2 that name no record are
 /// 6A86; data, or no Le, are 6700.
-pub(crate) fn parse_read_record<'a>(p1: u8, p2: u8, rest: &'a [u8]) -> Result<Command<'a>, Sw>
-    ensures { IsParsed result (asked_by_row (Some read_record_row) p1 p2 rest.now) }
+pub(crate) fn parse_read_record(operands: Operands<'_>) -> Parsed<'_>
+    ensures { Parses (Some read_record_row) operands.entry result }
 {
-    let name = RecordName::of(p1, p2).ok_or(Sw::WRONG_PARAMETERS)?;
-    let expected = CommandBody::parse(rest)?.le_alone()?;
+    let name = RecordName::of(operands.p1, operands.p2).ok_or(Sw::WRONG_PARAMETERS)?;
+    let expected = CommandBody::parse(operands.rest)?.le_alone()?;
     Ok(Command::ReadRecord {
         target: name.target,
         choice: name.choice,
@@ -132,11 +131,11 @@ pub(crate) fn parse_read_record<'a>(p1: u8, p2: u8, rest: &'a [u8]) -> Result<Co
 
 /// Reads P1, P2 and what follows the header of UPDATE RECORD (ISO/IEC 7816-4, 11.4.5). P1 and P2 that name no record
 /// are 6A86; no data, or Le, are 6700.
-pub(crate) fn parse_update_record<'a>(p1: u8, p2: u8, rest: &'a [u8]) -> Result<Command<'a>, Sw>
-    ensures { IsParsed result (asked_by_row (Some update_record_row) p1 p2 rest.now) }
+pub(crate) fn parse_update_record(operands: Operands<'_>) -> Parsed<'_>
+    ensures { Parses (Some update_record_row) operands.entry result }
 {
-    let name = RecordName::of(p1, p2).ok_or(Sw::WRONG_PARAMETERS)?;
-    let bytes = CommandBody::parse(rest)?.text_alone()?;
+    let name = RecordName::of(operands.p1, operands.p2).ok_or(Sw::WRONG_PARAMETERS)?;
+    let bytes = CommandBody::parse(operands.rest)?.text_alone()?;
     Ok(Command::UpdateRecord {
         target: name.target,
         choice: name.choice,
@@ -146,29 +145,29 @@ pub(crate) fn parse_update_record<'a>(p1: u8, p2: u8, rest: &'a [u8]) -> Result<
 
 /// Reads P1, P2 and what follows the header of APPEND RECORD (ISO/IEC 7816-4, 11.4.6). P1 other than 00 and P2 that
 /// name more than a file are 6A86; no data, or Le, are 6700.
-pub(crate) fn parse_append_record<'a>(p1: u8, p2: u8, rest: &'a [u8]) -> Result<Command<'a>, Sw>
-    ensures { IsParsed result (asked_by_row (Some append_record_row) p1 p2 rest.now) }
+pub(crate) fn parse_append_record(operands: Operands<'_>) -> Parsed<'_>
+    ensures { Parses (Some append_record_row) operands.entry result }
 {
-    if p1 != 0 || p2 % 8 != 0 {
+    if operands.p1 != 0 || operands.p2 % 8 != 0 {
         return Err(Sw::WRONG_PARAMETERS);
     }
-    let target = Target::of_records(p2).ok_or(Sw::WRONG_PARAMETERS)?;
-    let bytes = CommandBody::parse(rest)?.text_alone()?;
+    let target = Target::of_records(operands.p2).ok_or(Sw::WRONG_PARAMETERS)?;
+    let bytes = CommandBody::parse(operands.rest)?.text_alone()?;
     Ok(Command::AppendRecord { target, bytes })
 }
 
 /// Reads P1, P2 and what follows the header of SEARCH RECORD (ISO/IEC 7816-4, 11.4.7). P2 that names no file or no
 /// direction is 6A86; no data is 6700.
-pub(crate) fn parse_search_record<'a>(p1: u8, p2: u8, rest: &'a [u8]) -> Result<Command<'a>, Sw>
-    ensures { IsParsed result (asked_by_row (Some search_record_row) p1 p2 rest.now) }
+pub(crate) fn parse_search_record(operands: Operands<'_>) -> Parsed<'_>
+    ensures { Parses (Some search_record_row) operands.entry result }
 {
-    let target = Target::of_records(p2).ok_or(Sw::WRONG_PARAMETERS)?;
-    let direction = Direction::of(p2).ok_or(Sw::WRONG_PARAMETERS)?;
-    let body = CommandBody::parse(rest)?;
+    let target = Target::of_records(operands.p2).ok_or(Sw::WRONG_PARAMETERS)?;
+    let direction = Direction::of(operands.p2).ok_or(Sw::WRONG_PARAMETERS)?;
+    let body = CommandBody::parse(operands.rest)?;
     let text = body.text()?;
     Ok(Command::SearchRecord {
         target,
-        first: RecordPlace::of(p1),
+        first: RecordPlace::of(operands.p1),
         direction,
         text,
         expected: body.expected,
@@ -176,11 +175,11 @@ pub(crate) fn parse_search_record<'a>(p1: u8, p2: u8, rest: &'a [u8]) -> Result<
 }
 
 /// Reads P1, P2 and what follows the header of INCREASE. Other P1 and P2 than 00 00 are 6A86; no data is 6700.
-pub(crate) fn parse_increase<'a>(p1: u8, p2: u8, rest: &'a [u8]) -> Result<Command<'a>, Sw>
-    ensures { IsParsed result (asked_by_row (Some increase_row) p1 p2 rest.now) }
+pub(crate) fn parse_increase(operands: Operands<'_>) -> Parsed<'_>
+    ensures { Parses (Some increase_row) operands.entry result }
 {
-    no_parameters(p1, p2)?;
-    let body = CommandBody::parse(rest)?;
+    operands.no_parameters()?;
+    let body = CommandBody::parse(operands.rest)?;
     let amount = body.text()?;
     Ok(Command::Increase {
         amount,

@@ -1,14 +1,13 @@
 //! SELECT (ISO/IEC 7816-4, 11.2.2).
 ghost use Rattle.std.specs.Prelude.{◌≡◌, Some, IfSome, length};
-ghost use Rattle.apdu_core.specs.Asked.{asked_by_row};
 ghost use Rattle.apdu_core.specs.Selections.{selection_of};
 ghost use Rattle.apdu_core.specs.SelectRows.{select_row, is_way, is_returned, returned_by, names_file, named_file};
-ghost use Rattle.apdu_core.specs.Parsing.{IsParsed, Names};
+ghost use Rattle.apdu_core.specs.Parsing.{Parses, Names};
 ghost use Rattle.apdu_core.specs.Ranges.{IsSelector};
 ghost use Rattle.apdu_core.specs.Ways.{byte_of};
 
-use crate::commands::Command;
-use crate::form::CommandBody;
+use crate::commands::{Command, Parsed};
+use crate::form::{CommandBody, Operands};
 use crate::path::FilePath;
 use byteorder::{BigEndian, ByteOrder};
 use card_rules::Sw;
@@ -113,13 +112,13 @@ impl<'a> Selector<'a> {
 }
 
 /// Reads P1, P2 and what follows the header of SELECT. Unknown P1 and P2 are 6A86, lengths that don't fit P1 are 6700.
-pub(crate) fn parse_select<'a>(p1: u8, p2: u8, rest: &'a [u8]) -> Result<Command<'a>, Sw>
-    ensures { IsParsed result (asked_by_row (Some select_row) p1 p2 rest.now) }
+pub(crate) fn parse_select(operands: Operands<'_>) -> Parsed<'_>
+    ensures { Parses (Some select_row) operands.entry result }
 {
-    let (Some(way), Some(returned)) = (Way::of(p1), Returned::of(p2)) else {
+    let (Some(way), Some(returned)) = (Way::of(operands.p1), Returned::of(operands.p2)) else {
         return Err(Sw::WRONG_PARAMETERS);
     };
-    let body = CommandBody::parse(rest)?;
+    let body = CommandBody::parse(operands.rest)?;
     let selector = Selector::of(way, body.sent).ok_or(Sw::WRONG_LENGTH)?;
     Ok(Command::Select {
         selector,
