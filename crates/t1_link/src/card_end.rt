@@ -1,10 +1,11 @@
 //! The card's end of T=1.
 
 ghost use Rattle.std.specs.Prelude.{◌≡◌, ◌++◌, ◌&&◌, not, None, IsSome, IsTrue, ◌↔◌, Some, take, Ok};
-ghost use Rattle.t1_link.specs.Blocks.{IsSpellable, frame, receive_ready};
+ghost use Rattle.t1_link.specs.Blocks.{IsSpellable, receive_ready};
 ghost use Rattle.t1_link.specs.CardTable.{CardLink, link_step, action_of, after, answers, reply_bytes};
 ghost use Rattle.t1_link.specs.CardTable.{card_takes, fresh};
 ghost use Rattle.t1_link.specs.CardTable.{sending, sent_block, sent_more, takes_information, takes_receive_ready};
+ghost use Rattle.t1_link.specs.Ends.{Replies, Takes};
 ghost use Rattle.t1_link.specs.SequenceNumbers.{same};
 ghost use Rattle.t1_link.specs.Spoken.{block_of};
 
@@ -127,9 +128,7 @@ impl CardEnd {
     fn take_block(&mut self, block: Block<'_>, out: &mut BlockBytes) -> Action
         requires idle { self.old.waiting ≡ None }
         requires spellable { IsSpellable (block_of block) }
-        ensures state { self.new ≡ after (card_takes self.old.link (Ok (block_of block.entry))) }
-        ensures action { result ≡ action_of (card_takes self.old.link (Ok (block_of block.entry))).reaction }
-        ensures block { out.new ≡ reply_bytes (card_takes self.old.link (Ok (block_of block.entry))).reaction }
+        ensures { Takes (card_takes self.old.link (Ok (block_of block.entry))) self.new result out.new }
     {
         match block {
             Block::ResynchRequest => {
@@ -163,9 +162,7 @@ impl CardEnd {
         out: &mut BlockBytes,
     ) -> Action
         requires { self.old.waiting ≡ None }
-        ensures state { self.new ≡ after (takes_information self.old.link number more field.now) }
-        ensures action { result ≡ action_of (takes_information self.old.link number more field.now).reaction }
-        ensures block { out.new ≡ reply_bytes (takes_information self.old.link number more field.now).reaction }
+        ensures { Takes (takes_information self.old.link number more field.now) self.new result out.new }
     {
         if !self.expects(number) {
             return self.receive_ready(ErrorKind::OtherError, out);
@@ -190,9 +187,7 @@ impl CardEnd {
     /// An R-block came.
     fn take_receive_ready(&mut self, number: SequenceNumber, out: &mut BlockBytes) -> Action
         requires { self.old.waiting ≡ None }
-        ensures state { self.new ≡ after (takes_receive_ready self.old.link number) }
-        ensures action { result ≡ action_of (takes_receive_ready self.old.link number).reaction }
-        ensures block { out.new ≡ reply_bytes (takes_receive_ready self.old.link number).reaction }
+        ensures { Takes (takes_receive_ready self.old.link number) self.new result out.new }
     {
         if self.has_sent && number != self.number {
             self.send_again(out)
@@ -205,8 +200,7 @@ impl CardEnd {
 
     /// An R-block with the number that is expected.
     fn receive_ready(&self, error: ErrorKind, out: &mut BlockBytes) -> Action
-        ensures action { result ≡ Action.Reply }
-        ensures block { out.new ≡ frame (receive_ready self.now.link.nr error) }
+        ensures { Replies (receive_ready self.now.link.nr error) result out.new }
     {
         Block::ReceiveReady {
             number: self.expected,
@@ -219,8 +213,7 @@ impl CardEnd {
     /// The last I-block sent, once more.
     fn send_again(&self, out: &mut BlockBytes) -> Action
         requires { IsSome self.now.link.sent }
-        ensures action { result ≡ Action.Reply }
-        ensures block { out.new ≡ frame (sent_block self.now.link) }
+        ensures { Replies (sent_block self.now.link) result out.new }
     {
         let number = self.number.other();
         let more = self.answer.has_more();
@@ -236,9 +229,7 @@ impl CardEnd {
     /// The next I-block of the answer.
     fn send_next(&mut self, out: &mut BlockBytes) -> Action
         requires { self.old.waiting ≡ None }
-        ensures state { self.new ≡ after (sending self.old.link self.old.link.rest) }
-        ensures action { result ≡ Action.Reply }
-        ensures block { out.new ≡ reply_bytes (sending self.old.link self.old.link.rest).reaction }
+        ensures { Takes (sending self.old.link self.old.link.rest) self.new result out.new }
     {
         self.answer.cut(usize::from(self.ifsd));
         self.number = self.number.other();
