@@ -40,7 +40,6 @@ pub enum Action {
 /// The card's end of T=1: what was sent, what is expected, and the bytes on their way.
 #[derive(Drop)]
 pub struct CardEnd {
-    number: SequenceNumber,
     expected: SequenceNumber,
     ifsd: u8,
     has_sent: bool,
@@ -67,7 +66,6 @@ impl CardEnd {
         ensures { result ≡ record { link = fresh; waiting = None } }
     {
         CardEnd {
-            number: SequenceNumber::Zero,
             expected: SequenceNumber::Zero,
             ifsd: FIRST_IFSD,
             has_sent: false,
@@ -189,7 +187,7 @@ impl CardEnd {
         requires { self.old.waiting ≡ None }
         ensures { Takes (takes_receive_ready self.old.link number) self.new result out.new }
     {
-        if self.has_sent && number != self.number {
+        if self.has_sent && self.answer.is_last(number) {
             self.send_again(out)
         } else if self.answer.has_more() {
             self.send_next(out)
@@ -215,14 +213,7 @@ impl CardEnd {
         requires { IsSome self.now.link.sent }
         ensures { Replies (sent_block self.now.link) result out.new }
     {
-        let number = self.number.other();
-        let more = self.answer.has_more();
-        Block::Information {
-            number,
-            more,
-            field: self.answer.field(),
-        }
-        .write(out);
+        self.answer.last_block().write(out);
         Action::Reply
     }
 
@@ -232,7 +223,6 @@ impl CardEnd {
         ensures { Takes (sending self.old.link self.old.link.rest) self.new result out.new }
     {
         self.answer.cut(usize::from(self.ifsd));
-        self.number = self.number.other();
         self.has_sent = true;
         self.send_again(out)
     }

@@ -63,7 +63,6 @@ pub enum Next {
 /// The reader's end of T=1: what was sent, what is expected, and the bytes on their way.
 #[derive(Drop)]
 pub struct ReaderEnd {
-    number: SequenceNumber,
     expected: SequenceNumber,
     tries: u8,
     resynchs: u8,
@@ -90,7 +89,6 @@ impl ReaderEnd {
         ensures { result ≡ fresh_reader }
     {
         ReaderEnd {
-            number: SequenceNumber::Zero,
             expected: SequenceNumber::Zero,
             tries: 0,
             resynchs: 0,
@@ -114,13 +112,7 @@ impl ReaderEnd {
     pub fn reset(&mut self)
         ensures { self.new ≡ fresh_reader }
     {
-        self.number = SequenceNumber::Zero;
-        self.expected = SequenceNumber::Zero;
-        self.tries = 0;
-        self.resynchs = 0;
-        self.command.clear();
-        self.answer.clear();
-        self.phase = Phase::Idle;
+        *self = ReaderEnd::new();
     }
 
     /// The bytes of the answer that have come: after `Done` the answer,
@@ -228,7 +220,7 @@ impl ReaderEnd {
         requires { self.old.resynchs ≡ 0 }
         ensures { Turns (turns_receive_ready self.old number) self.new result out.old out.new }
     {
-        if number != self.number {
+        if self.command.is_last(number) {
             self.send_again(out)
         } else if self.command.has_more() {
             self.advance(out)
@@ -283,7 +275,6 @@ impl ReaderEnd {
         ensures { Turns (advancing self.old self.old.rest) self.new result out.old out.new }
     {
         self.command.cut(FIELD_LIMIT);
-        self.number = self.number.other();
         self.tries = 0;
         self.last_block(out)
     }
@@ -292,16 +283,7 @@ impl ReaderEnd {
     fn last_block(&self, out: &mut BlockBytes) -> Next
         ensures { Says (sends (last_block self.now)) result out.old out.new }
     {
-        let number = self.number.other();
-        let more = self.command.has_more();
-        sent(
-            Block::Information {
-                number,
-                more,
-                field: self.command.field(),
-            },
-            out,
-        )
+        sent(self.command.last_block(), out)
     }
 
     /// A try: the last I-block again.
