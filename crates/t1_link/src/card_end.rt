@@ -9,7 +9,7 @@ ghost use Rattle.t1_link.specs.Ends.{Replies, Takes};
 ghost use Rattle.t1_link.specs.SequenceNumbers.{same};
 ghost use Rattle.t1_link.specs.Spoken.{block_of};
 
-use crate::block::{Block, BlockBytes, ErrorKind};
+use crate::block::{Block, BlockBytes, ErrorKind, Piece};
 use crate::outgoing::{LONGEST_COMMAND, Outgoing};
 use crate::sequence_number::SequenceNumber;
 use arrayvec::ArrayVec;
@@ -143,31 +143,22 @@ impl CardEnd {
                 self.receive_ready(ErrorKind::OtherError, out)
             }
             Block::ReceiveReady { number, .. } => self.take_receive_ready(number, out),
-            Block::Information {
-                number,
-                more,
-                field,
-            } => self.take_information(number, more, field, out),
+            Block::Information(piece) => self.take_information(piece, out),
         }
     }
 
     /// An I-block came.
-    fn take_information(
-        &mut self,
-        number: SequenceNumber,
-        more: bool,
-        field: &[u8],
-        out: &mut BlockBytes,
-    ) -> Action
+    fn take_information(&mut self, piece: Piece<'_>, out: &mut BlockBytes) -> Action
         requires { self.old.waiting ≡ None }
-        ensures { Takes (takes_information self.old.link number more field.now) self.new result out.new }
+        ensures { Takes (takes_information self.old.link piece.entry.number piece.entry.more piece.entry.field.now)
+            self.new result out.new }
     {
-        if !self.expects(number) {
+        if !self.expects(piece.number) {
             return self.receive_ready(ErrorKind::OtherError, out);
         }
-        keep(&mut self.command, field);
+        keep(&mut self.command, piece.field);
         self.expected = self.expected.other();
-        if more {
+        if piece.more {
             return self.receive_ready(ErrorKind::ErrorFree, out);
         }
         self.waits = true;

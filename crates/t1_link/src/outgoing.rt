@@ -5,7 +5,7 @@ ghost use Rattle.t1_link.specs.Cut.{cut, last_piece, loaded, no_pieces};
 ghost use Rattle.t1_link.specs.SequenceNumbers.{other_number, same};
 ghost use Rattle.t1_link.specs.Spoken.{block_of};
 
-use crate::block::Block;
+use crate::block::{Block, Piece};
 use crate::sequence_number::SequenceNumber;
 use arrayvec::ArrayVec;
 use std::marker::Model;
@@ -76,11 +76,11 @@ impl Outgoing {
     pub(crate) fn last_block(&self) -> Block<'_>
         ensures { block_of result ≡ last_piece self.now }
     {
-        Block::Information {
+        Block::Information(Piece {
             number: self.number.other(),
             more: self.has_more(),
             field: &self.bytes.as_slice()[self.start..self.end],
-        }
+        })
     }
 
     /// Whether the I-block of the last piece has this number: it is not that of the next one.

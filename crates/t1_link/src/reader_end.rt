@@ -11,7 +11,7 @@ ghost use Rattle.t1_link.specs.ReaderFields.{HasAnswer, IsSend, left_in, next_of
 ghost use Rattle.t1_link.specs.Ends.{Says, Turns};
 ghost use Rattle.t1_link.specs.Spoken.{block_of, spoken};
 
-use crate::block::{Block, BlockBytes, ErrorKind, FIELD_LIMIT, Fault};
+use crate::block::{Block, BlockBytes, ErrorKind, FIELD_LIMIT, Fault, Piece};
 use crate::card_end::{AnswerBytes, LONGEST_ANSWER};
 use crate::outgoing::{LONGEST_COMMAND, Outgoing};
 use crate::sequence_number::SequenceNumber;
@@ -194,11 +194,7 @@ impl ReaderEnd {
     {
         match block {
             Block::ReceiveReady { number, .. } => self.take_receive_ready(number, out),
-            Block::Information {
-                number,
-                more,
-                field,
-            } => self.take_information(number, more, field, out),
+            Block::Information(piece) => self.take_information(piece, out),
             _ => self.ask(ErrorKind::OtherError, out),
         }
     }
@@ -230,20 +226,15 @@ impl ReaderEnd {
     }
 
     /// An I-block came.
-    fn take_information(
-        &mut self,
-        number: SequenceNumber,
-        more: bool,
-        field: &[u8],
-        out: &mut BlockBytes,
-    ) -> Next
+    fn take_information(&mut self, piece: Piece<'_>, out: &mut BlockBytes) -> Next
         requires { self.old.resynchs ≡ 0 }
-        ensures { Turns (turns_information self.old number more field.now) self.new result out.old out.new }
+        ensures { Turns (turns_information self.old piece.entry.number piece.entry.more piece.entry.field.now)
+            self.new result out.old out.new }
     {
-        if self.command.has_more() || number != self.expected {
+        if self.command.has_more() || piece.number != self.expected {
             return self.ask(ErrorKind::OtherError, out);
         }
-        self.take_answer(more, field, out)
+        self.take_answer(piece.more, piece.field, out)
     }
 
     /// The bytes of an I-block join the answer.
