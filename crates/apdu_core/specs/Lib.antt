@@ -16,5 +16,6 @@ pub mod RecordRows
 pub mod LifeCycleRows
 pub mod PinRows
 pub mod Asked
+pub mod Parsing
 pub mod Listing
 pub mod laws

@@ -1,13 +1,11 @@
 //! READ BINARY and UPDATE BINARY (ISO/IEC 7816-4, 11.3).
-ghost use Rattle.std.specs.Prelude.{◌≡◌, ◌≤◌, Some, None, if◌then◌else◌, IfOk, IfSome};
-ghost use Rattle.apdu_core.specs.Asked.{asked_by_row};
+ghost use Rattle.std.specs.Prelude.{◌≡◌, ◌≤◌, Some, None, if◌then◌else◌, IfSome};
 ghost use Rattle.apdu_core.specs.BinaryRows.{read_binary_row, update_binary_row, is_place, named_target, named_offset};
-ghost use Rattle.apdu_core.specs.Fields.{IsInRange};
+ghost use Rattle.apdu_core.specs.Parsing.{Parses};
 ghost use Rattle.apdu_core.specs.Ranges.{IsTarget};
-ghost use Rattle.apdu_core.specs.Requests.{Gives};
 
-use crate::commands::Command;
-use crate::form::CommandBody;
+use crate::commands::{Command, Parsed};
+use crate::form::{CommandBody, Operands};
 use byteorder::{BigEndian, ByteOrder};
 use card_rules::Sw;
 
@@ -54,12 +52,11 @@ impl Place {
 
 /// Reads P1, P2 and what follows the header of READ BINARY. P1 and P2 that name no place are 6A86;
 /// data, or no Le, are 6700.
-pub(crate) fn parse_read_binary<'a>(p1: u8, p2: u8, rest: &'a [u8]) -> Result<Command<'a>, Sw>
-    ensures asked { Gives result (asked_by_row (Some read_binary_row) p1 p2 rest.now) }
-    ensures ranges { IfOk result IsInRange }
+pub(crate) fn parse_read_binary(operands: Operands<'_>) -> Parsed<'_>
+    ensures { Parses (Some read_binary_row) operands.entry result }
 {
-    let place = Place::of(p1, p2).ok_or(Sw::WRONG_PARAMETERS)?;
-    let expected = CommandBody::parse(rest)?.le_alone()?;
+    let place = Place::of(operands.p1, operands.p2).ok_or(Sw::WRONG_PARAMETERS)?;
+    let expected = CommandBody::parse(operands.rest)?.le_alone()?;
     Ok(Command::ReadBinary {
         target: place.target,
         offset: place.offset,
@@ -69,12 +66,11 @@ pub(crate) fn parse_read_binary<'a>(p1: u8, p2: u8, rest: &'a [u8]) -> Result<Co
 
 /// Reads P1, P2 and what follows the header of UPDATE BINARY. P1 and P2 that name no place are 6A86;
 /// no data, or Le, are 6700.
-pub(crate) fn parse_update_binary<'a>(p1: u8, p2: u8, rest: &'a [u8]) -> Result<Command<'a>, Sw>
-    ensures asked { Gives result (asked_by_row (Some update_binary_row) p1 p2 rest.now) }
-    ensures ranges { IfOk result IsInRange }
+pub(crate) fn parse_update_binary(operands: Operands<'_>) -> Parsed<'_>
+    ensures { Parses (Some update_binary_row) operands.entry result }
 {
-    let place = Place::of(p1, p2).ok_or(Sw::WRONG_PARAMETERS)?;
-    let bytes = CommandBody::parse(rest)?.text_alone()?;
+    let place = Place::of(operands.p1, operands.p2).ok_or(Sw::WRONG_PARAMETERS)?;
+    let bytes = CommandBody::parse(operands.rest)?.text_alone()?;
     Ok(Command::UpdateBinary {
         target: place.target,
         offset: place.offset,

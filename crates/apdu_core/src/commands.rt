@@ -1,11 +1,10 @@
 //! Commands as values, and their parsing: class, instruction, P1 and P2, and then lengths (ISO/IEC 7816-4, clause 5).
-ghost use Rattle.std.specs.Prelude.{IfOk};
-ghost use Rattle.apdu_core.specs.Asked.{asked, asked_by_row, row_of};
-ghost use Rattle.apdu_core.specs.Fields.{IsInRange};
-ghost use Rattle.apdu_core.specs.Requests.{Gives};
+ghost use Rattle.apdu_core.specs.Asked.{asked, row_of};
+ghost use Rattle.apdu_core.specs.Parsing.{IsParsed, Parses};
 
 use crate::binary::{Target, parse_read_binary, parse_update_binary};
 use crate::files::{Subject, parse_create_file, parse_delete_file};
+use crate::form::Operands;
 use crate::life_cycles::{LifeCycleChange, parse_life_cycle_change, parse_terminate_card_usage};
 use crate::pins::{
     Replacement, RequirementChange, parse_change_reference_data, parse_requirement_change,
@@ -109,6 +108,9 @@ pub enum Command<'a> {
     },
 }
 
+/// A command, or the status word that refuses it.
+pub(crate) type Parsed<'a> = Result<Command<'a>, Sw>;
+
 impl<'a> Command<'a> {
     /// Reads the bytes of a command.
     ///
@@ -117,56 +119,58 @@ impl<'a> Command<'a> {
     /// The status word of a refusal is the first in this order: too few bytes for a header 6700, class 6E00,
     /// instruction 6D00, P1 and P2 6A86, and then lengths 6700.
     pub fn parse(bytes: &'a [u8]) -> Result<Command<'a>, Sw>
-        ensures asked { Gives result (asked bytes.now) }
-        ensures ranges { IfOk result IsInRange }
+        ensures { IsParsed result (asked bytes.now) }
     {
         let [class, instruction, p1, p2, rest @ ..] = bytes else {
             return Err(Sw::WRONG_LENGTH);
         };
+        let operands = Operands {
+            p1: *p1,
+            p2: *p2,
+            rest,
+        };
         match *class {
-            0x00 => parse_standard(*instruction, *p1, *p2, rest),
-            0x80 => parse_proprietary(*instruction, *p1, *p2, rest),
+            0x00 => parse_standard(*instruction, operands),
+            0x80 => parse_proprietary(*instruction, operands),
             _ => Err(Sw::UNKNOWN_CLASS),
         }
     }
 }
 
 /// Reads what follows the class of a command of class 00, whose instructions ISO/IEC 7816-4 and 7816-9 fix.
-fn parse_standard<'a>(instruction: u8, p1: u8, p2: u8, rest: &'a [u8]) -> Result<Command<'a>, Sw>
-    ensures asked { Gives result (asked_by_row (row_of 0x00 instruction) p1 p2 rest.now) }
-    ensures ranges { IfOk result IsInRange }
+fn parse_standard(instruction: u8, operands: Operands<'_>) -> Parsed<'_>
+    ensures { Parses (row_of 0x00 instruction) operands.entry result }
 {
     match instruction {
-        0x04 => parse_life_cycle_change(LifeCycleChange::Deactivate, p1, p2, rest),
-        0x20 => parse_verify(p1, p2, rest),
-        0x24 => parse_change_reference_data(p1, p2, rest),
-        0x26 => parse_requirement_change(RequirementChange::Disable, p1, p2, rest),
-        0x28 => parse_requirement_change(RequirementChange::Enable, p1, p2, rest),
-        0x2C => parse_reset_retry_counter(p1, p2, rest),
-        0x44 => parse_life_cycle_change(LifeCycleChange::Activate, p1, p2, rest),
-        0xA2 => parse_search_record(p1, p2, rest),
-        0xA4 => parse_select(p1, p2, rest),
-        0xB0 => parse_read_binary(p1, p2, rest),
-        0xB2 => parse_read_record(p1, p2, rest),
-        0xD6 => parse_update_binary(p1, p2, rest),
-        0xDC => parse_update_record(p1, p2, rest),
-        0xE0 => parse_create_file(p1, p2, rest),
-        0xE2 => parse_append_record(p1, p2, rest),
-        0xE4 => parse_delete_file(p1, p2, rest),
-        0xE6 => parse_life_cycle_change(LifeCycleChange::TerminateDf, p1, p2, rest),
-        0xE8 => parse_life_cycle_change(LifeCycleChange::TerminateEf, p1, p2, rest),
-        0xFE => parse_terminate_card_usage(p1, p2, rest),
+        0x04 => parse_life_cycle_change(LifeCycleChange::Deactivate, operands),
+        0x20 => parse_verify(operands),
+        0x24 => parse_change_reference_data(operands),
+        0x26 => parse_requirement_change(RequirementChange::Disable, operands),
+        0x28 => parse_requirement_change(RequirementChange::Enable, operands),
+        0x2C => parse_reset_retry_counter(operands),
+        0x44 => parse_life_cycle_change(LifeCycleChange::Activate, operands),
+        0xA2 => parse_search_record(operands),
+        0xA4 => parse_select(operands),
+        0xB0 => parse_read_binary(operands),
+        0xB2 => parse_read_record(operands),
+        0xD6 => parse_update_binary(operands),
+        0xDC => parse_update_record(operands),
+        0xE0 => parse_create_file(operands),
+        0xE2 => parse_append_record(operands),
+        0xE4 => parse_delete_file(operands),
+        0xE6 => parse_life_cycle_change(LifeCycleChange::TerminateDf, operands),
+        0xE8 => parse_life_cycle_change(LifeCycleChange::TerminateEf, operands),
+        0xFE => parse_terminate_card_usage(operands),
         _ => Err(Sw::UNKNOWN_INSTRUCTION),
     }
 }
 
 /// Reads what follows the class of a command of class 80.
-fn parse_proprietary<'a>(instruction: u8, p1: u8, p2: u8, rest: &'a [u8]) -> Result<Command<'a>, Sw>
-    ensures asked { Gives result (asked_by_row (row_of 0x80 instruction) p1 p2 rest.now) }
-    ensures ranges { IfOk result IsInRange }
+fn parse_proprietary(instruction: u8, operands: Operands<'_>) -> Parsed<'_>
+    ensures { Parses (row_of 0x80 instruction) operands.entry result }
 {
     match instruction {
-        0x32 => parse_increase(p1, p2, rest),
+        0x32 => parse_increase(operands),
         _ => Err(Sw::UNKNOWN_INSTRUCTION),
     }
 }

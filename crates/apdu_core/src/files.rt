@@ -1,13 +1,11 @@
 //! Commands on files as such: CREATE FILE and DELETE FILE (ISO/IEC 7816-9).
-ghost use Rattle.std.specs.Prelude.{◌≡◌, ◌==◌, ◌||◌, ◌&&◌, not, Some, is_some, is_ok, IfOk, IfErr, length};
+ghost use Rattle.std.specs.Prelude.{◌≡◌, ◌==◌, ◌||◌, ◌&&◌, not, Some, is_some, length};
 ghost use Rattle.card_rules.specs.declared.status.TheConstants.Sw.{WRONG_LENGTH};
-ghost use Rattle.apdu_core.specs.Asked.{asked_by_row};
 ghost use Rattle.apdu_core.specs.FileRows.{create_file_row, delete_file_row, subject_named};
-ghost use Rattle.apdu_core.specs.Fields.{IsInRange};
-ghost use Rattle.apdu_core.specs.Requests.{Gives};
+ghost use Rattle.apdu_core.specs.Parsing.{Parses, Reads};
 
-use crate::commands::Command;
-use crate::form::{CommandBody, no_parameters};
+use crate::commands::{Command, Parsed};
+use crate::form::{CommandBody, Operands};
 use byteorder::{BigEndian, ByteOrder};
 use card_rules::Sw;
 
@@ -26,10 +24,9 @@ impl Subject {
     /// # Errors
     /// 6700 for every other number of bytes, or where Le stands.
     pub(crate) fn of(body: CommandBody<'_>) -> Result<Subject, Sw>
-        ensures known { is_ok result ≡ (((length body.entry.sent.now == 0) || (length body.entry.sent.now == 2))
-            && not (is_some body.entry.expected)) }
-        ensures named { IfOk result (λ subject. subject ≡ subject_named body.entry.sent.now) }
-        ensures refusal { IfErr result (λ refusal. refusal ≡ WRONG_LENGTH) }
+        ensures { Reads result (((length body.entry.sent.now == 0) || (length body.entry.sent.now == 2))
+            && not (is_some body.entry.expected))
+            (λ subject. subject ≡ subject_named body.entry.sent.now) WRONG_LENGTH }
     {
         match (body.sent, body.expected) {
             ([], None) => Ok(Subject::Current),
@@ -41,22 +38,20 @@ impl Subject {
 
 /// Reads P1, P2 and what follows the header of CREATE FILE. Other P1 and P2 than 00 00 are 6A86; no data, or Le, are
 /// 6700.
-pub(crate) fn parse_create_file<'a>(p1: u8, p2: u8, rest: &'a [u8]) -> Result<Command<'a>, Sw>
-    ensures asked { Gives result (asked_by_row (Some create_file_row) p1 p2 rest.now) }
-    ensures ranges { IfOk result IsInRange }
+pub(crate) fn parse_create_file(operands: Operands<'_>) -> Parsed<'_>
+    ensures { Parses (Some create_file_row) operands.entry result }
 {
-    no_parameters(p1, p2)?;
-    let template = CommandBody::parse(rest)?.text_alone()?;
+    operands.no_parameters()?;
+    let template = CommandBody::parse(operands.rest)?.text_alone()?;
     Ok(Command::CreateFile { template })
 }
 
 /// Reads P1, P2 and what follows the header of DELETE FILE. Other P1 and P2 than 00 00 are 6A86, other lengths than 0
 /// and 2 are 6700, and so is Le.
-pub(crate) fn parse_delete_file<'a>(p1: u8, p2: u8, rest: &'a [u8]) -> Result<Command<'a>, Sw>
-    ensures asked { Gives result (asked_by_row (Some delete_file_row) p1 p2 rest.now) }
-    ensures ranges { IfOk result IsInRange }
+pub(crate) fn parse_delete_file(operands: Operands<'_>) -> Parsed<'_>
+    ensures { Parses (Some delete_file_row) operands.entry result }
 {
-    no_parameters(p1, p2)?;
-    let subject = Subject::of(CommandBody::parse(rest)?)?;
+    operands.no_parameters()?;
+    let subject = Subject::of(CommandBody::parse(operands.rest)?)?;
     Ok(Command::DeleteFile { subject })
 }

@@ -1,25 +1,32 @@
 //! What follows the instruction of a short command: P1 and P2, and the bytes after the header (ISO/IEC 7816-4, 5.2).
-ghost use Rattle.std.specs.Prelude.{◌≡◌, ◌≢◌, ◌≤◌, ◌∷◌, ◌&&◌, ◌==◌, [], nat_le, not, length, IfOk, IfErr};
-ghost use Rattle.std.specs.Prelude.{is_some, Some, None, is_ok};
+ghost use Rattle.std.specs.Prelude.{◌≡◌, ◌≢◌, ◌≤◌, ◌∷◌, ◌&&◌, ◌==◌, [], nat_le, not, length, is_some, Some};
 ghost use Rattle.card_rules.specs.declared.status.TheConstants.Sw.{WRONG_LENGTH, WRONG_PARAMETERS};
-ghost use Rattle.apdu_core.specs.Bodies.{body_of};
-ghost use Rattle.apdu_core.specs.BodyView.{body_view};
 ghost use Rattle.apdu_core.specs.FileRows.{is_no_parameter};
+ghost use Rattle.apdu_core.specs.Parsing.{Reads, ReadsBody};
 
 use card_rules::Sw;
 
-/// Looks whether P1 and P2 are 00 00, of a command that has no parameters.
-///
-/// # Errors
-/// 6A86 where they are not.
-pub(crate) fn no_parameters(p1: u8, p2: u8) -> Result<(), Sw>
-    ensures known { is_ok result ≡ is_no_parameter p1 p2 }
-    ensures refusal { IfErr result (λ refusal. refusal ≡ WRONG_PARAMETERS) }
-{
-    if p1 != 0x00 || p2 != 0x00 {
-        return Err(Sw::WRONG_PARAMETERS);
+/// What follows the instruction: P1, P2, and the bytes after the header.
+#[derive(Clone, Copy)]
+pub(crate) struct Operands<'a> {
+    pub p1: u8,
+    pub p2: u8,
+    pub rest: &'a [u8],
+}
+
+impl Operands<'_> {
+    /// Looks whether P1 and P2 are 00 00, of a command that has no parameters.
+    ///
+    /// # Errors
+    /// 6A86 where they are not.
+    pub fn no_parameters(self) -> Result<(), Sw>
+        ensures { Reads result (is_no_parameter self.entry.p1 self.entry.p2) (λ _. Unit {0}) WRONG_PARAMETERS }
+    {
+        if self.p1 != 0x00 || self.p2 != 0x00 {
+            return Err(Sw::WRONG_PARAMETERS);
+        }
+        Ok(())
     }
-    Ok(())
 }
 
 /// What follows the header: the bytes that are sent, and Le.
@@ -30,22 +37,34 @@ pub(crate) struct CommandBody<'a> {
 }
 
 impl<'a> CommandBody<'a> {
+    /// The sent bytes, where there are some. Le may stand.
+    ///
+    /// # Errors
+    /// 6700 where none are sent.
+    pub fn text(self) -> Result<&'a [u8], Sw>
+        requires { length self.sent.now ≤ 255 }
+        ensures { Reads result (nat_le 1 (length self.entry.sent.now) && nat_le (length self.entry.sent.now) 255)
+            (λ text. text.now ≡ self.entry.sent.now) WRONG_LENGTH }
+    {
+        if self.sent.is_empty() {
+            return Err(Sw::WRONG_LENGTH);
+        }
+        Ok(self.sent)
+    }
+
     /// The sent bytes, where there are some and Le does not stand.
     ///
     /// # Errors
     /// 6700 where none are sent, or Le stands.
     pub fn text_alone(self) -> Result<&'a [u8], Sw>
         requires { length self.sent.now ≤ 255 }
-        ensures known { is_ok result ≡ (nat_le 1 (length self.entry.sent.now) && nat_le (length self.entry.sent.now) 255
-            && not (is_some self.entry.expected)) }
-        ensures text { IfOk result (λ text. text.now ≡ self.entry.sent.now) }
-        ensures refusal { IfErr result (λ refusal. refusal ≡ WRONG_LENGTH) }
+        ensures { Reads result (nat_le 1 (length self.entry.sent.now) && nat_le (length self.entry.sent.now) 255
+            && not (is_some self.entry.expected)) (λ text. text.now ≡ self.entry.sent.now) WRONG_LENGTH }
     {
-        if !self.sent.is_empty() && self.expected.is_none() {
-            Ok(self.sent)
-        } else {
-            Err(Sw::WRONG_LENGTH)
+        if self.expected.is_some() {
+            return Err(Sw::WRONG_LENGTH);
         }
+        self.text()
     }
 
     /// Le, where it stands and no bytes are sent.
@@ -53,9 +72,8 @@ impl<'a> CommandBody<'a> {
     /// # Errors
     /// 6700 where it doesn't stand, or bytes are sent.
     pub fn le_alone(self) -> Result<u8, Sw>
-        ensures known { is_ok result ≡ ((length self.entry.sent.now == 0) && is_some self.entry.expected) }
-        ensures le { IfOk result (λ le. self.entry.expected ≡ Some le) }
-        ensures refusal { IfErr result (λ refusal. refusal ≡ WRONG_LENGTH) }
+        ensures { Reads result ((length self.entry.sent.now == 0) && is_some self.entry.expected)
+            (λ le. self.entry.expected ≡ Some le) WRONG_LENGTH }
     {
         match self.expected {
             Some(le) if self.sent.is_empty() => Ok(le),
@@ -68,9 +86,7 @@ impl<'a> CommandBody<'a> {
     /// # Errors
     /// 6700 exactly where they have none.
     pub fn parse(bytes: &'a [u8]) -> Result<CommandBody<'a>, Sw>
-        ensures form { IfOk result (λ body. body_of bytes.now ≡ Some (body_view body)) }
-        ensures short { IfOk result (λ body. length body.sent.now ≤ 255) }
-        ensures refusal { IfErr result (λ refusal. (refusal ≡ WRONG_LENGTH) × (body_of bytes.now ≡ None)) }
+        ensures { ReadsBody result bytes.now }
     {
         match bytes {
             [] => Ok(CommandBody {
@@ -88,9 +104,7 @@ impl<'a> CommandBody<'a> {
     /// The forms that begin with Lc: its bytes, and Le behind them or not.
     fn with_data(lc: u8, rest: &'a [u8]) -> Result<CommandBody<'a>, Sw>
         requires { rest.now ≢ [] }
-        ensures form { IfOk result (λ body. body_of (lc ∷ rest.now) ≡ Some (body_view body)) }
-        ensures short { IfOk result (λ body. length body.sent.now ≤ 255) }
-        ensures refusal { IfErr result (λ refusal. (refusal ≡ WRONG_LENGTH) × (body_of (lc ∷ rest.now) ≡ None)) }
+        ensures { ReadsBody result (lc ∷ rest.now) }
     {
         let sent_length = usize::from(lc);
         if sent_length == 0 {

@@ -1,13 +1,11 @@
 //! Commands on life cycles (ISO/IEC 7816-9).
-ghost use Rattle.std.specs.Prelude.{Some, IfOk};
-ghost use Rattle.apdu_core.specs.Asked.{asked_by_row};
+ghost use Rattle.std.specs.Prelude.{Some};
 ghost use Rattle.apdu_core.specs.LifeCycleRows.{life_cycle_row, terminate_card_usage_row};
-ghost use Rattle.apdu_core.specs.Fields.{IsInRange};
-ghost use Rattle.apdu_core.specs.Requests.{Gives};
+ghost use Rattle.apdu_core.specs.Parsing.{Parses};
 
-use crate::commands::Command;
+use crate::commands::{Command, Parsed};
 use crate::files::Subject;
-use crate::form::{CommandBody, no_parameters};
+use crate::form::{CommandBody, Operands};
 use card_rules::Sw;
 
 /// What a command does to the life cycle of a file.
@@ -25,32 +23,21 @@ pub enum LifeCycleChange {
 
 /// Reads P1, P2 and what follows the header of a command that changes a life cycle. Other P1 and P2 than 00 00 are
 /// 6A86, other lengths than 0 and 2 are 6700, and so is Le.
-pub(crate) fn parse_life_cycle_change<'a>(
-    change: LifeCycleChange,
-    p1: u8,
-    p2: u8,
-    rest: &'a [u8],
-) -> Result<Command<'a>, Sw>
-    ensures asked { Gives result (asked_by_row (Some (life_cycle_row change)) p1 p2 rest.now) }
-    ensures ranges { IfOk result IsInRange }
+pub(crate) fn parse_life_cycle_change(change: LifeCycleChange, operands: Operands<'_>) -> Parsed<'_>
+    ensures { Parses (Some (life_cycle_row change)) operands.entry result }
 {
-    no_parameters(p1, p2)?;
-    let subject = Subject::of(CommandBody::parse(rest)?)?;
+    operands.no_parameters()?;
+    let subject = Subject::of(CommandBody::parse(operands.rest)?)?;
     Ok(Command::ChangeLifeCycle { change, subject })
 }
 
 /// Reads P1, P2 and what follows the header of TERMINATE CARD USAGE. Other P1 and P2 than 00 00 are 6A86;
 /// data, or Le, are 6700.
-pub(crate) fn parse_terminate_card_usage<'a>(
-    p1: u8,
-    p2: u8,
-    rest: &'a [u8],
-) -> Result<Command<'a>, Sw>
-    ensures asked { Gives result (asked_by_row (Some terminate_card_usage_row) p1 p2 rest.now) }
-    ensures ranges { IfOk result IsInRange }
+pub(crate) fn parse_terminate_card_usage(operands: Operands<'_>) -> Parsed<'_>
+    ensures { Parses (Some terminate_card_usage_row) operands.entry result }
 {
-    no_parameters(p1, p2)?;
-    let body = CommandBody::parse(rest)?;
+    operands.no_parameters()?;
+    let body = CommandBody::parse(operands.rest)?;
     if body.sent.is_empty() && body.expected.is_none() {
         Ok(Command::TerminateCardUsage)
     } else {

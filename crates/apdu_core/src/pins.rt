@@ -1,14 +1,12 @@
 //! Commands on PINs (ISO/IEC 7816-4, 11.5).
-ghost use Rattle.std.specs.Prelude.{◌≡◌, ◌==◌, Some, is_some, is_ok, IfOk, IfErr, IfSome, length, take, drop};
+ghost use Rattle.std.specs.Prelude.{◌≡◌, ◌==◌, Some, length, take, drop};
 ghost use Rattle.card_rules.specs.declared.status.TheConstants.Sw.{WRONG_PARAMETERS};
-ghost use Rattle.apdu_core.specs.Asked.{asked_by_row};
 ghost use Rattle.apdu_core.specs.PinRows.{verify_row, change_reference_data_row, reset_retry_counter_row, is_pin};
 ghost use Rattle.apdu_core.specs.PinRows.{requirement_row};
-ghost use Rattle.apdu_core.specs.Fields.{IsInRange};
-ghost use Rattle.apdu_core.specs.Requests.{Gives};
+ghost use Rattle.apdu_core.specs.Parsing.{Parses, Names, Reads};
 
-use crate::commands::Command;
-use crate::form::CommandBody;
+use crate::commands::{Command, Parsed};
+use crate::form::{CommandBody, Operands};
 use card_rules::{PINS, Sw};
 
 /// A value that is shown, and the new value of the PIN.
@@ -21,9 +19,8 @@ pub struct Replacement<'a> {
 impl<'a> Replacement<'a> {
     /// The two values in these bytes, if they are 16.
     fn of(sent: &'a [u8]) -> Option<Replacement<'a>>
-        ensures known { is_some result ≡ (length sent.now == 16) }
-        ensures shown { IfSome result (λ values. values.shown.now ≡ take 8 sent.now) }
-        ensures new { IfSome result (λ values. values.new.now ≡ drop 8 sent.now) }
+        ensures { Names result (length sent.now == 16) (λ values.
+            (values.shown.now ≡ take 8 sent.now) × (values.new.now ≡ drop 8 sent.now)) }
     {
         let (shown, rest) = sent.split_first_chunk::<8>()?;
         let new = rest.as_array::<8>()?;
@@ -45,9 +42,7 @@ pub enum RequirementChange {
 /// # Errors
 /// 6A86 where they name none.
 fn pin_named(p1: u8, p2: u8) -> Result<u8, Sw>
-    ensures known { is_ok result ≡ is_pin p1 p2 }
-    ensures pin { IfOk result (λ pin. pin ≡ p2) }
-    ensures refusal { IfErr result (λ refusal. refusal ≡ WRONG_PARAMETERS) }
+    ensures { Reads result (is_pin p1 p2) (λ pin. pin ≡ p2) WRONG_PARAMETERS }
 {
     if p1 == 0x00 && (1..=PINS).contains(&p2) {
         Ok(p2)
@@ -58,12 +53,11 @@ fn pin_named(p1: u8, p2: u8) -> Result<u8, Sw>
 
 /// Reads P1, P2 and what follows the header of VERIFY (ISO/IEC 7816-4, 11.5.6). P1 and P2 that name no PIN are 6A86,
 /// other lengths than 0 and 8 are 6700, and so is Le.
-pub(crate) fn parse_verify<'a>(p1: u8, p2: u8, rest: &'a [u8]) -> Result<Command<'a>, Sw>
-    ensures asked { Gives result (asked_by_row (Some verify_row) p1 p2 rest.now) }
-    ensures ranges { IfOk result IsInRange }
+pub(crate) fn parse_verify(operands: Operands<'_>) -> Parsed<'_>
+    ensures { Parses (Some verify_row) operands.entry result }
 {
-    let pin = pin_named(p1, p2)?;
-    let body = CommandBody::parse(rest)?;
+    let pin = pin_named(operands.p1, operands.p2)?;
+    let body = CommandBody::parse(operands.rest)?;
     let shown = body.sent.as_array::<8>();
     if body.expected.is_some() || shown.is_none() && !body.sent.is_empty() {
         return Err(Sw::WRONG_LENGTH);
@@ -73,16 +67,11 @@ pub(crate) fn parse_verify<'a>(p1: u8, p2: u8, rest: &'a [u8]) -> Result<Command
 
 /// Reads P1, P2 and what follows the header of CHANGE REFERENCE DATA (ISO/IEC 7816-4, 11.5.7). P1 and P2 that name no
 /// PIN are 6A86, another length than 16 is 6700, and so is Le.
-pub(crate) fn parse_change_reference_data<'a>(
-    p1: u8,
-    p2: u8,
-    rest: &'a [u8],
-) -> Result<Command<'a>, Sw>
-    ensures asked { Gives result (asked_by_row (Some change_reference_data_row) p1 p2 rest.now) }
-    ensures ranges { IfOk result IsInRange }
+pub(crate) fn parse_change_reference_data(operands: Operands<'_>) -> Parsed<'_>
+    ensures { Parses (Some change_reference_data_row) operands.entry result }
 {
-    let pin = pin_named(p1, p2)?;
-    let body = CommandBody::parse(rest)?;
+    let pin = pin_named(operands.p1, operands.p2)?;
+    let body = CommandBody::parse(operands.rest)?;
     match Replacement::of(body.sent) {
         Some(values) if body.expected.is_none() => Ok(Command::ChangeReferenceData { pin, values }),
         _ => Err(Sw::WRONG_LENGTH),
@@ -91,16 +80,11 @@ pub(crate) fn parse_change_reference_data<'a>(
 
 /// Reads P1, P2 and what follows the header of RESET RETRY COUNTER (ISO/IEC 7816-4, 11.5.10). P1 and P2 that name no
 /// PIN are 6A86, other lengths than 0 and 16 are 6700, and so is Le.
-pub(crate) fn parse_reset_retry_counter<'a>(
-    p1: u8,
-    p2: u8,
-    rest: &'a [u8],
-) -> Result<Command<'a>, Sw>
-    ensures asked { Gives result (asked_by_row (Some reset_retry_counter_row) p1 p2 rest.now) }
-    ensures ranges { IfOk result IsInRange }
+pub(crate) fn parse_reset_retry_counter(operands: Operands<'_>) -> Parsed<'_>
+    ensures { Parses (Some reset_retry_counter_row) operands.entry result }
 {
-    let pin = pin_named(p1, p2)?;
-    let body = CommandBody::parse(rest)?;
+    let pin = pin_named(operands.p1, operands.p2)?;
+    let body = CommandBody::parse(operands.rest)?;
     let values = Replacement::of(body.sent);
     if body.expected.is_some() || values.is_none() && !body.sent.is_empty() {
         return Err(Sw::WRONG_LENGTH);
@@ -110,17 +94,14 @@ pub(crate) fn parse_reset_retry_counter<'a>(
 
 /// Reads P1, P2 and what follows the header of DISABLE VERIFICATION REQUIREMENT and ENABLE VERIFICATION REQUIREMENT
 /// (ISO/IEC 7816-4, 11.5). P1 and P2 that name no PIN are 6A86, another length than 8 is 6700, and so is Le.
-pub(crate) fn parse_requirement_change<'a>(
+pub(crate) fn parse_requirement_change(
     change: RequirementChange,
-    p1: u8,
-    p2: u8,
-    rest: &'a [u8],
-) -> Result<Command<'a>, Sw>
-    ensures asked { Gives result (asked_by_row (Some (requirement_row change)) p1 p2 rest.now) }
-    ensures ranges { IfOk result IsInRange }
+    operands: Operands<'_>,
+) -> Parsed<'_>
+    ensures { Parses (Some (requirement_row change)) operands.entry result }
 {
-    let pin = pin_named(p1, p2)?;
-    let body = CommandBody::parse(rest)?;
+    let pin = pin_named(operands.p1, operands.p2)?;
+    let body = CommandBody::parse(operands.rest)?;
     match body.sent.as_array::<8>() {
         Some(shown) if body.expected.is_none() => Ok(Command::ChangeRequirement {
             change,

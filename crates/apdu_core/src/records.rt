@@ -1,16 +1,14 @@
 //! Commands on records (ISO/IEC 7816-4, 11.4), and INCREASE (ETSI TS 102 221, 11.1.8).
-ghost use Rattle.std.specs.Prelude.{◌≡◌, ◌&&◌, Some, is_some, IfOk, IfSome};
-ghost use Rattle.apdu_core.specs.Asked.{asked_by_row};
-ghost use Rattle.apdu_core.specs.Fields.{IsInRange};
+ghost use Rattle.std.specs.Prelude.{◌≡◌, ◌&&◌, Some, IfSome};
+ghost use Rattle.apdu_core.specs.Parsing.{Parses, Names};
 ghost use Rattle.apdu_core.specs.Ranges.{IsTarget, IsRecordPlace, IsRecordChoice};
 ghost use Rattle.apdu_core.specs.RecordRows.{read_record_row, update_record_row, append_record_row, search_record_row};
 ghost use Rattle.apdu_core.specs.RecordRows.{increase_row, is_record_file, record_file, record_place, is_choice};
 ghost use Rattle.apdu_core.specs.RecordRows.{record_choice, is_direction, direction};
-ghost use Rattle.apdu_core.specs.Requests.{Gives};
 
 use crate::binary::Target;
-use crate::commands::Command;
-use crate::form::{CommandBody, no_parameters};
+use crate::commands::{Command, Parsed};
+use crate::form::{CommandBody, Operands};
 use card_rules::Sw;
 
 /// A record by its number, or the current one.
@@ -52,8 +50,7 @@ struct RecordName {
 impl Target {
     /// The file of a command on records, by the upper five bits of its P2: 31 is none.
     fn of_records(p2: u8) -> Option<Target>
-        ensures known { is_some result ≡ is_record_file p2 }
-        ensures named { IfSome result (λ target. target ≡ record_file p2) }
+        ensures file { Names result (is_record_file p2) (λ target. target ≡ record_file p2) }
         ensures ranges { IfSome result IsTarget }
     {
         match p2 / 8 {
@@ -80,8 +77,7 @@ impl RecordPlace {
 impl RecordChoice {
     /// The record that P1 and the mode in P2 name, if they name one.
     fn of(p1: u8, p2: u8) -> Option<RecordChoice>
-        ensures known { is_some result ≡ is_choice p1 p2 }
-        ensures named { IfSome result (λ choice. choice ≡ record_choice p1 p2) }
+        ensures choice { Names result (is_choice p1 p2) (λ choice. choice ≡ record_choice p1 p2) }
         ensures ranges { IfSome result IsRecordChoice }
     {
         match p2 % 8 {
@@ -96,8 +92,7 @@ impl RecordChoice {
 impl Direction {
     /// The direction that the mode in P2 names, if it names one.
     fn of(p2: u8) -> Option<Direction>
-        ensures known { is_some result ≡ is_direction p2 }
-        ensures named { IfSome result (λ way. way ≡ direction p2) }
+        ensures { Names result (is_direction p2) (λ way. way ≡ direction p2) }
     {
         match p2 % 8 {
             4 => Some(Direction::Forward),
@@ -110,8 +105,8 @@ impl Direction {
 impl RecordName {
     /// Reads P1 and P2 of READ RECORD and UPDATE RECORD, if they name a record.
     fn of(p1: u8, p2: u8) -> Option<RecordName>
-        ensures known { is_some result ≡ (is_record_file p2 && is_choice p1 p2) }
-        ensures named { IfSome result (λ name. (name.target ≡ record_file p2) × (name.choice ≡ record_choice p1 p2)) }
+        ensures record_name { Names result (is_record_file p2 && is_choice p1 p2) (λ name.
+            (name.target ≡ record_file p2) × (name.choice ≡ record_choice p1 p2)) }
         ensures ranges { IfSome result (λ name. IsTarget name.target × IsRecordChoice name.choice) }
     {
         let target = Target::of_records(p2)?;
@@ -122,12 +117,11 @@ impl RecordName {
 
 /// Reads P1, P2 and what follows the header of READ RECORD (ISO/IEC 7816-4, 11.4.3). P1 and P2 that name no record are
 /// 6A86; data, or no Le, are 6700.
-pub(crate) fn parse_read_record<'a>(p1: u8, p2: u8, rest: &'a [u8]) -> Result<Command<'a>, Sw>
-    ensures asked { Gives result (asked_by_row (Some read_record_row) p1 p2 rest.now) }
-    ensures ranges { IfOk result IsInRange }
+pub(crate) fn parse_read_record(operands: Operands<'_>) -> Parsed<'_>
+    ensures { Parses (Some read_record_row) operands.entry result }
 {
-    let name = RecordName::of(p1, p2).ok_or(Sw::WRONG_PARAMETERS)?;
-    let expected = CommandBody::parse(rest)?.le_alone()?;
+    let name = RecordName::of(operands.p1, operands.p2).ok_or(Sw::WRONG_PARAMETERS)?;
+    let expected = CommandBody::parse(operands.rest)?.le_alone()?;
     Ok(Command::ReadRecord {
         target: name.target,
         choice: name.choice,
@@ -137,12 +131,11 @@ pub(crate) fn parse_read_record<'a>(p1: u8, p2: u8, rest: &'a [u8]) -> Result<Co
 
 /// Reads P1, P2 and what follows the header of UPDATE RECORD (ISO/IEC 7816-4, 11.4.5). P1 and P2 that name no record
 /// are 6A86; no data, or Le, are 6700.
-pub(crate) fn parse_update_record<'a>(p1: u8, p2: u8, rest: &'a [u8]) -> Result<Command<'a>, Sw>
-    ensures asked { Gives result (asked_by_row (Some update_record_row) p1 p2 rest.now) }
-    ensures ranges { IfOk result IsInRange }
+pub(crate) fn parse_update_record(operands: Operands<'_>) -> Parsed<'_>
+    ensures { Parses (Some update_record_row) operands.entry result }
 {
-    let name = RecordName::of(p1, p2).ok_or(Sw::WRONG_PARAMETERS)?;
-    let bytes = CommandBody::parse(rest)?.text_alone()?;
+    let name = RecordName::of(operands.p1, operands.p2).ok_or(Sw::WRONG_PARAMETERS)?;
+    let bytes = CommandBody::parse(operands.rest)?.text_alone()?;
     Ok(Command::UpdateRecord {
         target: name.target,
         choice: name.choice,
@@ -152,51 +145,44 @@ pub(crate) fn parse_update_record<'a>(p1: u8, p2: u8, rest: &'a [u8]) -> Result<
 
 /// Reads P1, P2 and what follows the header of APPEND RECORD (ISO/IEC 7816-4, 11.4.6). P1 other than 00 and P2 that
 /// name more than a file are 6A86; no data, or Le, are 6700.
-pub(crate) fn parse_append_record<'a>(p1: u8, p2: u8, rest: &'a [u8]) -> Result<Command<'a>, Sw>
-    ensures asked { Gives result (asked_by_row (Some append_record_row) p1 p2 rest.now) }
-    ensures ranges { IfOk result IsInRange }
+pub(crate) fn parse_append_record(operands: Operands<'_>) -> Parsed<'_>
+    ensures { Parses (Some append_record_row) operands.entry result }
 {
-    if p1 != 0 || p2 % 8 != 0 {
+    if operands.p1 != 0 || operands.p2 % 8 != 0 {
         return Err(Sw::WRONG_PARAMETERS);
     }
-    let target = Target::of_records(p2).ok_or(Sw::WRONG_PARAMETERS)?;
-    let bytes = CommandBody::parse(rest)?.text_alone()?;
+    let target = Target::of_records(operands.p2).ok_or(Sw::WRONG_PARAMETERS)?;
+    let bytes = CommandBody::parse(operands.rest)?.text_alone()?;
     Ok(Command::AppendRecord { target, bytes })
 }
 
 /// Reads P1, P2 and what follows the header of SEARCH RECORD (ISO/IEC 7816-4, 11.4.7). P2 that names no file or no
 /// direction is 6A86; no data is 6700.
-pub(crate) fn parse_search_record<'a>(p1: u8, p2: u8, rest: &'a [u8]) -> Result<Command<'a>, Sw>
-    ensures asked { Gives result (asked_by_row (Some search_record_row) p1 p2 rest.now) }
-    ensures ranges { IfOk result IsInRange }
+pub(crate) fn parse_search_record(operands: Operands<'_>) -> Parsed<'_>
+    ensures { Parses (Some search_record_row) operands.entry result }
 {
-    let target = Target::of_records(p2).ok_or(Sw::WRONG_PARAMETERS)?;
-    let direction = Direction::of(p2).ok_or(Sw::WRONG_PARAMETERS)?;
-    let body = CommandBody::parse(rest)?;
-    if body.sent.is_empty() {
-        return Err(Sw::WRONG_LENGTH);
-    }
+    let target = Target::of_records(operands.p2).ok_or(Sw::WRONG_PARAMETERS)?;
+    let direction = Direction::of(operands.p2).ok_or(Sw::WRONG_PARAMETERS)?;
+    let body = CommandBody::parse(operands.rest)?;
+    let text = body.text()?;
     Ok(Command::SearchRecord {
         target,
-        first: RecordPlace::of(p1),
+        first: RecordPlace::of(operands.p1),
         direction,
-        text: body.sent,
+        text,
         expected: body.expected,
     })
 }
 
 /// Reads P1, P2 and what follows the header of INCREASE. Other P1 and P2 than 00 00 are 6A86; no data is 6700.
-pub(crate) fn parse_increase<'a>(p1: u8, p2: u8, rest: &'a [u8]) -> Result<Command<'a>, Sw>
-    ensures asked { Gives result (asked_by_row (Some increase_row) p1 p2 rest.now) }
-    ensures ranges { IfOk result IsInRange }
+pub(crate) fn parse_increase(operands: Operands<'_>) -> Parsed<'_>
+    ensures { Parses (Some increase_row) operands.entry result }
 {
-    no_parameters(p1, p2)?;
-    let body = CommandBody::parse(rest)?;
-    if body.sent.is_empty() {
-        return Err(Sw::WRONG_LENGTH);
-    }
+    operands.no_parameters()?;
+    let body = CommandBody::parse(operands.rest)?;
+    let amount = body.text()?;
     Ok(Command::Increase {
-        amount: body.sent,
+        amount,
         expected: body.expected,
     })
 }

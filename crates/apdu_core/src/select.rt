@@ -1,15 +1,13 @@
 //! SELECT (ISO/IEC 7816-4, 11.2.2).
-ghost use Rattle.std.specs.Prelude.{◌≡◌, Some, IfOk, IfSome, is_some, length};
-ghost use Rattle.apdu_core.specs.Asked.{asked_by_row};
+ghost use Rattle.std.specs.Prelude.{◌≡◌, Some, IfSome, length};
 ghost use Rattle.apdu_core.specs.Selections.{selection_of};
 ghost use Rattle.apdu_core.specs.SelectRows.{select_row, is_way, is_returned, returned_by, names_file, named_file};
-ghost use Rattle.apdu_core.specs.Fields.{IsInRange};
+ghost use Rattle.apdu_core.specs.Parsing.{Parses, Names};
 ghost use Rattle.apdu_core.specs.Ranges.{IsSelector};
-ghost use Rattle.apdu_core.specs.Requests.{Gives};
 ghost use Rattle.apdu_core.specs.Ways.{byte_of};
 
-use crate::commands::Command;
-use crate::form::CommandBody;
+use crate::commands::{Command, Parsed};
+use crate::form::{CommandBody, Operands};
 use crate::path::FilePath;
 use byteorder::{BigEndian, ByteOrder};
 use card_rules::Sw;
@@ -54,8 +52,7 @@ enum Way {
 impl Way {
     /// The way of a P1, if it is one.
     fn of(p1: u8) -> Option<Way>
-        ensures known { is_some result ≡ is_way p1 }
-        ensures way { IfSome result (λ way. byte_of way ≡ p1) }
+        ensures { Names result (is_way p1) (λ way. byte_of way ≡ p1) }
     {
         match p1 {
             0x00 => Some(Way::ByIdentifier),
@@ -71,8 +68,7 @@ impl Way {
 impl Returned {
     /// What P2 of SELECT wants to be answered, if it is one of the two that are known.
     fn of(p2: u8) -> Option<Returned>
-        ensures known { is_some result ≡ is_returned p2 }
-        ensures returned { IfSome result (λ returned. returned ≡ returned_by p2) }
+        ensures { Names result (is_returned p2) (λ returned. returned ≡ returned_by p2) }
     {
         match p2 {
             0x04 => Some(Returned::Template),
@@ -85,8 +81,8 @@ impl Returned {
 impl<'a> Selector<'a> {
     /// The file that the sent bytes name, if their number is right for the way.
     fn of(way: Way, sent: &'a [u8]) -> Option<Selector<'a>>
-        ensures known { is_some result ≡ names_file (byte_of way) (length sent.now) }
-        ensures named { IfSome result (λ selector. selection_of selector ≡ named_file (byte_of way) sent.now) }
+        ensures file { Names result (names_file (byte_of way) (length sent.now)) (λ selector.
+            selection_of selector ≡ named_file (byte_of way) sent.now) }
         ensures ranges { IfSome result IsSelector }
     {
         match way {
@@ -103,8 +99,8 @@ impl<'a> Selector<'a> {
 
     /// The master file under no bytes, and a file by its identifier under two.
     fn by_identifier(sent: &'a [u8]) -> Option<Selector<'a>>
-        ensures known { is_some result ≡ names_file 0x00 (length sent.now) }
-        ensures named { IfSome result (λ selector. selection_of selector ≡ named_file 0x00 sent.now) }
+        ensures file { Names result (names_file 0x00 (length sent.now)) (λ selector.
+            selection_of selector ≡ named_file 0x00 sent.now) }
         ensures ranges { IfSome result IsSelector }
     {
         match sent {
@@ -116,14 +112,13 @@ impl<'a> Selector<'a> {
 }
 
 /// Reads P1, P2 and what follows the header of SELECT. Unknown P1 and P2 are 6A86, lengths that don't fit P1 are 6700.
-pub(crate) fn parse_select<'a>(p1: u8, p2: u8, rest: &'a [u8]) -> Result<Command<'a>, Sw>
-    ensures asked { Gives result (asked_by_row (Some select_row) p1 p2 rest.now) }
-    ensures ranges { IfOk result IsInRange }
+pub(crate) fn parse_select(operands: Operands<'_>) -> Parsed<'_>
+    ensures { Parses (Some select_row) operands.entry result }
 {
-    let (Some(way), Some(returned)) = (Way::of(p1), Returned::of(p2)) else {
+    let (Some(way), Some(returned)) = (Way::of(operands.p1), Returned::of(operands.p2)) else {
         return Err(Sw::WRONG_PARAMETERS);
     };
-    let body = CommandBody::parse(rest)?;
+    let body = CommandBody::parse(operands.rest)?;
     let selector = Selector::of(way, body.sent).ok_or(Sw::WRONG_LENGTH)?;
     Ok(Command::Select {
         selector,

@@ -6,7 +6,7 @@ use Rattle.t1_link.specs.declared.card_end.CardEnd.TheInside.{Inside}
 abbrev pub card_link : Inside → CardLink
 card_link c = record {
   link = record {
-    ns = c.number;
+    ns = c.answer.number;
     nr = c.expected;
     ifsd = c.ifsd;
     sent = if c.has_sent then Some c.answer.field else None;

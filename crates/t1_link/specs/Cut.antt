@@ -1,14 +1,31 @@
--- Bytes that are sent in pieces.
-use Rattle.std.specs.Prelude.{ℕ, ◌≤◌, List, length, take, drop}
+-- Bytes that are sent in pieces, each in an I-block.
+use Rattle.std.specs.Prelude.{ℕ, ◌≤◌, ◌==◌, not, List, [], length, take, drop}
+use Rattle.t1_link.specs.Blocks.{Block, information}
+use Rattle.t1_link.specs.SequenceNumbers.{other_number}
+use Rattle.t1_link.specs.declared.sequence_number.SequenceNumber.{SequenceNumber}
+use Rattle.t1_link.specs.declared.sequence_number.SequenceNumber.TheVariants.{Zero}
 
--- the piece that was sent last, and the bytes that are not sent yet
+-- the number of the next I-block, the piece that was sent last, and the bytes that are not sent yet
 pub record Pieces : Type 0 where
+  pub number : SequenceNumber
   pub field : List ℕ
   pub rest : List ℕ
 
--- the next piece, of at most so many bytes
+-- no bytes, after power-on
+abbrev pub no_pieces : Pieces
+no_pieces = record { number = Zero; field = []; rest = [] }
+
+-- other bytes, of which nothing is sent yet: the numbers go on
+abbrev pub loaded : Pieces → List ℕ → Pieces
+loaded p bytes = record { number = p.number; field = []; rest = bytes }
+
+-- the next piece, of at most so many bytes: the number turns
 abbrev pub cut : Pieces → ℕ → Pieces
-cut p size = record { field = take size p.rest; rest = drop size p.rest }
+cut p size = record { number = other_number p.number; field = take size p.rest; rest = drop size p.rest }
+
+-- the I-block of the last piece
+abbrev pub last_piece : Pieces → Block
+last_piece p = information (other_number p.number) (not (length p.rest == 0)) p.field
 
 -- a piece within these bytes
 pub record IsPlaced (bytes : List ℕ) (start end : ℕ) : Type 0 where

@@ -2,6 +2,7 @@ pub mod Blocks
 pub mod CardFields
 pub mod CardTable
 pub mod Cut
+pub mod Ends
 pub mod Garbled
 pub mod ReaderFields
 pub mod ReaderTable

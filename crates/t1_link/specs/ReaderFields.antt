@@ -8,7 +8,7 @@ use Rattle.t1_link.specs.declared.reader_end.Next.TheVariants.{Send, Done, Unkno
 
 abbrev pub reader_of : Inside → Reader
 reader_of r = record {
-  ns = r.number;
+  ns = r.command.number;
   nr = r.expected;
   tries = r.tries;
   field = r.command.field;

@@ -9,7 +9,7 @@ use Rattle.t1_link.specs.declared.block.Block.TheVariants.{IfsRequest, IfsRespon
 
 -- a block, with its information field in place of a loan of it
 abbrev pub block_of : spelled.Block → Block
-block_of (Information number more field) = information number more field.now
+block_of (Information piece) = information piece.number piece.more piece.field.now
 block_of (ReceiveReady number error) = receive_ready number error
 block_of ResynchRequest = resynch_request
 block_of ResynchResponse = resynch_response

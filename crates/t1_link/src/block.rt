@@ -189,14 +189,18 @@ impl Fault {
     }
 }
 
+/// What an I-block brings: a piece of the bytes that its sender sends, under N(S), and M, that more follow.
+#[derive(Clone, Copy)]
+pub(crate) struct Piece<'a> {
+    pub number: SequenceNumber,
+    pub more: bool,
+    pub field: &'a [u8],
+}
+
 /// A block, whose information field is lent (ISO/IEC 7816-3, 11.3).
 #[derive(Clone, Copy)]
 pub(crate) enum Block<'a> {
-    Information {
-        number: SequenceNumber,
-        more: bool,
-        field: &'a [u8],
-    },
+    Information(Piece<'a>),
     ReceiveReady {
         number: SequenceNumber,
         error: ErrorKind,
@@ -271,8 +275,10 @@ impl<'a> Block<'a> {
         ensures { result ≡ control_byte (block_of self.entry) }
     {
         match self {
-            Block::Information { number, more, .. } => {
-                INFORMATION_0 + number.at_bit(NUMBER_SENT) + (if more { MORE } else { 0 })
+            Block::Information(piece) => {
+                INFORMATION_0
+                    + piece.number.at_bit(NUMBER_SENT)
+                    + (if piece.more { MORE } else { 0 })
             }
             Block::ReceiveReady { number, error } => {
                 READY_0 + number.at_bit(NUMBER_EXPECTED) + error.code()
@@ -290,7 +296,7 @@ impl<'a> Block<'a> {
         ensures { result ≡ length (field_of (block_of self.entry)) }
     {
         match self {
-            Block::Information { field, .. } => field.len() as u8,
+            Block::Information(piece) => piece.field.len() as u8,
             Block::IfsRequest(_) | Block::IfsResponse(_) => 1,
             Block::ReceiveReady { .. } | Block::ResynchRequest | Block::ResynchResponse => 0,
         }
@@ -303,7 +309,7 @@ impl<'a> Block<'a> {
         ensures { out.new.items ≡ out.old.items ++ field_of (block_of self.entry) }
     {
         match self {
-            Block::Information { field, .. } => out.try_extend_from_slice(field).unwrap(),
+            Block::Information(piece) => out.try_extend_from_slice(piece.field).unwrap(),
             Block::IfsRequest(size) | Block::IfsResponse(size) => out.push(size),
             Block::ReceiveReady { .. } | Block::ResynchRequest | Block::ResynchResponse => {}
         }
@@ -326,11 +332,11 @@ fn has_wrong_length(bytes: &[u8]) -> bool
 fn information(number: SequenceNumber, more: bool, field: &[u8]) -> Result<Block<'_>, Fault>
     ensures { spoken result ≡ Ok (information number more field.now) }
 {
-    Ok(Block::Information {
+    Ok(Block::Information(Piece {
         number,
         more,
         field,
-    })
+    }))
 }
 
 /// An R-block, which has no information field.

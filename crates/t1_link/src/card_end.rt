@@ -1,14 +1,15 @@
 //! The card's end of T=1.
 
 ghost use Rattle.std.specs.Prelude.{◌≡◌, ◌++◌, ◌&&◌, not, None, IsSome, IsTrue, ◌↔◌, Some, take, Ok};
-ghost use Rattle.t1_link.specs.Blocks.{IsSpellable, frame, receive_ready};
+ghost use Rattle.t1_link.specs.Blocks.{IsSpellable, receive_ready};
 ghost use Rattle.t1_link.specs.CardTable.{CardLink, link_step, action_of, after, answers, reply_bytes};
 ghost use Rattle.t1_link.specs.CardTable.{card_takes, fresh};
 ghost use Rattle.t1_link.specs.CardTable.{sending, sent_block, sent_more, takes_information, takes_receive_ready};
+ghost use Rattle.t1_link.specs.Ends.{Replies, Takes};
 ghost use Rattle.t1_link.specs.SequenceNumbers.{same};
 ghost use Rattle.t1_link.specs.Spoken.{block_of};
 
-use crate::block::{Block, BlockBytes, ErrorKind};
+use crate::block::{Block, BlockBytes, ErrorKind, Piece};
 use crate::outgoing::{LONGEST_COMMAND, Outgoing};
 use crate::sequence_number::SequenceNumber;
 use arrayvec::ArrayVec;
@@ -39,7 +40,6 @@ pub enum Action {
 /// The card's end of T=1: what was sent, what is expected, and the bytes on their way.
 #[derive(Drop)]
 pub struct CardEnd {
-    number: SequenceNumber,
     expected: SequenceNumber,
     ifsd: u8,
     has_sent: bool,
@@ -66,7 +66,6 @@ impl CardEnd {
         ensures { result ≡ record { link = fresh; waiting = None } }
     {
         CardEnd {
-            number: SequenceNumber::Zero,
             expected: SequenceNumber::Zero,
             ifsd: FIRST_IFSD,
             has_sent: false,
@@ -127,9 +126,7 @@ impl CardEnd {
     fn take_block(&mut self, block: Block<'_>, out: &mut BlockBytes) -> Action
         requires idle { self.old.waiting ≡ None }
         requires spellable { IsSpellable (block_of block) }
-        ensures state { self.new ≡ after (card_takes self.old.link (Ok (block_of block.entry))) }
-        ensures action { result ≡ action_of (card_takes self.old.link (Ok (block_of block.entry))).reaction }
-        ensures block { out.new ≡ reply_bytes (card_takes self.old.link (Ok (block_of block.entry))).reaction }
+        ensures { Takes (card_takes self.old.link (Ok (block_of block.entry))) self.new result out.new }
     {
         match block {
             Block::ResynchRequest => {
@@ -146,33 +143,22 @@ impl CardEnd {
                 self.receive_ready(ErrorKind::OtherError, out)
             }
             Block::ReceiveReady { number, .. } => self.take_receive_ready(number, out),
-            Block::Information {
-                number,
-                more,
-                field,
-            } => self.take_information(number, more, field, out),
+            Block::Information(piece) => self.take_information(piece, out),
         }
     }
 
     /// An I-block came.
-    fn take_information(
-        &mut self,
-        number: SequenceNumber,
-        more: bool,
-        field: &[u8],
-        out: &mut BlockBytes,
-    ) -> Action
+    fn take_information(&mut self, piece: Piece<'_>, out: &mut BlockBytes) -> Action
         requires { self.old.waiting ≡ None }
-        ensures state { self.new ≡ after (takes_information self.old.link number more field.now) }
-        ensures action { result ≡ action_of (takes_information self.old.link number more field.now).reaction }
-        ensures block { out.new ≡ reply_bytes (takes_information self.old.link number more field.now).reaction }
+        ensures { Takes (takes_information self.old.link piece.entry.number piece.entry.more piece.entry.field.now)
+            self.new result out.new }
     {
-        if !self.expects(number) {
+        if !self.expects(piece.number) {
             return self.receive_ready(ErrorKind::OtherError, out);
         }
-        keep(&mut self.command, field);
+        keep(&mut self.command, piece.field);
         self.expected = self.expected.other();
-        if more {
+        if piece.more {
             return self.receive_ready(ErrorKind::ErrorFree, out);
         }
         self.waits = true;
@@ -190,11 +176,9 @@ impl CardEnd {
     /// An R-block came.
     fn take_receive_ready(&mut self, number: SequenceNumber, out: &mut BlockBytes) -> Action
         requires { self.old.waiting ≡ None }
-        ensures state { self.new ≡ after (takes_receive_ready self.old.link number) }
-        ensures action { result ≡ action_of (takes_receive_ready self.old.link number).reaction }
-        ensures block { out.new ≡ reply_bytes (takes_receive_ready self.old.link number).reaction }
+        ensures { Takes (takes_receive_ready self.old.link number) self.new result out.new }
     {
-        if self.has_sent && number != self.number {
+        if self.has_sent && self.answer.is_last(number) {
             self.send_again(out)
         } else if self.answer.has_more() {
             self.send_next(out)
@@ -205,8 +189,7 @@ impl CardEnd {
 
     /// An R-block with the number that is expected.
     fn receive_ready(&self, error: ErrorKind, out: &mut BlockBytes) -> Action
-        ensures action { result ≡ Action.Reply }
-        ensures block { out.new ≡ frame (receive_ready self.now.link.nr error) }
+        ensures { Replies (receive_ready self.now.link.nr error) result out.new }
     {
         Block::ReceiveReady {
             number: self.expected,
@@ -219,29 +202,18 @@ impl CardEnd {
     /// The last I-block sent, once more.
     fn send_again(&self, out: &mut BlockBytes) -> Action
         requires { IsSome self.now.link.sent }
-        ensures action { result ≡ Action.Reply }
-        ensures block { out.new ≡ frame (sent_block self.now.link) }
+        ensures { Replies (sent_block self.now.link) result out.new }
     {
-        let number = self.number.other();
-        let more = self.answer.has_more();
-        Block::Information {
-            number,
-            more,
-            field: self.answer.field(),
-        }
-        .write(out);
+        self.answer.last_block().write(out);
         Action::Reply
     }
 
     /// The next I-block of the answer.
     fn send_next(&mut self, out: &mut BlockBytes) -> Action
         requires { self.old.waiting ≡ None }
-        ensures state { self.new ≡ after (sending self.old.link self.old.link.rest) }
-        ensures action { result ≡ Action.Reply }
-        ensures block { out.new ≡ reply_bytes (sending self.old.link self.old.link.rest).reaction }
+        ensures { Takes (sending self.old.link self.old.link.rest) self.new result out.new }
     {
         self.answer.cut(usize::from(self.ifsd));
-        self.number = self.number.other();
         self.has_sent = true;
         self.send_again(out)
     }

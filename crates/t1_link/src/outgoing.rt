@@ -1,8 +1,12 @@
-//! Bytes that are sent in pieces.
+//! Bytes that are sent in pieces, each in an I-block.
 
-ghost use Rattle.std.specs.Prelude.{◌≡◌, ◌≤◌, ◌==◌, [], length, not};
-ghost use Rattle.t1_link.specs.Cut.{cut};
+ghost use Rattle.std.specs.Prelude.{◌≡◌, ◌≤◌, ◌==◌, length, not};
+ghost use Rattle.t1_link.specs.Cut.{cut, last_piece, loaded, no_pieces};
+ghost use Rattle.t1_link.specs.SequenceNumbers.{other_number, same};
+ghost use Rattle.t1_link.specs.Spoken.{block_of};
 
+use crate::block::{Block, Piece};
+use crate::sequence_number::SequenceNumber;
 use arrayvec::ArrayVec;
 use std::marker::Model;
 
@@ -10,9 +14,10 @@ use std::marker::Model;
 /// No more are sent in pieces, as an answer has fewer.
 pub const LONGEST_COMMAND: usize = 261;
 
-/// Bytes that are sent in pieces: the last piece, and what is left.
+/// Bytes that are sent in pieces: the number of the next I-block, the last piece, and what is left.
 #[derive(Drop)]
 pub(crate) struct Outgoing {
+    number: SequenceNumber,
     bytes: ArrayVec<u8, LONGEST_COMMAND>,
     start: usize,
     end: usize,
@@ -24,36 +29,32 @@ impl Model for Outgoing {
 
     ghost Value = { Pieces };
 
-    ghost view = { λ o. record { field = slice_range o.bytes.items o.start o.end; rest = drop o.end o.bytes.items } };
+    ghost view = { λ o. record {
+      number = o.number;
+      field = slice_range o.bytes.items o.start o.end;
+      rest = drop o.end o.bytes.items;
+    } };
 
     ghost invariant = { λ o. IsPlaced o.bytes.items o.start o.end };
 }
 
 impl Outgoing {
-    /// No bytes.
+    /// No bytes, after power-on.
     pub(crate) fn new() -> Outgoing
-        ensures { result ≡ record { field = []; rest = [] } }
+        ensures { result ≡ no_pieces }
     {
         Outgoing {
+            number: SequenceNumber::Zero,
             bytes: ArrayVec::new(),
             start: 0,
             end: 0,
         }
     }
 
-    /// Drops all bytes.
-    pub(crate) fn clear(&mut self)
-        ensures { self.new ≡ record { field = []; rest = [] } }
-    {
-        self.start = 0;
-        self.end = 0;
-        self.bytes.clear();
-    }
-
-    /// Bytes of which nothing is sent yet.
+    /// Other bytes, of which nothing is sent yet. The numbers go on.
     pub(crate) fn load(&mut self, bytes: &[u8])
         requires { length bytes.now ≤ LONGEST_COMMAND }
-        ensures { self.new ≡ record { field = []; rest = bytes.now } }
+        ensures { self.new ≡ loaded self.old bytes.now }
     {
         self.start = 0;
         self.end = 0;
@@ -61,20 +62,32 @@ impl Outgoing {
         self.bytes.try_extend_from_slice(bytes).unwrap();
     }
 
-    /// Takes the next piece.
+    /// Takes the next piece, for an I-block with the next number.
     pub(crate) fn cut(&mut self, size: usize)
         ensures after { self.new ≡ cut self.old size }
         ensures bound { length self.new.field ≤ size }
     {
         self.start = self.end;
         self.end += size.min(self.bytes.len() - self.end);
+        self.number = self.number.other();
     }
 
-    /// The last piece.
-    pub(crate) fn field(&self) -> &[u8]
-        ensures { result.now ≡ self.now.field }
+    /// The I-block of the last piece.
+    pub(crate) fn last_block(&self) -> Block<'_>
+        ensures { block_of result ≡ last_piece self.now }
     {
-        &self.bytes.as_slice()[self.start..self.end]
+        Block::Information(Piece {
+            number: self.number.other(),
+            more: self.has_more(),
+            field: &self.bytes.as_slice()[self.start..self.end],
+        })
+    }
+
+    /// Whether the I-block of the last piece has this number: it is not that of the next one.
+    pub(crate) fn is_last(&self, number: SequenceNumber) -> bool
+        ensures { result ≡ same number (other_number self.now.number) }
+    {
+        number != self.number
     }
 
     /// Whether bytes are left.

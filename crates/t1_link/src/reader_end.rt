@@ -8,9 +8,10 @@ ghost use Rattle.t1_link.specs.ReaderTable.{reader_sends, reader_times_out};
 ghost use Rattle.t1_link.specs.ReaderTable.{requesting, requesting_again, sends, trying, turns_answer, turns_block};
 ghost use Rattle.t1_link.specs.ReaderTable.{turns_information, turns_receive_ready, turns_resynch};
 ghost use Rattle.t1_link.specs.ReaderFields.{HasAnswer, IsSend, left_in, next_of};
+ghost use Rattle.t1_link.specs.Ends.{Says, Turns};
 ghost use Rattle.t1_link.specs.Spoken.{block_of, spoken};
 
-use crate::block::{Block, BlockBytes, ErrorKind, FIELD_LIMIT, Fault};
+use crate::block::{Block, BlockBytes, ErrorKind, FIELD_LIMIT, Fault, Piece};
 use crate::card_end::{AnswerBytes, LONGEST_ANSWER};
 use crate::outgoing::{LONGEST_COMMAND, Outgoing};
 use crate::sequence_number::SequenceNumber;
@@ -62,7 +63,6 @@ pub enum Next {
 /// The reader's end of T=1: what was sent, what is expected, and the bytes on their way.
 #[derive(Drop)]
 pub struct ReaderEnd {
-    number: SequenceNumber,
     expected: SequenceNumber,
     tries: u8,
     resynchs: u8,
@@ -89,7 +89,6 @@ impl ReaderEnd {
         ensures { result ≡ fresh_reader }
     {
         ReaderEnd {
-            number: SequenceNumber::Zero,
             expected: SequenceNumber::Zero,
             tries: 0,
             resynchs: 0,
@@ -113,13 +112,7 @@ impl ReaderEnd {
     pub fn reset(&mut self)
         ensures { self.new ≡ fresh_reader }
     {
-        self.number = SequenceNumber::Zero;
-        self.expected = SequenceNumber::Zero;
-        self.tries = 0;
-        self.resynchs = 0;
-        self.command.clear();
-        self.answer.clear();
-        self.phase = Phase::Idle;
+        *self = ReaderEnd::new();
     }
 
     /// The bytes of the answer that have come: after `Done` the answer,
@@ -197,17 +190,11 @@ impl ReaderEnd {
     #[tactic(auto, unfolding(crate::specs::ReaderTable::turns_block))]
     fn take_block(&mut self, block: Block<'_>, out: &mut BlockBytes) -> Next
         requires { self.old.resynchs ≡ 0 }
-        ensures state { self.new ≡ (turns_block self.old (Ok (block_of block.entry))).reader }
-        ensures next { result ≡ next_of (turns_block self.old (Ok (block_of block.entry))).outcome }
-        ensures out { out.new ≡ left_in (turns_block self.old (Ok (block_of block.entry))).outcome out.old }
+        ensures { Turns (turns_block self.old (Ok (block_of block.entry))) self.new result out.old out.new }
     {
         match block {
             Block::ReceiveReady { number, .. } => self.take_receive_ready(number, out),
-            Block::Information {
-                number,
-                more,
-                field,
-            } => self.take_information(number, more, field, out),
+            Block::Information(piece) => self.take_information(piece, out),
             _ => self.ask(ErrorKind::OtherError, out),
         }
     }
@@ -215,9 +202,7 @@ impl ReaderEnd {
     /// What follows from what was heard after a request for RESYNCH.
     #[tactic(auto, unfolding(crate::specs::ReaderTable::turns_resynch))]
     fn take_resynch(&mut self, heard: Result<Block<'_>, Fault>, out: &mut BlockBytes) -> Next
-        ensures state { self.new ≡ (turns_resynch self.old (spoken heard.entry)).reader }
-        ensures next { result ≡ next_of (turns_resynch self.old (spoken heard.entry)).outcome }
-        ensures out { out.new ≡ left_in (turns_resynch self.old (spoken heard.entry)).outcome out.old }
+        ensures { Turns (turns_resynch self.old (spoken heard.entry)) self.new result out.old out.new }
     {
         if let Ok(Block::ResynchResponse) = heard {
             self.reset();
@@ -229,11 +214,9 @@ impl ReaderEnd {
     /// An R-block came.
     fn take_receive_ready(&mut self, number: SequenceNumber, out: &mut BlockBytes) -> Next
         requires { self.old.resynchs ≡ 0 }
-        ensures state { self.new ≡ (turns_receive_ready self.old number).reader }
-        ensures next { result ≡ next_of (turns_receive_ready self.old number).outcome }
-        ensures out { out.new ≡ left_in (turns_receive_ready self.old number).outcome out.old }
+        ensures { Turns (turns_receive_ready self.old number) self.new result out.old out.new }
     {
-        if number != self.number {
+        if self.command.is_last(number) {
             self.send_again(out)
         } else if self.command.has_more() {
             self.advance(out)
@@ -243,29 +226,20 @@ impl ReaderEnd {
     }
 
     /// An I-block came.
-    fn take_information(
-        &mut self,
-        number: SequenceNumber,
-        more: bool,
-        field: &[u8],
-        out: &mut BlockBytes,
-    ) -> Next
+    fn take_information(&mut self, piece: Piece<'_>, out: &mut BlockBytes) -> Next
         requires { self.old.resynchs ≡ 0 }
-        ensures state { self.new ≡ (turns_information self.old number more field.now).reader }
-        ensures next { result ≡ next_of (turns_information self.old number more field.now).outcome }
-        ensures out { out.new ≡ left_in (turns_information self.old number more field.now).outcome out.old }
+        ensures { Turns (turns_information self.old piece.entry.number piece.entry.more piece.entry.field.now)
+            self.new result out.old out.new }
     {
-        if self.command.has_more() || number != self.expected {
+        if self.command.has_more() || piece.number != self.expected {
             return self.ask(ErrorKind::OtherError, out);
         }
-        self.take_answer(more, field, out)
+        self.take_answer(piece.more, piece.field, out)
     }
 
     /// The bytes of an I-block join the answer.
     fn take_answer(&mut self, more: bool, field: &[u8], out: &mut BlockBytes) -> Next
-        ensures state { self.new ≡ (turns_answer self.old more (self.old.answer ++ field.now)).reader }
-        ensures next { result ≡ next_of (turns_answer self.old more (self.old.answer ++ field.now)).outcome }
-        ensures out { out.new ≡ left_in (turns_answer self.old more (self.old.answer ++ field.now)).outcome out.old }
+        ensures { Turns (turns_answer self.old more (self.old.answer ++ field.now)) self.new result out.old out.new }
     {
         let size = self.answer.len() + field.len();
         if is_too_short(size, more) || size > self.answer.capacity() {
@@ -289,39 +263,24 @@ impl ReaderEnd {
 
     /// The next I-block of the command.
     fn advance(&mut self, out: &mut BlockBytes) -> Next
-        ensures state { self.new ≡ (advancing self.old self.old.rest).reader }
-        ensures next { result ≡ next_of (advancing self.old self.old.rest).outcome }
-        ensures out { out.new ≡ left_in (advancing self.old self.old.rest).outcome out.old }
+        ensures { Turns (advancing self.old self.old.rest) self.new result out.old out.new }
     {
         self.command.cut(FIELD_LIMIT);
-        self.number = self.number.other();
         self.tries = 0;
         self.last_block(out)
     }
 
     /// The last I-block.
     fn last_block(&self, out: &mut BlockBytes) -> Next
-        ensures next { result ≡ next_of (sends (last_block self.now)) }
-        ensures out { out.new ≡ left_in (sends (last_block self.now)) out.old }
+        ensures { Says (sends (last_block self.now)) result out.old out.new }
     {
-        let number = self.number.other();
-        let more = self.command.has_more();
-        sent(
-            Block::Information {
-                number,
-                more,
-                field: self.command.field(),
-            },
-            out,
-        )
+        sent(self.command.last_block(), out)
     }
 
     /// A try: the last I-block again.
     fn send_again(&mut self, out: &mut BlockBytes) -> Next
         requires { self.old.resynchs ≡ 0 }
-        ensures state { self.new ≡ (trying self.old (last_block self.old)).reader }
-        ensures next { result ≡ next_of (trying self.old (last_block self.old)).outcome }
-        ensures out { out.new ≡ left_in (trying self.old (last_block self.old)).outcome out.old }
+        ensures { Turns (trying self.old (last_block self.old)) self.new result out.old out.new }
     {
         if self.counts_try() {
             self.last_block(out)
@@ -333,9 +292,7 @@ impl ReaderEnd {
     /// A try: an R-block with the number that is expected.
     fn ask(&mut self, error: ErrorKind, out: &mut BlockBytes) -> Next
         requires { self.old.resynchs ≡ 0 }
-        ensures state { self.new ≡ (asking self.old error).reader }
-        ensures next { result ≡ next_of (asking self.old error).outcome }
-        ensures out { out.new ≡ left_in (asking self.old error).outcome out.old }
+        ensures { Turns (asking self.old error) self.new result out.old out.new }
     {
         if self.counts_try() {
             sent(
@@ -366,9 +323,7 @@ impl ReaderEnd {
     /// A request for RESYNCH.
     fn request(&mut self, out: &mut BlockBytes) -> Next
         requires { self.old.resynchs < 3 }
-        ensures state { self.new ≡ (requesting self.old).reader }
-        ensures next { result ≡ next_of (requesting self.old).outcome }
-        ensures out { out.new ≡ left_in (requesting self.old).outcome out.old }
+        ensures { Turns (requesting self.old) self.new result out.old out.new }
     {
         self.resynchs += 1;
         sent(Block::ResynchRequest, out)
@@ -376,9 +331,7 @@ impl ReaderEnd {
 
     /// A request for RESYNCH was not answered.
     fn request_again(&mut self, out: &mut BlockBytes) -> Next
-        ensures state { self.new ≡ (requesting_again self.old).reader }
-        ensures next { result ≡ next_of (requesting_again self.old).outcome }
-        ensures out { out.new ≡ left_in (requesting_again self.old).outcome out.old }
+        ensures { Turns (requesting_again self.old) self.new result out.old out.new }
     {
         if self.resynchs < RESYNCHS {
             self.request(out)
@@ -407,8 +360,7 @@ fn is_too_short(size: usize, more: bool) -> bool
 /// Puts a block that is to be sent into the buffer.
 fn sent(block: Block<'_>, out: &mut BlockBytes) -> Next
     requires { length (field_of (block_of block)) ≤ 254 }
-    ensures next { result ≡ next_of (sends (block_of block.entry)) }
-    ensures out { out.new ≡ left_in (sends (block_of block.entry)) out.old }
+    ensures { Says (sends (block_of block.entry)) result out.old out.new }
 {
     block.write(out);
     Next::Send

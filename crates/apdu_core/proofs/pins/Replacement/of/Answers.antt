@@ -1,5 +1,5 @@
 use Rattle.std.proofs.Common.{rules}
 use Rattle.apdu_core.proofs.pins.Replacement.of.Goals as goal
 
-pub returns-clause-shown : goal.returns-clause-shown
-returns-clause-shown c = search rules
+pub returns : goal.returns
+returns c = record { known = search rules; named = search rules }

@@ -14,33 +14,34 @@ not_there : (test : Bool) (numbers : List ℕ) → None ≡ (if test then Some n
 not_there true numbers e = absurd cc
 not_there false numbers e = refl
 
-pub returns-in_err-new-in-DownFromMaster-clause-known : goal.returns-in_err-new-in-DownFromMaster-clause-known
-returns-in_err-new-in-DownFromMaster-clause-known c =
-    rw (c.from_residual.ensures, c.in-DownFromMaster.is) (not_there (is_path (length c.args.sent.now))
-    (identifiers c.args.sent.now) c.in_err-new-in-DownFromMaster.ensures.identifiers)
+pub returns-in_err-new-in-DownFromMaster-clause-file : goal.returns-in_err-new-in-DownFromMaster-clause-file
+returns-in_err-new-in-DownFromMaster-clause-file c = record {
+  known =
+      rw (c.from_residual.ensures, c.in-DownFromMaster.is) (not_there (is_path (length c.args.sent.now))
+      (identifiers c.args.sent.now) c.in_err-new-in-DownFromMaster.ensures.identifiers);
+  named = rw c.from_residual.ensures tt;
+}
 
-pub returns-in_err-new-in-DownFromCurrent-clause-known : goal.returns-in_err-new-in-DownFromCurrent-clause-known
-returns-in_err-new-in-DownFromCurrent-clause-known c =
-    rw (c.from_residual-in_err-new-in-DownFromCurrent.ensures, c.in-DownFromCurrent.is)
-    (not_there (is_path (length c.args.sent.now)) (identifiers c.args.sent.now)
-    c.in_err-new-in-DownFromCurrent.ensures.identifiers)
+pub returns-in_err-new-in-DownFromCurrent-clause-file : goal.returns-in_err-new-in-DownFromCurrent-clause-file
+returns-in_err-new-in-DownFromCurrent-clause-file c = record {
+  known =
+      rw (c.from_residual-in_err-new-in-DownFromCurrent.ensures, c.in-DownFromCurrent.is) (not_there (is_path (length c.args.sent.now))
+      (identifiers c.args.sent.now) c.in_err-new-in-DownFromCurrent.ensures.identifiers);
+  named = rw c.from_residual-in_err-new-in-DownFromCurrent.ensures tt;
+}
 
-pub returns-in_ok-new-in-DownFromMaster-clause-known : goal.returns-in_ok-new-in-DownFromMaster-clause-known
-returns-in_ok-new-in-DownFromMaster-clause-known c =
-    rw c.in-DownFromMaster.is (there (is_path (length c.args.sent.now)) (identifiers c.args.sent.now) _
-    c.in_ok-new-in-DownFromMaster.ensures.identifiers).0
+pub returns-in_ok-new-in-DownFromMaster-clause-file : goal.returns-in_ok-new-in-DownFromMaster-clause-file
+returns-in_ok-new-in-DownFromMaster-clause-file c =
+    let found = there (is_path (length c.args.sent.now)) (identifiers c.args.sent.now) _
+    c.in_ok-new-in-DownFromMaster.ensures.identifiers in record {
+      known = rw c.in-DownFromMaster.is found.0;
+      named = rw c.in-DownFromMaster.is (ap path_from_master found.1);
+    }
 
-pub returns-in_ok-new-in-DownFromMaster-clause-named : goal.returns-in_ok-new-in-DownFromMaster-clause-named
-returns-in_ok-new-in-DownFromMaster-clause-named c =
-    rw c.in-DownFromMaster.is (ap path_from_master (there (is_path (length c.args.sent.now))
-    (identifiers c.args.sent.now) _ c.in_ok-new-in-DownFromMaster.ensures.identifiers).1)
-
-pub returns-in_ok-new-in-DownFromCurrent-clause-known : goal.returns-in_ok-new-in-DownFromCurrent-clause-known
-returns-in_ok-new-in-DownFromCurrent-clause-known c =
-    rw c.in-DownFromCurrent.is (there (is_path (length c.args.sent.now)) (identifiers c.args.sent.now) _
-    c.in_ok-new-in-DownFromCurrent.ensures.identifiers).0
-
-pub returns-in_ok-new-in-DownFromCurrent-clause-named : goal.returns-in_ok-new-in-DownFromCurrent-clause-named
-returns-in_ok-new-in-DownFromCurrent-clause-named c =
-    rw c.in-DownFromCurrent.is (ap path_from_current (there (is_path (length c.args.sent.now))
-    (identifiers c.args.sent.now) _ c.in_ok-new-in-DownFromCurrent.ensures.identifiers).1)
+pub returns-in_ok-new-in-DownFromCurrent-clause-file : goal.returns-in_ok-new-in-DownFromCurrent-clause-file
+returns-in_ok-new-in-DownFromCurrent-clause-file c =
+    let found = there (is_path (length c.args.sent.now)) (identifiers c.args.sent.now) _
+    c.in_ok-new-in-DownFromCurrent.ensures.identifiers in record {
+      known = rw c.in-DownFromCurrent.is found.0;
+      named = rw c.in-DownFromCurrent.is (ap path_from_current found.1);
+    }
