@@ -1,10 +1,12 @@
 -- The factory's memory, in both formats: the master file, one elementary file, eight PINs, and all other blocks free.
 use Rattle.std.specs.Prelude.{◌≡◌, ◌<◌, ◌≤◌, ℕ, ◌+◌, ◌-◌, ◌==◌, ◌&&◌, nat_lt, nat_le, true, List, [], ◌∷◌, ◌++◌, length}
 use Rattle.std.specs.Prelude.{replicate}
-use Rattle.std.specs.Prelude.{if◌then◌else◌, None, Some}
+use Rattle.std.specs.Prelude.{if◌then◌else◌, None, Some, Result, Err, IfOk, IfErr}
 use Rattle.std.specs.FinMap.{from_entries}
 use Rattle.nvm_board.specs.declared.board.TheConstants.{PAGE_WORDS}
-use Rattle.nvm_board.specs.Facts.{pages_of}
+use Rattle.nvm_board.specs.declared.board.DeviceErr.{DeviceErr}
+use Rattle.nvm_board.specs.Facts.{Answered, Facts, Steady, pages_of}
+use Rattle.undo_journal.specs.Spending.{WritesAtMost}
 use Rattle.card_rules.specs.declared.life_cycle.LifeCycle.TheVariants.{Activated}
 use Rattle.block_chain.specs.declared.layout.TheConstants.{FIRST_BLOCK_PAGE}
 use Rattle.block_chain.specs.Words.{page_words}
@@ -15,7 +17,9 @@ use Rattle.block_chain.specs.declared.layout.TheConstants.{HEADER_PAGE}
 use Rattle.file_tree.specs.declared.layout.TheConstants.{MARK, OLD_END_PAGE, OLD_MARK}
 use Rattle.card_core.specs.declared.memory_format.MemoryFormat.{MemoryFormat}
 use Rattle.card_core.specs.declared.memory_format.MemoryFormat.TheVariants.{One, Two}
-use Rattle.card_machine.specs.Cards.{transparent, dedicated, elementary, File, Tree, Pin, Card}
+use Rattle.card_machine.specs.Cards.{card_space, transparent, dedicated, elementary, File, Tree, Pin, Card}
+use Rattle.card_machine.specs.Finding.{Finds, found as found_card}
+use Rattle.card_machine.specs.Standing.{StandsFor, board_blocks}
 
 -- the words of a page that begins with these, and has one filler behind them
 abbrev pub filled : List ℕ → ℕ → List ℕ
@@ -121,3 +125,18 @@ factory_card n = record {
 -- all blocks are free but that of the elementary file, and all entries but two
 abbrev pub factory_space : ℕ → FreeSpace
 factory_space n = record { blocks = n - 1; entries = 62 }
+
+-- What the writing of the factory's memory to a board leaves, in a format: the board stands for the factory's card, and a
+-- start finds it, by one device write a page; or the board comes back with what the device answered.
+pub record Formats {B : Type 0} (facts : B → Facts) (format : MemoryFormat) (board : B)
+    (result : Result B (B × DeviceErr)) : Type 0 where
+  pub factory : IfOk result (λ b. IsFactory format (facts b).words)
+  pub stands : IfOk result (λ b. StandsFor (facts b).words (factory_card (board_blocks (facts b).words)))
+  pub found : IfOk result (λ b. Finds (facts b).words (factory_card (board_blocks (facts b).words)))
+  pub space : IfOk result (λ b. card_space (found_card (facts b).words) ≡ factory_space (board_blocks (facts b).words))
+  pub written : IfOk result
+      (λ b. IsWritten format (factory_end format (facts board).words) (facts board).words (facts b).words)
+  pub power : IfOk result (λ b. Steady (facts board) (facts b))
+  pub power_err : IfErr result (λ e. Answered {T = Unit {0}} (facts board) (facts e.0) (Err e.1))
+  pub counts : IfOk result (λ b. WritesAtMost (factory_end format (facts board).words) (facts board) (facts b))
+  pub counts_err : IfErr result (λ e. WritesAtMost (factory_end format (facts board).words) (facts board) (facts e.0))

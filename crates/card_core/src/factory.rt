@@ -1,18 +1,15 @@
 //! The factory's memory in both formats, and its writing.
-ghost use Rattle.std.specs.Prelude.{◌≡◌, ◌+◌, ◌<◌, ◌≤◌, false, Err, OnOk, IfOk, IfErr};
+ghost use Rattle.std.specs.Prelude.{◌≡◌, ◌+◌, ◌<◌, ◌≤◌, false, OnOk};
 ghost use Rattle.nvm_board.specs.Aims.{AimsOn};
-ghost use Rattle.nvm_board.specs.Facts.{Answered, Steady, pages_of};
-ghost use Rattle.nvm_board.specs.declared.board.TheConstants.{LEAST_PAGES, MOST_PAGES};
+ghost use Rattle.nvm_board.specs.Facts.{Answered, pages_of};
+ghost use Rattle.nvm_board.specs.declared.board.TheConstants.{LEAST_PAGES};
 ghost use Rattle.block_chain.specs.declared.layout.TheConstants.{HEADER_PAGE};
 ghost use Rattle.block_chain.specs.Words.{page_words};
 ghost use Rattle.file_tree.specs.declared.layout.TheConstants.{OLD_END_PAGE};
 ghost use Rattle.undo_journal.specs.Spending.{WritesAtMost};
 ghost use Rattle.card_core.specs.declared.memory_format.MemoryFormat.TheVariants as MemoryFormat;
-ghost use Rattle.card_machine.specs.Cards.{card_space};
-ghost use Rattle.card_core.specs.Factory.{IsFactory, IsWritten, factory_card, factory_space, factory_free_block};
+ghost use Rattle.card_core.specs.Factory.{Formats, IsWritten, factory_free_block};
 ghost use Rattle.card_core.specs.Factory.{factory_header, factory_page as factory_page_of, factory_pin_page};
-ghost use Rattle.card_machine.specs.Finding.{Finds, found};
-ghost use Rattle.card_machine.specs.Standing.{StandsFor, board_blocks};
 
 use crate::layout::CARD_IN_USE;
 use crate::memory_format::MemoryFormat;
@@ -45,6 +42,7 @@ const FILE_BLOCK: PageWords = [
 ];
 
 /// The mark, the first free block, a card in use, and of format 2 the page where the blocks end.
+#[rattlefmt::skip]
 fn header(format: MemoryFormat, end: u16) -> PageWords
     ensures { result ≡ factory_header format end }
 {
@@ -53,26 +51,13 @@ fn header(format: MemoryFormat, end: u16) -> PageWords
         MemoryFormat::Two => (MARK, u32::from(end)),
     };
     [
-        mark,
-        FIRST_FREE,
-        CARD_IN_USE,
-        end,
-        0,
-        0,
-        0,
-        0,
-        0,
-        0,
-        0,
-        0,
-        0,
-        0,
-        0,
-        0,
+        mark, FIRST_FREE, CARD_IN_USE, end, 0, 0, 0, 0,
+        0, 0, 0, 0, 0, 0, 0, 0,
     ]
 }
 
 /// The tries and the values of each PIN, and of format 2 its mark.
+#[rattlefmt::skip]
 fn pin_page(format: MemoryFormat) -> PageWords
     ensures { result ≡ factory_pin_page format }
 {
@@ -81,22 +66,8 @@ fn pin_page(format: MemoryFormat) -> PageWords
         MemoryFormat::Two => 1,
     };
     [
-        3,
-        10,
-        0x3132_3334,
-        0xFFFF_FFFF,
-        0x3132_3334,
-        0x3536_3738,
-        mark,
-        0,
-        0,
-        0,
-        0,
-        0,
-        0,
-        0,
-        0,
-        0,
+        3, 10, 0x3132_3334, 0xFFFF_FFFF, 0x3132_3334, 0x3536_3738, mark, 0,
+        0, 0, 0, 0, 0, 0, 0, 0,
     ]
 }
 
@@ -167,31 +138,30 @@ fn write_pages<B: Board>(board: &mut B, format: MemoryFormat, end: u16) -> Resul
     Ok(())
 }
 
+/// Writes the factory's memory to a board, in a format.
+fn format_as<B: Board>(mut board: B, format: MemoryFormat) -> Result<B, (B, DeviceErr)>
+    ensures { Formats B.facts format board result }
+{
+    let end = match format {
+        MemoryFormat::One => OLD_END_PAGE,
+        MemoryFormat::Two => board.pages(),
+    };
+    match write_factory(&mut board, format, end) {
+        Ok(()) => Ok(board),
+        Err(error) => Err((board, error)),
+    }
+}
+
 /// Writes the factory's memory to a board, in format 2: its two files, its PINs, and all other blocks of the board
 /// free. Then all blocks but one and 62 entries are free.
 ///
 /// # Errors
 /// What the device answers, with the board: power was off, or was lost; or it failed. The memory then stands for
 /// nothing that is promised.
-pub fn format<B: Board>(mut board: B) -> Result<B, (B, DeviceErr)>
-    ensures factory { IfOk result (λ b. IsFactory MemoryFormat.Two (B.facts b).words) }
-    ensures stands { IfOk result (λ b. StandsFor (B.facts b).words (factory_card (board_blocks (B.facts b).words))) }
-    ensures found { IfOk result (λ b. Finds (B.facts b).words (factory_card (board_blocks (B.facts b).words))) }
-    ensures space { IfOk result (λ b. card_space (found (B.facts b).words)
-        ≡ factory_space (board_blocks (B.facts b).words)) }
-    ensures written { IfOk result
-        (λ b. IsWritten MemoryFormat.Two (pages_of (B.facts board).words) (B.facts board).words (B.facts b).words) }
-    ensures power { IfOk result (λ b. Steady (B.facts board) (B.facts b)) }
-    ensures power_err { IfErr result (λ e. Answered {T = Unit {0}} (B.facts board) (B.facts e.0) (Err e.1)) }
-    ensures counts { IfOk result (λ b. WritesAtMost (pages_of (B.facts board).words) (B.facts board) (B.facts b)) }
-    ensures counts_err { IfErr result
-        (λ e. WritesAtMost (pages_of (B.facts board).words) (B.facts board) (B.facts e.0)) }
+pub fn format<B: Board>(board: B) -> Result<B, (B, DeviceErr)>
+    ensures { Formats B.facts MemoryFormat.Two board result }
 {
-    let end = board.pages();
-    match write_factory(&mut board, MemoryFormat::Two, end) {
-        Ok(()) => Ok(board),
-        Err(error) => Err((board, error)),
-    }
+    format_as(board, MemoryFormat::Two)
 }
 
 /// Writes the factory's memory to the first 1,024 pages of a board, in format 1, and leaves the pages behind them as
@@ -200,21 +170,8 @@ pub fn format<B: Board>(mut board: B) -> Result<B, (B, DeviceErr)>
 /// # Errors
 /// What the device answers, with the board: power was off, or was lost; or it failed. The memory then stands for
 /// nothing that is promised.
-pub fn format_old<B: Board>(mut board: B) -> Result<B, (B, DeviceErr)>
-    ensures factory { IfOk result (λ b. IsFactory MemoryFormat.One (B.facts b).words) }
-    ensures stands { IfOk result (λ b. StandsFor (B.facts b).words (factory_card (board_blocks (B.facts b).words))) }
-    ensures found { IfOk result (λ b. Finds (B.facts b).words (factory_card (board_blocks (B.facts b).words))) }
-    ensures space { IfOk result (λ b. card_space (found (B.facts b).words)
-        ≡ factory_space (board_blocks (B.facts b).words)) }
-    ensures written { IfOk result
-        (λ b. IsWritten MemoryFormat.One OLD_END_PAGE (B.facts board).words (B.facts b).words) }
-    ensures power { IfOk result (λ b. Steady (B.facts board) (B.facts b)) }
-    ensures power_err { IfErr result (λ e. Answered {T = Unit {0}} (B.facts board) (B.facts e.0) (Err e.1)) }
-    ensures counts { IfOk result (λ b. WritesAtMost OLD_END_PAGE (B.facts board) (B.facts b)) }
-    ensures counts_err { IfErr result (λ e. WritesAtMost OLD_END_PAGE (B.facts board) (B.facts e.0)) }
+pub fn format_old<B: Board>(board: B) -> Result<B, (B, DeviceErr)>
+    ensures { Formats B.facts MemoryFormat.One board result }
 {
-    match write_factory(&mut board, MemoryFormat::One, OLD_END_PAGE) {
-        Ok(()) => Ok(board),
-        Err(error) => Err((board, error)),
-    }
+    format_as(board, MemoryFormat::One)
 }

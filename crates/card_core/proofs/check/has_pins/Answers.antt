@@ -22,9 +22,9 @@ by-marks m now pins (Err e) same tells = tt
 pub returns-in-Two : goal.returns-in-Two
 returns-in-Two g c = record {
   told = let m = committed c.args.store.now in
-        subst (λ (format : MemoryFormat). IfOk c.are_marks.result (λ pins. IsTrue pins ↔ HoldsPins format m))
-        (sym c.in-Two.is) (by-marks m
-        (committed c.are_pins.new.store) (c.in_ok-are_pins.ensures.told.0 c.if-not-branch.false) c.are_marks.result
-        c.are_pins.ensures.store.only.keeps.committed_words c.are_marks.ensures.told);
+      subst (λ (format : MemoryFormat). IfOk c.are_marks.result (λ pins. IsTrue pins ↔ HoldsPins format m))
+      (sym c.in-Two.is) (by-marks m
+      (committed c.are_pins.new.store) (c.in_ok-are_pins.ensures.told.0 c.if-not-branch.false) c.are_marks.result
+      c.are_pins.ensures.store.only.keeps.committed_words c.are_marks.ensures.told);
   store = reads_on _ _ _ _ c.are_pins.ensures.store.only c.are_marks.ensures.store;
 }

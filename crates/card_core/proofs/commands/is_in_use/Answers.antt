@@ -9,9 +9,9 @@ use Rattle.card_core.proofs.commands.is_in_use.Goals as goal
 pub returns : goal.returns
 returns g c = record {
   told = let same = c.requires.ready.same in
-        let m = committed c.args.store.now in
-        let read : c.in_ok-state.state ≡ word m HEADER_PAGE STATE_WORD =
-        c.in_ok-state.ensures.word ∙ ap (λ (l : List ℕ). word l HEADER_PAGE STATE_WORD) (sym same) in
-        ap (λ (n : ℕ). n == 0) read ∙ sym (in-use-is m);
+      let m = committed c.args.store.now in
+      let read : c.in_ok-state.state ≡ word m HEADER_PAGE STATE_WORD =
+      c.in_ok-state.ensures.word ∙ ap (λ (l : List ℕ). word l HEADER_PAGE STATE_WORD) (sym same) in
+      ap (λ (n : ℕ). n == 0) read ∙ sym (in-use-is m);
   store = search rules;
 }

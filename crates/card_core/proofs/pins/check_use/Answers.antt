@@ -8,5 +8,5 @@ pub returns-in_err-enabled : goal.returns-in_err-enabled
 returns-in_err-enabled g c = record {
   told = search rules;
   store = reads-stopped _ (Failed c.in_err-enabled.field-0.0) c.from_residual-in_err-enabled.ensures.1 _ _
-        (reads_on _ _ _ _ c.tries.ensures.store.only c.in_err-enabled.ensures.store);
+      (reads_on _ _ _ _ c.tries.ensures.store.only c.in_err-enabled.ensures.store);
 }

@@ -30,7 +30,7 @@ returns-in_err-charge-clause-takes g c = record {
   pages = search rules;
   shut = search rules;
   store = changes-stopped _ (stop_of_pin c.in_err-charge.field-0.0) c.from_residual-in_err-charge.ensures.1 1 _ _
-        (changes_after 1 _ _ _ _ c.check_use.ensures.store.only
-        (charge-failed _ _ c.charge.result c.in_err-charge.field-0.0 c.in_err-charge.was c.charge.ensures.takes.store));
+      (changes_after 1 _ _ _ _ c.check_use.ensures.store.only
+      (charge-failed _ _ c.charge.result c.in_err-charge.field-0.0 c.in_err-charge.was c.charge.ensures.takes.store));
   counted = search rules;
 }
