@@ -1,4 +1,4 @@
-use Rattle.std.proofs.Common.{◌≡◌, ◌≢◌, length, refl, ap, ◌∙◌, inr, arith, ⊎_elim}
+use Rattle.std.proofs.Common.{◌≡◌, ◌≢◌, length, refl, ap, ◌∙◌, inr, arith, rules, ⊎_elim}
 use Rattle.nvm_board.specs.Facts.{address}
 use Rattle.nvm_board.specs.laws.Aims.{aims_then, aims_written}
 use Rattle.nvm_board.specs.laws.Sizes.{page_within, pages_same}
@@ -12,8 +12,12 @@ use Rattle.card_core.proofs.Powers.{answered_after, answered_handed}
 use Rattle.card_machine.specs.laws.Stopping.{none-done}
 use Rattle.card_core.proofs.factory.write_factory.Goals as goal
 
-pub write-requires-clause-page : goal.write-requires-clause-page
-write-requires-clause-page g c = omega (arith, c.requires.least, c.requires.inside)
+pub write-requires : goal.write-requires
+write-requires g c = record {
+  page = omega (arith, c.requires.least, c.requires.inside);
+  some = search rules;
+  run = search rules;
+}
 
 pub write_pages-requires-clause-lit : goal.write_pages-requires-clause-lit
 write_pages-requires-clause-lit g c = (c.in_ok-write.ensures.light.ok refl).lit

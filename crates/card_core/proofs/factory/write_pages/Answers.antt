@@ -55,10 +55,14 @@ returns-in_err-write-clause-cut g c = aims_then _ _ _ c.loop-page.invariant.cut
 pub returns-clause-cut : goal.returns-clause-cut
 returns-clause-cut g c = c.loop-page.invariant.cut
 
-pub write-requires-clause-page : goal.write-requires-clause-page
-write-requires-clause-page g c =
+pub write-requires : goal.write-requires
+write-requires g c =
     let pages = pages_same _ _ c.loop-page.invariant.size in
-    omega (arith, pages, c.loop-page-test.true, c.requires.inside)
+    record {
+      page = omega (arith, pages, c.loop-page-test.true, c.requires.inside);
+      some = search rules;
+      run = search rules;
+    }
 
 pub returns-clause-written : goal.returns-clause-written
 returns-clause-written g c = record {

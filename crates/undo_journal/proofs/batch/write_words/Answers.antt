@@ -8,12 +8,16 @@ use Rattle.undo_journal.proofs.RunLaws.{turn-few, turn-inside, turn-runs, sets-d
 use Rattle.undo_journal.proofs.Turning.{turn-torn, turn-same, turn-named, turn-left}
 use Rattle.undo_journal.proofs.batch.write_words.Goals as goal
 
-pub write-requires-clause-run : goal.write-requires-clause-run
-write-requires-clause-run g c =
+pub write-requires : goal.write-requires
+write-requires g c =
     let some : 0 < length c.loop-rest.rest.now = search rules in
     let run = ap (λ (l : List ℕ). length l) (c.deref.ensures.0 ∙ c.first_run-run.ensures) in
     let inside = turn-inside c.loop-rest.rest.now (record { at = 0; word = 0 }) some in
-    omega (arith, run, inside, c.page_and_place-page.ensures.same, c.page_and_place-page.ensures.inside)
+    record {
+      page = search rules;
+      some = search rules;
+      run = omega (arith, run, inside, c.page_and_place-page.ensures.same, c.page_and_place-page.ensures.inside);
+    }
 
 pub returns-in_err-write-clause-kept : goal.returns-in_err-write-clause-kept
 returns-in_err-write-clause-kept g c =

@@ -10,12 +10,17 @@ use Rattle.undo_journal.proofs.Telling.{write_costs}
 use Rattle.undo_journal.proofs.Noted.{always, on_ok, on_dark, failed_before, noted-true, noted-changes}
 use Rattle.undo_journal.proofs.store.Store.write_plain.Goals as goal
 
-pub write-answer-requires-clause-page : goal.write-answer-requires-clause-page
-write-answer-requires-clause-page g c =
+pub write-answer-requires : goal.write-answer-requires
+write-answer-requires g c =
     let at = address c.args.page c.args.first in
     let place = board-run c.args.self.now _ at (length c.args.words.now)
     (ap (λ (m : Memory). m.facts.words) c.self.view_is) c.requires.place in
-    page_of_run _ c.args.page c.args.first (length c.args.words.now) (g.met.B.Board.sized _) c.requires.some place.1
+    record {
+      page = page_of_run _ c.args.page c.args.first (length c.args.words.now) (g.met.B.Board.sized _) c.requires.some
+          place.1;
+      some = c.requires.some;
+      run = c.requires.run;
+    }
 
 pub returns-in_err-check-clause-any_exit : goal.returns-in_err-check-clause-any_exit
 returns-in_err-check-clause-any_exit g c = Torn-none _ _ _
