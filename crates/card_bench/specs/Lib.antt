@@ -28,3 +28,4 @@ pub mod Masks
 pub mod Sweeps
 pub mod SweptRuns
 pub mod Tallies
+pub mod Plans

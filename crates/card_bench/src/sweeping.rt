@@ -7,10 +7,10 @@ ghost use Rattle.card_machine.specs.Finding.{HasCard};
 ghost use Rattle.card_bench.specs.Plays.{IsGood};
 ghost use Rattle.card_bench.specs.BenchStates.{IsWell, bench_facts};
 ghost use Rattle.card_bench.specs.Turns.{Runs};
-ghost use Rattle.card_bench.specs.Tallies.{Finding, finding, findings, count_of, Adds, Counts};
-ghost use Rattle.card_bench.specs.declared.sweeping.Stop.TheVariants.{Memory, Full};
-ghost use Rattle.card_bench.specs.SweptRuns.{SparesCommand, IsOneLook, AreAllBehind, AreOfWrite};
-ghost use Rattle.card_bench.specs.SweptRuns.{AreOfLastWrite, AreAllRuns};
+ghost use Rattle.card_bench.specs.Tallies.{findings, count_of, Counts};
+ghost use Rattle.card_bench.specs.declared.sweeping.Stop.TheVariants.{Memory};
+ghost use Rattle.card_bench.specs.Plans.{board_of, AreAll, AreAtWrite, IsGiven, Sweeps};
+ghost use Rattle.card_bench.specs.SweptRuns.{SparesCommand, IsOneLook, AreAllBehind, AreAllRuns};
 ghost use Rattle.card_bench.specs.Sweeps.{CutsCommand, CutsStart, SparesStart, EndsIn, EndsBehindStarts};
 ghost use Rattle.card_bench.specs.Sweeps.{GivenByRun, free_of};
 
@@ -30,6 +30,18 @@ enum Stop {
     Memory,
     /// No further run can be counted.
     Full,
+}
+
+/// What a sweep tries: a command, behind a preparation, on copies of a board; then starts that are cut too, at most so
+/// many; and then the probe.
+#[derive(Clone, Copy)]
+struct Plan<'a> {
+    alloc: Global,
+    board: &'a CutBoard,
+    prepare: &'a [Turn<'a>],
+    command: &'a [u8],
+    probe: &'a [Turn<'a>],
+    depth: u8,
 }
 
 impl From<AllocError> for Stop {
@@ -63,41 +75,27 @@ pub fn sweep(
         → Counts (AreAllRuns (cut_facts board.now) prepare.now command.now probe.now depth) [] s.seen.items) }
 {
     let mut sweep = Sweep::new(alloc);
-    match cut_command(alloc, board, prepare, command, probe, depth, &mut sweep) {
+    let plan = Plan {
+        alloc,
+        board,
+        prepare,
+        command,
+        probe,
+        depth,
+    };
+    match cut_command(plan, &mut sweep) {
         Ok(()) | Err(Stop::Full) => Ok(sweep),
         Err(Stop::Memory) => Err(AllocError),
     }
 }
 
 /// Cuts the command at each of its writes, and goes on from there.
-fn cut_command(
-    alloc: Global,
-    board: &CutBoard,
-    prepare: &[Turn<'_>],
-    command: &[u8],
-    probe: &[Turn<'_>],
-    depth: u8,
-    sweep: &mut Sweep,
-) -> Result<(), Stop>
-    ensures given { HasCard (cut_facts board.now).words
-        → Adds (GivenByRun (cut_facts board.now) prepare.now command.now probe.now depth)
-        (findings sweep.old.seen.items) (findings sweep.new.seen.items) }
-    ensures complete { OnOk result (HasCard (cut_facts board.now).words
-        → Counts (AreAllRuns (cut_facts board.now) prepare.now command.now probe.now depth)
-        sweep.old.seen.items sweep.new.seen.items) }
-    ensures full { IfErr result (λ e. e ≡ Full → sweep.new.runs ≡ 2 ^ 32 - 1) }
+fn cut_command(plan: Plan<'_>, sweep: &mut Sweep) -> Result<(), Stop>
+    ensures { Sweeps (board_of plan.entry).words (IsGiven plan.entry) (λ _. AreAll plan.entry)
+        sweep.old sweep.new result }
 {
     for whole in 0..u32::MAX {
-        if !cut_write(
-            alloc,
-            board,
-            prepare,
-            command,
-            probe,
-            depth,
-            whole + 1,
-            sweep,
-        )? {
+        if !cut_write(plan, whole + 1, sweep)? {
             return Ok(());
         }
     }
@@ -105,62 +103,38 @@ fn cut_command(
 }
 
 /// Cuts the command at one of its writes, by each mask, and goes on from there. Whether it makes that write.
-fn cut_write(
-    alloc: Global,
-    board: &CutBoard,
-    prepare: &[Turn<'_>],
-    command: &[u8],
-    probe: &[Turn<'_>],
-    depth: u8,
-    k: u32,
-    sweep: &mut Sweep,
-) -> Result<bool, Stop>
+fn cut_write(plan: Plan<'_>, k: u32, sweep: &mut Sweep) -> Result<bool, Stop>
     requires { 1 ≤ k }
-    ensures given { HasCard (cut_facts board.now).words
-        → Adds (GivenByRun (cut_facts board.now) prepare.now command.now probe.now depth)
-        (findings sweep.old.seen.items) (findings sweep.new.seen.items) }
-    ensures whole { IfOk result (λ made. made ≡ true → HasCard (cut_facts board.now).words
-        → Counts (AreOfWrite (cut_facts board.now) prepare.now command.now probe.now depth k)
-        sweep.old.seen.items sweep.new.seen.items) }
-    ensures last { IfOk result (λ made. made ≡ false → HasCard (cut_facts board.now).words
-        → Counts (AreOfLastWrite (cut_facts board.now) prepare.now command.now probe.now depth k)
-        sweep.old.seen.items sweep.new.seen.items) }
-    ensures full { IfErr result (λ e. e ≡ Full → sweep.new.runs ≡ 2 ^ 32 - 1) }
+    ensures { Sweeps (board_of plan.entry).words (IsGiven plan.entry) (AreAtWrite plan.entry k)
+        sweep.old sweep.new result }
 {
-    let Some(torn) = command_cut(alloc, board, prepare, command, k, 0)? else {
+    let Some(torn) = command_cut(plan, k, 0)? else {
         return Ok(false);
     };
     let words = words_to_try(torn.torn_words());
-    cut_starts(alloc, &torn, probe, depth, sweep)?;
+    cut_starts(plan.alloc, &torn, plan.probe, plan.depth, sweep)?;
     for i in 1..mask_count(words) {
-        let Some(torn) = command_cut(alloc, board, prepare, command, k, mask_at(words, i))? else {
+        let Some(torn) = command_cut(plan, k, mask_at(words, i))? else {
             return Ok(false);
         };
-        cut_starts(alloc, &torn, probe, depth, sweep)?;
+        cut_starts(plan.alloc, &torn, plan.probe, plan.depth, sweep)?;
     }
     Ok(true)
 }
 
 /// The board after the command, cut at one of its writes; none where it makes fewer writes.
-fn command_cut(
-    alloc: Global,
-    board: &CutBoard,
-    prepare: &[Turn<'_>],
-    command: &[u8],
-    k: u32,
-    mask: u16,
-) -> Result<Option<CutBoard>, AllocError>
+fn command_cut(plan: Plan<'_>, k: u32, mask: u16) -> Result<Option<CutBoard>, AllocError>
     requires { 1 ≤ k }
-    ensures cut { IfOk result (λ cut. IfSome cut (λ left. HasCard (cut_facts board.now).words
-        → CutsCommand k mask (cut_facts board.now) prepare.now command.now (cut_facts left))) }
-    ensures spared { IfOk result (λ cut. IfNone cut (HasCard (cut_facts board.now).words
-        → SparesCommand k mask (cut_facts board.now) prepare.now command.now)) }
+    ensures cut { IfOk result (λ cut. IfSome cut (λ left. HasCard (board_of plan.entry).words
+        → CutsCommand k mask (board_of plan.entry) plan.entry.prepare.now plan.entry.command.now (cut_facts left))) }
+    ensures spared { IfOk result (λ cut. IfNone cut (HasCard (board_of plan.entry).words
+        → SparesCommand k mask (board_of plan.entry) plan.entry.prepare.now plan.entry.command.now)) }
 {
-    let mut bench = Bench::new(board.copy(alloc)?);
-    let _ = played(alloc, &mut bench, prepare)?;
+    let mut bench = Bench::new(plan.board.copy(plan.alloc)?);
+    let _ = played(plan.alloc, &mut bench, plan.prepare)?;
     bench.arm_well(k, mask);
     let mut reply = BlockBytes::new();
-    let came = bench.turn_well(Turn::Block(command), &mut reply);
+    let came = bench.turn_well(Turn::Block(plan.command), &mut reply);
     Ok(cut_board(matches!(came, Came::Dark), bench.into_board()))
 }
 
@@ -184,11 +158,8 @@ fn cut_starts(
     depth: u8,
     sweep: &mut Sweep,
 ) -> Result<(), Stop>
-    ensures given { HasCard (cut_facts board.now).words → Adds (EndsBehindStarts depth (cut_facts board.now) probe.now)
-        (findings sweep.old.seen.items) (findings sweep.new.seen.items) }
-    ensures complete { OnOk result (HasCard (cut_facts board.now).words
-        → Counts (AreAllBehind depth probe.now (cut_facts board.now)) sweep.old.seen.items sweep.new.seen.items) }
-    ensures full { IfErr result (λ e. e ≡ Full → sweep.new.runs ≡ 2 ^ 32 - 1) }
+    ensures { Sweeps (cut_facts board.now).words (EndsBehindStarts depth (cut_facts board.now) probe.now)
+        (λ _. AreAllBehind depth probe.now (cut_facts board.now)) sweep.old sweep.new result }
 {
     if depth == 0 {
         return look(alloc, board, probe, sweep);
@@ -229,11 +200,8 @@ fn start_cut(
 
 /// Looks at the card by a start that isn't cut and the probe, and counts the run.
 fn look(alloc: Global, board: &CutBoard, probe: &[Turn<'_>], sweep: &mut Sweep) -> Result<(), Stop>
-    ensures given { HasCard (cut_facts board.now).words → Adds (EndsIn (cut_facts board.now) probe.now)
-        (findings sweep.old.seen.items) (findings sweep.new.seen.items) }
-    ensures complete { OnOk result (HasCard (cut_facts board.now).words
-        → Counts (IsOneLook probe.now (cut_facts board.now)) sweep.old.seen.items sweep.new.seen.items) }
-    ensures full { IfErr result (λ e. e ≡ Full → sweep.new.runs ≡ 2 ^ 32 - 1) }
+    ensures { Sweeps (cut_facts board.now).words (EndsIn (cut_facts board.now) probe.now)
+        (λ _. IsOneLook probe.now (cut_facts board.now)) sweep.old sweep.new result }
 {
     if sweep.is_full() {
         return Err(Stop::Full);

@@ -1,15 +1,13 @@
-use Rattle.nvm_board.specs.Cut.{cut_facts}
 use Rattle.card_machine.specs.Finding.{HasCard}
 use Rattle.card_bench.specs.Tallies.{findings, Adds, Counts}
-use Rattle.card_bench.specs.Sweeps.{GivenByRun}
+use Rattle.card_bench.specs.Plans.{board_of, IsGiven}
 use Rattle.card_bench.specs.SweptRuns.{InTurn, AreOfMask}
 use Rattle.card_bench.proofs.sweeping.cut_write.Given as goal
 
 abbrev pub invariant-loop-i : goal.invariant-loop-i
 invariant-loop-i l = record {
-  so_far : HasCard (cut_facts l.board).words → Adds (GivenByRun (cut_facts l.board) l.prepare l.command l.probe l.depth)
-      (findings l.fn.sweep.seen.items) (findings l.sweep.seen.items);
-  counted : HasCard (cut_facts l.board).words
-      → Counts (InTurn (AreOfMask (cut_facts l.board) l.prepare l.command l.probe l.depth l.k l.words) l.i)
-      l.fn.sweep.seen.items l.sweep.seen.items;
+  so_far : HasCard (board_of l.plan).words
+      → Adds (IsGiven l.plan) (findings l.fn.sweep.seen.items) (findings l.sweep.seen.items);
+  counted : HasCard (board_of l.plan).words → Counts (InTurn (AreOfMask (board_of l.plan) l.plan.prepare.now
+      l.plan.command.now l.plan.probe.now l.plan.depth l.k l.words) l.i) l.fn.sweep.seen.items l.sweep.seen.items;
 }

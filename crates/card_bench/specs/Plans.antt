@@ -1,0 +1,42 @@
+-- What a sweep tries, and what its parts leave of the tally. No public clause names these.
+use Rattle.std.specs.Prelude.{◌≡◌, ◌-◌, ◌^◌, ℕ, Bool, true, false, List, Result, IfOk, IfErr}
+use Rattle.nvm_board.specs.Cut.{cut_facts}
+use Rattle.nvm_board.specs.Facts.{Facts}
+use Rattle.card_machine.specs.Finding.{HasCard}
+use Rattle.card_bench.specs.declared.sweeping.Plan.{Plan}
+use Rattle.card_bench.specs.declared.sweeping.Stop.{Stop}
+use Rattle.card_bench.specs.declared.sweeping.Stop.TheVariants.{Full}
+use Rattle.card_bench.specs.declared.tally.Sweep.{Sweep}
+use Rattle.card_bench.specs.Sweeps.{GivenByRun}
+use Rattle.card_bench.specs.SweptRuns.{AreAllRuns, AreOfLastWrite, AreOfWrite}
+use Rattle.card_bench.specs.Tallies.{Finding, findings, Adds, Counts}
+
+-- the board that each run begins with
+abbrev pub board_of : Plan → Facts
+board_of plan = cut_facts plan.board.now
+
+-- one of its runs gives this
+abbrev pub IsGiven : Plan → Finding → Type 0
+IsGiven plan given =
+    GivenByRun (board_of plan) plan.prepare.now plan.command.now plan.probe.now plan.depth given
+
+-- all its runs give these
+abbrev pub AreAll : Plan → List Finding → Type 0
+AreAll plan all = AreAllRuns (board_of plan) plan.prepare.now plan.command.now plan.probe.now plan.depth all
+
+-- those at one write of the command, where it makes that write; else those that were tried before it was seen that it
+-- doesn't
+abbrev pub AreAtWrite : Plan → ℕ → Bool → List Finding → Type 0
+AreAtWrite plan k true all =
+    AreOfWrite (board_of plan) plan.prepare.now plan.command.now plan.probe.now plan.depth k all
+AreAtWrite plan k false all =
+    AreOfLastWrite (board_of plan) plan.prepare.now plan.command.now plan.probe.now plan.depth k all
+
+-- A part of a sweep, from a board with these words, on which there is a card. Each finding that it adds is one of these;
+-- where it is done, it counted all of its runs, by what it answers; and it stops for want of room for another run only
+-- where there is none.
+pub record Sweeps {T : Type 0} (words : List ℕ) (Is : Finding → Type 0) (Are : T → List Finding → Type 0)
+    (old new : Sweep) (result : Result T Stop) : Type 0 where
+  pub given : HasCard words → Adds Is (findings old.seen.items) (findings new.seen.items)
+  pub complete : IfOk result (λ x. HasCard words → Counts (Are x) old.seen.items new.seen.items)
+  pub full : IfErr result (λ stop. stop ≡ Full → new.runs ≡ 2 ^ 32 - 1)
