@@ -1,10 +1,11 @@
 //! READ BINARY and UPDATE BINARY (ISO/IEC 7816-4, 11.3).
-ghost use Rattle.std.specs.Prelude.{◌≡◌, ◌≤◌, ◌==◌, if◌then◌else◌, [], length, OnOk};
+ghost use Rattle.std.specs.Prelude.{◌≡◌, ◌≤◌, ◌==◌, if◌then◌else◌, [], length};
 ghost use Rattle.apdu_core.specs.Ranges.{IsTarget};
 ghost use Rattle.apdu_core.specs.Requests.{read_binary, update_binary};
 ghost use Rattle.card_machine.specs.Served.{Serves};
+ghost use Rattle.card_machine.specs.Serving.{ServesInPlace};
 ghost use Rattle.card_machine.specs.Stops.{reply};
-ghost use Rattle.card_machine.specs.Working.{end_status, space_in, IsKept};
+ghost use Rattle.card_machine.specs.Working.{end_status, IsKept};
 
 use apdu_core::{Answer, Sw, Target};
 use block_chain::Chain;
@@ -62,9 +63,8 @@ pub fn update_file<B: Board>(
     requires target { IsTarget target }
     requires some { 1 ≤ length bytes.now }
     requires few { length bytes.now ≤ 255 }
-    ensures serves { Serves (update_binary target offset bytes.now) store.old current.old store.new
-        current.new [] (reply result) }
-    ensures space { OnOk (reply result) (space_in store.new ≡ space_in store.old) }
+    ensures { ServesInPlace (update_binary target offset bytes.now) store.old current.old store.new current.new []
+        (reply result) }
 {
     let file = find_file(store, current, target, UPDATING)?;
     let body = body_of(&file.entry);

@@ -1,13 +1,11 @@
 //! INCREASE (ETSI TS 102 221, 11.1.8).
-ghost use Rattle.std.specs.Prelude.{◌≡◌, ◌≤◌, ◌+◌, ◌++◌, ◌||◌, nat_lt, [], length, Some, OnOk};
+ghost use Rattle.std.specs.Prelude.{◌≡◌, ◌≤◌, ◌+◌, ◌++◌, ◌||◌, nat_lt, [], length, Some};
 ghost use Rattle.undo_journal.specs.Memory.{committed};
 ghost use Rattle.apdu_core.specs.Requests.{increase as increasing};
-ghost use Rattle.card_machine.specs.Outcomes.{refused_by};
 ghost use Rattle.card_contents.specs.RecordGuards.{IsIncreasable};
-ghost use Rattle.card_machine.specs.Served.{Serves};
-ghost use Rattle.card_machine.specs.Steps.{refusals_of};
-ghost use Rattle.card_machine.specs.Stops.{reply, Looks};
-ghost use Rattle.card_machine.specs.Working.{card_in, session_in, space_in, IsKept};
+ghost use Rattle.card_machine.specs.Serving.{LooksFor, ServesInPlace};
+ghost use Rattle.card_machine.specs.Stops.{reply};
+ghost use Rattle.card_machine.specs.Working.{IsKept};
 
 use crate::record_file::FileRecord;
 use crate::records::find_records;
@@ -36,9 +34,8 @@ pub fn increase<B: Board>(
     requires kept { IsKept store.old current.old }
     requires few { length amount.now ≤ 255 }
     requires empty { answer.old.items ≡ [] }
-    ensures serves { Serves (increasing amount.now expected) store.old current.old store.new current.new
+    ensures { ServesInPlace (increasing amount.now expected) store.old current.old store.new current.new
         answer.new.items (reply result) }
-    ensures space { OnOk (reply result) (space_in store.new ≡ space_in store.old) }
 {
     let mut sum = ResponseData::new();
     let found = find_increased(store, current, amount, expected, &mut sum)?;
@@ -60,11 +57,8 @@ fn find_increased<B: Board>(
 ) -> Result<FileRecord, Stop>
     requires kept { IsKept store.old current.now }
     requires few { length amount.now ≤ 255 }
-    ensures { Looks store.old store.new result
-        (λ found. IsIncreasable (committed store.old) current.now amount.now expected found.file found.slot
-        sum.new.items)
-        (λ refusal. refused_by (refusals_of (card_in store.old) (session_in store.old current.now)
-        (increasing amount.now expected)) ≡ Some refusal) }
+    ensures { LooksFor (increasing amount.now expected) store.old current.now store.new result (λ found.
+        IsIncreasable (committed store.old) current.now amount.now expected found.file found.slot sum.new.items) }
 {
     let file = find_records(store, current, Target::Current, INCREASING)?;
     if is_too_long(file.ring, amount) {

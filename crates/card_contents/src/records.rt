@@ -1,5 +1,5 @@
 //! READ, UPDATE, APPEND and SEARCH RECORD (ISO/IEC 7816-4, 11.4).
-ghost use Rattle.std.specs.Prelude.{◌≡◌, ◌≢◌, ◌≤◌, ◌==◌, ◌&&◌, not, [], length, Some, OnOk};
+ghost use Rattle.std.specs.Prelude.{◌≡◌, ◌≢◌, ◌≤◌, ◌==◌, ◌&&◌, not, [], length, Some};
 ghost use Rattle.undo_journal.specs.Memory.{committed};
 ghost use Rattle.apdu_core.specs.Ranges.{IsTarget};
 ghost use Rattle.apdu_core.specs.Requests.{append_record as appending, read_record as reading};
@@ -10,9 +10,9 @@ ghost use Rattle.card_machine.specs.Outcomes.{refused_by};
 ghost use Rattle.card_machine.specs.Elementary.{file_refusals};
 ghost use Rattle.card_contents.specs.RecordGuards.{choice_refusals, IsAppendable, IsChosen, IsReplaceable};
 ghost use Rattle.card_machine.specs.Served.{Serves};
-ghost use Rattle.card_machine.specs.Steps.{refusals_of};
+ghost use Rattle.card_machine.specs.Serving.{LooksFor, ServesInPlace};
 ghost use Rattle.card_machine.specs.Stops.{reply, Looks};
-ghost use Rattle.card_machine.specs.Working.{card_in, fits, session_in, space_in, IsKept};
+ghost use Rattle.card_machine.specs.Working.{card_in, fits, session_in, IsKept};
 ghost use Rattle.card_contents.specs.RecordParts.{structure_replaced, IsRecordFile};
 ghost use Rattle.card_machine.specs.Records.{pointer_found, search_status, searching as searching_way};
 
@@ -149,9 +149,8 @@ pub fn update_record<B: Board>(
     requires target { IsTarget target }
     requires some { 1 ≤ length bytes.now }
     requires few { length bytes.now ≤ 255 }
-    ensures serves { Serves (updating target choice bytes.now) store.old current.old store.new
-        current.new [] (reply result) }
-    ensures space { OnOk (reply result) (space_in store.new ≡ space_in store.old) }
+    ensures { ServesInPlace (updating target choice bytes.now) store.old current.old store.new current.new []
+        (reply result) }
 {
     let replaced = find_replaced(store, current, target, choice, bytes)?;
     replaced.replace(store, bytes)?;
@@ -173,11 +172,8 @@ fn find_replaced<B: Board>(
 ) -> Result<FileRecord, Stop>
     requires kept { IsKept store.old current.now }
     requires target { IsTarget target }
-    ensures { Looks store.old store.new result
-        (λ replaced. IsReplaceable (committed store.old) current.now target choice bytes.now replaced.file
-        replaced.slot)
-        (λ refusal. refused_by (refusals_of (card_in store.old) (session_in store.old current.now)
-        (updating target choice bytes.now)) ≡ Some refusal) }
+    ensures { LooksFor (updating target choice bytes.now) store.old current.now store.new result (λ replaced.
+        IsReplaceable (committed store.old) current.now target choice bytes.now replaced.file replaced.slot) }
 {
     let file = find_records(store, current, target, replacing(choice))?;
     let number = file.replaced(current.pointer_at(target), choice);
@@ -200,8 +196,8 @@ pub fn append_record<B: Board>(
     requires target { IsTarget target }
     requires some { 1 ≤ length bytes.now }
     requires few { length bytes.now ≤ 255 }
-    ensures serves { Serves (appending target bytes.now) store.old current.old store.new current.new [] (reply result) }
-    ensures space { OnOk (reply result) (space_in store.new ≡ space_in store.old) }
+    ensures { ServesInPlace (appending target bytes.now) store.old current.old store.new current.new []
+        (reply result) }
 {
     let growing = find_appended(store, current, target, bytes)?;
     growing.room.fill(store, bytes)?;
@@ -220,10 +216,8 @@ fn find_appended<B: Board>(
 ) -> Result<Growing, Stop>
     requires kept { IsKept store.old current.now }
     requires target { IsTarget target }
-    ensures { Looks store.old store.new result
-        (λ growing. IsAppendable (committed store.old) current.now target bytes.now growing.file growing.room)
-        (λ refusal. refused_by (refusals_of (card_in store.old) (session_in store.old current.now)
-        (appending target bytes.now)) ≡ Some refusal) }
+    ensures { LooksFor (appending target bytes.now) store.old current.now store.new result (λ growing.
+        IsAppendable (committed store.old) current.now target bytes.now growing.file growing.room) }
 {
     let file = find_records(store, current, target, APPENDING)?;
     let room = file.find_room()?;

@@ -30,4 +30,5 @@ pub mod Proper
 pub mod Working
 pub mod Stops
 pub mod Served
+pub mod Serving
 pub mod laws

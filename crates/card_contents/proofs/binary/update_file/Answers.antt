@@ -14,19 +14,17 @@ use Rattle.card_machine.specs.laws.SpaceKept.{space-same}
 use Rattle.card_machine.specs.laws.Stopping.{body-kept}
 use Rattle.card_contents.proofs.binary.update_file.Goals as goal
 
-pub returns-in_err-file-clause-serves : goal.returns-in_err-file-clause-serves
-returns-in_err-file-clause-serves g c =
-    let old = c.args.store.now in
-    let x = c.args.current.now in
-    halted (update_binary c.args.target c.args.offset c.args.bytes.now) old x c.find_file.new.store (λ _. tt)
-    c.requires.kept.card c.requires.kept.current [] refl _ _ c.from_residual.ensures.1 c.in_err-file.ensures.store _
-    (update-refused (card_in old) (session_in old x) c.args.target c.args.offset c.args.bytes.now)
-    c.in_err-file.ensures.told
-
-pub returns-in_err-file-clause-space : goal.returns-in_err-file-clause-space
-returns-in_err-file-clause-space g c =
-    ok_anyway _ _
-    (space-same c.args.store.now c.find_file.new.store c.find_file.ensures.store.only.keeps.committed_words)
+pub returns-in_err-file : goal.returns-in_err-file
+returns-in_err-file g c = record {
+  serves = let old = c.args.store.now in
+      let x = c.args.current.now in
+      halted (update_binary c.args.target c.args.offset c.args.bytes.now) old x c.find_file.new.store (λ _. tt)
+      c.requires.kept.card c.requires.kept.current [] refl _ _ c.from_residual.ensures.1 c.in_err-file.ensures.store _
+      (update-refused (card_in old) (session_in old x) c.args.target c.args.offset c.args.bytes.now)
+      c.in_err-file.ensures.told;
+  space = ok_anyway _ _
+      (space-same c.args.store.now c.find_file.new.store c.find_file.ensures.store.only.keeps.committed_words);
+}
 
 pub update-requires-clause-body : goal.update-requires-clause-body
 update-requires-clause-body g c =
@@ -35,54 +33,50 @@ update-requires-clause-body g c =
     c.body_of-body.result c.body_of-body.ensures (committed c.find_file.new.store)
     c.find_file.ensures.store.only.keeps.committed_words
 
-pub returns-in_err-update-clause-serves : goal.returns-in_err-update-clause-serves
-returns-in_err-update-clause-serves g c =
-    let old = c.args.store.now in
-    let mid = c.find_file.new.store in
-    found-stopped old mid c.requires.kept.ready c.requires.kept.card c.args.current.now c.args.target
-    c.in_ok-file.file.number c.in_ok-file.file.entry c.in_ok-file.ensures.told c.body_of-body.result
-    c.body_of-body.ensures c.args.offset c.args.bytes.now c.find_file.ensures.store.only c.requires.kept.current
-    c.in_ok-file.ensures.store.ready
-    c.update.new.store c.update.ensures.commits.any_exit c.update.ensures.commits.by_gate
-    c.update.ensures.commits.store.reports
-    c.update.ensures.commits.store.writes c.in_err-update.field-0.0 c.in_err-update.ensures.commits.refusal
-    c.in_err-update.ensures.commits.refused c.in_err-update.ensures.commits.store.tells _
-    c.from_residual-in_err-update.ensures.1
+pub returns-in_err-update : goal.returns-in_err-update
+returns-in_err-update g c = record {
+  serves = let old = c.args.store.now in
+      let mid = c.find_file.new.store in
+      found-stopped old mid c.requires.kept.ready c.requires.kept.card c.args.current.now c.args.target
+      c.in_ok-file.file.number c.in_ok-file.file.entry c.in_ok-file.ensures.told c.body_of-body.result
+      c.body_of-body.ensures c.args.offset c.args.bytes.now c.find_file.ensures.store.only c.requires.kept.current
+      c.in_ok-file.ensures.store.ready
+      c.update.new.store c.update.ensures.commits.any_exit c.update.ensures.commits.by_gate
+      c.update.ensures.commits.store.reports
+      c.update.ensures.commits.store.writes c.in_err-update.field-0.0 c.in_err-update.ensures.commits.refusal
+      c.in_err-update.ensures.commits.refused c.in_err-update.ensures.commits.store.tells _
+      c.from_residual-in_err-update.ensures.1;
+  space = let old = c.args.store.now in
+      let mid = c.find_file.new.store in
+      body-kept _ _ c.from_residual-in_err-update.ensures.1 _ _ c.in_err-update.ensures.commits.refused
+      (λ (kept : c.update.new.store ≡ mid). ap (λ (m : Memory). space_in m) kept
+      ∙ space-same old mid c.find_file.ensures.store.only.keeps.committed_words);
+}
 
-pub returns-in_err-update-clause-space : goal.returns-in_err-update-clause-space
-returns-in_err-update-clause-space g c =
-    let old = c.args.store.now in
-    let mid = c.find_file.new.store in
-    body-kept _ _ c.from_residual-in_err-update.ensures.1 _ _ c.in_err-update.ensures.commits.refused
-    (λ (kept : c.update.new.store ≡ mid). ap (λ (m : Memory). space_in m) kept
-    ∙ space-same old mid c.find_file.ensures.store.only.keeps.committed_words)
-
-pub returns-clause-serves : goal.returns-clause-serves
-returns-clause-serves g c =
-    let old = c.args.store.now in
-    let x = c.args.current.now in
-    let mid = c.find_file.new.store in
-    let new = c.update.new.store in
-    let request = update_binary c.args.target c.args.offset c.args.bytes.now in
-    subst (λ (y : Current). Serves request old x new y [] (Ok DONE)) (sym c.naming.ensures)
-    (found-made old mid c.requires.kept.ready c.requires.kept.card x c.args.target c.in_ok-file.file.number
-    c.in_ok-file.file.entry c.in_ok-file.ensures.told c.body_of-body.result
-    c.body_of-body.ensures c.args.offset c.args.bytes.now c.find_file.ensures.store.only
-    c.in_ok-update.ensures.commits.refusal
-    new c.update.ensures.commits.any_exit c.update.ensures.commits.by_gate c.update.ensures.commits.store.reports
-    c.update.ensures.commits.store.writes
-    c.in_ok-update.ensures.commits.done c.in_ok-update.ensures.commits.store.ready c.requires.kept.current)
-
-pub returns-clause-space : goal.returns-clause-space
-returns-clause-space g c =
-    let old = c.args.store.now in
-    let x = c.args.current.now in
-    let mid = c.find_file.new.store in
-    let new = c.update.new.store in
-    found-space old mid c.requires.kept.ready c.requires.kept.card x c.args.target c.in_ok-file.file.number
-    c.in_ok-file.file.entry c.in_ok-file.ensures.told c.body_of-body.result
-    c.body_of-body.ensures c.args.offset c.args.bytes.now c.find_file.ensures.store.only
-    c.in_ok-update.ensures.commits.refusal
-    new c.update.ensures.commits.any_exit c.update.ensures.commits.by_gate c.update.ensures.commits.store.reports
-    c.update.ensures.commits.store.writes
-    c.in_ok-update.ensures.commits.done
+pub returns : goal.returns
+returns g c = record {
+  serves = let old = c.args.store.now in
+      let x = c.args.current.now in
+      let mid = c.find_file.new.store in
+      let new = c.update.new.store in
+      let request = update_binary c.args.target c.args.offset c.args.bytes.now in
+      subst (λ (y : Current). Serves request old x new y [] (Ok DONE)) (sym c.naming.ensures)
+      (found-made old mid c.requires.kept.ready c.requires.kept.card x c.args.target c.in_ok-file.file.number
+      c.in_ok-file.file.entry c.in_ok-file.ensures.told c.body_of-body.result
+      c.body_of-body.ensures c.args.offset c.args.bytes.now c.find_file.ensures.store.only
+      c.in_ok-update.ensures.commits.refusal
+      new c.update.ensures.commits.any_exit c.update.ensures.commits.by_gate c.update.ensures.commits.store.reports
+      c.update.ensures.commits.store.writes
+      c.in_ok-update.ensures.commits.done c.in_ok-update.ensures.commits.store.ready c.requires.kept.current);
+  space = let old = c.args.store.now in
+      let x = c.args.current.now in
+      let mid = c.find_file.new.store in
+      let new = c.update.new.store in
+      found-space old mid c.requires.kept.ready c.requires.kept.card x c.args.target c.in_ok-file.file.number
+      c.in_ok-file.file.entry c.in_ok-file.ensures.told c.body_of-body.result
+      c.body_of-body.ensures c.args.offset c.args.bytes.now c.find_file.ensures.store.only
+      c.in_ok-update.ensures.commits.refusal
+      new c.update.ensures.commits.any_exit c.update.ensures.commits.by_gate c.update.ensures.commits.store.reports
+      c.update.ensures.commits.store.writes
+      c.in_ok-update.ensures.commits.done;
+}

@@ -35,54 +35,52 @@ answer_of-requires g c =
     c.requires.kept.card c.args.current.now c.requires.kept.current c.find_increased.ensures.store.only _ _ _ _ _
     found _ c.deref.ensures.0
 
-pub returns-in_err-replace_oldest-clause-serves : goal.returns-in_err-replace_oldest-clause-serves
-returns-in_err-replace_oldest-clause-serves g c =
-    let found = c.in_ok-found.ensures.told in
-    increased-torn c.args.store.now c.find_increased.new.store c.replace_oldest.new.store c.requires.kept.ready
-    c.requires.kept.card
-    c.args.current.now c.requires.kept.current c.find_increased.ensures.store.only _ _ _ _ _ found _ c.deref.ensures.0
-    c.replace_oldest.ensures.any_exit c.replace_oldest.ensures.by_gate _ c.in_err-replace_oldest.ensures.store
-    c.args.answer.now.items c.requires.empty _ _
-    (reply-failed _ _ c.from_residual-in_err-replace_oldest.ensures.1) refl
+pub returns-in_err-replace_oldest : goal.returns-in_err-replace_oldest
+returns-in_err-replace_oldest g c = record {
+  serves = let found = c.in_ok-found.ensures.told in
+      increased-torn c.args.store.now c.find_increased.new.store c.replace_oldest.new.store c.requires.kept.ready
+      c.requires.kept.card
+      c.args.current.now c.requires.kept.current c.find_increased.ensures.store.only _ _ _ _ _ found _
+      c.deref.ensures.0
+      c.replace_oldest.ensures.any_exit c.replace_oldest.ensures.by_gate _ c.in_err-replace_oldest.ensures.store
+      c.args.answer.now.items c.requires.empty _ _
+      (reply-failed _ _ c.from_residual-in_err-replace_oldest.ensures.1) refl;
+  space = none-failed _ _ _ c.from_residual-in_err-replace_oldest.ensures.1;
+}
 
-pub returns-clause-serves : goal.returns-clause-serves
-returns-clause-serves g c =
-    let old = c.args.store.now in
-    let x = c.args.current.now in
-    let found = c.in_ok-found.ensures.told in
-    subst (λ (y : Current). Serves (increase c.args.amount.now c.args.expected) old x c.replace_oldest.new.store y
-    c.give.new.answer.items (Ok DONE)) (sym c.pointing.ensures)
-    (increased-done old c.find_increased.new.store c.replace_oldest.new.store c.requires.kept.ready
-    c.requires.kept.card x
-    c.requires.kept.current c.find_increased.ensures.store.only _ _ c.in_ok-found.found.file c.in_ok-found.found.slot
-    _ found _ c.deref.ensures.0 c.replace_oldest.ensures.any_exit c.replace_oldest.ensures.by_gate _
-    c.in_ok-replace_oldest.ensures.store
-    c.in_ok-replace_oldest.ensures.done
-    c.in_ok-replace_oldest.ensures.store.ready c.give.new.answer.items
-    (c.give.ensures.given ∙ ap (given c.args.expected) c.answer_of.ensures) c.give.ensures.room)
+pub returns : goal.returns
+returns g c = record {
+  serves = let old = c.args.store.now in
+      let x = c.args.current.now in
+      let found = c.in_ok-found.ensures.told in
+      subst (λ (y : Current). Serves (increase c.args.amount.now c.args.expected) old x c.replace_oldest.new.store y
+      c.give.new.answer.items (Ok DONE)) (sym c.pointing.ensures)
+      (increased-done old c.find_increased.new.store c.replace_oldest.new.store c.requires.kept.ready
+      c.requires.kept.card x
+      c.requires.kept.current c.find_increased.ensures.store.only _ _ c.in_ok-found.found.file
+      c.in_ok-found.found.slot
+      _ found _ c.deref.ensures.0 c.replace_oldest.ensures.any_exit c.replace_oldest.ensures.by_gate _
+      c.in_ok-replace_oldest.ensures.store
+      c.in_ok-replace_oldest.ensures.done
+      c.in_ok-replace_oldest.ensures.store.ready c.give.new.answer.items
+      (c.give.ensures.given ∙ ap (given c.args.expected) c.answer_of.ensures) c.give.ensures.room);
+  space = let found = c.in_ok-found.ensures.told in
+      increased-space c.args.store.now c.find_increased.new.store c.replace_oldest.new.store c.requires.kept.ready
+      c.requires.kept.card
+      c.args.current.now c.requires.kept.current c.find_increased.ensures.store.only _ _ _ _ _ found _
+      c.deref.ensures.0
+      c.replace_oldest.ensures.any_exit c.replace_oldest.ensures.by_gate _ c.in_ok-replace_oldest.ensures.store
+      c.in_ok-replace_oldest.ensures.done;
+}
 
-pub returns-clause-space : goal.returns-clause-space
-returns-clause-space g c =
-    let found = c.in_ok-found.ensures.told in
-    increased-space c.args.store.now c.find_increased.new.store c.replace_oldest.new.store c.requires.kept.ready
-    c.requires.kept.card
-    c.args.current.now c.requires.kept.current c.find_increased.ensures.store.only _ _ _ _ _ found _ c.deref.ensures.0
-    c.replace_oldest.ensures.any_exit c.replace_oldest.ensures.by_gate _ c.in_ok-replace_oldest.ensures.store
-    c.in_ok-replace_oldest.ensures.done
-
-pub returns-in_err-found-clause-serves : goal.returns-in_err-found-clause-serves
-returns-in_err-found-clause-serves g c =
-    let old = c.args.store.now in
-    let x = c.args.current.now in
-    let request = increase c.args.amount.now c.args.expected in
-    halted request old x c.find_increased.new.store (λ _. tt) c.requires.kept.card c.requires.kept.current
-    c.args.answer.now.items c.requires.empty _ _ c.from_residual.ensures.1 c.in_err-found.ensures.store _
-    (λ status. served-refused (card_in old) (session_in old x) request status) c.in_err-found.ensures.told
-
-pub returns-in_err-found-clause-space : goal.returns-in_err-found-clause-space
-returns-in_err-found-clause-space g c =
-    ok_anyway _ _ (space-same c.args.store.now c.find_increased.new.store
-    c.find_increased.ensures.store.only.keeps.committed_words)
-
-pub returns-in_err-replace_oldest-clause-space : goal.returns-in_err-replace_oldest-clause-space
-returns-in_err-replace_oldest-clause-space g c = none-failed _ _ _ c.from_residual-in_err-replace_oldest.ensures.1
+pub returns-in_err-found : goal.returns-in_err-found
+returns-in_err-found g c = record {
+  serves = let old = c.args.store.now in
+      let x = c.args.current.now in
+      let request = increase c.args.amount.now c.args.expected in
+      halted request old x c.find_increased.new.store (λ _. tt) c.requires.kept.card c.requires.kept.current
+      c.args.answer.now.items c.requires.empty _ _ c.from_residual.ensures.1 c.in_err-found.ensures.store _
+      (λ status. served-refused (card_in old) (session_in old x) request status) c.in_err-found.ensures.told;
+  space = ok_anyway _ _ (space-same c.args.store.now c.find_increased.new.store
+      c.find_increased.ensures.store.only.keeps.committed_words);
+}

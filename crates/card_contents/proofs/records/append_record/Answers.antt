@@ -26,13 +26,16 @@ fill-requires-clause-size g c =
     c.requires.kept.card
     c.args.current.now c.requires.kept.current c.find_appended.ensures.store.only _ _ _ _ found
 
-pub returns-in_err-fill-clause-serves : goal.returns-in_err-fill-clause-serves
-returns-in_err-fill-clause-serves g c =
-    let found = c.in_ok-growing.ensures.told in
-    appended-torn c.args.store.now c.find_appended.new.store c.fill.new.store c.requires.kept.ready c.requires.kept.card
-    c.args.current.now c.requires.kept.current c.find_appended.ensures.store.only _ _ _ _ found
-    c.fill.ensures.any_exit c.fill.ensures.by_gate _
-    c.in_err-fill.ensures.store _ _ (reply-failed _ _ c.from_residual-in_err-fill.ensures.1) refl
+pub returns-in_err-fill : goal.returns-in_err-fill
+returns-in_err-fill g c = record {
+  serves = let found = c.in_ok-growing.ensures.told in
+      appended-torn c.args.store.now c.find_appended.new.store c.fill.new.store c.requires.kept.ready
+      c.requires.kept.card
+      c.args.current.now c.requires.kept.current c.find_appended.ensures.store.only _ _ _ _ found
+      c.fill.ensures.any_exit c.fill.ensures.by_gate _
+      c.in_err-fill.ensures.store _ _ (reply-failed _ _ c.from_residual-in_err-fill.ensures.1) refl;
+  space = none-failed _ _ _ c.from_residual-in_err-fill.ensures.1;
+}
 
 pub added-requires : goal.added-requires
 added-requires g c =
@@ -40,42 +43,36 @@ added-requires g c =
     appended-few c.args.store.now c.find_appended.new.store c.find_appended.new.store c.requires.kept.ready
     c.requires.kept.card c.args.current.now c.requires.kept.current c.find_appended.ensures.store.only _ _ _ _ found
 
-pub returns-clause-serves : goal.returns-clause-serves
-returns-clause-serves g c =
-    let old = c.args.store.now in
-    let x = c.args.current.now in
-    let growing = c.in_ok-growing.growing in
-    let found = c.in_ok-growing.ensures.told in
-    subst (λ (y : Current). Serves (append_record c.args.target c.args.bytes.now) old x c.fill.new.store y []
-    (Ok DONE)) (sym c.pointing.ensures)
-    (appended-done old c.find_appended.new.store c.fill.new.store c.requires.kept.ready c.requires.kept.card x
-    c.requires.kept.current c.find_appended.ensures.store.only c.args.target c.args.bytes.now growing.file
-    growing.room found
-    c.fill.ensures.any_exit c.fill.ensures.by_gate _ c.in_ok-fill.ensures.store c.in_ok-fill.ensures.done
-    c.in_ok-fill.ensures.store.ready c.added.result c.added.ensures)
+pub returns : goal.returns
+returns g c = record {
+  serves = let old = c.args.store.now in
+      let x = c.args.current.now in
+      let growing = c.in_ok-growing.growing in
+      let found = c.in_ok-growing.ensures.told in
+      subst (λ (y : Current). Serves (append_record c.args.target c.args.bytes.now) old x c.fill.new.store y []
+      (Ok DONE)) (sym c.pointing.ensures)
+      (appended-done old c.find_appended.new.store c.fill.new.store c.requires.kept.ready c.requires.kept.card x
+      c.requires.kept.current c.find_appended.ensures.store.only c.args.target c.args.bytes.now growing.file
+      growing.room found
+      c.fill.ensures.any_exit c.fill.ensures.by_gate _ c.in_ok-fill.ensures.store c.in_ok-fill.ensures.done
+      c.in_ok-fill.ensures.store.ready c.added.result c.added.ensures);
+  space = let found = c.in_ok-growing.ensures.told in
+      appended-space c.args.store.now c.find_appended.new.store c.fill.new.store c.requires.kept.ready
+      c.requires.kept.card
+      c.args.current.now c.requires.kept.current c.find_appended.ensures.store.only _ _ _ _ found
+      c.fill.ensures.any_exit c.fill.ensures.by_gate _
+      c.in_ok-fill.ensures.store c.in_ok-fill.ensures.done;
+}
 
-pub returns-clause-space : goal.returns-clause-space
-returns-clause-space g c =
-    let found = c.in_ok-growing.ensures.told in
-    appended-space c.args.store.now c.find_appended.new.store c.fill.new.store c.requires.kept.ready
-    c.requires.kept.card
-    c.args.current.now c.requires.kept.current c.find_appended.ensures.store.only _ _ _ _ found
-    c.fill.ensures.any_exit c.fill.ensures.by_gate _
-    c.in_ok-fill.ensures.store c.in_ok-fill.ensures.done
-
-pub returns-in_err-growing-clause-serves : goal.returns-in_err-growing-clause-serves
-returns-in_err-growing-clause-serves g c =
-    let old = c.args.store.now in
-    let x = c.args.current.now in
-    let request = append_record c.args.target c.args.bytes.now in
-    halted request old x c.find_appended.new.store (λ _. tt) c.requires.kept.card c.requires.kept.current [] refl _ _
-    c.from_residual.ensures.1 c.in_err-growing.ensures.store _
-    (λ status. served-refused (card_in old) (session_in old x) request status) c.in_err-growing.ensures.told
-
-pub returns-in_err-growing-clause-space : goal.returns-in_err-growing-clause-space
-returns-in_err-growing-clause-space g c =
-    ok_anyway _ _ (space-same c.args.store.now c.find_appended.new.store
-    c.find_appended.ensures.store.only.keeps.committed_words)
-
-pub returns-in_err-fill-clause-space : goal.returns-in_err-fill-clause-space
-returns-in_err-fill-clause-space g c = none-failed _ _ _ c.from_residual-in_err-fill.ensures.1
+pub returns-in_err-growing : goal.returns-in_err-growing
+returns-in_err-growing g c = record {
+  serves = let old = c.args.store.now in
+      let x = c.args.current.now in
+      let request = append_record c.args.target c.args.bytes.now in
+      halted request old x c.find_appended.new.store (λ _. tt) c.requires.kept.card c.requires.kept.current [] refl _
+      _
+      c.from_residual.ensures.1 c.in_err-growing.ensures.store _
+      (λ status. served-refused (card_in old) (session_in old x) request status) c.in_err-growing.ensures.told;
+  space = ok_anyway _ _ (space-same c.args.store.now c.find_appended.new.store
+      c.find_appended.ensures.store.only.keeps.committed_words);
+}

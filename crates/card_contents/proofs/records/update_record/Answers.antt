@@ -27,14 +27,16 @@ replace-requires-clause-size g c =
     c.requires.kept.card
     c.args.current.now c.requires.kept.current c.find_replaced.ensures.store.only _ _ _ _ _ found
 
-pub returns-in_err-replace-clause-serves : goal.returns-in_err-replace-clause-serves
-returns-in_err-replace-clause-serves g c =
-    let found = c.in_ok-replaced.ensures.told in
-    replaced-torn c.args.store.now c.find_replaced.new.store c.replace.new.store c.requires.kept.ready
-    c.requires.kept.card
-    c.args.current.now c.requires.kept.current c.find_replaced.ensures.store.only _ _ _ _ _ found
-    c.replace.ensures.any_exit c.replace.ensures.by_gate _ c.in_err-replace.ensures.store _ _
-    (reply-failed _ _ c.from_residual-in_err-replace.ensures.1) refl
+pub returns-in_err-replace : goal.returns-in_err-replace
+returns-in_err-replace g c = record {
+  serves = let found = c.in_ok-replaced.ensures.told in
+      replaced-torn c.args.store.now c.find_replaced.new.store c.replace.new.store c.requires.kept.ready
+      c.requires.kept.card
+      c.args.current.now c.requires.kept.current c.find_replaced.ensures.store.only _ _ _ _ _ found
+      c.replace.ensures.any_exit c.replace.ensures.by_gate _ c.in_err-replace.ensures.store _ _
+      (reply-failed _ _ c.from_residual-in_err-replace.ensures.1) refl;
+  space = none-failed _ _ _ c.from_residual-in_err-replace.ensures.1;
+}
 
 pub pointer_replaced-after-requires : goal.pointer_replaced-after-requires
 pointer_replaced-after-requires g c =
@@ -42,44 +44,41 @@ pointer_replaced-after-requires g c =
     replaced-few c.args.store.now c.find_replaced.new.store c.find_replaced.new.store c.requires.kept.ready
     c.requires.kept.card c.args.current.now c.requires.kept.current c.find_replaced.ensures.store.only _ _ _ _ _ found
 
-pub returns-clause-serves : goal.returns-clause-serves
-returns-clause-serves g c =
-    let old = c.args.store.now in
-    let x = c.args.current.now in
-    let file = c.in_ok-replaced.replaced.file in
-    let slot = c.in_ok-replaced.replaced.slot in
-    let choice = c.args.choice in
-    let found = c.in_ok-replaced.ensures.told in
-    subst (λ (y : Current). Serves (update_record c.args.target choice c.args.bytes.now) old x c.replace.new.store y []
-    (Ok DONE)) (sym c.pointing.ensures)
-    (replaced-done old c.find_replaced.new.store c.replace.new.store c.requires.kept.ready c.requires.kept.card x
-    c.requires.kept.current c.find_replaced.ensures.store.only c.args.target choice c.args.bytes.now file slot found
-    c.replace.ensures.any_exit c.replace.ensures.by_gate _ c.in_ok-replace.ensures.store c.in_ok-replace.ensures.done
-    c.in_ok-replace.ensures.store.ready c.pointer_replaced-after.result (c.pointer_replaced-after.ensures
-    ∙ ap (λ (p : Option ℕ). if file.wraps then Some 1 else pointer_after p choice slot.number)
-    c.pointer_at-pointer.ensures))
+pub returns : goal.returns
+returns g c = record {
+  serves = let old = c.args.store.now in
+      let x = c.args.current.now in
+      let file = c.in_ok-replaced.replaced.file in
+      let slot = c.in_ok-replaced.replaced.slot in
+      let choice = c.args.choice in
+      let found = c.in_ok-replaced.ensures.told in
+      subst (λ (y : Current). Serves (update_record c.args.target choice c.args.bytes.now) old x c.replace.new.store
+      y []
+      (Ok DONE)) (sym c.pointing.ensures)
+      (replaced-done old c.find_replaced.new.store c.replace.new.store c.requires.kept.ready c.requires.kept.card x
+      c.requires.kept.current c.find_replaced.ensures.store.only c.args.target choice c.args.bytes.now file slot found
+      c.replace.ensures.any_exit c.replace.ensures.by_gate _ c.in_ok-replace.ensures.store
+      c.in_ok-replace.ensures.done
+      c.in_ok-replace.ensures.store.ready c.pointer_replaced-after.result (c.pointer_replaced-after.ensures
+      ∙ ap (λ (p : Option ℕ). if file.wraps then Some 1 else pointer_after p choice slot.number)
+      c.pointer_at-pointer.ensures));
+  space = let found = c.in_ok-replaced.ensures.told in
+      replaced-space c.args.store.now c.find_replaced.new.store c.replace.new.store c.requires.kept.ready
+      c.requires.kept.card
+      c.args.current.now c.requires.kept.current c.find_replaced.ensures.store.only _ _ _ _ _ found
+      c.replace.ensures.any_exit c.replace.ensures.by_gate _ c.in_ok-replace.ensures.store
+      c.in_ok-replace.ensures.done;
+}
 
-pub returns-clause-space : goal.returns-clause-space
-returns-clause-space g c =
-    let found = c.in_ok-replaced.ensures.told in
-    replaced-space c.args.store.now c.find_replaced.new.store c.replace.new.store c.requires.kept.ready
-    c.requires.kept.card
-    c.args.current.now c.requires.kept.current c.find_replaced.ensures.store.only _ _ _ _ _ found
-    c.replace.ensures.any_exit c.replace.ensures.by_gate _ c.in_ok-replace.ensures.store c.in_ok-replace.ensures.done
-
-pub returns-in_err-replaced-clause-serves : goal.returns-in_err-replaced-clause-serves
-returns-in_err-replaced-clause-serves g c =
-    let old = c.args.store.now in
-    let x = c.args.current.now in
-    let request = update_record c.args.target c.args.choice c.args.bytes.now in
-    halted request old x c.find_replaced.new.store (λ _. tt) c.requires.kept.card c.requires.kept.current [] refl _ _
-    c.from_residual.ensures.1 c.in_err-replaced.ensures.store _
-    (λ status. served-refused (card_in old) (session_in old x) request status) c.in_err-replaced.ensures.told
-
-pub returns-in_err-replaced-clause-space : goal.returns-in_err-replaced-clause-space
-returns-in_err-replaced-clause-space g c =
-    ok_anyway _ _ (space-same c.args.store.now c.find_replaced.new.store
-    c.find_replaced.ensures.store.only.keeps.committed_words)
-
-pub returns-in_err-replace-clause-space : goal.returns-in_err-replace-clause-space
-returns-in_err-replace-clause-space g c = none-failed _ _ _ c.from_residual-in_err-replace.ensures.1
+pub returns-in_err-replaced : goal.returns-in_err-replaced
+returns-in_err-replaced g c = record {
+  serves = let old = c.args.store.now in
+      let x = c.args.current.now in
+      let request = update_record c.args.target c.args.choice c.args.bytes.now in
+      halted request old x c.find_replaced.new.store (λ _. tt) c.requires.kept.card c.requires.kept.current [] refl _
+      _
+      c.from_residual.ensures.1 c.in_err-replaced.ensures.store _
+      (λ status. served-refused (card_in old) (session_in old x) request status) c.in_err-replaced.ensures.told;
+  space = ok_anyway _ _ (space-same c.args.store.now c.find_replaced.new.store
+      c.find_replaced.ensures.store.only.keeps.committed_words);
+}
