@@ -123,7 +123,7 @@ module _ (target : Target) (offset : ℕ) where
       lawful-unshown (read_binary target offset expected) (on_read_binary target offset expected) refl
       (λ c s. (missing-word target, (lit< tt, (lit< tt, (lit< tt, (lit< tt, tt))))))
       (λ c s proper small unrefused. fine-read c s proper target offset expected small) (λ sized. omega arith)
-      (λ c s. same-none c)
+      (λ c s. refl) (λ c s. same-none c)
 
   pub lawful-update : (bytes : List ℕ) → Lawful (update_binary target offset bytes)
   lawful-update bytes =
@@ -131,4 +131,4 @@ module _ (target : Target) (offset : ℕ) where
       (λ c s. (missing-word target, (lit< tt, (lit< tt, (lit< tt, (lit< tt, (lit< tt, tt)))))))
       (λ c s proper all unrefused. fine-update c s proper target offset bytes all unrefused)
       (λ sized. let few = few_words offset (length bytes) in let blocks = few_blocks offset (length bytes) in
-      let most = sized.1 in omega (arith, few, blocks, most)) (λ c s. same-one c _ refl)
+      let most = sized.1 in omega (arith, few, blocks, most)) (λ c s. refl) (λ c s. same-one c _ refl refl)

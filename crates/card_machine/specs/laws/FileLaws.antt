@@ -145,17 +145,17 @@ lawful-select selection returned expected =
     lawful-unshown (select selection returned expected) (on_select selection returned expected) refl
     (λ c s. (lit< tt, (omega arith, tt)))
     (λ c s proper small unrefused. fine-selected c s proper selection returned expected) (λ sized. omega arith)
-    (λ c s. same-none c)
+    (λ c s. refl) (λ c s. same-none c)
 
 pub lawful-create : (template : List ℕ) → Lawful (create_file template)
 lawful-create template =
     lawful-unshown (create_file template) (on_create_file template) refl
     (λ c s. (lit< tt, (lit< tt, (lit< tt, (lit< tt, (lit< tt, (lit< tt, (lit< tt, (lit< tt, tt)))))))))
     (λ c s proper all unrefused. fine-create c s proper template all) (λ sized. omega arith)
-    (λ c s. same-one c _ refl)
+    (λ c s. refl) (λ c s. same-one c _ refl refl)
 
 pub lawful-delete : (subject : Subject) → Lawful (delete_file subject)
 lawful-delete subject =
     lawful-unshown (delete_file subject) (on_delete_file subject) refl
     (λ c s. (lit< tt, (lit< tt, (lit< tt, (lit< tt, tt)))))
-    (λ c s proper small unrefused. fine-delete c s proper subject) (λ sized. omega arith) (λ c s. same-one c _ refl)
+    (λ c s proper small unrefused. fine-delete c s proper subject) (λ sized. omega arith) (λ c s. refl) (λ c s. same-one c _ refl refl)

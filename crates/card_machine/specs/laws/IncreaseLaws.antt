@@ -90,4 +90,4 @@ lawful-increase sent expected =
     lawful-unshown (increase sent expected) (on_increase sent expected) refl
     (λ c s. (missing-word Current, (lit< tt, (lit< tt, (lit< tt, (lit< tt, (lit< tt, (lit< tt, (omega arith, tt)))))))))
     (λ c s proper all unrefused. fine-increased c s proper sent all.0 expected unrefused) (λ sized. omega arith)
-    (λ c s. same-one c _ refl)
+    (λ c s. refl) (λ c s. same-one c _ refl refl)

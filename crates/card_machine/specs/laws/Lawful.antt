@@ -33,14 +33,17 @@ abbrev pub IsOfPin : Option Attempt → Type 0
 IsOfPin None = Unit {0}
 IsOfPin (Some a) = IsOfItsPin a
 
--- cards with the PINs of this one
+-- cards with the PINs of this one, and cards with as many blocks
 abbrev pub SamePins : Card → List Card → Type 0
 SamePins c = All (λ d. d.pins ≡ c.pins)
 
+abbrev pub AsMany : Card → List Card → Type 0
+AsMany c = All (λ d. d.blocks ≡ c.blocks)
+
 -- Of a request and its behaviour. Its refusals have status words. Where it is of bytes and isn't refused, it leaves a
 -- proper card proper, and its answer is short. Sized as commands are, it makes few device writes. What it shows is a
--- secret of the PIN that it names; where it shows none, every PIN stays. Its commits are those that words of their own
--- make, and then those of the gate.
+-- secret of the PIN that it names; where it shows none, every PIN stays. The card that it makes has as many blocks, and so
+-- has each that it passes. Its commits are those that words of their own make, and then those of the gate.
 pub record IsLawful (request : Request) (behaviour : Behaviour) : Type 0 where
   pub words : (c : Card) (s : Session) → AreWords (in_order (behaviour.refusals c s))
   pub fine : (c : Card) (s : Session) → IsProper c → IsOfBytes request → refused_by (behaviour.refusals c s) ≡ None
@@ -48,6 +51,8 @@ pub record IsLawful (request : Request) (behaviour : Behaviour) : Type 0 where
   pub few : IsSized request → behaviour.most_writes ≤ COMMAND_WRITES
   pub of_pin : IsOfPin behaviour.shown
   pub pins : (c : Card) (s : Session) → behaviour.shown ≡ None → SamePins c (behaviour.commits c s)
+  pub blocks : (c : Card) (s : Session) → (behaviour.effect c s).card.blocks ≡ c.blocks
+  pub many : (c : Card) (s : Session) → AsMany c (behaviour.commits c s)
   pub by_words : (c : Card) (s : Session)
       → commits_alone c behaviour.shown
       ++ commits_gated c behaviour.shown (behaviour.commits c s) ≡ behaviour.commits c s
@@ -55,12 +60,25 @@ pub record IsLawful (request : Request) (behaviour : Behaviour) : Type 0 where
 abbrev pub Lawful : Request → Type 0
 Lawful request = IsLawful request (behaviour_of request)
 
--- no card, and one
-pub same-none : (c : Card) → SamePins c []
-same-none c = All-nil (λ (d : Card). d.pins ≡ c.pins)
+-- cards with as many blocks: none, and one more
+pub many-none : (c : Card) → AsMany c []
+many-none c = All-nil (λ (d : Card). d.blocks ≡ c.blocks)
 
-pub same-one : (c d : Card) → d.pins ≡ c.pins → SamePins c (d ∷ [])
-same-one c d same = All-cons (λ (e : Card). e.pins ≡ c.pins) d [] same (same-none c)
+pub many-one : (c d : Card) (cards : List Card) → d.blocks ≡ c.blocks → AsMany c cards → AsMany c (d ∷ cards)
+many-one c d cards same rest = All-cons (λ (e : Card). e.blocks ≡ c.blocks) d cards same rest
+
+-- what a command commits that shows no secret: no card, and one
+abbrev pub Untouched : Card → List Card → Type 0
+Untouched c cards = SamePins c cards × AsMany c cards
+
+pub same-none : (c : Card) → Untouched c []
+same-none c = (All-nil (λ (d : Card). d.pins ≡ c.pins), many-none c)
+
+pub same-one : (c d : Card) → d.pins ≡ c.pins → d.blocks ≡ c.blocks → Untouched c (d ∷ [])
+same-one c d pins blocks = (
+  All-cons (λ (e : Card). e.pins ≡ c.pins) d [] pins (same-none c).0,
+  many-one c d [] blocks (many-none c),
+)
 
 -- a command that shows no secret
 module _ (request : Request) (behaviour : Behaviour) where
@@ -69,13 +87,16 @@ module _ (request : Request) (behaviour : Behaviour) where
       → ((c : Card) (s : Session) → IsProper c → IsOfBytes request → refused_by (behaviour.refusals c s) ≡ None
       → IsFine (behaviour.effect c s))
       → (IsSized request → behaviour.most_writes ≤ COMMAND_WRITES)
-      → ((c : Card) (s : Session) → SamePins c (behaviour.commits c s)) → IsLawful request behaviour
-  lawful-unshown unshown words fine few pins = record {
+      → ((c : Card) (s : Session) → (behaviour.effect c s).card.blocks ≡ c.blocks)
+      → ((c : Card) (s : Session) → Untouched c (behaviour.commits c s)) → IsLawful request behaviour
+  lawful-unshown unshown words fine few blocks untouched = record {
     words = words;
     fine = fine;
     few = few;
     of_pin = subst IsOfPin (sym unshown) tt;
-    pins = λ c s is. pins c s;
+    pins = λ c s is. (untouched c s).0;
+    blocks = blocks;
+    many = λ c s. (untouched c s).1;
     by_words = λ c s. subst (λ (shown : Option Attempt). commits_alone c shown
         ++ commits_gated c shown (behaviour.commits c s) ≡ behaviour.commits c s) (sym unshown) refl;
   }

@@ -22,7 +22,7 @@ use Rattle.card_machine.specs.LifeCycles.{with_life_at}
 use Rattle.card_machine.specs.Outcomes.{refused_by}
 use Rattle.card_machine.specs.Proper.{IsProper}
 use Rattle.card_machine.specs.Sessions.{Session, marks_of}
-use Rattle.card_machine.specs.laws.Lawful.{Lawful, SamePins, lawful-unshown, same-none, same-one}
+use Rattle.card_machine.specs.laws.Lawful.{Lawful, Untouched, lawful-unshown, same-none, same-one}
 use Rattle.card_machine.specs.laws.ProperLaws.{IsFine, either-if, proper-file_at, proper-insert, short-status}
 use Rattle.card_machine.specs.laws.ProperLaws.{there-identifier, unrefused-each}
 
@@ -70,11 +70,11 @@ lawful-life change subject =
     lawful-unshown (change_life_cycle change subject) (on_change_life_cycle change subject) refl
     (λ c s. (subject-word subject, (lit< tt, (lit< tt, (lit< tt, tt)))))
     (λ c s proper small unrefused. fine-life_changed c s proper change subject unrefused) (λ sized. omega arith)
-    (λ c s. either-if (SamePins c) (life_cycle_byte (changed_life c s change subject)
+    (λ c s. refl) (λ c s. either-if (Untouched c) (life_cycle_byte (changed_life c s change subject)
     == life_cycle_byte (life_at c.tree (changed_path c s change subject))) [] (changed_card c s change subject ∷ [])
-    (same-none c) (same-one c (changed_card c s change subject) refl))
+    (same-none c) (same-one c (changed_card c s change subject) refl refl))
 
 pub lawful-terminate : Lawful terminate_card_usage
 lawful-terminate =
     lawful-unshown terminate_card_usage on_terminate_card_usage refl (λ c s. (lit< tt, tt))
-    (λ c s proper small unrefused. fine-card_terminated c s proper) (λ sized. omega arith) (λ c s. same-one c _ refl)
+    (λ c s proper small unrefused. fine-card_terminated c s proper) (λ sized. omega arith) (λ c s. refl) (λ c s. same-one c _ refl refl)

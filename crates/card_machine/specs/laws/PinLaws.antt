@@ -12,8 +12,8 @@ use Rattle.pin_store.specs.Pins.{HasFewTries, charged_pin, is_unblocking, tries_
 use Rattle.pin_store.specs.laws.AllPins.{changed_few, marked_few, reset_few, verified_few, with_few}
 use Rattle.card_machine.specs.declared.spending.TheConstants.{COMMAND_WRITES}
 use Rattle.card_machine.specs.Cards.{Card, Pin}
-use Rattle.card_machine.specs.Attempts.{Attempt, charged_card, is_right, no_pin, pin_of}
-use Rattle.card_machine.specs.Pins.{attempted, attempted_as}
+use Rattle.card_machine.specs.Attempts.{Attempt, charged_card, is_right, no_pin, pin_of, settled_card}
+use Rattle.card_machine.specs.Pins.{attempted, attempted_as, pin_commits, pin_effect}
 use Rattle.card_machine.specs.Pins.{told_tries, tries_told}
 use Rattle.card_machine.specs.Attempts.{tries_of, with_pin_of}
 use Rattle.card_machine.specs.Pins.{change_writes, changing, mark_writes, marking, reset_writes, resetting, shows}
@@ -22,8 +22,8 @@ use Rattle.card_machine.specs.Pins.{is_enabled_by, unusable_by, while_disabled, 
 use Rattle.card_machine.specs.Attempts.{unblocking_of, value_of}
 use Rattle.card_machine.specs.Proper.{IsProper}
 use Rattle.card_machine.specs.Sessions.{Session}
-use Rattle.card_machine.specs.laws.Lawful.{AreWords, IsLawful, IsOfItsPin, Lawful, same-none}
-use Rattle.card_machine.specs.laws.ProperLaws.{IsFine, at-or, short-status}
+use Rattle.card_machine.specs.laws.Lawful.{AreWords, AsMany, IsLawful, IsOfItsPin, Lawful, many-none, many-one, same-none}
+use Rattle.card_machine.specs.laws.ProperLaws.{IsFine, at-or, either-if, short-status}
 
 -- each PIN of a proper card, and one that stands for none
 few-of : (c : Card) (n : ℕ) → IsProper c → HasFewTries (pin_of c n)
@@ -97,6 +97,24 @@ by-words true true charged settled = refl
 by-words true false charged settled = refl
 by-words false renews charged settled = refl
 
+-- the card that an attempt makes has as many blocks, and so has each that it passes
+attempted-blocks : (c : Card) (s : Session) (a : Attempt) (right : Bool)
+    → (attempted_as c s a right).card.blocks ≡ c.blocks
+attempted-blocks c s a true = refl
+attempted-blocks c s a false = refl
+
+shown-blocks : (c : Card) (s : Session) (n secret : ℕ) (shown : Option Attempt)
+    → (pin_effect c s n secret shown).card.blocks ≡ c.blocks
+shown-blocks c s n secret None = refl
+shown-blocks c s n secret (Some a) = attempted-blocks c s a (is_right c a)
+
+shown-commits : (c : Card) (shown : Option Attempt) → AsMany c (pin_commits c shown)
+shown-commits c None = many-none c
+shown-commits c (Some a) =
+    many-one c (charged_card c a) _ refl
+    (either-if (AsMany c) (is_right c a) (settled_card c a ∷ []) []
+    (many-one c (settled_card c a) [] refl (many-none c)) (many-none c))
+
 -- the laws of a command on a secret of PIN n: it asks for the tries that are left, or shows the secret
 module _ (request : Request) (n secret most : ℕ) where
   lawful-asking : IsLawful request (shows n secret None most)
@@ -105,7 +123,9 @@ module _ (request : Request) (n secret most : ℕ) where
     fine = λ c s proper all unrefused. fine-told c s proper n secret;
     few = λ sized. omega arith;
     of_pin = tt;
-    pins = λ c s is. same-none c;
+    pins = λ c s is. (same-none c).0;
+    blocks = λ c s. shown-blocks c s n secret None;
+    many = λ c s. shown-commits c None;
     by_words = λ c s. refl;
   }
 
@@ -117,6 +137,8 @@ module _ (request : Request) (n secret most : ℕ) where
     few = λ sized. few;
     of_pin = of_pin;
     pins = λ c s is. absurd cc;
+    blocks = λ c s. shown-blocks c s n secret (Some a);
+    many = λ c s. shown-commits c (Some a);
     by_words = λ c s. by-words (is_right c a) a.renews _ _;
   }
 

@@ -277,21 +277,21 @@ module _ (target : Target) where
       lawful-unshown (read_record target choice expected) (on_read_record target choice expected) refl
       (λ c s. (missing-word target, (lit< tt, (lit< tt, (lit< tt, (lit< tt, (omega arith, tt)))))))
       (λ c s proper small unrefused. fine-record_read c s proper target choice) (λ sized. omega arith)
-      (λ c s. same-none c)
+      (λ c s. refl) (λ c s. same-none c)
 
   pub lawful-update : (choice : RecordChoice) (bytes : List ℕ) → Lawful (update_record target choice bytes)
   lawful-update choice bytes =
       lawful-unshown (update_record target choice bytes) (on_update_record target choice bytes) refl
       (λ c s. (missing-word target, (lit< tt, (lit< tt, (lit< tt, (lit< tt, (lit< tt, tt)))))))
       (λ c s proper all unrefused. fine-record_updated c s proper target choice bytes all unrefused)
-      (λ sized. omega arith) (λ c s. same-one c _ refl)
+      (λ sized. omega arith) (λ c s. refl) (λ c s. same-one c _ refl refl)
 
   pub lawful-append : (bytes : List ℕ) → Lawful (append_record target bytes)
   lawful-append bytes =
       lawful-unshown (append_record target bytes) (on_append_record target bytes) refl
       (λ c s. (missing-word target, (lit< tt, (lit< tt, (lit< tt, (lit< tt, (lit< tt, tt)))))))
       (λ c s proper all unrefused. fine-record_appended c s proper target bytes all unrefused) (λ sized. omega arith)
-      (λ c s. same-one c _ refl)
+      (λ c s. refl) (λ c s. same-one c _ refl refl)
 
   pub lawful-search : (first : RecordPlace) (direction : Direction) (text : List ℕ) (expected : Option ℕ)
       → Lawful (search_record target first direction text expected)
@@ -300,4 +300,4 @@ module _ (target : Target) where
       (on_search_record target first direction text expected) refl
       (λ c s. (missing-word target, (lit< tt, (lit< tt, (lit< tt, (lit< tt, (omega arith, tt)))))))
       (λ c s proper all unrefused. fine-records_searched c s proper target first direction text expected unrefused)
-      (λ sized. omega arith) (λ c s. same-none c)
+      (λ sized. omega arith) (λ c s. refl) (λ c s. same-none c)

@@ -31,12 +31,12 @@ module _ (c : Card) (s : Session) where
   -- and so of a request that may be refused, at every stage
   unless-same : (refusal : Option Sw) (cards : List Card) → SamePins c cards → SamePins c (commits_unless refusal cards)
   unless-same None cards all = all
-  unless-same (Some status) cards all = same-none c
+  unless-same (Some status) cards all = (same-none c).0
 
   served-same : (request : Request) → attempt_of request ≡ None → SamePins c (commits_asked c s (Ok request))
   served-same request is =
       either-if (SamePins c) c.in_use (commits_served c s request) []
-      (unless-same (refused_by (refusals_of c s request)) (commits c s request) (commits-same request is)) (same-none c)
+      (unless-same (refused_by (refusals_of c s request)) (commits c s request) (commits-same request is)) (same-none c).0
 
   stage-same : (d : Card) (cards : List Card) → SamePins c cards → Contains (c ∷ cards) d → d.pins ≡ c.pins
   stage-same d cards all there =
@@ -58,7 +58,7 @@ module _ (c d : Card) (old new : Comparisons) where
   by-asked s (Ok request) there compares =
       by-shown (attempt_of request) (shown-of-pin request)
       (λ is. stage-same c s d (commits_asked c s (Ok request)) (served-same c s request is) there) compares
-  by-asked s (Err status) there compares = inl (compares, stage-same c s d [] (same-none c) there)
+  by-asked s (Err status) there compares = inl (compares, stage-same c s d [] (same-none c).0 there)
 
   -- at each stage of a command
   pub compares-or-stays : (s : Session) (command : List ℕ) → IsStage c s command d

@@ -15,16 +15,16 @@ use Rattle.card_machine.proofs.access.allows.Goals as goal
 pub returns : goal.returns
 returns g c = record {
   told = let m = committed c.args.store.now in
-        let x = c.args.current.now in
-        let e = c.args.number in
-        let same = c.disabled_pins.ensures.store.only.keeps.committed_words in
-        let disabled = c.in_ok-disabled.ensures.told in
-        let is : is_allowed (tree_of (committed c.disabled_pins.new.store))
-        (path_of (table (committed c.disabled_pins.new.store)) e) c.args.bit x.verified c.in_ok-disabled.disabled
-        ≡ allowed (card_of m) (session_of (table m) x) (path_of (table m) e) c.args.bit =
-        (λ i. is_allowed (tree_of (same i)) (path_of (table (same i)) e) c.args.bit x.verified (disabled i))
-        ∙ allowed-by-marks m c.requires.kept.card x c.requires.kept.current.marks e c.args.bit in
-        subst (λ (b : Bool). IfOk c.is_allowed.result (λ permits. permits ≡ b)) is c.is_allowed.ensures.allowed;
+      let x = c.args.current.now in
+      let e = c.args.number in
+      let same = c.disabled_pins.ensures.store.only.keeps.committed_words in
+      let disabled = c.in_ok-disabled.ensures.told in
+      let is : is_allowed (tree_of (committed c.disabled_pins.new.store))
+      (path_of (table (committed c.disabled_pins.new.store)) e) c.args.bit x.verified c.in_ok-disabled.disabled
+      ≡ allowed (card_of m) (session_of (table m) x) (path_of (table m) e) c.args.bit =
+      (λ i. is_allowed (tree_of (same i)) (path_of (table (same i)) e) c.args.bit x.verified (disabled i))
+      ∙ allowed-by-marks m c.requires.kept.card x c.requires.kept.current.marks e c.args.bit in
+      subst (λ (b : Bool). IfOk c.is_allowed.result (λ permits. permits ≡ b)) is c.is_allowed.ensures.allowed;
   store = reads_on _ _ _ _ c.disabled_pins.ensures.store.only c.is_allowed.ensures.store;
 }
 

@@ -10,20 +10,20 @@ use Rattle.card_machine.proofs.access.allows_at.Goals as goal
 pub returns-then-is_allowed_at : goal.returns-then-is_allowed_at
 returns-then-is_allowed_at g c = record {
   told = let entry = c.args.entry.now in
-        let bit = c.args.bit in
-        let verified = c.args.current.now.verified in
-        sym (allows-anyhow (rule_of entry) bit (life_told entry) verified (disabled_in (committed c.args.store.now))
-        (sym (c.is_allowed_at.ensures
-        ∙ ap (λ (disabled : List Bool). is_allowed_by entry bit verified disabled) c.new.ensures)
-        ∙ c.if-is_allowed_at.true));
+      let bit = c.args.bit in
+      let verified = c.args.current.now.verified in
+      sym (allows-anyhow (rule_of entry) bit (life_told entry) verified (disabled_in (committed c.args.store.now))
+      (sym (c.is_allowed_at.ensures
+      ∙ ap (λ (disabled : List Bool). is_allowed_by entry bit verified disabled) c.new.ensures)
+      ∙ c.if-is_allowed_at.true));
   store = reads_none _ c.requires.ready;
 }
 
 pub returns : goal.returns
 returns g c = record {
   told = c.is_allowed_at-2.ensures
-        ∙ ap (λ (disabled : List Bool). is_allowed_by c.args.entry.now c.args.bit c.args.current.now.verified disabled)
-        c.in_ok-disabled.ensures.told;
+      ∙ ap (λ (disabled : List Bool). is_allowed_by c.args.entry.now c.args.bit c.args.current.now.verified disabled)
+      c.in_ok-disabled.ensures.told;
   store = c.in_ok-disabled.ensures.store;
 }
 

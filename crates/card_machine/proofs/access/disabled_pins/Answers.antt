@@ -23,7 +23,7 @@ pub returns-in_err-is_enabled : goal.returns-in_err-is_enabled
 returns-in_err-is_enabled g c = record {
   told = search rules;
   store = reads_handed _ _ _ _ c.from_residual.ensures.1
-        (reads_on _ _ _ _ c.loop-secret.invariant.reads c.in_err-is_enabled.ensures.store);
+      (reads_on _ _ _ _ c.loop-secret.invariant.reads c.in_err-is_enabled.ensures.store);
 }
 
 pub loop-secret-preserved : goal.loop-secret-preserved
@@ -54,8 +54,8 @@ loop-secret-preserved g c =
 pub returns : goal.returns
 returns g c = record {
   told = let end : c.loop-secret.secret ≡ 8 = omega (arith, c.loop-secret-test.false, c.loop-secret.auto.secret-end) in
-        all-told (committed c.args.store.now) c.loop-secret.disabled
-        (subst (λ (n : ℕ). TellsMarks (committed c.args.store.now) n c.loop-secret.disabled) end
-        c.loop-secret.invariant.so_far);
+      all-told (committed c.args.store.now) c.loop-secret.disabled
+      (subst (λ (n : ℕ). TellsMarks (committed c.args.store.now) n c.loop-secret.disabled) end
+      c.loop-secret.invariant.so_far);
   store = reads_so_far _ _ c.loop-secret.invariant.reads c.loop-secret.invariant.ready;
 }

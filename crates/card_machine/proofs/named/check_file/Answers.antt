@@ -18,50 +18,50 @@ use Rattle.card_machine.proofs.named.check_file.Goals as goal
 pub returns : goal.returns
 returns g c = record {
   told = let m = committed c.args.store.now in
-        let x = c.args.current.now in
-        let e = c.args.number in
-        let entry = c.args.entry.now in
-        let bit = c.args.need.bit in
-        let path = path_of (table m) e in
-        let card = c.requires.kept.card in
-        let barred : c.in_ok-is_barred_at.field-0 ≡ is_barred (card_of m).tree path =
-        c.in_ok-is_barred_at.ensures.barred ∙ sym (ap (λ (tree : Tree). is_barred tree path) (card-tree m)) in
-        let permitted : c.in_ok-allows_at.field-0 ≡ allowed (card_of m) (session_of (table m) x) path bit =
-        c.in_ok-allows_at.ensures.told
-        ∙ ap (λ (l : List ℕ). is_allowed_by entry bit x.verified (disabled_in l))
-        c.is_barred_at.ensures.store.only.keeps.committed_words
-        ∙ allowed_by_there m card.tree.entries e c.requires.used entry c.requires.entry bit x.verified (disabled_in m)
-        ∙ allowed-by-marks m card x c.requires.kept.current.marks e bit in
-        sym (c.in_ok-check.ensures ∙ (λ i. file_refusal (barred i) (c.fits.ensures i) (permitted i)));
+      let x = c.args.current.now in
+      let e = c.args.number in
+      let entry = c.args.entry.now in
+      let bit = c.args.need.bit in
+      let path = path_of (table m) e in
+      let card = c.requires.kept.card in
+      let barred : c.in_ok-is_barred_at.field-0 ≡ is_barred (card_of m).tree path =
+      c.in_ok-is_barred_at.ensures.barred ∙ sym (ap (λ (tree : Tree). is_barred tree path) (card-tree m)) in
+      let permitted : c.in_ok-allows_at.field-0 ≡ allowed (card_of m) (session_of (table m) x) path bit =
+      c.in_ok-allows_at.ensures.told
+      ∙ ap (λ (l : List ℕ). is_allowed_by entry bit x.verified (disabled_in l))
+      c.is_barred_at.ensures.store.only.keeps.committed_words
+      ∙ allowed_by_there m card.tree.entries e c.requires.used entry c.requires.entry bit x.verified (disabled_in m)
+      ∙ allowed-by-marks m card x c.requires.kept.current.marks e bit in
+      sym (c.in_ok-check.ensures ∙ (λ i. file_refusal (barred i) (c.fits.ensures i) (permitted i)));
   store = reads_on _ _ _ _ c.is_barred_at.ensures.store.only c.in_ok-allows_at.ensures.store;
 }
 
 pub returns-in_err-check : goal.returns-in_err-check
 returns-in_err-check g c = record {
   told = let m = committed c.args.store.now in
-        let x = c.args.current.now in
-        let e = c.args.number in
-        let entry = c.args.entry.now in
-        let bit = c.args.need.bit in
-        let path = path_of (table m) e in
-        let card = c.requires.kept.card in
-        let barred : c.in_ok-is_barred_at.field-0 ≡ is_barred (card_of m).tree path =
-        c.in_ok-is_barred_at.ensures.barred ∙ sym (ap (λ (tree : Tree). is_barred tree path) (card-tree m)) in
-        let permitted : c.in_ok-allows_at.field-0 ≡ allowed (card_of m) (session_of (table m) x) path bit =
-        c.in_ok-allows_at.ensures.told
-        ∙ ap (λ (l : List ℕ). is_allowed_by entry bit x.verified (disabled_in l))
-        c.is_barred_at.ensures.store.only.keeps.committed_words
-        ∙ allowed_by_there m card.tree.entries e c.requires.used entry c.requires.entry bit x.verified (disabled_in m)
-        ∙ allowed-by-marks m card x c.requires.kept.current.marks e bit in
-        finds-stopped _ (Refused c.in_err-check.field-0.0) c.from_residual-in_err-check.ensures.1 _ _
-        (sym (c.in_err-check.ensures ∙ (λ i. file_refusal (barred i) (c.fits.ensures i) (permitted i))));
+      let x = c.args.current.now in
+      let e = c.args.number in
+      let entry = c.args.entry.now in
+      let bit = c.args.need.bit in
+      let path = path_of (table m) e in
+      let card = c.requires.kept.card in
+      let barred : c.in_ok-is_barred_at.field-0 ≡ is_barred (card_of m).tree path =
+      c.in_ok-is_barred_at.ensures.barred ∙ sym (ap (λ (tree : Tree). is_barred tree path) (card-tree m)) in
+      let permitted : c.in_ok-allows_at.field-0 ≡ allowed (card_of m) (session_of (table m) x) path bit =
+      c.in_ok-allows_at.ensures.told
+      ∙ ap (λ (l : List ℕ). is_allowed_by entry bit x.verified (disabled_in l))
+      c.is_barred_at.ensures.store.only.keeps.committed_words
+      ∙ allowed_by_there m card.tree.entries e c.requires.used entry c.requires.entry bit x.verified (disabled_in m)
+      ∙ allowed-by-marks m card x c.requires.kept.current.marks e bit in
+      finds-stopped _ (Refused c.in_err-check.field-0.0) c.from_residual-in_err-check.ensures.1 _ _
+      (sym (c.in_err-check.ensures ∙ (λ i. file_refusal (barred i) (c.fits.ensures i) (permitted i))));
   store = reads-stopped _ (Refused c.in_err-check.field-0.0) c.from_residual-in_err-check.ensures.1 _ _
-        (reads_on _ _ _ _ c.is_barred_at.ensures.store.only c.in_ok-allows_at.ensures.store);
+      (reads_on _ _ _ _ c.is_barred_at.ensures.store.only c.in_ok-allows_at.ensures.store);
 }
 
 pub returns-in_err-allows_at : goal.returns-in_err-allows_at
 returns-in_err-allows_at g c = record {
   told = search rules;
   store = reads-stopped _ (Failed c.in_err-allows_at.field-0.0) c.from_residual-in_err-allows_at.ensures.1 _ _
-        (reads_on _ _ _ _ c.is_barred_at.ensures.store.only c.in_err-allows_at.ensures.store);
+      (reads_on _ _ _ _ c.is_barred_at.ensures.store.only c.in_err-allows_at.ensures.store);
 }

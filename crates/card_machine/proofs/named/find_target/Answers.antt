@@ -17,23 +17,23 @@ use Rattle.card_machine.proofs.named.find_target.Goals as goal
 pub returns-in-Current-clause-found : goal.returns-in-Current-clause-found
 returns-in-Current-clause-found g c = record {
   told = let m = committed c.args.store.now in
-        ap (λ (target : Target). target_of (card_of m).tree
-        (session_of (table m) c.args.current.now) target) c.in-Current.is
-        ∙ current-path m c.requires.kept.card c.args.current.now c.requires.kept.current;
+      ap (λ (target : Target). target_of (card_of m).tree
+      (session_of (table m) c.args.current.now) target) c.in-Current.is
+      ∙ current-path m c.requires.kept.card c.args.current.now c.requires.kept.current;
   store = search rules;
 }
 
 pub returns-in-Short-clause-found : goal.returns-in-Short-clause-found
 returns-in-Short-clause-found g c = record {
   told = let m = committed c.args.store.now in
-        let t = table m in
-        let df = path_of t c.args.current.now.df in
-        let n = c.in-Short.short in
-        IfOk-weaker c.find_short.result
-        (λ (found : Option ℕ). option_map (path_of t) found ≡ child_by_short (tree_of m) df n) _ (λ found is.
-        ap (λ (target : Target). target_of (card_of m).tree (session_of t c.args.current.now) target) c.in-Short.is
-        ∙ ap (λ (tree : Tree). child_by_short tree df n) (card-tree m) ∙ sym is)
-        c.find_short.ensures.found;
+      let t = table m in
+      let df = path_of t c.args.current.now.df in
+      let n = c.in-Short.short in
+      IfOk-weaker c.find_short.result
+      (λ (found : Option ℕ). option_map (path_of t) found ≡ child_by_short (tree_of m) df n) _ (λ found is.
+      ap (λ (target : Target). target_of (card_of m).tree (session_of t c.args.current.now) target) c.in-Short.is
+      ∙ ap (λ (tree : Tree). child_by_short tree df n) (card-tree m) ∙ sym is)
+      c.find_short.ensures.found;
   store = search rules;
 }
 
