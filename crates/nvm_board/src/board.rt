@@ -1,7 +1,7 @@
 //! What a board is: its calls, and what each does to its words, its light and its counts.
 ghost use Rattle.std.specs.Prelude.{◌≡◌, ◌<◌, ◌≤◌, ◌↔◌, true, false, length, IsErr, OnOk, OnErr};
-ghost use Rattle.nvm_board.specs.declared.board.TheConstants.{SECRETS, COUNT_END};
-ghost use Rattle.nvm_board.specs.Facts.{Facts, AreWords, CountsFit, IsWornOut, address, pages_of, IsMemory};
+ghost use Rattle.nvm_board.specs.declared.board.TheConstants.{SECRETS};
+ghost use Rattle.nvm_board.specs.Facts.{Facts, IsBoard, IsWornOut, address, pages_of};
 ghost use Rattle.nvm_board.specs.Aims.{due_of};
 ghost use Rattle.nvm_board.specs.Calls.{TellsWord, FitsPage, Writes, Compares, Arms};
 
@@ -68,21 +68,8 @@ pub trait Board {
         requires { secret < SECRETS }
         ensures { Compares secret kept.now shown.now (facts self.old) (facts self.new) result };
 
-    /// Each board has whole pages, 1,024 to 4,096.
-    ghost sized: { (board : Self) → IsMemory (facts board).words };
-
-    /// Each of them has 32 bits.
-    ghost words_fit: { (board : Self) → AreWords (facts board).words };
-
-    /// Each board counts the comparisons of each secret, and its matches.
-    ghost counted: { (board : Self)
-        → (length (facts board).compares ≡ SECRETS) × (length (facts board).matches ≡ SECRETS) };
-
-    /// No count is past its end.
-    ghost counts_fit: { (board : Self) → CountsFit (facts board) };
-
-    /// A lit board can count one more cut.
-    ghost may_go: { (board : Self) → (facts board).dark ≡ false → (facts board).cuts < COUNT_END };
+    /// What each board is at any time.
+    ghost is_board: { (board : Self) → IsBoard (facts board) };
 }
 
 /// A board whose power comes and goes by call. Its words stay.

@@ -11,15 +11,15 @@ returns-in-Ok-clause-factory g c = factory-written Two _ _ _ c.pages-end.ensures
 
 pub returns-in-Ok-clause-stands : goal.returns-in-Ok-clause-stands
 returns-in-Ok-clause-stands g c =
-    stands-factory Two _ (g.met.B.Board.sized _) (returns-in-Ok-clause-factory g c)
+    stands-factory Two _ (g.met.B.Board.is_board _).sized (returns-in-Ok-clause-factory g c)
 
 pub returns-in-Ok-clause-found : goal.returns-in-Ok-clause-found
 returns-in-Ok-clause-found g c =
     let stands = returns-in-Ok-clause-stands g c in
-    stands-found _ (g.met.B.Board.sized _) stands.shut (factory_card _) stands
+    stands-found _ (g.met.B.Board.is_board _).sized stands.shut (factory_card _) stands
 
 pub returns-in-Ok-clause-space : goal.returns-in-Ok-clause-space
 returns-in-Ok-clause-space g c =
     let finds = returns-in-Ok-clause-found g c in
     ap (λ (card : Card). card_space card) finds.card
-    ∙ space-of-factory Two _ (g.met.B.Board.sized _) (returns-in-Ok-clause-factory g c)
+    ∙ space-of-factory Two _ (g.met.B.Board.is_board _).sized (returns-in-Ok-clause-factory g c)
