@@ -2,7 +2,7 @@
 ghost use Rattle.std.specs.Prelude.{◌≡◌, ◌<◌, ◌≤◌, ◌↔◌, true, false, length, IsErr, OnOk, OnErr};
 ghost use Rattle.nvm_board.specs.declared.board.TheConstants.{SECRETS};
 ghost use Rattle.nvm_board.specs.Facts.{Facts, IsBoard, IsWornOut, address, pages_of};
-ghost use Rattle.nvm_board.specs.Aims.{due_of};
+ghost use Rattle.nvm_board.specs.Aims.{HasNoFault};
 ghost use Rattle.nvm_board.specs.Calls.{TellsWord, FitsPage, Writes, Compares, Arms};
 
 /// Pages of a board at least.
@@ -97,17 +97,13 @@ pub trait Armed: Socket {
 
 /// A board that has no faults, and loses power by the cut alone that is set on it, or where a count stands at its end.
 pub trait Faultless: Board {
-    /// No fault is counted.
-    ghost faultless: { (board : Self) → (Self.facts board).faults ≡ 0 };
-
-    /// A cut is due where one is set, and only there.
-    ghost cut_due: { (board : Self) → (Self.facts board).due ≡ due_of (Self.facts board).pending };
+    /// No fault is counted, and a cut is due where one is set.
+    ghost faultless: { (board : Self) → HasNoFault (Self.facts board) };
 }
 
 /// Tells that a board counts no fault, and that a cut is due where one is set.
 pub fn has_no_fault<B: Faultless>(board: &B)
-    ensures faults { (B.facts board.now).faults ≡ 0 }
-    ensures due { (B.facts board.now).due ≡ due_of (B.facts board.now).pending }
+    ensures { HasNoFault (B.facts board.now) }
 {
     // Only its law is asked for.
     let _ = board;

@@ -180,7 +180,5 @@ impl Armed for CutBoard {
 impl Faultless for CutBoard {
     ghost use Rattle.std.specs.Prelude.{refl};
 
-    ghost faultless = { λ b. refl };
-
-    ghost cut_due = { λ b. refl };
+    ghost faultless = { λ b. record { faults = refl; due = refl } };
 }

@@ -243,9 +243,7 @@ impl Socket for RamBoard {
 impl Faultless for RamBoard {
     ghost use Rattle.std.specs.Prelude.{refl};
 
-    ghost faultless = { λ b. refl };
-
-    ghost cut_due = { λ b. refl };
+    ghost faultless = { λ b. record { faults = refl; due = refl } };
 }
 
 /// A word's place among all words.
