@@ -14,6 +14,11 @@ pub record Aim : Type 0 where
 abbrev pub due_of : Option Arm → ℕ
 due_of arm = if is_some arm then 1 else 0
 
+-- no fault is counted, and a cut is due where one is set, and only there
+pub record HasNoFault (f : Facts) : Type 0 where
+  pub faults : f.faults ≡ 0
+  pub due : f.due ≡ due_of f.pending
+
 -- Where the cut falls that is set on a board: so many whole writes come before it.
 -- An arm of which no cut is due sets none.
 abbrev pub aim : Facts → Option Aim

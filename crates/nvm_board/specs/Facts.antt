@@ -60,6 +60,15 @@ pub record CountsFit (f : Facts) : Type 0 where
   pub compares : All (λ n. n ≤ COUNT_END) f.compares
   pub matches : All (λ n. n ≤ COUNT_END) f.matches
 
+-- What each board is at any time: it has whole pages of words of 32 bits, counts the comparisons of each secret and its
+-- matches, no count is past its end, and a lit one can count one more cut.
+pub record IsBoard (f : Facts) : Type 0 where
+  pub sized : IsMemory f.words
+  pub words_fit : AreWords f.words
+  pub counted : (length f.compares ≡ SECRETS) × (length f.matches ≡ SECRETS)
+  pub counts_fit : CountsFit f
+  pub may_go : f.dark ≡ false → f.cuts < COUNT_END
+
 -- a count that a call may raise, other than the cuts, stands at its end
 abbrev pub IsWorn : Facts → Type 0
 IsWorn f = (f.faults ≡ COUNT_END) ⊎ (f.writes ≡ COUNT_END) ⊎ Contains f.compares COUNT_END

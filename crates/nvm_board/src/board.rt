@@ -1,8 +1,8 @@
 //! What a board is: its calls, and what each does to its words, its light and its counts.
 ghost use Rattle.std.specs.Prelude.{◌≡◌, ◌<◌, ◌≤◌, ◌↔◌, true, false, length, IsErr, OnOk, OnErr};
-ghost use Rattle.nvm_board.specs.declared.board.TheConstants.{SECRETS, COUNT_END};
-ghost use Rattle.nvm_board.specs.Facts.{Facts, AreWords, CountsFit, IsWornOut, address, pages_of, IsMemory};
-ghost use Rattle.nvm_board.specs.Aims.{due_of};
+ghost use Rattle.nvm_board.specs.declared.board.TheConstants.{SECRETS};
+ghost use Rattle.nvm_board.specs.Facts.{Facts, IsBoard, IsWornOut, address, pages_of};
+ghost use Rattle.nvm_board.specs.Aims.{HasNoFault};
 ghost use Rattle.nvm_board.specs.Calls.{TellsWord, FitsPage, Writes, Compares, Arms};
 
 /// Pages of a board at least.
@@ -68,21 +68,8 @@ pub trait Board {
         requires { secret < SECRETS }
         ensures { Compares secret kept.now shown.now (facts self.old) (facts self.new) result };
 
-    /// Each board has whole pages, 1,024 to 4,096.
-    ghost sized: { (board : Self) → IsMemory (facts board).words };
-
-    /// Each of them has 32 bits.
-    ghost words_fit: { (board : Self) → AreWords (facts board).words };
-
-    /// Each board counts the comparisons of each secret, and its matches.
-    ghost counted: { (board : Self)
-        → (length (facts board).compares ≡ SECRETS) × (length (facts board).matches ≡ SECRETS) };
-
-    /// No count is past its end.
-    ghost counts_fit: { (board : Self) → CountsFit (facts board) };
-
-    /// A lit board can count one more cut.
-    ghost may_go: { (board : Self) → (facts board).dark ≡ false → (facts board).cuts < COUNT_END };
+    /// What each board is at any time.
+    ghost is_board: { (board : Self) → IsBoard (facts board) };
 }
 
 /// A board whose power comes and goes by call. Its words stay.
@@ -110,17 +97,13 @@ pub trait Armed: Socket {
 
 /// A board that has no faults, and loses power by the cut alone that is set on it, or where a count stands at its end.
 pub trait Faultless: Board {
-    /// No fault is counted.
-    ghost faultless: { (board : Self) → (Self.facts board).faults ≡ 0 };
-
-    /// A cut is due where one is set, and only there.
-    ghost cut_due: { (board : Self) → (Self.facts board).due ≡ due_of (Self.facts board).pending };
+    /// No fault is counted, and a cut is due where one is set.
+    ghost faultless: { (board : Self) → HasNoFault (Self.facts board) };
 }
 
 /// Tells that a board counts no fault, and that a cut is due where one is set.
 pub fn has_no_fault<B: Faultless>(board: &B)
-    ensures faults { (B.facts board.now).faults ≡ 0 }
-    ensures due { (B.facts board.now).due ≡ due_of (B.facts board.now).pending }
+    ensures { HasNoFault (B.facts board.now) }
 {
     // Only its law is asked for.
     let _ = board;

@@ -106,7 +106,7 @@ impl Board for CutBoard {
     ghost use Rattle.nvm_board.specs.Calls.{TellsWord, FitsPage, Compares};
     ghost use Rattle.nvm_board.specs.Facts.{address};
     ghost use Rattle.nvm_board.specs.Cut.{cut_facts, WritesOrTears};
-    ghost use Rattle.nvm_board.specs.laws.Counts.{cut_counts_fit, ram_memory};
+    ghost use Rattle.nvm_board.specs.laws.Counts.{cut_is_board};
 
     ghost facts = { cut_facts };
 
@@ -147,15 +147,7 @@ impl Board for CutBoard {
         self.ram.compare(secret, kept, shown)
     }
 
-    ghost sized = { λ b. ram_memory b.ram };
-
-    ghost words_fit = { λ b. b.ram.words_fit };
-
-    ghost counted = { λ b. (b.ram.compares_counted, b.ram.matches_counted) };
-
-    ghost counts_fit = { cut_counts_fit };
-
-    ghost may_go = { λ b. b.ram.may_go };
+    ghost is_board = { cut_is_board };
 }
 
 impl Socket for CutBoard {
@@ -188,7 +180,5 @@ impl Armed for CutBoard {
 impl Faultless for CutBoard {
     ghost use Rattle.std.specs.Prelude.{refl};
 
-    ghost faultless = { λ b. refl };
-
-    ghost cut_due = { λ b. refl };
+    ghost faultless = { λ b. record { faults = refl; due = refl } };
 }

@@ -194,7 +194,7 @@ impl Board for FaultBoard {
     ghost use Rattle.nvm_board.specs.Calls.{TellsWord, FitsPage, Writes, Compares};
     ghost use Rattle.nvm_board.specs.Facts.{address};
     ghost use Rattle.nvm_board.specs.Faulty.{fault_facts, counting, AfterCall, AfterWrite};
-    ghost use Rattle.nvm_board.specs.laws.Counts.{fault_counts_fit, ram_memory};
+    ghost use Rattle.nvm_board.specs.laws.Counts.{fault_is_board};
 
     ghost facts = { fault_facts };
 
@@ -250,15 +250,7 @@ impl Board for FaultBoard {
         Ok(equal)
     }
 
-    ghost sized = { λ b. ram_memory b.ram };
-
-    ghost words_fit = { λ b. b.ram.words_fit };
-
-    ghost counted = { λ b. (b.ram.compares_counted, b.ram.matches_counted) };
-
-    ghost counts_fit = { fault_counts_fit };
-
-    ghost may_go = { λ b. b.ram.may_go };
+    ghost is_board = { fault_is_board };
 }
 
 impl Socket for FaultBoard {

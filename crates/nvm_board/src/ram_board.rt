@@ -172,7 +172,7 @@ impl Board for RamBoard {
     ghost use Rattle.nvm_board.specs.Calls.{FitsPage, Writes};
     ghost use Rattle.nvm_board.specs.Facts.{address};
     ghost use Rattle.nvm_board.specs.Ram.{ram_facts};
-    ghost use Rattle.nvm_board.specs.laws.Counts.{ram_counts_fit, ram_memory};
+    ghost use Rattle.nvm_board.specs.laws.Counts.{ram_is_board};
 
     ghost facts = { ram_facts };
 
@@ -223,15 +223,7 @@ impl Board for RamBoard {
         Ok(equal)
     }
 
-    ghost sized = { ram_memory };
-
-    ghost words_fit = { λ b. b.words_fit };
-
-    ghost counted = { λ b. (b.compares_counted, b.matches_counted) };
-
-    ghost counts_fit = { ram_counts_fit };
-
-    ghost may_go = { λ b. b.may_go };
+    ghost is_board = { ram_is_board };
 }
 
 impl Socket for RamBoard {
@@ -251,9 +243,7 @@ impl Socket for RamBoard {
 impl Faultless for RamBoard {
     ghost use Rattle.std.specs.Prelude.{refl};
 
-    ghost faultless = { λ b. refl };
-
-    ghost cut_due = { λ b. refl };
+    ghost faultless = { λ b. record { faults = refl; due = refl } };
 }
 
 /// A word's place among all words.

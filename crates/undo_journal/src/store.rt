@@ -4,7 +4,7 @@ ghost use Rattle.std.specs.Prelude.{OnOk, OnErr, IsErrOf, Some, true, slice_inde
 ghost use Rattle.std.specs.Option.{option_or};
 ghost use Rattle.std.specs.Result.{result_err};
 ghost use Rattle.nvm_board.specs.declared.board.TheConstants.{PAGE_WORDS, SECRETS};
-ghost use Rattle.nvm_board.specs.Aims.{AimStays, due_of};
+ghost use Rattle.nvm_board.specs.Aims.{AimStays, HasNoFault};
 ghost use Rattle.nvm_board.specs.Facts.{Steady, RisesAt, address, raised, pages_of};
 ghost use Rattle.nvm_board.specs.Torn.{Torn, written};
 ghost use Rattle.undo_journal.specs.declared.layout.TheConstants.{PAIRS};
@@ -344,8 +344,7 @@ impl<B: Armed> Store<B> {
 impl<B: Faultless> Store<B> {
     /// Tells that the board counts no fault, and that a cut is due where one is set.
     pub fn has_no_fault(&self)
-        ensures faults { self.now.facts.faults ≡ 0 }
-        ensures due { self.now.facts.due ≡ due_of self.now.facts.pending }
+        ensures { HasNoFault self.now.facts }
     {
         has_no_fault(&self.board);
     }

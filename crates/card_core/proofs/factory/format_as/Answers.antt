@@ -11,7 +11,7 @@ pub returns-in-Ok : goal.returns-in-Ok
 returns-in-Ok g c =
     let format = c.args.format in
     let m = (g.B.Board.facts c.args.board).words in
-    let sized = g.met.B.Board.sized _ in
+    let sized = (g.met.B.Board.is_board _).sized in
     let end_is : c.match-format.end ≡ factory_end format m = elim c.match-format.branch [
       | in-One w ↦ w.end-is ∙ sym (ap (λ (f : MemoryFormat). factory_end f m) w.in-One.is)
       | in-Two w ↦ w.end-is ∙ w.pages-end.ensures ∙ sym (ap (λ (f : MemoryFormat). factory_end f m) w.in-Two.is)

@@ -33,7 +33,7 @@ write_pages-requires-clause-inside g c =
 pub write_pages-requires-clause-header : goal.write_pages-requires-clause-header
 write_pages-requires-clause-header g c =
     let m = (g.B.Board.facts c.args.board.now).words in
-    let within = page_within m HEADER_PAGE (g.met.B.Board.sized c.args.board.now)
+    let within = page_within m HEADER_PAGE (g.met.B.Board.is_board c.args.board.now).sized
     (omega (arith, c.requires.least, c.requires.inside)) in
     let whole : length c.header.result ≡ 16 = ap length c.header.ensures ∙ length-header c.args.format c.args.end in
     ap (λ words. page_words words HEADER_PAGE) c.in_ok-write.ensures.done

@@ -18,7 +18,7 @@ loop-page-preserved g c =
     let m = (g.B.Board.facts c.loop-page.board).words in
     let first = (g.B.Board.facts c.args.board.now).words in
     let pages = pages_same first m c.loop-page.invariant.size in
-    let within = page_within m c.loop-page.page (g.met.B.Board.sized c.loop-page.board)
+    let within = page_within m c.loop-page.page (g.met.B.Board.is_board c.loop-page.board).sized
     (omega (arith, pages, c.loop-page-test.true, c.requires.inside)) in
     let whole : length c.factory_page.result ≡ 16 = ap length c.factory_page.ensures.words
     ∙ length-factory_page c.args.format c.args.end c.loop-page.page in

@@ -72,7 +72,7 @@ returns-in_err-put_back-clause-kept g c =
 pub returns-clause-kept : goal.returns-clause-kept
 returns-clause-kept g c =
     let m = (g.B.Board.facts c.args.board.now).words in
-    let within : GATE < length m = omega (arith, least_words _ (g.met.B.Board.sized c.args.board.now)) in
+    let within : GATE < length m = omega (arith, least_words _ (g.met.B.Board.is_board c.args.board.now).sized) in
     let none : c.loop-left.left ≡ 0 = omega arith in
     end-kept m _ c.requires.sound c.loop-left.left c.loop-left.invariant.so_far _ within none
     c.write_gate.ensures.torn
@@ -80,7 +80,7 @@ returns-clause-kept g c =
 pub returns-clause-done : goal.returns-clause-done
 returns-clause-done g c =
     let m = (g.B.Board.facts c.args.board.now).words in
-    let within : GATE < length m = omega (arith, least_words _ (g.met.B.Board.sized c.args.board.now)) in
+    let within : GATE < length m = omega (arith, least_words _ (g.met.B.Board.is_board c.args.board.now).sized) in
     let none : c.loop-left.left ≡ 0 = omega arith in
     on_ok_weaker c.write_gate.result
     (λ done.
@@ -98,7 +98,7 @@ returns-in_err-put_back-clause-sound g c =
 pub returns-clause-sound : goal.returns-clause-sound
 returns-clause-sound g c =
     let m = (g.B.Board.facts c.args.board.now).words in
-    let within : GATE < length m = omega (arith, least_words _ (g.met.B.Board.sized c.args.board.now)) in
+    let within : GATE < length m = omega (arith, least_words _ (g.met.B.Board.is_board c.args.board.now).sized) in
     let none : c.loop-left.left ≡ 0 = omega arith in
     end-sound m _ c.requires.sound c.loop-left.left c.loop-left.invariant.so_far _ within none
     c.write_gate.ensures.torn

@@ -50,7 +50,7 @@ returns-in-Ok-clause-store g c =
     let done = c.finish-answer.ensures in
     let fresh = c.new-self-inside.ensures in
     noted-changes _ _ _ c.self.view_is c.self.invariant works _ _ c.noted.ensures.answer c.noted.ensures.failed
-    done.light _ (g.met.B.Board.sized _) (g.met.B.Board.words_fit _) done.sound done.shut
+    done.light _ (g.met.B.Board.is_board _).sized (g.met.B.Board.is_board _).words_fit done.sound done.shut
     (new-idle _ _ fresh.used fresh.waiting)
     (subst (λ (m : Memory). WritesAtMost (commit_writes m) before after) c.self.view_is done.writes)
 

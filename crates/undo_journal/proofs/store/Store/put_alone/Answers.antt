@@ -49,7 +49,7 @@ pub returns-clause-store : goal.returns-clause-store
 returns-clause-store g c =
     let works = c.in_ok-check.ensures.ready.works in
     noted-changes _ _ _ c.self.view_is c.self.invariant works _ _ c.noted.ensures.answer c.noted.ensures.failed
-    c.write_word-answer.ensures.light 1 (g.met.B.Board.sized _) (g.met.B.Board.words_fit _)
+    c.write_word-answer.ensures.light 1 (g.met.B.Board.is_board _).sized (g.met.B.Board.is_board _).words_fit
     (one-sound _ _ c.self.view_is c.self.invariant works c.requires.idle c.args.at c.args.word c.requires.place _
     c.write_word-answer.ensures.torn)
     (on_ok_weaker c.write_word-answer.result

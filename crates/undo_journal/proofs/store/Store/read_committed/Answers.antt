@@ -69,7 +69,7 @@ returns-clause-store g c =
           })
           refl refl;
       ready = noted-ready _ _ _ c.self.view_is c.self.invariant works _ _ c.noted.ensures.answer c.noted.ensures.failed
-          kept.light (g.met.B.Board.sized _) (g.met.B.Board.words_fit _)
+          kept.light (g.met.B.Board.is_board _).sized (g.met.B.Board.is_board _).words_fit
           (always _ _ (ap gate kept.words ∙ held.counts ∙ none)) unused;
       tells = noted_tells _ _ _ (ap (λ (m : Memory). m.failed) c.self.view_is ∙ works) c.noted.ensures.failed;
     }

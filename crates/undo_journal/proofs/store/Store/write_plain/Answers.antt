@@ -16,7 +16,7 @@ write-answer-requires g c =
     let place = board-run c.args.self.now _ at (length c.args.words.now)
     (ap (λ (m : Memory). m.facts.words) c.self.view_is) c.requires.place in
     record {
-      page = page_of_run _ c.args.page c.args.first (length c.args.words.now) (g.met.B.Board.sized _) c.requires.some
+      page = page_of_run _ c.args.page c.args.first (length c.args.words.now) (g.met.B.Board.is_board _).sized c.requires.some
           place.1;
       some = c.requires.some;
       run = c.requires.run;
@@ -59,7 +59,7 @@ returns-clause-store g c =
     let works = c.in_ok-check.ensures.ready.works in
     let at = address c.args.page c.args.first in
     noted-changes _ _ _ c.self.view_is c.self.invariant works _ _ c.noted.ensures.answer c.noted.ensures.failed
-    c.write-answer.ensures.light 1 (g.met.B.Board.sized _) (g.met.B.Board.words_fit _)
+    c.write-answer.ensures.light 1 (g.met.B.Board.is_board _).sized (g.met.B.Board.is_board _).words_fit
     (run-sound _ _ c.self.view_is c.self.invariant works c.requires.idle at c.args.words.now c.requires.place _
     c.write-answer.ensures.torn)
     (always _ _ (run-gate _ _ c.self.view_is c.self.invariant works c.requires.idle at c.args.words.now c.requires.place
