@@ -23,15 +23,6 @@ use nvm_board::CutBoard;
 use std::alloc::{AllocError, Global};
 use t1_link::BlockBytes;
 
-/// Why a sweep comes to its end before all is tried.
-#[derive(Clone, Copy)]
-enum Stop {
-    /// There is too little memory.
-    Memory,
-    /// No further run can be counted.
-    Full,
-}
-
 /// What a sweep tries: a command, behind a preparation, on copies of a board; then starts that are cut too, at most so
 /// many; and then the probe.
 #[derive(Clone, Copy)]
@@ -42,6 +33,15 @@ struct Plan<'a> {
     command: &'a [u8],
     probe: &'a [Turn<'a>],
     depth: u8,
+}
+
+/// Why a sweep comes to its end before all is tried.
+#[derive(Clone, Copy)]
+enum Stop {
+    /// There is too little memory.
+    Memory,
+    /// No further run can be counted.
+    Full,
 }
 
 impl From<AllocError> for Stop {

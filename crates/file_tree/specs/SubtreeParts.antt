@@ -1,4 +1,5 @@
--- What single steps of the change of an index, and of a deletion, find. No public clause names this.
+-- Steps from files to their parents, which the change of an index and a deletion make. Of public clauses only that of
+-- `is_within` names these, which the crate of the changes alone calls.
 use Rattle.std.specs.Prelude.{◌≡◌, ◌==◌, ◌<◌, ◌||◌, ℕ, zero, suc, Bool, List}
 use Rattle.file_tree.specs.declared.entry.Entry.{Entry}
 use Rattle.file_tree.specs.Table.{entry_in}

@@ -11,7 +11,8 @@ use Rattle.pin_store.specs.Pins.{Pin, owner}
 use Rattle.pin_store.specs.Pages.{ArePinPages, SetsPin, pin_at}
 use Rattle.pin_store.specs.Trials.{pin_in}
 
--- Within a transaction the PIN of a secret becomes what `set` makes of it, in so many words that lie in so many runs.
+-- Within a transaction the PIN of a secret becomes what `set` makes of it, in so many words, which lie in so many runs
+-- (`spans`). A commit of them alone takes the device writes of such a transaction.
 pub record SetsIts {B : Type 0} (words spans secret : ℕ) (set : Pin → Pin) (old new : Txn B)
     (result : Result (Unit {0}) StoreErr) : Type 0 where
   pub done : OnOk result (SetsPin (current (memory_of old)) (owner secret)

@@ -84,7 +84,8 @@ module _ (t : List Entry) (rules : IsTable t) (top : ℕ) (above : 0 < top) (use
 
   -- the master file is below no other file
   pub master_out : (n f : ℕ) → f ≡ 0 → leads_up t n top f ≡ false
-  master_out zero f is = leads-none (λ e. (entry_in t e).parent) top f (λ same. let z : ⊥ = omega (arith, is, same, above) in z)
+  master_out zero f is =
+      leads-none (λ e. (entry_in t e).parent) top f (λ same. let z : ⊥ = omega (arith, is, same, above) in z)
   master_out (suc n) f is =
       leads-step (λ e. (entry_in t e).parent) n top f (λ same. let z : ⊥ = omega (arith, is, same, above) in z)
       ∙ master_out n (entry_in t f).parent (ap (λ (k : ℕ). (entry_in t k).parent) is ∙ rules.master.parent)

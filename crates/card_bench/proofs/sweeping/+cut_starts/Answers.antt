@@ -50,7 +50,8 @@ returns-then-i-eq0 t c = record {
   complete = let whole = rw c.in_default.is at c.in_ok-cut.ensures.spared in
       let more : 0 < c.args.depth = omega arith in
       IfOk-weaker c.look-then-i-eq0.result _ _
-      (λ _ complete card. counts-whole _ _ _ _ _ _ _ _ more c.if-i-eq0.true (whole card) (c.loop-i.invariant.counted card)
+      (λ _ complete card. counts-whole _ _ _ _ _ _ _ _ more c.if-i-eq0.true (whole card)
+      (c.loop-i.invariant.counted card)
       (complete card)) c.look-then-i-eq0.ensures.complete;
   full = search rules;
 }

@@ -14,5 +14,6 @@ returns-clause-spared c =
     if-none c.cut_board.result _ _
     (λ spared card. spares-command _ _ _ _ _ _ _ _ _ _ refl refl
     (c.new-bench.ensures ∙ ap off_with c.in_ok-copy.ensures.facts) c.into_board.ensures lit spared card _ _ _
-    c.args.plan.command c.in_ok-played.ensures c.arm_well.ensures.good c.arm_well.ensures.armed c.turn_well-came.ensures)
+    c.args.plan.command c.in_ok-played.ensures c.arm_well.ensures.good c.arm_well.ensures.armed
+    c.turn_well-came.ensures)
     c.cut_board.ensures.spared

@@ -35,7 +35,8 @@ pub returns : goal.returns
 returns c = record {
   given = c.loop-whole.invariant.so_far;
   complete = λ card.
-      let full : c.loop-whole.whole ≡ 2 ^ 32 - 1 = omega (arith, c.loop-whole-test.false, c.loop-whole.auto.whole-end) in
+      let full : c.loop-whole.whole ≡ 2 ^ 32 - 1 =
+      omega (arith, c.loop-whole-test.false, c.loop-whole.auto.whole-end) in
       counts-command-full _ _ _ _ _ _ _ _ full (c.loop-whole.invariant.counted card);
   full = search rules;
 }

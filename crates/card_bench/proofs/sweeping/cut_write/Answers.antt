@@ -77,7 +77,8 @@ returns-in_default-2 c = record {
       let Spares : ℕ → Type 0 = λ m. SparesCommand c.args.k m (board_of c.args.plan)
       c.args.plan.prepare.now c.args.plan.command.now in
       let few : c.loop-i.i < mask_count_of words = omega (arith, c.loop-i-test.true, c.mask_count-i-end.ensures) in
-      counts-last _ _ words c.loop-i.i _ _ _ _ _ _ few (c.loop-i.invariant.counted card) (subst Spares mask (spared card));
+      counts-last _ _ words c.loop-i.i _ _ _ _ _ _ few (c.loop-i.invariant.counted card)
+      (subst Spares mask (spared card));
   full = search rules;
 }
 

@@ -45,7 +45,8 @@ returns g c = record {
       (c.in-Some.ensures m c.requires.index) in
       beside_there (table m) c.args.df c.args.identifier c.in-Some.beside c.in_ok-other.other c.then_some.result
       c.requires.tree.entries.identifiers c.if-df-eq0.false told c.in_ok-other.ensures.entry
-      (c.then_some.ensures ∙ ap (λ (found : Bool). then_some found c.in-Some.beside) (kind_test _ _ _ c.has_kind.ensures)
+      (c.then_some.ensures ∙ ap (λ (found : Bool). then_some found c.in-Some.beside)
+      (kind_test _ _ _ c.has_kind.ensures)
       ∙ some_if (c.in_ok-other.other.kind == 1) c.in-Some.beside);
   store = c.in_ok-other.ensures.store;
 }

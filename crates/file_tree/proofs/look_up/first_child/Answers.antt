@@ -48,6 +48,7 @@ returns-then-is_child g c = record {
       let is = c.in_ok-entry.ensures.entry
       ∙ ap (λ (l : List ℕ). entry_in (table l) e) c.loop-e.invariant.reads.keeps.committed_words in
       let some : 0 < e = search rules in
-      child_there (table m) c.args.df e c.args.short c.in_ok-entry.entry is some (c.is_child.ensures.0 c.if-is_child.true);
+      child_there (table m) c.args.df e c.args.short c.in_ok-entry.entry is some
+      (c.is_child.ensures.0 c.if-is_child.true);
   store = reads_on _ _ _ _ c.loop-e.invariant.reads c.in_ok-entry.ensures.store;
 }

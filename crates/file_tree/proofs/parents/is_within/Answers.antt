@@ -12,7 +12,8 @@ loop-step-preserved g c =
       small = c.parent_of-at.type_inv;
       same = λ parent tells. c.loop-step.invariant.same parent tells ∙ ap (λ (n : ℕ). leads parent n top at) one
           ∙ leads-step parent (7 - (c.loop-step._step + 1)) top at c.if-at-top.false
-          ∙ ap (leads parent (7 - (c.loop-step._step + 1)) top) (sym (tells at _ c.loop-step.invariant.small c.parent_of-at.ensures));
+          ∙ ap (leads parent (7 - (c.loop-step._step + 1)) top)
+          (sym (tells at _ c.loop-step.invariant.small c.parent_of-at.ensures));
     }
 
 pub returns-then-at-top : goal.returns-then-at-top

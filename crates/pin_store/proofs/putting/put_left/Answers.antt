@@ -35,7 +35,8 @@ returns g c = record {
   done = on_then _ _ c.put_alone.result (λ done. set g c _ done) c.put_alone.ensures.done;
   by_gate = search rules;
   pages = λ pages. ⊎_elim (λ same. pages_stay _ _ same pages)
-      (λ done. left_pages _ _ c.args.secret c.args.left c.requires.fewer pages (set g c _ done)) c.put_alone.ensures.any_exit;
+      (λ done. left_pages _ _ c.args.secret c.args.left c.requires.fewer pages (set g c _ done))
+      c.put_alone.ensures.any_exit;
   store = search;
   counted = search rules;
 }

@@ -31,7 +31,8 @@ returns g c = record {
   store = search rules;
   counted = on_then _ _ c.set_run.result
       (λ waits idle. all_counts (pin_page (owner c.args.secret)) c.from.result c.from-2.result
-      (slice_index c.words_of.result 0) _ _ (memory_of c.set_run.new.self) c.address_of.result 0 idle c.address_of.ensures
+      (slice_index c.words_of.result 0) _ _ (memory_of c.set_run.new.self) c.address_of.result 0 idle
+      c.address_of.ensures
       (slice_index c.words_of.result 1) waits)
       c.set_run.ensures.waits;
   runs = runs_in_page (pin_page (owner c.args.secret)) 0 c.address_of.result 4 _ _ c.address_of.ensures (omega arith)

@@ -33,7 +33,8 @@ returns g c = record {
   store = sets_in_on 1 1 2 _ _ _ _ (lit< tt) c.set_run.ensures.store.sets c.set_run-2.ensures.store;
   counted = on_then _ _ c.set_run-2.result
       (λ waits idle. mark_counts (pin_page (owner c.args.secret)) c.from.result
-      c.mark_of.result 0 _ _ _ c.address_of.result c.address_of-2.result idle c.address_of.ensures c.address_of-2.ensures
+      c.mark_of.result 0 _ _ _ c.address_of.result c.address_of-2.result idle c.address_of.ensures
+      c.address_of-2.ensures
       c.in_ok-set_run.ensures.waits waits) c.set_run-2.ensures.waits;
   runs = let page = pin_page (owner c.args.secret) in
       runs_then 1 1 2 _ _ _ (lit< tt)
