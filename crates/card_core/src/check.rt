@@ -24,7 +24,7 @@ pub(crate) struct Checked {
 }
 
 /// A word of the header.
-fn header_word<B: Board>(store: &mut Store<B>, place: u16) -> Result<u32, StoreErr>
+pub(crate) fn header_word<B: Board>(store: &mut Store<B>, place: u16) -> Result<u32, StoreErr>
     requires ready { IsReady store.old }
     requires place { place < PAGE_WORDS }
     ensures { Learns store.old store.new result (λ w. w ≡ word (committed store.old) HEADER_PAGE place) }

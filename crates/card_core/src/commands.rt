@@ -1,27 +1,25 @@
 //! A command on a card: one step of the tree machine.
-ghost use Rattle.std.specs.Prelude.{◌≡◌, ◌==◌, [], OnOk};
-ghost use Rattle.undo_journal.specs.Calls.{Learns};
-ghost use Rattle.undo_journal.specs.Memory.{IsReady};
+ghost use Rattle.std.specs.Prelude.{◌≡◌, [], OnOk};
 ghost use Rattle.apdu_core.specs.Fields.{IsInRange};
 ghost use Rattle.apdu_core.specs.Requests.{request_of};
 ghost use Rattle.card_machine.specs.Served.{CarriesOut, Serves};
 ghost use Rattle.card_machine.specs.Stops.{reply};
 ghost use Rattle.card_core.specs.Lending.{IsWhole};
-ghost use Rattle.card_machine.specs.Working.{card_in, space_in, table_in};
+ghost use Rattle.card_machine.specs.Working.{space_in, table_in};
 ghost use Rattle.file_tree.specs.Indexes.{IsIndex};
 
+use crate::check::header_word;
 use crate::layout::CARD_IN_USE;
 use crate::lent::Lent;
 use crate::pins::{change_reference_data, change_requirement, reset_retry_counter, verify};
 use apdu_core::{Answer, Command, Sw};
-use block_chain::HEADER_PAGE;
 use card_contents::{
     append_record, increase, read_file, read_record, search_record, update_file, update_record,
 };
 use card_files::{change_life_cycle, create_file, delete_file, select_file, terminate_card_usage};
 use card_machine::{Stop, reply};
 use file_tree::STATE_WORD;
-use undo_journal::{Board, PAGE_WORDS, Store, StoreErr};
+use undo_journal::{Board, StoreErr};
 
 /// Carries out the bytes of a command: the data goes into `answer`, free space and index are kept, and the status word
 /// is the result. A refusal is answered by its status word.
@@ -51,19 +49,11 @@ fn obey<B: Board>(lent: &mut Lent<B>, command: &[u8], answer: &mut Answer) -> Re
     ensures index { OnOk (reply result) (IsIndex (table_in lent.new.store) lent.new.index) }
 {
     let command = Command::parse(command)?;
-    if !is_in_use(&mut lent.store)? {
+    let state = header_word(&mut lent.store, STATE_WORD)?;
+    if state != CARD_IN_USE {
         return Err(Stop::Refused(Sw::CONDITIONS_NOT_SATISFIED));
     }
     serve(lent, command, answer)
-}
-
-/// The use of the card has not ended.
-fn is_in_use<B: Board>(store: &mut Store<B>) -> Result<bool, StoreErr>
-    requires ready { IsReady store.old }
-    ensures { Learns store.old store.new result (λ in_use. in_use ≡ (card_in store.old).in_use) }
-{
-    let state = store.read(PAGE_WORDS * HEADER_PAGE + STATE_WORD)?;
-    Ok(state == CARD_IN_USE)
 }
 
 /// Carries out a command on a card that is in use. It is lent those parts of the card that it has a need of.

@@ -30,7 +30,7 @@ use Rattle.card_files.specs.FileGuards.{IsDeletable}
 use Rattle.card_machine.specs.Files.{delete_refusals, without}
 use Rattle.card_machine.specs.Guards.{allowed}
 use Rattle.card_machine.specs.Outcomes.{only_status, refused_by}
-use Rattle.card_machine.specs.Reaching.{subject_of}
+use Rattle.card_machine.specs.Reaching.{subject_of, subject_or}
 use Rattle.card_machine.specs.Sessions.{Session, at_dedicated_file, marked}
 use Rattle.card_machine.specs.Standing.{card_of, IsCard}
 use Rattle.card_machine.specs.Served.{IsDoing}
@@ -54,6 +54,16 @@ subject-current m words x current =
         ≡ path_of (table m) (unwrap_or ef x.df)
     by_file None = refl
     by_file (Some e) = refl
+
+-- what was found for a subject whose own file is that one
+pub subject-found : (m : List ℕ) → IsCard m → (x : CurrentFiles) → IsCurrent (table m) x → (own : ℕ)
+    → own ≡ unwrap_or x.ef x.df → (subject : Subject) (found : Option ℕ)
+    → subject_or (Some (path_of (table m) own)) (card_of m).tree (session_of (table m) x) subject
+    ≡ option_map (path_of (table m)) found
+    → subject_of (card_of m).tree (session_of (table m) x) subject ≡ option_map (path_of (table m)) found
+subject-found m words x current own is subject found told =
+    ap (λ (o : Option Path). subject_or o (card_of m).tree (session_of (table m) x) subject)
+    (subject-current m words x current ∙ ap (λ (e : ℕ). Some (path_of (table m) e)) (sym is)) ∙ told
 
 and_false : (b : Bool) → (b && false) ≡ false
 and_false true = refl

@@ -40,7 +40,7 @@ use Rattle.card_machine.specs.LifeCycles.{change_bit, change_refusals, changed_f
 use Rattle.card_machine.specs.LifeCycles.{current_subject, is_for}
 use Rattle.card_machine.specs.LifeCycles.{changed_card, changed_life, life_changed, no_subject, with_life_at}
 use Rattle.card_machine.specs.Outcomes.{only_status, refused_by, unless_refused}
-use Rattle.card_machine.specs.Reaching.{current_elementary}
+use Rattle.card_machine.specs.Reaching.{current_elementary, subject_or}
 use Rattle.card_machine.specs.Sessions.{Session}
 use Rattle.card_machine.specs.Selecting.{selecting}
 use Rattle.card_machine.specs.Served.{IsDoing}
@@ -88,7 +88,18 @@ current-subject m words x current = by_change
     by_change TerminateDf = refl
     by_change TerminateEf = current-path m words x current
 
--- and it is there
+-- what was found for a subject whose own file a change has
+pub changed-found : (m : List ℕ) → IsCard m → (x : Current) → IsCurrent (table m) x → (change : LifeCycleChange)
+    → (own : Option ℕ) → own ≡ current_changed x change → (subject : Subject) (found : Option ℕ)
+    → subject_or (option_map (path_of (table m)) own) (card_of m).tree (session_of (table m) x) subject
+    ≡ option_map (path_of (table m)) found
+    → changed_file (card_of m).tree (session_of (table m) x) change subject ≡ option_map (path_of (table m)) found
+changed-found m words x current change own is subject found told =
+    ap (λ (o : Option Path). subject_or o (card_of m).tree (session_of (table m) x) subject)
+    (current-subject m words x current change
+    ∙ ap (λ (o : Option ℕ). option_map (path_of (table m)) o) (sym is)) ∙ told
+
+-- and its own file is there
 pub current-there : (t : List Entry) (x : Current) → IsCurrent t x → (change : LifeCycleChange)
     → IfSome (current_changed x change) (IsUsed t)
 current-there t x current = by_change

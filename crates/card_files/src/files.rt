@@ -11,7 +11,7 @@ ghost use Rattle.card_files.specs.FileGuards.{IsDeletable, IsNewFile};
 ghost use Rattle.card_machine.specs.Files.{create_refusals, creation_bit, delete_refusals};
 ghost use Rattle.card_machine.specs.Guards.{allowed};
 ghost use Rattle.card_machine.specs.Outcomes.{refused_by};
-ghost use Rattle.card_machine.specs.Reaching.{subject_of};
+ghost use Rattle.card_machine.specs.Reaching.{subject_or};
 ghost use Rattle.card_machine.specs.Served.{Serves};
 ghost use Rattle.card_machine.specs.Stops.{Looks, reply, Checks};
 ghost use Rattle.card_machine.specs.Working.{card_in, file_refusal, session_in, space_in, table_in, IsKept};
@@ -139,7 +139,8 @@ fn find_deletable<B: Board>(
         (λ refusal. refused_by (delete_refusals (card_in store.old) (session_in store.old current.now) subject)
         ≡ Some refusal) }
 {
-    let Some(number) = find_subject(store, index, current, subject)? else {
+    let own = current.ef.unwrap_or(current.df);
+    let Some(number) = find_subject(store, index, current, Some(own), subject)? else {
         return Err(Stop::Refused(Sw::FILE_NOT_FOUND));
     };
     if number == 0 {
@@ -180,23 +181,25 @@ fn check_deletion<B: Board>(
     Ok(())
 }
 
-/// The entry of the file that a command on files is about.
+/// The entry of the file that a command on files is about: its own, where it names none.
 #[tactic(auto, using(undo_journal::specs::laws::Calls::reads_then))]
-fn find_subject<B: Board>(
+pub(crate) fn find_subject<B: Board>(
     store: &mut Store<B>,
     index: &Index,
     current: &Current,
+    own: Option<u8>,
     subject: Subject,
 ) -> Result<Option<u8>, StoreErr>
     requires kept { IsKept store.old current.now }
     requires index { IsIndex (table_in store.old) index.now }
-    ensures found { Learns store.old store.new result
-        (λ found. subject_of (card_in store.old).tree (session_in store.old current.now) subject
-        ≡ option_map (path_of (table_in store.old)) found) }
+    requires own { IfSome own (IsUsed (table_in store.old)) }
+    ensures found { Learns store.old store.new result (λ found. subject_or
+        (option_map (path_of (table_in store.old)) own) (card_in store.old).tree (session_in store.old current.now)
+        subject ≡ option_map (path_of (table_in store.old)) found) }
     ensures used { IfOk result (λ found. IfSome found (IsUsed (table_in store.old))) }
 {
     match subject {
-        Subject::Current => Ok(Some(current.ef.unwrap_or(current.df))),
+        Subject::Current => Ok(own),
         Subject::Identifier(identifier) => select(store, index, current.df, identifier),
     }
 }

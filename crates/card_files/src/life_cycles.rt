@@ -1,24 +1,24 @@
 //! Commands on life cycles: ACTIVATE FILE, DEACTIVATE FILE, TERMINATE DF, TERMINATE EF and TERMINATE CARD USAGE
 //! (ISO/IEC 7816-9).
-ghost use Rattle.std.specs.Prelude.{◌≡◌, [], Some, option_map, IfOk, IfSome, OnOk, Ok, Err};
-ghost use Rattle.undo_journal.specs.Calls.{Learns};
+ghost use Rattle.std.specs.Prelude.{◌≡◌, [], Some, OnOk, Ok, Err};
 ghost use Rattle.undo_journal.specs.Memory.{committed};
 ghost use Rattle.apdu_core.specs.Requests.{change_life_cycle as changing, terminate_card_usage as terminating};
 ghost use Rattle.file_tree.specs.Indexes.{IsIndex};
-ghost use Rattle.file_tree.specs.Table.{path_of, IsUsed};
+ghost use Rattle.file_tree.specs.Table.{IsUsed};
 ghost use Rattle.card_files.specs.Changing.{change_at, changed_by, current_changed, is_for_kind, IsChanged};
-ghost use Rattle.card_machine.specs.LifeCycles.{change_bit, change_refusals, changed_file, command_of, no_subject};
+ghost use Rattle.card_machine.specs.LifeCycles.{change_bit, change_refusals, command_of, no_subject};
 ghost use Rattle.card_machine.specs.Outcomes.{refused_by};
 ghost use Rattle.card_machine.specs.Served.{Serves};
 ghost use Rattle.card_machine.specs.Stops.{Looks, reply};
 ghost use Rattle.card_machine.specs.Working.{card_in, session_in, space_in, table_in, IsKept};
 
+use crate::files::find_subject;
 use apdu_core::{LifeCycleChange, Subject, Sw};
 use card_machine::{Current, Stop, allows};
 use card_rules::{AccessBit, LifeCycle, LifeCycleCommand};
 use file_changes::{next_life_cycle, set_life_cycle, terminate_card};
-use file_tree::{Entry, EntryKind, Index, read_entry, select};
-use undo_journal::{Board, Store, StoreErr};
+use file_tree::{Entry, EntryKind, Index, read_entry};
+use undo_journal::{Board, Store};
 
 /// A file whose life cycle a command changes: the number of its entry, the entry, and the state after the change.
 #[derive(Clone, Copy)]
@@ -80,7 +80,8 @@ fn find_change<B: Board>(
         (λ refusal. refused_by (change_refusals (card_in store.old) (session_in store.old current.now) change subject)
         ≡ Some refusal) }
 {
-    let Some(number) = find_changed(store, index, current, change, subject)? else {
+    let own = current_changed(current, change);
+    let Some(number) = find_subject(store, index, current, own, subject)? else {
         return Err(Stop::Refused(no_subject(subject)));
     };
     read_change(store, current, change, number)
@@ -131,28 +132,6 @@ fn changed_by(
         entry,
         life,
     })
-}
-
-/// The entry of the file that a command on life cycles is about.
-#[tactic(auto, using(undo_journal::specs::laws::Calls::reads_then))]
-fn find_changed<B: Board>(
-    store: &mut Store<B>,
-    index: &Index,
-    current: &Current,
-    change: LifeCycleChange,
-    subject: Subject,
-) -> Result<Option<u8>, StoreErr>
-    requires kept { IsKept store.old current.now }
-    requires index { IsIndex (table_in store.old) index.now }
-    ensures found { Learns store.old store.new result
-        (λ found. changed_file (card_in store.old).tree (session_in store.old current.now) change subject
-        ≡ option_map (path_of (table_in store.old)) found) }
-    ensures used { IfOk result (λ found. IfSome found (IsUsed (table_in store.old))) }
-{
-    match subject {
-        Subject::Current => Ok(current_changed(current, change)),
-        Subject::Identifier(identifier) => select(store, index, current.df, identifier),
-    }
 }
 
 /// The entry of the file that a command is about where it names none.

@@ -22,7 +22,7 @@ use Rattle.card_machine.specs.Behaviours.{Behaviour, changes}
 use Rattle.card_machine.specs.Cards.{Card, Kind, Path, Tree, dedicated, elementary, file_at}
 use Rattle.card_machine.specs.Guards.{denied, no_next_life}
 use Rattle.card_machine.specs.Outcomes.{Outcome, Refusals, no_refusals, only_status}
-use Rattle.card_machine.specs.Reaching.{current_elementary, subject_of}
+use Rattle.card_machine.specs.Reaching.{current_elementary, subject_or}
 use Rattle.card_machine.specs.Selecting.{selecting}
 use Rattle.card_machine.specs.Sessions.{Session}
 
@@ -58,8 +58,7 @@ current_subject s Activate = Some (unwrap_or (current_elementary s) s.current_df
 current_subject s Deactivate = Some (unwrap_or (current_elementary s) s.current_df)
 
 abbrev pub changed_file : Tree → Session → LifeCycleChange → Subject → Option Path
-changed_file tree s change Current = current_subject s change
-changed_file tree s change (Identifier id) = subject_of tree s (Identifier id)
+changed_file tree s change = subject_or (current_subject s change) tree s
 
 -- its path; where there is none, the command is refused
 abbrev pub changed_path : Card → Session → LifeCycleChange → Subject → Path

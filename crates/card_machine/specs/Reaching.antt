@@ -33,8 +33,12 @@ abbrev pub target_of : Tree → Session → Target → Option Path
 target_of tree s Current = current_elementary s
 target_of tree s (Short n) = child_by_short tree s.current_df n
 
--- the file that a command on files is about: the current elementary file, else the current dedicated file; or the one
--- that SELECT would reach by an identifier
+-- the file that a command on files is about: its own, where it names none; or the one that SELECT would reach by an
+-- identifier
+abbrev pub subject_or : Option Path → Tree → Session → Subject → Option Path
+subject_or own tree s subject.Current = own
+subject_or own tree s (subject.Identifier id) = reached tree s.current_df id
+
+-- its own is the current elementary file, else the current dedicated file
 abbrev pub subject_of : Tree → Session → Subject → Option Path
-subject_of tree s subject.Current = Some (unwrap_or (current_elementary s) s.current_df)
-subject_of tree s (subject.Identifier id) = reached tree s.current_df id
+subject_of tree s = subject_or (Some (unwrap_or (current_elementary s) s.current_df)) tree s

@@ -1,10 +1,12 @@
-use Rattle.std.proofs.Common.{◌∙◌, List, ℕ, Ok, Err, sym, subst, Result}
+use Rattle.std.proofs.Common.{◌∙◌, ◌==◌, List, ℕ, Ok, Err, ap, sym, subst, Result}
+use Rattle.std.proofs.lemmas.Bool.{ne_eqb}
+use Rattle.undo_journal.specs.Memory.{committed}
 use Rattle.card_rules.specs.declared.status.Sw.{Sw}
 use Rattle.undo_journal.specs.declared.error.StoreErr.{StoreErr}
 use Rattle.card_rules.specs.declared.status.TheConstants.Sw.{CONDITIONS_NOT_SATISFIED}
 use Rattle.apdu_core.specs.Requests.{request_of}
 use Rattle.card_machine.specs.Served.{CarriesOut}
-use Rattle.card_core.proofs.Carrying.{carried, failed-reading, serves-after, use-ended, refused-by-form}
+use Rattle.card_core.proofs.Carrying.{carried, failed-reading, in-use-is, serves-after, use-ended, refused-by-form}
 use Rattle.card_machine.specs.laws.Readings.{index_still, kept_still}
 use Rattle.card_machine.specs.laws.SpaceKept.{space-same}
 use Rattle.card_machine.specs.laws.Stopping.{err-is, none-failed, reply-failed}
@@ -15,42 +17,44 @@ use Rattle.card_machine.specs.Stops.{reply}
 use Rattle.card_machine.specs.laws.Answering.{ok_anyway}
 use Rattle.card_core.proofs.commands.obey.Goals as goal
 
-pub returns-in_err-is_in_use-clause-carries : goal.returns-in_err-is_in_use-clause-carries
-returns-in_err-is_in_use-clause-carries g c =
+pub returns-in_err-state-clause-carries : goal.returns-in_err-state-clause-carries
+returns-in_err-state-clause-carries g c =
     let old = c.args.lent.now.store in
     let x = c.args.lent.now.current in
-    let new = c.is_in_use.new.store in
+    let new = c.header_word.new.store in
     let bytes = c.args.command.now in
     subst (λ (r : Result Sw StoreErr). CarriesOut bytes old x new x c.args.answer.now.items r) (sym (err-is _ _
-    (reply-failed _ _ c.from_residual-in_err-is_in_use.ensures.1)))
-    (subst (λ (text : List ℕ). CarriesOut bytes old x new x text (Err c.in_err-is_in_use.field-0.0))
-    (sym c.requires.empty) (failed-reading bytes old new x c.requires.whole.kept x c.in_err-is_in_use.field-0.0
-    c.in_err-is_in_use.ensures.store.only c.in_err-is_in_use.ensures.store.tells))
+    (reply-failed _ _ c.from_residual-in_err-state.ensures.1)))
+    (subst (λ (text : List ℕ). CarriesOut bytes old x new x text (Err c.in_err-state.field-0.0))
+    (sym c.requires.empty) (failed-reading bytes old new x c.requires.whole.kept x c.in_err-state.field-0.0
+    c.in_err-state.ensures.store.only c.in_err-state.ensures.store.tells))
 
-pub returns-then-not-branch-clause-carries : goal.returns-then-not-branch-clause-carries
-returns-then-not-branch-clause-carries g c =
+pub returns-then-state-ne-CARD_IN_USE-clause-carries : goal.returns-then-state-ne-CARD_IN_USE-clause-carries
+returns-then-state-ne-CARD_IN_USE-clause-carries g c =
     let old = c.args.lent.now.store in
     let x = c.args.lent.now.current in
-    let new = c.is_in_use.new.store in
+    let new = c.header_word.new.store in
     let bytes = c.args.command.now in
-    let ended = sym c.in_ok-is_in_use.ensures.told ∙ c.if-not-branch.true in
+    let told = in-use-is (committed old) ∙ ap (λ (n : ℕ). n == 0) (sym c.in_ok-state.ensures.told) in
+    let ended = told ∙ ne_eqb _ _ c.if-state-ne-CARD_IN_USE.true in
     subst (λ (text : List ℕ). CarriesOut bytes old x new x text (Ok CONDITIONS_NOT_SATISFIED)) (sym c.requires.empty)
     (use-ended bytes old new x c.requires.whole.kept (request_of c.in_ok-command.command) c.in_ok-command.ensures.asked
-    ended c.in_ok-is_in_use.ensures.store.only c.in_ok-is_in_use.ensures.store.ready)
+    ended c.in_ok-state.ensures.store.only c.in_ok-state.ensures.store.ready)
 
 pub returns-clause-carries : goal.returns-clause-carries
 returns-clause-carries g c =
     let old = c.args.lent.now.store in
     let x = c.args.lent.now.current in
     let request = request_of c.in_ok-command.command in
-    let in_use = sym c.in_ok-is_in_use.ensures.told ∙ c.if-not-branch.false in
+    let told = in-use-is (committed old) ∙ ap (λ (n : ℕ). n == 0) (sym c.in_ok-state.ensures.told) in
+    let in_use = told ∙ ap (λ (n : ℕ). n == 0) c.if-state-ne-CARD_IN_USE.false in
     carried c.args.command.now old c.serve.new.lent.store x c.serve.new.lent.current c.serve.new.answer.items
-    (reply c.serve.result) request c.in_ok-command.ensures.asked in_use (serves-after request old c.is_in_use.new.store
+    (reply c.serve.result) request c.in_ok-command.ensures.asked in_use (serves-after request old c.header_word.new.store
     c.serve.new.lent.store x c.serve.new.lent.current c.serve.new.answer.items
-    (reply c.serve.result) c.in_ok-is_in_use.ensures.store.only c.serve.ensures.serves)
+    (reply c.serve.result) c.in_ok-state.ensures.store.only c.serve.ensures.serves)
 
-pub returns-in_err-is_in_use-clause-space : goal.returns-in_err-is_in_use-clause-space
-returns-in_err-is_in_use-clause-space g c = none-failed _ _ _ c.from_residual-in_err-is_in_use.ensures.1
+pub returns-in_err-state-clause-space : goal.returns-in_err-state-clause-space
+returns-in_err-state-clause-space g c = none-failed _ _ _ c.from_residual-in_err-state.ensures.1
 
 pub returns-in_err-command-clause-carries : goal.returns-in_err-command-clause-carries
 returns-in_err-command-clause-carries g c =
@@ -73,19 +77,19 @@ returns-in_err-command-clause-index g c = ok_anyway _ _ c.requires.whole.index
 pub serve-requires-clause-whole : goal.serve-requires-clause-whole
 serve-requires-clause-whole g c =
     let old = c.args.lent.now.store in
-    let new = c.is_in_use.new.store in
-    let reads = c.is_in_use.ensures.store.only in
+    let new = c.header_word.new.store in
+    let reads = c.header_word.ensures.store.only in
     record {
       kept = kept_still old new c.args.lent.now.current reads
-          c.in_ok-is_in_use.ensures.store.ready c.requires.whole.kept;
+          c.in_ok-state.ensures.store.ready c.requires.whole.kept;
       space = c.requires.whole.space ∙ sym (space-same old new reads.keeps.committed_words);
       index = index_still old new c.args.lent.now.index reads c.requires.whole.index;
     }
 
-pub returns-in_err-is_in_use-clause-index : goal.returns-in_err-is_in_use-clause-index
-returns-in_err-is_in_use-clause-index g c = none-failed _ _ _ c.from_residual-in_err-is_in_use.ensures.1
+pub returns-in_err-state-clause-index : goal.returns-in_err-state-clause-index
+returns-in_err-state-clause-index g c = none-failed _ _ _ c.from_residual-in_err-state.ensures.1
 
-pub returns-then-not-branch-clause-index : goal.returns-then-not-branch-clause-index
-returns-then-not-branch-clause-index g c =
-    index_still c.args.lent.now.store c.is_in_use.new.store c.args.lent.now.index c.is_in_use.ensures.store.only
+pub returns-then-state-ne-CARD_IN_USE-clause-index : goal.returns-then-state-ne-CARD_IN_USE-clause-index
+returns-then-state-ne-CARD_IN_USE-clause-index g c =
+    index_still c.args.lent.now.store c.header_word.new.store c.args.lent.now.index c.header_word.ensures.store.only
     c.requires.whole.index

@@ -20,70 +20,70 @@ pub returns-in_err-by_parent : goal.returns-in_err-by_parent
 returns-in_err-by_parent g c = record {
   told = search rules;
   store = reads-stopped _ (Failed c.in_err-by_parent.field-0.0) c.from_residual-in_err-by_parent.ensures.1 _ _
-        (reads_on _ _ _ _ (reads_then _ _ _ c.is_barred.ensures.store.only c.allows.ensures.store.only)
-        c.in_err-by_parent.ensures.store);
+      (reads_on _ _ _ _ (reads_then _ _ _ c.is_barred.ensures.store.only c.allows.ensures.store.only)
+      c.in_err-by_parent.ensures.store);
 }
 
 pub returns : goal.returns
 returns g c = record {
   told = let m = committed c.args.store.now in
-        let t = table m in
-        let x = c.args.current.now in
-        let same = c.is_barred.ensures.store.only.keeps.committed_words in
-        let still = c.allows.ensures.store.only.keeps.committed_words ∙ same in
-        let barred : c.in_ok-barred.barred ≡ is_barred (card_of m).tree (path_of t c.args.parent) =
-        c.in_ok-barred.ensures.barred
-        ∙ sym (ap (λ (tree : Tree). is_barred tree (path_of t c.args.parent)) (card-tree m)) in
-        let own : c.in_ok-own.own ≡ allowed (card_of m) (session_of t x) (path_of t c.args.number) DeleteSelf =
-        c.in_ok-own.ensures.told
-        ∙ ap (λ (l : List ℕ). allowed (card_of l) (session_of (table l) x)
-        (path_of (table l) c.args.number) DeleteSelf) same in
-        let by_parent : c.in_ok-by_parent.by_parent
-        ≡ allowed (card_of m) (session_of t x) (path_of t c.args.parent) DeleteChild =
-        c.in_ok-by_parent.ensures.told
-        ∙ ap (λ (l : List ℕ). allowed (card_of l) (session_of (table l) x)
-        (path_of (table l) c.args.parent) DeleteChild) still in
-        let both : c.if-own.findings ≡ (c.in_ok-own.own || c.in_ok-by_parent.by_parent) = elim c.if-own.branch [
-          | then-own w ↦ w.findings-is ∙ w.if-own.true
-              ∙ sym (ap (λ (b : Bool). b || c.in_ok-by_parent.by_parent) w.if-own.true)
-          | else-own w ↦ w.findings-is ∙ sym (ap (λ (b : Bool). b || c.in_ok-by_parent.by_parent) w.if-own.false)
-        ] in
-        sym (c.in_ok-check.ensures ∙ (λ i. file_refusal (barred i) true (both i))
-        ∙ (λ i. file_refusal (is_barred (card_of m).tree (path_of t c.args.parent)) true (own i || by_parent i)));
+      let t = table m in
+      let x = c.args.current.now in
+      let same = c.is_barred.ensures.store.only.keeps.committed_words in
+      let still = c.allows.ensures.store.only.keeps.committed_words ∙ same in
+      let barred : c.in_ok-barred.barred ≡ is_barred (card_of m).tree (path_of t c.args.parent) =
+      c.in_ok-barred.ensures.barred
+      ∙ sym (ap (λ (tree : Tree). is_barred tree (path_of t c.args.parent)) (card-tree m)) in
+      let own : c.in_ok-own.own ≡ allowed (card_of m) (session_of t x) (path_of t c.args.number) DeleteSelf =
+      c.in_ok-own.ensures.told
+      ∙ ap (λ (l : List ℕ). allowed (card_of l) (session_of (table l) x)
+      (path_of (table l) c.args.number) DeleteSelf) same in
+      let by_parent : c.in_ok-by_parent.by_parent
+      ≡ allowed (card_of m) (session_of t x) (path_of t c.args.parent) DeleteChild =
+      c.in_ok-by_parent.ensures.told
+      ∙ ap (λ (l : List ℕ). allowed (card_of l) (session_of (table l) x)
+      (path_of (table l) c.args.parent) DeleteChild) still in
+      let both : c.if-own.findings ≡ (c.in_ok-own.own || c.in_ok-by_parent.by_parent) = elim c.if-own.branch [
+        | then-own w ↦ w.findings-is ∙ w.if-own.true
+            ∙ sym (ap (λ (b : Bool). b || c.in_ok-by_parent.by_parent) w.if-own.true)
+        | else-own w ↦ w.findings-is ∙ sym (ap (λ (b : Bool). b || c.in_ok-by_parent.by_parent) w.if-own.false)
+      ] in
+      sym (c.in_ok-check.ensures ∙ (λ i. file_refusal (barred i) true (both i))
+      ∙ (λ i. file_refusal (is_barred (card_of m).tree (path_of t c.args.parent)) true (own i || by_parent i)));
   store = reads_on _ _ _ _ (reads_then _ _ _ c.is_barred.ensures.store.only c.allows.ensures.store.only)
-        c.in_ok-by_parent.ensures.store;
+      c.in_ok-by_parent.ensures.store;
 }
 
 pub returns-in_err-check : goal.returns-in_err-check
 returns-in_err-check g c = record {
   told = let m = committed c.args.store.now in
-        let t = table m in
-        let x = c.args.current.now in
-        let same = c.is_barred.ensures.store.only.keeps.committed_words in
-        let still = c.allows.ensures.store.only.keeps.committed_words ∙ same in
-        let barred : c.in_ok-barred.barred ≡ is_barred (card_of m).tree (path_of t c.args.parent) =
-        c.in_ok-barred.ensures.barred
-        ∙ sym (ap (λ (tree : Tree). is_barred tree (path_of t c.args.parent)) (card-tree m)) in
-        let own : c.in_ok-own.own ≡ allowed (card_of m) (session_of t x) (path_of t c.args.number) DeleteSelf =
-        c.in_ok-own.ensures.told
-        ∙ ap (λ (l : List ℕ). allowed (card_of l) (session_of (table l) x)
-        (path_of (table l) c.args.number) DeleteSelf) same in
-        let by_parent : c.in_ok-by_parent.by_parent
-        ≡ allowed (card_of m) (session_of t x) (path_of t c.args.parent) DeleteChild =
-        c.in_ok-by_parent.ensures.told
-        ∙ ap (λ (l : List ℕ). allowed (card_of l) (session_of (table l) x)
-        (path_of (table l) c.args.parent) DeleteChild) still in
-        let both : c.if-own.findings ≡ (c.in_ok-own.own || c.in_ok-by_parent.by_parent) = elim c.if-own.branch [
-          | then-own w ↦ w.findings-is ∙ w.if-own.true
-              ∙ sym (ap (λ (b : Bool). b || c.in_ok-by_parent.by_parent) w.if-own.true)
-          | else-own w ↦ w.findings-is ∙ sym (ap (λ (b : Bool). b || c.in_ok-by_parent.by_parent) w.if-own.false)
-        ] in
-        finds-stopped _ (Refused c.in_err-check.field-0.0) c.from_residual-in_err-check.ensures.1 _ _
-        (sym (c.in_err-check.ensures ∙ (λ i. file_refusal (barred i) true (both i))
-        ∙ (λ i. file_refusal (is_barred (card_of m).tree (path_of t c.args.parent)) true (own i || by_parent i))));
+      let t = table m in
+      let x = c.args.current.now in
+      let same = c.is_barred.ensures.store.only.keeps.committed_words in
+      let still = c.allows.ensures.store.only.keeps.committed_words ∙ same in
+      let barred : c.in_ok-barred.barred ≡ is_barred (card_of m).tree (path_of t c.args.parent) =
+      c.in_ok-barred.ensures.barred
+      ∙ sym (ap (λ (tree : Tree). is_barred tree (path_of t c.args.parent)) (card-tree m)) in
+      let own : c.in_ok-own.own ≡ allowed (card_of m) (session_of t x) (path_of t c.args.number) DeleteSelf =
+      c.in_ok-own.ensures.told
+      ∙ ap (λ (l : List ℕ). allowed (card_of l) (session_of (table l) x)
+      (path_of (table l) c.args.number) DeleteSelf) same in
+      let by_parent : c.in_ok-by_parent.by_parent
+      ≡ allowed (card_of m) (session_of t x) (path_of t c.args.parent) DeleteChild =
+      c.in_ok-by_parent.ensures.told
+      ∙ ap (λ (l : List ℕ). allowed (card_of l) (session_of (table l) x)
+      (path_of (table l) c.args.parent) DeleteChild) still in
+      let both : c.if-own.findings ≡ (c.in_ok-own.own || c.in_ok-by_parent.by_parent) = elim c.if-own.branch [
+        | then-own w ↦ w.findings-is ∙ w.if-own.true
+            ∙ sym (ap (λ (b : Bool). b || c.in_ok-by_parent.by_parent) w.if-own.true)
+        | else-own w ↦ w.findings-is ∙ sym (ap (λ (b : Bool). b || c.in_ok-by_parent.by_parent) w.if-own.false)
+      ] in
+      finds-stopped _ (Refused c.in_err-check.field-0.0) c.from_residual-in_err-check.ensures.1 _ _
+      (sym (c.in_err-check.ensures ∙ (λ i. file_refusal (barred i) true (both i))
+      ∙ (λ i. file_refusal (is_barred (card_of m).tree (path_of t c.args.parent)) true (own i || by_parent i))));
   store = reads-stopped _ (Refused c.in_err-check.field-0.0) c.from_residual-in_err-check.ensures.1 _ _
-        (reads_on _ _ _ _ (reads_then _ _ _ c.is_barred.ensures.store.only c.allows.ensures.store.only)
-        c.in_ok-by_parent.ensures.store);
+      (reads_on _ _ _ _ (reads_then _ _ _ c.is_barred.ensures.store.only c.allows.ensures.store.only)
+      c.in_ok-by_parent.ensures.store);
 }
 
 pub allows-requires-clause-kept : goal.allows-requires-clause-kept
@@ -91,7 +91,7 @@ allows-requires-clause-kept g c = record {
   ready = search rules;
   card = card_still c.args.store.now c.is_barred.new.store c.is_barred.ensures.store.only c.requires.kept.card;
   current = current_still c.args.store.now c.is_barred.new.store c.args.current.now c.is_barred.ensures.store.only
-        c.requires.kept.current;
+      c.requires.kept.current;
 }
 
 pub allows-requires-clause-used : goal.allows-requires-clause-used
@@ -102,10 +102,10 @@ pub allows-requires-2-clause-kept : goal.allows-requires-2-clause-kept
 allows-requires-2-clause-kept g c = record {
   ready = search rules;
   card = card_still c.args.store.now c.allows.new.store (reads_then c.args.store.now c.is_barred.new.store
-        c.allows.new.store c.is_barred.ensures.store.only c.allows.ensures.store.only) c.requires.kept.card;
+      c.allows.new.store c.is_barred.ensures.store.only c.allows.ensures.store.only) c.requires.kept.card;
   current = current_still c.args.store.now
-        c.allows.new.store c.args.current.now (reads_then c.args.store.now c.is_barred.new.store
-        c.allows.new.store c.is_barred.ensures.store.only c.allows.ensures.store.only) c.requires.kept.current;
+      c.allows.new.store c.args.current.now (reads_then c.args.store.now c.is_barred.new.store
+      c.allows.new.store c.is_barred.ensures.store.only c.allows.ensures.store.only) c.requires.kept.current;
 }
 
 pub allows-requires-2-clause-used : goal.allows-requires-2-clause-used
@@ -118,5 +118,5 @@ pub returns-in_err-own : goal.returns-in_err-own
 returns-in_err-own g c = record {
   told = search rules;
   store = reads-stopped _ (Failed c.in_err-own.field-0.0) c.from_residual-in_err-own.ensures.1 _ _
-        (reads_on _ _ _ _ c.is_barred.ensures.store.only c.in_err-own.ensures.store);
+      (reads_on _ _ _ _ c.is_barred.ensures.store.only c.in_err-own.ensures.store);
 }

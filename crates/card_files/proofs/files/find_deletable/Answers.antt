@@ -11,7 +11,9 @@ use Rattle.card_machine.specs.Files.{delete_refusals}
 use Rattle.card_machine.specs.Outcomes.{refused_by}
 use Rattle.card_machine.specs.Standing.{card_of}
 use Rattle.card_machine.specs.Working.{session_of}
-use Rattle.card_files.proofs.Deletions.{deletable, deletion_verdict, file-verdict}
+use Rattle.card_files.proofs.Deletions.{deletable, deletion_verdict, file-verdict, subject-found}
+use Rattle.card_files.proofs.Living.{current-there}
+use Rattle.apdu_core.specs.declared.life_cycles.LifeCycleChange.TheVariants.{Activate}
 use Rattle.card_files.proofs.FileSteps.{delete-master}
 use Rattle.card_machine.specs.laws.Readings.{kept_still, used_still}
 use Rattle.undo_journal.specs.laws.Told.{reads_on}
@@ -22,11 +24,14 @@ use Rattle.card_files.proofs.files.find_deletable.Goals as goal
 pub returns-then-number-eq0 : goal.returns-then-number-eq0
 returns-then-number-eq0 g c = record {
   told = let m = committed c.args.store.now in
-        let t = table m in
-        let master : c.in-Some.number ≡ 0 = omega arith in
-        delete-master (card_of m) (session_of t c.args.current.now) c.args.subject
-        (c.in_ok-number.ensures.found.told ∙ ap (λ (o : Option ℕ). option_map (path_of t) o) c.in-Some.is
-        ∙ ap (λ (p : Path). Some p) (path-zero t 7 c.in-Some.number master));
+      let t = table m in
+      let x = c.args.current.now in
+      let master : c.in-Some.number ≡ 0 = omega arith in
+      delete-master (card_of m) (session_of t x) c.args.subject
+      (subject-found m c.requires.kept.card x c.requires.kept.current c.unwrap_or-own.result c.unwrap_or-own.ensures
+      c.args.subject c.in_ok-number.field-0 c.in_ok-number.ensures.found.told
+      ∙ ap (λ (o : Option ℕ). option_map (path_of t) o) c.in-Some.is
+      ∙ ap (λ (p : Path). Some p) (path-zero t 7 c.in-Some.number master));
   store = search rules;
 }
 
@@ -39,54 +44,58 @@ read_entry-requires-clause-within g c =
 pub returns-in_err-check_deletion : goal.returns-in_err-check_deletion
 returns-in_err-check_deletion g c = record {
   told = let m = committed c.args.store.now in
-        let t = table m in
-        let x = c.args.current.now in
-        let e = c.in-Some.number in
-        let used = subst (λ (o : Option ℕ). IfSome o (IsUsed t)) c.in-Some.is c.in_ok-number.ensures.used in
-        let place = c.in_ok-number.ensures.found.told ∙ ap (λ (o : Option ℕ). option_map (path_of t) o) c.in-Some.is in
-        let same = c.read_entry.ensures.store.only.keeps.committed_words
-        ∙ c.find_subject.ensures.found.store.only.keeps.committed_words in
-        let entry : c.in_ok-entry.entry ≡ entry_in t e =
-        c.in_ok-entry.ensures.entry ∙ ap (λ (l : List ℕ). entry_in (table l) e)
-        c.find_subject.ensures.found.store.only.keeps.committed_words in
-        let below : 0 < e = omega arith in
-        let verdict : Option Sw = deletion_verdict (committed c.read_entry.new.store) x e c.in_ok-entry.entry.parent in
-        let refused : Option Sw = refused_by (delete_refusals (card_of m) (session_of t x) c.args.subject) in
-        finds-stopped _ c.in_err-check_deletion.field-0.0 c.from_residual-in_err-check_deletion.ensures.1 _
-        (λ (status : Sw). refused ≡ Some status)
-        (refused-weaker c.in_err-check_deletion.field-0.0 (λ (status : Sw). verdict ≡ Some status)
-        (λ (status : Sw). refused ≡ Some status) (λ (status : Sw) (due : verdict ≡ Some status).
-        file-verdict m c.requires.kept.ready.usable.committed_size c.requires.kept.card x c.args.subject e below used place
-        ∙ ap (λ (y : Entry). deletion_verdict m x e y.parent) (sym entry)
-        ∙ ap (λ (l : List ℕ). deletion_verdict l x e c.in_ok-entry.entry.parent) (sym same)
-        ∙ due) c.in_err-check_deletion.ensures.told);
+      let t = table m in
+      let x = c.args.current.now in
+      let e = c.in-Some.number in
+      let used = subst (λ (o : Option ℕ). IfSome o (IsUsed t)) c.in-Some.is c.in_ok-number.ensures.used in
+      let place = subject-found m c.requires.kept.card x c.requires.kept.current c.unwrap_or-own.result c.unwrap_or-own.ensures
+      c.args.subject c.in_ok-number.field-0 c.in_ok-number.ensures.found.told
+      ∙ ap (λ (o : Option ℕ). option_map (path_of t) o) c.in-Some.is in
+      let same = c.read_entry.ensures.store.only.keeps.committed_words
+      ∙ c.find_subject.ensures.found.store.only.keeps.committed_words in
+      let entry : c.in_ok-entry.entry ≡ entry_in t e =
+      c.in_ok-entry.ensures.entry ∙ ap (λ (l : List ℕ). entry_in (table l) e)
+      c.find_subject.ensures.found.store.only.keeps.committed_words in
+      let below : 0 < e = omega arith in
+      let verdict : Option Sw = deletion_verdict (committed c.read_entry.new.store) x e c.in_ok-entry.entry.parent in
+      let refused : Option Sw = refused_by (delete_refusals (card_of m) (session_of t x) c.args.subject) in
+      finds-stopped _ c.in_err-check_deletion.field-0.0 c.from_residual-in_err-check_deletion.ensures.1 _
+      (λ (status : Sw). refused ≡ Some status)
+      (refused-weaker c.in_err-check_deletion.field-0.0 (λ (status : Sw). verdict ≡ Some status)
+      (λ (status : Sw). refused ≡ Some status) (λ (status : Sw) (due : verdict ≡ Some status).
+      file-verdict m c.requires.kept.ready.usable.committed_size c.requires.kept.card x c.args.subject e below used place
+      ∙ ap (λ (y : Entry). deletion_verdict m x e y.parent) (sym entry)
+      ∙ ap (λ (l : List ℕ). deletion_verdict l x e c.in_ok-entry.entry.parent) (sym same)
+      ∙ due) c.in_err-check_deletion.ensures.told);
   store = reads-stopped _ _ c.from_residual-in_err-check_deletion.ensures.1 _ _
-        (reads_on _ _ _ _ (reads_then _ _ _ c.find_subject.ensures.found.store.only c.read_entry.ensures.store.only)
-        c.in_err-check_deletion.ensures.store);
+      (reads_on _ _ _ _ (reads_then _ _ _ c.find_subject.ensures.found.store.only c.read_entry.ensures.store.only)
+      c.in_err-check_deletion.ensures.store);
 }
 
 pub returns : goal.returns
 returns g c = record {
   told = let m = committed c.args.store.now in
-        let t = table m in
-        let x = c.args.current.now in
-        let e = c.in-Some.number in
-        let used = subst (λ (o : Option ℕ). IfSome o (IsUsed t)) c.in-Some.is c.in_ok-number.ensures.used in
-        let place = c.in_ok-number.ensures.found.told ∙ ap (λ (o : Option ℕ). option_map (path_of t) o) c.in-Some.is in
-        let same = c.read_entry.ensures.store.only.keeps.committed_words
-        ∙ c.find_subject.ensures.found.store.only.keeps.committed_words in
-        let entry : c.in_ok-entry.entry ≡ entry_in t e =
-        c.in_ok-entry.ensures.entry ∙ ap (λ (l : List ℕ). entry_in (table l) e)
-        c.find_subject.ensures.found.store.only.keeps.committed_words in
-        let below : 0 < e = omega arith in
-        deletable m c.requires.kept.ready.usable.committed_size c.requires.kept.card x c.args.subject e below used place
-        (file-verdict m c.requires.kept.ready.usable.committed_size c.requires.kept.card x c.args.subject e below used place
-        ∙ ap (λ (y : Entry). deletion_verdict m x e y.parent) (sym entry)
-        ∙ ap (λ (l : List ℕ). deletion_verdict l x e c.in_ok-entry.entry.parent) (sym same)
-        ∙ c.in_ok-check_deletion.ensures.told)
-        c.in_ok-entry.entry entry;
+      let t = table m in
+      let x = c.args.current.now in
+      let e = c.in-Some.number in
+      let used = subst (λ (o : Option ℕ). IfSome o (IsUsed t)) c.in-Some.is c.in_ok-number.ensures.used in
+      let place = subject-found m c.requires.kept.card x c.requires.kept.current c.unwrap_or-own.result c.unwrap_or-own.ensures
+      c.args.subject c.in_ok-number.field-0 c.in_ok-number.ensures.found.told
+      ∙ ap (λ (o : Option ℕ). option_map (path_of t) o) c.in-Some.is in
+      let same = c.read_entry.ensures.store.only.keeps.committed_words
+      ∙ c.find_subject.ensures.found.store.only.keeps.committed_words in
+      let entry : c.in_ok-entry.entry ≡ entry_in t e =
+      c.in_ok-entry.ensures.entry ∙ ap (λ (l : List ℕ). entry_in (table l) e)
+      c.find_subject.ensures.found.store.only.keeps.committed_words in
+      let below : 0 < e = omega arith in
+      deletable m c.requires.kept.ready.usable.committed_size c.requires.kept.card x c.args.subject e below used place
+      (file-verdict m c.requires.kept.ready.usable.committed_size c.requires.kept.card x c.args.subject e below used place
+      ∙ ap (λ (y : Entry). deletion_verdict m x e y.parent) (sym entry)
+      ∙ ap (λ (l : List ℕ). deletion_verdict l x e c.in_ok-entry.entry.parent) (sym same)
+      ∙ c.in_ok-check_deletion.ensures.told)
+      c.in_ok-entry.entry entry;
   store = reads_on _ _ _ _ (reads_then _ _ _ c.find_subject.ensures.found.store.only c.read_entry.ensures.store.only)
-        c.in_ok-check_deletion.ensures.store;
+      c.in_ok-check_deletion.ensures.store;
 }
 
 pub check_deletion-requires-clause-above : goal.check_deletion-requires-clause-above
@@ -108,7 +117,7 @@ pub returns-in_err-entry : goal.returns-in_err-entry
 returns-in_err-entry g c = record {
   told = search rules;
   store = reads-stopped _ (Failed c.in_err-entry.field-0.0) c.from_residual-in_err-entry.ensures.1 _ _
-        (reads_on _ _ _ _ c.find_subject.ensures.found.store.only c.in_err-entry.ensures.store);
+      (reads_on _ _ _ _ c.find_subject.ensures.found.store.only c.in_err-entry.ensures.store);
 }
 
 pub check_deletion-requires-clause-kept : goal.check_deletion-requires-clause-kept
@@ -122,3 +131,9 @@ check_deletion-requires-clause-used g c =
     (reads_then c.args.store.now c.find_subject.new.store c.read_entry.new.store c.find_subject.ensures.found.store.only
     c.read_entry.ensures.store.only) (subst (λ (o : Option ℕ). IfSome o (IsUsed (table (committed c.args.store.now))))
     c.in-Some.is c.in_ok-number.ensures.used)
+
+pub find_subject-requires-clause-own : goal.find_subject-requires-clause-own
+find_subject-requires-clause-own g c =
+    let t = table (committed c.args.store.now) in
+    subst (λ (e : ℕ). IsUsed t e) (sym c.unwrap_or-own.ensures)
+    (current-there t c.args.current.now c.requires.kept.current Activate)

@@ -18,19 +18,19 @@ is_barred-requires-clause-used g c =
 pub returns-then-branch : goal.returns-then-branch
 returns-then-branch g c = record {
   told = let old = c.args.store.now in
-        let x = c.args.current.now in
-        create-barred (card_in old) (session_in old x) c.args.template.now
-        (barred-is (committed old) x c.in_ok-is_barred.field-0 c.in_ok-is_barred.ensures.barred ∙ c.if-branch.true);
+      let x = c.args.current.now in
+      create-barred (card_in old) (session_in old x) c.args.template.now
+      (barred-is (committed old) x c.in_ok-is_barred.field-0 c.in_ok-is_barred.ensures.barred ∙ c.if-branch.true);
   store = search rules;
 }
 
 pub returns-in_default : goal.returns-in_default
 returns-in_default g c = record {
   told = let old = c.args.store.now in
-        let x = c.args.current.now in
-        unread-step (card_in old) (session_in old x) c.args.template.now
-        (barred-is (committed old) x c.in_ok-is_barred.field-0 c.in_ok-is_barred.ensures.barred ∙ c.if-branch.false)
-        c.parse.result (sym c.parse.ensures.value) c.in_default.not-Ok;
+      let x = c.args.current.now in
+      unread-step (card_in old) (session_in old x) c.args.template.now
+      (barred-is (committed old) x c.in_ok-is_barred.field-0 c.in_ok-is_barred.ensures.barred ∙ c.if-branch.false)
+      c.parse.result (sym c.parse.ensures.value) c.in_default.not-Ok;
   store = search rules;
 }
 
@@ -39,7 +39,7 @@ allows-requires-clause-kept g c = record {
   ready = search rules;
   card = card_still c.args.store.now c.is_barred.new.store c.is_barred.ensures.store.only c.requires.kept.card;
   current = current_still c.args.store.now c.is_barred.new.store c.args.current.now c.is_barred.ensures.store.only
-        c.requires.kept.current;
+      c.requires.kept.current;
 }
 
 pub allows-requires-clause-used : goal.allows-requires-clause-used
@@ -51,38 +51,38 @@ pub returns-in_err-allows : goal.returns-in_err-allows
 returns-in_err-allows g c = record {
   told = search rules;
   store = reads-stopped _ (Failed c.in_err-allows.field-0.0) c.from_residual-in_err-allows.ensures.1 _ _
-        (reads_on _ _ _ _ c.is_barred.ensures.store.only c.in_err-allows.ensures.store);
+      (reads_on _ _ _ _ c.is_barred.ensures.store.only c.in_err-allows.ensures.store);
 }
 
 pub returns-then-not-branch : goal.returns-then-not-branch
 returns-then-not-branch g c = record {
   told = let old = c.args.store.now in
-        let x = c.args.current.now in
-        let fcp = c.in-Ok.fcp in
-        create-denied (card_in old) (session_in old x) c.args.template.now
-        (barred-is (committed old) x c.in_ok-is_barred.field-0 c.in_ok-is_barred.ensures.barred ∙ c.if-branch.false)
-        fcp (sym c.parse.ensures.value ∙ c.in-Ok.is)
-        (permits-is (committed old) (committed c.is_barred.new.store) x
-        c.is_barred.ensures.store.only.keeps.committed_words c.creation_bit-bit.result (creation_bit fcp.kind)
-        c.creation_bit-bit.ensures c.in_ok-allows.field-0
-        c.in_ok-allows.ensures.told ∙ c.if-not-branch.true);
+      let x = c.args.current.now in
+      let fcp = c.in-Ok.fcp in
+      create-denied (card_in old) (session_in old x) c.args.template.now
+      (barred-is (committed old) x c.in_ok-is_barred.field-0 c.in_ok-is_barred.ensures.barred ∙ c.if-branch.false)
+      fcp (sym c.parse.ensures.value ∙ c.in-Ok.is)
+      (permits-is (committed old) (committed c.is_barred.new.store) x
+      c.is_barred.ensures.store.only.keeps.committed_words c.creation_bit-bit.result (creation_bit fcp.kind)
+      c.creation_bit-bit.ensures c.in_ok-allows.field-0
+      c.in_ok-allows.ensures.told ∙ c.if-not-branch.true);
   store = reads_on _ _ _ _ c.is_barred.ensures.store.only c.in_ok-allows.ensures.store;
 }
 
 pub returns : goal.returns
 returns g c = record {
   told = let old = c.args.store.now in
-        let x = c.args.current.now in
-        let fcp = c.in-Ok.fcp in
-        record {
-          told = sym c.parse.ensures.value ∙ c.in-Ok.is;
-          creatable = c.in-Ok.ensures.ranges;
-          unbarred = barred-is (committed old) x c.in_ok-is_barred.field-0 c.in_ok-is_barred.ensures.barred
-              ∙ c.if-branch.false;
-          permitted = permits-is (committed old) (committed c.is_barred.new.store) x
-              c.is_barred.ensures.store.only.keeps.committed_words c.creation_bit-bit.result (creation_bit fcp.kind)
-              c.creation_bit-bit.ensures c.in_ok-allows.field-0
-              c.in_ok-allows.ensures.told ∙ c.if-not-branch.false;
-        };
+      let x = c.args.current.now in
+      let fcp = c.in-Ok.fcp in
+      record {
+        told = sym c.parse.ensures.value ∙ c.in-Ok.is;
+        creatable = c.in-Ok.ensures.ranges;
+        unbarred = barred-is (committed old) x c.in_ok-is_barred.field-0 c.in_ok-is_barred.ensures.barred
+            ∙ c.if-branch.false;
+        permitted = permits-is (committed old) (committed c.is_barred.new.store) x
+            c.is_barred.ensures.store.only.keeps.committed_words c.creation_bit-bit.result (creation_bit fcp.kind)
+            c.creation_bit-bit.ensures c.in_ok-allows.field-0
+            c.in_ok-allows.ensures.told ∙ c.if-not-branch.false;
+      };
   store = reads_on _ _ _ _ c.is_barred.ensures.store.only c.in_ok-allows.ensures.store;
 }

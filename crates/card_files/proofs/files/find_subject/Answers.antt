@@ -1,38 +1,38 @@
-use Rattle.std.proofs.Common.{◌≡◌, ℕ, Option, Some, option_map, sym, ◌∙◌, ap, rules}
+use Rattle.std.proofs.Common.{◌≡◌, ℕ, Option, option_map, sym, ◌∙◌, ap, rules}
 use Rattle.undo_journal.specs.Memory.{committed}
 use Rattle.apdu_core.specs.declared.files.Subject.{Subject}
 use Rattle.file_tree.specs.Cards.{Tree}
 use Rattle.file_tree.specs.Reaching.{reached}
 use Rattle.file_tree.specs.Table.{table, path_of}
 use Rattle.file_tree.specs.Trees.{tree_of}
-use Rattle.card_machine.specs.Reaching.{subject_of}
+use Rattle.card_machine.specs.Reaching.{subject_or}
 use Rattle.card_machine.specs.Standing.{card_of}
 use Rattle.card_machine.specs.Working.{session_of}
 use Rattle.std.proofs.lemmas.Result.{IfOk-weaker}
-use Rattle.card_files.proofs.Deletions.{subject-current}
 use Rattle.card_machine.specs.laws.Entries.{card-tree}
 use Rattle.card_files.proofs.files.find_subject.Goals as goal
 
 pub returns-in-Current-clause-found : goal.returns-in-Current-clause-found
-returns-in-Current-clause-found g c = record {
-  told = let m = committed c.args.store.now in
-        ap (λ (subject : Subject). subject_of (card_of m).tree (session_of (table m) c.args.current.now) subject)
-        c.in-Current.is
-        ∙ subject-current m c.requires.kept.card c.args.current.now c.requires.kept.current
-        ∙ ap (λ (found : Option ℕ). option_map (path_of (table m)) found) (ap (λ (e : ℕ). Some e) (sym c.unwrap_or.ensures));
-  store = search rules;
-}
+returns-in-Current-clause-found g c =
+    let m = committed c.args.store.now in
+    let own = option_map (path_of (table m)) c.args.own in
+    record {
+      told = ap (λ (subject : Subject). subject_or own (card_of m).tree (session_of (table m) c.args.current.now) subject)
+          c.in-Current.is;
+      store = search rules;
+    }
 
 pub returns-in-Identifier-clause-found : goal.returns-in-Identifier-clause-found
-returns-in-Identifier-clause-found g c = record {
-  told = let m = committed c.args.store.now in
-        let t = table m in
-        let df = path_of t c.args.current.now.df in
-        let id = c.in-Identifier.identifier in
-        IfOk-weaker c.select.result (λ (found : Option ℕ). option_map (path_of t) found ≡ reached (tree_of m) df id) _
-        (λ found is. ap (λ (subject : Subject). subject_of (card_of m).tree (session_of t c.args.current.now) subject)
-        c.in-Identifier.is
-        ∙ ap (λ (tree : Tree). reached tree df id) (card-tree m) ∙ sym is)
-        c.select.ensures.found;
-  store = search rules;
-}
+returns-in-Identifier-clause-found g c =
+    let m = committed c.args.store.now in
+    let t = table m in
+    let df = path_of t c.args.current.now.df in
+    let id = c.in-Identifier.identifier in
+    let own = option_map (path_of t) c.args.own in
+    record {
+      told = IfOk-weaker c.select.result (λ (found : Option ℕ). option_map (path_of t) found ≡ reached (tree_of m) df id) _
+          (λ found is. ap (λ (subject : Subject). subject_or own (card_of m).tree (session_of t c.args.current.now) subject)
+          c.in-Identifier.is ∙ ap (λ (tree : Tree). reached tree df id) (card-tree m) ∙ sym is)
+          c.select.ensures.found;
+      store = search rules;
+    }

@@ -24,8 +24,8 @@ pub returns-in_err-entry : goal.returns-in_err-entry
 returns-in_err-entry g c = record {
   told = search rules;
   store = reads-stopped _ (Failed c.in_err-entry.field-0.0) c.from_residual-in_err-entry.ensures.1 _ _
-        (reads_on _ _ _ _ (reads_then _ _ _ c.next_life_cycle.ensures.store.only c.allows.ensures.store.only)
-        c.in_err-entry.ensures.store);
+      (reads_on _ _ _ _ (reads_then _ _ _ c.next_life_cycle.ensures.store.only c.allows.ensures.store.only)
+      c.in_err-entry.ensures.store);
 }
 
 pub allows-requires-clause-kept : goal.allows-requires-clause-kept
@@ -33,7 +33,7 @@ allows-requires-clause-kept g c = record {
   ready = search rules;
   card = card_still c.args.store.now c.next_life_cycle.new.store c.next_life_cycle.ensures.store.only c.requires.kept.card;
   current = current_still c.args.store.now c.next_life_cycle.new.store c.args.current.now c.next_life_cycle.ensures.store.only
-        c.requires.kept.current;
+      c.requires.kept.current;
 }
 
 pub allows-requires-clause-used : goal.allows-requires-clause-used
@@ -45,54 +45,54 @@ pub returns-in_err-allowed : goal.returns-in_err-allowed
 returns-in_err-allowed g c = record {
   told = search rules;
   store = reads-stopped _ (Failed c.in_err-allowed.field-0.0) c.from_residual-in_err-allowed.ensures.1 _ _
-        (reads_on _ _ _ _ c.next_life_cycle.ensures.store.only c.in_err-allowed.ensures.store);
+      (reads_on _ _ _ _ c.next_life_cycle.ensures.store.only c.in_err-allowed.ensures.store);
 }
 
 pub returns : goal.returns
 returns g c = record {
   told = let m = committed c.args.store.now in
-        let e = c.args.number in
-        let x = c.args.current.now in
-        let same = c.next_life_cycle.ensures.store.only.keeps.committed_words in
-        let still = c.allows.ensures.store.only.keeps.committed_words ∙ same in
-        let next : c.in_ok-next.next ≡ next_life (tree_of m) (path_of (table m) e) (command_of c.args.change) =
-        c.in_ok-next.ensures.next
-        ∙ ap (λ (k : LifeCycleCommand). next_life (tree_of m) (path_of (table m) e) k) c.command_of.ensures in
-        let permitted : c.in_ok-allowed.allowed
-        ≡ allowed (card_of m) (session_of (table m) x) (path_of (table m) e) (change_bit c.args.change) =
-        c.in_ok-allowed.ensures.told
-        ∙ (λ i. allowed (card_of (same i)) (session_of (table (same i)) x) (path_of (table (same i)) e)
-        (c.bit_of.ensures i)) in
-        let entry : c.in_ok-entry.entry ≡ entry_in (table m) e =
-        c.in_ok-entry.ensures.entry ∙ (λ i. entry_in (table (still i)) e) in
-        sym (c.changed_by.ensures ∙ (λ i. changed_by c.args.change e (entry i) (next i) (permitted i)))
-        ∙ c.in_ok-changed_by.was;
+      let e = c.args.number in
+      let x = c.args.current.now in
+      let same = c.next_life_cycle.ensures.store.only.keeps.committed_words in
+      let still = c.allows.ensures.store.only.keeps.committed_words ∙ same in
+      let next : c.in_ok-next.next ≡ next_life (tree_of m) (path_of (table m) e) (command_of c.args.change) =
+      c.in_ok-next.ensures.next
+      ∙ ap (λ (k : LifeCycleCommand). next_life (tree_of m) (path_of (table m) e) k) c.command_of.ensures in
+      let permitted : c.in_ok-allowed.allowed
+      ≡ allowed (card_of m) (session_of (table m) x) (path_of (table m) e) (change_bit c.args.change) =
+      c.in_ok-allowed.ensures.told
+      ∙ (λ i. allowed (card_of (same i)) (session_of (table (same i)) x) (path_of (table (same i)) e)
+      (c.bit_of.ensures i)) in
+      let entry : c.in_ok-entry.entry ≡ entry_in (table m) e =
+      c.in_ok-entry.ensures.entry ∙ (λ i. entry_in (table (still i)) e) in
+      sym (c.changed_by.ensures ∙ (λ i. changed_by c.args.change e (entry i) (next i) (permitted i)))
+      ∙ c.in_ok-changed_by.was;
   store = reads_on _ _ _ _ (reads_then _ _ _ c.next_life_cycle.ensures.store.only c.allows.ensures.store.only)
-        c.in_ok-entry.ensures.store;
+      c.in_ok-entry.ensures.store;
 }
 
 pub returns-in_err-changed_by : goal.returns-in_err-changed_by
 returns-in_err-changed_by g c = record {
   told = let m = committed c.args.store.now in
-        let e = c.args.number in
-        let x = c.args.current.now in
-        let same = c.next_life_cycle.ensures.store.only.keeps.committed_words in
-        let still = c.allows.ensures.store.only.keeps.committed_words ∙ same in
-        let next : c.in_ok-next.next ≡ next_life (tree_of m) (path_of (table m) e) (command_of c.args.change) =
-        c.in_ok-next.ensures.next
-        ∙ ap (λ (k : LifeCycleCommand). next_life (tree_of m) (path_of (table m) e) k) c.command_of.ensures in
-        let permitted : c.in_ok-allowed.allowed
-        ≡ allowed (card_of m) (session_of (table m) x) (path_of (table m) e) (change_bit c.args.change) =
-        c.in_ok-allowed.ensures.told
-        ∙ (λ i. allowed (card_of (same i)) (session_of (table (same i)) x) (path_of (table (same i)) e)
-        (c.bit_of.ensures i)) in
-        let entry : c.in_ok-entry.entry ≡ entry_in (table m) e =
-        c.in_ok-entry.ensures.entry ∙ (λ i. entry_in (table (still i)) e) in
-        let status = c.in_err-changed_by.field-0.0 in
-        finds-stopped _ (Refused status) c.from_residual-in_err-changed_by.ensures.1 _ _
-        (sym (c.changed_by.ensures ∙ (λ i. changed_by c.args.change e (entry i) (next i) (permitted i)))
-        ∙ c.in_err-changed_by.was);
+      let e = c.args.number in
+      let x = c.args.current.now in
+      let same = c.next_life_cycle.ensures.store.only.keeps.committed_words in
+      let still = c.allows.ensures.store.only.keeps.committed_words ∙ same in
+      let next : c.in_ok-next.next ≡ next_life (tree_of m) (path_of (table m) e) (command_of c.args.change) =
+      c.in_ok-next.ensures.next
+      ∙ ap (λ (k : LifeCycleCommand). next_life (tree_of m) (path_of (table m) e) k) c.command_of.ensures in
+      let permitted : c.in_ok-allowed.allowed
+      ≡ allowed (card_of m) (session_of (table m) x) (path_of (table m) e) (change_bit c.args.change) =
+      c.in_ok-allowed.ensures.told
+      ∙ (λ i. allowed (card_of (same i)) (session_of (table (same i)) x) (path_of (table (same i)) e)
+      (c.bit_of.ensures i)) in
+      let entry : c.in_ok-entry.entry ≡ entry_in (table m) e =
+      c.in_ok-entry.ensures.entry ∙ (λ i. entry_in (table (still i)) e) in
+      let status = c.in_err-changed_by.field-0.0 in
+      finds-stopped _ (Refused status) c.from_residual-in_err-changed_by.ensures.1 _ _
+      (sym (c.changed_by.ensures ∙ (λ i. changed_by c.args.change e (entry i) (next i) (permitted i)))
+      ∙ c.in_err-changed_by.was);
   store = reads-stopped _ (Refused c.in_err-changed_by.field-0.0) c.from_residual-in_err-changed_by.ensures.1 _ _
-        (reads_on _ _ _ _ (reads_then _ _ _ c.next_life_cycle.ensures.store.only c.allows.ensures.store.only)
-        c.in_ok-entry.ensures.store);
+      (reads_on _ _ _ _ (reads_then _ _ _ c.next_life_cycle.ensures.store.only c.allows.ensures.store.only)
+      c.in_ok-entry.ensures.store);
 }

@@ -17,63 +17,63 @@ use Rattle.card_files.proofs.select.find_selected.Goals as goal
 pub returns-in-MasterFile-clause-found : goal.returns-in-MasterFile-clause-found
 returns-in-MasterFile-clause-found g c = record {
   told = let m = committed c.args.store.now in
-        ap (λ (selector : Selector). selected_from (card_of m).tree (path_of (table_in c.args.store.now)
-        c.args.current.df) (selection_of selector)) c.in-MasterFile.is
-        ∙ sym (ap (λ (path : Path). Some path) (master-path m));
+      ap (λ (selector : Selector). selected_from (card_of m).tree (path_of (table_in c.args.store.now)
+      c.args.current.df) (selection_of selector)) c.in-MasterFile.is
+      ∙ sym (ap (λ (path : Path). Some path) (master-path m));
   store = search rules;
 }
 
 pub returns-in-Identifier-clause-found : goal.returns-in-Identifier-clause-found
 returns-in-Identifier-clause-found g c = record {
   told = let m = committed c.args.store.now in
-        let t = table_in c.args.store.now in
-        let df = path_of t c.args.current.df in
-        let id = c.in-Identifier.identifier in
-        IfOk-weaker c.select.result (λ (found : Option ℕ). option_map (path_of t) found ≡ reached (tree_of m) df id) _
-        (λ found is. ap (λ (selector : Selector). selected_from (card_of m).tree df (selection_of selector))
-        c.in-Identifier.is
-        ∙ ap (λ (tree : Tree). reached tree df id) (card-tree m) ∙ sym is)
-        c.select.ensures.found;
+      let t = table_in c.args.store.now in
+      let df = path_of t c.args.current.df in
+      let id = c.in-Identifier.identifier in
+      IfOk-weaker c.select.result (λ (found : Option ℕ). option_map (path_of t) found ≡ reached (tree_of m) df id) _
+      (λ found is. ap (λ (selector : Selector). selected_from (card_of m).tree df (selection_of selector))
+      c.in-Identifier.is
+      ∙ ap (λ (tree : Tree). reached tree df id) (card-tree m) ∙ sym is)
+      c.select.ensures.found;
   store = search rules;
 }
 
 pub returns-in-Parent-clause-found : goal.returns-in-Parent-clause-found
 returns-in-Parent-clause-found g c = record {
   told = let m = committed c.args.store.now in
-        let t = table_in c.args.store.now in
-        let df = path_of t c.args.current.df in
-        IfOk-weaker c.find_parent.result
-        (λ (found : Option ℕ). option_map (path_of t) found ≡ selected (tree_of m) df the_parent) _
-        (λ found is. ap (λ (selector : Selector). selected_from (card_of m).tree df (selection_of selector)) c.in-Parent.is
-        ∙ ap (λ (tree : Tree). selected tree df the_parent) (card-tree m) ∙ sym is)
-        c.find_parent.ensures.found;
+      let t = table_in c.args.store.now in
+      let df = path_of t c.args.current.df in
+      IfOk-weaker c.find_parent.result
+      (λ (found : Option ℕ). option_map (path_of t) found ≡ selected (tree_of m) df the_parent) _
+      (λ found is. ap (λ (selector : Selector). selected_from (card_of m).tree df (selection_of selector)) c.in-Parent.is
+      ∙ ap (λ (tree : Tree). selected tree df the_parent) (card-tree m) ∙ sym is)
+      c.find_parent.ensures.found;
   store = search rules;
 }
 
 pub returns-in-Name-clause-found : goal.returns-in-Name-clause-found
 returns-in-Name-clause-found g c = record {
   told = let m = committed c.args.store.now in
-        let t = table_in c.args.store.now in
-        let df = path_of t c.args.current.df in
-        let name = c.in-Name.name.now in
-        IfOk-weaker c.find_name.result
-        (λ (found : Option ℕ). (above : Path) → option_map (path_of t) found ≡ selected (tree_of m) above (by_name name)) _
-        (λ found is. ap (λ (selector : Selector). selected_from (card_of m).tree df (selection_of selector)) c.in-Name.is
-        ∙ ap (λ (tree : Tree). selected tree df (by_name name)) (card-tree m) ∙ sym (is df))
-        c.find_name.ensures.found;
+      let t = table_in c.args.store.now in
+      let df = path_of t c.args.current.df in
+      let name = c.in-Name.name.now in
+      IfOk-weaker c.find_name.result
+      (λ (found : Option ℕ). (above : Path) → option_map (path_of t) found ≡ selected (tree_of m) above (by_name name)) _
+      (λ found is. ap (λ (selector : Selector). selected_from (card_of m).tree df (selection_of selector)) c.in-Name.is
+      ∙ ap (λ (tree : Tree). selected tree df (by_name name)) (card-tree m) ∙ sym (is df))
+      c.find_name.ensures.found;
   store = search rules;
 }
 
 pub returns-in-PathFromMaster-clause-found : goal.returns-in-PathFromMaster-clause-found
 returns-in-PathFromMaster-clause-found g c = record {
   told = let m = committed c.args.store.now in
-        let df = path_of (table_in c.args.store.now) c.args.current.df in
-        let path = c.deref.result.now in
-        let is = c.deref.ensures.0 ∙ c.identifiers_of.ensures in
-        let reaches = c.find_path_from_master.ensures.found m c.requires.kept.card.tree c.requires.index df in
-        ap (λ (selector : Selector). selected_from (card_of m).tree df (selection_of selector)) c.in-PathFromMaster.is
-        ∙ ap (λ (ids : List ℕ). selected_from (card_of m).tree df (whole_path ids)) (sym is)
-        ∙ ap (λ (tree : Tree). selected tree df (path_from_master path)) (card-tree m) ∙ sym reaches;
+      let df = path_of (table_in c.args.store.now) c.args.current.df in
+      let path = c.deref.result.now in
+      let is = c.deref.ensures.0 ∙ c.identifiers_of.ensures in
+      let reaches = c.find_path_from_master.ensures.found m c.requires.kept.card.tree c.requires.index df in
+      ap (λ (selector : Selector). selected_from (card_of m).tree df (selection_of selector)) c.in-PathFromMaster.is
+      ∙ ap (λ (ids : List ℕ). selected_from (card_of m).tree df (whole_path ids)) (sym is)
+      ∙ ap (λ (tree : Tree). selected tree df (path_from_master path)) (card-tree m) ∙ sym reaches;
   store = search rules;
 }
 
@@ -84,16 +84,16 @@ returns-in-PathFromMaster-clause-used g c =
 pub returns-in-PathFromCurrent-clause-found : goal.returns-in-PathFromCurrent-clause-found
 returns-in-PathFromCurrent-clause-found g c = record {
   told = let m = committed c.args.store.now in
-        let t = table_in c.args.store.now in
-        let df = path_of t c.args.current.df in
-        let path = c.deref-in-PathFromCurrent.result.now in
-        let is = c.deref-in-PathFromCurrent.ensures.0 ∙ c.identifiers_of-in-PathFromCurrent.ensures in
-        let reaches = c.find_path.ensures.found m c.requires.kept.card.tree (df_used t c.args.current
-        c.requires.kept.current)
-        c.requires.index in
-        ap (λ (selector : Selector). selected_from (card_of m).tree df (selection_of selector)) c.in-PathFromCurrent.is
-        ∙ ap (λ (ids : List ℕ). selected_from (card_of m).tree df (path_below ids)) (sym is)
-        ∙ ap (λ (tree : Tree). selected tree df (path_from_current path)) (card-tree m) ∙ sym reaches;
+      let t = table_in c.args.store.now in
+      let df = path_of t c.args.current.df in
+      let path = c.deref-in-PathFromCurrent.result.now in
+      let is = c.deref-in-PathFromCurrent.ensures.0 ∙ c.identifiers_of-in-PathFromCurrent.ensures in
+      let reaches = c.find_path.ensures.found m c.requires.kept.card.tree (df_used t c.args.current
+      c.requires.kept.current)
+      c.requires.index in
+      ap (λ (selector : Selector). selected_from (card_of m).tree df (selection_of selector)) c.in-PathFromCurrent.is
+      ∙ ap (λ (ids : List ℕ). selected_from (card_of m).tree df (path_below ids)) (sym is)
+      ∙ ap (λ (tree : Tree). selected tree df (path_from_current path)) (card-tree m) ∙ sym reaches;
   store = search rules;
 }
 
