@@ -1,7 +1,8 @@
 -- What calls on a board may cost.
-use Rattle.std.specs.Prelude.{◌≡◌, ◌==◌, ◌+◌, ◌*◌, ◌/◌, ◌≤◌, ℕ, if◌then◌else◌}
+use Rattle.std.specs.Prelude.{◌≡◌, ◌⊎◌, ◌==◌, ◌+◌, ◌*◌, ◌/◌, ◌≤◌, ℕ, if◌then◌else◌, Result, OnOk, slice_set}
+use Rattle.nvm_board.specs.declared.board.DeviceErr.{DeviceErr}
 use Rattle.nvm_board.specs.Aims.{AimStays, AimsOn}
-use Rattle.nvm_board.specs.Facts.{Facts}
+use Rattle.nvm_board.specs.Facts.{Facts, Answered}
 use Rattle.undo_journal.specs.Undo.{gate}
 
 -- at most n device writes, none taken back, which bring a cut that is set nearer; and no comparison
@@ -11,6 +12,14 @@ pub record WritesAtMost (n : ℕ) (old new : Facts) : Type 0 where
   pub cut : AimsOn old new
   pub compares : new.compares ≡ old.compares
   pub matches : new.matches ≡ old.matches
+
+-- one word is written, in one device write: after an error it is old or new
+pub record WritesWord {T : Type 0} (at word : ℕ) (old new : Facts) (result : Result T DeviceErr) : Type 0 where
+  pub done : OnOk result (new.words ≡ slice_set old.words at word)
+  pub torn : (new.words ≡ old.words) ⊎ (new.words ≡ slice_set old.words at word)
+  pub light : Answered old new result
+  pub counted : OnOk result (new.writes ≡ old.writes + 1)
+  pub writes : WritesAtMost 1 old new
 
 -- Device writes are counted on, and bring a cut that is set nearer.
 pub record Advances (old new : Facts) : Type 0 where

@@ -1,13 +1,13 @@
 //! The work of the journal on a board: the gate, the test of a journal, and the rollback.
-ghost use Rattle.std.specs.Prelude.{◌≡◌, ◌⊎◌, ◌↔◌, ◌+◌, ◌*◌, ◌<◌, ◌≤◌, ℕ, false, IsTrue, IfOk, OnOk, MatchOption};
-ghost use Rattle.std.specs.Prelude.{◌%◌, length, slice_set};
+ghost use Rattle.std.specs.Prelude.{◌≡◌, ◌↔◌, ◌+◌, ◌*◌, ◌<◌, ◌≤◌, ℕ, false, IsTrue, IfOk, OnOk, MatchOption};
+ghost use Rattle.std.specs.Prelude.{◌%◌, length};
 ghost use Rattle.nvm_board.specs.Torn.{Torn, written};
 ghost use Rattle.undo_journal.specs.declared.batch.TheConstants.{BATCH};
 ghost use Rattle.nvm_board.specs.Facts.{Answered};
 ghost use Rattle.undo_journal.specs.declared.layout.TheConstants.{GATE, JOURNAL, PAIRS};
 ghost use Rattle.undo_journal.specs.Undo.{gate, pair_at, undo, IsOutside, IsDataAddress, IsSound};
 ghost use Rattle.undo_journal.specs.Undo.{IsBadJournal};
-ghost use Rattle.undo_journal.specs.Spending.{WritesAtMost, KeepsBoard, rollback_writes};
+ghost use Rattle.undo_journal.specs.Spending.{WritesAtMost, WritesWord, KeepsBoard, rollback_writes};
 
 use crate::address::Address;
 use crate::layout::{GATE, JOURNAL, JOURNAL_END, PAIRS};
@@ -16,12 +16,7 @@ use nvm_board::{Board, DeviceErr, PAGE_WORDS};
 /// Writes one word.
 pub(crate) fn write_word<B: Board>(board: &mut B, at: Address, word: u32) -> Result<(), DeviceErr>
     requires { at.number < length (B.facts board.old).words }
-    ensures done { OnOk result ((B.facts board.new).words ≡ slice_set (B.facts board.old).words at.number word) }
-    ensures torn { ((B.facts board.new).words ≡ (B.facts board.old).words)
-        ⊎ ((B.facts board.new).words ≡ slice_set (B.facts board.old).words at.number word) }
-    ensures light { Answered (B.facts board.old) (B.facts board.new) result }
-    ensures counted { OnOk result ((B.facts board.new).writes ≡ (B.facts board.old).writes + 1) }
-    ensures writes { WritesAtMost 1 (B.facts board.old) (B.facts board.new) }
+    ensures { WritesWord at.number word (B.facts board.old) (B.facts board.new) result }
 {
     let (page, place) = at.page_and_place();
     board.write(page, place, &[word])
@@ -29,12 +24,7 @@ pub(crate) fn write_word<B: Board>(board: &mut B, at: Address, word: u32) -> Res
 
 /// Writes how many pairs count.
 pub(crate) fn write_gate<B: Board>(board: &mut B, count: u16) -> Result<(), DeviceErr>
-    ensures done { OnOk result ((B.facts board.new).words ≡ slice_set (B.facts board.old).words GATE count) }
-    ensures torn { ((B.facts board.new).words ≡ (B.facts board.old).words)
-        ⊎ ((B.facts board.new).words ≡ slice_set (B.facts board.old).words GATE count) }
-    ensures light { Answered (B.facts board.old) (B.facts board.new) result }
-    ensures counted { OnOk result ((B.facts board.new).writes ≡ (B.facts board.old).writes + 1) }
-    ensures writes { WritesAtMost 1 (B.facts board.old) (B.facts board.new) }
+    ensures { WritesWord GATE count (B.facts board.old) (B.facts board.new) result }
 {
     write_word(board, Address { number: GATE }, u32::from(count))
 }
@@ -120,14 +110,8 @@ pub(crate) fn sound_pairs<B: Board>(board: &mut B) -> Result<Option<u16>, Device
 fn put_back<B: Board>(board: &mut B, i: u16) -> Result<(), DeviceErr>
     requires inside { i < PAIRS }
     requires place { IsDataAddress (B.facts board.old).words (pair_at (B.facts board.old).words i).address }
-    ensures done { OnOk result (let p = pair_at (B.facts board.old).words i in
-        (B.facts board.new).words ≡ slice_set (B.facts board.old).words p.address p.earlier) }
-    ensures torn { let p = pair_at (B.facts board.old).words i in
-        ((B.facts board.new).words ≡ (B.facts board.old).words)
-        ⊎ ((B.facts board.new).words ≡ slice_set (B.facts board.old).words p.address p.earlier) }
-    ensures light { Answered (B.facts board.old) (B.facts board.new) result }
-    ensures counted { OnOk result ((B.facts board.new).writes ≡ (B.facts board.old).writes + 1) }
-    ensures writes { WritesAtMost 1 (B.facts board.old) (B.facts board.new) }
+    ensures { let p = pair_at (B.facts board.old).words i in
+        WritesWord p.address p.earlier (B.facts board.old) (B.facts board.new) result }
 {
     let pair = pair_address(i);
     let at = board.read(pair.number)?;

@@ -18,7 +18,8 @@ returns-then-batch-eq0-clause-done g c =
 pub returns-clause-any_exit : goal.returns-clause-any_exit
 returns-clause-any_exit g c =
     let flushed = (g.B.Board.facts c.flush.new.board).words in
-    let within : GATE < length flushed = omega (arith, least_words _ (g.met.B.Board.is_board c.flush.new.board).sized) in
+    let memory = (g.met.B.Board.is_board c.flush.new.board).sized in
+    let within : GATE < length flushed = omega (arith, least_words _ memory) in
     ⊎_elim
     (λ old. inl (ap (λ (l : List ℕ). data_words (undo l)) old ∙ c.in_ok-flush.ensures.kept))
     (λ new. inr (
@@ -37,14 +38,16 @@ returns-clause-any_exit g c =
 pub returns-clause-done : goal.returns-clause-done
 returns-clause-done g c =
     let flushed = (g.B.Board.facts c.flush.new.board).words in
-    let within : GATE < length flushed = omega (arith, least_words _ (g.met.B.Board.is_board c.flush.new.board).sized) in
+    let memory = (g.met.B.Board.is_board c.flush.new.board).sized in
+    let within : GATE < length flushed = omega (arith, least_words _ memory) in
     on_ok_weaker c.write_gate.result (λ new. gate-commits flushed _ within new ∙ c.in_ok-flush.ensures.done)
     c.write_gate.ensures.done
 
 pub returns-clause-sound : goal.returns-clause-sound
 returns-clause-sound g c =
     let flushed = (g.B.Board.facts c.flush.new.board).words in
-    let within : GATE < length flushed = omega (arith, least_words _ (g.met.B.Board.is_board c.flush.new.board).sized) in
+    let memory = (g.met.B.Board.is_board c.flush.new.board).sized in
+    let within : GATE < length flushed = omega (arith, least_words _ memory) in
     commit-sound flushed _ within c.in_ok-flush.ensures.sound c.write_gate.ensures.torn
 
 pub returns-then-batch-eq0-clause-counted : goal.returns-then-batch-eq0-clause-counted

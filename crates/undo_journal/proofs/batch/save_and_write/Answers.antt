@@ -34,21 +34,24 @@ returns-in_err-write_pairs-clause-sound g c =
     let r = c.requires in
     pairs-sound _
     _ _ c.args.sets.now _ c.in_ok-pairs.ensures.reads.words (c.deref.ensures.0 ∙ c.in_ok-pairs.ensures.words)
-    r.sound r.counts r.room r.sets (journal_within _ (g.met.B.Board.is_board _).sized) _ c.in_err-write_pairs.ensures.torn
+    r.sound r.counts r.room r.sets (journal_within _ (g.met.B.Board.is_board _).sized) _
+    c.in_err-write_pairs.ensures.torn
 
 pub returns-in_err-write_gate-clause-kept : goal.returns-in_err-write_gate-clause-kept
 returns-in_err-write_gate-clause-kept g c =
     let r = c.requires in
     gate-torn _ _ _ c.args.sets.now
     _ c.in_ok-pairs.ensures.reads.words (c.deref.ensures.0 ∙ c.in_ok-pairs.ensures.words) r.sound r.counts r.room r.sets
-    (journal_within _ (g.met.B.Board.is_board _).sized) _ c.in_ok-write_pairs.ensures.done _ c.in_err-write_gate.ensures.torn
+    (journal_within _ (g.met.B.Board.is_board _).sized) _ c.in_ok-write_pairs.ensures.done _
+    c.in_err-write_gate.ensures.torn
 
 pub returns-in_err-write_gate-clause-sound : goal.returns-in_err-write_gate-clause-sound
 returns-in_err-write_gate-clause-sound g c =
     let r = c.requires in
     gate-sound _ _ _ c.args.sets.now
     _ c.in_ok-pairs.ensures.reads.words (c.deref.ensures.0 ∙ c.in_ok-pairs.ensures.words) r.sound r.counts r.room r.sets
-    (journal_within _ (g.met.B.Board.is_board _).sized) _ c.in_ok-write_pairs.ensures.done _ c.in_err-write_gate.ensures.torn
+    (journal_within _ (g.met.B.Board.is_board _).sized) _ c.in_ok-write_pairs.ensures.done _
+    c.in_err-write_gate.ensures.torn
 
 pub write_words-requires-clause-sound : goal.write_words-requires-clause-sound
 write_words-requires-clause-sound g c =
@@ -62,7 +65,8 @@ write_words-requires-clause-named g c =
     let r = c.requires in
     named-raised _ _ _ c.args.sets.now
     _ c.in_ok-pairs.ensures.reads.words (c.deref.ensures.0 ∙ c.in_ok-pairs.ensures.words) r.sound r.counts r.room r.sets
-    (journal_within _ (g.met.B.Board.is_board _).sized) _ c.in_ok-write_pairs.ensures.done _ c.in_ok-write_gate.ensures.done
+    (journal_within _ (g.met.B.Board.is_board _).sized) _ c.in_ok-write_pairs.ensures.done _
+    c.in_ok-write_gate.ensures.done
 
 pub returns-clause-kept : goal.returns-clause-kept
 returns-clause-kept g c =
@@ -78,7 +82,8 @@ returns-clause-done g c =
     on_ok_weaker c.write_words.result
     (λ done. current-raised _ _ _ c.args.sets.now _ c.in_ok-pairs.ensures.reads.words
     (c.deref.ensures.0 ∙ c.in_ok-pairs.ensures.words) r.sound r.counts r.room r.sets
-    (journal_within _ (g.met.B.Board.is_board _).sized) _ c.in_ok-write_pairs.ensures.done _ c.in_ok-write_gate.ensures.done
+    (journal_within _ (g.met.B.Board.is_board _).sized) _ c.in_ok-write_pairs.ensures.done _
+    c.in_ok-write_gate.ensures.done
     _ done) c.write_words.ensures.done
 
 pub returns-clause-counted : goal.returns-clause-counted

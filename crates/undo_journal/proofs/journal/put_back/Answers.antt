@@ -1,4 +1,4 @@
-use Rattle.std.proofs.Common.{◌≡◌, ◌+◌, ◌*◌, ℕ, List, refl, ◌∙◌, arith, slice_index, slice_set}
+use Rattle.std.proofs.Common.{◌≡◌, ◌+◌, ◌*◌, ℕ, List, refl, inl, ◌∙◌, arith, rules, slice_index, slice_set}
 use Rattle.std.proofs.Math.Logic.{⊎_map}
 use Rattle.std.proofs.lemmas.Result.{on_ok_weaker}
 use Rattle.undo_journal.specs.declared.layout.TheConstants.{JOURNAL}
@@ -13,60 +13,53 @@ pair-put : (m near nearer : List ℕ) (i number at earlier : ℕ) → number ≡
     → slice_set nearer at earlier ≡ slice_set m (pair_at m i).address (pair_at m i).earlier
 pair-put m near nearer i number at earlier place first second address word = cc
 
-pub returns-in_err-at-clause-light : goal.returns-in_err-at-clause-light
-returns-in_err-at-clause-light g c =
-    answered_err _ _ _ _ c.from_residual.ensures.1 c.in_err-at.ensures.light
-
-pub returns-in_err-earlier-clause-light : goal.returns-in_err-earlier-clause-light
-returns-in_err-earlier-clause-light g c =
-    answered_err _ _ _ _ c.from_residual-in_err-earlier.ensures.1
-    (answered_after _ _ _ _ (c.in_ok-at.ensures.light.ok refl) c.in_err-earlier.ensures.light)
-
-pub returns-clause-light : goal.returns-clause-light
-returns-clause-light g c =
-    answered_after _ _ _ _
-    (steady_then _ _ _ (c.in_ok-at.ensures.light.ok refl) (c.in_ok-earlier.ensures.light.ok refl))
-    c.write_word.ensures.light
-
-pub returns-clause-done : goal.returns-clause-done
-returns-clause-done g c =
-    let put = pair-put _ _ _ c.args.i _ _ _ c.pair_address-pair.ensures c.in_ok-at.ensures.words
-    c.in_ok-earlier.ensures.words c.in_ok-at.ensures.word c.in_ok-earlier.ensures.word in
-    on_ok_weaker c.write_word.result (λ done. done ∙ put) c.write_word.ensures.done
-
-pub returns-clause-torn : goal.returns-clause-torn
-returns-clause-torn g c =
-    let put = pair-put _ _ _ c.args.i _ _ _ c.pair_address-pair.ensures c.in_ok-at.ensures.words
-    c.in_ok-earlier.ensures.words c.in_ok-at.ensures.word c.in_ok-earlier.ensures.word in
-    ⊎_map (λ old. old ∙ c.in_ok-earlier.ensures.words ∙ c.in_ok-at.ensures.words) (λ new. new ∙ put)
-    c.write_word.ensures.torn
-
-pub returns-clause-writes : goal.returns-clause-writes
-returns-clause-writes g c =
-    let cost = c.write_word.ensures.writes in
-    let first = c.in_ok-at.ensures in
-    let second = c.in_ok-earlier.ensures in
+pub returns-in_err-at : goal.returns-in_err-at
+returns-in_err-at g c =
+    let told = c.in_err-at.ensures in
     record {
-      writes = omega (arith, cost.writes, second.writes, first.writes);
-      more = omega (arith, cost.more, second.writes, first.writes);
-      cut = aims_then _ _ _ (aims_kept _ _ (aims_stay _ _ _ first.cut second.cut)) cost.cut;
-      compares = cost.compares ∙ second.compares ∙ first.compares;
-      matches = cost.matches ∙ second.matches ∙ first.matches;
+      done = search rules;
+      torn = inl told.words;
+      light = answered_err _ _ _ _ c.from_residual.ensures.1 told.light;
+      counted = search rules;
+      writes = search rules;
     }
 
-pub returns-in_err-earlier-clause-writes : goal.returns-in_err-earlier-clause-writes
-returns-in_err-earlier-clause-writes g c =
+pub returns-in_err-earlier : goal.returns-in_err-earlier
+returns-in_err-earlier g c =
     let first = c.in_ok-at.ensures in
     let second = c.in_err-earlier.ensures in
     record {
-      writes = omega (arith, second.writes, first.writes);
-      more = omega (arith, second.writes, first.writes);
-      cut = aims_kept _ _ (aims_stay _ _ _ first.cut second.cut);
-      compares = second.compares ∙ first.compares;
-      matches = second.matches ∙ first.matches;
+      done = search rules;
+      torn = inl (second.words ∙ first.words);
+      light = answered_err _ _ _ _ c.from_residual-in_err-earlier.ensures.1
+          (answered_after _ _ _ _ (first.light.ok refl) second.light);
+      counted = search rules;
+      writes = record {
+        writes = omega (arith, second.writes, first.writes);
+        more = omega (arith, second.writes, first.writes);
+        cut = aims_kept _ _ (aims_stay _ _ _ first.cut second.cut);
+        compares = second.compares ∙ first.compares;
+        matches = second.matches ∙ first.matches;
+      };
     }
 
-pub returns-clause-counted : goal.returns-clause-counted
-returns-clause-counted g c =
-    on_ok_weaker c.write_word.result
-    (λ one. omega (arith, one, c.in_ok-earlier.ensures.writes, c.in_ok-at.ensures.writes)) c.write_word.ensures.counted
+pub returns : goal.returns
+returns g c =
+    let first = c.in_ok-at.ensures in
+    let second = c.in_ok-earlier.ensures in
+    let told = c.write_word.ensures in
+    let put = pair-put _ _ _ c.args.i _ _ _ c.pair_address-pair.ensures first.words second.words first.word second.word
+    in
+    record {
+      done = on_ok_weaker c.write_word.result (λ done. done ∙ put) told.done;
+      torn = ⊎_map (λ old. old ∙ second.words ∙ first.words) (λ new. new ∙ put) told.torn;
+      light = answered_after _ _ _ _ (steady_then _ _ _ (first.light.ok refl) (second.light.ok refl)) told.light;
+      counted = on_ok_weaker c.write_word.result (λ one. omega (arith, one, second.writes, first.writes)) told.counted;
+      writes = record {
+        writes = omega (arith, told.writes.writes, second.writes, first.writes);
+        more = omega (arith, told.writes.more, second.writes, first.writes);
+        cut = aims_then _ _ _ (aims_kept _ _ (aims_stay _ _ _ first.cut second.cut)) told.writes.cut;
+        compares = told.writes.compares ∙ second.compares ∙ first.compares;
+        matches = told.writes.matches ∙ second.matches ∙ first.matches;
+      };
+    }

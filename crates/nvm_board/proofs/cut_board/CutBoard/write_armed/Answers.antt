@@ -77,7 +77,7 @@ returns c =
     let told = c.in_ok-write.ensures.writes in
     let was_lit = (told.light.ok refl).was_lit in
     let never = λ (mask : ℕ) (lit : old.dark ≡ false). c.firing.ensures.spared c.in_default.is
-        (c.is_dark.ensures ∙ lit) mask in
+    (c.is_dark.ensures ∙ lit) mask in
     record {
       writes = record {
         done = told.done;

@@ -32,7 +32,8 @@ returns-clause-store g c =
     let undone = c.roll_back-answer.ensures in
     let fresh = c.new-self-inside.ensures in
     noted-changes _ _ _ c.self.view_is c.self.invariant c.in_ok-checked.ensures.ready.works _ _ c.noted.ensures.answer
-    c.noted.ensures.failed undone.light _ (g.met.B.Board.is_board _).sized (g.met.B.Board.is_board _).words_fit undone.sound
+    c.noted.ensures.failed undone.light _ (g.met.B.Board.is_board _).sized
+    (g.met.B.Board.is_board _).words_fit undone.sound
     (on_ok_weaker c.roll_back-answer.result
     (λ done. ap gate done ∙ gate_undone before.words) undone.done) (new-idle _ _ fresh.used fresh.waiting)
     (subst (λ (m : Memory). WritesAtMost (rollback_writes m.used) before after) c.self.view_is undone.writes)

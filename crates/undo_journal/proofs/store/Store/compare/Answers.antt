@@ -34,7 +34,8 @@ returns-clause-usable g c =
     let works = c.in_ok-check.ensures.ready.works in
     let held = c.self.invariant.works (ap (λ (m : Memory). m.failed) c.self.view_is ∙ works) in
     noted-open _ _ _ c.self.view_is c.self.invariant works _ _ c.noted.ensures.answer
-    c.noted.ensures.failed c.compare-answer.ensures.light (g.met.B.Board.is_board _).sized (g.met.B.Board.is_board _).words_fit
+    c.noted.ensures.failed c.compare-answer.ensures.light (g.met.B.Board.is_board _).sized
+    (g.met.B.Board.is_board _).words_fit
     (always _ _ (held-kept _ _ _ _ c.compare-answer.ensures.words held))
 
 pub returns-clause-ready : goal.returns-clause-ready
@@ -47,7 +48,8 @@ returns-clause-ready g c =
     let unused = ap taken c.self.view_is ∙ idle in
     let none : c.self.inside.batch.used ≡ 0 = omega (arith, unused) in
     let shut = ap gate kept.words ∙ held.counts ∙ none in
-    ready-from _ usable.works usable.lit (g.met.B.Board.is_board _).sized (g.met.B.Board.is_board _).words_fit shut unused)
+    ready-from _ usable.works usable.lit (g.met.B.Board.is_board _).sized
+    (g.met.B.Board.is_board _).words_fit shut unused)
     (returns-clause-usable g c)
 
 pub returns-clause-reports : goal.returns-clause-reports

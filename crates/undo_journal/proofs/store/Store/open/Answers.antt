@@ -14,7 +14,8 @@ invariant_of-result g c =
 pub returns-in-Ok-clause-ready : goal.returns-in-Ok-clause-ready
 returns-in-Ok-clause-ready g c =
     let words = (g.B.Board.facts c.sound_pairs.new.board).words in
-    ready-from _ refl (c.in-Ok.ensures.light.ok refl).lit (g.met.B.Board.is_board _).sized (g.met.B.Board.is_board _).words_fit
+    ready-from _ refl (c.in-Ok.ensures.light.ok refl).lit (g.met.B.Board.is_board _).sized
+    (g.met.B.Board.is_board _).words_fit
     (ap gate c.in-Ok.ensures.done ∙ gate_undone words) (new-idle _ _ c.new.ensures.used c.new.ensures.waiting)
 
 pub returns-in-Err-clause-not_opened : goal.returns-in-Err-clause-not_opened

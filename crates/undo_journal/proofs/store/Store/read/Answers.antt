@@ -86,7 +86,8 @@ returns-clause-usable g c =
     let works = c.in_ok-check.ensures.ready.works in
     let held = c.self.invariant.works (ap (λ (m : Memory). m.failed) c.self.view_is ∙ works) in
     noted-open _ _ _ c.self.view_is c.self.invariant works _ _ c.noted.ensures.answer
-    c.noted.ensures.failed c.read-answer.ensures.light (g.met.B.Board.is_board _).sized (g.met.B.Board.is_board _).words_fit
+    c.noted.ensures.failed c.read-answer.ensures.light (g.met.B.Board.is_board _).sized
+    (g.met.B.Board.is_board _).words_fit
     (always _ _ (held-kept _ _ _ _ c.read-answer.ensures.words held))
 
 pub returns-clause-store : goal.returns-clause-store

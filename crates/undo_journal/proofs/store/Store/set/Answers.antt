@@ -35,7 +35,8 @@ invariant_of-self g c =
 pub returns-clause-ready : goal.returns-clause-ready
 returns-clause-ready g c =
     noted-open _ _ _ c.self.view_is c.self.invariant c.in_ok-check.ensures.ready.works _ _ c.noted.ensures.answer
-    c.noted.ensures.failed c.add-answer.ensures.light (g.met.B.Board.is_board _).sized (g.met.B.Board.is_board _).words_fit
+    c.noted.ensures.failed c.add-answer.ensures.light (g.met.B.Board.is_board _).sized
+    (g.met.B.Board.is_board _).words_fit
     (on_ok_weaker c.add-answer.result (λ held. held-fits _ _ _ held) c.add-answer.ensures.held)
 
 pub returns-clause-reports : goal.returns-clause-reports

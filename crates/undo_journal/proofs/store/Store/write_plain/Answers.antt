@@ -16,7 +16,8 @@ write-answer-requires g c =
     let place = board-run c.args.self.now _ at (length c.args.words.now)
     (ap (λ (m : Memory). m.facts.words) c.self.view_is) c.requires.place in
     record {
-      page = page_of_run _ c.args.page c.args.first (length c.args.words.now) (g.met.B.Board.is_board _).sized c.requires.some
+      page = page_of_run _ c.args.page c.args.first (length c.args.words.now)
+          (g.met.B.Board.is_board _).sized c.requires.some
           place.1;
       some = c.requires.some;
       run = c.requires.run;
