@@ -3,7 +3,6 @@ use Rattle.std.specs.Prelude.{◌≡◌, ◌⊎◌, ◌+◌, ◌*◌, ◌==◌, 
 use Rattle.std.specs.Prelude.{nat_le, if◌then◌else◌}
 use Rattle.std.specs.Prelude.{◌-◌, ◌++◌, ◌∷◌, slice_set, List, [], length, Option}
 use Rattle.apdu_core.specs.declared.binary.Target.{Target}
-use Rattle.apdu_core.specs.declared.binary.Target.TheVariants as target
 use Rattle.file_tree.specs.declared.entry.Entry.{Entry}
 use Rattle.file_tree.specs.Entries.{capacity_of}
 use Rattle.file_tree.specs.declared.layout.TheConstants.{FIRST_ENTRY_PAGE, RECORDS_WORD}

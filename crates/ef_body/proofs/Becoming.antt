@@ -12,7 +12,7 @@ use Rattle.ef_body.specs.declared.cyclic.Cyclic.{Cyclic}
 use Rattle.ef_body.specs.declared.slot.RecordSlot.{RecordSlot}
 use Rattle.ef_body.specs.Records.{slot, in_order, newest_first, front, record_of}
 use Rattle.ef_body.specs.Bodies.{counts_word, number_told, start_told, linear_records, cyclic_records, IsLinear}
-use Rattle.ef_body.specs.Bodies.{IsCyclic}
+use Rattle.ef_body.specs.Bodies.{IsCyclic, LieIn}
 use Rattle.ef_body.specs.Changes.{LinearBecomes, CyclicBecomes, RecordsBecome, PutsRecord}
 use Rattle.ef_body.specs.laws.Lists.{length-in_order, slot_before, slot_before-small}
 use Rattle.ef_body.specs.laws.Lists.{newest_first-front, newest_first-put, newest_first-back, length-newest_first}
@@ -137,6 +137,20 @@ module _ (m : List ℕ) (body : Linear) (ring : Cyclic) (same : ring ≡ ring_of
       let capacity : ring.capacity ≡ body.capacity = ap (λ (r : Cyclic). r.capacity) same in
       taken_becomes after (linear_records m body ++ bytes ∷ []) (omega (arith, long, many, room, records, capacity))
       (subst (λ (l : List (List ℕ)). RecordsBecome m ring (l ++ bytes ∷ []) after) taken_records becomes)
+
+-- a record that is put into a slot lies in the blocks
+pub slot_lies : (m : List ℕ) (ring : Cyclic) (bytes : List ℕ) → IsCyclic m ring → length bytes ≡ ring.record_length
+    → (slot offset : ℕ) → slot < ring.capacity → offset ≡ slot * ring.record_length
+    → LieIn m ring.chain offset (length bytes)
+slot_lies m ring bytes is long slot offset within at =
+    let inside = slot-within ring.record_length slot ring.capacity within in
+    let fits = is.slots.fits in
+    let small = is.slots.small in
+    record {
+      chain = is.slots.chain;
+      within = omega (arith, at, inside, fits, long);
+      small = omega (arith, at, inside, small, long);
+    }
 
 -- a record in place of another
 pub ring_put : (m after : List ℕ) (ring : Cyclic) (number : ℕ) (bytes : List ℕ) → IsMemory m → IsCyclic m ring

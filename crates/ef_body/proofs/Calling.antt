@@ -37,27 +37,27 @@ commits_within n k old new r P fits commits = record {
 -- the store's answer, as a body's, of a call that nothing refuses
 module _ {T : Type 0} (r : Result T StoreErr) (s : Result T BodyErr)
     (is : result_err s ≡ option_map Store (result_err r)) (due : Option Sw) (none : due ≡ None) (old new : Memory)
-    where
-  pub store_reads : (wanted buffer : List ℕ) → ReadsInto wanted old new buffer r
-      → ReadsUnlessRefused due wanted old new buffer s
-  store_reads wanted buffer reads = record {
-    bytes = store_done r s is _ reads.bytes;
-    any_exit = reads.any_exit;
-    refusal = store_decides r s is due none;
-    refused = store_refuses r s is _;
-    store = store_told r s is (Reads old new) reads.store;
-  }
+  where
+    pub store_reads : (wanted buffer : List ℕ) → ReadsInto wanted old new buffer r
+        → ReadsUnlessRefused due wanted old new buffer s
+    store_reads wanted buffer reads = record {
+      bytes = store_done r s is _ reads.bytes;
+      any_exit = reads.any_exit;
+      refusal = store_decides r s is due none;
+      refused = store_refuses r s is _;
+      store = store_told r s is (Reads old new) reads.store;
+    }
 
-  pub store_commits : (n : ℕ) (becomes : List ℕ → Type 0) → Commits becomes n old new r
-      → CommitsUnlessRefused due becomes n old new s
-  store_commits n becomes commits = record {
-    any_exit = commits.any_exit;
-    done = store_done r s is _ commits.done;
-    refusal = store_decides r s is due none;
-    refused = store_refuses r s is _;
-    by_gate = commits.by_gate;
-    store = store_told r s is (Changes n old new) commits.store;
-  }
+    pub store_commits : (n : ℕ) (becomes : List ℕ → Type 0) → Commits becomes n old new r
+        → CommitsUnlessRefused due becomes n old new s
+    store_commits n becomes commits = record {
+      any_exit = commits.any_exit;
+      done = store_done r s is _ commits.done;
+      refusal = store_decides r s is due none;
+      refused = store_refuses r s is _;
+      by_gate = commits.by_gate;
+      store = store_told r s is (Changes n old new) commits.store;
+    }
 
 -- the answer is the refusal that was handed on
 refusal_is : {T : Type 0} (r : Result T BodyErr) (status : Sw) → IsErrAnd r (λ b. b ≡ Refused status)

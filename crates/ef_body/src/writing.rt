@@ -5,13 +5,12 @@ ghost use Rattle.undo_journal.specs.Memory.{committed, current, room, InRuns, Is
 ghost use Rattle.undo_journal.specs.Calls.{SetsIn};
 ghost use Rattle.undo_journal.specs.Lent.{memory_of};
 ghost use Rattle.undo_journal.specs.declared.layout.TheConstants.{GATE};
-ghost use Rattle.block_chain.specs.Chains.{chain_of as blocks_of_chain, IsChain};
+ghost use Rattle.block_chain.specs.Chains.{chain_of as blocks_of_chain};
 ghost use Rattle.block_chain.specs.Changes.{Overwrites, touched_blocks, touched_words};
 ghost use Rattle.block_chain.specs.Writes.{put_writes};
-ghost use Rattle.block_chain.specs.declared.layout.TheConstants.{BLOCK_BYTES, FILE_BYTES};
 ghost use Rattle.ef_body.specs.declared.layout.TheConstants.{RECORD_WRITES, UPDATE_WRITES};
 ghost use Rattle.ef_body.specs.Records.{front};
-ghost use Rattle.ef_body.specs.Bodies.{counts_word, cyclic_records, IsCyclic};
+ghost use Rattle.ef_body.specs.Bodies.{counts_word, cyclic_records, IsCyclic, LieIn};
 ghost use Rattle.undo_journal.specs.Spending.{transaction_writes};
 ghost use Rattle.ef_body.specs.Changes.{CyclicBecomes, PutsRecord, RecordsBecome};
 ghost use Rattle.ef_body.specs.Calls.{Commits};
@@ -36,9 +35,7 @@ pub(crate) fn put_bytes<B: Board>(
     bytes: &[u8],
 ) -> Result<(), StoreErr>
     requires ready { IsReady store.old }
-    requires chain { IsChain (committed store.old) chain.first (blocks_of_chain (committed store.old) chain) }
-    requires within { offset + length bytes.now ≤ BLOCK_BYTES * length (blocks_of_chain (committed store.old) chain) }
-    requires small { offset + length bytes.now ≤ FILE_BYTES }
+    requires lie { LieIn (committed store.old) chain offset (length bytes.now) }
     requires few { length bytes.now ≤ 255 }
     ensures commits { Commits (Overwrites (committed store.old) (blocks_of_chain (committed store.old) chain) offset
         bytes.now) (transaction_writes (touched_words offset (length bytes.now)) (touched_blocks offset
@@ -62,9 +59,7 @@ fn put_record<B: Board>(
     told: u32,
 ) -> Result<(), StoreErr>
     requires ready { IsReady store.old }
-    requires chain { IsChain (committed store.old) chain.first (blocks_of_chain (committed store.old) chain) }
-    requires within { offset + length bytes.now ≤ BLOCK_BYTES * length (blocks_of_chain (committed store.old) chain) }
-    requires small { offset + length bytes.now ≤ FILE_BYTES }
+    requires lie { LieIn (committed store.old) chain offset (length bytes.now) }
     requires few { length bytes.now ≤ 255 }
     requires entry { told_at < GATE }
     ensures { Commits (PutsRecord (committed store.old) chain offset bytes.now told_at told) RECORD_WRITES store.old
@@ -85,11 +80,7 @@ fn set_record<B: Board>(
     told: u32,
 ) -> Result<(), StoreErr>
     requires ready { IsOpen (memory_of txn.old) }
-    requires chain { IsChain (current (memory_of txn.old)) chain.first (blocks_of_chain (current (memory_of txn.old))
-        chain) }
-    requires within { offset + length bytes.now ≤ BLOCK_BYTES * length (blocks_of_chain (current (memory_of txn.old))
-        chain) }
-    requires small { offset + length bytes.now ≤ FILE_BYTES }
+    requires lie { LieIn (current (memory_of txn.old)) chain offset (length bytes.now) }
     requires entry { told_at < GATE }
     requires room { touched_words offset (length bytes.now) + 1 ≤ room (memory_of txn.old) }
     ensures done { OnOk result (PutsRecord (current (memory_of txn.old)) chain offset bytes.now told_at told (current

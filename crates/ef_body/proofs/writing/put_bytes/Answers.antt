@@ -19,13 +19,14 @@ set_bytes-work-requires-clause-ready g c =
 pub set_bytes-work-requires-clause-chain : goal.set_bytes-work-requires-clause-chain
 set_bytes-work-requires-clause-chain g c =
     subst (λ (m : List ℕ). IsChain m c.args.chain.first (chain_of m c.args.chain))
-    (begun c.args.store.now (memory_of c.begin-txn.result) c.begin-txn.ensures.same c.requires.ready) c.requires.chain
+    (begun c.args.store.now (memory_of c.begin-txn.result) c.begin-txn.ensures.same c.requires.ready)
+    c.requires.lie.chain
 
 pub set_bytes-work-requires-clause-within : goal.set_bytes-work-requires-clause-within
 set_bytes-work-requires-clause-within g c =
     subst (λ (m : List ℕ). c.args.offset + length c.args.bytes.now ≤ BLOCK_BYTES * length (chain_of m c.args.chain))
     (begun c.args.store.now (memory_of c.begin-txn.result) c.begin-txn.ensures.same c.requires.ready)
-    c.requires.within
+    c.requires.lie.within
 
 pub set_bytes-work-requires-clause-room : goal.set_bytes-work-requires-clause-room
 set_bytes-work-requires-clause-room g c =

@@ -1,13 +1,12 @@
-use Rattle.std.specs.Prelude.{◌*◌, ◌+◌, ◌≤◌, length}
+use Rattle.std.specs.Prelude.{◌+◌, length}
 use Rattle.std.proofs.Common.{ℕ, List, sym, ◌∙◌, subst, arith}
 use Rattle.undo_journal.specs.Lent.{memory_of}
 use Rattle.undo_journal.specs.Memory.{Memory, IsOpen}
 use Rattle.undo_journal.specs.laws.Endings.{ends, ends_answered, ends_by_gate, ends_done}
 use Rattle.undo_journal.specs.laws.Transactions.{begun}
-use Rattle.block_chain.specs.declared.layout.TheConstants.{BLOCK_BYTES}
-use Rattle.block_chain.specs.Chains.{chain_of, IsChain}
 use Rattle.block_chain.specs.Changes.{touched_words, touched_blocks}
 use Rattle.ef_body.specs.declared.layout.TheConstants.{RECORD_WRITES}
+use Rattle.ef_body.specs.Bodies.{LieIn}
 use Rattle.ef_body.specs.Changes.{PutsRecord}
 use Rattle.ef_body.proofs.Putting.{touched_few, touched_few_blocks}
 use Rattle.ef_body.proofs.writing.put_record.Goals as goal
@@ -16,16 +15,10 @@ pub set_record-work-requires-clause-ready : goal.set_record-work-requires-clause
 set_record-work-requires-clause-ready g c =
     subst (λ (m : Memory). IsOpen m) (sym c.begin-txn.ensures.same) c.requires.ready.usable
 
-pub set_record-work-requires-clause-chain : goal.set_record-work-requires-clause-chain
-set_record-work-requires-clause-chain g c =
-    subst (λ (m : List ℕ). IsChain m c.args.chain.first (chain_of m c.args.chain))
-    (begun c.args.store.now (memory_of c.begin-txn.result) c.begin-txn.ensures.same c.requires.ready) c.requires.chain
-
-pub set_record-work-requires-clause-within : goal.set_record-work-requires-clause-within
-set_record-work-requires-clause-within g c =
-    subst (λ (m : List ℕ). c.args.offset + length c.args.bytes.now ≤ BLOCK_BYTES * length (chain_of m c.args.chain))
-    (begun c.args.store.now (memory_of c.begin-txn.result) c.begin-txn.ensures.same c.requires.ready)
-    c.requires.within
+pub set_record-work-requires-clause-lie : goal.set_record-work-requires-clause-lie
+set_record-work-requires-clause-lie g c =
+    subst (λ (m : List ℕ). LieIn m c.args.chain c.args.offset (length c.args.bytes.now))
+    (begun c.args.store.now (memory_of c.begin-txn.result) c.begin-txn.ensures.same c.requires.ready) c.requires.lie
 
 pub set_record-work-requires-clause-room : goal.set_record-work-requires-clause-room
 set_record-work-requires-clause-room g c =

@@ -32,7 +32,7 @@ returns-clause-done g c =
     c.args.told_at c.args.told).
     puts m (current (memory_of c.set_bytes.new.txn)) (current (memory_of c.set.new.self)) c.args.chain
     c.args.offset
-    c.args.bytes.now c.args.told_at c.args.told c.requires.ready.current_size c.requires.chain c.requires.entry
+    c.args.bytes.now c.args.told_at c.args.told c.requires.ready.current_size c.requires.lie.chain c.requires.entry
     c.in_ok-set_bytes.ensures.done done) c.set.ensures.done
 
 pub returns-in_err-set_bytes-clause-runs : goal.returns-in_err-set_bytes-clause-runs
@@ -42,5 +42,6 @@ returns-in_err-set_bytes-clause-runs g c =
 
 pub returns-clause-runs : goal.returns-clause-runs
 returns-clause-runs g c =
-    runs_then (touched_blocks c.args.offset (length c.args.bytes.now)) 1 _ _ _ _ (omega arith) c.set_bytes.ensures.runs
+    runs_then (touched_blocks c.args.offset (length c.args.bytes.now)) 1 _ _ _ _ (omega arith)
+    c.set_bytes.ensures.runs
     c.set.ensures.store.sets.writes

@@ -1,7 +1,13 @@
 use Rattle.undo_journal.specs.Memory.{committed}
-use Rattle.ef_body.proofs.Becoming.{ring_added}
+use Rattle.ef_body.proofs.Becoming.{ring_added, slot_lies}
 use Rattle.ef_body.proofs.Calling.{commits_weaker}
 use Rattle.ef_body.proofs.slot.FreeSlot.append.Goals as goal
+
+pub put_record-requires-clause-lie : goal.put_record-requires-clause-lie
+put_record-requires-clause-lie g c =
+    slot_lies (committed c.args.store.now) c.args.self.ring c.args.bytes.now c.requires.body c.requires.size
+    c.slot_of.result _
+    c.slot_of.ensures.within c.offset_of-offset.ensures
 
 pub returns : goal.returns
 returns g c =

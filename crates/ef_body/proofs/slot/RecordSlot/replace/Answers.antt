@@ -1,9 +1,15 @@
 use Rattle.std.proofs.Common.{◌≤◌, arith, length}
 use Rattle.undo_journal.specs.Memory.{committed}
-use Rattle.ef_body.proofs.Becoming.{ring_put}
+use Rattle.ef_body.proofs.Becoming.{ring_put, slot_lies}
 use Rattle.ef_body.proofs.Calling.{commits_weaker, commits_within}
 use Rattle.ef_body.proofs.Putting.{touched_few, touched_few_blocks}
 use Rattle.ef_body.proofs.slot.RecordSlot.replace.Goals as goal
+
+pub put_bytes-requires-clause-lie : goal.put_bytes-requires-clause-lie
+put_bytes-requires-clause-lie g c =
+    slot_lies (committed c.args.store.now) c.args.self.ring c.args.bytes.now c.requires.body c.requires.size
+    c.slot_of.result _
+    c.slot_of.ensures.within c.offset_of-offset.ensures
 
 pub returns : goal.returns
 returns g c =

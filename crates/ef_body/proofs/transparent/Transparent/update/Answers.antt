@@ -26,14 +26,19 @@ returns-then-ends_before-clause-commits g c =
     c.args.bytes.now c.ends_before.result c.ends_before.ensures c.if-ends_at.false c.if-ends_before.true) _
     c.requires.ready _ _
 
-pub put_bytes-requires-clause-within : goal.put_bytes-requires-clause-within
-put_bytes-requires-clause-within g c =
+pub put_bytes-requires-clause-lie : goal.put_bytes-requires-clause-lie
+put_bytes-requires-clause-lie g c =
     let m = committed c.args.store.now in
     let within = new_fits (transparent_bytes m c.args.self) c.args.self.size c.args.offset c.ends_at.result
     (length-transparent m c.args.self c.requires.ready.usable.committed_size c.requires.body) c.ends_at.ensures
     c.args.bytes.now c.ends_before.result c.ends_before.ensures c.if-ends_at.false c.if-ends_before.false in
     let fits = c.requires.body.fits in
-    omega (arith, within, fits)
+    let size = c.requires.body.size in
+    record {
+      chain = c.requires.body.chain;
+      within = omega (arith, within, fits);
+      small = omega (arith, within, size);
+    }
 
 pub returns-clause-commits : goal.returns-clause-commits
 returns-clause-commits g c =
