@@ -1,5 +1,5 @@
--- What is promised of the steps by which the bytes of a command are read. No clause of another crate names these but
--- `IsParsed`.
+-- What is promised of the steps by which the bytes of a command are read.
+-- Of public calls `Command::parse` has a clause of these, `IsParsed`.
 use Rattle.std.specs.Prelude.{◌≡◌, ◌≤◌, Bool, ℕ, List, length, Option, Some, None, is_some, IfSome}
 use Rattle.std.specs.Prelude.{Result, is_ok, IfOk, IfErr}
 use Rattle.card_rules.specs.declared.status.Sw.{Sw}

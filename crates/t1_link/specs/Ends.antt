@@ -24,7 +24,8 @@ pub record Says (outcome : Outcome) (told : Next) (before held : List ℕ) : Typ
   pub next : told ≡ next_of outcome
   pub out : held ≡ left_in outcome before
 
--- the reader's end does what its table says: what it holds, what it tells its caller, and what the buffer of blocks holds
+-- the reader's end does what its table says:
+-- what it holds, what it tells its caller, and what the buffer of blocks holds
 pub record Turns (turned : Turned) (reader : Reader) (told : Next) (before held : List ℕ) : Type 0 where
   pub state : reader ≡ turned.reader
   pub next : told ≡ next_of turned.outcome

@@ -25,8 +25,9 @@ returns-in_err-new-in-DownFromMaster-clause-file c = record {
 pub returns-in_err-new-in-DownFromCurrent-clause-file : goal.returns-in_err-new-in-DownFromCurrent-clause-file
 returns-in_err-new-in-DownFromCurrent-clause-file c = record {
   known =
-      rw (c.from_residual-in_err-new-in-DownFromCurrent.ensures, c.in-DownFromCurrent.is) (not_there (is_path (length c.args.sent.now))
-      (identifiers c.args.sent.now) c.in_err-new-in-DownFromCurrent.ensures.identifiers);
+      rw (c.from_residual-in_err-new-in-DownFromCurrent.ensures, c.in-DownFromCurrent.is)
+      (not_there (is_path (length c.args.sent.now)) (identifiers c.args.sent.now)
+      c.in_err-new-in-DownFromCurrent.ensures.identifiers);
   named = rw c.from_residual-in_err-new-in-DownFromCurrent.ensures tt;
 }
 
