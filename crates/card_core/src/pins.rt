@@ -59,10 +59,13 @@ pub(crate) fn verify<B: Board>(
     ensures { Serves (verifying pin (option_map (λ value. value.now) shown.entry)) store.old current.old store.new
         current.new [] (reply result) }
 {
-    match shown {
-        None => Ok(tell_tries(store, pin - 1)?),
-        Some(shown) => verify_value(store, current, pin, shown),
-    }
+    let Some(shown) = shown else {
+        return Ok(tell_tries(store, pin - 1)?);
+    };
+    let charged = take_try(store, pin - 1, Usable::WhileEnabled)?;
+    let outcome = settle(store, charged, shown)?;
+    *current = current.after_attempt(pin, Shown::Value, outcome);
+    Ok(status_of(outcome))
 }
 
 /// CHANGE REFERENCE DATA: a new value takes the place of the one that is shown, and the PIN is verified.
@@ -98,10 +101,13 @@ pub(crate) fn reset_retry_counter<B: Board>(
     ensures { Serves (resetting pin (option_map (λ values. (values.shown.now, values.new.now)) values.entry)) store.old
         current.old store.new current.new [] (reply result) }
 {
-    match values {
-        None => Ok(tell_tries(store, PINS + (pin - 1))?),
-        Some(values) => reset_value(store, current, pin, values),
-    }
+    let Some(values) = values else {
+        return Ok(tell_tries(store, PINS + (pin - 1))?);
+    };
+    let charged = take_try(store, PINS + (pin - 1), Usable::InAnyCase)?;
+    let outcome = reset_counter(store, charged, values.shown, values.new)?;
+    *current = current.after_attempt(pin, Shown::UnblockingValue, outcome);
+    Ok(status_of(outcome))
 }
 
 /// DISABLE and ENABLE VERIFICATION REQUIREMENT: where the value of the PIN is shown, its verification is no longer
@@ -141,41 +147,6 @@ fn is_enabled_by(change: RequirementChange) -> bool
         RequirementChange::Disable => false,
         RequirementChange::Enable => true,
     }
-}
-
-/// VERIFY with data.
-fn verify_value<B: Board>(
-    store: &mut Store<B>,
-    current: &mut Current,
-    pin: u8,
-    shown: &[u8; 8],
-) -> Result<Sw, Stop>
-    requires kept { IsKept store.old current.old }
-    requires pin { IsPinNumber pin }
-    ensures { Serves (verifying pin (Some shown.now)) store.old current.old store.new current.new [] (reply result) }
-{
-    let charged = take_try(store, pin - 1, Usable::WhileEnabled)?;
-    let outcome = settle(store, charged, shown)?;
-    *current = current.after_attempt(pin, Shown::Value, outcome);
-    Ok(status_of(outcome))
-}
-
-/// RESET RETRY COUNTER with data.
-fn reset_value<B: Board>(
-    store: &mut Store<B>,
-    current: &mut Current,
-    pin: u8,
-    values: Replacement<'_>,
-) -> Result<Sw, Stop>
-    requires kept { IsKept store.old current.old }
-    requires pin { IsPinNumber pin }
-    ensures { Serves (resetting pin (Some (values.entry.shown.now, values.entry.new.now))) store.old current.old
-        store.new current.new [] (reply result) }
-{
-    let charged = take_try(store, PINS + (pin - 1), Usable::InAnyCase)?;
-    let outcome = reset_counter(store, charged, values.shown, values.new)?;
-    *current = current.after_attempt(pin, Shown::UnblockingValue, outcome);
-    Ok(status_of(outcome))
 }
 
 /// Tells the tries that are left of a secret.
