@@ -18,9 +18,9 @@ use Rattle.card_contents.proofs.increasing.find_increased.Goals as goal
 pub returns-then-is_too_long : goal.returns-then-is_too_long
 returns-then-is_too_long g c = record {
   told = let found = c.in_ok-file.ensures.told in
-        increase-long (committed c.args.store.now) c.requires.kept.ready.usable.committed_size c.requires.kept.card
-        c.args.current.now _ c.in_ok-file.file found c.args.amount.now c.args.expected found.named.unrefused
-        (sym c.is_too_long.ensures ∙ c.if-is_too_long.true);
+      increase-long (committed c.args.store.now) c.requires.kept.ready.usable.committed_size c.requires.kept.card
+      c.args.current.now _ c.in_ok-file.file found c.args.amount.now c.args.expected found.named.unrefused
+      (sym c.is_too_long.ensures ∙ c.if-is_too_long.true);
   store = search rules;
 }
 
@@ -38,53 +38,53 @@ answer_of-response-requires g c =
 pub returns-then-asks_less : goal.returns-then-asks_less
 returns-then-asks_less g c = record {
   told = let m = committed c.args.store.now in
-        let ring = c.in_ok-file.file.ring in
-        let sent = c.args.amount.now in
-        let expected = c.args.expected in
-        let same = c.find_records.ensures.store.only.keeps.committed_words in
-        let found = c.in_ok-file.ensures.told in
-        let sum_is = c.in_ok-slot.ensures.sum.bytes in
-        let free = ap (λ (l : List ℕ). unraised ring.record_length (cyclic_records l ring) sent) (sym same)
-        ∙ c.in_ok-slot.ensures.sum.refusal in
-        let data_is : c.answer_of-response.result.items
-        ≡ spelled ring.record_length (raised_number (cyclic_records m ring) sent) ++ sent =
-        c.answer_of-response.ensures ∙ ap (λ (l : List ℕ). l ++ sent) (sum_is
-        ∙ ap (λ (l : List ℕ). spelled ring.record_length (raised_number (cyclic_records l ring) sent)) same) in
-        let less = ap (asks_less expected) (sym data_is) ∙ sym c.asks_less.ensures ∙ c.if-asks_less.true in
-        let status = ap right_length (sym data_is) ∙ sym c.right_length.ensures in
-        increase-less m c.requires.kept.ready.usable.committed_size c.requires.kept.card
-        c.args.current.now _ c.in_ok-file.file
-        found sent expected found.named.unrefused (sym c.is_too_long.ensures ∙ c.if-is_too_long.false) free less
-        ∙ ap (λ (refusal : Sw). Some refusal) status;
+      let ring = c.in_ok-file.file.ring in
+      let sent = c.args.amount.now in
+      let expected = c.args.expected in
+      let same = c.find_records.ensures.store.only.keeps.committed_words in
+      let found = c.in_ok-file.ensures.told in
+      let sum_is = c.in_ok-slot.ensures.sum.bytes in
+      let free = ap (λ (l : List ℕ). unraised ring.record_length (cyclic_records l ring) sent) (sym same)
+      ∙ c.in_ok-slot.ensures.sum.refusal in
+      let data_is : c.answer_of-response.result.items
+      ≡ spelled ring.record_length (raised_number (cyclic_records m ring) sent) ++ sent =
+      c.answer_of-response.ensures ∙ ap (λ (l : List ℕ). l ++ sent) (sum_is
+      ∙ ap (λ (l : List ℕ). spelled ring.record_length (raised_number (cyclic_records l ring) sent)) same) in
+      let less = ap (asks_less expected) (sym data_is) ∙ sym c.asks_less.ensures ∙ c.if-asks_less.true in
+      let status = ap right_length (sym data_is) ∙ sym c.right_length.ensures in
+      increase-less m c.requires.kept.ready.usable.committed_size c.requires.kept.card
+      c.args.current.now _ c.in_ok-file.file
+      found sent expected found.named.unrefused (sym c.is_too_long.ensures ∙ c.if-is_too_long.false) free less
+      ∙ ap (λ (refusal : Sw). Some refusal) status;
   store = reads_on _ _ _ _ c.find_records.ensures.store.only c.in_ok-slot.ensures.store;
 }
 
 pub returns : goal.returns
 returns g c = record {
   told = let ring = c.in_ok-file.file.ring in
-        let sent = c.args.amount.now in
-        let same = c.find_records.ensures.store.only.keeps.committed_words in
-        let sum_is = c.in_ok-slot.ensures.sum.bytes in
-        record {
-          named = c.in_ok-file.ensures.told;
-          ring_is = c.in_ok-slot.ensures.found.0;
-          short = sym c.is_too_long.ensures ∙ c.if-is_too_long.false;
-          raises = ap (λ (l : List ℕ). unraised ring.record_length (cyclic_records l ring) sent) (sym same)
-              ∙ c.in_ok-slot.ensures.sum.refusal;
-          sum_is = sum_is
-              ∙ ap (λ (l : List ℕ). spelled ring.record_length (raised_number (cyclic_records l ring) sent)) same;
-          enough = ap (asks_less c.args.expected) (sym c.answer_of-response.ensures) ∙ sym c.asks_less.ensures
-              ∙ c.if-asks_less.false;
-        };
+      let sent = c.args.amount.now in
+      let same = c.find_records.ensures.store.only.keeps.committed_words in
+      let sum_is = c.in_ok-slot.ensures.sum.bytes in
+      record {
+        named = c.in_ok-file.ensures.told;
+        ring_is = c.in_ok-slot.ensures.found.0;
+        short = sym c.is_too_long.ensures ∙ c.if-is_too_long.false;
+        raises = ap (λ (l : List ℕ). unraised ring.record_length (cyclic_records l ring) sent) (sym same)
+            ∙ c.in_ok-slot.ensures.sum.refusal;
+        sum_is = sum_is
+            ∙ ap (λ (l : List ℕ). spelled ring.record_length (raised_number (cyclic_records l ring) sent)) same;
+        enough = ap (asks_less c.args.expected) (sym c.answer_of-response.ensures) ∙ sym c.asks_less.ensures
+            ∙ c.if-asks_less.false;
+      };
   store = reads_on _ _ _ _ c.find_records.ensures.store.only c.in_ok-slot.ensures.store;
 }
 
 pub returns-in_err-file : goal.returns-in_err-file
 returns-in_err-file g c = record {
   told = let old = c.args.store.now in
-        finds-stopped _ _ c.from_residual.ensures.1 _ _ (refused-weaker _ _ _
-        (λ status refused. increase-barred (card_in old) (session_in old c.args.current.now) status c.args.amount.now
-        c.args.expected refused) c.in_err-file.ensures.told);
+      finds-stopped _ _ c.from_residual.ensures.1 _ _ (refused-weaker _ _ _
+      (λ status refused. increase-barred (card_in old) (session_in old c.args.current.now) status c.args.amount.now
+      c.args.expected refused) c.in_err-file.ensures.told);
   store = reads-stopped _ _ c.from_residual.ensures.1 _ _ c.in_err-file.ensures.store;
 }
 
@@ -114,18 +114,18 @@ raise-requires g c =
 pub returns-in_err-slot : goal.returns-in_err-slot
 returns-in_err-slot g c = record {
   told = let ring = c.in_ok-file.file.ring in
-        let sent = c.args.amount.now in
-        let found = c.in_ok-file.ensures.told in
-        let e = c.in_err-slot.field-0.0 in
-        finds-stopped _ (stop_of_body e) c.from_residual-in_err-slot.ensures.1 _ _
-        (body-decided _ _ e c.in_err-slot.ensures.sum.refusal (λ status due.
-        increase-unraised (committed c.args.store.now) c.requires.kept.ready.usable.committed_size
-        c.requires.kept.card
-        c.args.current.now _ c.in_ok-file.file found sent c.args.expected found.named.unrefused
-        (sym c.is_too_long.ensures ∙ c.if-is_too_long.false) status
-        (ap (λ (l : List ℕ). unraised ring.record_length (cyclic_records l ring) sent)
-        (sym c.find_records.ensures.store.only.keeps.committed_words) ∙ due)));
+      let sent = c.args.amount.now in
+      let found = c.in_ok-file.ensures.told in
+      let e = c.in_err-slot.field-0.0 in
+      finds-stopped _ (stop_of_body e) c.from_residual-in_err-slot.ensures.1 _ _
+      (body-decided _ _ e c.in_err-slot.ensures.sum.refusal (λ status due.
+      increase-unraised (committed c.args.store.now) c.requires.kept.ready.usable.committed_size
+      c.requires.kept.card
+      c.args.current.now _ c.in_ok-file.file found sent c.args.expected found.named.unrefused
+      (sym c.is_too_long.ensures ∙ c.if-is_too_long.false) status
+      (ap (λ (l : List ℕ). unraised ring.record_length (cyclic_records l ring) sent)
+      (sym c.find_records.ensures.store.only.keeps.committed_words) ∙ due)));
   store = let e = c.in_err-slot.field-0.0 in
-        reads-stopped _ (stop_of_body e) c.from_residual-in_err-slot.ensures.1 _ _
-        (reads_on _ _ _ _ c.find_records.ensures.store.only (body-reads _ _ e c.in_err-slot.ensures.store));
+      reads-stopped _ (stop_of_body e) c.from_residual-in_err-slot.ensures.1 _ _
+      (reads_on _ _ _ _ c.find_records.ensures.store.only (body-reads _ _ e c.in_err-slot.ensures.store));
 }

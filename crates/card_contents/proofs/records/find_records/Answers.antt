@@ -26,18 +26,18 @@ of-requires-clause-told g c =
 pub returns : goal.returns
 returns g c = record {
   told = let m = committed c.args.store.now in
-        let e = c.in_ok-file.file.number in
-        let entry = c.in_ok-file.file.entry in
-        let x = c.args.current.now in
-        let named = c.in_ok-file.ensures.told in
-        let kind = record_kind c.args.need.structure entry.kind c.requires.records named.structure in
-        subst (λ (file : RecordFile). IsRecordFile m x c.args.target c.args.need file) (sym c.of.ensures)
-        (subst (λ (told : Entry). IsRecordFile m x c.args.target c.args.need (record_file_in e told)) (sym named.entry_is)
-        (record {
-          named = subst (λ (told : Entry). IsNamed m x c.args.target c.args.need e told) named.entry_is named;
-          kind = subst (λ (told : Entry). (told.kind ≡ 3) ⊎ (told.kind ≡ 4)) named.entry_is kind;
-          file_is = refl;
-        }));
+      let e = c.in_ok-file.file.number in
+      let entry = c.in_ok-file.file.entry in
+      let x = c.args.current.now in
+      let named = c.in_ok-file.ensures.told in
+      let kind = record_kind c.args.need.structure entry.kind c.requires.records named.structure in
+      subst (λ (file : RecordFile). IsRecordFile m x c.args.target c.args.need file) (sym c.of.ensures)
+      (subst (λ (told : Entry). IsRecordFile m x c.args.target c.args.need (record_file_in e told)) (sym named.entry_is)
+      (record {
+        named = subst (λ (told : Entry). IsNamed m x c.args.target c.args.need e told) named.entry_is named;
+        kind = subst (λ (told : Entry). (told.kind ≡ 3) ⊎ (told.kind ≡ 4)) named.entry_is kind;
+        file_is = refl;
+      }));
   store = search rules;
 }
 

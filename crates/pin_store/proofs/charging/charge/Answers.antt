@@ -10,7 +10,7 @@ returns-in_err-left-clause-takes g c = record {
   pages = pages_stay _ _ c.tries.ensures.store.only.keeps.committed_words c.requires.pages;
   shut = search rules;
   store = charge_handed 1 _ _ _ _ c.from_residual.ensures.1
-        (reads_change 1 _ _ _ c.requires.ready.idle c.in_err-left.ensures.store);
+      (reads_change 1 _ _ _ c.requires.ready.idle c.in_err-left.ensures.store);
   counted = search rules;
 }
 
@@ -31,21 +31,21 @@ returns-then-left-eq0-clause-blocked g c =
 pub returns-in_err-put_left-clause-takes : goal.returns-in_err-put_left-clause-takes
 returns-in_err-put_left-clause-takes g c = record {
   any_exit = let some : 0 < c.in_ok-left.left = omega (arith, c.if-left-eq0.false) in
-        charges_or_not c.args.secret c.in_ok-left.left _ _ _ c.tries.ensures.store.only c.in_ok-left.ensures.left some
-        c.put_left.ensures.any_exit;
+      charges_or_not c.args.secret c.in_ok-left.left _ _ _ c.tries.ensures.store.only c.in_ok-left.ensures.left some
+      c.put_left.ensures.any_exit;
   kept = λ none. absurd (c.if-left-eq0.false (c.in_ok-left.ensures.left ∙ none));
   pages = c.put_left.ensures.pages (pages_stay _ _ c.tries.ensures.store.only.keeps.committed_words c.requires.pages);
   shut = search rules;
   store = charge_handed 1 _ _ _ _ c.from_residual-in_err-put_left.ensures.1
-        (changes_after 1 _ _ _ _ c.tries.ensures.store.only c.in_err-put_left.ensures.store);
+      (changes_after 1 _ _ _ _ c.tries.ensures.store.only c.in_err-put_left.ensures.store);
   counted = search rules;
 }
 
 pub returns-clause-takes : goal.returns-clause-takes
 returns-clause-takes g c = record {
   any_exit = let some : 0 < c.in_ok-left.left = omega (arith, c.if-left-eq0.false) in
-        charges_or_not c.args.secret c.in_ok-left.left _ _ _ c.tries.ensures.store.only c.in_ok-left.ensures.left some
-        c.put_left.ensures.any_exit;
+      charges_or_not c.args.secret c.in_ok-left.left _ _ _ c.tries.ensures.store.only c.in_ok-left.ensures.left some
+      c.put_left.ensures.any_exit;
   kept = λ none. absurd (c.if-left-eq0.false (c.in_ok-left.ensures.left ∙ none));
   pages = c.put_left.ensures.pages (pages_stay _ _ c.tries.ensures.store.only.keeps.committed_words c.requires.pages);
   shut = search rules;
