@@ -1,7 +1,8 @@
 //! READ BINARY and UPDATE BINARY (ISO/IEC 7816-4, 11.3).
-ghost use Rattle.std.specs.Prelude.{◌≡◌, ◌≤◌, ◌==◌, if◌then◌else◌, [], length};
+ghost use Rattle.std.specs.Prelude.{◌≡◌, ◌==◌, if◌then◌else◌, []};
 ghost use Rattle.apdu_core.specs.Ranges.{IsTarget};
 ghost use Rattle.apdu_core.specs.Requests.{read_binary, update_binary};
+ghost use Rattle.apdu_core.specs.Sizes.{HasBetween};
 ghost use Rattle.card_machine.specs.Served.{Serves};
 ghost use Rattle.card_machine.specs.Serving.{ServesInPlace};
 ghost use Rattle.card_machine.specs.Stops.{reply};
@@ -61,8 +62,7 @@ pub fn update_file<B: Board>(
 ) -> Result<Sw, Stop>
     requires kept { IsKept store.old current.old }
     requires target { IsTarget target }
-    requires some { 1 ≤ length bytes.now }
-    requires few { length bytes.now ≤ 255 }
+    requires bytes { HasBetween 1 255 bytes.now }
     ensures { ServesInPlace (update_binary target offset bytes.now) store.old current.old store.new current.new []
         (reply result) }
 {

@@ -4,6 +4,7 @@ ghost use Rattle.undo_journal.specs.Memory.{committed};
 ghost use Rattle.apdu_core.specs.Ranges.{IsTarget};
 ghost use Rattle.apdu_core.specs.Requests.{append_record as appending, read_record as reading};
 ghost use Rattle.apdu_core.specs.Requests.{search_record as searching, update_record as updating};
+ghost use Rattle.apdu_core.specs.Sizes.{HasBetween};
 ghost use Rattle.card_rules.specs.declared.access_mode.AccessBit.TheVariants as AccessBit;
 ghost use Rattle.card_machine.specs.declared.named.Structure.TheVariants as Structure;
 ghost use Rattle.card_machine.specs.Outcomes.{refused_by};
@@ -147,8 +148,7 @@ pub fn update_record<B: Board>(
 ) -> Result<Sw, Stop>
     requires kept { IsKept store.old current.old }
     requires target { IsTarget target }
-    requires some { 1 ≤ length bytes.now }
-    requires few { length bytes.now ≤ 255 }
+    requires bytes { HasBetween 1 255 bytes.now }
     ensures { ServesInPlace (updating target choice bytes.now) store.old current.old store.new current.new []
         (reply result) }
 {
@@ -194,8 +194,7 @@ pub fn append_record<B: Board>(
 ) -> Result<Sw, Stop>
     requires kept { IsKept store.old current.old }
     requires target { IsTarget target }
-    requires some { 1 ≤ length bytes.now }
-    requires few { length bytes.now ≤ 255 }
+    requires bytes { HasBetween 1 255 bytes.now }
     ensures { ServesInPlace (appending target bytes.now) store.old current.old store.new current.new []
         (reply result) }
 {

@@ -102,8 +102,9 @@ fn read_change<B: Board>(
         (λ changed. change_at (committed store.old) current.now change number ≡ Ok changed)
         (λ refusal. change_at (committed store.old) current.now change number ≡ Err refusal) }
 {
-    let next = next_life_cycle(store, number, command_of(change))?;
-    let allowed = allows(store, current, number, bit_of(change))?;
+    let (command, bit) = row_of(change);
+    let next = next_life_cycle(store, number, command)?;
+    let allowed = allows(store, current, number, bit)?;
     let entry = read_entry(store, number)?;
     Ok(changed_by(change, number, entry, next, allowed)?)
 }
@@ -157,25 +158,16 @@ fn no_subject(subject: Subject) -> Sw
     }
 }
 
-/// The row of the table of states that a command has.
-fn command_of(change: LifeCycleChange) -> LifeCycleCommand
-    ensures { result ≡ command_of change }
+/// The row of the table of states that a command has, and what the file's rule must allow.
+fn row_of(change: LifeCycleChange) -> (LifeCycleCommand, AccessBit)
+    ensures { result ≡ (command_of change, change_bit change) }
 {
     match change {
-        LifeCycleChange::Activate => LifeCycleCommand::Activate,
-        LifeCycleChange::Deactivate => LifeCycleCommand::Deactivate,
-        LifeCycleChange::TerminateDf | LifeCycleChange::TerminateEf => LifeCycleCommand::Terminate,
-    }
-}
-
-/// What the file's rule must allow.
-fn bit_of(change: LifeCycleChange) -> AccessBit
-    ensures { result ≡ change_bit change }
-{
-    match change {
-        LifeCycleChange::Activate => AccessBit::Activate,
-        LifeCycleChange::Deactivate => AccessBit::Deactivate,
-        LifeCycleChange::TerminateDf | LifeCycleChange::TerminateEf => AccessBit::Terminate,
+        LifeCycleChange::Activate => (LifeCycleCommand::Activate, AccessBit::Activate),
+        LifeCycleChange::Deactivate => (LifeCycleCommand::Deactivate, AccessBit::Deactivate),
+        LifeCycleChange::TerminateDf | LifeCycleChange::TerminateEf => {
+            (LifeCycleCommand::Terminate, AccessBit::Terminate)
+        }
     }
 }
 

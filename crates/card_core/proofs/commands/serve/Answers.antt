@@ -52,11 +52,9 @@ returns-in-ReadBinary-clause-space g c = space_left _ _ _ _ _ _ _ _ c.read_file.
 pub update_file-requires-clause-target : goal.update_file-requires-clause-target
 update_file-requires-clause-target g c = (subst IsInRange c.in-UpdateBinary.is c.requires.in_range).0
 
-pub update_file-requires-clause-some : goal.update_file-requires-clause-some
-update_file-requires-clause-some g c = (subst IsInRange c.in-UpdateBinary.is c.requires.in_range).2
-
-pub update_file-requires-clause-few : goal.update_file-requires-clause-few
-update_file-requires-clause-few g c = (subst IsInRange c.in-UpdateBinary.is c.requires.in_range).3
+pub update_file-requires-clause-bytes : goal.update_file-requires-clause-bytes
+update_file-requires-clause-bytes g c =
+    let all = subst IsInRange c.in-UpdateBinary.is c.requires.in_range in (all.2, all.3)
 
 pub returns-in-UpdateBinary-clause-serves : goal.returns-in-UpdateBinary-clause-serves
 returns-in-UpdateBinary-clause-serves g c =
@@ -86,11 +84,9 @@ returns-in-ReadRecord-clause-space g c = space_left _ _ _ _ _ _ _ _ c.read_recor
 pub update_record-requires-clause-target : goal.update_record-requires-clause-target
 update_record-requires-clause-target g c = (subst IsInRange c.in-UpdateRecord.is c.requires.in_range).0
 
-pub update_record-requires-clause-some : goal.update_record-requires-clause-some
-update_record-requires-clause-some g c = (subst IsInRange c.in-UpdateRecord.is c.requires.in_range).2
-
-pub update_record-requires-clause-few : goal.update_record-requires-clause-few
-update_record-requires-clause-few g c = (subst IsInRange c.in-UpdateRecord.is c.requires.in_range).3
+pub update_record-requires-clause-bytes : goal.update_record-requires-clause-bytes
+update_record-requires-clause-bytes g c =
+    let all = subst IsInRange c.in-UpdateRecord.is c.requires.in_range in (all.2, all.3)
 
 pub returns-in-UpdateRecord-clause-serves : goal.returns-in-UpdateRecord-clause-serves
 returns-in-UpdateRecord-clause-serves g c =
@@ -102,11 +98,9 @@ returns-in-UpdateRecord-clause-space g c = space_kept _ _ _ _ c.requires.whole.s
 pub append_record-requires-clause-target : goal.append_record-requires-clause-target
 append_record-requires-clause-target g c = (subst IsInRange c.in-AppendRecord.is c.requires.in_range).0
 
-pub append_record-requires-clause-some : goal.append_record-requires-clause-some
-append_record-requires-clause-some g c = (subst IsInRange c.in-AppendRecord.is c.requires.in_range).1
-
-pub append_record-requires-clause-few : goal.append_record-requires-clause-few
-append_record-requires-clause-few g c = (subst IsInRange c.in-AppendRecord.is c.requires.in_range).2
+pub append_record-requires-clause-bytes : goal.append_record-requires-clause-bytes
+append_record-requires-clause-bytes g c =
+    let all = subst IsInRange c.in-AppendRecord.is c.requires.in_range in (all.1, all.2)
 
 pub returns-in-AppendRecord-clause-serves : goal.returns-in-AppendRecord-clause-serves
 returns-in-AppendRecord-clause-serves g c =

@@ -3,6 +3,7 @@ use Rattle.undo_journal.specs.laws.Calls.{reads_then}
 use Rattle.file_tree.specs.laws.Nodes.{used_small}
 use Rattle.std.proofs.Common.{◌≡◌, sym, ◌∙◌, ap, rules}
 use Rattle.card_machine.specs.laws.Readings.{card_still, current_still, used_still}
+use Rattle.card_rules.specs.declared.access_mode.AccessBit.{AccessBit}
 use Rattle.card_rules.specs.declared.life_cycle.LifeCycleCommand.{LifeCycleCommand}
 use Rattle.file_tree.specs.States.{next_life}
 use Rattle.file_tree.specs.Table.{table, entry_in, path_of}
@@ -57,12 +58,12 @@ returns g c = record {
       let still = c.allows.ensures.store.only.keeps.committed_words ∙ same in
       let next : c.in_ok-next.next ≡ next_life (tree_of m) (path_of (table m) e) (command_of c.args.change) =
       c.in_ok-next.ensures.next
-      ∙ ap (λ (k : LifeCycleCommand). next_life (tree_of m) (path_of (table m) e) k) c.command_of.ensures in
+      ∙ ap (λ (k : LifeCycleCommand). next_life (tree_of m) (path_of (table m) e) k) (ap (λ (row : LifeCycleCommand × AccessBit). row.0) c.row_of-command.ensures) in
       let permitted : c.in_ok-allowed.allowed
       ≡ allowed (card_of m) (session_of (table m) x) (path_of (table m) e) (change_bit c.args.change) =
       c.in_ok-allowed.ensures.told
       ∙ (λ i. allowed (card_of (same i)) (session_of (table (same i)) x) (path_of (table (same i)) e)
-      (c.bit_of.ensures i)) in
+      ((c.row_of-command.ensures i).1)) in
       let entry : c.in_ok-entry.entry ≡ entry_in (table m) e =
       c.in_ok-entry.ensures.entry ∙ (λ i. entry_in (table (still i)) e) in
       sym (c.changed_by.ensures ∙ (λ i. changed_by c.args.change e (entry i) (next i) (permitted i)))
@@ -80,12 +81,12 @@ returns-in_err-changed_by g c = record {
       let still = c.allows.ensures.store.only.keeps.committed_words ∙ same in
       let next : c.in_ok-next.next ≡ next_life (tree_of m) (path_of (table m) e) (command_of c.args.change) =
       c.in_ok-next.ensures.next
-      ∙ ap (λ (k : LifeCycleCommand). next_life (tree_of m) (path_of (table m) e) k) c.command_of.ensures in
+      ∙ ap (λ (k : LifeCycleCommand). next_life (tree_of m) (path_of (table m) e) k) (ap (λ (row : LifeCycleCommand × AccessBit). row.0) c.row_of-command.ensures) in
       let permitted : c.in_ok-allowed.allowed
       ≡ allowed (card_of m) (session_of (table m) x) (path_of (table m) e) (change_bit c.args.change) =
       c.in_ok-allowed.ensures.told
       ∙ (λ i. allowed (card_of (same i)) (session_of (table (same i)) x) (path_of (table (same i)) e)
-      (c.bit_of.ensures i)) in
+      ((c.row_of-command.ensures i).1)) in
       let entry : c.in_ok-entry.entry ≡ entry_in (table m) e =
       c.in_ok-entry.ensures.entry ∙ (λ i. entry_in (table (still i)) e) in
       let status = c.in_err-changed_by.field-0.0 in
