@@ -4,37 +4,31 @@
 use std::process::Abort;
 use t1_link::{BlockBytes, Failure, Next, ReaderEnd};
 
-// What the reader's end is told.
-#[derive(Clone, Copy)]
+/// What the reader's end is told: to send a command, that a block came, or that none came in time.
+#[derive(Clone, Copy, Debug)]
 enum Event {
-    Send,
-    Got,
+    Send(&'static [u8]),
+    Got(&'static [u8]),
     TimedOut,
 }
 
-// What it says.
+/// What it says: a block to be sent, an answer, or that there is none.
 #[derive(Clone, Copy)]
 enum Says {
-    Block,
-    Answer,
+    Block(&'static [u8]),
+    Answer(&'static [u8]),
     Unknown,
     LinkLost,
     BadAnswer,
 }
 
-fn tell(
-    rt: &impl Abort,
-    reader: &mut ReaderEnd,
-    event: Event,
-    bytes: &[u8],
-    out: &mut BlockBytes,
-) -> Next {
+fn tell(rt: &impl Abort, reader: &mut ReaderEnd, event: Event, out: &mut BlockBytes) -> Next {
     match event {
-        Event::Send => {
+        Event::Send(bytes) => {
             assert!(rt; !reader.busy() && 1 <= bytes.len() && bytes.len() <= 261);
             reader.send(bytes, out)
         }
-        Event::Got => {
+        Event::Got(bytes) => {
             assert!(rt; reader.busy());
             reader.got(bytes, out)
         }
@@ -45,12 +39,11 @@ fn tell(
     }
 }
 
-/// Whether the end says this, with these bytes where it says a block or an answer,
-/// and has a command in hand exactly where it says a block.
-fn is_said(next: Next, reader: &ReaderEnd, block: &BlockBytes, says: Says, bytes: &[u8]) -> bool {
+/// Whether the end says this, and has a command in hand exactly where it says a block.
+fn is_said(next: Next, reader: &ReaderEnd, block: &BlockBytes, says: Says) -> bool {
     match (next, says) {
-        (Next::Send, Says::Block) => reader.busy() && block.as_slice() == bytes,
-        (Next::Done, Says::Answer) => !reader.busy() && reader.answer() == bytes,
+        (Next::Send, Says::Block(bytes)) => reader.busy() && block.as_slice() == bytes,
+        (Next::Done, Says::Answer(bytes)) => !reader.busy() && reader.answer() == bytes,
         (Next::Unknown, Says::Unknown)
         | (Next::Failed(Failure::LinkLost), Says::LinkLost)
         | (Next::Failed(Failure::BadAnswer), Says::BadAnswer) => !reader.busy(),
@@ -58,70 +51,54 @@ fn is_said(next: Next, reader: &ReaderEnd, block: &BlockBytes, says: Says, bytes
     }
 }
 
-// What the end is told and what it says, each with its bytes.
-type Row = (Event, &'static [u8], Says, &'static [u8]);
+/// What the end is told, and what it says.
+type Row = (Event, Says);
 
 const SELECT: Row = (
-    Event::Send,
-    b"\x00\xA4\x00\x0C\x02\x3F\x00",
-    Says::Block,
-    b"\x00\x00\x07\x00\xA4\x00\x0C\x02\x3F\x00\x92",
+    Event::Send(b"\x00\xA4\x00\x0C\x02\x3F\x00"),
+    Says::Block(b"\x00\x00\x07\x00\xA4\x00\x0C\x02\x3F\x00\x92"),
 );
 
 // Three blocks are sent again, and the fourth want sends RESYNCH.
-const TIME_OUT: Row = (Event::TimedOut, b"", Says::Block, b"\x00\x82\x00\x82");
+const TIME_OUT: Row = (Event::TimedOut, Says::Block(b"\x00\x82\x00\x82"));
 
-const RESYNCH: Row = (Event::TimedOut, b"", Says::Block, b"\x00\xC0\x00\xC0");
+const RESYNCH: Row = (Event::TimedOut, Says::Block(b"\x00\xC0\x00\xC0"));
 
 // Each list begins after power-on.
 const EXCHANGES: &[&[Row]] = &[
     &[
         SELECT,
         (
-            Event::Got,
-            b"\x00\x00\x02\x90\x00\x92",
-            Says::Answer,
-            b"\x90\x00",
+            Event::Got(b"\x00\x00\x02\x90\x00\x92"),
+            Says::Answer(b"\x90\x00"),
         ),
         (
-            Event::Send,
-            b"\x00\xB0\x82\x00\x01",
-            Says::Block,
-            b"\x00\x40\x05\x00\xB0\x82\x00\x01\x76",
+            Event::Send(b"\x00\xB0\x82\x00\x01"),
+            Says::Block(b"\x00\x40\x05\x00\xB0\x82\x00\x01\x76"),
         ),
         (
-            Event::Got,
-            b"\x00\x40\x03\x98\x90\x00\x4B",
-            Says::Answer,
-            b"\x98\x90\x00",
+            Event::Got(b"\x00\x40\x03\x98\x90\x00\x4B"),
+            Says::Answer(b"\x98\x90\x00"),
         ),
     ],
     // A block that is spoiled, a block of another number, and an R-block that asks for the command again.
     &[
         SELECT,
         (
-            Event::Got,
-            b"\x00\x00\x02\x90\x00\x93",
-            Says::Block,
-            b"\x00\x81\x00\x81",
+            Event::Got(b"\x00\x00\x02\x90\x00\x93"),
+            Says::Block(b"\x00\x81\x00\x81"),
         ),
         (
-            Event::Got,
-            b"\x00\x40\x02\x90\x00\xD2",
-            Says::Block,
-            b"\x00\x82\x00\x82",
+            Event::Got(b"\x00\x40\x02\x90\x00\xD2"),
+            Says::Block(b"\x00\x82\x00\x82"),
         ),
         (
-            Event::Got,
-            b"\x00\x80\x00\x80",
-            Says::Block,
-            b"\x00\x00\x07\x00\xA4\x00\x0C\x02\x3F\x00\x92",
+            Event::Got(b"\x00\x80\x00\x80"),
+            Says::Block(b"\x00\x00\x07\x00\xA4\x00\x0C\x02\x3F\x00\x92"),
         ),
         (
-            Event::Got,
-            b"\x00\x00\x02\x90\x00\x92",
-            Says::Answer,
-            b"\x90\x00",
+            Event::Got(b"\x00\x00\x02\x90\x00\x92"),
+            Says::Answer(b"\x90\x00"),
         ),
     ],
     // RESYNCH that is answered: whether the command was carried out isn't known, and numbers begin anew.
@@ -131,7 +108,7 @@ const EXCHANGES: &[&[Row]] = &[
         TIME_OUT,
         TIME_OUT,
         RESYNCH,
-        (Event::Got, b"\x00\xE0\x00\xE0", Says::Unknown, b""),
+        (Event::Got(b"\x00\xE0\x00\xE0"), Says::Unknown),
         SELECT,
     ],
     // RESYNCH that isn't, three times.
@@ -142,63 +119,42 @@ const EXCHANGES: &[&[Row]] = &[
         TIME_OUT,
         RESYNCH,
         (
-            Event::Got,
-            b"\x00\x00\x02\x90\x00\x92",
-            Says::Block,
-            b"\x00\xC0\x00\xC0",
+            Event::Got(b"\x00\x00\x02\x90\x00\x92"),
+            Says::Block(b"\x00\xC0\x00\xC0"),
         ),
         RESYNCH,
-        (Event::TimedOut, b"", Says::LinkLost, b""),
-        (
-            Event::Send,
-            b"\x00\xA4\x00\x0C\x02\x3F\x00",
-            Says::LinkLost,
-            b"",
-        ),
+        (Event::TimedOut, Says::LinkLost),
+        (Event::Send(b"\x00\xA4\x00\x0C\x02\x3F\x00"), Says::LinkLost),
     ],
     // An answer of one byte.
     &[
         SELECT,
-        (Event::Got, b"\x00\x00\x01\x90\x91", Says::BadAnswer, b""),
-        (
-            Event::Send,
-            b"\x00\xA4\x00\x0C\x02\x3F\x00",
-            Says::LinkLost,
-            b"",
-        ),
+        (Event::Got(b"\x00\x00\x01\x90\x91"), Says::BadAnswer),
+        (Event::Send(b"\x00\xA4\x00\x0C\x02\x3F\x00"), Says::LinkLost),
     ],
     // An answer in two blocks.
     &[
         (
-            Event::Send,
-            b"\x00\xB0\x82\x00\x02",
-            Says::Block,
-            b"\x00\x00\x05\x00\xB0\x82\x00\x02\x35",
+            Event::Send(b"\x00\xB0\x82\x00\x02"),
+            Says::Block(b"\x00\x00\x05\x00\xB0\x82\x00\x02\x35"),
         ),
         (
-            Event::Got,
-            b"\x00\x20\x02\x01\x02\x21",
-            Says::Block,
-            b"\x00\x90\x00\x90",
+            Event::Got(b"\x00\x20\x02\x01\x02\x21"),
+            Says::Block(b"\x00\x90\x00\x90"),
         ),
         (
-            Event::Got,
-            b"\x00\x40\x02\x90\x00\xD2",
-            Says::Answer,
-            b"\x01\x02\x90\x00",
+            Event::Got(b"\x00\x40\x02\x90\x00\xD2"),
+            Says::Answer(b"\x01\x02\x90\x00"),
         ),
     ],
 ];
 
 /// The end is told this, and says that.
 fn check(rt: &impl Abort, reader: &mut ReaderEnd, row: Row) {
-    let (event, told, says, bytes) = row;
+    let (event, says) = row;
     let mut block = BlockBytes::new();
-    let next = tell(rt, reader, event, told, &mut block);
-    assert!(rt;
-        is_said(next, reader, &block, says, bytes),
-        "when told {told:?}"
-    );
+    let next = tell(rt, reader, event, &mut block);
+    assert!(rt; is_said(next, reader, &block, says), "when told {event:?}");
 }
 
 #[test]
@@ -226,6 +182,6 @@ fn longest_command_goes_in_a_chain(rt: HostRuntime) {
     check(
         &rt,
         &mut reader,
-        (Event::Got, b"\x00\x90\x00\x90", Says::Block, rest),
+        (Event::Got(b"\x00\x90\x00\x90"), Says::Block(rest)),
     );
 }

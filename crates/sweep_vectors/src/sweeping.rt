@@ -22,6 +22,21 @@ struct Case {
     probe: &'static [&'static str],
 }
 
+impl Case {
+    /// A command, the commands before it, and those behind it.
+    fn new(
+        prepare: &'static [&'static str],
+        command: &'static str,
+        probe: &'static [&'static str],
+    ) -> Case {
+        Case {
+            prepare,
+            command,
+            probe,
+        }
+    }
+}
+
 /// A result: the free blocks and entries, the answers of the probe, and how many runs gave it.
 type Given = (u16, u16, &'static [&'static str], u32);
 
@@ -181,7 +196,12 @@ fn check<R: Abort + AllocGlobal>(
 /// So many different results come where no start is cut.
 fn check_results<R: Abort + AllocGlobal>(rt: &R, case: &Case, results: usize) -> Result<(), Fail> {
     let sweep = swept(rt.alloc(), case, 0)??;
-    assert!(rt; sweep.seen.len() == results, "{} results", sweep.seen.len());
+    assert!(rt;
+        sweep.seen.len() == results,
+        "{} results of {}",
+        sweep.seen.len(),
+        case.command
+    );
     Ok(())
 }
 
@@ -273,142 +293,76 @@ fn refused_memory_is_told(rt: HostRuntime) -> Result<(), Fail> {
     Ok(())
 }
 
+/// The card is as before the command, or as after it.
 #[test]
-fn created_file_is_there_or_not(rt: HostRuntime) -> Result<(), Fail> {
-    let case = Case {
-        prepare: &[],
-        command: FILE,
-        probe: &[SELECT],
-    };
-    check_results(&rt, &case, 2)
+fn command_is_done_or_not(rt: HostRuntime) -> Result<(), Fail> {
+    let cases = [
+        // CREATE FILE: the file is there or not.
+        Case::new(&[], FILE, &[SELECT]),
+        // DELETE FILE of a directory with a file in it.
+        Case::new(
+            &[DIRECTORY, FILE, "00A4000C023F00"],
+            "00E40000027F10",
+            &["00A4000C027F10"],
+        ),
+        // UPDATE RECORD of a ring: it has the record or not.
+        Case::new(&[RING, "00DC000303000005"], "00DC000303000006", RECORDS),
+        // INCREASE.
+        Case::new(&[RING, "00DC000303000005"], "803200000300000100", RECORDS),
+        // APPEND RECORD.
+        Case::new(&[GROWING], "00E200080401020304", &[SELECT, "00B2020404"]),
+        // UPDATE RECORD of a list.
+        Case::new(
+            &[LIST],
+            "00DC022403010203",
+            &["00A4000C026F04", "00B2020403"],
+        ),
+        // ACTIVATE FILE.
+        Case::new(&[ASLEEP], "00440000026F06", STATE),
+        // DEACTIVATE FILE.
+        Case::new(&[OWNED], "00040000026F06", STATE),
+        // TERMINATE DF.
+        Case::new(&[OWNED_DIRECTORY], "00E60000027F21", &["00A4000C027F21"]),
+        // TERMINATE EF.
+        Case::new(&[OWNED], "00E80000026F06", STATE),
+        // TERMINATE CARD USAGE.
+        Case::new(
+            &["002000080831323334FFFFFFFF"],
+            "00FE0000",
+            &["00A4000C023F00"],
+        ),
+        // RESET RETRY COUNTER by a wrong value: a try is gone or not.
+        Case::new(
+            &[],
+            "002C000110303030303030303035363738FFFFFFFF",
+            &["002C0001"],
+        ),
+    ];
+    for case in &cases {
+        check_results(&rt, case, 2)?;
+    }
+    Ok(())
 }
 
+/// And of one on a PIN that is right, or it is charged alone.
 #[test]
-fn deleted_directory_is_there_or_not(rt: HostRuntime) -> Result<(), Fail> {
-    let case = Case {
-        prepare: &[DIRECTORY, FILE, "00A4000C023F00"],
-        command: "00E40000027F10",
-        probe: &["00A4000C027F10"],
-    };
-    check_results(&rt, &case, 2)
-}
-
-#[test]
-fn ring_has_the_record_or_not(rt: HostRuntime) -> Result<(), Fail> {
-    let case = Case {
-        prepare: &[RING, "00DC000303000005"],
-        command: "00DC000303000006",
-        probe: RECORDS,
-    };
-    check_results(&rt, &case, 2)
-}
-
-#[test]
-fn record_is_raised_or_not(rt: HostRuntime) -> Result<(), Fail> {
-    let case = Case {
-        prepare: &[RING, "00DC000303000005"],
-        command: "803200000300000100",
-        probe: RECORDS,
-    };
-    check_results(&rt, &case, 2)
-}
-
-#[test]
-fn record_is_appended_or_not(rt: HostRuntime) -> Result<(), Fail> {
-    let case = Case {
-        prepare: &[GROWING],
-        command: "00E200080401020304",
-        probe: &[SELECT, "00B2020404"],
-    };
-    check_results(&rt, &case, 2)
-}
-
-#[test]
-fn record_is_old_or_new(rt: HostRuntime) -> Result<(), Fail> {
-    let case = Case {
-        prepare: &[LIST],
-        command: "00DC022403010203",
-        probe: &["00A4000C026F04", "00B2020403"],
-    };
-    check_results(&rt, &case, 2)
-}
-
-#[test]
-fn file_is_activated_or_not(rt: HostRuntime) -> Result<(), Fail> {
-    let case = Case {
-        prepare: &[ASLEEP],
-        command: "00440000026F06",
-        probe: STATE,
-    };
-    check_results(&rt, &case, 2)
-}
-
-#[test]
-fn file_is_deactivated_or_not(rt: HostRuntime) -> Result<(), Fail> {
-    let case = Case {
-        prepare: &[OWNED],
-        command: "00040000026F06",
-        probe: STATE,
-    };
-    check_results(&rt, &case, 2)
-}
-
-#[test]
-fn directory_is_terminated_or_not(rt: HostRuntime) -> Result<(), Fail> {
-    let case = Case {
-        prepare: &[OWNED_DIRECTORY],
-        command: "00E60000027F21",
-        probe: &["00A4000C027F21"],
-    };
-    check_results(&rt, &case, 2)
-}
-
-#[test]
-fn file_is_terminated_or_not(rt: HostRuntime) -> Result<(), Fail> {
-    let case = Case {
-        prepare: &[OWNED],
-        command: "00E80000026F06",
-        probe: STATE,
-    };
-    check_results(&rt, &case, 2)
-}
-
-#[test]
-fn use_of_the_card_ends_or_not(rt: HostRuntime) -> Result<(), Fail> {
-    let case = Case {
-        prepare: &["002000080831323334FFFFFFFF"],
-        command: "00FE0000",
-        probe: &["00A4000C023F00"],
-    };
-    check_results(&rt, &case, 2)
-}
-
-#[test]
-fn wrong_unblocking_value_costs_a_try_or_not(rt: HostRuntime) -> Result<(), Fail> {
-    let case = Case {
-        prepare: &[],
-        command: "002C000110303030303030303035363738FFFFFFFF",
-        probe: &["002C0001"],
-    };
-    check_results(&rt, &case, 2)
-}
-
-#[test]
-fn pin_is_changed_or_costs_a_try_or_not(rt: HostRuntime) -> Result<(), Fail> {
-    let case = Case {
-        prepare: &[WRONG],
-        command: "002400011031323334FFFFFFFF35363738FFFFFFFF",
-        probe: TRIES,
-    };
-    check_results(&rt, &case, 3)
-}
-
-#[test]
-fn pin_is_reset_or_costs_a_try_or_not(rt: HostRuntime) -> Result<(), Fail> {
-    let case = Case {
-        prepare: &[],
-        command: "002C000110313233343536373835363738FFFFFFFF",
-        probe: &["002C0001", "002000010835363738FFFFFFFF"],
-    };
-    check_results(&rt, &case, 3)
+fn right_value_is_charged_first(rt: HostRuntime) -> Result<(), Fail> {
+    let cases = [
+        // CHANGE REFERENCE DATA: the PIN is changed, or a try is gone, or neither.
+        Case::new(
+            &[WRONG],
+            "002400011031323334FFFFFFFF35363738FFFFFFFF",
+            TRIES,
+        ),
+        // RESET RETRY COUNTER.
+        Case::new(
+            &[],
+            "002C000110313233343536373835363738FFFFFFFF",
+            &["002C0001", "002000010835363738FFFFFFFF"],
+        ),
+    ];
+    for case in &cases {
+        check_results(&rt, case, 3)?;
+    }
+    Ok(())
 }
