@@ -32,9 +32,9 @@ AreAtWrite plan k true all =
 AreAtWrite plan k false all =
     AreOfLastWrite (board_of plan) plan.prepare.now plan.command.now plan.probe.now plan.depth k all
 
--- What a part of a sweep leaves of the tally, where the words of its board have a card. Each finding that it adds is one
--- of these; once it is done, it counted all of these runs, by what it answers, in their order. It tells that no further
--- run can be counted only where that is so, card or not.
+-- What a part of a sweep leaves of the tally, where the words of its board have a card. Each finding that it adds is
+-- one of these; once it is done, it counted all of these runs, by what it answers, in their order. It tells that no
+-- further run can be counted only where that is so, card or not.
 pub record Sweeps {T : Type 0} (words : List ℕ) (Is : Finding → Type 0) (Are : T → List Finding → Type 0)
     (old new : Sweep) (result : Result T Stop) : Type 0 where
   pub given : HasCard words → Adds Is (findings old.seen.items) (findings new.seen.items)

@@ -126,8 +126,8 @@ factory_card n = record {
 abbrev pub factory_space : ℕ → FreeSpace
 factory_space n = record { blocks = n - 1; entries = 62 }
 
--- What the writing of the factory's memory to a board leaves, in a format: the board stands for the factory's card, and a
--- start finds it, by one device write a page; or the board comes back with what the device answered.
+-- What the writing of the factory's memory to a board leaves, in a format: the board stands for the factory's card, and
+-- a start finds it, by one device write a page; or the board comes back with what the device answered.
 pub record Formats {B : Type 0} (facts : B → Facts) (format : MemoryFormat) (board : B)
     (result : Result B (B × DeviceErr)) : Type 0 where
   pub factory : IfOk result (λ b. IsFactory format (facts b).words)

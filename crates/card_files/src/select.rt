@@ -66,8 +66,8 @@ fn find_selected<B: Board>(
     requires kept { IsKept store.old current }
     requires index { IsIndex (table_in store.old) index.now }
     requires selector { IsSelector selector }
-    ensures found { Learns store.old store.new result (λ found. selected_from (card_in store.old).tree (session_in store.old
-        current).current_df (selection_of selector.entry)
+    ensures found { Learns store.old store.new result (λ found. selected_from (card_in store.old).tree
+        (session_in store.old current).current_df (selection_of selector.entry)
         ≡ option_map (path_of (table_in store.old)) found) }
     ensures used { IfOk result (λ found. IfSome found (IsUsed (table_in store.old))) }
 {

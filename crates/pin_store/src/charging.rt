@@ -72,12 +72,13 @@ pub fn is_enabled<B: Board>(store: &mut Store<B>, secret: u8) -> Result<bool, St
     Ok(mark == 1)
 }
 
-/// Takes a try of a secret away, lastingly, in one device write (`counted` of `takes`). Nothing is compared, at no exit:
-/// the counts of comparisons and of matches stay (`store` of `takes`).
+/// Takes a try of a secret away, lastingly, in one device write (`counted` of `takes`). Nothing is compared, at no
+/// exit: the counts of comparisons and of matches stay (`store` of `takes`).
 ///
 /// # Errors
-/// `Blocked` exactly where no try is left (`blocked`, `done`): then nothing is written, at no exit (`kept` of `takes`). Else what
-/// the store answers: power was lost, or the device failed. The try may be gone then, and no receipt is given.
+/// `Blocked` exactly where no try is left (`blocked`, `done`): then nothing is written, at no exit (`kept` of `takes`).
+/// Else what the store answers: power was lost, or the device failed. The try may be gone then, and no receipt is
+/// given.
 pub fn charge<B: Board>(store: &mut Store<B>, secret: u8) -> Result<Charged, PinErr>
     requires ready { IsReady store.old }
     requires secret { secret < SECRETS }

@@ -158,4 +158,5 @@ pub lawful-delete : (subject : Subject) → Lawful (delete_file subject)
 lawful-delete subject =
     lawful-unshown (delete_file subject) (on_delete_file subject) refl
     (λ c s. (lit< tt, (lit< tt, (lit< tt, (lit< tt, tt)))))
-    (λ c s proper small unrefused. fine-delete c s proper subject) (λ sized. omega arith) (λ c s. refl) (λ c s. same-one c _ refl refl)
+    (λ c s proper small unrefused. fine-delete c s proper subject) (λ sized. omega arith) (λ c s. refl)
+    (λ c s. same-one c _ refl refl)

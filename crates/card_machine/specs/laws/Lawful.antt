@@ -42,8 +42,8 @@ AsMany c = All (λ d. d.blocks ≡ c.blocks)
 
 -- Of a request and its behaviour. Its refusals have status words. Where it is of bytes and isn't refused, it leaves a
 -- proper card proper, and its answer is short. Sized as commands are, it makes few device writes. What it shows is a
--- secret of the PIN that it names; where it shows none, every PIN stays. The card that it makes has as many blocks, and so
--- has each that it passes. Its commits are those that words of their own make, and then those of the gate.
+-- secret of the PIN that it names; where it shows none, every PIN stays. The card that it makes has as many blocks, and
+-- so has each that it passes. Its commits are those that words of their own make, and then those of the gate.
 pub record IsLawful (request : Request) (behaviour : Behaviour) : Type 0 where
   pub words : (c : Card) (s : Session) → AreWords (in_order (behaviour.refusals c s))
   pub fine : (c : Card) (s : Session) → IsProper c → IsOfBytes request → refused_by (behaviour.refusals c s) ≡ None

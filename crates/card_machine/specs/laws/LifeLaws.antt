@@ -77,4 +77,5 @@ lawful-life change subject =
 pub lawful-terminate : Lawful terminate_card_usage
 lawful-terminate =
     lawful-unshown terminate_card_usage on_terminate_card_usage refl (λ c s. (lit< tt, tt))
-    (λ c s proper small unrefused. fine-card_terminated c s proper) (λ sized. omega arith) (λ c s. refl) (λ c s. same-one c _ refl refl)
+    (λ c s proper small unrefused. fine-card_terminated c s proper) (λ sized. omega arith) (λ c s. refl)
+    (λ c s. same-one c _ refl refl)

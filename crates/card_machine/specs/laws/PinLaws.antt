@@ -22,7 +22,8 @@ use Rattle.card_machine.specs.Pins.{is_enabled_by, unusable_by, while_disabled, 
 use Rattle.card_machine.specs.Attempts.{unblocking_of, value_of}
 use Rattle.card_machine.specs.Proper.{IsProper}
 use Rattle.card_machine.specs.Sessions.{Session}
-use Rattle.card_machine.specs.laws.Lawful.{AreWords, AsMany, IsLawful, IsOfItsPin, Lawful, many-none, many-one, same-none}
+use Rattle.card_machine.specs.laws.Lawful.{AreWords, AsMany, IsLawful, IsOfItsPin, Lawful}
+use Rattle.card_machine.specs.laws.Lawful.{many-none, many-one, same-none}
 use Rattle.card_machine.specs.laws.ProperLaws.{IsFine, at-or, either-if, short-status}
 
 -- each PIN of a proper card, and one that stands for none

@@ -36,7 +36,8 @@ module _ (c : Card) (s : Session) where
   served-same : (request : Request) → attempt_of request ≡ None → SamePins c (commits_asked c s (Ok request))
   served-same request is =
       either-if (SamePins c) c.in_use (commits_served c s request) []
-      (unless-same (refused_by (refusals_of c s request)) (commits c s request) (commits-same request is)) (same-none c).0
+      (unless-same (refused_by (refusals_of c s request)) (commits c s request) (commits-same request is))
+      (same-none c).0
 
   stage-same : (d : Card) (cards : List Card) → SamePins c cards → Contains (c ∷ cards) d → d.pins ≡ c.pins
   stage-same d cards all there =

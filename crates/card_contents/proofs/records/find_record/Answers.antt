@@ -43,7 +43,8 @@ returns-in_err-slot g c = record {
       let sized = c.requires.kept.ready.usable.committed_size in
       let agrees = agree m sized c.requires.kept.card c.args.current.now c.args.target _ file found in
       let number = c.chosen-number.ensures ∙ ap (λ p. chosen_in file p c.args.choice) c.pointer_at.ensures in
-      let kind = target_kind (card_in c.args.store.now) (session_in c.args.store.now c.args.current.now) c.args.target in
+      let kind = target_kind (card_in c.args.store.now)
+      (session_in c.args.store.now c.args.current.now) c.args.target in
       let status = c.in_err-slot.field-0.0 in
       finds-stopped _ (Refused status) c.from_residual-in_err-slot.ensures.1 _ _
       (record-gone m sized c.requires.kept.card c.args.current.now c.args.target _ file found found.named.unrefused

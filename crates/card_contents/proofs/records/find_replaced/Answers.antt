@@ -60,7 +60,8 @@ returns-in_err-file g c = record {
       let x = c.args.current.now in
       finds-stopped _ _ c.from_residual.ensures.1 _ _ (refused-weaker _ _ _
       (λ status refused. update-refused (card_in old) (session_in old x) c.args.target status c.args.choice
-      c.args.bytes.now (sym (need-replaces (card_in old) (session_in old x) c.args.target c.args.choice c.replacing.result
+      c.args.bytes.now (sym (need-replaces (card_in old)
+      (session_in old x) c.args.target c.args.choice c.replacing.result
       c.replacing.ensures.structure c.replacing.ensures.bit) ∙ refused))
       c.in_err-file.ensures.told);
   store = reads-stopped _ _ c.from_residual.ensures.1 _ _ c.in_err-file.ensures.store;
@@ -79,10 +80,12 @@ returns-in_err-slot g c = record {
       let kind = target_kind (card_in old) (session_in old x) c.args.target in
       let status = c.in_err-slot.field-0.0 in
       finds-stopped _ (Refused status) c.from_residual-in_err-slot.ensures.1 _ _
-      (update-gone (committed old) sized c.requires.kept.card x c.args.target _ file found c.args.bytes.now c.args.choice
+      (update-gone (committed old) sized c.requires.kept.card x c.args.target _ file found c.args.bytes.now
+      c.args.choice
       (sym (replaces-is (card_in old) (session_in old x) c.args.target c.args.choice) ∙ found.named.unrefused)
       status
-      (ap (missing_record (records_of kind)) (sym n_is) ∙ c.in_err-slot.ensures.refusal (records_of kind) agrees.number));
+      (ap (missing_record (records_of kind)) (sym n_is) ∙ c.in_err-slot.ensures.refusal
+      (records_of kind) agrees.number));
   store = reads-stopped _ (Refused c.in_err-slot.field-0.0) c.from_residual-in_err-slot.ensures.1 _ _
       c.in_ok-file.ensures.store;
 }

@@ -49,7 +49,8 @@ returns-clause-carries g c =
     let told = in-use-is (committed old) ∙ ap (λ (n : ℕ). n == 0) (sym c.in_ok-state.ensures.told) in
     let in_use = told ∙ ap (λ (n : ℕ). n == 0) c.if-state-ne-CARD_IN_USE.false in
     carried c.args.command.now old c.serve.new.lent.store x c.serve.new.lent.current c.serve.new.answer.items
-    (reply c.serve.result) request c.in_ok-command.ensures.asked in_use (serves-after request old c.header_word.new.store
+    (reply c.serve.result) request c.in_ok-command.ensures.asked in_use
+    (serves-after request old c.header_word.new.store
     c.serve.new.lent.store x c.serve.new.lent.current c.serve.new.answer.items
     (reply c.serve.result) c.in_ok-state.ensures.store.only c.serve.ensures.serves)
 

@@ -17,8 +17,10 @@ returns-in_err-charged g c =
     c.take_try.new.store _ c.in_err-charged.field-0.0 c.from_residual.ensures.1 c.take_try.ensures.takes.any_exit
     (kept-by (c.args.pin - 1) _ _ c.usable_by.ensures was _ _ c.take_try.ensures.takes.kept)
     c.take_try.ensures.takes.pages
-    c.take_try.ensures.takes.store.reports c.in_err-charged.ensures.takes.store.tells c.take_try.ensures.takes.store.writes
-    c.take_try.ensures.takes.shut (refused-by (c.args.pin - 1) _ _ c.usable_by.ensures was _ _ c.in_err-charged.ensures.done)
+    c.take_try.ensures.takes.store.reports c.in_err-charged.ensures.takes.store.tells
+    c.take_try.ensures.takes.store.writes
+    c.take_try.ensures.takes.shut (refused-by
+    (c.args.pin - 1) _ _ c.usable_by.ensures was _ _ c.in_err-charged.ensures.done)
 
 pub returns-in_err-outcome : goal.returns-in_err-outcome
 returns-in_err-outcome g c =
@@ -35,8 +37,10 @@ returns-in_err-outcome g c =
     c.args.current.now c.requires.kept.ready c.requires.kept.card c.requires.kept.current b e c.in_ok-charged.charged
     (taken-by (c.args.pin - 1) _ _ c.usable_by.ensures was _ _ _ c.in_ok-charged.ensures.done)
     c.take_try.ensures.takes.pages c.take_try.ensures.takes.store.writes
-    c.take_try.ensures.takes.store.reports (λ p. marked_ends (c.args.pin - 1) (is_enabled_by c.args.change) p small) exit
-    c.set_enabled.ensures.spends c.set_enabled.ensures.pages c.set_enabled.ensures.store.reports c.take_try.ensures.takes.shut
+    c.take_try.ensures.takes.store.reports (λ p. marked_ends (c.args.pin - 1)
+    (is_enabled_by c.args.change) p small) exit
+    c.set_enabled.ensures.spends c.set_enabled.ensures.pages c.set_enabled.ensures.store.reports
+    c.take_try.ensures.takes.shut
     c.set_enabled.ensures.by_gate _
     c.in_err-outcome.field-0.0 (reply-failed _ _ c.from_residual-in_err-outcome.ensures.1)
     c.in_err-outcome.ensures.store.tells
@@ -59,8 +63,10 @@ returns g c =
     c.args.current.now c.requires.kept.ready c.requires.kept.card c.requires.kept.current b e c.in_ok-charged.charged
     (taken-by (c.args.pin - 1) _ _ c.usable_by.ensures was _ _ _ c.in_ok-charged.ensures.done)
     c.take_try.ensures.takes.pages c.take_try.ensures.takes.store.writes
-    c.take_try.ensures.takes.store.reports (λ p. marked_ends (c.args.pin - 1) (is_enabled_by c.args.change) p small) exit
-    c.set_enabled.ensures.spends c.set_enabled.ensures.pages c.set_enabled.ensures.store.reports c.take_try.ensures.takes.shut
+    c.take_try.ensures.takes.store.reports (λ p. marked_ends (c.args.pin - 1)
+    (is_enabled_by c.args.change) p small) exit
+    c.set_enabled.ensures.spends c.set_enabled.ensures.pages c.set_enabled.ensures.store.reports
+    c.take_try.ensures.takes.shut
     c.set_enabled.ensures.by_gate c.in_ok-outcome.outcome
     ended c.in_ok-outcome.ensures.store.ready c.in_ok-charged.ensures.takes.counted
     c.after_attempt.result c.after_attempt.ensures

@@ -34,7 +34,8 @@ tell_tries-requires-clause-pages g c = c.requires.kept.card.pins
 pub returns-in_err-charged : goal.returns-in_err-charged
 returns-in_err-charged g c =
     let some = ap (option_map (λ (values : Replacement). (values.shown.now, values.new.now))) c.in-Some.is in
-    subst (λ (shown : Option (List ℕ × List ℕ)). Serves (reset_retry_counter c.args.pin shown) c.args.store.now c.args.current.now
+    subst (λ (shown : Option (List ℕ × List ℕ)). Serves
+    (reset_retry_counter c.args.pin shown) c.args.store.now c.args.current.now
     c.take_try.new.store c.args.current.now [] (reply c.from_residual-in_err-charged.result)) (sym some)
     (charge-stopped _ _ (resets c.args.pin c.requires.pin c.in-Some.values.shown.now c.in-Some.values.new.now) 4
     refl c.args.store.now c.args.current.now
@@ -47,7 +48,8 @@ pub returns-in_err-outcome : goal.returns-in_err-outcome
 returns-in_err-outcome g c =
     let large : 8 ≤ 8 + (c.args.pin - 1) = omega arith in
     let some = ap (option_map (λ (values : Replacement). (values.shown.now, values.new.now))) c.in-Some.is in
-    subst (λ (shown : Option (List ℕ × List ℕ)). Serves (reset_retry_counter c.args.pin shown) c.args.store.now c.args.current.now
+    subst (λ (shown : Option (List ℕ × List ℕ)). Serves
+    (reset_retry_counter c.args.pin shown) c.args.store.now c.args.current.now
     c.reset_counter.new.store c.args.current.now [] (reply c.from_residual-in_err-outcome.result)) (sym some)
     (end-torn _ _ (resets c.args.pin c.requires.pin c.in-Some.values.shown.now c.in-Some.values.new.now) 4
     refl c.args.store.now c.args.current.now c.requires.kept.ready c.requires.kept.card
@@ -63,7 +65,8 @@ pub returns : goal.returns
 returns g c =
     let large : 8 ≤ 8 + (c.args.pin - 1) = omega arith in
     let some = ap (option_map (λ (values : Replacement). (values.shown.now, values.new.now))) c.in-Some.is in
-    subst (λ (shown : Option (List ℕ × List ℕ)). Serves (reset_retry_counter c.args.pin shown) c.args.store.now c.args.current.now
+    subst (λ (shown : Option (List ℕ × List ℕ)). Serves
+    (reset_retry_counter c.args.pin shown) c.args.store.now c.args.current.now
     c.reset_counter.new.store c.after_attempt.result [] (Ok c.status_of.result)) (sym some)
     (end-made _ _ (resets c.args.pin c.requires.pin c.in-Some.values.shown.now c.in-Some.values.new.now) 4
     refl c.args.store.now c.args.current.now c.requires.kept.ready c.requires.kept.card

@@ -35,7 +35,8 @@ returns-in_err-charged g c =
     let some = ap (option_map (λ (value : Bor (List ℕ)). value.now)) c.in-Some.is in
     subst (λ (shown : Option (List ℕ)). Serves (verify c.args.pin shown) c.args.store.now c.args.current.now
     c.take_try.new.store c.args.current.now [] (reply c.from_residual-in_err-charged.result)) (sym some)
-    (charge-stopped _ _ (verifies c.args.pin c.requires.pin c.in-Some.shown.now) 1 refl c.args.store.now c.args.current.now
+    (charge-stopped _ _ (verifies c.args.pin c.requires.pin c.in-Some.shown.now) 1 refl c.args.store.now
+    c.args.current.now
     c.requires.kept.ready c.requires.kept.card c.requires.kept.current c.take_try.new.store _ c.in_err-charged.field-0.0
     c.from_residual-in_err-charged.ensures.1 c.take_try.ensures.takes.any_exit c.take_try.ensures.takes.kept
     c.take_try.ensures.takes.pages c.take_try.ensures.takes.store.reports c.in_err-charged.ensures.takes.store.tells
@@ -51,7 +52,8 @@ returns-in_err-outcome g c =
     c.settle.new.store c.args.current.now [] (reply c.from_residual-in_err-outcome.result)) (sym some)
     (end-torn _ _ (verifies c.args.pin c.requires.pin c.in-Some.shown.now) 1 refl c.args.store.now c.args.current.now
     c.requires.kept.ready c.requires.kept.card c.requires.kept.current c.take_try.new.store c.settle.new.store
-    c.in_ok-charged.charged c.in_ok-charged.ensures.done c.take_try.ensures.takes.pages c.take_try.ensures.takes.store.writes
+    c.in_ok-charged.charged c.in_ok-charged.ensures.done c.take_try.ensures.takes.pages
+    c.take_try.ensures.takes.store.writes
     c.take_try.ensures.takes.store.reports (λ p. verified_ends (c.args.pin - 1) p small) c.settle.ensures.any_exit
     c.settle.ensures.spends c.settle.ensures.pages c.settle.ensures.store.reports c.take_try.ensures.takes.shut
     c.settle.ensures.by_gate _
@@ -68,7 +70,8 @@ returns g c =
     c.settle.new.store c.after_attempt.result [] (Ok c.status_of.result)) (sym some)
     (end-made _ _ (verifies c.args.pin c.requires.pin c.in-Some.shown.now) 1 refl c.args.store.now c.args.current.now
     c.requires.kept.ready c.requires.kept.card c.requires.kept.current c.take_try.new.store c.settle.new.store
-    c.in_ok-charged.charged c.in_ok-charged.ensures.done c.take_try.ensures.takes.pages c.take_try.ensures.takes.store.writes
+    c.in_ok-charged.charged c.in_ok-charged.ensures.done c.take_try.ensures.takes.pages
+    c.take_try.ensures.takes.store.writes
     c.take_try.ensures.takes.store.reports (λ p. verified_ends (c.args.pin - 1) p small) c.settle.ensures.any_exit
     c.settle.ensures.spends c.settle.ensures.pages c.settle.ensures.store.reports c.take_try.ensures.takes.shut
     c.settle.ensures.by_gate c.in_ok-outcome.outcome

@@ -48,7 +48,8 @@ returns-in_err-check_deletion g c = record {
       let x = c.args.current.now in
       let e = c.in-Some.number in
       let used = subst (λ (o : Option ℕ). IfSome o (IsUsed t)) c.in-Some.is c.in_ok-number.ensures.used in
-      let place = subject-found m c.requires.kept.card x c.requires.kept.current c.unwrap_or-own.result c.unwrap_or-own.ensures
+      let place = subject-found m c.requires.kept.card x c.requires.kept.current c.unwrap_or-own.result
+      c.unwrap_or-own.ensures
       c.args.subject c.in_ok-number.field-0 c.in_ok-number.ensures.found.told
       ∙ ap (λ (o : Option ℕ). option_map (path_of t) o) c.in-Some.is in
       let same = c.read_entry.ensures.store.only.keeps.committed_words
@@ -63,7 +64,8 @@ returns-in_err-check_deletion g c = record {
       (λ (status : Sw). refused ≡ Some status)
       (refused-weaker c.in_err-check_deletion.field-0.0 (λ (status : Sw). verdict ≡ Some status)
       (λ (status : Sw). refused ≡ Some status) (λ (status : Sw) (due : verdict ≡ Some status).
-      file-verdict m c.requires.kept.ready.usable.committed_size c.requires.kept.card x c.args.subject e below used place
+      file-verdict m c.requires.kept.ready.usable.committed_size c.requires.kept.card x c.args.subject e below used
+      place
       ∙ ap (λ (y : Entry). deletion_verdict m x e y.parent) (sym entry)
       ∙ ap (λ (l : List ℕ). deletion_verdict l x e c.in_ok-entry.entry.parent) (sym same)
       ∙ due) c.in_err-check_deletion.ensures.told);
@@ -79,7 +81,8 @@ returns g c = record {
       let x = c.args.current.now in
       let e = c.in-Some.number in
       let used = subst (λ (o : Option ℕ). IfSome o (IsUsed t)) c.in-Some.is c.in_ok-number.ensures.used in
-      let place = subject-found m c.requires.kept.card x c.requires.kept.current c.unwrap_or-own.result c.unwrap_or-own.ensures
+      let place = subject-found m c.requires.kept.card x c.requires.kept.current c.unwrap_or-own.result
+      c.unwrap_or-own.ensures
       c.args.subject c.in_ok-number.field-0 c.in_ok-number.ensures.found.told
       ∙ ap (λ (o : Option ℕ). option_map (path_of t) o) c.in-Some.is in
       let same = c.read_entry.ensures.store.only.keeps.committed_words
@@ -89,7 +92,8 @@ returns g c = record {
       c.find_subject.ensures.found.store.only.keeps.committed_words in
       let below : 0 < e = omega arith in
       deletable m c.requires.kept.ready.usable.committed_size c.requires.kept.card x c.args.subject e below used place
-      (file-verdict m c.requires.kept.ready.usable.committed_size c.requires.kept.card x c.args.subject e below used place
+      (file-verdict m c.requires.kept.ready.usable.committed_size c.requires.kept.card x c.args.subject e below used
+      place
       ∙ ap (λ (y : Entry). deletion_verdict m x e y.parent) (sym entry)
       ∙ ap (λ (l : List ℕ). deletion_verdict l x e c.in_ok-entry.entry.parent) (sym same)
       ∙ c.in_ok-check_deletion.ensures.told)

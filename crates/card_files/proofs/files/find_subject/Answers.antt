@@ -17,7 +17,8 @@ returns-in-Current-clause-found g c =
     let m = committed c.args.store.now in
     let own = option_map (path_of (table m)) c.args.own in
     record {
-      told = ap (λ (subject : Subject). subject_or own (card_of m).tree (session_of (table m) c.args.current.now) subject)
+      told = ap (λ (subject : Subject). subject_or own (card_of m).tree (session_of
+          (table m) c.args.current.now) subject)
           c.in-Current.is;
       store = search rules;
     }
@@ -30,8 +31,10 @@ returns-in-Identifier-clause-found g c =
     let id = c.in-Identifier.identifier in
     let own = option_map (path_of t) c.args.own in
     record {
-      told = IfOk-weaker c.select.result (λ (found : Option ℕ). option_map (path_of t) found ≡ reached (tree_of m) df id) _
-          (λ found is. ap (λ (subject : Subject). subject_or own (card_of m).tree (session_of t c.args.current.now) subject)
+      told = IfOk-weaker c.select.result (λ (found : Option ℕ). option_map (path_of t) found ≡ reached
+          (tree_of m) df id) _
+          (λ found is. ap (λ (subject : Subject). subject_or own (card_of m).tree
+          (session_of t c.args.current.now) subject)
           c.in-Identifier.is ∙ ap (λ (tree : Tree). reached tree df id) (card-tree m) ∙ sym is)
           c.select.ensures.found;
       store = search rules;

@@ -19,10 +19,12 @@ returns g c = record {
       let x = c.args.current.now in
       let e = c.in-Some.number in
       let same = c.find_subject.ensures.found.store.only.keeps.committed_words in
-      let place = changed-found m c.requires.kept.card x c.requires.kept.current c.args.change c.current_changed-own.result
+      let place = changed-found m c.requires.kept.card x c.requires.kept.current c.args.change
+      c.current_changed-own.result
       c.current_changed-own.ensures c.args.subject c.in_ok-number.field-0 c.in_ok-number.ensures.found.told
       ∙ ap (λ (found : Option ℕ). option_map (path_of (table m)) found) c.in-Some.is in
-      let used = subst (λ (found : Option ℕ). IfSome found (IsUsed (table m))) c.in-Some.is c.in_ok-number.ensures.used in
+      let used = subst (λ (found : Option ℕ). IfSome found (IsUsed
+      (table m))) c.in-Some.is c.in_ok-number.ensures.used in
       finds-by _ _ _ c.read_change.result
       (λ (answer : Result Changed Sw) (is : change_at (committed c.find_subject.new.store) x c.args.change e ≡ answer).
       found-is m c.requires.kept.card x c.requires.kept.current c.args.change c.args.subject e used place answer
@@ -49,7 +51,8 @@ returns-in_default g c = record {
       let x = c.args.current.now in
       change-missed (card_of m) (session_of t x) c.args.change c.args.subject
       (changed-found m c.requires.kept.card x c.requires.kept.current c.args.change c.current_changed-own.result
-      c.current_changed-own.ensures c.args.subject c.in_ok-number.field-0 c.in_ok-number.ensures.found.told ∙ ap (λ (found : Option ℕ). option_map (path_of t) found) c.in_default.is)
+      c.current_changed-own.ensures c.args.subject c.in_ok-number.field-0 c.in_ok-number.ensures.found.told ∙ ap (λ
+      (found : Option ℕ). option_map (path_of t) found) c.in_default.is)
       ∙ ap (λ (status : Sw). Some status) (sym c.no_subject.ensures);
   store = search rules;
 }

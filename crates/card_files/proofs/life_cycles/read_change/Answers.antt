@@ -32,8 +32,10 @@ returns-in_err-entry g c = record {
 pub allows-requires-clause-kept : goal.allows-requires-clause-kept
 allows-requires-clause-kept g c = record {
   ready = search rules;
-  card = card_still c.args.store.now c.next_life_cycle.new.store c.next_life_cycle.ensures.store.only c.requires.kept.card;
-  current = current_still c.args.store.now c.next_life_cycle.new.store c.args.current.now c.next_life_cycle.ensures.store.only
+  card = card_still c.args.store.now c.next_life_cycle.new.store c.next_life_cycle.ensures.store.only
+      c.requires.kept.card;
+  current = current_still c.args.store.now c.next_life_cycle.new.store c.args.current.now
+      c.next_life_cycle.ensures.store.only
       c.requires.kept.current;
 }
 
@@ -58,7 +60,8 @@ returns g c = record {
       let still = c.allows.ensures.store.only.keeps.committed_words ∙ same in
       let next : c.in_ok-next.next ≡ next_life (tree_of m) (path_of (table m) e) (command_of c.args.change) =
       c.in_ok-next.ensures.next
-      ∙ ap (λ (k : LifeCycleCommand). next_life (tree_of m) (path_of (table m) e) k) (ap (λ (row : LifeCycleCommand × AccessBit). row.0) c.row_of-command.ensures) in
+      ∙ ap (λ (k : LifeCycleCommand). next_life (tree_of m) (path_of (table m) e) k) (ap (λ
+      (row : LifeCycleCommand × AccessBit). row.0) c.row_of-command.ensures) in
       let permitted : c.in_ok-allowed.allowed
       ≡ allowed (card_of m) (session_of (table m) x) (path_of (table m) e) (change_bit c.args.change) =
       c.in_ok-allowed.ensures.told
@@ -81,7 +84,8 @@ returns-in_err-changed_by g c = record {
       let still = c.allows.ensures.store.only.keeps.committed_words ∙ same in
       let next : c.in_ok-next.next ≡ next_life (tree_of m) (path_of (table m) e) (command_of c.args.change) =
       c.in_ok-next.ensures.next
-      ∙ ap (λ (k : LifeCycleCommand). next_life (tree_of m) (path_of (table m) e) k) (ap (λ (row : LifeCycleCommand × AccessBit). row.0) c.row_of-command.ensures) in
+      ∙ ap (λ (k : LifeCycleCommand). next_life (tree_of m) (path_of (table m) e) k) (ap (λ
+      (row : LifeCycleCommand × AccessBit). row.0) c.row_of-command.ensures) in
       let permitted : c.in_ok-allowed.allowed
       ≡ allowed (card_of m) (session_of (table m) x) (path_of (table m) e) (change_bit c.args.change) =
       c.in_ok-allowed.ensures.told

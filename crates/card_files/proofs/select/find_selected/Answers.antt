@@ -44,7 +44,8 @@ returns-in-Parent-clause-found g c = record {
       let df = path_of t c.args.current.df in
       IfOk-weaker c.find_parent.result
       (λ (found : Option ℕ). option_map (path_of t) found ≡ selected (tree_of m) df the_parent) _
-      (λ found is. ap (λ (selector : Selector). selected_from (card_of m).tree df (selection_of selector)) c.in-Parent.is
+      (λ found is. ap (λ (selector : Selector). selected_from (card_of m).tree df
+      (selection_of selector)) c.in-Parent.is
       ∙ ap (λ (tree : Tree). selected tree df the_parent) (card-tree m) ∙ sym is)
       c.find_parent.ensures.found;
   store = search rules;
@@ -57,7 +58,8 @@ returns-in-Name-clause-found g c = record {
       let df = path_of t c.args.current.df in
       let name = c.in-Name.name.now in
       IfOk-weaker c.find_name.result
-      (λ (found : Option ℕ). (above : Path) → option_map (path_of t) found ≡ selected (tree_of m) above (by_name name)) _
+      (λ (found : Option ℕ). (above : Path) → option_map (path_of t) found ≡ selected (tree_of m) above
+      (by_name name)) _
       (λ found is. ap (λ (selector : Selector). selected_from (card_of m).tree df (selection_of selector)) c.in-Name.is
       ∙ ap (λ (tree : Tree). selected tree df (by_name name)) (card-tree m) ∙ sym (is df))
       c.find_name.ensures.found;

@@ -83,7 +83,8 @@ returns-in_err-give_data g c =
     let expected = c.args.expected in
     let returned = c.args.returned in
     let request = select (selection_of c.args.selector) returned expected in
-    let reads = reads_then old c.find_selected.new.store c.read_entry_head.new.store c.find_selected.ensures.found.store.only
+    let reads = reads_then old c.find_selected.new.store c.read_entry_head.new.store
+    c.find_selected.ensures.found.store.only
     c.read_entry_head.ensures.store.only in
     let same = c.read_entry_head.ensures.store.only.keeps.committed_words
     ∙ c.find_selected.ensures.found.store.only.keeps.committed_words in
@@ -121,7 +122,8 @@ returns g c =
     let given = subst (λ (l : List ℕ). IsGiven expected (data_in returned (entry_in (table l) e)) text None) same
     c.in_ok-give_data.ensures.data.told in
     let head = c.in_ok-head.ensures.head
-    ∙ ap (λ (l : List ℕ). head_of (entry_in (table l) e)) c.find_selected.ensures.found.store.only.keeps.committed_words in
+    ∙ ap (λ (l : List ℕ). head_of (entry_in (table l) e))
+    c.find_selected.ensures.found.store.only.keeps.committed_words in
     let current = sym (c.at_head.ensures ∙ ap (λ (h : EntryHead). current_by x e h.kind h.parent) head) in
     let status = sym (c.status_of.ensures ∙ ap selection_status c.life_cycle.ensures
     ∙ ap (λ (h : EntryHead). selection_status (state_told h.life)) head) in

@@ -1,4 +1,5 @@
-use Rattle.std.proofs.Common.{◌≡◌, ℕ, List, Option, Some, None, IfSome, option_map, sym, ◌∙◌, ap, subst, if◌then◌else◌, rules}
+use Rattle.std.proofs.Common.{◌≡◌, ℕ, List, Option, Some, None, IfSome, option_map, sym, ◌∙◌, ap, subst}
+use Rattle.std.proofs.Common.{if◌then◌else◌, rules}
 use Rattle.std.specs.Option.{is_none}
 use Rattle.card_rules.specs.declared.status.Sw.{Sw}
 use Rattle.card_machine.specs.Elementary.{file_refusals, missing}
