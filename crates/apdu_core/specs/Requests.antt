@@ -56,8 +56,8 @@ pub data Request : Type 0 where
 -- what a parsed command asks for
 abbrev pub request_of : Command → Request
 request_of (Select selector returned expected) = select (selection_of selector) returned expected
-request_of (ReadBinary target offset expected) = read_binary target offset expected
-request_of (UpdateBinary target offset bytes) = update_binary target offset bytes.now
+request_of (ReadBinary place expected) = read_binary place.target place.offset expected
+request_of (UpdateBinary place bytes) = update_binary place.target place.offset bytes.now
 request_of (CreateFile template) = create_file template.now
 request_of (DeleteFile subject) = delete_file subject
 request_of (ReadRecord target choice expected) = read_record target choice expected

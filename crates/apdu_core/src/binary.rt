@@ -18,16 +18,16 @@ pub enum Target {
     Short(u8),
 }
 
-/// Where a binary command begins to read or write, by an offset in bytes.
+/// Where a binary command begins to read or write: an elementary file, and an offset in bytes, 0 to 32,767.
 #[derive(Clone, Copy)]
-struct Place {
-    target: Target,
-    offset: u16,
+pub struct BinaryPlace {
+    pub target: Target,
+    pub offset: u16,
 }
 
-impl Place {
+impl BinaryPlace {
     /// Reads P1 and P2 of a binary command, if they name a place.
-    fn of(p1: u8, p2: u8) -> Option<Place>
+    fn of(p1: u8, p2: u8) -> Option<BinaryPlace>
         ensures named { result ≡ (if is_place p1 p2 then Some (record {
           target = named_target p1;
           offset =
@@ -36,12 +36,12 @@ impl Place {
         ensures ranges { IfSome result (λ place. IsTarget place.target × (place.offset ≤ 32767)) }
     {
         match p1 {
-            0x00..=0x7F => Some(Place {
+            0x00..=0x7F => Some(BinaryPlace {
                 target: Target::Current,
                 offset: BigEndian::read_u16(&[p1, p2]),
             }),
             // Bit 8 stands, bits 7 and 6 don't, and bits 5 to 1 are a short identifier: 0 and 31 are none.
-            0x81..=0x9E => Some(Place {
+            0x81..=0x9E => Some(BinaryPlace {
                 target: Target::Short(p1 - 0x80),
                 offset: u16::from(p2),
             }),
@@ -55,13 +55,9 @@ impl Place {
 pub(crate) fn parse_read_binary(operands: Operands<'_>) -> Parsed<'_>
     ensures { Parses (Some read_binary_row) operands.entry result }
 {
-    let place = Place::of(operands.p1, operands.p2).ok_or(Sw::WRONG_PARAMETERS)?;
+    let place = BinaryPlace::of(operands.p1, operands.p2).ok_or(Sw::WRONG_PARAMETERS)?;
     let expected = CommandBody::parse(operands.rest)?.le_alone()?;
-    Ok(Command::ReadBinary {
-        target: place.target,
-        offset: place.offset,
-        expected,
-    })
+    Ok(Command::ReadBinary { place, expected })
 }
 
 /// Reads P1, P2 and what follows the header of UPDATE BINARY. P1 and P2 that name no place are 6A86;
@@ -69,11 +65,7 @@ pub(crate) fn parse_read_binary(operands: Operands<'_>) -> Parsed<'_>
 pub(crate) fn parse_update_binary(operands: Operands<'_>) -> Parsed<'_>
     ensures { Parses (Some update_binary_row) operands.entry result }
 {
-    let place = Place::of(operands.p1, operands.p2).ok_or(Sw::WRONG_PARAMETERS)?;
+    let place = BinaryPlace::of(operands.p1, operands.p2).ok_or(Sw::WRONG_PARAMETERS)?;
     let bytes = CommandBody::parse(operands.rest)?.text_alone()?;
-    Ok(Command::UpdateBinary {
-        target: place.target,
-        offset: place.offset,
-        bytes,
-    })
+    Ok(Command::UpdateBinary { place, bytes })
 }

@@ -2,7 +2,7 @@
 ghost use Rattle.apdu_core.specs.Asked.{asked, row_of};
 ghost use Rattle.apdu_core.specs.Parsing.{IsParsed, Parses};
 
-use crate::binary::{Target, parse_read_binary, parse_update_binary};
+use crate::binary::{BinaryPlace, Target, parse_read_binary, parse_update_binary};
 use crate::files::{Subject, parse_create_file, parse_delete_file};
 use crate::form::Operands;
 use crate::life_cycles::{LifeCycleChange, parse_life_cycle_change, parse_terminate_card_usage};
@@ -26,16 +26,14 @@ pub enum Command<'a> {
         returned: Returned,
         expected: Option<u8>,
     },
-    /// READ BINARY (ISO/IEC 7816-4, 11.3.3), from an offset in bytes, 0 to 32,767.
+    /// READ BINARY (ISO/IEC 7816-4, 11.3.3), from a place on.
     ReadBinary {
-        target: Target,
-        offset: u16,
+        place: BinaryPlace,
         expected: u8,
     },
-    /// UPDATE BINARY (ISO/IEC 7816-4, 11.3.5): 1 to 255 bytes, written from an offset in bytes on, 0 to 32,767.
+    /// UPDATE BINARY (ISO/IEC 7816-4, 11.3.5): 1 to 255 bytes, written from a place on.
     UpdateBinary {
-        target: Target,
-        offset: u16,
+        place: BinaryPlace,
         bytes: &'a [u8],
     },
     /// CREATE FILE (ISO/IEC 7816-9): the new file's template of control parameters, 1 to 255 bytes.

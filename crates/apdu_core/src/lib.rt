@@ -13,7 +13,7 @@ mod records;
 mod select;
 
 use arrayvec::ArrayVec;
-pub use binary::Target;
+pub use binary::{BinaryPlace, Target};
 pub use card_rules::Sw;
 use card_rules::limits::MOST_ANSWER_DATA;
 pub use commands::Command;

@@ -1,7 +1,8 @@
 //! A card behind its end of the link.
-ghost use Rattle.std.specs.Prelude.{◌≡◌, ◌≢◌, ◌⊎◌, ◌+◌, ◌-◌, ◌≤◌, Some, true, [], IsOk, IsErr, OnOk, OnErr};
+ghost use Rattle.std.specs.Prelude.{◌≡◌, ◌≢◌, ◌⊎◌, ◌+◌, ◌≤◌, true, [], IsOk, IsErr, OnOk, OnErr};
 ghost use Rattle.std.specs.Prelude.{IfOk, IfErr};
 ghost use Rattle.nvm_board.specs.Aims.{due_of};
+ghost use Rattle.nvm_board.specs.Calls.{Arms};
 ghost use Rattle.undo_journal.specs.Spending.{Advances, KeepsBoard, WritesAtMost};
 ghost use Rattle.card_machine.specs.declared.spending.TheConstants.{COMMAND_WRITES};
 ghost use Rattle.card_machine.specs.Finding.{HasCard, FindsAgain};
@@ -147,15 +148,8 @@ impl<B: Armed> Powered<B> {
     /// Sets a cut to come at a later write (`Armed::arm`).
     pub fn arm(&mut self, k: u32, mask: u16)
         requires { 1 ≤ k }
-        ensures due { self.new.card.facts.due ≤ 1 }
-        ensures same { self.new ≡ record self.old {
-          card = record self.old.card {
-            facts = record self.old.card.facts {
-              due = self.new.card.facts.due;
-              pending = Some record { whole_writes = k - 1; mask = mask };
-            };
-          };
-        } }
+        ensures arms { Arms k mask self.old.card.facts self.new.card.facts }
+        ensures same { self.new ≡ record self.old { card = record self.old.card { facts = self.new.card.facts } } }
     {
         self.card.arm(k, mask);
     }

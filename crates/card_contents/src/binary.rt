@@ -8,7 +8,7 @@ ghost use Rattle.card_machine.specs.Serving.{ServesInPlace};
 ghost use Rattle.card_machine.specs.Stops.{reply};
 ghost use Rattle.card_machine.specs.Working.{end_status, IsKept};
 
-use apdu_core::{Answer, Sw, Target};
+use apdu_core::{Answer, BinaryPlace, Sw};
 use block_chain::Chain;
 use card_machine::{Current, Need, Stop, Structure, find_file};
 use card_rules::AccessBit;
@@ -29,47 +29,45 @@ const UPDATING: Need = Need {
     bit: AccessBit::Update,
 };
 
-/// READ BINARY: the bytes from the offset on go into `answer`, as many as Le asks for,
+/// READ BINARY: the bytes from the place on go into `answer`, as many as Le asks for,
 /// and the status word is the result.
 pub fn read_file<B: Board>(
     store: &mut Store<B>,
     current: &mut Current,
-    target: Target,
-    offset: u16,
+    place: BinaryPlace,
     expected: u8,
     answer: &mut Answer,
 ) -> Result<Sw, Stop>
     requires kept { IsKept store.old current.old }
-    requires target { IsTarget target }
+    requires target { IsTarget place.target }
     requires empty { answer.old.items ≡ [] }
-    ensures { Serves (read_binary target offset expected) store.old current.old store.new current.new
+    ensures { Serves (read_binary place.target place.offset expected) store.old current.old store.new current.new
         answer.new.items (reply result) }
 {
-    let file = find_file(store, current, target, READING)?;
+    let file = find_file(store, current, place.target, READING)?;
     let body = body_of(&file.entry);
-    body.read(store, offset, most_of(expected), answer)?;
-    *current = current.naming(target, file.number);
+    body.read(store, place.offset, most_of(expected), answer)?;
+    *current = current.naming(place.target, file.number);
     Ok(read_status(answer.len(), expected))
 }
 
-/// UPDATE BINARY: the bytes take the place of those from the offset on, in one transaction, all or none.
+/// UPDATE BINARY: the bytes take the place of those from a place on, in one transaction, all or none.
 pub fn update_file<B: Board>(
     store: &mut Store<B>,
     current: &mut Current,
-    target: Target,
-    offset: u16,
+    place: BinaryPlace,
     bytes: &[u8],
 ) -> Result<Sw, Stop>
     requires kept { IsKept store.old current.old }
-    requires target { IsTarget target }
+    requires target { IsTarget place.target }
     requires bytes { HasBetween 1 255 bytes.now }
-    ensures { ServesInPlace (update_binary target offset bytes.now) store.old current.old store.new current.new []
+    ensures { ServesInPlace (update_binary place.target place.offset bytes.now) store.old current.old store.new current.new []
         (reply result) }
 {
-    let file = find_file(store, current, target, UPDATING)?;
+    let file = find_file(store, current, place.target, UPDATING)?;
     let body = body_of(&file.entry);
-    body.update(store, offset, bytes)?;
-    *current = current.naming(target, file.number);
+    body.update(store, place.offset, bytes)?;
+    *current = current.naming(place.target, file.number);
     Ok(Sw::DONE)
 }
 

@@ -82,16 +82,10 @@ fn serve<B: Board>(
             returned,
             expected,
         } => select_file(store, index, current, selector, returned, expected, answer),
-        Command::ReadBinary {
-            target,
-            offset,
-            expected,
-        } => read_file(store, current, target, offset, expected, answer),
-        Command::UpdateBinary {
-            target,
-            offset,
-            bytes,
-        } => update_file(store, current, target, offset, bytes),
+        Command::ReadBinary { place, expected } => read_file(
+            store, current, place, expected, answer,
+        ),
+        Command::UpdateBinary { place, bytes } => update_file(store, current, place, bytes),
         Command::CreateFile { template } => create_file(store, current, free, index, template),
         Command::DeleteFile { subject } => delete_file(store, current, free, index, subject),
         Command::ReadRecord {

@@ -1,7 +1,8 @@
 //! A started card and its commands.
-ghost use Rattle.std.specs.Prelude.{◌≡◌, ◌⊎◌, ◌≤◌, ◌+◌, ◌-◌, Some, true, false, [], length, IsOk, IsErr, OnOk};
+ghost use Rattle.std.specs.Prelude.{◌≡◌, ◌⊎◌, ◌≤◌, ◌+◌, true, false, [], length, IsOk, IsErr, OnOk};
 ghost use Rattle.std.specs.Prelude.{OnErr, IfOk, IfErr, IsErrOf, Ok, Err, MatchOption, MatchResult, ℕ, List};
 ghost use Rattle.nvm_board.specs.Aims.{due_of};
+ghost use Rattle.nvm_board.specs.Calls.{Arms};
 ghost use Rattle.undo_journal.specs.declared.error.StoreErr.TheVariants as StoreErr;
 ghost use Rattle.card_core.specs.declared.faults.StartFault.TheVariants as StartFault;
 ghost use Rattle.card_core.specs.StartFaults.{fault_of_store};
@@ -207,13 +208,8 @@ impl<B: Armed> Card<B> {
     /// Sets a cut to come at a later write (`Armed::arm`).
     pub fn arm(&mut self, k: u32, mask: u16)
         requires { 1 ≤ k }
-        ensures due { self.new.facts.due ≤ 1 }
-        ensures same { self.new ≡ record self.old {
-          facts = record self.old.facts {
-            due = self.new.facts.due;
-            pending = Some record { whole_writes = k - 1; mask = mask };
-          };
-        } }
+        ensures arms { Arms k mask self.old.facts self.new.facts }
+        ensures same { self.new ≡ record self.old { facts = self.new.facts } }
     {
         self.lent.store.arm(k, mask);
     }

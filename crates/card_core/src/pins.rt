@@ -16,7 +16,7 @@ ghost use Rattle.card_machine.specs.Pins.{is_enabled_by, tries_told, unusable_by
 ghost use Rattle.card_machine.specs.Served.{Serves};
 ghost use Rattle.card_machine.specs.Stops.{failure, reply, Checks, Finds};
 ghost use Rattle.card_core.specs.PinParts.{end_of_attempt, refused_use, use_refusals};
-ghost use Rattle.card_machine.specs.Working.{IsKept};
+ghost use Rattle.card_machine.specs.Working.{tried_from, unverifies, IsKept};
 
 use apdu_core::{Replacement, RequirementChange, Sw};
 use card_machine::{Current, Shown, Stop};
@@ -64,8 +64,7 @@ pub(crate) fn verify<B: Board>(
     };
     let charged = take_try(store, pin - 1, Usable::WhileEnabled)?;
     let outcome = settle(store, charged, shown)?;
-    *current = current.after_attempt(pin, Shown::Value, outcome);
-    Ok(status_of(outcome))
+    Ok(conclude(current, pin, Shown::Value, outcome))
 }
 
 /// CHANGE REFERENCE DATA: a new value takes the place of the one that is shown, and the PIN is verified.
@@ -83,8 +82,7 @@ pub(crate) fn change_reference_data<B: Board>(
 {
     let charged = take_try(store, pin - 1, Usable::WhileEnabled)?;
     let outcome = change(store, charged, values.shown, values.new)?;
-    *current = current.after_attempt(pin, Shown::Value, outcome);
-    Ok(status_of(outcome))
+    Ok(conclude(current, pin, Shown::Value, outcome))
 }
 
 /// RESET RETRY COUNTER: where the unblocking value is shown, a new value takes the place of the old one, all tries are
@@ -106,8 +104,7 @@ pub(crate) fn reset_retry_counter<B: Board>(
     };
     let charged = take_try(store, PINS + (pin - 1), Usable::InAnyCase)?;
     let outcome = reset_counter(store, charged, values.shown, values.new)?;
-    *current = current.after_attempt(pin, Shown::UnblockingValue, outcome);
-    Ok(status_of(outcome))
+    Ok(conclude(current, pin, Shown::UnblockingValue, outcome))
 }
 
 /// DISABLE and ENABLE VERIFICATION REQUIREMENT: where the value of the PIN is shown, its verification is no longer
@@ -125,8 +122,7 @@ pub(crate) fn change_requirement<B: Board>(
 {
     let charged = take_try(store, pin - 1, usable_by(change))?;
     let outcome = set_enabled(store, charged, shown, is_enabled_by(change))?;
-    *current = current.after_attempt(pin, Shown::Value, outcome);
-    Ok(status_of(outcome))
+    Ok(conclude(current, pin, Shown::Value, outcome))
 }
 
 /// The PINs that a change of the requirement is for.
@@ -199,10 +195,14 @@ fn tries_status(left: u8) -> Sw
     Sw(0x63C0 + u16::from(left))
 }
 
-/// The status word at the end of an attempt.
-fn status_of(outcome: Outcome) -> Sw
-    ensures { result ≡ end_of_attempt outcome }
+/// Ends an attempt on a PIN: the session knows of it (`Current::after_attempt`), and the status word is the result, which
+/// tells the tries that are left where the value was wrong.
+fn conclude(current: &mut Current, pin: u8, shown: Shown, outcome: Outcome) -> Sw
+    requires { IsPinNumber pin }
+    ensures session { current.new ≡ tried_from current.old pin (unverifies shown) outcome }
+    ensures status { result ≡ end_of_attempt outcome }
 {
+    *current = current.after_attempt(pin, shown, outcome);
     match outcome {
         Outcome::Matched => Sw::DONE,
         Outcome::Wrong(left) => tries_status(left),

@@ -1,6 +1,6 @@
 //! Commands on life cycles: ACTIVATE FILE, DEACTIVATE FILE, TERMINATE DF, TERMINATE EF and TERMINATE CARD USAGE
 //! (ISO/IEC 7816-9).
-ghost use Rattle.std.specs.Prelude.{◌≡◌, [], Some, OnOk, Ok, Err};
+ghost use Rattle.std.specs.Prelude.{◌≡◌, [], Some, Ok, Err};
 ghost use Rattle.undo_journal.specs.Memory.{committed};
 ghost use Rattle.apdu_core.specs.Requests.{change_life_cycle as changing, terminate_card_usage as terminating};
 ghost use Rattle.file_tree.specs.Indexes.{IsIndex};
@@ -9,8 +9,9 @@ ghost use Rattle.card_files.specs.Changing.{change_at, changed_by, current_chang
 ghost use Rattle.card_machine.specs.LifeCycles.{change_bit, change_refusals, command_of, no_subject};
 ghost use Rattle.card_machine.specs.Outcomes.{refused_by};
 ghost use Rattle.card_machine.specs.Served.{Serves};
+ghost use Rattle.card_machine.specs.Serving.{ServesInPlace};
 ghost use Rattle.card_machine.specs.Stops.{Looks, reply};
-ghost use Rattle.card_machine.specs.Working.{card_in, session_in, space_in, table_in, IsKept};
+ghost use Rattle.card_machine.specs.Working.{card_in, session_in, table_in, IsKept};
 
 use crate::files::find_subject;
 use apdu_core::{LifeCycleChange, Subject, Sw};
@@ -40,8 +41,7 @@ pub fn change_life_cycle<B: Board>(
 ) -> Result<Sw, Stop>
     requires kept { IsKept store.old current.old }
     requires index { IsIndex (table_in store.old) index.now }
-    ensures serves { Serves (changing change subject) store.old current.old store.new current.new [] (reply result) }
-    ensures space { OnOk (reply result) (space_in store.new ≡ space_in store.old) }
+    ensures { ServesInPlace (changing change subject) store.old current.old store.new current.new [] (reply result) }
 {
     let changed = find_change(store, index, current, change, subject)?;
     set_life_cycle(store, changed.number, changed.life)?;

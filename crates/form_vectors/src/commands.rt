@@ -1,7 +1,7 @@
 //! The bytes of short commands (ISO/IEC 7816-4, clause 5) that no script can say,
 //! or whose values no answer shows. All else stands in rows.
 
-use apdu_core::{Command, Returned, Selector, Sw, Target};
+use apdu_core::{BinaryPlace, Command, Returned, Selector, Sw, Target};
 
 /// Whether this is SELECT of 2FE2 without data in return, by an Le of 5.
 fn has_le(bytes: &[u8]) -> bool {
@@ -20,8 +20,10 @@ fn reads_longest(bytes: &[u8]) -> Option<bool> {
     match Command::parse(bytes) {
         Ok(
             Command::UpdateBinary {
-                target: Target::Current,
-                offset: 32_767,
+                place: BinaryPlace {
+                    target: Target::Current,
+                    offset: 32_767,
+                },
                 bytes,
             },
         ) => Some(bytes.len() == 255),

@@ -69,8 +69,8 @@ returns g c =
     c.take_try.ensures.takes.shut
     c.set_enabled.ensures.by_gate c.in_ok-outcome.outcome
     ended c.in_ok-outcome.ensures.store.ready c.in_ok-charged.ensures.takes.counted
-    c.after_attempt.result c.after_attempt.ensures
-    c.status_of.result c.status_of.ensures
+    c.conclude.new.current c.conclude.ensures.session
+    c.conclude.result c.conclude.ensures.status
 
 pub take_try-requires-clause-secret : goal.take_try-requires-clause-secret
 take_try-requires-clause-secret g c = let last = c.requires.pin.last in omega (arith, last)
@@ -81,5 +81,5 @@ take_try-requires-clause-pages g c = c.requires.kept.card.pins
 pub set_enabled-requires-clause-pages : goal.set_enabled-requires-clause-pages
 set_enabled-requires-clause-pages g c = c.take_try.ensures.takes.pages
 
-pub after_attempt-requires : goal.after_attempt-requires
-after_attempt-requires g c = c.requires.pin
+pub conclude-requires : goal.conclude-requires
+conclude-requires g c = c.requires.pin

@@ -67,7 +67,7 @@ returns g c =
     let some = ap (option_map (λ (values : Replacement). (values.shown.now, values.new.now))) c.in-Some.is in
     subst (λ (shown : Option (List ℕ × List ℕ)). Serves
     (reset_retry_counter c.args.pin shown) c.args.store.now c.args.current.now
-    c.reset_counter.new.store c.after_attempt.result [] (Ok c.status_of.result)) (sym some)
+    c.reset_counter.new.store c.conclude.new.current [] (Ok c.conclude.result)) (sym some)
     (end-made _ _ (resets c.args.pin c.requires.pin c.in-Some.values.shown.now c.in-Some.values.new.now) 4
     refl c.args.store.now c.args.current.now c.requires.kept.ready c.requires.kept.card
     c.requires.kept.current c.take_try.new.store c.reset_counter.new.store c.in_ok-charged.charged
@@ -77,8 +77,8 @@ returns g c =
     c.reset_counter.ensures.pages c.reset_counter.ensures.store.reports c.take_try.ensures.takes.shut
     c.reset_counter.ensures.by_gate c.in_ok-outcome.outcome
     c.in_ok-outcome.ensures.done c.in_ok-outcome.ensures.store.ready c.in_ok-charged.ensures.takes.counted
-    c.after_attempt.result c.after_attempt.ensures
-    c.status_of.result c.status_of.ensures)
+    c.conclude.new.current c.conclude.ensures.session
+    c.conclude.result c.conclude.ensures.status)
 
 pub take_try-requires-clause-secret : goal.take_try-requires-clause-secret
 take_try-requires-clause-secret g c = let last = c.requires.pin.last in omega (arith, last)
@@ -89,5 +89,5 @@ take_try-requires-clause-pages g c = c.requires.kept.card.pins
 pub reset_counter-requires-clause-pages : goal.reset_counter-requires-clause-pages
 reset_counter-requires-clause-pages g c = c.take_try.ensures.takes.pages
 
-pub after_attempt-requires : goal.after_attempt-requires
-after_attempt-requires g c = c.requires.pin
+pub conclude-requires : goal.conclude-requires
+conclude-requires g c = c.requires.pin

@@ -67,7 +67,7 @@ returns g c =
     let small : c.args.pin - 1 < 8 = omega (arith, first, last) in
     let some = ap (option_map (λ (value : Bor (List ℕ)). value.now)) c.in-Some.is in
     subst (λ (shown : Option (List ℕ)). Serves (verify c.args.pin shown) c.args.store.now c.args.current.now
-    c.settle.new.store c.after_attempt.result [] (Ok c.status_of.result)) (sym some)
+    c.settle.new.store c.conclude.new.current [] (Ok c.conclude.result)) (sym some)
     (end-made _ _ (verifies c.args.pin c.requires.pin c.in-Some.shown.now) 1 refl c.args.store.now c.args.current.now
     c.requires.kept.ready c.requires.kept.card c.requires.kept.current c.take_try.new.store c.settle.new.store
     c.in_ok-charged.charged c.in_ok-charged.ensures.done c.take_try.ensures.takes.pages
@@ -76,7 +76,8 @@ returns g c =
     c.settle.ensures.spends c.settle.ensures.pages c.settle.ensures.store.reports c.take_try.ensures.takes.shut
     c.settle.ensures.by_gate c.in_ok-outcome.outcome
     c.in_ok-outcome.ensures.done c.in_ok-outcome.ensures.store.ready c.in_ok-charged.ensures.takes.counted
-    c.after_attempt.result c.after_attempt.ensures c.status_of.result c.status_of.ensures)
+    c.conclude.new.current c.conclude.ensures.session
+    c.conclude.result c.conclude.ensures.status)
 
 pub take_try-requires-clause-secret : goal.take_try-requires-clause-secret
 take_try-requires-clause-secret g c = let last = c.requires.pin.last in omega (arith, last)
@@ -87,5 +88,5 @@ take_try-requires-clause-pages g c = c.requires.kept.card.pins
 pub settle-requires-clause-pages : goal.settle-requires-clause-pages
 settle-requires-clause-pages g c = c.take_try.ensures.takes.pages
 
-pub after_attempt-requires : goal.after_attempt-requires
-after_attempt-requires g c = c.requires.pin
+pub conclude-requires : goal.conclude-requires
+conclude-requires g c = c.requires.pin

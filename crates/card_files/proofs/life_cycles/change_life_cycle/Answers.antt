@@ -11,57 +11,52 @@ use Rattle.card_machine.specs.laws.Answering.{ok_anyway}
 use Rattle.card_machine.specs.laws.Stopping.{none-failed, reply-failed}
 use Rattle.card_files.proofs.life_cycles.change_life_cycle.Goals as goal
 
-pub returns-clause-serves : goal.returns-clause-serves
-returns-clause-serves g c =
-    let old = c.args.store.now in
-    let x = c.args.current.now in
-    let mid = c.find_change.new.store in
-    let new = c.set_life_cycle.new.store in
-    let found = c.in_ok-changed.ensures.told in
-    subst (λ (y : Current). Serves (change_life_cycle c.args.change c.args.subject) old x new y [] (Ok DONE))
-    (sym c.at.ensures)
-    (change-made old mid new c.requires.kept.ready c.requires.kept.card x
-    c.requires.kept.current c.args.change c.args.subject c.in_ok-changed.changed found c.find_change.ensures.store.only
-    c.set_life_cycle.ensures.any_exit c.set_life_cycle.ensures.by_gate c.set_life_cycle.ensures.stays
-    c.set_life_cycle.ensures.store.reports c.set_life_cycle.ensures.store.writes c.in_ok-set_life_cycle.ensures.done
-    c.in_ok-set_life_cycle.ensures.store.ready)
+pub returns : goal.returns
+returns g c = record {
+  serves = let old = c.args.store.now in
+      let x = c.args.current.now in
+      let mid = c.find_change.new.store in
+      let new = c.set_life_cycle.new.store in
+      let found = c.in_ok-changed.ensures.told in
+      subst (λ (y : Current). Serves (change_life_cycle c.args.change c.args.subject) old x new y [] (Ok DONE))
+      (sym c.at.ensures)
+      (change-made old mid new c.requires.kept.ready c.requires.kept.card x
+      c.requires.kept.current c.args.change c.args.subject c.in_ok-changed.changed found c.find_change.ensures.store.only
+      c.set_life_cycle.ensures.any_exit c.set_life_cycle.ensures.by_gate c.set_life_cycle.ensures.stays
+      c.set_life_cycle.ensures.store.reports c.set_life_cycle.ensures.store.writes c.in_ok-set_life_cycle.ensures.done
+      c.in_ok-set_life_cycle.ensures.store.ready);
+  space = let old = c.args.store.now in
+      let x = c.args.current.now in
+      let mid = c.find_change.new.store in
+      let new = c.set_life_cycle.new.store in
+      let found = c.in_ok-changed.ensures.told in
+      change-space old mid new c.requires.kept.ready c.requires.kept.card x
+      c.requires.kept.current c.args.change c.args.subject c.in_ok-changed.changed found c.find_change.ensures.store.only
+      c.set_life_cycle.ensures.any_exit c.set_life_cycle.ensures.by_gate c.set_life_cycle.ensures.stays
+      c.set_life_cycle.ensures.store.reports c.set_life_cycle.ensures.store.writes c.in_ok-set_life_cycle.ensures.done;
+}
 
-pub returns-clause-space : goal.returns-clause-space
-returns-clause-space g c =
-    let old = c.args.store.now in
-    let x = c.args.current.now in
-    let mid = c.find_change.new.store in
-    let new = c.set_life_cycle.new.store in
-    let found = c.in_ok-changed.ensures.told in
-    change-space old mid new c.requires.kept.ready c.requires.kept.card x
-    c.requires.kept.current c.args.change c.args.subject c.in_ok-changed.changed found c.find_change.ensures.store.only
-    c.set_life_cycle.ensures.any_exit c.set_life_cycle.ensures.by_gate c.set_life_cycle.ensures.stays
-    c.set_life_cycle.ensures.store.reports c.set_life_cycle.ensures.store.writes c.in_ok-set_life_cycle.ensures.done
+pub returns-in_err-changed : goal.returns-in_err-changed
+returns-in_err-changed g c = record {
+  serves = let old = c.args.store.now in
+      let x = c.args.current.now in
+      halted (change_life_cycle c.args.change c.args.subject) old x c.find_change.new.store (λ _. tt) c.requires.kept.card
+      c.requires.kept.current [] refl _ _ c.from_residual.ensures.1 c.in_err-changed.ensures.store _
+      (λ status. change-refused (card_in old) (session_in old x) c.args.change c.args.subject status)
+      c.in_err-changed.ensures.told;
+  space = ok_anyway _ _
+      (space-same c.args.store.now c.find_change.new.store c.find_change.ensures.store.only.keeps.committed_words);
+}
 
-pub returns-in_err-changed-clause-serves : goal.returns-in_err-changed-clause-serves
-returns-in_err-changed-clause-serves g c =
-    let old = c.args.store.now in
-    let x = c.args.current.now in
-    halted (change_life_cycle c.args.change c.args.subject) old x c.find_change.new.store (λ _. tt) c.requires.kept.card
-    c.requires.kept.current [] refl _ _ c.from_residual.ensures.1 c.in_err-changed.ensures.store _
-    (λ status. change-refused (card_in old) (session_in old x) c.args.change c.args.subject status)
-    c.in_err-changed.ensures.told
-
-pub returns-in_err-changed-clause-space : goal.returns-in_err-changed-clause-space
-returns-in_err-changed-clause-space g c =
-    ok_anyway _ _
-    (space-same c.args.store.now c.find_change.new.store c.find_change.ensures.store.only.keeps.committed_words)
-
-pub returns-in_err-set_life_cycle-clause-serves : goal.returns-in_err-set_life_cycle-clause-serves
-returns-in_err-set_life_cycle-clause-serves g c =
-    let old = c.args.store.now in
-    let mid = c.find_change.new.store in
-    let new = c.set_life_cycle.new.store in
-    change-torn old mid new c.requires.kept.ready c.requires.kept.card c.args.current.now c.requires.kept.current
-    c.args.change c.args.subject c.in_ok-changed.changed c.in_ok-changed.ensures.told c.find_change.ensures.store.only
-    c.set_life_cycle.ensures.any_exit c.set_life_cycle.ensures.by_gate c.set_life_cycle.ensures.stays
-    c.set_life_cycle.ensures.store.reports c.set_life_cycle.ensures.store.writes _ _
-    (reply-failed _ _ c.from_residual-in_err-set_life_cycle.ensures.1) c.in_err-set_life_cycle.ensures.store.tells
-
-pub returns-in_err-set_life_cycle-clause-space : goal.returns-in_err-set_life_cycle-clause-space
-returns-in_err-set_life_cycle-clause-space g c = none-failed _ _ _ c.from_residual-in_err-set_life_cycle.ensures.1
+pub returns-in_err-set_life_cycle : goal.returns-in_err-set_life_cycle
+returns-in_err-set_life_cycle g c = record {
+  serves = let old = c.args.store.now in
+      let mid = c.find_change.new.store in
+      let new = c.set_life_cycle.new.store in
+      change-torn old mid new c.requires.kept.ready c.requires.kept.card c.args.current.now c.requires.kept.current
+      c.args.change c.args.subject c.in_ok-changed.changed c.in_ok-changed.ensures.told c.find_change.ensures.store.only
+      c.set_life_cycle.ensures.any_exit c.set_life_cycle.ensures.by_gate c.set_life_cycle.ensures.stays
+      c.set_life_cycle.ensures.store.reports c.set_life_cycle.ensures.store.writes _ _
+      (reply-failed _ _ c.from_residual-in_err-set_life_cycle.ensures.1) c.in_err-set_life_cycle.ensures.store.tells;
+  space = none-failed _ _ _ c.from_residual-in_err-set_life_cycle.ensures.1;
+}
