@@ -1,8 +1,8 @@
 //! Why a card stops answering, and why it doesn't start.
 ghost use Rattle.std.specs.Prelude.{◌≡◌};
-ghost use Rattle.card_core.specs.StartFaults.{fault_of_open, fault_of_store};
+ghost use Rattle.card_core.specs.StartFaults.{fault_of_open};
 
-use undo_journal::{OpenFault, StoreErr};
+use undo_journal::OpenFault;
 
 /// Power was lost: the board is dark, and nothing is answered until the next start.
 #[derive(Clone, Copy, Debug, PartialEq, Eq)]
@@ -29,17 +29,6 @@ impl From<OpenFault> for StartFault {
             OpenFault::PowerLost => StartFault::PowerLost,
             OpenFault::Fault => StartFault::Fault,
             OpenFault::BadJournal => StartFault::BadJournal,
-        }
-    }
-}
-
-impl From<StoreErr> for StartFault {
-    ghost from_gives = { λ e r. r ≡ fault_of_store e };
-
-    fn from(e: StoreErr) -> Self {
-        match e {
-            StoreErr::PowerLost => StartFault::PowerLost,
-            StoreErr::Fault => StartFault::Fault,
         }
     }
 }

@@ -224,7 +224,8 @@ fn survey_of(found: Result<Option<Survey>, StoreErr>) -> Result<Survey, StartFau
     match found {
         Ok(Some(survey)) => Ok(survey),
         Ok(None) => Err(StartFault::Damaged),
-        Err(e) => Err(StartFault::from(e)),
+        Err(StoreErr::PowerLost) => Err(StartFault::PowerLost),
+        Err(StoreErr::Fault) => Err(StartFault::Fault),
     }
 }
 
