@@ -8,7 +8,7 @@ use Rattle.undo_journal.specs.laws.Told.{reads_on, reads_handed, reads_so_far}
 use Rattle.ef_body.specs.Records.{record_of}
 use Rattle.ef_body.specs.Searching.{stands_in, numbers_on}
 use Rattle.ef_body.specs.Bodies.{cyclic_records, IsCyclic}
-use Rattle.ef_body.proofs.Becoming.{length-cyclic}
+use Rattle.ef_body.specs.laws.Rings.{length-cyclic}
 use Rattle.ef_body.proofs.Finding.{found_some, steps_few, filter-next, filter-few}
 use Rattle.ef_body.proofs.search.search_records.Goals as goal
 

@@ -1,7 +1,8 @@
 use Rattle.std.proofs.Common.{rules, ◌∙◌, List, ℕ, arith, ap, length, inl, inr}
 use Rattle.undo_journal.specs.Memory.{committed}
 use Rattle.ef_body.specs.Bodies.{cyclic_records}
-use Rattle.ef_body.proofs.Becoming.{length-cyclic, length-record, received_last, received_record}
+use Rattle.ef_body.specs.laws.Rings.{length-cyclic}
+use Rattle.ef_body.proofs.Becoming.{length-record, received_last, received_record}
 use Rattle.ef_body.proofs.Refusing.{refused_undecided}
 use Rattle.ef_body.proofs.Increasing.{unraised_unfound, too_high, not_too_high, is_sum}
 use Rattle.ef_body.proofs.cyclic.Cyclic.raise.Goals as goal
