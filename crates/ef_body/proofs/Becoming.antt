@@ -18,7 +18,7 @@ use Rattle.ef_body.specs.laws.Lists.{slot_before, slot_before-small}
 use Rattle.ef_body.specs.laws.Lists.{newest_first-front, newest_first-put, newest_first-back, length-newest_first}
 use Rattle.ef_body.specs.laws.Lists.{at-newest_first, in_order-ring}
 use Rattle.ef_body.specs.Bodies.{ring_of}
-use Rattle.ef_body.specs.laws.Rings.{told_number, told_start, length-linear, cyclic_is, ring_is, ring_records}
+use Rattle.ef_body.specs.laws.Rings.{told_number, told_start, length-linear, cyclic_is, ring_records}
 use Rattle.ef_body.specs.laws.Slots.{slot-within, slot-take, length-slot}
 use Rattle.std.proofs.Math.Nat.{mod-lt}
 use Rattle.ef_body.proofs.Putting.{chain_kept, before_kept}
@@ -53,13 +53,10 @@ linear_becomes m after body records few ring =
 
 -- a linear body, and the ring that is taken for it
 module _ (m : List ℕ) (body : Linear) (ring : Cyclic) (same : ring ≡ ring_of body) (is : IsLinear m body) where
-  pub taken : IsCyclic m ring
-  taken = subst (λ (r : Cyclic). IsCyclic m r) (sym same) (ring_is m body is)
-
-  pub taken_records : cyclic_records m ring ≡ linear_records m body
+  taken_records : cyclic_records m ring ≡ linear_records m body
   taken_records = ap (cyclic_records m) same ∙ ring_records m body is
 
-  pub taken_becomes : (after : List ℕ) (records : List (List ℕ)) → length records ≤ body.capacity
+  taken_becomes : (after : List ℕ) (records : List (List ℕ)) → length records ≤ body.capacity
       → RecordsBecome m ring records after → LinearBecomes m body records after
   taken_becomes after records few becomes =
       linear_becomes m after body records few (subst (λ (r : Cyclic). RecordsBecome m r records after) same becomes)

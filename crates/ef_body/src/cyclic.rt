@@ -142,7 +142,7 @@ impl Cyclic {
     {
         bytes.clear();
         let newest = self.find(1)?;
-        newest.read(store, bytes)?;
+        from_store(newest.read(store, bytes))?;
         if add(bytes, sent) {
             bytes.clear();
             return Err(BodyErr::Refused(Sw::MAXIMUM_REACHED));
