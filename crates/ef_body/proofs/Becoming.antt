@@ -1,7 +1,7 @@
 -- Bodies after bytes were put into a slot.
 use Rattle.std.proofs.Common.{sym, ◌∙◌, ap, ap₂, arith, subst, length-append}
 use Rattle.std.proofs.Math.ListN.{length-set}
-use Rattle.std.specs.Prelude.{◌≡◌, ◌<◌, ◌≤◌, ◌+◌, ◌-◌, ◌*◌, ◌%◌, ℕ, List, [], ◌∷◌, ◌++◌, length, slice_index}
+use Rattle.std.specs.Prelude.{◌≡◌, ◌<◌, ◌≤◌, ◌+◌, ◌-◌, ◌*◌, ◌%◌, ℕ, List, [], ◌∷◌, ◌++◌, length}
 use Rattle.std.specs.Prelude.{slice_set, take, drop}
 use Rattle.nvm_board.specs.Facts.{IsMemory}
 use Rattle.block_chain.specs.Chains.{chain_of, chain_bytes, bytes_of}
@@ -10,24 +10,18 @@ use Rattle.block_chain.specs.laws.Bytes.{leads_blocks, length-bytes_of}
 use Rattle.ef_body.specs.declared.linear.Linear.{Linear}
 use Rattle.ef_body.specs.declared.cyclic.Cyclic.{Cyclic}
 use Rattle.ef_body.specs.declared.slot.RecordSlot.{RecordSlot}
-use Rattle.ef_body.specs.Records.{slot, in_order, newest_first, front, record_of}
+use Rattle.ef_body.specs.Records.{slot, newest_first, front, record_of}
 use Rattle.ef_body.specs.Bodies.{counts_word, number_told, start_told, linear_records, cyclic_records, IsLinear}
 use Rattle.ef_body.specs.Bodies.{IsCyclic, LieIn}
 use Rattle.ef_body.specs.Changes.{LinearBecomes, CyclicBecomes, RecordsBecome, PutsRecord}
-use Rattle.ef_body.specs.laws.Lists.{length-in_order, slot_before, slot_before-small}
+use Rattle.ef_body.specs.laws.Lists.{slot_before, slot_before-small}
 use Rattle.ef_body.specs.laws.Lists.{newest_first-front, newest_first-put, newest_first-back, length-newest_first}
 use Rattle.ef_body.specs.laws.Lists.{at-newest_first, in_order-ring}
 use Rattle.ef_body.specs.Bodies.{ring_of}
+use Rattle.ef_body.specs.laws.Rings.{told_number, told_start, length-linear, cyclic_is, ring_records}
 use Rattle.ef_body.specs.laws.Slots.{slot-within, slot-take, length-slot}
 use Rattle.std.proofs.Math.Nat.{mod-lt}
 use Rattle.ef_body.proofs.Putting.{chain_kept, before_kept}
-
--- the word of an entry tells both numbers
-pub told_number : (m : List ℕ) (at n s : ℕ) → slice_index m at ≡ counts_word n s → s < 0x10000 → number_told m at ≡ n
-told_number m at n s is small = omega (arith, is, small)
-
-pub told_start : (m : List ℕ) (at n s : ℕ) → slice_index m at ≡ counts_word n s → s < 0x10000 → start_told m at ≡ s
-told_start m at n s is small = omega (arith, is, small)
 
 -- as many bytes as the blocks have
 pub ring_fits : (m : List ℕ) (c : Cyclic) → IsMemory m → IsCyclic m c
@@ -37,51 +31,6 @@ ring_fits m c sized is =
     (leads_blocks m c.chain.first 0 (chain_of m c.chain) is.slots.chain.leads) in
     let fits = is.slots.fits in
     omega (arith, long, fits)
-
--- a linear body as the memory tells of it
-pub linear_is : (m : List ℕ) (body : Linear) → IsLinear m body
-    → linear_records m body ≡ in_order body.record_length (chain_bytes m body.chain) body.records
-linear_is m body is =
-    ap (in_order body.record_length (chain_bytes m body.chain))
-    (told_number m body.told_at body.records 0 is.told (omega arith))
-
-pub length-linear : (m : List ℕ) (body : Linear) → IsLinear m body → length (linear_records m body) ≡ body.records
-length-linear m body is =
-    ap (λ (l : List (List ℕ)). length l) (linear_is m body is)
-    ∙ length-in_order body.record_length (chain_bytes m body.chain) body.records
-
--- a cyclic body as the memory tells of it
-pub cyclic_is : (m : List ℕ) (body : Cyclic) → IsCyclic m body
-    → cyclic_records m body
-    ≡ newest_first body.record_length body.capacity (chain_bytes m body.chain) body.start body.records
-cyclic_is m body is =
-    let few = is.slots.few in
-    let start = is.start in
-    let small : body.start < 0x10000 = omega (arith, few, start) in
-    ap₂ (newest_first body.record_length body.capacity (chain_bytes m body.chain))
-    (told_start m body.told_at body.records body.start is.told small)
-    (told_number m body.told_at body.records body.start is.told small)
-
-pub length-cyclic : (m : List ℕ) (body : Cyclic) → IsCyclic m body → length (cyclic_records m body) ≡ body.records
-length-cyclic m body is =
-    ap (λ (l : List (List ℕ)). length l) (cyclic_is m body is)
-    ∙ length-newest_first body.record_length body.capacity (chain_bytes m body.chain) body.start body.records
-
--- a linear body taken for a cyclic one is one, of the same records
-pub ring_is : (m : List ℕ) (body : Linear) → IsLinear m body → IsCyclic m (ring_of body)
-ring_is m body is = record {
-  slots = is.slots;
-  number = is.number;
-  start = (let room = is.slots.room in omega (arith, room));
-  told = is.told;
-}
-
-pub ring_records : (m : List ℕ) (body : Linear) → IsLinear m body
-    → cyclic_records m (ring_of body) ≡ linear_records m body
-ring_records m body is =
-    cyclic_is m (ring_of body) (ring_is m body is)
-    ∙ in_order-ring body.record_length body.capacity (chain_bytes m body.chain) body.records is.number
-    ∙ sym (linear_is m body is)
 
 -- The ring of a linear body does not wrap: what it becomes, that body becomes.
 linear_becomes : (m after : List ℕ) (body : Linear) (records : List (List ℕ)) → length records ≤ body.capacity
@@ -104,13 +53,10 @@ linear_becomes m after body records few ring =
 
 -- a linear body, and the ring that is taken for it
 module _ (m : List ℕ) (body : Linear) (ring : Cyclic) (same : ring ≡ ring_of body) (is : IsLinear m body) where
-  pub taken : IsCyclic m ring
-  taken = subst (λ (r : Cyclic). IsCyclic m r) (sym same) (ring_is m body is)
-
-  pub taken_records : cyclic_records m ring ≡ linear_records m body
+  taken_records : cyclic_records m ring ≡ linear_records m body
   taken_records = ap (cyclic_records m) same ∙ ring_records m body is
 
-  pub taken_becomes : (after : List ℕ) (records : List (List ℕ)) → length records ≤ body.capacity
+  taken_becomes : (after : List ℕ) (records : List (List ℕ)) → length records ≤ body.capacity
       → RecordsBecome m ring records after → LinearBecomes m body records after
   taken_becomes after records few becomes =
       linear_becomes m after body records few (subst (λ (r : Cyclic). RecordsBecome m r records after) same becomes)

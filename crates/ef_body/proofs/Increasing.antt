@@ -1,11 +1,17 @@
 -- The record that INCREASE stores, and what it makes of a body.
-use Rattle.std.proofs.Common.{refl, sym, ◌∙◌, ap, ap₂, arith, ⊎_elim}
+use Rattle.std.proofs.Common.{refl, sym, ◌∙◌, ap, ap₂, arith, inl, subst, ⊎_elim}
 use Rattle.std.proofs.lemmas.Bool.{cases_lt, le-leb, lt-leb}
 use Rattle.std.proofs.lemmas.List.{take_all}
 use Rattle.std.specs.Prelude.{◌≡◌, ◌<◌, ◌≤◌, ◌+◌, ◌%◌, ◌^◌, ℕ, zero, suc, Bool, true, false, List, ◌∷◌}
-use Rattle.std.specs.Prelude.{length, All, Option, Some, None, if◌then◌else◌, nat_le, min}
+use Rattle.std.specs.Prelude.{[], length, All, Option, Some, None, option_map, if◌then◌else◌, nat_le, min}
+use Rattle.std.specs.Prelude.{Result, Ok, Err, IsErrAnd}
 use Rattle.card_rules.specs.declared.status.Sw.{Sw}
 use Rattle.card_rules.specs.declared.status.TheConstants.Sw.{RECORD_NOT_FOUND, MAXIMUM_REACHED}
+use Rattle.undo_journal.specs.declared.error.StoreErr.{StoreErr}
+use Rattle.block_chain.specs.Changes.{AppendsSome}
+use Rattle.ef_body.specs.declared.error.BodyErr.{BodyErr}
+use Rattle.ef_body.specs.declared.error.BodyErr.TheVariants.{Store}
+use Rattle.ef_body.specs.Calls.{ReceivesSum}
 use Rattle.ef_body.specs.Records.{has_record, record_of, front}
 use Rattle.ef_body.specs.Numbers.{number_of, spelled}
 use Rattle.ef_body.specs.Refusals.{missing_record, raised_number, unraised}
@@ -30,15 +36,7 @@ unfolding spelled
 length-spelled zero n = refl
 length-spelled (suc size) n = ap (λ (k : ℕ). suc k) (length-spelled size (n % 256 ^ size))
 
--- there is no record to raise
-pub unraised_missing : (size : ℕ) (records : List (List ℕ)) (sent : List ℕ) → has_record records 1 ≡ false
-    → unraised size records sent ≡ Some RECORD_NOT_FOUND
-unraised_missing size records sent none =
-    ap (λ (h : Bool). let status : Option Sw = if h
-    then (if nat_le (256 ^ size) (raised_number records sent) then Some MAXIMUM_REACHED else None)
-    else Some RECORD_NOT_FOUND in status) none
-
--- as a look tells it
+-- there is no record to raise, as a look tells it
 pub unraised_unfound : (size : ℕ) (records : List (List ℕ)) (sent : List ℕ) (status : Sw)
     → missing_record records 1 ≡ Some status → unraised size records sent ≡ Some status
 unraised_unfound size records sent status is =
@@ -100,3 +98,14 @@ module _ (size : ℕ) (records : List (List ℕ)) (sent old now : List ℕ) (hig
   pub is_sum : high ≡ false → now ≡ spelled size (raised_number records sent)
   is_sum is =
       sym (spelled-number now digits) ∙ ap₂ spelled (same ∙ long) (exact is)
+
+-- the store failed before the sum was made
+pub failed_sum : {T : Type 0} (r : Result T BodyErr) (e : BodyErr) → IsErrAnd r (λ b. b ≡ e) → (told : Option StoreErr)
+    → Some e ≡ option_map Store told → (size : ℕ) (records : List (List ℕ)) (sent buffer : List ℕ)
+    → AppendsSome [] (record_of records 1) buffer → ReceivesSum size records sent buffer r
+failed_sum (Ok v) e is told from size records sent buffer some = absurd is
+failed_sum (Err b) e is None from size records sent buffer some = cc
+failed_sum {T} (Err b) e is (Some f) from size records sent buffer some =
+    let same : b ≡ Store f = cc in
+    subst (λ (b : BodyErr). let r : Result T BodyErr = Err b in ReceivesSum size records sent buffer r) (sym same)
+    (record { bytes = tt; emptied = tt; buffer = inl some; refusal = tt })

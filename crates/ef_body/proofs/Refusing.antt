@@ -1,8 +1,7 @@
 -- What the tests of a number of records tell of refusals.
-use Rattle.std.proofs.Common.{sym, ◌∙◌, ap, ap₂, arith, subst, ⊎_elim}
-use Rattle.std.proofs.lemmas.Bool.{cases_lt, le-leb, lt-leb}
-use Rattle.std.specs.Prelude.{◌≡◌, ◌<◌, ◌≤◌, ◌↔◌, ◌&&◌, ℕ, Bool, true, false, List, length, IsTrue, Option, Some, None}
-use Rattle.std.specs.Prelude.{nat_le}
+use Rattle.std.proofs.Common.{sym, ◌∙◌, ap₂, arith, subst}
+use Rattle.std.proofs.lemmas.Bool.{le-leb}
+use Rattle.std.specs.Prelude.{◌≡◌, ◌≤◌, ◌↔◌, ◌&&◌, ℕ, Bool, true, false, List, length, IsTrue, Option, Some, None}
 use Rattle.std.specs.Prelude.{Result, Ok, Err, IsErrAnd, OnOk, option_map}
 use Rattle.std.specs.Result.{result_err}
 use Rattle.card_rules.specs.declared.status.Sw.{Sw}
@@ -24,26 +23,8 @@ there records n number many some most =
     let within : number ≤ length records = omega (arith, many, most) in
     ap₂ (λ (a b : Bool). a && b) (le-leb 1 number some) (le-leb number (length records) within)
 
-pub not_there : (records : List (List ℕ)) (n number : ℕ) → length records ≡ n → ((1 ≤ number) × (number ≤ n) → ⊥)
-    → has_record records number ≡ false
-not_there records n number many none_there = ⊎_elim
-    (λ (none : number < 1). ap (λ (b : Bool). b && nat_le number (length records)) (lt-leb 1 number none))
-    (λ (some : 1 ≤ number). ⊎_elim
-    (λ (past : length records < number).
-    ap₂ (λ (a b : Bool). a && b) (le-leb 1 number some) (lt-leb number (length records) past))
-    (λ (within : number ≤ length records). absurd (none_there (
-      some,
-      (let w : number ≤ n = omega (
-        arith,
-        many,
-        within,
-      ) in w),
-    )))
-    (cases_lt (length records) number))
-    (cases_lt number 1)
-
 -- what a call answers that nothing refuses is the store's answer
-module _ {T : Type 0} (r : Result T StoreErr) (s : Result T BodyErr)
+module _ {T U : Type 0} (r : Result T StoreErr) (s : Result U BodyErr)
     (is : result_err s ≡ option_map Store (result_err r)) where
   pub store_decides : (refusal : Option Sw) → refusal ≡ None → Decides refusal (result_err s)
   store_decides refusal none =
@@ -71,18 +52,20 @@ module _ {T : Type 0} (r : Result T StoreErr) (s : Result T BodyErr)
   pub store_done : (fact : Type 0) → OnOk r fact → OnOk s fact
   store_done = done r s is
     where
-      done : (r : Result T StoreErr) (s : Result T BodyErr) → result_err s ≡ option_map Store (result_err r)
+      done : (r : Result T StoreErr) (s : Result U BodyErr) → result_err s ≡ option_map Store (result_err r)
           → (fact : Type 0) → OnOk r fact → OnOk s fact
       done (Ok x) (Ok y) is fact holds = holds
       done (Err e) (Ok y) is fact holds = cc
       done r (Err e) is fact holds = tt
 
+-- what the store's success tells, where its answer is a body's
+pub store_ok : {T : Type 0} (r : Result T StoreErr) → None ≡ option_map Store (result_err r) → (fact : Type 0)
+    → OnOk r fact → fact
+store_ok (Ok x) is fact holds = holds
+store_ok (Err e) is fact holds = cc
+
 -- what a look refuses, handed on
 module _ {T : Type 0} (r : Result T BodyErr) (status : Sw) (is : IsErrAnd r (λ b. b ≡ Refused status)) where
-  pub refused_decides : (refusal : Option Sw) → refusal ≡ Some status → Decides refusal (result_err r)
-  refused_decides refusal due =
-      subst (λ (answer : Option BodyErr). Decides refusal answer) (told_is r (Refused status) is) due
-
   pub refused_undecided : (refusal : Option Sw) → refusal ≡ Some status → DecidesUnlessFailed refusal (result_err r)
   refused_undecided refusal due =
       subst (λ (answer : Option BodyErr). DecidesUnlessFailed refusal answer) (told_is r (Refused status) is) due

@@ -1,21 +1,21 @@
 //! Cyclic bodies: records of one length, the newest first (ETSI TS 102 221, 8.2.2.3).
 ghost use Rattle.std.specs.Prelude.{◌≡◌, ◌≤◌, ◌<◌, ◌⊎◌, ◌↔◌, ◌+◌, min, length, None, Some, IsTrue, IfOk, OnOk};
+ghost use Rattle.std.specs.Prelude.{refl};
 ghost use Rattle.std.specs.Result.{result_err};
 ghost use Rattle.undo_journal.specs.Commits.{CommitsByGate};
 ghost use Rattle.undo_journal.specs.Memory.{committed, IsReady};
 ghost use Rattle.undo_journal.specs.Calls.{OnlyReads, Reads, Changes};
 ghost use Rattle.ef_body.specs.declared.layout.TheConstants.{RECORD_WRITES};
 ghost use Rattle.card_rules.specs.declared.status.Sw.{Sw};
-ghost use Rattle.ef_body.specs.Records.{front, record_of};
-ghost use Rattle.ef_body.specs.Searching.{found};
+ghost use Rattle.ef_body.specs.Records.{front};
 ghost use Rattle.ef_body.specs.Refusals.{missing_record, unraised, failure};
 ghost use Rattle.ef_body.specs.Bodies.{cyclic_records, IsCyclic};
 ghost use Rattle.ef_body.specs.Changes.{CyclicBecomes, Increases};
-ghost use Rattle.ef_body.specs.Calls.{Commits, CommitsUnlessRefused, FindsRecord, ReadsUnlessRefused, ReceivesSum};
+ghost use Rattle.ef_body.specs.Calls.{Commits, CommitsUnlessRefused, ReceivesSum};
 
 use crate::error::{BodyErr, from_store};
 use crate::number::add;
-use crate::search::Direction;
+use crate::record_body::RecordBody;
 use crate::slot::RecordSlot;
 use crate::writing::put_front;
 use arrayvec::ArrayVec;
@@ -36,48 +36,28 @@ pub struct Cyclic {
     pub told_at: u16,
 }
 
+impl RecordBody for Cyclic {
+    ghost is_body = { IsCyclic };
+
+    ghost records_in = { cyclic_records };
+
+    ghost ring_of = { λ body. body };
+
+    fn ring(self) -> Cyclic {
+        self
+    }
+
+    ghost ring_is = { λ m body is. is };
+
+    ghost ring_records = { λ m body is. refl };
+}
+
 impl Cyclic {
     /// Whether there is a record of this number, 1 the newest.
-    fn has_record(self, number: u16) -> bool
+    pub(crate) fn has_record(self, number: u16) -> bool
         ensures { IsTrue result ↔ ((1 ≤ number) × (number ≤ self.records)) }
     {
         (1..=self.records).contains(&number)
-    }
-
-    /// Looks for the record of a number, 1 the newest.
-    ///
-    /// # Errors
-    /// 6A83 exactly where there is no such record.
-    pub fn find(self, number: u16) -> Result<RecordSlot, Sw>
-        ensures { FindsRecord self number result }
-    {
-        if !self.has_record(number) {
-            return Err(Sw::RECORD_NOT_FOUND);
-        }
-        Ok(RecordSlot { ring: self, number })
-    }
-
-    /// Reads the record of a number into the buffer, in place of what stood there (READ RECORD, ISO/IEC 7816-4,
-    /// 11.4.3).
-    ///
-    /// # Errors
-    /// 6A83 where there is no such record: then the buffer is empty. What the store answers: then the buffer may hold
-    /// some of its bytes, from the first on.
-    pub fn read<B: Board, const N: usize>(
-        self,
-        store: &mut Store<B>,
-        number: u16,
-        bytes: &mut ArrayVec<u8, N>,
-    ) -> Result<(), BodyErr>
-        requires ready { IsReady store.old }
-        requires body { IsCyclic (committed store.old) self }
-        requires room { self.record_length ≤ N }
-        ensures { ReadsUnlessRefused (missing_record (cyclic_records (committed store.old) self) number)
-            (record_of (cyclic_records (committed store.old) self) number) store.old store.new bytes.new.items result }
-    {
-        bytes.clear();
-        let slot = self.find(number)?;
-        from_store(slot.read(store, bytes))
     }
 
     /// Puts a record in front and drops the oldest one, in one transaction: the number of records stays (UPDATE
@@ -162,7 +142,7 @@ impl Cyclic {
     {
         bytes.clear();
         let newest = self.find(1)?;
-        newest.read(store, bytes)?;
+        from_store(newest.read(store, bytes))?;
         if add(bytes, sent) {
             bytes.clear();
             return Err(BodyErr::Refused(Sw::MAXIMUM_REACHED));
@@ -199,32 +179,5 @@ impl Cyclic {
     {
         let newest = self.raise(store, sent, bytes)?;
         from_store(newest.replace_oldest(store, bytes))
-    }
-
-    /// Puts the numbers of the records that hold the text into the buffer, in place of what stood there: from the
-    /// record of a number on up to the last one, or down to record 1, without wrapping around (SEARCH RECORD, ISO/IEC
-    /// 7816-4, 11.4.7).
-    ///
-    /// # Errors
-    /// 6A83 where there is no record of that number: then the buffer is empty. What the store answers: then the
-    /// buffer may hold some of the numbers, from the first on.
-    pub fn search<B: Board, const N: usize>(
-        self,
-        store: &mut Store<B>,
-        direction: Direction,
-        first: u16,
-        text: &[u8],
-        numbers: &mut ArrayVec<u8, N>,
-    ) -> Result<(), BodyErr>
-        requires ready { IsReady store.old }
-        requires body { IsCyclic (committed store.old) self }
-        requires room { self.records ≤ N }
-        ensures { ReadsUnlessRefused (missing_record (cyclic_records (committed store.old) self) first)
-            (found direction first text.now (cyclic_records (committed store.old) self)) store.old store.new
-            numbers.new.items result }
-    {
-        numbers.clear();
-        let slot = self.find(first)?;
-        from_store(slot.search(store, direction, text, numbers))
     }
 }

@@ -15,14 +15,6 @@ pub enum BodyErr {
     Store(StoreErr),
 }
 
-impl From<StoreErr> for BodyErr {
-    ghost from_gives = { λ e r. r ≡ Store e };
-
-    fn from(e: StoreErr) -> Self {
-        BodyErr::Store(e)
-    }
-}
-
 impl From<Sw> for BodyErr {
     ghost from_gives = { λ status r. r ≡ Refused status };
 

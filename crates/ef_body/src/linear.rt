@@ -4,18 +4,16 @@ ghost use Rattle.std.specs.Prelude.{ℕ, List, IfOk};
 ghost use Rattle.std.specs.Result.{result_err};
 ghost use Rattle.undo_journal.specs.Memory.{committed, IsReady};
 ghost use Rattle.ef_body.specs.declared.layout.TheConstants.{UPDATE_WRITES, RECORD_WRITES};
-ghost use Rattle.ef_body.specs.Records.{record_of};
-ghost use Rattle.ef_body.specs.Searching.{found};
 ghost use Rattle.ef_body.specs.Refusals.{missing_record, full};
 ghost use Rattle.ef_body.specs.Bodies.{linear_records, ring_of, IsLinear};
 ghost use Rattle.ef_body.specs.Changes.{LinearBecomes};
-ghost use Rattle.ef_body.specs.Calls.{CommitsUnlessRefused, FindsRecord, ReadsUnlessRefused};
+ghost use Rattle.ef_body.specs.Calls.{CommitsUnlessRefused};
+ghost use Rattle.ef_body.specs.laws.Rings.{ring_is, ring_records};
 
 use crate::cyclic::Cyclic;
 use crate::error::{BodyErr, from_store};
-use crate::search::Direction;
-use crate::slot::{FreeSlot, RecordSlot};
-use arrayvec::ArrayVec;
+use crate::record_body::RecordBody;
+use crate::slot::FreeSlot;
 use block_chain::Chain;
 use card_rules::Sw;
 use undo_journal::{Board, Store};
@@ -31,11 +29,15 @@ pub struct Linear {
     pub told_at: u16,
 }
 
-impl Linear {
-    /// The same body as a cyclic one, whose record 1 lies in slot 0: its slots are never followed past the last one.
-    fn ring(self) -> Cyclic
-        ensures { result ≡ ring_of self }
-    {
+impl RecordBody for Linear {
+    ghost is_body = { IsLinear };
+
+    ghost records_in = { linear_records };
+
+    ghost ring_of = { ring_of };
+
+    /// The ring's record 1 lies in slot 0: its slots are never followed past the last one.
+    fn ring(self) -> Cyclic {
         Cyclic {
             chain: self.chain,
             record_length: self.record_length,
@@ -46,16 +48,12 @@ impl Linear {
         }
     }
 
-    /// Looks for the record of a number, 1 the first.
-    ///
-    /// # Errors
-    /// 6A83 exactly where there is no such record.
-    pub fn find(self, number: u16) -> Result<RecordSlot, Sw>
-        ensures { FindsRecord (ring_of self) number result }
-    {
-        self.ring().find(number)
-    }
+    ghost ring_is = { ring_is };
 
+    ghost ring_records = { ring_records };
+}
+
+impl Linear {
     /// Whether there is no room for one more record.
     fn is_full(self) -> bool
         ensures { IsTrue result ↔ (self.capacity ≤ self.records) }
@@ -76,27 +74,6 @@ impl Linear {
             return Err(Sw::NO_ROOM);
         }
         Ok(FreeSlot { ring: self.ring() })
-    }
-
-    /// Reads the record of a number into the buffer, in place of what stood there (READ RECORD, ISO/IEC 7816-4,
-    /// 11.4.3).
-    ///
-    /// # Errors
-    /// 6A83 where there is no such record: then the buffer is empty. What the store answers: then the buffer may hold
-    /// some of its bytes, from the first on.
-    pub fn read<B: Board, const N: usize>(
-        self,
-        store: &mut Store<B>,
-        number: u16,
-        bytes: &mut ArrayVec<u8, N>,
-    ) -> Result<(), BodyErr>
-        requires ready { IsReady store.old }
-        requires body { IsLinear (committed store.old) self }
-        requires room { self.record_length ≤ N }
-        ensures { ReadsUnlessRefused (missing_record (linear_records (committed store.old) self) number)
-            (record_of (linear_records (committed store.old) self) number) store.old store.new bytes.new.items result }
-    {
-        self.ring().read(store, number, bytes)
     }
 
     /// Puts a record in place of the one of a number, in one transaction (UPDATE RECORD, ISO/IEC 7816-4, 11.4.5).
@@ -135,30 +112,5 @@ impl Linear {
     {
         let slot = self.find_room()?;
         from_store(slot.append(store, bytes))
-    }
-
-    /// Puts the numbers of the records that hold the text into the buffer, in place of what stood there: from the
-    /// record of a number on up to the last one, or down to record 1, without wrapping around (SEARCH RECORD, ISO/IEC
-    /// 7816-4, 11.4.7).
-    ///
-    /// # Errors
-    /// 6A83 where there is no record of that number: then the buffer is empty. What the store answers: then the
-    /// buffer may hold some of the numbers, from the first on.
-    pub fn search<B: Board, const N: usize>(
-        self,
-        store: &mut Store<B>,
-        direction: Direction,
-        first: u16,
-        text: &[u8],
-        numbers: &mut ArrayVec<u8, N>,
-    ) -> Result<(), BodyErr>
-        requires ready { IsReady store.old }
-        requires body { IsLinear (committed store.old) self }
-        requires room { self.records ≤ N }
-        ensures { ReadsUnlessRefused (missing_record (linear_records (committed store.old) self) first)
-            (found direction first text.now (linear_records (committed store.old) self)) store.old store.new
-            numbers.new.items result }
-    {
-        self.ring().search(store, direction, first, text, numbers)
     }
 }

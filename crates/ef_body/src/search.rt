@@ -104,33 +104,6 @@ fn note<const N: usize>(numbers: &mut ArrayVec<u8, N>, number: u16, holds: bool)
     }
 }
 
-/// Puts the numbers of the records that hold the text into the empty buffer, from the record of a number on.
-fn search_records<B: Board, const N: usize>(
-    body: Cyclic,
-    store: &mut Store<B>,
-    direction: Direction,
-    first: u16,
-    text: &[u8],
-    numbers: &mut ArrayVec<u8, N>,
-) -> Result<(), StoreErr>
-    requires ready { IsReady store.old }
-    requires body { IsCyclic (committed store.old) body }
-    requires some { 1 ≤ first }
-    requires exists { first ≤ body.records }
-    requires room { body.records ≤ N }
-    requires empty { numbers.old.items ≡ [] }
-    ensures { ReadsInto (found direction first text.now (cyclic_records (committed store.old) body)) store.old
-        store.new numbers.new.items result }
-{
-    let steps = steps_of(direction, first, body.records);
-    for step in 0..steps {
-        let number = number_at(direction, first, body.records, step);
-        let holds = record_holds(body, store, number, text)?;
-        note(numbers, number, holds);
-    }
-    Ok(())
-}
-
 impl RecordSlot {
     /// Puts the numbers of the records that hold the text into the buffer, in place of what stood there: from this
     /// record on up to the last one, or down to record 1, without wrapping around (SEARCH RECORD, ISO/IEC 7816-4,
@@ -152,6 +125,12 @@ impl RecordSlot {
             store.old store.new numbers.new.items result }
     {
         numbers.clear();
-        search_records(self.ring, store, direction, self.number, text, numbers)
+        let steps = steps_of(direction, self.number, self.ring.records);
+        for step in 0..steps {
+            let number = number_at(direction, self.number, self.ring.records, step);
+            let holds = record_holds(self.ring, store, number, text)?;
+            note(numbers, number, holds);
+        }
+        Ok(())
     }
 }

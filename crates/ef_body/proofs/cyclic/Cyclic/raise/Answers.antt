@@ -1,9 +1,13 @@
-use Rattle.std.proofs.Common.{rules, ◌∙◌, List, ℕ, arith, ap, length, inl, inr}
+use Rattle.std.proofs.Common.{rules, ◌∙◌, [], List, ℕ, arith, ap, length, inl, inr, subst, sym}
 use Rattle.undo_journal.specs.Memory.{committed}
+use Rattle.undo_journal.specs.Calls.{Reads}
+use Rattle.undo_journal.specs.laws.Told.{told_is}
+use Rattle.block_chain.specs.Changes.{AppendsSome}
 use Rattle.ef_body.specs.Bodies.{cyclic_records}
-use Rattle.ef_body.proofs.Becoming.{length-cyclic, length-record, received_last, received_record}
-use Rattle.ef_body.proofs.Refusing.{refused_undecided}
-use Rattle.ef_body.proofs.Increasing.{unraised_unfound, too_high, not_too_high, is_sum}
+use Rattle.ef_body.specs.laws.Rings.{length-cyclic}
+use Rattle.ef_body.proofs.Becoming.{length-record, received_last, received_record}
+use Rattle.ef_body.proofs.Refusing.{refused_undecided, store_ok, store_told}
+use Rattle.ef_body.proofs.Increasing.{failed_sum, unraised_unfound, too_high, not_too_high, is_sum}
 use Rattle.ef_body.proofs.cyclic.Cyclic.raise.Goals as goal
 
 pub returns-in_err-newest-clause-sum : goal.returns-in_err-newest-clause-sum
@@ -19,12 +23,27 @@ returns-in_err-newest-clause-sum g c =
           (c.in_err-newest.ensures.refusal rs (length-cyclic m c.args.self c.requires.body)));
     }
 
+pub returns-in_err-from_store-clause-sum : goal.returns-in_err-from_store-clause-sum
+returns-in_err-from_store-clause-sum g c =
+    let m = committed c.args.store.now in
+    let at = c.in_ok-newest.ensures.found in
+    failed_sum _ _ c.from_residual-in_err-from_store.ensures.1 _ c.in_err-from_store.ensures c.args.self.record_length
+    (cyclic_records m c.args.self) c.args.sent.now _
+    (subst (λ (l : List ℕ). AppendsSome [] l c.read.new.bytes.items)
+    (received_record c.args.self 1 c.in_ok-newest.newest at m) c.read.ensures.any_exit)
+
+pub returns-in_err-from_store-clause-store : goal.returns-in_err-from_store-clause-store
+returns-in_err-from_store-clause-store g c =
+    store_told c.read.result _
+    (sym (told_is _ _ c.from_residual-in_err-from_store.ensures.1) ∙ c.in_err-from_store.ensures)
+    (Reads c.args.store.now c.read.new.store) c.read.ensures.store
+
 pub add-requires : goal.add-requires
 add-requires g c =
     let m = committed c.args.store.now in
     let at = c.in_ok-newest.ensures.found in
     let some = received_last c.args.self 1 c.in_ok-newest.newest at in
-    let read = c.in_ok-read.ensures.bytes ∙ received_record c.args.self 1 c.in_ok-newest.newest at m in
+    let read = store_ok c.read.result c.in_ok-from_store.ensures _ c.read.ensures.bytes ∙ received_record c.args.self 1 c.in_ok-newest.newest at m in
     let long = ap (λ (l : List ℕ). length l) read
     ∙ length-record m c.args.self 1 c.requires.ready.usable.committed_size c.requires.body (omega arith) some in
     (search rules, omega (arith, long, c.requires.sent))
@@ -36,7 +55,7 @@ returns-then-add-clause-sum g c =
     let at = c.in_ok-newest.ensures.found in
     let some = received_last c.args.self 1 c.in_ok-newest.newest at in
     let many = length-cyclic m c.args.self c.requires.body in
-    let read = c.in_ok-read.ensures.bytes ∙ received_record c.args.self 1 c.in_ok-newest.newest at m in
+    let read = store_ok c.read.result c.in_ok-from_store.ensures _ c.read.ensures.bytes ∙ received_record c.args.self 1 c.in_ok-newest.newest at m in
     let long = ap (λ (l : List ℕ). length l) read
     ∙ length-record m c.args.self 1 c.requires.ready.usable.committed_size c.requires.body (omega arith) some in
     record {
@@ -56,7 +75,7 @@ returns-clause-sum g c =
     let at = c.in_ok-newest.ensures.found in
     let some = received_last c.args.self 1 c.in_ok-newest.newest at in
     let many = length-cyclic m c.args.self c.requires.body in
-    let read = c.in_ok-read.ensures.bytes ∙ received_record c.args.self 1 c.in_ok-newest.newest at m in
+    let read = store_ok c.read.result c.in_ok-from_store.ensures _ c.read.ensures.bytes ∙ received_record c.args.self 1 c.in_ok-newest.newest at m in
     let long = ap (λ (l : List ℕ). length l) read
     ∙ length-record m c.args.self 1 c.requires.ready.usable.committed_size c.requires.body (omega arith) some in
     let sum = is_sum c.args.self.record_length rs c.args.sent.now c.read.new.bytes.items c.add.new.number.items

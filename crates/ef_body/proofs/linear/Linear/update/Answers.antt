@@ -1,6 +1,7 @@
 use Rattle.undo_journal.specs.Memory.{committed}
 use Rattle.ef_body.specs.Bodies.{linear_records}
-use Rattle.ef_body.proofs.Becoming.{length-linear, taken_put}
+use Rattle.ef_body.specs.laws.Rings.{length-linear}
+use Rattle.ef_body.proofs.Becoming.{taken_put}
 use Rattle.ef_body.proofs.Calling.{commits_weaker, refused_commits, store_commits}
 use Rattle.ef_body.proofs.linear.Linear.update.Goals as goal
 

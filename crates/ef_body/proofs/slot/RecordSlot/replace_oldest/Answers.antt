@@ -5,7 +5,7 @@ use Rattle.ef_body.specs.Bodies.{cyclic_records}
 use Rattle.ef_body.specs.Calls.{Commits}
 use Rattle.ef_body.specs.Changes.{CyclicBecomes}
 use Rattle.ef_body.specs.Records.{front}
-use Rattle.ef_body.proofs.Becoming.{length-cyclic}
+use Rattle.ef_body.specs.laws.Rings.{length-cyclic}
 use Rattle.ef_body.proofs.slot.RecordSlot.replace_oldest.Goals as goal
 
 pub returns : goal.returns

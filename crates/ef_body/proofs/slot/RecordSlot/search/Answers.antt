@@ -8,31 +8,31 @@ use Rattle.undo_journal.specs.laws.Told.{reads_on, reads_handed, reads_so_far}
 use Rattle.ef_body.specs.Records.{record_of}
 use Rattle.ef_body.specs.Searching.{stands_in, numbers_on}
 use Rattle.ef_body.specs.Bodies.{cyclic_records, IsCyclic}
-use Rattle.ef_body.proofs.Becoming.{length-cyclic}
+use Rattle.ef_body.specs.laws.Rings.{length-cyclic}
 use Rattle.ef_body.proofs.Finding.{found_some, steps_few, filter-next, filter-few}
-use Rattle.ef_body.proofs.search.search_records.Goals as goal
+use Rattle.ef_body.proofs.slot.RecordSlot.search.Goals as goal
 
 pub loop-step-init : goal.loop-step-init
 loop-step-init g c = record {
   ready = c.requires.ready;
   reads = reads_same _;
-  so_far = c.requires.empty;
+  so_far = c.clear.ensures;
 }
 
 pub record_holds-requires-clause-body : goal.record_holds-requires-clause-body
 record_holds-requires-clause-body g c =
-    subst (λ (m : List ℕ). IsCyclic m c.args.body) (sym c.loop-step.invariant.reads.keeps.committed_words)
+    subst (λ (m : List ℕ). IsCyclic m c.args.self.ring) (sym c.loop-step.invariant.reads.keeps.committed_words)
     c.requires.body
 
 pub note-requires : goal.note-requires
 note-requires g c =
     let m = committed c.args.store.now in
-    let body = c.args.body in
-    let numbers = numbers_on c.args.direction c.args.first body.records in
+    let body = c.args.self.ring in
+    let numbers = numbers_on c.args.direction c.args.self.number body.records in
     let test : ℕ → Bool = λ n. stands_in c.args.text.now (record_of (cyclic_records m body) n) in
     let steps = c.steps_of-steps.ensures in
     let lt : c.loop-step.step < length numbers = omega (arith, steps, c.loop-step-test.true) in
-    let most = steps_few c.args.direction c.args.first body.records c.requires.some c.requires.exists in
+    let most = steps_few c.args.direction c.args.self.number body.records c.args.self.from_first c.args.self.to_last in
     let few = filter-few test (take c.loop-step.step numbers) in
     let taken = length-take-le c.loop-step.step numbers (omega (arith, lt)) in
     let so_far : length c.loop-step.numbers.items ≡ length (filter test (take c.loop-step.step numbers)) =
@@ -47,8 +47,8 @@ note-requires g c =
 pub loop-step-preserved : goal.loop-step-preserved
 loop-step-preserved g c =
     let m = committed c.args.store.now in
-    let body = c.args.body in
-    let numbers = numbers_on c.args.direction c.args.first body.records in
+    let body = c.args.self.ring in
+    let numbers = numbers_on c.args.direction c.args.self.number body.records in
     let test : ℕ → Bool = λ n. stands_in c.args.text.now (record_of (cyclic_records m body) n) in
     let steps = c.steps_of-steps.ensures in
     let lt : c.loop-step.step < length numbers = omega (arith, steps, c.loop-step-test.true) in
@@ -70,9 +70,9 @@ loop-step-preserved g c =
 pub returns-in_err-holds : goal.returns-in_err-holds
 returns-in_err-holds g c = record {
   bytes = search rules;
-  any_exit = found_some c.args.direction c.args.first c.args.body.records c.loop-step.step c.args.text.now
-      (cyclic_records (committed c.args.store.now) c.args.body) _ (length-cyclic (committed c.args.store.now)
-      c.args.body c.requires.body) c.loop-step.invariant.so_far;
+  any_exit = found_some c.args.direction c.args.self.number c.args.self.ring.records c.loop-step.step c.args.text.now
+      (cyclic_records (committed c.args.store.now) c.args.self.ring) _ (length-cyclic (committed c.args.store.now)
+      c.args.self.ring c.requires.body) c.loop-step.invariant.so_far;
   store = reads_handed _ _ _ _ c.from_residual.ensures.1
       (reads_on _ _ _ _ c.loop-step.invariant.reads c.in_err-holds.ensures.store);
 }
@@ -80,16 +80,16 @@ returns-in_err-holds g c = record {
 pub returns : goal.returns
 returns g c =
     let m = committed c.args.store.now in
-    let body = c.args.body in
-    let numbers = numbers_on c.args.direction c.args.first body.records in
+    let body = c.args.self.ring in
+    let numbers = numbers_on c.args.direction c.args.self.number body.records in
     let test : ℕ → Bool = λ n. stands_in c.args.text.now (record_of (cyclic_records m body) n) in
     let steps = c.steps_of-steps.ensures in
     let all : length numbers ≤ c.loop-step.step = omega (arith, steps, c.loop-step-test.false) in
     let many = length-cyclic m body c.requires.body in
     record {
       bytes = c.loop-step.invariant.so_far ∙ ap (filter test) (take_all c.loop-step.step numbers all)
-          ∙ ap (λ (n : ℕ). filter test (numbers_on c.args.direction c.args.first n)) (sym many);
-      any_exit = found_some c.args.direction c.args.first body.records c.loop-step.step c.args.text.now
+          ∙ ap (λ (n : ℕ). filter test (numbers_on c.args.direction c.args.self.number n)) (sym many);
+      any_exit = found_some c.args.direction c.args.self.number body.records c.loop-step.step c.args.text.now
           (cyclic_records m body) _ many c.loop-step.invariant.so_far;
       store = reads_so_far _ _ c.loop-step.invariant.reads c.loop-step.invariant.ready;
     }

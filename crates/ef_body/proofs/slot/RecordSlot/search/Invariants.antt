@@ -5,13 +5,13 @@ use Rattle.undo_journal.specs.Calls.{OnlyReads}
 use Rattle.ef_body.specs.Records.{record_of}
 use Rattle.ef_body.specs.Searching.{stands_in, numbers_on}
 use Rattle.ef_body.specs.Bodies.{cyclic_records}
-use Rattle.ef_body.proofs.search.search_records.Given as goal
+use Rattle.ef_body.proofs.slot.RecordSlot.search.Given as goal
 
 abbrev pub invariant-loop-step : goal.invariant-loop-step
 invariant-loop-step g l = record {
   ready : IsReady l.store;
   reads : OnlyReads l.fn.store l.store;
   so_far : l.numbers.items
-      ≡ filter (λ (number : ℕ). stands_in l.text (record_of (cyclic_records (committed l.fn.store) l.body) number))
-      (take l.step (numbers_on l.direction l.first l.body.records));
+      ≡ filter (λ (number : ℕ). stands_in l.text (record_of (cyclic_records (committed l.fn.store) l.self.ring) number))
+      (take l.step (numbers_on l.direction l.self.number l.self.ring.records));
 }

@@ -1,0 +1,42 @@
+use Rattle.std.proofs.Common.{rules, ◌∙◌, ℕ, List, ap, ap₂, subst}
+use Rattle.undo_journal.specs.Memory.{committed}
+use Rattle.ef_body.specs.declared.cyclic.Cyclic.{Cyclic}
+use Rattle.ef_body.specs.Bodies.{cyclic_records}
+use Rattle.ef_body.specs.Calls.{ReadsInto}
+use Rattle.ef_body.specs.Searching.{found}
+use Rattle.ef_body.specs.laws.Rings.{length-records}
+use Rattle.ef_body.proofs.Calling.{refused_reads, store_reads}
+use Rattle.ef_body.proofs.record_body.RecordBody.search.Goals as goal
+
+pub returns-in_err-slot : goal.returns-in_err-slot
+returns-in_err-slot g c =
+    let body = g.Self.RecordBody in
+    let laws = g.met.Self.RecordBody in
+    let m = committed c.args.store.now in
+    let is = laws.ring_is m c.args.self c.requires.body in
+    let same = laws.ring_records m c.args.self c.requires.body in
+    refused_reads _ _ c.from_residual.ensures.1 _
+    (c.in_err-slot.ensures.refusal (body.records_in m c.args.self)
+    (length-records m (body.ring_of c.args.self) _ is same)) _ c.requires.ready _ _ c.clear.ensures
+
+pub search-requires : goal.search-requires
+search-requires g c =
+    let is = g.met.Self.RecordBody.ring_is (committed c.args.store.now) c.args.self c.requires.body in
+    search (rules, is)
+
+pub returns : goal.returns
+returns g c =
+    let body = g.Self.RecordBody in
+    let laws = g.met.Self.RecordBody in
+    let m = committed c.args.store.now in
+    let is = laws.ring_is m c.args.self c.requires.body in
+    let same = laws.ring_records m c.args.self c.requires.body in
+    let at = c.in_ok-slot.ensures.found in
+    store_reads c.search.result c.from_store.result c.from_store.ensures _
+    (c.in_ok-slot.ensures.refusal (body.records_in m c.args.self)
+    (length-records m (body.ring_of c.args.self) _ is same)) _ _ _ _
+    (subst (λ (l : List ℕ). ReadsInto l c.args.store.now c.search.new.store c.search.new.numbers.items
+    c.search.result)
+    (ap₂ (λ (r : Cyclic) (n : ℕ). found c.args.direction n c.args.text.now (cyclic_records m r)) at.0 at.1
+    ∙ ap (found c.args.direction c.args.first c.args.text.now) same)
+    c.search.ensures)
