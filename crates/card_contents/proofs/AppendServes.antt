@@ -1,12 +1,12 @@
 -- What APPEND RECORD leaves, where nothing refuses it: first it only reads, up to the store `mid`, and then it writes.
-use Rattle.std.proofs.Common.{◌≡◌, ◌⊎◌, ◌≤◌, ℕ, List, [], length, Option, Some, Result, Ok, refl, sym, ◌∙◌, ap}
-use Rattle.std.proofs.Common.{subst, arith}
-use Rattle.std.proofs.lemmas.Bool.{eq-eqb}
+use Rattle.std.proofs.Common.{◌≡◌, ◌⊎◌, ◌≤◌, ◌==◌, ℕ, true, false, List, [], length, Option, Some, None, Result, Ok}
+use Rattle.std.proofs.Common.{refl, sym, ◌∙◌, ap, subst, arith}
+use Rattle.std.proofs.lemmas.Bool.{eqb-true}
 use Rattle.std.specs.Result.{IsErrAnd}
 use Rattle.nvm_board.specs.Facts.{IsMemory}
 use Rattle.card_rules.specs.declared.access_mode.AccessBit.TheVariants.{Append}
 use Rattle.card_rules.specs.declared.status.Sw.{Sw}
-use Rattle.card_rules.specs.declared.status.TheConstants.Sw.{DONE}
+use Rattle.card_rules.specs.declared.status.TheConstants.Sw.{DONE, NO_ROOM}
 use Rattle.undo_journal.specs.declared.error.StoreErr.{StoreErr}
 use Rattle.undo_journal.specs.Calls.{Changes, OnlyReads}
 use Rattle.undo_journal.specs.Commits.{CommitsByGate}
@@ -21,17 +21,31 @@ use Rattle.card_machine.specs.declared.named.Need.{Need}
 use Rattle.card_machine.specs.declared.named.Structure.TheVariants.{Records}
 use Rattle.card_contents.specs.declared.record_file.RecordFile.{RecordFile}
 use Rattle.card_contents.specs.declared.record_file.Room.{Room}
-use Rattle.card_contents.specs.RecordGuards.{IsAppendable}
 use Rattle.card_machine.specs.Served.{Serves}
 use Rattle.card_machine.specs.Standing.{IsCard}
-use Rattle.card_contents.specs.RecordParts.{appended_in, number_added_in, ring_room, wraps_room}
+use Rattle.card_contents.specs.RecordParts.{appended_in, is_full_in, number_added_in, ring_room, unadded, wraps_room}
 use Rattle.card_machine.specs.Working.{pointing_from, space_in, table_in}
 use Rattle.card_machine.specs.Working.{IsCurrent}
-use Rattle.card_contents.specs.RecordParts.{RingBecomes}
+use Rattle.card_contents.specs.RecordParts.{IsRecordFile, RingBecomes}
 use Rattle.card_contents.proofs.RecordBodies.{appended-fits, count-few}
-use Rattle.card_contents.proofs.RecordWrites.{PutsRecords, append-commits, append-effect, append-free, records-made}
-use Rattle.card_contents.proofs.RecordWrites.{records-space, records-torn}
+use Rattle.card_contents.proofs.RecordWrites.{PutsRecords, append-commits, append-decided, append-effect}
+use Rattle.card_contents.proofs.RecordWrites.{records-made, records-space, records-torn, verdict-free}
 use Rattle.card_contents.proofs.Recording.{agree}
+
+-- a file that APPEND RECORD adds the bytes to, and where they go: nothing refuses them
+pub record IsAppendable (m : List ℕ) (x : Current) (target : Target) (bytes : List ℕ) (file : RecordFile) (room : Room)
+    : Type 0 where
+  pub named : IsRecordFile m x target (record { structure = Records; bit = Append }) file
+  pub ring_is : ring_room room ≡ file.ring
+  pub wraps_is : wraps_room room ≡ file.wraps
+  pub taken : unadded file bytes ≡ None
+
+-- so it is where room was looked for
+pub is-appendable : {m : List ℕ} {x : Current} {target : Target} {file : RecordFile} (bytes : List ℕ) (room : Room)
+    → IsRecordFile m x target (record { structure = Records; bit = Append }) file → ring_room room ≡ file.ring
+    → wraps_room room ≡ file.wraps → None ≡ unadded file bytes → IsAppendable m x target bytes file room
+is-appendable bytes room named ring wraps none =
+    record { named = named; ring_is = ring; wraps_is = wraps; taken = sym none }
 
 module _ (old mid new : Memory) (ready : IsReady old) (words : IsCard (committed old)) (x : Current)
     (current : IsCurrent (table_in old) x) (reads : OnlyReads old mid) where
@@ -49,12 +63,15 @@ module _ (old mid new : Memory) (ready : IsReady old) (words : IsCard (committed
     stands : IsCyclic m file.ring
     stands = (agree m sized words x target _ file found.named).stands
 
+    free : (is_full_in file ≡ false) × ((length bytes == file.ring.record_length) ≡ true)
+    free = verdict-free (is_full_in file) NO_ROOM (length bytes == file.ring.record_length) found.taken
+
     pub appended-body : IsCyclic (committed mid) (ring_room room)
     appended-body = subst (λ (l : List ℕ). IsCyclic l (ring_room room)) (sym same)
         (subst (λ (r : Ring). IsCyclic m r) (sym found.ring_is) stands)
 
     pub appended-long : length bytes ≡ (ring_room room).record_length
-    appended-long = found.long ∙ ap (λ (r : Ring). r.record_length) (sym found.ring_is)
+    appended-long = eqb-true _ _ free.1 ∙ ap (λ (r : Ring). r.record_length) (sym found.ring_is)
 
     pub appended-few : file.ring.records ≤ 254
     appended-few = count-few m file.ring stands
@@ -68,10 +85,9 @@ module _ (old mid new : Memory) (ready : IsReady old) (words : IsCard (committed
     puts : PutsRecords old x target need file (append_record target bytes) records
     puts = record {
       found = found.named;
-      none = append-free m sized words x target _ file found.named bytes found.named.named.unrefused found.unfilled
-          (eq-eqb _ _ found.long);
+      none = append-decided m sized words x target _ file found.named bytes found.named.named.unrefused ∙ found.taken;
       commits_is = append-commits m sized words x target _ file found.named bytes found.named.named.unrefused;
-      few = appended-fits m file.ring stands file.wraps found.unfilled bytes;
+      few = appended-fits m file.ring stands file.wraps free.0 bytes;
       most = refl;
       unshown = refl;
     }

@@ -10,3 +10,4 @@ pub mod UpdateServes
 pub mod AppendServes
 pub mod IncreaseServes
 pub mod RecordKinds
+pub mod Halting

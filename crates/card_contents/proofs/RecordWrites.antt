@@ -20,7 +20,6 @@ use Rattle.apdu_core.specs.declared.records.RecordChoice.TheVariants.{Next, Prev
 use Rattle.ef_body.specs.declared.cyclic.Cyclic.{Cyclic as Ring}
 use Rattle.ef_body.specs.Bodies.{cyclic_records}
 use Rattle.ef_body.specs.Records.{has_record}
-use Rattle.ef_body.specs.Refusals.{missing_record}
 use Rattle.ef_body.specs.declared.layout.TheConstants.{RECORD_WRITES}
 use Rattle.file_tree.specs.Table.{table, entry_in}
 use Rattle.card_machine.specs.declared.current.Current.{Current}
@@ -42,12 +41,12 @@ use Rattle.card_machine.specs.Records.{record_writes}
 use Rattle.card_machine.specs.Stages.{commits}
 use Rattle.card_machine.specs.Standing.{card_of, IsCard}
 use Rattle.card_machine.specs.Steps.{effect, refusals_of}
-use Rattle.card_contents.specs.RecordParts.{appended_in, has_in, is_full_in, number_added_in}
+use Rattle.card_contents.specs.RecordParts.{appended_in, has_in, number_added_in}
 use Rattle.card_machine.specs.Working.{card_in, fits}
 use Rattle.card_contents.specs.RecordParts.{number_replaced_in, replaced_in, ring_in}
 use Rattle.card_machine.specs.Working.{outcome, pointer_from, pointing_from}
 use Rattle.card_machine.specs.Working.{session_in, session_of, space_in, table_in}
-use Rattle.card_contents.specs.RecordParts.{structure_replaced}
+use Rattle.card_contents.specs.RecordParts.{need_replacing, structure_replaced, unadded, unreplaced}
 use Rattle.card_machine.specs.Working.{IsCurrent}
 use Rattle.card_contents.specs.RecordParts.{IsRecordFile, RingBecomes}
 use Rattle.card_machine.specs.laws.Doing.{doing-one}
@@ -180,21 +179,12 @@ replaces-is c s target Previous = refl
 replaces-is c s target (At place) = refl
 
 pub need-replaces : (c : Card) (s : Session) (target : Target) (choice : RecordChoice) (need : Need)
-    → need.structure ≡ structure_replaced choice → need.bit ≡ Update
+    → need ≡ need_replacing choice
     → refused_by (file_refusals c s target (fits need.structure) need.bit)
     ≡ refused_by (file_refusals c s target (replaces choice) Update)
-need-replaces c s target choice need structure bit =
-    (λ i. refused_by (file_refusals c s target (fits (structure i)) (bit i))) ∙ replaces-is c s target choice
-
-pub replaced-as : (m : List ℕ) (x : Current) (target : Target) (choice : RecordChoice) (file : RecordFile)
-    (need : Need) → need.structure ≡ structure_replaced choice → need.bit ≡ Update → IsRecordFile m x target need file
-    → IsRecordFile m x target (record { structure = structure_replaced choice; bit = Update }) file
-replaced-as m x target choice file need structure bit found =
-    let is : need ≡ record { structure = structure_replaced choice; bit = Update } = λ i. record {
-      structure = structure i;
-      bit = bit i;
-    } in
-    subst (λ (n : Need). IsRecordFile m x target n file) is found
+need-replaces c s target choice need is =
+    ap (λ (n : Need). refused_by (file_refusals c s target (fits n.structure) n.bit)) is
+    ∙ replaces-is c s target choice
 
 pub replaces-records : (choice : RecordChoice) → structure_replaced choice ≢ structures.Bytes
 replaces-records Next = λ is. cc
@@ -227,10 +217,21 @@ module _ (c : Card) (s : Session) (target : Target) (status : Sw) where
   append-refused bytes is =
       guarded-refused c s target has_records Append status is (append_limits c s target bytes)
 
--- where there is room nothing refuses it, and it is found where nothing refuses it
-pub not-full : (full : Bool) → (if full then Some NO_ROOM else None) ≡ None → full ≡ false
-not-full true is = cc
-not-full false is = refl
+-- what refuses bytes as a record: first that, and then their length
+abbrev pub record_verdict : Bool → Sw → Bool → Option Sw
+record_verdict barred status long =
+    if barred then Some status else if not long then Some WRONG_LENGTH else None
+
+pub verdict-first : (barred : Bool) (first : Sw) (long : Bool) (status : Sw)
+    → (if barred then Some first else None) ≡ Some status → record_verdict barred first long ≡ Some status
+verdict-first true first long status is = is
+verdict-first false first long status is = cc
+
+pub verdict-free : (barred : Bool) (status : Sw) (long : Bool) → record_verdict barred status long ≡ None
+    → (barred ≡ false) × (long ≡ true)
+verdict-free true status long is = cc
+verdict-free false status true is = (refl, refl)
+verdict-free false status false is = cc
 
 -- of a cyclic file the number of the record that is chosen plays no part
 replaced-by : (wraps : Bool) (records : List (List ℕ)) (n : ℕ) (bytes : List ℕ)
@@ -267,43 +268,23 @@ module _ (m : List ℕ) (sized : IsMemory m) (words : IsCard m) (x : Current) (t
     abbrev pub replaced : ℕ
     replaced = number_replaced_in file (pointer_from x target) choice
 
-    abbrev update_verdict : Bool → Bool → Option Sw
-    update_verdict has long = if not has then Some RECORD_NOT_FOUND else if not long then Some WRONG_LENGTH else None
-
     number-is : replaced_number cm sm target choice ≡ replaced
     number-is =
         let order = agrees.order in
         let n = chosen-is m sized words x target need file found choice in λ i. if order i then 1 else n i
 
-    update-is : refused_by (refusals_of cm sm (update_record target choice bytes))
-        ≡ update_verdict (has_in file.ring replaced) (length bytes == file.ring.record_length)
+    -- a look from the pointer on decides
+    pub update-decided : (pointer : Option ℕ) → pointer ≡ pointer_from x target
+        → refused_by (refusals_of cm sm (update_record target choice bytes))
+        ≡ unreplaced file (number_replaced_in file pointer choice) bytes
     unfolding refusals_of
-    update-is =
+    update-decided pointer pointer_is =
         let has : has_record (records_of kind) (replaced_number cm sm target choice) ≡ has_in file.ring replaced =
         ap (has_record (records_of kind)) number-is ∙ has-is m sized words x target need file found replaced in
         let long = ap (λ (l : ℕ). length bytes == l) agrees.length_is in
         guarded-free cm sm target (replaces choice) Update unrefused (update_limits cm sm target choice bytes)
-        ∙ (λ i. update_verdict (has i) (long i))
-
-    gone-verdict : (has long : Bool) (status : Sw) → (if has then None else Some RECORD_NOT_FOUND) ≡ Some status
-        → update_verdict has long ≡ Some status
-    gone-verdict true long status is = cc
-    gone-verdict false long status is = is
-
-    pub update-gone : (status : Sw) → missing_record (records_of kind) replaced ≡ Some status
-        → refused_by (refusals_of cm sm (update_record target choice bytes)) ≡ Some status
-    update-gone status gone =
-        update-is ∙ gone-verdict (has_in file.ring replaced) (length bytes == file.ring.record_length) status
-        (ap (λ (b : Bool). if b then None else Some RECORD_NOT_FOUND)
-        (sym (has-is m sized words x target need file found replaced)) ∙ gone)
-
-    pub update-other : has_in file.ring replaced ≡ true → (length bytes == file.ring.record_length) ≡ false
-        → refused_by (refusals_of cm sm (update_record target choice bytes)) ≡ Some WRONG_LENGTH
-    update-other has other = update-is ∙ (λ i. update_verdict (has i) (other i))
-
-    pub update-free : has_in file.ring replaced ≡ true → (length bytes == file.ring.record_length) ≡ true
-        → refused_by (refusals_of cm sm (update_record target choice bytes)) ≡ None
-    update-free has long = update-is ∙ (λ i. update_verdict (has i) (long i))
+        ∙ (λ i. record_verdict (not (has i)) RECORD_NOT_FOUND (long i))
+        ∙ ap (λ (p : Option ℕ). unreplaced file (number_replaced_in file p choice) bytes) (sym pointer_is)
 
     records-are : updated_records kind (target_number cm sm target choice) bytes ≡ replaced_in file.wraps held
         replaced bytes
@@ -338,35 +319,14 @@ module _ (m : List ℕ) (sized : IsMemory m) (words : IsCard m) (x : Current) (t
 
   -- APPEND RECORD
   module _ (unrefused : refused_by (file_refusals cm sm target has_records Append) ≡ None) where
-    abbrev append_verdict : Bool → Bool → Option Sw
-    append_verdict full long = if full then Some NO_ROOM else if not long then Some WRONG_LENGTH else None
-
-    append-is : refused_by (refusals_of cm sm (append_record target bytes))
-        ≡ append_verdict (is_full_in file) (length bytes == file.ring.record_length)
+    -- a look for room decides
+    pub append-decided : refused_by (refusals_of cm sm (append_record target bytes)) ≡ unadded file bytes
     unfolding refusals_of
-    append-is =
+    append-decided =
         let full = agrees.full in
         let long = ap (λ (l : ℕ). length bytes == l) agrees.length_is in
         guarded-free cm sm target has_records Append unrefused (append_limits cm sm target bytes)
-        ∙ (λ i. append_verdict (full i) (long i))
-
-    full-verdict : (full long : Bool) (status : Sw) → (if full then Some NO_ROOM else None) ≡ Some status
-        → append_verdict full long ≡ Some status
-    full-verdict true long status is = is
-    full-verdict false long status is = cc
-
-    pub append-full : (status : Sw) → (if is_full_in file then Some NO_ROOM else None) ≡ Some status
-        → refused_by (refusals_of cm sm (append_record target bytes)) ≡ Some status
-    append-full status full =
-        append-is ∙ full-verdict (is_full_in file) (length bytes == file.ring.record_length) status full
-
-    pub append-other : is_full_in file ≡ false → (length bytes == file.ring.record_length) ≡ false
-        → refused_by (refusals_of cm sm (append_record target bytes)) ≡ Some WRONG_LENGTH
-    append-other room other = append-is ∙ (λ i. append_verdict (room i) (other i))
-
-    pub append-free : is_full_in file ≡ false → (length bytes == file.ring.record_length) ≡ true
-        → refused_by (refusals_of cm sm (append_record target bytes)) ≡ None
-    append-free room long = append-is ∙ (λ i. append_verdict (room i) (long i))
+        ∙ (λ i. record_verdict (full i) NO_ROOM (long i))
 
     appended-are : appended_records kind bytes ≡ appended_in file.wraps file.ring.capacity held bytes
     appended-are =

@@ -30,12 +30,12 @@ use Rattle.card_machine.specs.declared.named.Need.{Need}
 use Rattle.card_contents.specs.declared.record_file.RecordFile.{RecordFile}
 use Rattle.card_machine.specs.Cards.{Card, Kind, Path}
 use Rattle.card_machine.specs.Counting.{CountsServed}
-use Rattle.card_machine.specs.Elementary.{file_refusals, target_kind, target_path}
+use Rattle.card_machine.specs.Elementary.{file_refusals, target_kind, target_path, with_limits}
 use Rattle.card_machine.specs.Lengths.{asks_less, given, length_refusal, right_length}
-use Rattle.card_machine.specs.Outcomes.{refused, refused_by, Refusal}
+use Rattle.card_machine.specs.Outcomes.{refused, refused_by, Refusal, Refusals}
 use Rattle.card_machine.specs.Records.{has_records, next_record, place_number, pointer_after, pointer_at, pointer_found}
 use Rattle.card_machine.specs.Records.{matches, no_record}
-use Rattle.card_contents.specs.RecordGuards.{choice_refusals, IsChosen}
+use Rattle.card_machine.specs.declared.named.Structure.TheVariants.{Records}
 use Rattle.card_machine.specs.Records.{pointing, previous_record, records_of, search_status, searching, target_number}
 use Rattle.card_machine.specs.Sessions.{Session}
 use Rattle.card_machine.specs.Standing.{card_of, IsCard}
@@ -46,8 +46,8 @@ use Rattle.card_machine.specs.Working.{IsCurrent}
 use Rattle.card_contents.specs.RecordParts.{IsRecordFile}
 use Rattle.card_contents.proofs.RecordBodies.{file-agrees, has-slot, Agree}
 use Rattle.card_machine.specs.laws.Entries.{there}
-use Rattle.card_machine.specs.laws.Guarding.{guarded-first, guarded-free, named-kind, named-path, served-done}
-use Rattle.card_machine.specs.laws.Guarding.{served-refused}
+use Rattle.card_machine.specs.laws.Guarding.{guarded-first, guarded-free, guarded-refused, named-kind, named-path}
+use Rattle.card_machine.specs.laws.Guarding.{served-done, served-refused}
 use Rattle.card_machine.specs.laws.Serves.{declined}
 use Rattle.card_contents.proofs.Serving.{named-current, naming-entry}
 
@@ -72,8 +72,19 @@ search_limits c s target first direction sought expected =
     no_record c s target (place_number first (pointer_at s target))
     ∷ length_refusal expected (matches c s target first direction sought) ∷ []
 
+-- what refuses a command that looks for a record: its file, and then that there is no such record
+abbrev pub choice_refusals : Card → Session → Target → RecordChoice → Refusals
+choice_refusals c s target choice =
+    with_limits (file_refusals c s target has_records Read)
+    (no_record c s target (target_number c s target choice) ∷ [])
+
 -- what its file refuses, or that there is no such record
 module _ (c : Card) (s : Session) (target : Target) (status : Sw) where
+  pub choice-barred : (choice : RecordChoice) → refused_by (file_refusals c s target has_records Read) ≡ Some status
+      → refused_by (choice_refusals c s target choice) ≡ Some status
+  choice-barred choice is = guarded-refused c s target has_records Read status is
+      (no_record c s target (target_number c s target choice) ∷ [])
+
   pub read-refused : (choice : RecordChoice) → refused_by (choice_refusals c s target choice) ≡ Some status
       → (expected : ℕ) → served c s (read_record target choice expected) ≡ refused c s status
   unfolding refusals_of
@@ -168,15 +179,18 @@ module _ (m : List ℕ) (sized : IsMemory m) (words : IsCard m) (x : CurrentFile
       record { df = named.df; ef = named.ef; marks = named.marks }
 
   module _ (unrefused : refused_by (file_refusals c s target has_records Read) ≡ None) where
-    -- there is no such record
-    pub record-gone : (choice : RecordChoice) (status : Sw)
-        → missing_record (records_of kind) (chosen_in file (pointer_from x target) choice) ≡ Some status
+    -- a look from the pointer on found no such record
+    pub choice-gone : (choice : RecordChoice) (status : Sw) (pointer : Option ℕ) → pointer ≡ pointer_from x target
+        → ((records : List (List ℕ)) → length records ≡ file.ring.records
+        → missing_record records (chosen_in file pointer choice) ≡ Some status)
         → refused_by (choice_refusals c s target choice) ≡ Some status
-    record-gone choice status gone =
-        guarded-free c s target has_records Read unrefused (no_record c s target (target_number c s target choice) ∷ [])
-        ∙ ap (λ (n : ℕ). if not (has_record (records_of kind) n) then Some RECORD_NOT_FOUND
-        else None) (chosen-is choice)
-        ∙ gone-status (has_record (records_of kind) (chosen_in file (pointer_from x target) choice)) status gone
+    choice-gone choice status pointer pointer_is gone =
+        guarded-free c s target has_records Read unrefused
+        (no_record c s target (target_number c s target choice) ∷ [])
+        ∙ ap (λ (n : ℕ). if not (has_record (records_of kind) n) then Some RECORD_NOT_FOUND else None)
+        (chosen-is choice ∙ ap (λ (p : Option ℕ). chosen_in file p choice) (sym pointer_is))
+        ∙ gone-status (has_record (records_of kind) (chosen_in file pointer choice)) status
+        (gone (records_of kind) agree.number)
 
     -- READ RECORD
     module _ (choice : RecordChoice) (expected : ℕ) where
@@ -283,6 +297,24 @@ module _ (m : List ℕ) (sized : IsMemory m) (words : IsCard m) (x : CurrentFile
           (search-is ∙ ap (λ (b : Bool). search_verdict b numbers) has
           ∙ ap (λ (b : Bool). if b then Some (right_length numbers) else None) enough)
           ∙ (λ i. outcome c (session i) (given expected (ns i)) (search_status (ns i)))
+
+-- a record that a command looks for: it is there
+pub record IsChosen (m : List ℕ) (x : CurrentFiles) (target : Target) (choice : RecordChoice) (file : RecordFile)
+    (slot : RecordSlot) : Type 0 where
+  pub named : IsRecordFile m x target (record { structure = Records; bit = Read }) file
+  pub ring_is : slot.ring ≡ file.ring
+  pub number_is : slot.number ≡ chosen_in file (pointer_from x target) choice
+
+-- so it is where it was looked for from the pointer on
+pub is-chosen : {m : List ℕ} {x : CurrentFiles} {target : Target} {file : RecordFile} {pointer : Option ℕ}
+    (choice : RecordChoice) (slot : RecordSlot)
+    → IsRecordFile m x target (record { structure = Records; bit = Read }) file → pointer ≡ pointer_from x target
+    → (slot.ring ≡ file.ring) × (slot.number ≡ chosen_in file pointer choice) → IsChosen m x target choice file slot
+is-chosen {m} {x} {target} {file} {pointer} choice slot named pointer_is found = record {
+  named = named;
+  ring_is = found.0;
+  number_is = found.1 ∙ ap (λ (p : Option ℕ). chosen_in file p choice) pointer_is;
+}
 
 -- what is known of a record that is chosen: its ring is that of a file, and it is there
 module _ (m : List ℕ) (sized : IsMemory m) (words : IsCard m) (x : CurrentFiles) (target : Target)

@@ -1,12 +1,12 @@
 -- What UPDATE RECORD leaves, where nothing refuses it: first it only reads, up to the store `mid`, and then it writes.
 use Rattle.std.proofs.Common.{◌≡◌, ◌⊎◌, ◌≤◌, ℕ, List, [], length, Option, Some, None, Result, Ok, if◌then◌else◌, refl}
-use Rattle.std.proofs.Common.{sym, ◌∙◌, true, ap, subst, arith}
-use Rattle.std.proofs.lemmas.Bool.{eq-eqb}
+use Rattle.std.proofs.Common.{sym, ◌∙◌, ◌==◌, not, ap, subst, arith}
+use Rattle.std.proofs.lemmas.Bool.{eqb-true}
 use Rattle.std.specs.Result.{IsErrAnd}
 use Rattle.nvm_board.specs.Facts.{IsMemory}
 use Rattle.card_rules.specs.declared.access_mode.AccessBit.TheVariants.{Update}
 use Rattle.card_rules.specs.declared.status.Sw.{Sw}
-use Rattle.card_rules.specs.declared.status.TheConstants.Sw.{DONE}
+use Rattle.card_rules.specs.declared.status.TheConstants.Sw.{DONE, RECORD_NOT_FOUND}
 use Rattle.undo_journal.specs.declared.error.StoreErr.{StoreErr}
 use Rattle.undo_journal.specs.Calls.{Changes, OnlyReads}
 use Rattle.undo_journal.specs.Commits.{CommitsByGate}
@@ -24,18 +24,41 @@ use Rattle.card_machine.specs.declared.named.Need.{Need}
 use Rattle.card_contents.specs.declared.record_file.RecordFile.{RecordFile}
 use Rattle.card_machine.specs.Elementary.{file_refusals}
 use Rattle.card_machine.specs.Outcomes.{refused_by}
-use Rattle.card_contents.specs.RecordGuards.{IsReplaceable}
 use Rattle.card_machine.specs.Records.{pointer_after, replaces}
 use Rattle.card_machine.specs.Served.{Serves}
 use Rattle.card_machine.specs.Standing.{card_of, IsCard}
-use Rattle.card_contents.specs.RecordParts.{has_in, number_replaced_in, replaced_in}
+use Rattle.card_contents.specs.RecordParts.{has_in, number_replaced_in, replaced_in, unreplaced, IsRecordFile}
 use Rattle.card_machine.specs.Working.{pointer_from, pointing_from, session_of, space_in}
-use Rattle.card_contents.specs.RecordParts.{structure_replaced, RingBecomes}
+use Rattle.card_contents.specs.RecordParts.{need_replacing, RingBecomes}
 use Rattle.card_machine.specs.Working.{table_in, IsCurrent}
-use Rattle.card_contents.proofs.RecordBodies.{has-slot, replaced-fits, slot-few}
+use Rattle.card_contents.proofs.RecordBodies.{replaced-fits, slot-few}
 use Rattle.card_contents.proofs.RecordWrites.{PutsRecords, records-made, records-space, records-torn}
-use Rattle.card_contents.proofs.RecordWrites.{replaces-is, update-commits, update-effect, update-free}
+use Rattle.card_contents.proofs.RecordWrites.{replaces-is, update-commits, update-decided, update-effect, verdict-free}
 use Rattle.card_contents.proofs.Recording.{agree}
+
+-- a record that UPDATE RECORD replaces: it is there, and nothing refuses the bytes in its place
+pub record IsReplaceable (m : List ℕ) (x : Current) (target : Target) (choice : RecordChoice) (bytes : List ℕ)
+    (file : RecordFile) (slot : RecordSlot) : Type 0 where
+  pub named : IsRecordFile m x target (need_replacing choice) file
+  pub ring_is : slot.ring ≡ file.ring
+  pub number_is : slot.number ≡ number_replaced_in file (pointer_from x target) choice
+  pub taken : unreplaced file (number_replaced_in file (pointer_from x target) choice) bytes ≡ None
+
+-- so it is where it was looked for from the pointer on
+pub is-replaceable : {m : List ℕ} {x : Current} {target : Target} {need : Need} {file : RecordFile}
+    {pointer : Option ℕ} (choice : RecordChoice) (bytes : List ℕ) (slot : RecordSlot) → need ≡ need_replacing choice
+    → IsRecordFile m x target need file → pointer ≡ pointer_from x target
+    → (slot.ring ≡ file.ring) × (slot.number ≡ number_replaced_in file pointer choice)
+    → None ≡ unreplaced file (number_replaced_in file pointer choice) bytes
+    → IsReplaceable m x target choice bytes file slot
+is-replaceable {m} {x} {target} {need} {file} {pointer} choice bytes slot need_is named pointer_is found none =
+    record {
+      named = subst (λ (n : Need). IsRecordFile m x target n file) need_is named;
+      ring_is = found.0;
+      number_is = found.1 ∙ ap (λ (p : Option ℕ). number_replaced_in file p choice) pointer_is;
+      taken = ap (λ (p : Option ℕ). unreplaced file (number_replaced_in file p choice) bytes) (sym pointer_is)
+          ∙ sym none;
+    }
 
 module _ (old mid new : Memory) (ready : IsReady old) (words : IsCard (committed old)) (x : Current)
     (current : IsCurrent (table_in old) x) (reads : OnlyReads old mid) where
@@ -54,17 +77,19 @@ module _ (old mid new : Memory) (ready : IsReady old) (words : IsCard (committed
     stands = subst (λ (r : Ring). IsCyclic m r) (sym found.ring_is)
         (agree m sized words x target _ file found.named).stands
 
+    abbrev k : ℕ
+    k = number_replaced_in file (pointer_from x target) choice
+
     pub replaced-body : IsCyclic (committed mid) slot.ring
     replaced-body = subst (λ (l : List ℕ). IsCyclic l slot.ring) (sym same) stands
 
     pub replaced-long : length bytes ≡ slot.ring.record_length
-    replaced-long = found.long ∙ ap (λ (r : Ring). r.record_length) (sym found.ring_is)
+    replaced-long = eqb-true _ _ (verdict-free (not (has_in file.ring k)) RECORD_NOT_FOUND
+        (length bytes == file.ring.record_length) found.taken).1
+        ∙ ap (λ (r : Ring). r.record_length) (sym found.ring_is)
 
     pub replaced-few : slot.number ≤ 255
     replaced-few = let few = slot-few m slot stands in omega (arith, few)
-
-    abbrev k : ℕ
-    k = number_replaced_in file (pointer_from x target) choice
 
     abbrev records : List (List ℕ)
     records = replaced_in file.wraps (cyclic_records m file.ring) k bytes
@@ -72,16 +97,10 @@ module _ (old mid new : Memory) (ready : IsReady old) (words : IsCard (committed
     free : refused_by (file_refusals (card_of m) (session_of (table m) x) target (replaces choice) Update) ≡ None
     free = sym (replaces-is (card_of m) (session_of (table m) x) target choice) ∙ found.named.named.unrefused
 
-    abbrev need : Need
-    need = record { structure = structure_replaced choice; bit = Update }
-
-    has : has_in file.ring k ≡ true
-    has = (λ i. has_in (sym found.ring_is i) (sym found.number_is i)) ∙ has-slot slot
-
-    puts : PutsRecords old x target need file (update_record target choice bytes) records
+    puts : PutsRecords old x target (need_replacing choice) file (update_record target choice bytes) records
     puts = record {
       found = found.named;
-      none = update-free m sized words x target _ file found.named bytes choice free has (eq-eqb _ _ found.long);
+      none = update-decided m sized words x target _ file found.named bytes choice free _ refl ∙ found.taken;
       commits_is = update-commits m sized words x target _ file found.named bytes choice free;
       few = replaced-fits m file.ring (agree m sized words x target _ file found.named).stands file.wraps k bytes;
       most = refl;
@@ -100,7 +119,7 @@ module _ (old mid new : Memory) (ready : IsReady old) (words : IsCard (committed
       pub replaced-torn : (r : Result Sw StoreErr) (error : StoreErr) → IsErrAnd r (λ f. f ≡ error) → told ≡ Some error
           → Serves (update_record target choice bytes) old x new x [] r
       replaced-torn =
-          records-torn old mid new ready words x current target need file _ records puts reads file.wraps refl slot.ring
+          records-torn old mid new ready words x current target _ file _ records puts reads file.wraps refl slot.ring
           found.ring_is put put-are any_exit by_gate told changes [] (omega arith)
 
       pub replaced-done : RingBecomes file.wraps (committed mid) slot.ring put (committed new) → IsReady new
@@ -115,7 +134,7 @@ module _ (old mid new : Memory) (ready : IsReady old) (words : IsCard (committed
           subst (λ (p : Option ℕ). Serves (update_record target choice bytes) old x new (pointing_from x target
           file.number
           p) [] (Ok DONE)) (sym is)
-          (records-made old mid new ready words x current target need file _ records puts reads file.wraps refl
+          (records-made old mid new ready words x current target _ file _ records puts reads file.wraps refl
           slot.ring
           found.ring_is put put-are any_exit by_gate told changes becomes ready_now after [] (omega arith)
           (update-effect m sized words x target _ file found.named bytes choice free))
@@ -123,6 +142,6 @@ module _ (old mid new : Memory) (ready : IsReady old) (words : IsCard (committed
       pub replaced-space : RingBecomes file.wraps (committed mid) slot.ring put (committed new) → space_in new ≡
           space_in old
       replaced-space =
-          records-space old mid new ready words x current target need file _ records puts reads file.wraps refl
+          records-space old mid new ready words x current target _ file _ records puts reads file.wraps refl
           slot.ring
           found.ring_is put put-are any_exit by_gate told changes

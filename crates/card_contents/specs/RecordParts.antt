@@ -1,7 +1,10 @@
 -- What the code keeps of the contents of a file. No public clause names these.
 use Rattle.std.specs.Prelude.{◌≡◌, ◌⊎◌, ◌+◌, ◌*◌, ◌==◌, ◌&&◌, ℕ, Bool, true, false, not}
 use Rattle.std.specs.Prelude.{nat_le, if◌then◌else◌}
-use Rattle.std.specs.Prelude.{◌-◌, ◌++◌, ◌∷◌, slice_set, List, [], length, Option}
+use Rattle.std.specs.Prelude.{◌-◌, ◌++◌, ◌∷◌, slice_set, List, [], length, Option, None, Some}
+use Rattle.card_rules.specs.declared.access_mode.AccessBit.TheVariants.{Update}
+use Rattle.card_rules.specs.declared.status.Sw.{Sw}
+use Rattle.card_rules.specs.declared.status.TheConstants.Sw.{NO_ROOM, RECORD_NOT_FOUND, WRONG_LENGTH}
 use Rattle.apdu_core.specs.declared.binary.Target.{Target}
 use Rattle.file_tree.specs.declared.entry.Entry.{Entry}
 use Rattle.file_tree.specs.Entries.{capacity_of}
@@ -61,6 +64,18 @@ has_in ring number = nat_le 1 number && nat_le number ring.records
 abbrev pub is_full_in : RecordFile → Bool
 is_full_in file = not file.wraps && nat_le file.ring.capacity file.ring.records
 
+-- what refuses bytes in the place of a record: there is none of this number, or it isn't as long
+abbrev pub unreplaced : RecordFile → ℕ → List ℕ → Option Sw
+unreplaced file number bytes =
+    if not (has_in file.ring number) then Some RECORD_NOT_FOUND else
+    if not (length bytes == file.ring.record_length) then Some WRONG_LENGTH else None
+
+-- and as one record more: there is no room, or the records aren't as long
+abbrev pub unadded : RecordFile → List ℕ → Option Sw
+unadded file bytes =
+    if is_full_in file then Some NO_ROOM else
+    if not (length bytes == file.ring.record_length) then Some WRONG_LENGTH else None
+
 -- records with one replaced, and with one more, where the last one is followed by the first, and where it isn't
 abbrev pub replaced_in : Bool → List (List ℕ) → ℕ → List ℕ → List (List ℕ)
 replaced_in wraps records number bytes =
@@ -89,8 +104,11 @@ pub record IsRecordFile (m : List ℕ) (x : Current) (target : Target) (need : N
   pub kind : ((entry_in (table m) file.number).kind ≡ 3) ⊎ ((entry_in (table m) file.number).kind ≡ 4)
   pub file_is : file ≡ record_file_in file.number (entry_in (table m) file.number)
 
--- the structure that UPDATE RECORD is for, by its choice
+-- what UPDATE RECORD needs of its file, by its choice
 abbrev pub structure_replaced : RecordChoice → Structure
 structure_replaced Next = Linear
 structure_replaced Previous = Records
 structure_replaced (At place) = Linear
+
+abbrev pub need_replacing : RecordChoice → Need
+need_replacing choice = record { structure = structure_replaced choice; bit = Update }

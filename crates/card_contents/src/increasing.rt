@@ -7,13 +7,13 @@ ghost use Rattle.card_machine.specs.Serving.{LooksFor, ServesInPlace};
 ghost use Rattle.card_machine.specs.Stops.{reply};
 ghost use Rattle.card_machine.specs.Working.{IsKept};
 
-use crate::record_file::FileRecord;
+use crate::record_file::RecordFile;
 use crate::records::find_records;
 use apdu_core::{Answer, Sw, Target};
 use card_machine::{Current, Need, ResponseData, Stop, Structure, asks_less, give, right_length};
 use card_rules::AccessBit;
 use card_rules::limits::MOST_ANSWER_DATA;
-use ef_body::Cyclic;
+use ef_body::{Cyclic, RecordSlot};
 use undo_journal::{Board, Store};
 
 /// What INCREASE needs of its file.
@@ -21,6 +21,13 @@ const INCREASING: Need = Need {
     structure: Structure::Cyclic,
     bit: AccessBit::Update,
 };
+
+/// A file whose newest record is raised, and the receipt of that record.
+#[derive(Clone, Copy)]
+struct Raised {
+    file: RecordFile,
+    slot: RecordSlot,
+}
 
 /// INCREASE: the sum of the newest record of the current cyclic file and the sent number is the new record 1, which is
 /// the current one then. The new record, and then what was sent, go into `answer`, and the status word is the result.
@@ -54,7 +61,7 @@ fn find_increased<B: Board>(
     amount: &[u8],
     expected: Option<u8>,
     sum: &mut ResponseData,
-) -> Result<FileRecord, Stop>
+) -> Result<Raised, Stop>
     requires kept { IsKept store.old current.now }
     requires few { length amount.now ≤ 255 }
     ensures { LooksFor (increasing amount.now expected) store.old current.now store.new result (λ found.
@@ -69,7 +76,7 @@ fn find_increased<B: Board>(
     if asks_less(expected, &response) {
         return Err(Stop::Refused(right_length(&response)));
     }
-    Ok(FileRecord { file, slot })
+    Ok(Raised { file, slot })
 }
 
 /// What INCREASE answers: the new record, and then what was sent.

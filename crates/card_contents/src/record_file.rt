@@ -5,13 +5,14 @@ ghost use Rattle.card_rules.specs.declared.status.TheConstants.Sw.{NO_ROOM};
 ghost use Rattle.undo_journal.specs.Memory.{committed, IsReady};
 ghost use Rattle.ef_body.specs.declared.layout.TheConstants.{RECORD_WRITES};
 ghost use Rattle.ef_body.specs.Bodies.{cyclic_records, IsCyclic};
-ghost use Rattle.ef_body.specs.Calls.{Commits};
+ghost use Rattle.ef_body.specs.Calls.{Commits, FindsRecord};
 ghost use Rattle.file_tree.specs.declared.kinds.EntryKind.TheVariants as kinds;
 ghost use Rattle.file_tree.specs.Kinds.{kind_byte};
 ghost use Rattle.card_machine.specs.Records.{next_record, place_number, pointer_after, previous_record};
 ghost use Rattle.card_contents.specs.RecordParts.{appended_in, chosen_in, is_full_in, number_added_in};
 ghost use Rattle.card_contents.specs.RecordParts.{number_replaced_in, record_file_in};
-ghost use Rattle.card_contents.specs.RecordParts.{replaced_in, ring_room, wraps_room, RingBecomes};
+ghost use Rattle.card_contents.specs.RecordParts.{replaced_in, ring_room, unadded, unreplaced};
+ghost use Rattle.card_contents.specs.RecordParts.{wraps_room, RingBecomes};
 ghost use Rattle.card_machine.specs.Working.{IsToldEntry};
 
 use apdu_core::{RecordChoice, RecordPlace};
@@ -28,13 +29,6 @@ pub(crate) struct RecordFile {
     pub number: u8,
     pub ring: Cyclic,
     pub wraps: bool,
-}
-
-/// A record that there is: its file, and the receipt of the look for it.
-#[derive(Clone, Copy)]
-pub(crate) struct FileRecord {
-    pub file: RecordFile,
-    pub slot: RecordSlot,
 }
 
 /// Where a record that is added goes.
@@ -73,7 +67,7 @@ impl RecordFile {
     }
 
     /// The number of the record that is chosen from a record pointer on. There may be none of that number.
-    pub fn chosen(self, pointer: Option<u8>, choice: RecordChoice) -> u16
+    fn chosen(self, pointer: Option<u8>, choice: RecordChoice) -> u16
         ensures { result ≡ chosen_in self pointer choice }
     {
         match choice {
@@ -83,9 +77,19 @@ impl RecordFile {
         }
     }
 
+    /// Looks for the record that is chosen from a record pointer on.
+    ///
+    /// # Errors
+    /// 6A83 exactly where there is no such record.
+    pub fn find_chosen(self, pointer: Option<u8>, choice: RecordChoice) -> Result<RecordSlot, Sw>
+        ensures { FindsRecord self.ring (chosen_in self pointer choice) result }
+    {
+        self.ring.find(self.chosen(pointer, choice))
+    }
+
     /// The number of the record whose place is taken: of a cyclic file 1, the record in front of which the new one
     /// comes.
-    pub fn replaced(self, pointer: Option<u8>, choice: RecordChoice) -> u16
+    fn replaced(self, pointer: Option<u8>, choice: RecordChoice) -> u16
         ensures { result ≡ number_replaced_in self pointer choice }
     {
         if self.wraps {
@@ -93,6 +97,27 @@ impl RecordFile {
         } else {
             self.chosen(pointer, choice)
         }
+    }
+
+    /// Looks for the record that the bytes replace.
+    ///
+    /// # Errors
+    /// 6A83 exactly where there is no such record, and 6700 where there is one, and it isn't as long.
+    pub fn find_replaced(
+        self,
+        pointer: Option<u8>,
+        choice: RecordChoice,
+        bytes: &[u8],
+    ) -> Result<RecordSlot, Sw>
+        ensures found { IfOk result (λ slot. (slot.ring ≡ self.ring)
+            × (slot.number ≡ number_replaced_in self pointer choice)) }
+        ensures refusal { result_err result ≡ unreplaced self (number_replaced_in self pointer choice) bytes.now }
+    {
+        let slot = self.ring.find(self.replaced(pointer, choice))?;
+        if !self.takes(bytes) {
+            return Err(Sw::WRONG_LENGTH);
+        }
+        Ok(slot)
     }
 
     /// The number of a record that was added.
@@ -108,7 +133,7 @@ impl RecordFile {
     }
 
     /// Whether these are as many bytes as a record has.
-    pub fn takes(self, bytes: &[u8]) -> bool
+    fn takes(self, bytes: &[u8]) -> bool
         ensures { result ≡ (length bytes.now == self.ring.record_length) }
     {
         bytes.len() == usize::from(self.ring.record_length)
@@ -131,11 +156,50 @@ impl RecordFile {
         }
     }
 
+    /// Replaces the record of a receipt, in one transaction; of a cyclic file the oldest, and the new one is record 1.
+    pub fn replace<B: Board>(
+        self,
+        slot: RecordSlot,
+        store: &mut Store<B>,
+        bytes: &[u8],
+    ) -> Result<(), StoreErr>
+        requires ready { IsReady store.old }
+        requires body { IsCyclic (committed store.old) slot.ring }
+        requires size { length bytes.now ≡ slot.ring.record_length }
+        ensures { Commits (RingBecomes self.wraps (committed store.old) slot.ring (replaced_in
+            self.wraps (cyclic_records (committed store.old) slot.ring) slot.number bytes.now))
+            RECORD_WRITES store.old store.new result }
+    {
+        if self.wraps {
+            slot.replace_oldest(store, bytes)
+        } else {
+            slot.replace(store, bytes)
+        }
+    }
+
+    /// Looks for room for the bytes, as one record more.
+    ///
+    /// # Errors
+    /// 6A84 exactly where a linear file has as many records as there is room for, and 6700 where there is room, and its
+    /// records aren't as long.
+    pub fn room_for(self, bytes: &[u8]) -> Result<Room, Sw>
+        requires { self.wraps ≡ false → self.ring.start ≡ 0 }
+        ensures ring { IfOk result (λ room. ring_room room ≡ self.ring) }
+        ensures wraps { IfOk result (λ room. wraps_room room ≡ self.wraps) }
+        ensures refusal { result_err result ≡ unadded self bytes.now }
+    {
+        let room = self.find_room()?;
+        if !self.takes(bytes) {
+            return Err(Sw::WRONG_LENGTH);
+        }
+        Ok(room)
+    }
+
     /// Looks for room for one record more.
     ///
     /// # Errors
     /// 6A84 exactly where a linear file has as many records as there is room for.
-    pub fn find_room(self) -> Result<Room, Sw>
+    fn find_room(self) -> Result<Room, Sw>
         requires { self.wraps ≡ false → self.ring.start ≡ 0 }
         ensures ring { IfOk result (λ room. ring_room room ≡ self.ring) }
         ensures wraps { IfOk result (λ room. wraps_room room ≡ self.wraps) }
@@ -164,24 +228,6 @@ impl RecordFile {
             capacity: self.ring.capacity,
             records: self.ring.records,
             told_at: self.ring.told_at,
-        }
-    }
-}
-
-impl FileRecord {
-    /// Replaces the record, in one transaction; of a cyclic file the oldest, and the new one is record 1.
-    pub fn replace<B: Board>(self, store: &mut Store<B>, bytes: &[u8]) -> Result<(), StoreErr>
-        requires ready { IsReady store.old }
-        requires body { IsCyclic (committed store.old) self.slot.ring }
-        requires size { length bytes.now ≡ self.slot.ring.record_length }
-        ensures { Commits (RingBecomes self.file.wraps (committed store.old) self.slot.ring (replaced_in
-            self.file.wraps (cyclic_records (committed store.old) self.slot.ring) self.slot.number bytes.now))
-            RECORD_WRITES store.old store.new result }
-    {
-        if self.file.wraps {
-            self.slot.replace_oldest(store, bytes)
-        } else {
-            self.slot.replace(store, bytes)
         }
     }
 }

@@ -5,19 +5,17 @@ ghost use Rattle.apdu_core.specs.Ranges.{IsTarget};
 ghost use Rattle.apdu_core.specs.Requests.{append_record as appending, read_record as reading};
 ghost use Rattle.apdu_core.specs.Requests.{search_record as searching, update_record as updating};
 ghost use Rattle.apdu_core.specs.Sizes.{HasBetween};
-ghost use Rattle.card_rules.specs.declared.access_mode.AccessBit.TheVariants as AccessBit;
 ghost use Rattle.card_machine.specs.declared.named.Structure.TheVariants as Structure;
 ghost use Rattle.card_machine.specs.Outcomes.{refused_by};
 ghost use Rattle.card_machine.specs.Elementary.{file_refusals};
-ghost use Rattle.card_contents.specs.RecordGuards.{choice_refusals, IsAppendable, IsChosen, IsReplaceable};
 ghost use Rattle.card_machine.specs.Served.{Serves};
-ghost use Rattle.card_machine.specs.Serving.{LooksFor, ServesInPlace};
+ghost use Rattle.card_machine.specs.Serving.{ServesInPlace};
 ghost use Rattle.card_machine.specs.Stops.{reply, Looks};
 ghost use Rattle.card_machine.specs.Working.{card_in, fits, session_in, IsKept};
-ghost use Rattle.card_contents.specs.RecordParts.{structure_replaced, IsRecordFile};
+ghost use Rattle.card_contents.specs.RecordParts.{need_replacing, IsRecordFile};
 ghost use Rattle.card_machine.specs.Records.{pointer_found, search_status, searching as searching_way};
 
-use crate::record_file::{FileRecord, RecordFile, Room, pointer_after};
+use crate::record_file::{RecordFile, pointer_after};
 use apdu_core::{Answer, Direction as Way, RecordChoice, RecordPlace, Sw, Target};
 use card_machine::{
     Current, Need, ResponseData, Stop, Structure, asks_less, find_file, give, right_length,
@@ -40,8 +38,7 @@ const APPENDING: Need = Need {
 
 /// What UPDATE RECORD needs of its file: of a cyclic one it replaces the record before record 1 alone.
 fn replacing(choice: RecordChoice) -> Need
-    ensures structure { result.structure ≡ structure_replaced choice }
-    ensures bit { result.bit ≡ AccessBit.Update }
+    ensures { result ≡ need_replacing choice }
 {
     let structure = match choice {
         RecordChoice::Previous => Structure::Records,
@@ -51,13 +48,6 @@ fn replacing(choice: RecordChoice) -> Need
         structure,
         bit: AccessBit::Update,
     }
-}
-
-/// A file of records, and where a record that is added to it goes.
-#[derive(Clone, Copy)]
-struct Growing {
-    file: RecordFile,
-    room: Room,
 }
 
 /// The way of a search, as bodies know it.
@@ -89,27 +79,6 @@ pub(crate) fn find_records<B: Board>(
     Ok(RecordFile::of(file.number, &file.entry))
 }
 
-/// The record that READ RECORD reads, or SEARCH RECORD begins with, or else the refusal: by the file; there is no such
-/// record.
-fn find_record<B: Board>(
-    store: &mut Store<B>,
-    current: &Current,
-    target: Target,
-    choice: RecordChoice,
-) -> Result<FileRecord, Stop>
-    requires kept { IsKept store.old current.now }
-    requires target { IsTarget target }
-    ensures { Looks store.old store.new result
-        (λ found. IsChosen (committed store.old) current.now target choice found.file found.slot)
-        (λ refusal. refused_by (choice_refusals (card_in store.old) (session_in store.old current.now) target choice)
-        ≡ Some refusal) }
-{
-    let file = find_records(store, current, target, READING)?;
-    let number = file.chosen(current.pointer_at(target), choice);
-    let slot = file.ring.find(number)?;
-    Ok(FileRecord { file, slot })
-}
-
 /// READ RECORD: the record goes into `answer`, and the status word is the result. Le is 00 or the length of a record.
 pub fn read_record<B: Board>(
     store: &mut Store<B>,
@@ -125,15 +94,17 @@ pub fn read_record<B: Board>(
     ensures { Serves (reading target choice expected) store.old current.old store.new current.new
         answer.new.items (reply result) }
 {
-    let found = find_record(store, current, target, choice)?;
+    let file = find_records(store, current, target, READING)?;
+    let pointer = current.pointer_at(target);
+    let slot = file.find_chosen(pointer, choice)?;
     let mut bytes = ResponseData::new();
-    found.slot.read(store, &mut bytes)?;
+    slot.read(store, &mut bytes)?;
     if is_other_length(expected, &bytes) {
         return Err(Stop::Refused(right_length(&bytes)));
     }
     give(Some(expected), &bytes, answer);
-    let pointer = pointer_after(current.pointer_at(target), choice, found.slot.number);
-    *current = current.pointing(target, found.file.number, pointer);
+    let after = pointer_after(pointer, choice, slot.number);
+    *current = current.pointing(target, file.number, after);
     Ok(Sw::DONE)
 }
 
@@ -152,36 +123,13 @@ pub fn update_record<B: Board>(
     ensures { ServesInPlace (updating target choice bytes.now) store.old current.old store.new current.new []
         (reply result) }
 {
-    let replaced = find_replaced(store, current, target, choice, bytes)?;
-    replaced.replace(store, bytes)?;
-    let file = replaced.file;
+    let file = find_records(store, current, target, replacing(choice))?;
     let pointer = current.pointer_at(target);
-    let after = file.pointer_replaced(pointer, choice, replaced.slot.number);
+    let slot = file.find_replaced(pointer, choice, bytes)?;
+    file.replace(slot, store, bytes)?;
+    let after = file.pointer_replaced(pointer, choice, slot.number);
     *current = current.pointing(target, file.number, after);
     Ok(Sw::DONE)
-}
-
-/// The record that UPDATE RECORD replaces by the bytes, or else the refusal: by the file; there is no such record; the
-/// bytes aren't as many as a record has.
-fn find_replaced<B: Board>(
-    store: &mut Store<B>,
-    current: &Current,
-    target: Target,
-    choice: RecordChoice,
-    bytes: &[u8],
-) -> Result<FileRecord, Stop>
-    requires kept { IsKept store.old current.now }
-    requires target { IsTarget target }
-    ensures { LooksFor (updating target choice bytes.now) store.old current.now store.new result (λ replaced.
-        IsReplaceable (committed store.old) current.now target choice bytes.now replaced.file replaced.slot) }
-{
-    let file = find_records(store, current, target, replacing(choice))?;
-    let number = file.replaced(current.pointer_at(target), choice);
-    let slot = file.ring.find(number)?;
-    if !file.takes(bytes) {
-        return Err(Stop::Refused(Sw::WRONG_LENGTH));
-    }
-    Ok(FileRecord { file, slot })
 }
 
 /// APPEND RECORD: the bytes are a new record, the last of a linear file, the first of a cyclic one, in one transaction.
@@ -198,32 +146,11 @@ pub fn append_record<B: Board>(
     ensures { ServesInPlace (appending target bytes.now) store.old current.old store.new current.new []
         (reply result) }
 {
-    let growing = find_appended(store, current, target, bytes)?;
-    growing.room.fill(store, bytes)?;
-    let file = growing.file;
+    let file = find_records(store, current, target, APPENDING)?;
+    let room = file.room_for(bytes)?;
+    room.fill(store, bytes)?;
     *current = current.pointing(target, file.number, Some(file.added()));
     Ok(Sw::DONE)
-}
-
-/// The file that APPEND RECORD adds the bytes to, and where they go, or else the refusal: by the file; it is full; the
-/// bytes aren't as many as a record has.
-fn find_appended<B: Board>(
-    store: &mut Store<B>,
-    current: &Current,
-    target: Target,
-    bytes: &[u8],
-) -> Result<Growing, Stop>
-    requires kept { IsKept store.old current.now }
-    requires target { IsTarget target }
-    ensures { LooksFor (appending target bytes.now) store.old current.now store.new result (λ growing.
-        IsAppendable (committed store.old) current.now target bytes.now growing.file growing.room) }
-{
-    let file = find_records(store, current, target, APPENDING)?;
-    let room = file.find_room()?;
-    if !file.takes(bytes) {
-        return Err(Stop::Refused(Sw::WRONG_LENGTH));
-    }
-    Ok(Growing { file, room })
 }
 
 /// SEARCH RECORD: the numbers of the records that hold the text go into `answer`, and the first of them becomes the
@@ -245,16 +172,18 @@ pub fn search_record<B: Board>(
     ensures { Serves (searching target first direction text.now expected) store.old current.old store.new current.new
         answer.new.items (reply result) }
 {
-    let found = find_record(store, current, target, RecordChoice::At(first))?;
+    let file = find_records(store, current, target, READING)?;
+    let pointer = current.pointer_at(target);
+    let slot = file.find_chosen(pointer, RecordChoice::At(first))?;
     let way = way_of(direction);
     let mut numbers = ResponseData::new();
-    found.slot.search(store, way, text, &mut numbers)?;
+    slot.search(store, way, text, &mut numbers)?;
     if asks_less(expected, &numbers) {
         return Err(Stop::Refused(right_length(&numbers)));
     }
     give(expected, &numbers, answer);
-    let pointer = first_of(&numbers, current.pointer_at(target));
-    *current = current.pointing(target, found.file.number, pointer);
+    let after = first_of(&numbers, pointer);
+    *current = current.pointing(target, file.number, after);
     Ok(status_of(&numbers))
 }
 

@@ -6,25 +6,21 @@ use Rattle.apdu_core.specs.Requests.{update_binary}
 use Rattle.card_machine.specs.declared.current.Current.{Current}
 use Rattle.card_machine.specs.Served.{Serves}
 use Rattle.card_machine.specs.Working.{card_in, session_in, space_in}
-use Rattle.card_machine.specs.laws.Answering.{ok_anyway}
 use Rattle.card_contents.proofs.BinarySteps.{update-refused}
-use Rattle.card_machine.specs.laws.Serves.{halted}
+use Rattle.card_contents.proofs.Halting.{halted-in-place}
 use Rattle.card_contents.proofs.Serving.{found-body, found-made, found-space, found-stopped}
 use Rattle.card_machine.specs.laws.SpaceKept.{space-same}
 use Rattle.card_machine.specs.laws.Stopping.{body-kept}
 use Rattle.card_contents.proofs.binary.update_file.Goals as goal
 
 pub returns-in_err-file : goal.returns-in_err-file
-returns-in_err-file g c = record {
-  serves = let old = c.args.store.now in
-      let x = c.args.current.now in
-      halted (update_binary c.args.place.target c.args.place.offset c.args.bytes.now) old x c.find_file.new.store (λ _. tt)
-      c.requires.kept.card c.requires.kept.current [] refl _ _ c.from_residual.ensures.1 c.in_err-file.ensures.store _
-      (update-refused (card_in old) (session_in old x) c.args.place.target c.args.place.offset c.args.bytes.now)
-      c.in_err-file.ensures.told;
-  space = ok_anyway _ _
-      (space-same c.args.store.now c.find_file.new.store c.find_file.ensures.store.only.keeps.committed_words);
-}
+returns-in_err-file g c =
+    let old = c.args.store.now in
+    let x = c.args.current.now in
+    halted-in-place (update_binary c.args.place.target c.args.place.offset c.args.bytes.now) old x c.find_file.new.store (λ _. tt)
+    c.requires.kept.card c.requires.kept.current [] refl _ _ c.from_residual.ensures.1 c.in_err-file.ensures.store _
+    (update-refused (card_in old) (session_in old x) c.args.place.target c.args.place.offset c.args.bytes.now)
+    c.in_err-file.ensures.told
 
 pub update-requires-clause-body : goal.update-requires-clause-body
 update-requires-clause-body g c =

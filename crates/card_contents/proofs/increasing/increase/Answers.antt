@@ -8,9 +8,7 @@ use Rattle.card_machine.specs.Working.{card_in, session_in}
 use Rattle.card_machine.specs.laws.Guarding.{served-refused}
 use Rattle.card_contents.proofs.IncreaseServes.{increased-body, increased-done, increased-long, increased-short}
 use Rattle.card_contents.proofs.IncreaseServes.{increased-space, increased-torn}
-use Rattle.card_machine.specs.laws.Serves.{halted}
-use Rattle.card_machine.specs.laws.SpaceKept.{space-same}
-use Rattle.card_machine.specs.laws.Answering.{ok_anyway}
+use Rattle.card_contents.proofs.Halting.{halted-in-place}
 use Rattle.card_machine.specs.laws.Stopping.{none-failed, reply-failed}
 use Rattle.card_contents.proofs.increasing.increase.Goals as goal
 
@@ -74,13 +72,10 @@ returns g c = record {
 }
 
 pub returns-in_err-found : goal.returns-in_err-found
-returns-in_err-found g c = record {
-  serves = let old = c.args.store.now in
-      let x = c.args.current.now in
-      let request = increase c.args.amount.now c.args.expected in
-      halted request old x c.find_increased.new.store (λ _. tt) c.requires.kept.card c.requires.kept.current
-      c.args.answer.now.items c.requires.empty _ _ c.from_residual.ensures.1 c.in_err-found.ensures.store _
-      (λ status. served-refused (card_in old) (session_in old x) request status) c.in_err-found.ensures.told;
-  space = ok_anyway _ _ (space-same c.args.store.now c.find_increased.new.store
-      c.find_increased.ensures.store.only.keeps.committed_words);
-}
+returns-in_err-found g c =
+    let old = c.args.store.now in
+    let x = c.args.current.now in
+    let request = increase c.args.amount.now c.args.expected in
+    halted-in-place request old x c.find_increased.new.store (λ _. tt) c.requires.kept.card c.requires.kept.current
+    c.args.answer.now.items c.requires.empty _ _ c.from_residual.ensures.1 c.in_err-found.ensures.store _
+    (λ status. served-refused (card_in old) (session_in old x) request status) c.in_err-found.ensures.told

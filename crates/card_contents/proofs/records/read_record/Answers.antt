@@ -7,35 +7,38 @@ use Rattle.apdu_core.specs.Requests.{read_record}
 use Rattle.ef_body.specs.Bodies.{cyclic_records}
 use Rattle.ef_body.specs.Records.{record_of}
 use Rattle.card_machine.specs.declared.current.Current.{Current}
+use Rattle.card_machine.specs.declared.stop.Stop.TheVariants.{Refused}
 use Rattle.card_machine.specs.Lengths.{right_length}
 use Rattle.card_machine.specs.Records.{pointer_after}
 use Rattle.card_machine.specs.Working.{card_in, outcome, pointer_from, pointing_from, session_in, table_in, IsCurrent}
 use Rattle.card_contents.specs.RecordParts.{chosen_in}
 use Rattle.card_machine.specs.Outcomes.{refused}
 use Rattle.card_contents.proofs.RecordBodies.{slot-few}
-use Rattle.card_contents.proofs.Recording.{chosen-body, chosen-has, current-is, declined-empty, read-other}
-use Rattle.card_contents.proofs.Recording.{read-refused, read-whole}
+use Rattle.card_contents.proofs.Recording.{choice-barred, choice-gone, chosen-body, chosen-has, current-is}
+use Rattle.card_contents.proofs.Recording.{declined-empty, is-chosen, read-other, read-refused, read-whole}
 use Rattle.card_machine.specs.laws.Serves.{answered, halted, handed}
 use Rattle.card_machine.specs.laws.Stopping.{reply-failed}
 use Rattle.card_contents.proofs.records.read_record.Goals as goal
 
 pub read-requires : goal.read-requires
 read-requires g c =
-    let found = c.in_ok-found.ensures.told in
+    let found = is-chosen c.args.choice c.in_ok-slot.slot c.in_ok-file.ensures.told
+    c.pointer_at-pointer.ensures c.in_ok-slot.ensures.found in
     let stands = chosen-body (committed c.args.store.now) c.requires.kept.ready.usable.committed_size
     c.requires.kept.card
-    c.args.current.now c.args.target _ _ _ found _ c.find_record.ensures.store.only.keeps.committed_words in
+    c.args.current.now c.args.target _ _ _ found _ c.find_records.ensures.store.only.keeps.committed_words in
     let short = stands.slots.short in
-    let room : c.in_ok-found.found.slot.ring.record_length ≤ 256 = omega (arith, short) in
-    (lit< tt, (c.in_ok-found.ensures.store.ready, (stands, room)))
+    let room : c.in_ok-slot.slot.ring.record_length ≤ 256 = omega (arith, short) in
+    (lit< tt, (c.in_ok-file.ensures.store.ready, (stands, room)))
 
 pub returns-then-is_other_length : goal.returns-then-is_other_length
 returns-then-is_other_length g c =
     let old = c.args.store.now in
     let x = c.args.current.now in
-    let file = c.in_ok-found.found.file in
-    let same = c.find_record.ensures.store.only.keeps.committed_words in
-    let found = c.in_ok-found.ensures.told in
+    let file = c.in_ok-file.file in
+    let same = c.find_records.ensures.store.only.keeps.committed_words in
+    let found = is-chosen c.args.choice c.in_ok-slot.slot c.in_ok-file.ensures.told
+    c.pointer_at-pointer.ensures c.in_ok-slot.ensures.found in
     let number = found.number_is in
     let has = chosen-has _ _ _ _ _ _ found in
     let text : c.read.new.bytes.items ≡ record_of (cyclic_records (committed old) file.ring) (chosen_in file
@@ -47,30 +50,32 @@ returns-then-is_other_length g c =
     let status = ap right_length (sym text) ∙ sym c.right_length.ensures in
     declined-empty (read_record c.args.target c.args.choice c.args.expected) old x c.read.new.store
     c.args.answer.now.items c.requires.empty (λ _. tt) c.requires.kept.card c.right_length.result
-    (reads_then old c.find_record.new.store c.read.new.store c.find_record.ensures.store.only c.read.ensures.store.only)
-    c.in_ok-read.ensures.store.ready c.requires.kept.current
+    (reads_then old c.find_records.new.store c.read.new.store c.find_records.ensures.store.only
+    c.read.ensures.store.only) c.in_ok-read.ensures.store.ready c.requires.kept.current
     (read-other (committed old) c.requires.kept.ready.usable.committed_size c.requires.kept.card x c.args.target _
     file found.named found.named.named.unrefused c.args.choice c.args.expected has other
     ∙ ap (refused (card_in old) (session_in old x)) status)
 
-pub pointer_after-pointer-requires : goal.pointer_after-pointer-requires
-pointer_after-pointer-requires g c =
-    let found = c.in_ok-found.ensures.told in
+pub pointer_after-after-requires : goal.pointer_after-after-requires
+pointer_after-after-requires g c =
+    let found = is-chosen c.args.choice c.in_ok-slot.slot c.in_ok-file.ensures.told
+    c.pointer_at-pointer.ensures c.in_ok-slot.ensures.found in
     let stands = chosen-body (committed c.args.store.now) c.requires.kept.ready.usable.committed_size
     c.requires.kept.card
     c.args.current.now c.args.target _ _ _ found _ refl in
-    let few = slot-few (committed c.args.store.now) c.in_ok-found.found.slot stands in
+    let few = slot-few (committed c.args.store.now) c.in_ok-slot.slot stands in
     omega (arith, few)
 
 pub returns : goal.returns
 returns g c =
     let old = c.args.store.now in
     let x = c.args.current.now in
-    let file = c.in_ok-found.found.file in
-    let e = c.in_ok-found.found.file.number in
+    let file = c.in_ok-file.file in
+    let e = file.number in
     let sized = c.requires.kept.ready.usable.committed_size in
-    let same = c.find_record.ensures.store.only.keeps.committed_words in
-    let found = c.in_ok-found.ensures.told in
+    let same = c.find_records.ensures.store.only.keeps.committed_words in
+    let found = is-chosen c.args.choice c.in_ok-slot.slot c.in_ok-file.ensures.told
+    c.pointer_at-pointer.ensures c.in_ok-slot.ensures.found in
     let number = found.number_is in
     let has = chosen-has _ _ _ _ _ _ found in
     let text : c.read.new.bytes.items ≡ record_of (cyclic_records (committed old) file.ring) (chosen_in file
@@ -79,10 +84,11 @@ returns g c =
     c.in_ok-read.ensures.bytes ∙ (λ i. record_of (cyclic_records (same i) (found.ring_is i)) (number i)) in
     let whole = ap (λ (l : List ℕ). not (c.args.expected == 0) && not (c.args.expected == length l)) (sym text)
     ∙ sym c.is_other_length.ensures ∙ c.if-is_other_length.false in
-    let pointer : c.pointer_after-pointer.result ≡ pointer_after (pointer_from x c.args.target) c.args.choice
+    let pointer : c.pointer_after-after.result ≡ pointer_after (pointer_from x c.args.target) c.args.choice
     (chosen_in file
     (pointer_from x c.args.target) c.args.choice) =
-    c.pointer_after-pointer.ensures ∙ (λ i. pointer_after (c.pointer_at.ensures i) c.args.choice (number i)) in
+    c.pointer_after-after.ensures
+    ∙ (λ i. pointer_after (c.pointer_at-pointer.ensures i) c.args.choice (number i)) in
     let y_is : c.pointing.result ≡ pointing_from x c.args.target e (pointer_after (pointer_from x c.args.target)
     c.args.choice (chosen_in file (pointer_from x c.args.target) c.args.choice)) =
     c.pointing.ensures ∙ ap (pointing_from x c.args.target e) pointer in
@@ -93,8 +99,8 @@ returns g c =
     c.args.choice)) in
     answered (read_record c.args.target c.args.choice c.args.expected) old x
     c.read.new.store (λ _. tt) c.requires.kept.card c.pointing.result c.give.new.answer.items DONE
-    (reads_then old c.find_record.new.store c.read.new.store c.find_record.ensures.store.only c.read.ensures.store.only)
-    c.in_ok-read.ensures.store.ready
+    (reads_then old c.find_records.new.store c.read.new.store c.find_records.ensures.store.only
+    c.read.ensures.store.only) c.in_ok-read.ensures.store.ready
     (subst (λ (y : Current). IsCurrent (table_in old) y) (sym y_is) current)
     c.give.ensures.room
     (read-whole (committed old) sized c.requires.kept.card x c.args.target _ file found.named
@@ -102,15 +108,31 @@ returns g c =
     c.args.choice c.args.expected has whole
     ∙ (λ i. outcome (card_in old) (session_in old (sym y_is i)) (sym given_is i) DONE))
 
-pub returns-in_err-found : goal.returns-in_err-found
-returns-in_err-found g c =
+pub returns-in_err-file : goal.returns-in_err-file
+returns-in_err-file g c =
     let old = c.args.store.now in
     let x = c.args.current.now in
-    halted (read_record c.args.target c.args.choice c.args.expected) old x c.find_record.new.store (λ _. tt)
+    halted (read_record c.args.target c.args.choice c.args.expected) old x c.find_records.new.store (λ _. tt)
     c.requires.kept.card c.requires.kept.current c.args.answer.now.items c.requires.empty _ _ c.from_residual.ensures.1
-    c.in_err-found.ensures.store _
+    c.in_err-file.ensures.store _
+    (λ status refused. read-refused (card_in old) (session_in old x) c.args.target status c.args.choice
+    (choice-barred (card_in old) (session_in old x) c.args.target status c.args.choice refused) c.args.expected)
+    c.in_err-file.ensures.told
+
+pub returns-in_err-slot : goal.returns-in_err-slot
+returns-in_err-slot g c =
+    let old = c.args.store.now in
+    let x = c.args.current.now in
+    let found = c.in_ok-file.ensures.told in
+    let status = c.in_err-slot.field-0.0 in
+    halted (read_record c.args.target c.args.choice c.args.expected) old x c.find_records.new.store (λ _. tt)
+    c.requires.kept.card c.requires.kept.current c.args.answer.now.items c.requires.empty _ (Refused status)
+    c.from_residual-in_err-slot.ensures.1 c.in_ok-file.ensures.store _
     (λ status refused. read-refused (card_in old) (session_in old x) c.args.target status c.args.choice refused
-    c.args.expected) c.in_err-found.ensures.told
+    c.args.expected)
+    (choice-gone (committed old) c.requires.kept.ready.usable.committed_size c.requires.kept.card x c.args.target _
+    c.in_ok-file.file found found.named.unrefused c.args.choice status _ c.pointer_at-pointer.ensures
+    c.in_err-slot.ensures.refusal)
 
 pub returns-in_err-read : goal.returns-in_err-read
 returns-in_err-read g c =
@@ -118,5 +140,5 @@ returns-in_err-read g c =
     handed (read_record c.args.target c.args.choice c.args.expected) c.args.store.now c.args.current.now
     c.read.new.store c.requires.kept.card c.args.current.now c.args.answer.now.items _ c.in_err-read.field-0.0
     (reply-failed _ _ c.from_residual-in_err-read.ensures.1)
-    (reads_on c.args.store.now c.find_record.new.store c.read.new.store _ c.find_record.ensures.store.only
+    (reads_on c.args.store.now c.find_records.new.store c.read.new.store _ c.find_records.ensures.store.only
     c.in_err-read.ensures.store) (omega (arith, none))

@@ -2,39 +2,43 @@ use Rattle.std.proofs.Common.{◌≡◌, ◌≤◌, lit<, ℕ, List, length, sym
 use Rattle.undo_journal.specs.Memory.{committed}
 use Rattle.undo_journal.specs.laws.Calls.{reads_then}
 use Rattle.undo_journal.specs.laws.Told.{reads_on}
+use Rattle.apdu_core.specs.declared.records.RecordChoice.TheVariants.{At}
 use Rattle.apdu_core.specs.Requests.{search_record}
 use Rattle.ef_body.specs.Bodies.{cyclic_records}
 use Rattle.ef_body.specs.Searching.{found as found_in}
 use Rattle.card_machine.specs.declared.current.Current.{Current}
+use Rattle.card_machine.specs.declared.stop.Stop.TheVariants.{Refused}
 use Rattle.card_machine.specs.Lengths.{asks_less, given, right_length}
 use Rattle.card_machine.specs.Outcomes.{refused}
 use Rattle.card_machine.specs.Records.{place_number, pointer_found, search_status, searching}
 use Rattle.card_machine.specs.Working.{card_in, outcome, pointer_from, pointing_from, session_in, table_in, IsCurrent}
-use Rattle.card_contents.proofs.Recording.{chosen-body, chosen-has, current-is, declined-empty, search-less}
-use Rattle.card_contents.proofs.Recording.{search-refused, search-whole}
+use Rattle.card_contents.proofs.Recording.{choice-barred, choice-gone, chosen-body, chosen-has, current-is}
+use Rattle.card_contents.proofs.Recording.{declined-empty, is-chosen, search-less, search-refused, search-whole}
 use Rattle.card_machine.specs.laws.Serves.{answered, halted, handed}
 use Rattle.card_machine.specs.laws.Stopping.{reply-failed}
 use Rattle.card_contents.proofs.records.search_record.Goals as goal
 
 pub search-requires : goal.search-requires
 search-requires g c =
-    let found = c.in_ok-found.ensures.told in
+    let found = is-chosen (At c.args.first) c.in_ok-slot.slot c.in_ok-file.ensures.told
+    c.pointer_at-pointer.ensures c.in_ok-slot.ensures.found in
     let stands = chosen-body (committed c.args.store.now) c.requires.kept.ready.usable.committed_size
     c.requires.kept.card
-    c.args.current.now c.args.target _ _ _ found _ c.find_record.ensures.store.only.keeps.committed_words in
+    c.args.current.now c.args.target _ _ _ found _ c.find_records.ensures.store.only.keeps.committed_words in
     let few = stands.slots.few in
     let number = stands.number in
-    let room : c.in_ok-found.found.slot.ring.records ≤ 256 = omega (arith, few, number) in
-    (lit< tt, (c.in_ok-found.ensures.store.ready, (stands, room)))
+    let room : c.in_ok-slot.slot.ring.records ≤ 256 = omega (arith, few, number) in
+    (lit< tt, (c.in_ok-file.ensures.store.ready, (stands, room)))
 
 pub returns-then-asks_less : goal.returns-then-asks_less
 returns-then-asks_less g c =
     let old = c.args.store.now in
     let x = c.args.current.now in
-    let file = c.in_ok-found.found.file in
-    let same = c.find_record.ensures.store.only.keeps.committed_words in
-    let found = c.in_ok-found.ensures.told in
-    let number : c.in_ok-found.found.slot.number ≡ place_number c.args.first (pointer_from x c.args.target) =
+    let file = c.in_ok-file.file in
+    let same = c.find_records.ensures.store.only.keeps.committed_words in
+    let found = is-chosen (At c.args.first) c.in_ok-slot.slot c.in_ok-file.ensures.told
+    c.pointer_at-pointer.ensures c.in_ok-slot.ensures.found in
+    let number : c.in_ok-slot.slot.number ≡ place_number c.args.first (pointer_from x c.args.target) =
     found.number_is in
     let has = chosen-has _ _ _ _ _ _ found in
     let way = c.way_of-way.ensures in
@@ -47,7 +51,7 @@ returns-then-asks_less g c =
     let status = ap right_length (sym numbers) ∙ sym c.right_length.ensures in
     declined-empty (search_record c.args.target c.args.first c.args.direction c.args.text.now c.args.expected) old x
     c.search.new.store c.args.answer.now.items c.requires.empty (λ _. tt) c.requires.kept.card c.right_length.result
-    (reads_then old c.find_record.new.store c.search.new.store c.find_record.ensures.store.only
+    (reads_then old c.find_records.new.store c.search.new.store c.find_records.ensures.store.only
     c.search.ensures.store.only) c.in_ok-search.ensures.store.ready c.requires.kept.current
     (search-less (committed old) c.requires.kept.ready.usable.committed_size c.requires.kept.card x c.args.target _
     file found.named found.named.named.unrefused c.args.first c.args.direction c.args.text.now c.args.expected
@@ -58,12 +62,13 @@ pub returns : goal.returns
 returns g c =
     let old = c.args.store.now in
     let x = c.args.current.now in
-    let file = c.in_ok-found.found.file in
-    let e = c.in_ok-found.found.file.number in
+    let file = c.in_ok-file.file in
+    let e = file.number in
     let sized = c.requires.kept.ready.usable.committed_size in
-    let same = c.find_record.ensures.store.only.keeps.committed_words in
-    let found = c.in_ok-found.ensures.told in
-    let number : c.in_ok-found.found.slot.number ≡ place_number c.args.first (pointer_from x c.args.target) =
+    let same = c.find_records.ensures.store.only.keeps.committed_words in
+    let found = is-chosen (At c.args.first) c.in_ok-slot.slot c.in_ok-file.ensures.told
+    c.pointer_at-pointer.ensures c.in_ok-slot.ensures.found in
+    let number : c.in_ok-slot.slot.number ≡ place_number c.args.first (pointer_from x c.args.target) =
     found.number_is in
     let has = chosen-has _ _ _ _ _ _ found in
     let way = c.way_of-way.ensures in
@@ -75,8 +80,8 @@ returns g c =
     (found.ring_is i))) in
     let enough = ap (asks_less c.args.expected) (sym numbers) ∙ sym c.asks_less.ensures
     ∙ c.if-asks_less.false in
-    let pointer : c.first_of-pointer.result ≡ pointer_found (pointer_from x c.args.target) all =
-    c.first_of-pointer.ensures ∙ (λ i. pointer_found (c.pointer_at.ensures i) (numbers i)) in
+    let pointer : c.first_of-after.result ≡ pointer_found (pointer_from x c.args.target) all =
+    c.first_of-after.ensures ∙ (λ i. pointer_found (c.pointer_at-pointer.ensures i) (numbers i)) in
     let y_is : c.pointing.result ≡ pointing_from x c.args.target e (pointer_found (pointer_from x c.args.target) all)
     =
     c.pointing.ensures ∙ ap (pointing_from x c.args.target e) pointer in
@@ -88,9 +93,8 @@ returns g c =
     (pointer_found (pointer_from x c.args.target) all) in
     answered (search_record c.args.target c.args.first c.args.direction c.args.text.now c.args.expected) old x
     c.search.new.store (λ _. tt) c.requires.kept.card c.pointing.result c.give.new.answer.items c.status_of.result
-    (reads_then old c.find_record.new.store
-    c.search.new.store c.find_record.ensures.store.only c.search.ensures.store.only)
-    c.in_ok-search.ensures.store.ready
+    (reads_then old c.find_records.new.store c.search.new.store c.find_records.ensures.store.only
+    c.search.ensures.store.only) c.in_ok-search.ensures.store.ready
     (subst (λ (y : Current). IsCurrent (table_in old) y) (sym y_is) current)
     c.give.ensures.room
     (search-whole (committed old) sized c.requires.kept.card x c.args.target _ file found.named
@@ -98,15 +102,32 @@ returns g c =
     c.args.first c.args.direction c.args.text.now c.args.expected has enough
     ∙ (λ i. outcome (card_in old) (session_in old (sym y_is i)) (sym given_is i) (sym status i)))
 
-pub returns-in_err-found : goal.returns-in_err-found
-returns-in_err-found g c =
+pub returns-in_err-file : goal.returns-in_err-file
+returns-in_err-file g c =
     let old = c.args.store.now in
     let x = c.args.current.now in
     halted (search_record c.args.target c.args.first c.args.direction c.args.text.now c.args.expected) old x
-    c.find_record.new.store (λ _. tt) c.requires.kept.card c.requires.kept.current
-    c.args.answer.now.items c.requires.empty _ _ c.from_residual.ensures.1 c.in_err-found.ensures.store _
+    c.find_records.new.store (λ _. tt) c.requires.kept.card c.requires.kept.current
+    c.args.answer.now.items c.requires.empty _ _ c.from_residual.ensures.1 c.in_err-file.ensures.store _
+    (λ status refused. search-refused (card_in old) (session_in old x) c.args.target status c.args.first
+    (choice-barred (card_in old) (session_in old x) c.args.target status (At c.args.first) refused)
+    c.args.direction c.args.text.now c.args.expected) c.in_err-file.ensures.told
+
+pub returns-in_err-slot : goal.returns-in_err-slot
+returns-in_err-slot g c =
+    let old = c.args.store.now in
+    let x = c.args.current.now in
+    let found = c.in_ok-file.ensures.told in
+    let status = c.in_err-slot.field-0.0 in
+    halted (search_record c.args.target c.args.first c.args.direction c.args.text.now c.args.expected) old x
+    c.find_records.new.store (λ _. tt) c.requires.kept.card c.requires.kept.current
+    c.args.answer.now.items c.requires.empty _ (Refused status) c.from_residual-in_err-slot.ensures.1
+    c.in_ok-file.ensures.store _
     (λ status refused. search-refused (card_in old) (session_in old x) c.args.target status c.args.first refused
-    c.args.direction c.args.text.now c.args.expected) c.in_err-found.ensures.told
+    c.args.direction c.args.text.now c.args.expected)
+    (choice-gone (committed old) c.requires.kept.ready.usable.committed_size c.requires.kept.card x c.args.target _
+    c.in_ok-file.file found found.named.unrefused (At c.args.first) status _ c.pointer_at-pointer.ensures
+    c.in_err-slot.ensures.refusal)
 
 pub returns-in_err-search : goal.returns-in_err-search
 returns-in_err-search g c =
@@ -115,5 +136,5 @@ returns-in_err-search g c =
     c.args.store.now
     c.args.current.now c.search.new.store c.requires.kept.card c.args.current.now c.args.answer.now.items _
     c.in_err-search.field-0.0 (reply-failed _ _ c.from_residual-in_err-search.ensures.1)
-    (reads_on c.args.store.now c.find_record.new.store c.search.new.store _ c.find_record.ensures.store.only
+    (reads_on c.args.store.now c.find_records.new.store c.search.new.store _ c.find_records.ensures.store.only
     c.in_err-search.ensures.store) (omega (arith, none))

@@ -1,16 +1,10 @@
-use Rattle.std.proofs.Common.{◌≡◌, ◌&&◌, [], Bool, None, Some, Result, Ok, Err, not, nat_le, if◌then◌else◌}
-use Rattle.std.proofs.Common.{replicate, sym, ◌∙◌, ap}
+use Rattle.std.proofs.Common.{◌&&◌, [], Bool, None, Some, not, nat_le, if◌then◌else◌, replicate, sym, ◌∙◌, ap}
 use Rattle.std.proofs.lemmas.List.{length-replicate}
-use Rattle.std.specs.Result.{result_err, IsErrAnd}
-use Rattle.card_rules.specs.declared.status.Sw.{Sw}
+use Rattle.std.specs.Result.{result_err}
 use Rattle.card_rules.specs.declared.status.TheConstants.Sw.{NO_ROOM}
 use Rattle.ef_body.specs.declared.linear.Linear.{Linear}
+use Rattle.card_machine.specs.laws.Stopping.{err-is}
 use Rattle.card_contents.proofs.record_file.RecordFile.find_room.Goals as goal
-
--- an error that is handed on
-told : {T : Type 0} (r : Result T Sw) (e : Sw) → IsErrAnd r (λ f. f ≡ e) → result_err r ≡ Some e
-told (Ok x) e is = absurd is
-told (Err f) e is = ap (λ (s : Sw). Some s) is
 
 pub returns-in_err-slot-clause-refusal : goal.returns-in_err-slot-clause-refusal
 returns-in_err-slot-clause-refusal c =
@@ -19,7 +13,7 @@ returns-in_err-slot-clause-refusal c =
     let capacity = ap (λ (l : Linear). l.capacity) c.linear.ensures in
     let refusal = c.in_err-slot.ensures.refusal (replicate ring.records [])
     (count ∙ ap (λ (l : Linear). l.records) (sym c.linear.ensures)) in
-    told _ _ c.from_residual.ensures.1 ∙ sym refusal
+    ap result_err (err-is _ _ c.from_residual.ensures.1) ∙ sym refusal
     ∙ (λ i. if nat_le (capacity i) (count i) then Some NO_ROOM else None)
     ∙ sym (ap (λ (wraps : Bool). if not wraps && nat_le ring.capacity ring.records then Some NO_ROOM else None)
     c.if-self.false)
