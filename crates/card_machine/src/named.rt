@@ -71,31 +71,31 @@ pub fn find_file<B: Board>(
         return Err(Stop::Refused(missing(target)));
     };
     let entry = read_entry(store, number)?;
-    check_file(store, current, number, &entry, need)?;
-    Ok(Named { number, entry })
+    let file = Named { number, entry };
+    check_file(store, current, &file, need)?;
+    Ok(file)
 }
 
-/// Refuses a command by the file that it names, whose entry is at hand.
+/// Refuses a command by the file that it names.
 #[tactic(auto, using(undo_journal::specs::laws::Calls::reads_then))]
 fn check_file<B: Board>(
     store: &mut Store<B>,
     current: &Current,
-    number: u8,
-    entry: &Entry,
+    file: &Named,
     need: Need,
 ) -> Result<(), Stop>
     requires kept { IsKept store.old current.now }
-    requires used { IsUsed (table_in store.old) number }
-    requires entry { entry.now ≡ entry_in (table_in store.old) number }
+    requires used { IsUsed (table_in store.old) file.now.number }
+    requires entry { file.now.entry ≡ entry_in (table_in store.old) file.now.number }
     ensures { Checks store.old store.new (file_refusal
-        (is_barred (card_in store.old).tree (path_of (table_in store.old) number))
-        (fits_kind need.structure entry.now.kind) (allowed (card_in store.old) (session_in store.old current.now)
-        (path_of (table_in store.old) number) need.bit)) result }
+        (is_barred (card_in store.old).tree (path_of (table_in store.old) file.now.number))
+        (fits_kind need.structure file.now.entry.kind) (allowed (card_in store.old) (session_in store.old current.now)
+        (path_of (table_in store.old) file.now.number) need.bit)) result }
 {
     let findings = Findings {
-        barred: is_barred_at(store, number, entry)?,
-        fits: need.structure.fits(entry),
-        allowed: allows_at(store, current, entry, need.bit)?,
+        barred: is_barred_at(store, file.number, &file.entry)?,
+        fits: need.structure.fits(&file.entry),
+        allowed: allows_at(store, current, &file.entry, need.bit)?,
     };
     findings.check()?;
     Ok(())

@@ -19,8 +19,8 @@ pub returns : goal.returns
 returns g c = record {
   told = let m = committed c.args.store.now in
       let x = c.args.current.now in
-      let e = c.args.number in
-      let entry = c.args.entry.now in
+      let e = c.args.file.now.number in
+      let entry = c.args.file.now.entry in
       let bit = c.args.need.bit in
       let path = path_of (table m) e in
       let card = c.requires.kept.card in
@@ -40,8 +40,8 @@ pub returns-in_err-check : goal.returns-in_err-check
 returns-in_err-check g c = record {
   told = let m = committed c.args.store.now in
       let x = c.args.current.now in
-      let e = c.args.number in
-      let entry = c.args.entry.now in
+      let e = c.args.file.now.number in
+      let entry = c.args.file.now.entry in
       let bit = c.args.need.bit in
       let path = path_of (table m) e in
       let card = c.requires.kept.card in
