@@ -18,7 +18,7 @@ ghost use Rattle.card_machine.specs.Working.{IsToldEntry};
 use apdu_core::{RecordChoice, RecordPlace};
 use block_chain::Chain;
 use card_rules::Sw;
-use ef_body::{Cyclic, FreeSlot, Linear, RecordSlot};
+use ef_body::{Cyclic, FreeSlot, Linear, RecordBody, RecordSlot};
 use file_tree::{Entry, EntryKind, FIRST_ENTRY_PAGE, RECORDS_WORD};
 use undo_journal::{Board, PAGE_WORDS, Store, StoreErr};
 

@@ -21,7 +21,7 @@ use card_machine::{
     Current, Need, ResponseData, Stop, Structure, asks_less, find_file, give, right_length,
 };
 use card_rules::AccessBit;
-use ef_body::{Direction, RecordBody};
+use ef_body::Direction;
 use undo_journal::{Board, Store};
 
 /// What READ RECORD and SEARCH RECORD need of their file.
