@@ -6,9 +6,10 @@ ghost use Rattle.card_bench.specs.Prints.{IsFirstDesk};
 use crate::desk::Desk;
 use crate::factory::factory_board;
 use crate::fault::RunFault;
-use crate::order::{GivenBytes, Order};
 use crate::printing::PrintedText;
-use crate::reading::{LineBytes, LineEnd, LineFault, SCRIPT_LIMIT, read_line};
+use bench_lines::{
+    GivenBytes, LineBytes, LineEnd, LineFault, Order, SCRIPT_LIMIT, read_line,
+};
 use nvm_board::CutBoard;
 use std::alloc::Global;
 use std::io::{BufRead, Write};
