@@ -32,6 +32,7 @@ left-on None now new bytes taken left = tt
 left-on (Some script) None new bytes taken left = absurd taken
 left-on (Some script) (Some rest) None bytes taken left = absurd left
 left-on (Some script) (Some rest) (Some rest') bytes taken left = left
+
 -- Of the bytes that are shown, the first `most` are looked at, and the first `size` of these are taken.
 module _ (old rested new : Option (List ℕ)) (buffered : Option ℕ) (shown : List ℕ) (most size : ℕ)
     (front : IfSome old (λ xs. StartsWith xs shown)) (end : IfSome old (λ xs. length shown ≡ 0 → xs ≡ []))

@@ -1,5 +1,5 @@
-//! The lines of a script as text: how they are read, one by one, and what each asks for. Nothing here knows of a card or
-//! a bench.
+//! The lines of a script as text: how they are read, one by one, and what each asks for. Nothing here knows of a card
+//! or a bench.
 #![tactic(auto)]
 
 pub mod laws;

@@ -103,8 +103,8 @@ pub enum Order {
 impl Order {
     ghost use Rattle.bench_lines.specs.Orders.{order_of};
 
-    /// What a line, without its end, asks for: None where that is nothing that is known, or the line has more than 1,024
-    /// bytes. The bytes of a command or a block go to the buffer, what it held before is gone then.
+    /// What a line, without its end, asks for: None where that is nothing that is known, or the line has more than
+    /// 1,024 bytes. The bytes of a command or a block go to the buffer; what it held before is gone then.
     #[tactic(auto, unfolding(crate::specs::Orders::order_of))]
     pub fn parse(line: &[u8], given: &mut GivenBytes) -> Option<Order>
         ensures { asked_with result given.new ≡ order_of line.now }

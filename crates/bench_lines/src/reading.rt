@@ -103,8 +103,9 @@ fn size_in_line(bytes: &[u8]) -> usize
     }
 }
 
-/// Reads the next line into the buffer, in place of what it held, and counts the bytes that were taken of the script, at
-/// most 16,777,216 in all. The last line may lack its line feed; behind it, and in an empty script, an empty line is read.
+/// Reads the next line into the buffer, in place of what it held, and counts the bytes that were taken of the script,
+/// at most 16,777,216 in all. The last line may lack its line feed; behind it, and in an empty script, an empty line is
+/// read.
 ///
 /// # Errors
 ///

@@ -7,9 +7,7 @@ use crate::desk::Desk;
 use crate::factory::factory_board;
 use crate::fault::RunFault;
 use crate::printing::PrintedText;
-use bench_lines::{
-    GivenBytes, LineBytes, LineEnd, LineFault, Order, SCRIPT_LIMIT, read_line,
-};
+use bench_lines::{GivenBytes, LineBytes, LineEnd, LineFault, Order, SCRIPT_LIMIT, read_line};
 use nvm_board::CutBoard;
 use std::alloc::Global;
 use std::io::{BufRead, Write};
