@@ -10,8 +10,8 @@ use Rattle.card_bench.specs.Plays.{IsGood}
 use Rattle.card_bench.specs.Exchanges.{Ended}
 use Rattle.card_bench.specs.Exchanges.{answered, set_back, link_lost, power_lost}
 use Rattle.card_bench.specs.declared.exchange.TheConstants.{LINE_BLOCKS}
-use Rattle.card_bench.specs.Orders.{Order}
-use Rattle.card_bench.specs.Orders.{Nothing, On, Off, Free, Apdu, Block, Cut, Lose, Garble}
+use Rattle.bench_lines.specs.Orders.{Order}
+use Rattle.bench_lines.specs.Orders.{Nothing, On, Off, Free, Apdu, Block, Cut, Lose, Garble}
 use Rattle.card_bench.specs.declared.playing.Item.{Item}
 use Rattle.card_bench.specs.declared.playing.Item.TheVariants as item
 use Rattle.card_bench.specs.declared.playing.Turn.TheVariants as turn

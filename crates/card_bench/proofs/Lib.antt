@@ -12,18 +12,13 @@ pub mod FewGuesses
 pub mod FormatLemmas
 pub mod FreeTold
 mod GuessesPaid
-pub mod HexLimits
-pub mod Numbers
-pub mod PartsTaken
 pub mod PlayedTurns
 pub mod PowerTurns
 pub mod ScriptLines
 pub mod ScriptInWorld
 pub mod ReaderSays
-mod SizedOrders
 pub mod SoundBlocks
 pub mod SoundWorlds
-pub mod Spelled
 pub mod TreeAnswers
 pub mod TurnsTold
 pub mod Wearing

@@ -1,130 +1,28 @@
 -- The lines of a script, as they are read one by one.
-use Rattle.std.proofs.Common.{◌≡◌, ◌⊎◌, ◌<◌, ◌≤◌, ◌+◌, ◌-◌, ◌==◌, ◌&&◌, IfSome, ℕ, Bool, true, false, true≢false, cond}
-use Rattle.std.proofs.Common.{codes, nat_lt, List, [], ◌∷◌, ◌++◌, length, take}
-use Rattle.std.proofs.Common.{Option, Some, None, OnSome, is_some, slice_index, refl, sym, ◌∙◌, ap, ap₂, subst, inl}
-use Rattle.std.proofs.Common.{inr, arith, append_assoc, append-nil, length-append, length-take}
-use Rattle.std.proofs.Common.{if◌then◌else◌}
+use Rattle.std.proofs.Common.{◌≡◌, ◌⊎◌, ◌≤◌, ◌+◌, ◌==◌, IfSome, ℕ, Bool, false, true≢false, cond, codes, List, [], ◌∷◌}
+use Rattle.std.proofs.Common.{◌++◌, length, take, Option, Some, None, is_some, refl, sym, ◌∙◌, ap, subst, inl, inr}
+use Rattle.std.proofs.Common.{arith, append_assoc, append-nil, length-append, if◌then◌else◌}
 use Rattle.std.proofs.KnownBytes.{Appends-nil, Appends-trans}
-use Rattle.std.specs.Io.KnownBytes.{Appends, Consumes, IsAtEnd, Keeps}
-use Rattle.std.specs.List.{slice_split, onto_first}
+use Rattle.std.specs.Io.KnownBytes.{Appends}
 use Rattle.std.specs.Fmt.{decimal}
-use Rattle.std.specs.Str.Lines.{lines, lines_of_parts, strip_carriage_return}
-use Rattle.std.proofs.lemmas.List.Splits.{slice_split_none, slice_split_at, slice_split-cons_no}
-use Rattle.std.proofs.lemmas.List.Elements.{All-head, All-tail}
-use Rattle.std.proofs.lemmas.List.Folds.{list_all-append}
-use Rattle.std.proofs.lemmas.Bool.{lt-ltb, ne_eqb}
+use Rattle.std.specs.Str.Lines.{lines, strip_carriage_return}
+use Rattle.std.proofs.lemmas.Bool.{ne_eqb}
 use Rattle.hex.specs.Hex.{encode_upper}
-use Rattle.card_bench.specs.declared.order.TheConstants.{LINE_LIMIT}
-use Rattle.card_bench.specs.Orders.{Order}
-use Rattle.card_bench.specs.Orders.{Nothing}
-use Rattle.card_bench.specs.declared.reading.TheConstants.{SCRIPT_LIMIT}
-use Rattle.card_bench.specs.declared.reading.LineEnd.{LineEnd}
-use Rattle.card_bench.specs.declared.reading.LineEnd.TheVariants.{LineFeed, EndOfScript}
+use Rattle.bench_lines.specs.declared.reading.TheConstants.{SCRIPT_LIMIT}
+use Rattle.bench_lines.specs.declared.reading.LineEnd.{LineEnd}
+use Rattle.bench_lines.specs.declared.reading.LineEnd.TheVariants.{LineFeed, EndOfScript}
+use Rattle.bench_lines.specs.Orders.{Nothing, Order, order_of}
+use Rattle.bench_lines.specs.Scripts.{AreOrders, CountsTaken, FailsAtLine, IsInLine, TakesInto, TakesLine, TakesTooMuch}
+use Rattle.bench_lines.specs.Scripts.{WhereKnown}
+use Rattle.bench_lines.specs.laws.TextLines.{IsLong, lines-last, lines-line, lines-long, order_of-empty, order_of-long}
+use Rattle.bench_lines.specs.laws.TextLines.{order_of-none, orders-more, strip-within}
 use Rattle.card_bench.specs.Endings.{HasWritten, IsReadInto, IsRunInto, IsRunToEnd, IsRunToLine}
 use Rattle.card_bench.specs.Exchanges.{Desk}
-use Rattle.card_bench.specs.Orders.{order_of}
 use Rattle.card_bench.specs.Performing.{Performs}
 use Rattle.card_bench.specs.Plays.{IsGood}
 use Rattle.card_bench.specs.Printouts.{Print, text_of}
 use Rattle.card_bench.specs.Printouts as print
 use Rattle.card_bench.specs.Prints.{IsFirstDesk, LinesPrint, PrintsLines}
-use Rattle.card_bench.specs.Scripts.{AreOrders, CountsTaken, FailsAtLine, IsInLine, IsTooLong, TakesInto, TakesLine}
-use Rattle.card_bench.specs.Scripts.{TakesTooMuch, WhereKnown}
-
--- whether a byte is a line feed
-abbrev ends : ℕ → Bool
-ends b = b == 10
-
--- the first of some parts and the others
-abbrev Parts : List (List ℕ) → Type 0
-Parts parts = (x : List ℕ) × (xs : List (List ℕ)) × (parts ≡ x ∷ xs)
-
-some_first : (b : Bool) (n : ℕ) (parts : List (List ℕ)) → Parts (cond b ([] ∷ parts) (onto_first n parts))
-some_first true n parts = ([], parts, refl)
-some_first false n [] = (n ∷ [], [], refl)
-some_first false n (part ∷ parts) = (n ∷ part, parts, refl)
-
--- the parts of a text are at least one
-parts_some : (text : List ℕ) → Parts (slice_split ends text)
-parts_some [] = ([], [], refl)
-parts_some (b ∷ text) = some_first (ends b) b (slice_split ends text)
-
--- a line that ends with a line feed
-pub lines-line : (bytes rest : List ℕ) → IsInLine bytes
-    → lines (bytes ++ 10 ∷ rest) ≡ strip_carriage_return bytes ∷ lines rest
-lines-line bytes rest inside =
-    let some = parts_some rest in
-    ap lines_of_parts (slice_split_at ends bytes 10 rest inside refl
-    ∙ ap (λ (parts : List (List ℕ)). bytes ∷ parts) some.2)
-    ∙ sym (ap (λ (parts : List (List ℕ)). strip_carriage_return bytes ∷ lines_of_parts parts) some.2)
-
--- the last line, where it has no line feed
-pub lines-last : (line : List ℕ) → IsInLine line → lines line ≡ (if length line == 0 then [] else line ∷ [])
-lines-last line inside = ap lines_of_parts (slice_split_none ends line inside)
-
--- bytes with no line feed go before the first part
-split-in_line : (bytes more part : List ℕ) (parts : List (List ℕ)) → IsInLine bytes
-    → slice_split ends more ≡ part ∷ parts → slice_split ends (bytes ++ more) ≡ (bytes ++ part) ∷ parts
-split-in_line [] more part parts inside is = is
-split-in_line (b ∷ bytes) more part parts inside is =
-    slice_split-cons_no ends b (bytes ++ more) (All-head (λ b. (b == 10) ≡ false) b bytes inside)
-    ∙ ap (onto_first b) (split-in_line bytes more part parts (All-tail (λ b. (b == 10) ≡ false) b bytes inside) is)
-
-strip-shorter : (bytes : List ℕ) → length bytes ≤ length (strip_carriage_return bytes) + 1
-strip-shorter bytes = by (slice_index bytes (length bytes - 1) == 13)
-  where
-    by : (drops : Bool) → length bytes ≤ length (cond drops (take (length bytes - 1) bytes) bytes) + 1
-    by true = let t = length-take (length bytes - 1) bytes in omega (arith, t)
-    by false = omega arith
-
--- stripped, a line has no more bytes
-strip-within : (bytes : List ℕ) → length (strip_carriage_return bytes) ≤ length bytes
-strip-within bytes = by (slice_index bytes (length bytes - 1) == 13)
-  where
-    by : (drops : Bool) → length (cond drops (take (length bytes - 1) bytes) bytes) ≤ length bytes
-    by true = let t = length-take (length bytes - 1) bytes in omega (arith, t)
-    by false = omega arith
-
--- a line that is too long is so whatever follows in it
-long-more : (bytes more : List ℕ) → IsTooLong bytes → IsTooLong (bytes ++ more)
-long-more bytes [] long = subst IsTooLong (sym (append-nil bytes)) long
-long-more bytes (b ∷ more) long =
-    let sum = length-append bytes (b ∷ more) in
-    let whole = strip-within bytes in
-    let stripped = strip-shorter (bytes ++ b ∷ more) in
-    omega (arith, sum, whole, stripped, long)
-
--- a first line of too many bytes
-abbrev IsLong : List (List ℕ) → Type 0
-IsLong ls = (line : List ℕ) × (others : List (List ℕ)) × (ls ≡ line ∷ others) × (LINE_LIMIT < length line)
-
-long_line : (first : List ℕ) (parts : List (List ℕ)) → IsTooLong first → IsLong (lines_of_parts (first ∷ parts))
-long_line first [] long =
-    let whole = strip-within first in
-    let some : (length first == 0) ≡ false =
-    ne_eqb (length first) 0 (λ none. let z : ⊥ = omega (arith, whole, long, none) in z) in
-    (first, [], ap (λ (b : Bool). cond b [] (first ∷ [])) some, omega (arith, whole, long))
-long_line first (part ∷ parts) long = (strip_carriage_return first, lines_of_parts (part ∷ parts), refl, long)
-
-pub lines-long : (bytes more : List ℕ) → IsInLine bytes → IsTooLong bytes → IsLong (lines (bytes ++ more))
-lines-long bytes more inside long =
-    let some = parts_some more in
-    subst IsLong (sym (ap lines_of_parts (split-in_line bytes more some.0 some.1 inside some.2)))
-    (long_line (bytes ++ some.0) some.1 (long-more bytes some.0 long))
-
--- a line of too many bytes asks for nothing
-order_of-long : (line : List ℕ) → LINE_LIMIT < length line → order_of line ≡ None
-unfolding order_of
-order_of-long line long = let over : nat_lt LINE_LIMIT (length line) ≡ true =
-    lt-ltb LINE_LIMIT (length line) long in rw over refl
-
--- an empty line asks for nothing to be done
-order_of-none : order_of [] ≡ Some Nothing
-unfolding order_of
-order_of-none = refl
-
-order_of-empty : is_some (order_of []) ≡ true
-order_of-empty = ap is_some order_of-none
 
 -- it prints nothing
 silent : (order : Order) (prints : Print) (desk desk' : Desk) → order_of [] ≡ Some order
@@ -137,28 +35,6 @@ silent order prints desk desk' good performs =
 
 some_bytes : (b : ℕ) (l : List ℕ) → (length (b ∷ l) == 0) ≡ false
 some_bytes b l = ne_eqb (length (b ∷ l)) 0 (λ none. let z : ⊥ = omega arith in z)
-
--- a list of lines that goes on by one
-orders-more : (ls : List (List ℕ)) (line : List ℕ) → AreOrders ls → is_some (order_of line) ≡ true
-    → AreOrders (ls ++ line ∷ [])
-orders-more ls line all one = list_all-append (λ l. is_some (order_of l)) ls (line ∷ [])
-    ∙ ap₂ (λ (a b : Bool). a && (b && true)) all one
-
--- bytes that were taken are counted
-pub counts_of : (old new : Option (List ℕ)) (bytes : List ℕ) (before after : ℕ) → Consumes old new bytes
-    → after ≡ before + length bytes → CountsTaken old new before after
-counts_of None new bytes before after taken counted = tt
-counts_of (Some xs) None bytes before after taken counted = absurd taken
-counts_of (Some xs) (Some ys) bytes before after taken counted =
-    let sum : length xs ≡ length bytes + length ys = ap length taken ∙ length-append bytes ys in
-    omega (arith, sum, counted)
-
--- a buffer that is empty is the end of what is known
-pub at_end_of : (old new : Option (List ℕ)) (shown : List ℕ) → IfSome old (λ xs. length shown ≡ 0 → xs ≡ [])
-    → Keeps old new → length shown ≡ 0 → OnSome old (IsAtEnd new)
-at_end_of None new shown end kept none = tt
-at_end_of (Some xs) None shown end kept none = absurd kept
-at_end_of (Some xs) (Some ys) shown end kept none = kept ∙ end none
 
 -- one more line is carried out
 prints_more : (old between new : Desk) (some : List (List ℕ)) (out line : List ℕ) (order : Order) (prints : Print)
@@ -498,14 +374,6 @@ is_too_long (Some script) (Some rest) (Some rest') n taken taken' desk held hold
 front_lines : (script rest : List ℕ) (n taken : ℕ) (desk : Desk) (out : List ℕ)
     (run : Runs script rest n taken desk out) → lines run.front ≡ run.done
 front_lines script rest n taken desk out run = ap lines (sym (append-nil run.front)) ∙ run.goes [] ∙ append-nil run.done
-
--- what is left of a line is left of a script
-pub left-on : (first now new : Option (List ℕ)) (bytes : List ℕ) → Consumes first now bytes
-    → WhereKnown now new (λ script left. left ≡ [] → ⊥) → WhereKnown first new (λ script left. left ≡ [] → ⊥)
-left-on None now new bytes taken left = tt
-left-on (Some script) None new bytes taken left = absurd taken
-left-on (Some script) (Some rest) None bytes taken left = absurd left
-left-on (Some script) (Some rest) (Some rest') bytes taken left = left
 
 -- no more is read
 pub is_unread : (script old new : Option (List ℕ)) (n taken taken' : ℕ) (desk : Desk) (held holds : Option (List ℕ))

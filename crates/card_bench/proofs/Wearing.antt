@@ -24,13 +24,13 @@ use Rattle.card_machine.specs.laws.ShownLaws.{ComparesOrStays}
 use Rattle.card_bench.specs.Exchanges.{Ended}
 use Rattle.card_bench.specs.Exchanges.{answered, set_back, link_lost, power_lost}
 use Rattle.card_bench.specs.declared.exchange.TheConstants.{LINE_BLOCKS}
-use Rattle.card_bench.specs.Orders.{Order}
-use Rattle.card_bench.specs.Orders.{Nothing, On, Off, Free, Apdu, Block, Cut, Lose, Garble}
+use Rattle.bench_lines.specs.Orders.{Order}
+use Rattle.bench_lines.specs.Orders.{Nothing, On, Off, Free, Apdu, Block, Cut, Lose, Garble}
 use Rattle.card_bench.specs.declared.playing.Item.{Item}
 use Rattle.card_bench.specs.declared.playing.Item.TheVariants as item
 use Rattle.card_bench.specs.declared.playing.Turn.{Turn}
 use Rattle.card_bench.specs.declared.playing.Turn.TheVariants as turn
-use Rattle.card_bench.specs.declared.reading.TheConstants.{SCRIPT_LIMIT}
+use Rattle.bench_lines.specs.declared.reading.TheConstants.{SCRIPT_LIMIT}
 use Rattle.card_bench.specs.BenchStates.{BenchState, off, on, bench_facts}
 use Rattle.card_bench.specs.Exchanges.{Arrives, CardTakes, Commands, Desk, Ends, Exchanges, GoesThrough, NextBlock}
 use Rattle.card_bench.specs.Exchanges.{toward_card, toward_reader}

@@ -5,11 +5,7 @@ pub mod Turns
 pub mod Lasting
 pub mod Guessing
 pub mod Plays
-pub mod OrderViews
-pub mod Orders
-pub mod Spellings
 pub mod Faults
-pub mod Scripts
 pub mod Prints
 pub mod DeskViews
 pub mod Endings

@@ -3,10 +3,10 @@ use Rattle.std.specs.Prelude.{◌≡◌, ◌≤◌, ℕ, List, [], ◌∷◌, �
 use Rattle.nvm_board.specs.declared.board.TheConstants.{LEAST_PAGES, SECRETS}
 use Rattle.nvm_board.specs.Facts.{Facts}
 use Rattle.card_core.specs.Factory.{factory_card}
-use Rattle.card_bench.specs.Orders.{Order}
+use Rattle.bench_lines.specs.Orders.{Order}
 use Rattle.card_bench.specs.BenchStates.{bench_card, bench_facts, IsOff}
 use Rattle.card_bench.specs.Exchanges.{Desk}
-use Rattle.card_bench.specs.Orders.{order_of}
+use Rattle.bench_lines.specs.Orders.{order_of}
 use Rattle.card_bench.specs.Performing.{Performs}
 use Rattle.card_bench.specs.Plays.{IsGood}
 use Rattle.card_bench.specs.Printouts.{Print, text_of}

@@ -3,15 +3,15 @@ use Rattle.std.specs.Prelude.{◌≡◌, ℕ, List, [], ◌++◌, Some}
 use Rattle.t1_link.specs.ReaderTable.{Reader}
 use Rattle.card_machine.specs.Sessions.{fresh_session}
 use Rattle.card_bench.specs.Exchanges.{Ended}
-use Rattle.card_bench.specs.Orders.{Order}
-use Rattle.card_bench.specs.Orders.{Nothing, On, Off, Free, Apdu, Block, Cut, Lose, Garble}
+use Rattle.bench_lines.specs.Orders.{Order}
+use Rattle.bench_lines.specs.Orders.{Nothing, On, Off, Free, Apdu, Block, Cut, Lose, Garble}
 use Rattle.card_bench.specs.BenchStates.{BenchHasCard}
 use Rattle.card_bench.specs.Exchanges.{Desk, GoesOn, left_by, printed_by}
 use Rattle.card_bench.specs.ExchangeWorlds.{GoesAs, StandIn, course_of, exchange_events}
-use Rattle.card_bench.specs.Orders.{IsSized}
+use Rattle.bench_lines.specs.Orders.{IsSized}
 use Rattle.card_bench.specs.Performing.{Performs}
 use Rattle.card_bench.specs.Printouts.{Print, prints_atr}
-use Rattle.card_bench.specs.Spellings.{IsOfBytes}
+use Rattle.bench_lines.specs.Spellings.{IsOfBytes}
 use Rattle.card_bench.specs.TreeMachine.{IsProperState, Served, tree_machine}
 use Rattle.card_bench.specs.Worlds.{Event, quiet}
 use Rattle.card_bench.specs.WorldLaw.{comes_of}

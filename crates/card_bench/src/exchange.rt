@@ -2,7 +2,7 @@
 ghost use Rattle.std.specs.Prelude.{◌≡◌, ◌≢◌, ◌≤◌, length, IfErr, OnOk};
 ghost use Rattle.t1_link.specs.declared.reader_end.Phase.TheVariants.{Busy};
 ghost use Rattle.t1_link.specs.ReaderTable.{reader_sends, reader_step, reader_times_out};
-ghost use Rattle.card_bench.specs.declared.order.TheConstants.{COMMAND_LIMIT};
+ghost use Rattle.bench_lines.specs.declared.order.TheConstants.{COMMAND_LIMIT};
 ghost use Rattle.card_bench.specs.BenchStates.{IsOn};
 ghost use Rattle.card_bench.specs.Exchanges.{Exchanged, Exchanges, GoesOn, Passes, ReaderTurns};
 ghost use Rattle.card_bench.specs.ExchangeViews.{ended_of, ends_of, flow_of, follows_of, next_block};

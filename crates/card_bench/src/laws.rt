@@ -1,21 +1,17 @@
 //! Laws of the definitions: each is a function whose contract is the law.
 
-ghost use Rattle.std.specs.Prelude.{◌≡◌, ◌≢◌, ◌⊎◌, ◌≤◌, ◌+◌, ◌*◌, ℕ, Bool, List, length, true, IsTrue, Ok, Err};
-ghost use Rattle.std.specs.Prelude.{None, Some};
-ghost use Rattle.hex.specs.Hex.{lower_digits, upper_digits};
+ghost use Rattle.std.specs.Prelude.{◌≡◌, ◌≢◌, ◌⊎◌, ◌≤◌, ◌+◌, ◌*◌, ℕ, Bool, List, length, true, IsTrue, Ok, Err, None};
 ghost use Rattle.pin_store.specs.declared.layout.TheConstants.{PINS};
 ghost use Rattle.t1_link.specs.Blocks.{Block as BlockValue, heard};
 ghost use Rattle.t1_link.specs.Garbled.{last_bit_turned};
 ghost use Rattle.t1_link.specs.declared.block.Fault.TheVariants.{WrongCheck};
 ghost use Rattle.card_bench.specs.declared.exchange.TheConstants.{LINE_BLOCKS};
 ghost use Rattle.card_bench.specs.declared.line.Line.{Line};
-ghost use Rattle.card_bench.specs.declared.order.TheConstants.{BLOCK_LIMIT, COMMAND_LIMIT, LINE_LIMIT, NUMBER_DIGITS};
-ghost use Rattle.card_bench.specs.Orders.{Order};
+ghost use Rattle.bench_lines.specs.Orders.{Order};
 ghost use Rattle.card_bench.specs.declared.playing.Item.{Item};
 ghost use Rattle.card_bench.specs.declared.playing.Item.TheVariants.{Mute};
 ghost use Rattle.card_bench.specs.declared.playing.Turn.{Turn};
 ghost use Rattle.card_bench.specs.declared.playing.Turn.TheVariants.{On};
-ghost use Rattle.card_bench.specs.declared.reading.TheConstants.{SCRIPT_LIMIT};
 ghost use Rattle.nvm_board.specs.Facts.{Facts};
 ghost use Rattle.card_bench.specs.BenchStates.{BenchState, BenchHasCard, bench_card, bench_facts};
 ghost use Rattle.card_bench.specs.Sweeps.{GivenByRun, IsStageOf};
@@ -25,13 +21,11 @@ ghost use Rattle.card_bench.specs.ExchangeWorlds.{ExchangeLaw};
 ghost use Rattle.card_bench.specs.Guessing.{GuessesFew, unblocking_guessed, value_guessed};
 ghost use Rattle.card_bench.specs.Lasting.{HasLeft};
 ghost use Rattle.card_bench.specs.Lines.{arriving, line_after};
-ghost use Rattle.card_bench.specs.Orders.{IsSized, order_of};
 ghost use Rattle.card_bench.specs.Performing.{Performs};
 ghost use Rattle.card_bench.specs.Plays.{IsGood};
 ghost use Rattle.card_bench.specs.Printouts.{prints_dark};
 ghost use Rattle.card_bench.specs.Prints.{IsFirstDesk, PrintsLines};
 ghost use Rattle.card_bench.specs.ScriptWorlds.{PowerOnLaw, LineLaw};
-ghost use Rattle.card_bench.specs.Spellings.{IsOfBytes, SpellingLaw};
 ghost use Rattle.card_bench.specs.TreeMachine.{tree_machine, IsProperState};
 ghost use Rattle.card_bench.specs.Turns.{GoodBlock, GoodTurn, Runs, dark_of, run_steps, turn_steps};
 ghost use Rattle.file_tree.specs.Formats.{is_format_2};
@@ -157,21 +151,7 @@ pub fn swept_cards_are_stages()
         → IsStageOf s.cut.armed command (bench_card s.rest.end.started) }
 {}
 
-/// The numbers of the script's language and of the line, as a reader sees them.
+/// How many blocks a command puts on the line at most, as a reader sees it.
 pub fn limits()
-    ensures script { (SCRIPT_LIMIT ≡ 16777216) × (LINE_LIMIT ≡ 1024) }
-    ensures orders { (COMMAND_LIMIT ≡ 261) × (BLOCK_LIMIT ≡ 300) × (NUMBER_DIGITS ≡ 6) }
     ensures blocks { LINE_BLOCKS ≡ 1000 }
-{}
-
-/// What a line asks for keeps the limits of lines, and its bytes are bytes: so the law of scripts in one world
-/// (`script_goes_on_in_a_world`) holds of every line that is carried out.
-pub fn orders_are_in_range()
-    ensures { (line : List ℕ) (order : Order) → order_of line ≡ Some order → IsSized order × IsOfBytes order }
-{}
-
-/// The line that spells an order, with hexadecimal digits of either case, asks for that order.
-pub fn spellings_are_read_back()
-    ensures upper { SpellingLaw upper_digits }
-    ensures lower { SpellingLaw lower_digits }
 {}

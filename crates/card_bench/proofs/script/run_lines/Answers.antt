@@ -1,12 +1,12 @@
 use Rattle.std.proofs.Common.{◌≡◌, ◌+◌, ◌-◌, ℕ, List, Some, None, IfSome, Err, subst, sym, ◌∙◌, ap, arith}
-use Rattle.card_bench.specs.declared.reading.LineFault.TheVariants.{Read, TooLong, TooMuch}
+use Rattle.bench_lines.specs.declared.reading.LineFault.TheVariants.{Read, TooLong, TooMuch}
 use Rattle.card_bench.specs.Endings.{IsRunToLine}
-use Rattle.card_bench.specs.OrderViews.{order_with}
-use Rattle.card_bench.specs.Orders.{order_of}
-use Rattle.card_bench.specs.Scripts.{TakesLine}
+use Rattle.bench_lines.specs.OrderViews.{order_with}
+use Rattle.bench_lines.specs.Orders.{order_of}
+use Rattle.bench_lines.specs.Scripts.{TakesLine}
 use Rattle.card_bench.proofs.ScriptLines.{begins_run, goes_on, is_done, is_bad, is_too_long, is_unread, is_unwritten}
 use Rattle.card_bench.proofs.ScriptLines.{speaks, HasRun}
-use Rattle.card_bench.proofs.SizedOrders.{order_of-in_range}
+use Rattle.bench_lines.specs.laws.SizedOrders.{order_of-in_range}
 use Rattle.card_bench.proofs.script.run_lines.Goals as goal
 
 pub returns-in-Err-TooLong-clause-stopped : goal.returns-in-Err-TooLong-clause-stopped

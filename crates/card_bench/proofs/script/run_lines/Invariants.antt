@@ -1,6 +1,6 @@
 use Rattle.std.proofs.Common.{◌≤◌, ◌+◌, ◌-◌}
 use Rattle.card_bench.specs.Plays.{IsGood}
-use Rattle.card_bench.specs.declared.reading.TheConstants.{SCRIPT_LIMIT}
+use Rattle.bench_lines.specs.declared.reading.TheConstants.{SCRIPT_LIMIT}
 use Rattle.card_bench.proofs.ScriptLines.{HasRun}
 use Rattle.card_bench.proofs.script.run_lines.Given as goal
 

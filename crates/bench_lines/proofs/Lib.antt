@@ -1,0 +1,3 @@
+mod HexLimits
+mod PartsTaken
+mod Spelled

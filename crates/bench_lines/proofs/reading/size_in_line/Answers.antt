@@ -1,0 +1,36 @@
+use Rattle.std.proofs.Common.{◌≡◌, ◌<◌, ◌≤◌, ◌+◌, ◌==◌, ℕ, zero, suc, Bool, true, false, List, length, slice_index}
+use Rattle.std.proofs.Common.{take, arith, refl, subst}
+use Rattle.std.proofs.lemmas.Bool.{eqb-true}
+use Rattle.std.proofs.lemmas.List.Elements.{All-more, All-nil}
+use Rattle.bench_lines.specs.Scripts.{IsInLine}
+use Rattle.bench_lines.proofs.reading.size_in_line.Goals as goal
+
+is-false : (test : Bool) → (test ≡ true → ⊥) → test ≡ false
+is-false true never = absurd (never refl)
+is-false false never = refl
+
+-- bytes before the first line feed have none
+in-line : (bytes : List ℕ) (size : ℕ) → size ≤ length bytes
+    → ((k : ℕ) → k < size → (slice_index bytes k == 10) ≡ true → ⊥) → IsInLine (take size bytes)
+in-line bytes zero most none = All-nil (λ (b : ℕ). (b == 10) ≡ false)
+in-line bytes (suc n) most none =
+    let lt : n < length bytes = omega (arith, most) in
+    let one : n + 1 ≡ suc n = omega arith in
+    let other = is-false (slice_index bytes n == 10) (none n (omega arith)) in
+    subst (λ (m : ℕ). IsInLine (take m bytes)) one
+    (All-more (λ (b : ℕ). (b == 10) ≡ false) bytes n 0 lt
+    (in-line bytes n (omega (arith, most)) (λ k low. none k (omega (arith, low)))) other)
+
+pub returns-in-Some-clause-before : goal.returns-in-Some-clause-before
+returns-in-Some-clause-before c =
+    let found = c.in-Some.ensures in
+    let high = found.0.high in
+    in-line c.args.bytes.now c.in-Some.size (omega (arith, high)) (λ k low. found.0.before k (omega arith) low)
+
+pub returns-in-Some-clause-at : goal.returns-in-Some-clause-at
+returns-in-Some-clause-at c = λ lt. eqb-true (slice_index c.args.bytes.now c.in-Some.size) 10 c.in-Some.ensures.1
+
+pub returns-in-None-clause-before : goal.returns-in-None-clause-before
+returns-in-None-clause-before c =
+    let none = c.in-None.ensures in
+    in-line c.args.bytes.now (length c.args.bytes.now) (omega arith) (λ k low. none k (omega arith) low)

@@ -1,0 +1,38 @@
+-- How each order of a script is spelled.
+use Rattle.std.specs.Prelude.{◌<◌, ◌/◌, ◌%◌, ◌≡◌, ℕ, List, [], ◌∷◌, ◌++◌, codes, Some}
+use Rattle.std.specs.Fmt.{decimal}
+use Rattle.apdu_core.specs.OfBytes.{AreBytes}
+use Rattle.hex.specs.Hex.{encode_with}
+use Rattle.bench_lines.specs.Orders.{Order}
+use Rattle.bench_lines.specs.Orders.{Nothing, On, Off, Free, Apdu, Block, Cut, Lose, Garble}
+use Rattle.bench_lines.specs.Orders.{IsSized, order_of}
+
+-- The line that asks for it, with these sixteen digits. Two digits spell a byte, and four the 16 bits of a mask; a
+-- number stands in decimal digits, and a space (32) parts it from the mask.
+abbrev pub spelling : List ℕ → Order → List ℕ
+spelling digits Nothing = []
+spelling digits On = codes "on"
+spelling digits Off = codes "off"
+spelling digits Free = codes "free"
+spelling digits (Apdu command) = codes "apdu " ++ encode_with digits command
+spelling digits (Block block) = codes "block " ++ encode_with digits block
+spelling digits (Cut number mask) = codes "cut " ++ decimal number ++ 32
+    ∷ encode_with digits (mask / 256 ∷ mask % 256 ∷ [])
+spelling digits (Lose number) = codes "lose " ++ decimal number
+spelling digits (Garble number) = codes "garble " ++ decimal number
+
+-- its bytes are bytes, and its mask has 16 bits
+abbrev pub IsOfBytes : Order → Type 0
+IsOfBytes Nothing = Unit {0}
+IsOfBytes On = Unit {0}
+IsOfBytes Off = Unit {0}
+IsOfBytes Free = Unit {0}
+IsOfBytes (Apdu command) = AreBytes command
+IsOfBytes (Block block) = AreBytes block
+IsOfBytes (Cut number mask) = mask < 65536
+IsOfBytes (Lose number) = Unit {0}
+IsOfBytes (Garble number) = Unit {0}
+
+-- The line that spells an order asks for it, for every order in its range.
+abbrev pub SpellingLaw : List ℕ → Type 0
+SpellingLaw digits = (order : Order) → IsSized order → IsOfBytes order → order_of (spelling digits order) ≡ Some order

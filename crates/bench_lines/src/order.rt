@@ -1,0 +1,195 @@
+//! What a line of a script asks for.
+ghost use Rattle.std.specs.Prelude.{◌≡◌, ◌≤◌, ℕ, List, [], length, true};
+ghost use Rattle.std.specs.List.{list_all};
+ghost use Rattle.std.specs.Str.Parse.{digits_value};
+ghost use Rattle.std.specs.Char.{is_ascii_digit};
+ghost use Rattle.hex.specs.Hex.{decode_of};
+ghost use Rattle.bench_lines.specs.OrderViews.{asked_with, given_if};
+ghost use Rattle.bench_lines.specs.Orders.{bytes_in, cut_in, mask_by, number_in};
+
+use std::marker::Model;
+use t1_link::LONGEST_COMMAND;
+
+/// The most bytes of a line, without its end.
+pub(crate) const LINE_LIMIT: usize = 1024;
+
+/// The most bytes of a command that a line gives.
+pub const COMMAND_LIMIT: usize = LONGEST_COMMAND;
+
+/// The most bytes of a block line.
+const BLOCK_LIMIT: usize = 300;
+
+/// The most digits of a number.
+const NUMBER_DIGITS: usize = 6;
+
+/// The bytes that a line gives: a list of at most 300 bytes. `Order::parse` puts those of a command or a block there.
+// What stands in the array behind them tells nothing.
+#[derive(Drop)]
+pub struct GivenBytes {
+    bytes: [u8; BLOCK_LIMIT],
+    size: usize,
+}
+
+impl Model for GivenBytes {
+    ghost use Rattle.std.specs.Prelude.{◌≤◌, ℕ, List, take};
+    ghost use Rattle.bench_lines.specs.declared.order.TheConstants.{BLOCK_LIMIT};
+
+    ghost Value = { List ℕ };
+
+    ghost view = { λ given. take given.size given.bytes };
+
+    ghost invariant = { λ given. given.size ≤ BLOCK_LIMIT };
+}
+
+impl GivenBytes {
+    /// No bytes.
+    pub fn new() -> GivenBytes
+        ensures { result ≡ [] }
+    {
+        GivenBytes {
+            bytes: [0; BLOCK_LIMIT],
+            size: 0,
+        }
+    }
+
+    /// The bytes.
+    pub fn as_slice(&self) -> &[u8]
+        ensures { result.now ≡ self.now }
+    {
+        &self.bytes[..self.size]
+    }
+
+    /// Takes the bytes that hexadecimal digits spell, where they are 1 to `limit`.
+    fn decode(&mut self, digits: &[u8], limit: usize) -> bool
+        requires { limit ≤ BLOCK_LIMIT }
+        ensures { given_if result self.new ≡ bytes_in digits.now limit }
+    {
+        let size = digits.len() / 2;
+        // Two comparisons, since what `contains` tells of a range has to be proved end by end.
+        if size == 0 || size > limit {
+            return false;
+        }
+        self.size = size;
+        match hex::decode_to_slice(digits, &mut self.bytes[..size]) {
+            Ok(()) => true,
+            Err(_) => false,
+        }
+    }
+}
+
+/// What a line of a script asks for. The bytes that it gives aren't in it: they stand in a buffer.
+#[derive(Clone, Copy)]
+pub enum Order {
+    /// Nothing: an empty line or a comment.
+    Nothing,
+    /// Power off if it is on, and then a start.
+    On,
+    /// Power off.
+    Off,
+    /// What is free.
+    Free,
+    /// A command, 1 to 261 bytes, through both ends of the link.
+    Apdu,
+    /// A block, 1 to 300 bytes, straight to the card's end.
+    Block,
+    /// The device write with this number from now, 1 to 999,999, is cut, with these words of it new.
+    Cut { number: u32, mask: u16 },
+    /// The block with this number from now, 1 to 999,999, is lost.
+    Lose(u32),
+    /// The block with this number from now, 1 to 999,999, is garbled.
+    Garble(u32),
+}
+
+impl Order {
+    ghost use Rattle.bench_lines.specs.Orders.{order_of};
+
+    /// What a line, without its end, asks for: None where that is nothing that is known, or the line has more than
+    /// 1,024 bytes. The bytes of a command or a block go to the buffer; what it held before is gone then.
+    #[tactic(auto, unfolding(crate::specs::Orders::order_of))]
+    pub fn parse(line: &[u8], given: &mut GivenBytes) -> Option<Order>
+        ensures { asked_with result given.new ≡ order_of line.now }
+    {
+        if line.len() > LINE_LIMIT {
+            None
+        } else if line.is_empty() || line[0] == b'#' {
+            Some(Order::Nothing)
+        } else if line == b"on".as_slice() {
+            Some(Order::On)
+        } else if line == b"off".as_slice() {
+            Some(Order::Off)
+        } else if line == b"free".as_slice() {
+            Some(Order::Free)
+        } else if let Some(digits) = line.strip_prefix(b"apdu ") {
+            given.decode(digits, COMMAND_LIMIT).then_some(Order::Apdu)
+        } else if let Some(digits) = line.strip_prefix(b"block ") {
+            given.decode(digits, BLOCK_LIMIT).then_some(Order::Block)
+        } else if let Some(words) = line.strip_prefix(b"cut ") {
+            cut_of(words)
+        } else if let Some(digits) = line.strip_prefix(b"lose ") {
+            number_of(digits).map(Order::Lose)
+        } else if let Some(digits) = line.strip_prefix(b"garble ") {
+            number_of(digits).map(Order::Garble)
+        } else {
+            None
+        }
+    }
+}
+
+/// The number that decimal digits spell, where they are 1 to 6 and it is at least 1.
+fn number_of(digits: &[u8]) -> Option<u32>
+    ensures { result ≡ number_in digits.now }
+{
+    if digits.is_empty() || digits.len() > NUMBER_DIGITS || !are_decimal(digits) {
+        return None;
+    }
+    let number = value_of(digits);
+    if number == 0 { None } else { Some(number) }
+}
+
+/// A cut: a number, a space, and four hexadecimal digits.
+fn cut_of(words: &[u8]) -> Option<Order>
+    ensures { (given : List ℕ) → asked_with result given ≡ cut_in words.now }
+{
+    let [number @ .., b' ', first, second, third, fourth] = words else {
+        return None;
+    };
+    match (
+        number_of(number),
+        mask_of(&[*first, *second, *third, *fourth]),
+    ) {
+        (Some(number), Some(mask)) => Some(Order::Cut { number, mask }),
+        _ => None,
+    }
+}
+
+/// The number that four hexadecimal digits spell.
+fn mask_of(digits: &[u8; 4]) -> Option<u16>
+    ensures { result ≡ mask_by (decode_of digits.now) }
+{
+    let mut bytes = [0; 2];
+    match hex::decode_to_slice(digits, &mut bytes) {
+        Ok(()) => Some(u16::from_be_bytes(bytes)),
+        Err(_) => None,
+    }
+}
+
+/// Whether each of these is a decimal digit.
+fn are_decimal(digits: &[u8]) -> bool
+    ensures { result ≡ list_all is_ascii_digit digits.now }
+{
+    digits.iter().all(|digit| digit.is_ascii_digit())
+}
+
+/// The number that at most 6 decimal digits spell.
+fn value_of(digits: &[u8]) -> u32
+    requires decimal { list_all is_ascii_digit digits.now ≡ true }
+    requires size { length digits.now ≤ NUMBER_DIGITS }
+    ensures value { result ≡ digits_value 10 digits.now }
+    ensures bound { result ≤ 999999 }
+{
+    let mut value = 0;
+    for digit in digits {
+        value = value * 10 + u32::from(*digit - b'0');
+    }
+    value
+}
