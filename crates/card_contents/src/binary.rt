@@ -61,8 +61,8 @@ pub fn update_file<B: Board>(
     requires kept { IsKept store.old current.old }
     requires target { IsTarget place.target }
     requires bytes { HasBetween 1 255 bytes.now }
-    ensures { ServesInPlace (update_binary place.target place.offset bytes.now) store.old current.old store.new current.new []
-        (reply result) }
+    ensures { ServesInPlace (update_binary place.target place.offset bytes.now) store.old current.old store.new
+        current.new [] (reply result) }
 {
     let file = find_file(store, current, place.target, UPDATING)?;
     let body = body_of(&file.entry);

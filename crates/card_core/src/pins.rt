@@ -195,8 +195,8 @@ fn tries_status(left: u8) -> Sw
     Sw(0x63C0 + u16::from(left))
 }
 
-/// Ends an attempt on a PIN: the session knows of it (`Current::after_attempt`), and the status word is the result, which
-/// tells the tries that are left where the value was wrong.
+/// Ends an attempt on a PIN: the session knows of it (`Current::after_attempt`), and the status word is the result,
+/// which tells the tries that are left where the value was wrong.
 fn conclude(current: &mut Current, pin: u8, shown: Shown, outcome: Outcome) -> Sw
     requires { IsPinNumber pin }
     ensures session { current.new ≡ tried_from current.old pin (unverifies shown) outcome }

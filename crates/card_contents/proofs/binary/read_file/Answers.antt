@@ -49,10 +49,11 @@ returns-in_err-read g c =
     c.from_residual-in_err-read.ensures.1 reads
     (body-said _ _ _ e c.in_err-read.ensures.refusal c.in_err-read.ensures.refused (λ status past kept. (
       kept.0,
-      found-read-past (committed old) c.requires.kept.ready.usable.committed_size c.requires.kept.card x c.args.place.target
-          c.in_ok-file.file.number c.in_ok-file.file.entry c.in_ok-file.ensures.told c.body_of-body.result
-          c.body_of-body.ensures (committed mid) c.find_file.ensures.store.only.keeps.committed_words c.args.place.offset
-          c.args.expected status past,
+      found-read-past (committed old) c.requires.kept.ready.usable.committed_size c.requires.kept.card x
+          c.args.place.target c.in_ok-file.file.number c.in_ok-file.file.entry c.in_ok-file.ensures.told
+          c.body_of-body.result
+          c.body_of-body.ensures (committed mid) c.find_file.ensures.store.only.keeps.committed_words
+          c.args.place.offset c.args.expected status past,
     )))
 
 pub returns : goal.returns

@@ -17,7 +17,8 @@ pub returns-in_err-file : goal.returns-in_err-file
 returns-in_err-file g c =
     let old = c.args.store.now in
     let x = c.args.current.now in
-    halted-in-place (update_binary c.args.place.target c.args.place.offset c.args.bytes.now) old x c.find_file.new.store (λ _. tt)
+    halted-in-place (update_binary c.args.place.target c.args.place.offset c.args.bytes.now) old x
+    c.find_file.new.store (λ _. tt)
     c.requires.kept.card c.requires.kept.current [] refl _ _ c.from_residual.ensures.1 c.in_err-file.ensures.store _
     (update-refused (card_in old) (session_in old x) c.args.place.target c.args.place.offset c.args.bytes.now)
     c.in_err-file.ensures.told
@@ -25,7 +26,8 @@ returns-in_err-file g c =
 pub update-requires-clause-body : goal.update-requires-clause-body
 update-requires-clause-body g c =
     found-body (committed c.args.store.now) c.requires.kept.ready.usable.committed_size c.requires.kept.card
-    c.args.current.now c.args.place.target Update c.in_ok-file.file.number c.in_ok-file.file.entry c.in_ok-file.ensures.told
+    c.args.current.now c.args.place.target Update c.in_ok-file.file.number c.in_ok-file.file.entry
+    c.in_ok-file.ensures.told
     c.body_of-body.result c.body_of-body.ensures (committed c.find_file.new.store)
     c.find_file.ensures.store.only.keeps.committed_words
 

@@ -21,7 +21,8 @@ returns g c = record {
       subst (λ (y : Current). Serves (change_life_cycle c.args.change c.args.subject) old x new y [] (Ok DONE))
       (sym c.at.ensures)
       (change-made old mid new c.requires.kept.ready c.requires.kept.card x
-      c.requires.kept.current c.args.change c.args.subject c.in_ok-changed.changed found c.find_change.ensures.store.only
+      c.requires.kept.current c.args.change c.args.subject c.in_ok-changed.changed found
+      c.find_change.ensures.store.only
       c.set_life_cycle.ensures.any_exit c.set_life_cycle.ensures.by_gate c.set_life_cycle.ensures.stays
       c.set_life_cycle.ensures.store.reports c.set_life_cycle.ensures.store.writes c.in_ok-set_life_cycle.ensures.done
       c.in_ok-set_life_cycle.ensures.store.ready);
@@ -31,7 +32,8 @@ returns g c = record {
       let new = c.set_life_cycle.new.store in
       let found = c.in_ok-changed.ensures.told in
       change-space old mid new c.requires.kept.ready c.requires.kept.card x
-      c.requires.kept.current c.args.change c.args.subject c.in_ok-changed.changed found c.find_change.ensures.store.only
+      c.requires.kept.current c.args.change c.args.subject c.in_ok-changed.changed found
+      c.find_change.ensures.store.only
       c.set_life_cycle.ensures.any_exit c.set_life_cycle.ensures.by_gate c.set_life_cycle.ensures.stays
       c.set_life_cycle.ensures.store.reports c.set_life_cycle.ensures.store.writes c.in_ok-set_life_cycle.ensures.done;
 }
@@ -40,8 +42,9 @@ pub returns-in_err-changed : goal.returns-in_err-changed
 returns-in_err-changed g c = record {
   serves = let old = c.args.store.now in
       let x = c.args.current.now in
-      halted (change_life_cycle c.args.change c.args.subject) old x c.find_change.new.store (λ _. tt) c.requires.kept.card
-      c.requires.kept.current [] refl _ _ c.from_residual.ensures.1 c.in_err-changed.ensures.store _
+      halted (change_life_cycle c.args.change c.args.subject) old x c.find_change.new.store (λ _. tt)
+      c.requires.kept.card c.requires.kept.current [] refl _ _ c.from_residual.ensures.1
+      c.in_err-changed.ensures.store _
       (λ status. change-refused (card_in old) (session_in old x) c.args.change c.args.subject status)
       c.in_err-changed.ensures.told;
   space = ok_anyway _ _

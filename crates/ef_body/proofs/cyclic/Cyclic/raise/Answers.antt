@@ -43,7 +43,8 @@ add-requires g c =
     let m = committed c.args.store.now in
     let at = c.in_ok-newest.ensures.found in
     let some = received_last c.args.self 1 c.in_ok-newest.newest at in
-    let read = store_ok c.read.result c.in_ok-from_store.ensures _ c.read.ensures.bytes ∙ received_record c.args.self 1 c.in_ok-newest.newest at m in
+    let read = store_ok c.read.result c.in_ok-from_store.ensures _ c.read.ensures.bytes
+    ∙ received_record c.args.self 1 c.in_ok-newest.newest at m in
     let long = ap (λ (l : List ℕ). length l) read
     ∙ length-record m c.args.self 1 c.requires.ready.usable.committed_size c.requires.body (omega arith) some in
     (search rules, omega (arith, long, c.requires.sent))
@@ -55,7 +56,8 @@ returns-then-add-clause-sum g c =
     let at = c.in_ok-newest.ensures.found in
     let some = received_last c.args.self 1 c.in_ok-newest.newest at in
     let many = length-cyclic m c.args.self c.requires.body in
-    let read = store_ok c.read.result c.in_ok-from_store.ensures _ c.read.ensures.bytes ∙ received_record c.args.self 1 c.in_ok-newest.newest at m in
+    let read = store_ok c.read.result c.in_ok-from_store.ensures _ c.read.ensures.bytes
+    ∙ received_record c.args.self 1 c.in_ok-newest.newest at m in
     let long = ap (λ (l : List ℕ). length l) read
     ∙ length-record m c.args.self 1 c.requires.ready.usable.committed_size c.requires.body (omega arith) some in
     record {
@@ -75,7 +77,8 @@ returns-clause-sum g c =
     let at = c.in_ok-newest.ensures.found in
     let some = received_last c.args.self 1 c.in_ok-newest.newest at in
     let many = length-cyclic m c.args.self c.requires.body in
-    let read = store_ok c.read.result c.in_ok-from_store.ensures _ c.read.ensures.bytes ∙ received_record c.args.self 1 c.in_ok-newest.newest at m in
+    let read = store_ok c.read.result c.in_ok-from_store.ensures _ c.read.ensures.bytes
+    ∙ received_record c.args.self 1 c.in_ok-newest.newest at m in
     let long = ap (λ (l : List ℕ). length l) read
     ∙ length-record m c.args.self 1 c.requires.ready.usable.committed_size c.requires.body (omega arith) some in
     let sum = is_sum c.args.self.record_length rs c.args.sent.now c.read.new.bytes.items c.add.new.number.items
