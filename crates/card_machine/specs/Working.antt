@@ -2,22 +2,19 @@
 use Rattle.std.specs.Prelude.{◌≡◌, ◌≢◌, ◌≤◌, ◌==◌, ◌&&◌, ℕ, Bool, true, false, not, nat_lt}
 use Rattle.std.specs.Prelude.{nat_le, if◌then◌else◌}
 use Rattle.std.specs.Prelude.{◌||◌, IsTrue, List, [], length, Option, Some}
-use Rattle.std.specs.Prelude.{None, map, option_map, unwrap_or, IfSome}
-use Rattle.card_rules.specs.declared.life_cycle.LifeCycle.{LifeCycle}
-use Rattle.card_rules.specs.declared.life_cycle.LifeCycle.TheVariants.{Activated}
+use Rattle.std.specs.Prelude.{None, map, option_map, IfSome}
 use Rattle.apdu_core.specs.declared.binary.Target.{Target}
 use Rattle.apdu_core.specs.declared.binary.Target.TheVariants as target
 use Rattle.card_rules.specs.declared.status.Sw.{Sw}
 use Rattle.card_rules.specs.declared.status.TheConstants.Sw.{ACCESS_DENIED, CONDITIONS_NOT_SATISFIED, DONE, END_REACHED}
 use Rattle.card_rules.specs.declared.status.TheConstants.Sw.{WRONG_STRUCTURE}
-use Rattle.card_rules.specs.LifeCycle.{life_cycle_at}
 use Rattle.card_rules.specs.Pins.{no_pins, with_pin, without_pin}
 use Rattle.pin_store.specs.declared.errors.Outcome.{Outcome as AttemptEnd}
 use Rattle.pin_store.specs.declared.errors.Outcome.TheVariants.{Matched, Wrong}
 use Rattle.undo_journal.specs.Memory.{Memory, committed, IsReady}
 use Rattle.file_tree.specs.declared.entry.Entry.{Entry}
 use Rattle.file_tree.specs.declared.space.FreeSpace.{FreeSpace}
-use Rattle.file_tree.specs.Entries.{name_of, rule_of}
+use Rattle.file_tree.specs.Entries.{life_told, name_of, rule_of}
 use Rattle.card_machine.specs.Records.{has_records, is_cyclic, is_linear}
 use Rattle.file_tree.specs.Table.{table, entry_in, path_of, IsChild, IsFileEntry}
 use Rattle.apdu_core.specs.declared.select.Returned.{Returned}
@@ -157,10 +154,6 @@ pub record IsNamed (m : List ℕ) (x : Current) (target : Target) (need : Need) 
 abbrev pub end_status : ℕ → ℕ → Sw
 end_status rest expected = if nat_lt rest expected then END_REACHED else DONE
 
--- the life cycle of an entry's file
-abbrev pub life_of : Entry → LifeCycle
-life_of entry = unwrap_or (life_cycle_at entry.life) Activated
-
 -- a used entry, whose file a template can tell
 pub record IsToldEntry (entry : Entry) : Type 0 where
   pub used : entry.kind ≢ 0
@@ -191,7 +184,7 @@ kind_in_entry entry =
 abbrev pub parameters_in : Entry → Fcp
 parameters_in entry = record {
   identifier = entry.identifier;
-  life_cycle = life_of entry;
+  life_cycle = life_told entry;
   rule = rule_of entry;
   kind = kind_in_entry entry;
 }

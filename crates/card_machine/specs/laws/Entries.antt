@@ -12,7 +12,7 @@ use Rattle.apdu_core.specs.Selections.{Selection}
 use Rattle.apdu_core.specs.Requests.{select}
 use Rattle.file_tree.specs.declared.entry.Entry.{Entry}
 use Rattle.file_tree.specs.Cards.{Body, File, Tree, dedicated, elementary}
-use Rattle.file_tree.specs.Entries.{file_of}
+use Rattle.file_tree.specs.Entries.{file_of, life_told}
 use Rattle.file_tree.specs.Table.{table, entry_in, path_of, IsUsed}
 use Rattle.file_tree.specs.Trees.{tree_of, file_in}
 use Rattle.file_tree.specs.laws.Nodes.{get-used}
@@ -27,7 +27,7 @@ use Rattle.card_machine.specs.Sessions.{marked}
 use Rattle.card_machine.specs.Standing.{card_of, IsCard}
 use Rattle.card_machine.specs.Steps.{served}
 use Rattle.card_machine.specs.Templates.{template_of}
-use Rattle.card_machine.specs.Working.{current_at, data_in, life_of, outcome, session_of, template_in, IsCurrent}
+use Rattle.card_machine.specs.Working.{current_at, data_in, outcome, session_of, template_in, IsCurrent}
 use Rattle.card_machine.specs.Working.{IsElementary}
 use Rattle.card_machine.specs.laws.SelectSteps.{select-less, select-reached}
 use Rattle.card_machine.specs.laws.Told.{parameters-are}
@@ -49,7 +49,7 @@ module _ (m : List ℕ) (words : IsCard m) (e : ℕ) (used : IsUsed (table m) e)
   pub there : get (card_of m).tree (path_of (table m) e) ≡ Some (file_in m e)
   there = ap (λ (tree : Tree). get tree (path_of (table m) e)) (card-tree m) ∙ get-used m words.tree.entries e used
 
-  pub life-is : (file_in m e).life ≡ life_of entry
+  pub life-is : (file_in m e).life ≡ life_told entry
   unfolding file_of
   life-is = refl
 
@@ -133,7 +133,7 @@ module _ (m : List ℕ) (words : IsCard m) (e : ℕ) (used : IsUsed (table m) e)
     pub select-entry : asks_less expected told ≡ false
         → served (card_of m) (session_of (table m) x) (select selection returned expected)
         ≡ outcome (card_of m) (session_of (table m) (current_at x e entry)) (given expected told)
-        (selection_status (life_of entry))
+        (selection_status (life_told entry))
     select-entry enough =
         let session = selecting-entry x in
         select-reached (card_of m) (session_of (table m) x) selection returned expected (path_of (table m) e)

@@ -11,7 +11,7 @@ use Rattle.fcp_template.specs.declared.fcp.ShortIdentifier.TheVariants.{Empty, G
 use Rattle.file_tree.specs.declared.entry.Entry.{Entry}
 use Rattle.file_tree.specs.Cards.{transparent, linear, cyclic, dedicated, elementary}
 use Rattle.file_tree.specs.Entries.{file_of, free_entry, capacity_of, cyclic_records, kind_of, linear_records}
-use Rattle.file_tree.specs.Entries.{name_of, rule_of, slot}
+use Rattle.file_tree.specs.Entries.{life_told, name_of, rule_of, slot}
 use Rattle.file_tree.specs.Table.{table, entry_in, path_of, IsFileEntry, IsRecordBody, IsUsed}
 use Rattle.file_tree.specs.Trees.{content, file_in}
 use Rattle.file_tree.specs.laws.Nodes.{used_small}
@@ -21,7 +21,7 @@ use Rattle.file_tree.specs.laws.Tables.{length-table}
 use Rattle.card_machine.specs.laws.FoundLaws.{other-of}
 use Rattle.card_machine.specs.Standing.{IsCard}
 use Rattle.card_machine.specs.Templates.{kind_told, parameters_of, records_told, short_told}
-use Rattle.card_machine.specs.Working.{kind_in_entry, life_of, name_in_entry, parameters_in, records_in_entry}
+use Rattle.card_machine.specs.Working.{kind_in_entry, name_in_entry, parameters_in, records_in_entry}
 use Rattle.card_machine.specs.Working.{short_in_entry, IsToldEntry}
 use Rattle.card_machine.specs.laws.Contents.{room-is}
 
@@ -134,4 +134,4 @@ module _ (m : List ℕ) (sized : IsMemory m) (words : IsCard m) (e : ℕ) (used 
       let id = identifier_path (table m) words.tree.entries e used in
       let kind = kind-is entry used told-entry.file (content m entry) (name_long m e below)
       (room-is m e sized words below) in
-      λ i. record { identifier = id i; life_cycle = life_of entry; rule = rule_of entry; kind = kind i }
+      λ i. record { identifier = id i; life_cycle = life_told entry; rule = rule_of entry; kind = kind i }
