@@ -1,19 +1,16 @@
 //! INCREASE (ETSI TS 102 221, 11.1.8).
 ghost use Rattle.std.specs.Prelude.{◌≡◌, ◌≤◌, ◌+◌, ◌++◌, ◌||◌, nat_lt, [], length, Some};
-ghost use Rattle.undo_journal.specs.Memory.{committed};
 ghost use Rattle.apdu_core.specs.Requests.{increase as increasing};
-ghost use Rattle.card_contents.specs.RecordGuards.{IsIncreasable};
-ghost use Rattle.card_machine.specs.Serving.{LooksFor, ServesInPlace};
+ghost use Rattle.card_machine.specs.Serving.{ServesInPlace};
 ghost use Rattle.card_machine.specs.Stops.{reply};
 ghost use Rattle.card_machine.specs.Working.{IsKept};
 
-use crate::record_file::RecordFile;
 use crate::records::find_records;
 use apdu_core::{Answer, Sw, Target};
 use card_machine::{Current, Need, ResponseData, Stop, Structure, asks_less, give, right_length};
 use card_rules::AccessBit;
 use card_rules::limits::MOST_ANSWER_DATA;
-use ef_body::{Cyclic, RecordSlot};
+use ef_body::Cyclic;
 use undo_journal::{Board, Store};
 
 /// What INCREASE needs of its file.
@@ -22,15 +19,10 @@ const INCREASING: Need = Need {
     bit: AccessBit::Update,
 };
 
-/// A file whose newest record is raised, and the receipt of that record.
-#[derive(Clone, Copy)]
-struct Raised {
-    file: RecordFile,
-    slot: RecordSlot,
-}
-
 /// INCREASE: the sum of the newest record of the current cyclic file and the sent number is the new record 1, which is
 /// the current one then. The new record, and then what was sent, go into `answer`, and the status word is the result.
+/// It is refused by its file; the sent number is too long; there is no record; the sum is too long; Le asks for less
+/// than the answer.
 pub fn increase<B: Board>(
     store: &mut Store<B>,
     current: &mut Current,
@@ -44,39 +36,20 @@ pub fn increase<B: Board>(
     ensures { ServesInPlace (increasing amount.now expected) store.old current.old store.new current.new
         answer.new.items (reply result) }
 {
-    let mut sum = ResponseData::new();
-    let found = find_increased(store, current, amount, expected, &mut sum)?;
-    found.slot.replace_oldest(store, &sum)?;
-    give(expected, &answer_of(&sum, amount), answer);
-    *current = current.pointing(Target::Current, found.file.number, Some(1));
-    Ok(Sw::DONE)
-}
-
-/// The newest record of the file that INCREASE is for, and the new one, put into `sum`; or else the refusal: by the
-/// current file; the sent number is too long; there is no record; the sum is too long; Le asks for less than the
-/// answer.
-fn find_increased<B: Board>(
-    store: &mut Store<B>,
-    current: &Current,
-    amount: &[u8],
-    expected: Option<u8>,
-    sum: &mut ResponseData,
-) -> Result<Raised, Stop>
-    requires kept { IsKept store.old current.now }
-    requires few { length amount.now ≤ 255 }
-    ensures { LooksFor (increasing amount.now expected) store.old current.now store.new result (λ found.
-        IsIncreasable (committed store.old) current.now amount.now expected found.file found.slot sum.new.items) }
-{
     let file = find_records(store, current, Target::Current, INCREASING)?;
     if is_too_long(file.ring, amount) {
         return Err(Stop::Refused(Sw::WRONG_LENGTH));
     }
-    let slot = file.ring.raise(store, amount, sum)?;
-    let response = answer_of(sum, amount);
+    let mut sum = ResponseData::new();
+    let slot = file.ring.raise(store, amount, &mut sum)?;
+    let response = answer_of(&sum, amount);
     if asks_less(expected, &response) {
         return Err(Stop::Refused(right_length(&response)));
     }
-    Ok(Raised { file, slot })
+    slot.replace_oldest(store, &sum)?;
+    give(expected, &response, answer);
+    *current = current.pointing(Target::Current, file.number, Some(1));
+    Ok(Sw::DONE)
 }
 
 /// What INCREASE answers: the new record, and then what was sent.
