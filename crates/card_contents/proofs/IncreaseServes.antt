@@ -1,5 +1,5 @@
--- What INCREASE leaves, where nothing refuses it: first it only reads, up to the store `mid`, and then it writes.
-use Rattle.std.proofs.Common.{◌≡◌, ◌⊎◌, ◌≤◌, ◌+◌, ◌++◌, ◌||◌, nat_lt, ℕ, true, false, List, [], length, Option}
+-- What INCREASE leaves: first it only reads, up to the store `mid`, and then, where nothing refused it, it writes.
+use Rattle.std.proofs.Common.{◌≡◌, ◌⊎◌, ◌≤◌, ◌+◌, ◌++◌, ℕ, true, false, List, [], length, Option}
 use Rattle.std.proofs.Common.{None, Some, Result, Ok, refl, sym, ◌∙◌, ap, subst, arith}
 use Rattle.std.specs.Result.{IsErrAnd}
 use Rattle.nvm_board.specs.Facts.{IsMemory}
@@ -41,7 +41,7 @@ use Rattle.card_machine.specs.Working.{card_in, outcome, pointing_from, session_
 use Rattle.card_contents.proofs.RecordBodies.{replaced-fits}
 use Rattle.card_contents.proofs.Halting.{halted-in-place}
 use Rattle.card_contents.proofs.RecordSums.{increase-commits, increase-effect, increase-free, increase-less}
-use Rattle.card_contents.proofs.RecordSums.{length-spelled, short-fits}
+use Rattle.card_contents.proofs.RecordSums.{length-spelled, short-fits, too_long}
 use Rattle.card_contents.proofs.RecordWrites.{records-made, records-space, records-torn}
 use Rattle.card_contents.proofs.RecordWrites.{PutsRecords}
 use Rattle.card_contents.proofs.Recording.{agree}
@@ -66,16 +66,15 @@ pub record IsRaised (old mid : Memory) (x : Current) (sent : List ℕ) (file : R
     (sum : List ℕ) : Type 0 where
   pub reads : OnlyReads old mid
   pub named : IsRecordFile (committed old) x target.Current need file
-  pub short : (nat_lt file.ring.record_length (length sent) || nat_lt 256 (file.ring.record_length + length sent)) ≡
-      false
+  pub short : too_long file.ring.record_length (length sent) ≡ false
   pub ring_is : newest.ring ≡ file.ring
   pub raises : unraised file.ring.record_length (cyclic_records (committed old) file.ring) sent ≡ None
   pub sum_is : sum ≡ spelled file.ring.record_length (raised_number (cyclic_records (committed old) file.ring) sent)
 
--- so it is, if the store in which the file was found still holds what it held
+-- so it is, by what was read of the file, and then of its record 1
 pub is-raised : {old looked mid : Memory} {x : Current} {file : RecordFile} {newest : RecordSlot} {sum : List ℕ}
     (sent : List ℕ) → OnlyReads old looked → IsRecordFile (committed old) x target.Current need file
-    → (nat_lt file.ring.record_length (length sent) || nat_lt 256 (file.ring.record_length + length sent)) ≡ false
+    → too_long file.ring.record_length (length sent) ≡ false
     → OnlyReads looked mid → (newest.ring ≡ file.ring) × (newest.number ≡ 1)
     → ReceivesSum file.ring.record_length (cyclic_records (committed looked) file.ring) sent sum (Ok newest)
     → IsRaised old mid x sent file newest sum

@@ -38,6 +38,10 @@ unfolding spelled
 length-spelled zero n = refl
 length-spelled (suc size) n = ap (λ (k : ℕ). suc k) (length-spelled size (n % 256 ^ size))
 
+-- more bytes than a record has, or an answer of more than 256 bytes
+abbrev pub too_long : ℕ → ℕ → Bool
+too_long long sent = nat_lt long sent || nat_lt 256 (long + sent)
+
 -- bytes that aren't too many leave room for an answer
 or-right : (a b : Bool) → (a || b) ≡ false → b ≡ false
 or-right true b is = cc
@@ -47,10 +51,10 @@ or-left : (a b : Bool) → (a || b) ≡ false → a ≡ false
 or-left true b is = is
 or-left false b is = refl
 
-pub short-sent : (long sent : ℕ) → (nat_lt long sent || nat_lt 256 (long + sent)) ≡ false → sent ≤ long
+pub short-sent : (long sent : ℕ) → too_long long sent ≡ false → sent ≤ long
 short-sent long sent is = ltb-false long sent (or-left (nat_lt long sent) (nat_lt 256 (long + sent)) is)
 
-pub short-fits : (long sent : ℕ) → (nat_lt long sent || nat_lt 256 (long + sent)) ≡ false → long + sent ≤ 256
+pub short-fits : (long sent : ℕ) → too_long long sent ≡ false → long + sent ≤ 256
 short-fits long sent is = ltb-false 256 (long + sent) (or-right (nat_lt long sent) (nat_lt 256 (long + sent)) is)
 
 -- what refuses besides the file
@@ -58,7 +62,7 @@ abbrev pub sum_limits : Card → Session → List ℕ → Option ℕ → List Re
 sum_limits c s sent expected =
     let kind = target_kind c s target.Current in
     let long = record_length kind in
-    record { applies = nat_lt long (length sent) || nat_lt 256 (long + length sent); status = WRONG_LENGTH }
+    record { applies = too_long long (length sent); status = WRONG_LENGTH }
     ∷ no_record c s target.Current 1
     ∷ record { applies = nat_le (256 ^ long) (raised_number (records_of kind) sent); status = MAXIMUM_REACHED }
     ∷ length_refusal expected (increased_data c s sent) ∷ []
@@ -90,8 +94,8 @@ module _ (m : List ℕ) (sized : IsMemory m) (words : IsCard m) (x : Current) (n
   abbrev pub new_record : List ℕ
   new_record = spelled file.ring.record_length (raised_number records sent)
 
-  abbrev pub too_long : Bool
-  too_long = nat_lt file.ring.record_length (length sent) || nat_lt 256 (file.ring.record_length + length sent)
+  abbrev is_long : Bool
+  is_long = too_long file.ring.record_length (length sent)
 
   agrees : Agree m kind file
   agrees = agree m sized words x target.Current need file found
@@ -125,19 +129,19 @@ module _ (m : List ℕ) (sized : IsMemory m) (words : IsCard m) (x : Current) (n
   is_over = nat_le (256 ^ file.ring.record_length) (raised_number records sent)
 
   increase-is : refused_by (refusals_of c s (increase sent expected))
-      ≡ verdict too_long has_one is_over (new_record ++ sent)
+      ≡ verdict is_long has_one is_over (new_record ++ sent)
   unfolding refusals_of
   increase-is =
       let long = agrees.length_is in
       let rs = agrees.records in
       guarded-free c s target.Current is_cyclic Update unrefused (sum_limits c s sent expected)
-      ∙ (λ i. verdict (nat_lt (long i) (length sent) || nat_lt 256 (long i + length sent)) (has_record (rs i) 1)
+      ∙ (λ i. verdict (too_long (long i) (length sent)) (has_record (rs i) 1)
       (nat_le (256 ^ long i) (raised_number (rs i) sent)) (spelled (long i) (raised_number (rs i) sent) ++ sent))
 
-  pub increase-long : too_long ≡ true → refused_by (refusals_of c s (increase sent expected)) ≡ Some WRONG_LENGTH
+  pub increase-long : is_long ≡ true → refused_by (refusals_of c s (increase sent expected)) ≡ Some WRONG_LENGTH
   increase-long long = increase-is ∙ ap (λ (b : Bool). verdict b has_one is_over (new_record ++ sent)) long
 
-  module _ (short : too_long ≡ false) where
+  module _ (short : is_long ≡ false) where
     short-is : refused_by (refusals_of c s (increase sent expected))
         ≡ verdict false has_one is_over (new_record ++ sent)
     short-is = increase-is ∙ ap (λ (b : Bool). verdict b has_one is_over (new_record ++ sent)) short
