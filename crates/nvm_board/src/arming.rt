@@ -1,7 +1,20 @@
-//! When a cut that is set comes.
-ghost use Rattle.std.specs.Prelude.{◌≡◌, ◌+◌, ℕ, false, is_some, Some, None, IfSome};
+//! When a cut, or a fault, that is set comes.
+ghost use Rattle.std.specs.Prelude.{◌≡◌, ◌≤◌, ◌+◌, ◌-◌, ℕ, false, is_some, Some, None, IfSome};
 
 use crate::board::Arm;
+
+impl Arm {
+    /// What is to come at write `k` from now on, counted from 1, by a mask.
+    pub(crate) fn at(k: u32, mask: u16) -> Arm
+        requires { 1 ≤ k }
+        ensures { result ≡ record { whole_writes = k - 1; mask = mask } }
+    {
+        Arm {
+            whole_writes: k - 1,
+            mask,
+        }
+    }
+}
 
 /// The mask of the cut, where the board is lit and its next write is the torn one.
 pub(crate) fn firing(arm: Option<Arm>, is_dark: bool) -> Option<u16>

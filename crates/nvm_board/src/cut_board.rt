@@ -170,10 +170,7 @@ impl Armed for CutBoard {
         ensures arms { Arms k mask (cut_facts self.old) (cut_facts self.new) }
         ensures due { (cut_facts self.new).due ≡ 1 }
     {
-        self.arm = Some(Arm {
-            whole_writes: k - 1,
-            mask,
-        });
+        self.arm = Some(Arm::at(k, mask));
     }
 }
 

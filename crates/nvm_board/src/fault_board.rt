@@ -123,10 +123,7 @@ impl FaultBoard {
         requires { 1 ≤ k }
         ensures { SetsFault counted k mask self.old self.new }
     {
-        self.arm = Some(Arm {
-            whole_writes: k - 1,
-            mask,
-        });
+        self.arm = Some(Arm::at(k, mask));
         self.counted = counted;
     }
 
