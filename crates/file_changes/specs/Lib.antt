@@ -1,4 +1,4 @@
--- What a creation and a deletion have found, before they write.
+-- What a creation and a deletion find before they write, and what a creation has made.
 pub mod Creations
 pub mod CreationParts
 pub mod DeletionParts

@@ -5,7 +5,7 @@ ghost use Rattle.std.specs.Prelude.{MatchResult, if◌then◌else◌};
 ghost use Rattle.std.specs.Result.{result_err};
 ghost use Rattle.undo_journal.specs.Memory.{committed, current, room, InRuns, IsOpen, IsReady};
 ghost use Rattle.undo_journal.specs.Lent.{memory_of};
-ghost use Rattle.undo_journal.specs.Calls.{OnlyReads, Reads, Changes, SetsIn};
+ghost use Rattle.undo_journal.specs.Calls.{Learns, OnlyReads, Changes, SetsIn};
 ghost use Rattle.card_rules.specs.declared.status.Sw.{Sw};
 ghost use Rattle.fcp_template.specs.declared.fcp.ShortIdentifier.TheVariants.{Absent};
 ghost use Rattle.fcp_template.specs.Ranges.{IsCreatable};
@@ -14,12 +14,13 @@ ghost use Rattle.file_tree.specs.Adding.{AddsByGate};
 ghost use Rattle.file_tree.specs.Formats.{block_count};
 ghost use Rattle.file_tree.specs.Kinds.{kind_byte};
 ghost use Rattle.file_tree.specs.declared.layout.TheConstants.{CREATE_WRITES, MOST_FILE_BLOCKS};
-ghost use Rattle.file_tree.specs.Table.{table, entry_in, path_of, IsUsed};
+ghost use Rattle.file_tree.specs.Table.{table, entry_in, path_of};
 ghost use Rattle.file_tree.specs.Trees.{tree_of, TreeStands};
 ghost use Rattle.file_tree.specs.Changes.{SameTree};
 ghost use Rattle.file_tree.specs.Indexes.{IsIndex};
 ghost use Rattle.file_changes.specs.Creations.{CreatesNew, TellsCreation};
 ghost use Rattle.file_tree.specs.NewFiles.{low_bits, short_for, short_of_new, creation_refusal};
+ghost use Rattle.file_tree.specs.StoredFiles.{HasFile};
 ghost use Rattle.file_changes.specs.CreationParts.{FindsPlace, AddsFile, FillsAndAdds, FillsOrAdds};
 ghost use Rattle.file_changes.specs.CreationParts.{entry_for, kind_number, record_length_of_kind, existing_of_kind};
 ghost use Rattle.file_changes.specs.CreationParts.{padded, no_chain, short_option};
@@ -61,12 +62,9 @@ fn low_short(identifier: u16) -> u8
 
 /// The low five bits of an identifier as a short identifier, if no child has it; 0 for none.
 fn short_by_default<B: Board>(store: &mut Store<B>, df: u8, identifier: u16) -> Result<u8, StoreErr>
-    requires ready { IsReady store.old }
-    requires tree { TreeStands (committed store.old) }
-    requires df { IsUsed (table (committed store.old)) df }
-    ensures short { IfOk result (λ n. short_option n
+    requires df { HasFile store.old df }
+    ensures { Learns store.old store.new result (λ n. short_option n
         ≡ short_for (tree_of (committed store.old)) (path_of (table (committed store.old)) df) identifier Absent) }
-    ensures store { Reads store.old store.new (result_err result) }
 {
     let low = low_short(identifier);
     if low == 0 {
@@ -80,13 +78,10 @@ fn short_by_default<B: Board>(store: &mut Store<B>, df: u8, identifier: u16) -> 
 
 /// The short identifier of a new file; 0 for none. A dedicated file has none.
 fn short_of<B: Board>(store: &mut Store<B>, df: u8, fcp: &Fcp<'_>) -> Result<u8, StoreErr>
-    requires ready { IsReady store.old }
-    requires tree { TreeStands (committed store.old) }
-    requires df { IsUsed (table (committed store.old)) df }
+    requires df { HasFile store.old df }
     requires fcp { IsCreatable fcp.now }
-    ensures short { IfOk result (λ n. short_option n
+    ensures { Learns store.old store.new result (λ n. short_option n
         ≡ short_of_new (tree_of (committed store.old)) (path_of (table (committed store.old)) df) fcp.now) }
-    ensures store { Reads store.old store.new (result_err result) }
 {
     if let FileKind::Df { .. } = fcp.kind {
         return Ok(0);
@@ -222,13 +217,10 @@ fn find_place<B: Board>(
     df: u8,
     fcp: &Fcp<'_>,
 ) -> Result<Place, StoreErr>
-    requires ready { IsReady store.old }
-    requires tree { TreeStands (committed store.old) }
-    requires df { IsUsed (table (committed store.old)) df }
+    requires df { HasFile store.old df }
     requires index { IsIndex (table (committed store.old)) index.now }
     requires fcp { IsCreatable fcp.now }
-    ensures found { IfOk result (FindsPlace (committed store.old) df fcp.now) }
-    ensures store { Reads store.old store.new (result_err result) }
+    ensures { Learns store.old store.new result (FindsPlace (committed store.old) df fcp.now) }
 {
     match taken(store, index, df, fcp)? {
         Some(status) => Ok(Place::Refused(status)),

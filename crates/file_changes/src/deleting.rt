@@ -6,16 +6,17 @@ ghost use Rattle.std.specs.Result.{result_err};
 ghost use Rattle.undo_journal.specs.Commits.{CommitsByGate};
 ghost use Rattle.undo_journal.specs.Memory.{committed, current, room, IsOpen, IsReady};
 ghost use Rattle.undo_journal.specs.Lent.{memory_of};
-ghost use Rattle.undo_journal.specs.Calls.{Reads, Changes, SetsIn};
+ghost use Rattle.undo_journal.specs.Calls.{Learns, Changes, SetsIn};
 ghost use Rattle.block_chain.specs.declared.layout.TheConstants.{MOST_BLOCKS};
 ghost use Rattle.block_chain.specs.Layout.{chains_of};
 ghost use Rattle.file_tree.specs.declared.layout.TheConstants.{DELETE_WRITES};
 ghost use Rattle.file_tree.specs.Formats.{block_count};
 ghost use Rattle.file_tree.specs.Spaces.{free_space};
-ghost use Rattle.file_tree.specs.Table.{extents, table, IsUsed};
-ghost use Rattle.file_tree.specs.Trees.{tree_of, TreeStands};
+ghost use Rattle.file_tree.specs.Table.{extents, table};
+ghost use Rattle.file_tree.specs.Trees.{tree_of};
 ghost use Rattle.file_tree.specs.Changes.{Deletes, with_freed};
 ghost use Rattle.file_tree.specs.Indexes.{IsIndex};
+ghost use Rattle.file_tree.specs.StoredFiles.{HasFile};
 ghost use Rattle.file_changes.specs.DeletionParts.{IsRemoval, going, part_below, CanGive, FreesEntries, Removes};
 
 use arrayvec::ArrayVec;
@@ -139,12 +140,9 @@ struct Removal {
 
 /// What goes with the file of an entry.
 fn removal_of<B: Board>(store: &mut Store<B>, e: u8) -> Result<Removal, StoreErr>
-    requires ready { IsReady store.old }
-    requires tree { TreeStands (committed store.old) }
-    requires used { IsUsed (table (committed store.old)) e }
+    requires file { HasFile store.old e }
     requires below { 0 < e }
-    ensures removal { IfOk result (IsRemoval (committed store.old) e) }
-    ensures store { Reads store.old store.new (result_err result) }
+    ensures { Learns store.old store.new result (IsRemoval (committed store.old) e) }
 {
     let entries = read_table(store)?;
     let part = part_of(entries.as_slice(), e);
@@ -173,9 +171,7 @@ pub fn delete<B: Board>(
     index: &mut Index,
     e: u8,
 ) -> Result<FreeSpace, StoreErr>
-    requires ready { IsReady store.old }
-    requires tree { TreeStands (committed store.old) }
-    requires used { IsUsed (table (committed store.old)) e }
+    requires file { HasFile store.old e }
     requires below { 0 < e }
     requires index { IsIndex (table (committed store.old)) index.old }
     ensures any_exit { (committed store.new ≡ committed store.old)

@@ -1,18 +1,19 @@
 //! Life cycles of files (ISO/IEC 7816-9; ISO/IEC 7816-4, 7.4.10): which files are barred, and a file in another state.
 
-ghost use Rattle.std.specs.Prelude.{◌≡◌, ◌⊎◌, slice_set, IfOk, OnOk};
+ghost use Rattle.std.specs.Prelude.{◌≡◌, ◌⊎◌, slice_set, OnOk};
 ghost use Rattle.std.specs.Result.{result_err};
 ghost use Rattle.undo_journal.specs.Undo.{IsDataAddress};
 ghost use Rattle.undo_journal.specs.Commits.{CommitsByGate};
 ghost use Rattle.undo_journal.specs.Memory.{committed, IsReady};
-ghost use Rattle.undo_journal.specs.Calls.{OnlyReads, Reads, Changes};
+ghost use Rattle.undo_journal.specs.Calls.{Learns, OnlyReads, Changes};
 ghost use Rattle.card_rules.specs.LifeCycle.{life_cycle_byte};
 ghost use Rattle.file_tree.specs.States.{bars, is_allowed, is_barred, life_at, next_life};
 ghost use Rattle.file_tree.specs.States.{with_card_terminated, ChangesLife};
-ghost use Rattle.file_tree.specs.Table.{table, entry_in, path_of, IsUsed};
-ghost use Rattle.file_tree.specs.Trees.{tree_of, TreeStands};
+ghost use Rattle.file_tree.specs.Table.{table, entry_in, path_of};
+ghost use Rattle.file_tree.specs.Trees.{tree_of};
 ghost use Rattle.file_tree.specs.Entries.{is_allowed_by};
 ghost use Rattle.file_tree.specs.Parts.{barred_up, TellsLife};
+ghost use Rattle.file_tree.specs.StoredFiles.{HasFile};
 
 use crate::writing::two_bytes;
 use block_chain::HEADER_PAGE;
@@ -33,12 +34,9 @@ fn bars(life: LifeCycle) -> bool
 /// above are met; each step reads the head of one entry, and a file that bars ends the way. `parent` is the number that
 /// the entry tells of its parent.
 fn is_below_barred<B: Board>(store: &mut Store<B>, e: u8, parent: u8) -> Result<bool, StoreErr>
-    requires ready { IsReady store.old }
-    requires tree { TreeStands (committed store.old) }
-    requires used { IsUsed (table (committed store.old)) e }
+    requires file { HasFile store.old e }
     requires parent { parent ≡ (entry_in (table (committed store.old)) e).parent }
-    ensures barred { IfOk result (λ barred. barred ≡ barred_up (table (committed store.old)) 7 e) }
-    ensures store { Reads store.old store.new (result_err result) }
+    ensures { Learns store.old store.new result (λ barred. barred ≡ barred_up (table (committed store.old)) 7 e) }
 {
     let mut at = e;
     let mut above = parent;
@@ -61,12 +59,9 @@ fn is_below_barred<B: Board>(store: &mut Store<B>, e: u8, parent: u8) -> Result<
 /// # Errors
 /// What the store answers: power was lost, or the device failed.
 pub fn is_barred<B: Board>(store: &mut Store<B>, e: u8) -> Result<bool, StoreErr>
-    requires ready { IsReady store.old }
-    requires tree { TreeStands (committed store.old) }
-    requires used { IsUsed (table (committed store.old)) e }
-    ensures barred { IfOk result (λ barred. barred
+    requires file { HasFile store.old e }
+    ensures { Learns store.old store.new result (λ barred. barred
         ≡ is_barred (tree_of (committed store.old)) (path_of (table (committed store.old)) e)) }
-    ensures store { Reads store.old store.new (result_err result) }
 {
     let entry = read_entry(store, e)?;
     is_barred_at(store, e, &entry)
@@ -77,13 +72,10 @@ pub fn is_barred<B: Board>(store: &mut Store<B>, e: u8) -> Result<bool, StoreErr
 /// # Errors
 /// What the store answers: power was lost, or the device failed.
 pub fn is_barred_at<B: Board>(store: &mut Store<B>, e: u8, entry: &Entry) -> Result<bool, StoreErr>
-    requires ready { IsReady store.old }
-    requires tree { TreeStands (committed store.old) }
-    requires used { IsUsed (table (committed store.old)) e }
+    requires file { HasFile store.old e }
     requires entry { entry.now ≡ entry_in (table (committed store.old)) e }
-    ensures barred { IfOk result (λ barred. barred
+    ensures { Learns store.old store.new result (λ barred. barred
         ≡ is_barred (tree_of (committed store.old)) (path_of (table (committed store.old)) e)) }
-    ensures store { Reads store.old store.new (result_err result) }
 {
     if bars(entry.life_cycle()) {
         return Ok(true);
@@ -101,12 +93,9 @@ pub fn next_life_cycle<B: Board>(
     e: u8,
     command: LifeCycleCommand,
 ) -> Result<Option<LifeCycle>, StoreErr>
-    requires ready { IsReady store.old }
-    requires tree { TreeStands (committed store.old) }
-    requires used { IsUsed (table (committed store.old)) e }
-    ensures next { IfOk result (λ next. next
+    requires file { HasFile store.old e }
+    ensures { Learns store.old store.new result (λ next. next
         ≡ next_life (tree_of (committed store.old)) (path_of (table (committed store.old)) e) command) }
-    ensures store { Reads store.old store.new (result_err result) }
 {
     let entry = read_entry(store, e)?;
     let barred = is_below_barred(store, e, entry.parent)?;
@@ -149,9 +138,7 @@ pub fn set_life_cycle<B: Board>(
     e: u8,
     state: LifeCycle,
 ) -> Result<(), StoreErr>
-    requires ready { IsReady store.old }
-    requires tree { TreeStands (committed store.old) }
-    requires used { IsUsed (table (committed store.old)) e }
+    requires file { HasFile store.old e }
     ensures any_exit { (committed store.new ≡ committed store.old)
         ⊎ ChangesLife (committed store.old) e state (committed store.new) }
     ensures done { OnOk result (ChangesLife (committed store.old) e state (committed store.new)) }
@@ -179,12 +166,9 @@ pub fn is_allowed<B: Board>(
     verified: &PinSet,
     disabled: &PinSet,
 ) -> Result<bool, StoreErr>
-    requires ready { IsReady store.old }
-    requires tree { TreeStands (committed store.old) }
-    requires used { IsUsed (table (committed store.old)) e }
-    ensures allowed { IfOk result (λ allowed. allowed ≡ is_allowed (tree_of (committed store.old))
+    requires file { HasFile store.old e }
+    ensures { Learns store.old store.new result (λ allowed. allowed ≡ is_allowed (tree_of (committed store.old))
         (path_of (table (committed store.old)) e) bit verified.now disabled.now) }
-    ensures store { Reads store.old store.new (result_err result) }
 {
     let entry = read_entry(store, e)?;
     Ok(is_allowed_at(&entry, bit, verified, disabled))

@@ -1,11 +1,8 @@
 //! Where a new file finds a place.
 
-ghost use Rattle.std.specs.Prelude.{◌≡◌, IfOk};
-ghost use Rattle.std.specs.Result.{result_err};
-ghost use Rattle.undo_journal.specs.Memory.{committed, IsReady};
-ghost use Rattle.undo_journal.specs.Calls.{Reads};
-ghost use Rattle.file_tree.specs.Table.{table, IsUsed};
-ghost use Rattle.file_tree.specs.Trees.{TreeStands};
+ghost use Rattle.undo_journal.specs.Memory.{committed};
+ghost use Rattle.undo_journal.specs.Calls.{Learns};
+ghost use Rattle.file_tree.specs.StoredFiles.{HasFile};
 ghost use Rattle.file_changes.specs.CreationParts.{TellsPlace};
 
 use crate::refusing::{first_free, is_deepest};
@@ -28,11 +25,8 @@ pub(crate) fn place_for<B: Board>(
     df: u8,
     fcp: &Fcp<'_>,
 ) -> Result<Place, StoreErr>
-    requires ready { IsReady store.old }
-    requires tree { TreeStands (committed store.old) }
-    requires df { IsUsed (table (committed store.old)) df }
-    ensures place { IfOk result (TellsPlace (committed store.old) df fcp.now.kind) }
-    ensures store { Reads store.old store.new (result_err result) }
+    requires df { HasFile store.old df }
+    ensures { Learns store.old store.new result (TellsPlace (committed store.old) df fcp.now.kind) }
 {
     let entries = read_table(store)?;
     if is_deepest(entries.as_slice(), df) {

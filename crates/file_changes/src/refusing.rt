@@ -1,15 +1,15 @@
 //! Whether a new file is refused, and why.
 
-ghost use Rattle.std.specs.Prelude.{◌≡◌, ◌≢◌, ◌↔◌, length, IfOk, IsTrue, if◌then◌else◌, Some, None};
-ghost use Rattle.std.specs.Result.{result_err};
-ghost use Rattle.undo_journal.specs.Memory.{committed, IsReady};
-ghost use Rattle.undo_journal.specs.Calls.{Reads};
+ghost use Rattle.std.specs.Prelude.{◌≡◌, ◌≢◌, ◌↔◌, length, IsTrue, if◌then◌else◌, Some, None};
+ghost use Rattle.undo_journal.specs.Memory.{committed};
+ghost use Rattle.undo_journal.specs.Calls.{Learns};
 ghost use Rattle.card_rules.specs.declared.status.TheConstants.Sw.{FILE_EXISTS, NAME_EXISTS, WRONG_DATA};
 ghost use Rattle.fcp_template.specs.Ranges.{IsShort, IsCreatable};
-ghost use Rattle.file_tree.specs.Table.{ancestor, table, path_of, IsUsed};
-ghost use Rattle.file_tree.specs.Trees.{tree_of, TreeStands};
+ghost use Rattle.file_tree.specs.Table.{ancestor, table, path_of};
+ghost use Rattle.file_tree.specs.Trees.{tree_of};
 ghost use Rattle.file_tree.specs.Indexes.{IsIndex};
 ghost use Rattle.file_tree.specs.NewFiles.{has_short_given, taken_refusal};
+ghost use Rattle.file_tree.specs.StoredFiles.{HasFile};
 ghost use Rattle.file_changes.specs.CreationParts.{TellsFreeEntry};
 
 use card_rules::Sw;
@@ -45,13 +45,10 @@ fn is_short_taken<B: Board>(
     df: u8,
     short: ShortIdentifier,
 ) -> Result<bool, StoreErr>
-    requires ready { IsReady store.old }
-    requires tree { TreeStands (committed store.old) }
-    requires df { IsUsed (table (committed store.old)) df }
+    requires df { HasFile store.old df }
     requires short { IsShort short }
-    ensures taken { IfOk result (λ taken. taken
+    ensures { Learns store.old store.new result (λ taken. taken
         ≡ has_short_given (tree_of (committed store.old)) (path_of (table (committed store.old)) df) short) }
-    ensures store { Reads store.old store.new (result_err result) }
 {
     match short {
         ShortIdentifier::Given(number) => {
@@ -93,14 +90,11 @@ pub(crate) fn taken<B: Board>(
     df: u8,
     fcp: &Fcp<'_>,
 ) -> Result<Option<Sw>, StoreErr>
-    requires ready { IsReady store.old }
-    requires tree { TreeStands (committed store.old) }
-    requires df { IsUsed (table (committed store.old)) df }
+    requires df { HasFile store.old df }
     requires index { IsIndex (table (committed store.old)) index.now }
     requires fcp { IsCreatable fcp.now }
-    ensures taken { IfOk result (λ status. status
+    ensures { Learns store.old store.new result (λ status. status
         ≡ taken_refusal (tree_of (committed store.old)) (path_of (table (committed store.old)) df) fcp.now) }
-    ensures store { Reads store.old store.new (result_err result) }
 {
     let child = index.child(df, fcp.identifier);
     let entries = read_table(store)?;

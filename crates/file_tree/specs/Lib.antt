@@ -10,6 +10,7 @@ pub mod Table
 pub mod Formats
 pub mod Migration
 pub mod Trees
+pub mod StoredFiles
 pub mod Changes
 pub mod Adding
 pub mod NewFiles

@@ -15,6 +15,7 @@ pub mod LookUps
 pub mod Footprints
 pub mod Shorts
 pub mod Standing
+pub mod StoredFiles
 pub mod Subtrees
 pub mod Refusing
 pub mod Selecting

@@ -6,9 +6,10 @@ ghost use Rattle.undo_journal.specs.Memory.{committed, IsReady};
 ghost use Rattle.undo_journal.specs.Calls.{Learns, Reads};
 ghost use Rattle.file_tree.specs.Reaching.{reached, child_by_short};
 ghost use Rattle.file_tree.specs.Table.{IsChild, table, entry_in, path_of, IsUsed, IsTable};
-ghost use Rattle.file_tree.specs.Trees.{tree_of, TreeStands};
+ghost use Rattle.file_tree.specs.Trees.{tree_of};
 ghost use Rattle.file_tree.specs.Indexes.{IsIndex};
 ghost use Rattle.file_tree.specs.Parts.{IsShortChild, TellsShort, TellsBeside, TellsAbove};
+ghost use Rattle.file_tree.specs.StoredFiles.{HasFile};
 
 use crate::entry::Entry;
 use crate::index::Index;
@@ -47,9 +48,7 @@ fn first_child<B: Board>(store: &mut Store<B>, df: u8, short: u8) -> Result<Reac
 /// # Errors
 /// What the store answers: power was lost, or the device failed.
 pub fn find_short<B: Board>(store: &mut Store<B>, df: u8, short: u8) -> Result<Reached, StoreErr>
-    requires ready { IsReady store.old }
-    requires tree { TreeStands (committed store.old) }
-    requires df { IsUsed (table (committed store.old)) df }
+    requires df { HasFile store.old df }
     requires some { 1 ≤ short }
     ensures found { IfOk result (λ found. option_map (path_of (table (committed store.old))) found
         ≡ child_by_short (tree_of (committed store.old)) (path_of (table (committed store.old)) df) short) }
@@ -68,9 +67,7 @@ fn find_beside<B: Board>(
     df: u8,
     identifier: u16,
 ) -> Result<Reached, StoreErr>
-    requires ready { IsReady store.old }
-    requires tree { TreeStands (committed store.old) }
-    requires df { IsUsed (table (committed store.old)) df }
+    requires df { HasFile store.old df }
     requires index { IsIndex (table (committed store.old)) index.now }
     ensures { Learns store.old store.new result (TellsBeside (table (committed store.old)) df identifier) }
 {
@@ -126,9 +123,7 @@ pub fn select<B: Board>(
     df: u8,
     identifier: u16,
 ) -> Result<Reached, StoreErr>
-    requires ready { IsReady store.old }
-    requires tree { TreeStands (committed store.old) }
-    requires df { IsUsed (table (committed store.old)) df }
+    requires df { HasFile store.old df }
     requires index { IsIndex (table (committed store.old)) index.now }
     ensures found { IfOk result (λ found. option_map (path_of (table (committed store.old))) found
         ≡ reached (tree_of (committed store.old)) (path_of (table (committed store.old)) df) identifier) }

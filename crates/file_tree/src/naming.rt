@@ -10,6 +10,7 @@ ghost use Rattle.file_tree.specs.Table.{table, path_of, IsUsed};
 ghost use Rattle.file_tree.specs.Trees.{tree_of, TreeStands};
 ghost use Rattle.file_tree.specs.Indexes.{IsIndex};
 ghost use Rattle.file_tree.specs.Parts.{BearsName, TellsNamed};
+ghost use Rattle.file_tree.specs.StoredFiles.{HasFile};
 
 use crate::entry::Entry;
 use crate::index::Index;
@@ -60,9 +61,7 @@ pub fn find_name<B: Board>(store: &mut Store<B>, name: &[u8]) -> Result<Reached,
 /// # Errors
 /// What the store answers: power was lost, or the device failed.
 pub fn find_parent<B: Board>(store: &mut Store<B>, df: u8) -> Result<Reached, StoreErr>
-    requires ready { IsReady store.old }
-    requires tree { TreeStands (committed store.old) }
-    requires df { IsUsed (table (committed store.old)) df }
+    requires df { HasFile store.old df }
     ensures found { IfOk result (λ found. option_map (path_of (table (committed store.old))) found
         ≡ selected (tree_of (committed store.old)) (path_of (table (committed store.old)) df) the_parent) }
     ensures used { IfOk result (λ found. IfSome found (IsUsed (table (committed store.old)))) }

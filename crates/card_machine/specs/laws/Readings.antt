@@ -4,19 +4,16 @@ use Rattle.undo_journal.specs.Calls.{OnlyReads}
 use Rattle.undo_journal.specs.Memory.{Memory, committed, IsReady}
 use Rattle.file_tree.specs.declared.entry.Entry.{Entry}
 use Rattle.file_tree.specs.Table.{table, entry_in, IsUsed}
-use Rattle.file_tree.specs.Trees.{TreeStands}
+use Rattle.file_tree.specs.StoredFiles.{HasFile}
 use Rattle.file_tree.specs.Indexes.{IsIndex}
 use Rattle.file_tree.specs.declared.index.Index.{Index}
 use Rattle.card_machine.specs.declared.current.Current.{Current}
 use Rattle.card_machine.specs.Standing.{IsCard}
 use Rattle.card_machine.specs.Working.{IsCurrent, IsKept}
 
--- they are still the words of a card, whose files make a tree
+-- they are still the words of a card
 pub card_still : (a b : Memory) → OnlyReads a b → IsCard (committed a) → IsCard (committed b)
 card_still a b reads words = subst IsCard (sym reads.keeps.committed_words) words
-
-pub tree_still : (a b : Memory) → OnlyReads a b → IsCard (committed a) → TreeStands (committed b)
-tree_still a b reads words = subst TreeStands (sym reads.keeps.committed_words) words.tree
 
 -- an entry that is used is still used, and current files are still current
 pub used_still : (a b : Memory) (e : ℕ) → OnlyReads a b → IsUsed (table (committed a)) e
@@ -39,6 +36,13 @@ kept_still a b x reads ready kept = record {
 -- the entry of the current dedicated file is used
 pub df_used : (t : List Entry) (x : Current) → IsCurrent t x → IsUsed t x.df
 df_used t x current = λ (unused : (entry_in t x.df).kind ≡ 0). let z : ⊥ = omega (arith, unused, current.df) in z
+
+-- What is kept are files: that of each used entry, and so the current dedicated file.
+pub file_kept : (m : Memory) (x : Current) (e : ℕ) → IsKept m x → IsUsed (table (committed m)) e → HasFile m e
+file_kept m x e kept used = record { ready = kept.ready; tree = kept.card.tree; used = used }
+
+pub df_kept : (m : Memory) (x : Current) → IsKept m x → HasFile m x.df
+df_kept m x kept = file_kept m x x.df kept (df_used (table (committed m)) x kept.current)
 
 -- an index is still that of the files
 pub index_still : (a b : Memory) (index : Index) → OnlyReads a b → IsIndex (table (committed a)) index

@@ -1,6 +1,6 @@
 -- Which files stand below a barred one: by steps to parents, and by their paths.
 use Rattle.std.specs.Prelude.{◌≡◌, ◌≢◌, ◌<◌, ◌≤◌, ◌+◌, ◌||◌, ℕ, zero, suc, Bool, true, false, if◌then◌else◌}
-use Rattle.std.specs.Prelude.{List, [], ◌∷◌, ◌++◌, length, map, take, IsTrue}
+use Rattle.std.specs.Prelude.{List, [], ◌∷◌, ◌++◌, length, map, take}
 use Rattle.std.specs.List.{list_any, range_with_len}
 use Rattle.std.proofs.Common.{refl, sym, ◌∙◌, ap, ap₂, arith, inl, inr}
 use Rattle.std.proofs.lemmas.Bool.Decides.{eqb_tells}
@@ -8,18 +8,17 @@ use Rattle.std.proofs.lemmas.List.{length-append, take-append-le}
 use Rattle.std.proofs.lemmas.List.Folds.{list_any-append}
 use Rattle.std.proofs.lemmas.List.FromFn.{map-range_with_len_more}
 use Rattle.std.proofs.Math.Seq.{take-append_seam}
-use Rattle.card_rules.specs.Rule.{is_rule, allows}
+use Rattle.card_rules.specs.Rule.{allows}
 use Rattle.card_rules.specs.declared.access_mode.AccessBit.{AccessBit}
 use Rattle.file_tree.specs.declared.entry.Entry.{Entry}
 use Rattle.file_tree.specs.Cards.{Path, File, Tree, file_at}
-use Rattle.file_tree.specs.Entries.{free_entry, file_of, is_allowed_by, life_told, rule_of}
+use Rattle.file_tree.specs.Entries.{file_of, is_allowed_by, life_told, rule_of}
 use Rattle.file_tree.specs.States.{bars, above, life_at, has_barred_above, is_allowed}
 use Rattle.file_tree.specs.Table.{table, entry_in, ancestor, path_of, IsUsed, IsTable}
 use Rattle.file_tree.specs.Trees.{content, tree_of}
 use Rattle.file_tree.specs.Parts.{barred_up}
 use Rattle.file_tree.specs.laws.Paths.{path-zero, path_of-child, parent_used, reaches_master}
-use Rattle.file_tree.specs.laws.Nodes.{used_small, file_at_entry}
-use Rattle.file_tree.specs.laws.Tables.{length-table}
+use Rattle.file_tree.specs.laws.Nodes.{file_at_entry}
 
 pub barred_up-master : (t : List Entry) (n e : ℕ) → e ≡ 0 → barred_up t n e ≡ false
 unfolding barred_up
@@ -65,14 +64,6 @@ pub rule_told_there : (m : List ℕ) → IsTable (table m) → (e : ℕ) → IsU
 rule_told_there m rules e used =
     ap (λ (f : File). f.rule) (file_at_entry m rules e (path_of (table m) e) used refl)
     ∙ rule_of-entry (entry_in (table m) e) (content m (entry_in (table m) e))
-
--- the rule of a used entry is one
-pub rule_is_one : (m : List ℕ) → IsTable (table m) → (e : ℕ) → IsUsed (table m) e
-    → IsTrue (is_rule (rule_of (entry_in (table m) e)))
-rule_is_one m rules e used =
-    let within : e < length (table m) =
-    (let l = length-table m in let small = used_small m e used in omega (arith, l, small)) in
-    ((rules.each e free_entry within).used used).rule.rule
 
 -- the beginnings of a path are those of it with more behind
 beginnings : (p q : Path) (a n : ℕ) → a + n ≤ length p + 1

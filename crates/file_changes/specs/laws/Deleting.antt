@@ -192,10 +192,6 @@ module _ (m mid : List ℕ) (top : ℕ) (sized : IsMemory m) (stands : TreeStand
   part_in f lt = index-mapped (going (table m) top) 0 64 f lt
       ∙ (let z : 0 + f ≡ f = omega arith in ap (going (table m) top) z)
 
-  part_long : length part ≡ 64
-  unfolding part_below
-  part_long = refl
-
   kind_of_gone : (f : ℕ) → is_gone (table m) top f ≡ true → (entry_in (table m) f).kind ≢ 0
   kind_of_gone f gone none = true≢false (sym gone ∙ (elim (eqb_tells (entry_in (table m) f).kind 0) [
     | inl same ↦ ap (λ (b : Bool). not b && leads_up (table m) 7 top f) same.0

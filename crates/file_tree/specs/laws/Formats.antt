@@ -15,12 +15,6 @@ pub count_same : (m after : List ℕ) → SameFormat m after → block_count aft
 unfolding block_count end_page is_format_2
 count_same m after same = λ i. (if same.mark i == MARK then same.pages i else OLD_END_PAGE) - FIRST_BLOCK_PAGE
 
-pub format_same : (m : List ℕ) → SameFormat m m
-format_same m = record { mark = refl; pages = refl }
-
-pub format_then : (a b c : List ℕ) → SameFormat a b → SameFormat b c → SameFormat a c
-format_then a b c first rest = record { mark = rest.mark ∙ first.mark; pages = rest.pages ∙ first.pages }
-
 -- what is laid out by the count of blocks before is so by the count after
 pub laid_as : (m after : List ℕ) (es : List Extent) → SameFormat m after → AreLaid (block_count m) after es
     → AreLaid (block_count after) after es

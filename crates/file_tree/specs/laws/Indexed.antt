@@ -122,13 +122,6 @@ places_same t after same = record {
   identifiers = λ e. ap (λ (s : List Entry). (entry_in s e).identifier) same;
 }
 
-pub places_then : (t mid after : List Entry) → KeepsPlaces t mid → KeepsPlaces mid after → KeepsPlaces t after
-places_then t mid after one other = record {
-  kinds = λ e. other.kinds e ∙ one.kinds e;
-  parents = λ e. other.parents e ∙ one.parents e;
-  identifiers = λ e. other.identifiers e ∙ one.identifiers e;
-}
-
 pub places_but : (t after : List Entry) (e : ℕ) → (entry_in after e).kind ≡ (entry_in t e).kind
     → (entry_in after e).parent ≡ (entry_in t e).parent → (entry_in after e).identifier ≡ (entry_in t e).identifier
     → ((f : ℕ) → f ≢ e → entry_in after f ≡ entry_in t f) → KeepsPlaces t after

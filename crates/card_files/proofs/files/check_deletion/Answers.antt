@@ -10,7 +10,7 @@ use Rattle.card_machine.specs.Standing.{card_of}
 use Rattle.card_machine.specs.Working.{file_refusal, session_of}
 use Rattle.card_machine.specs.laws.Entries.{card-tree}
 use Rattle.card_files.proofs.files.check_deletion.Goals.{then-own, else-own}
-use Rattle.card_machine.specs.laws.Readings.{card_still, current_still, used_still}
+use Rattle.card_machine.specs.laws.Readings.{file_kept, kept_still, used_still}
 use Rattle.undo_journal.specs.laws.Told.{reads_on}
 use Rattle.card_machine.specs.declared.stop.Stop.TheVariants.{Refused, Failed}
 use Rattle.card_machine.specs.laws.Stopping.{finds-stopped, reads-stopped}
@@ -32,7 +32,7 @@ returns g c = record {
       let same = c.is_barred.ensures.store.only.keeps.committed_words in
       let still = c.allows.ensures.store.only.keeps.committed_words ∙ same in
       let barred : c.in_ok-barred.barred ≡ is_barred (card_of m).tree (path_of t c.args.parent) =
-      c.in_ok-barred.ensures.barred
+      c.in_ok-barred.ensures.told
       ∙ sym (ap (λ (tree : Tree). is_barred tree (path_of t c.args.parent)) (card-tree m)) in
       let own : c.in_ok-own.own ≡ allowed (card_of m) (session_of t x) (path_of t c.args.number) DeleteSelf =
       c.in_ok-own.ensures.told
@@ -62,7 +62,7 @@ returns-in_err-check g c = record {
       let same = c.is_barred.ensures.store.only.keeps.committed_words in
       let still = c.allows.ensures.store.only.keeps.committed_words ∙ same in
       let barred : c.in_ok-barred.barred ≡ is_barred (card_of m).tree (path_of t c.args.parent) =
-      c.in_ok-barred.ensures.barred
+      c.in_ok-barred.ensures.told
       ∙ sym (ap (λ (tree : Tree). is_barred tree (path_of t c.args.parent)) (card-tree m)) in
       let own : c.in_ok-own.own ≡ allowed (card_of m) (session_of t x) (path_of t c.args.number) DeleteSelf =
       c.in_ok-own.ensures.told
@@ -86,27 +86,9 @@ returns-in_err-check g c = record {
       c.in_ok-by_parent.ensures.store);
 }
 
-pub allows-requires-clause-kept : goal.allows-requires-clause-kept
-allows-requires-clause-kept g c = record {
-  ready = search rules;
-  card = card_still c.args.store.now c.is_barred.new.store c.is_barred.ensures.store.only c.requires.kept.card;
-  current = current_still c.args.store.now c.is_barred.new.store c.args.current.now c.is_barred.ensures.store.only
-      c.requires.kept.current;
-}
-
 pub allows-requires-clause-used : goal.allows-requires-clause-used
 allows-requires-clause-used g c =
     used_still c.args.store.now c.is_barred.new.store c.args.number c.is_barred.ensures.store.only c.requires.used
-
-pub allows-requires-2-clause-kept : goal.allows-requires-2-clause-kept
-allows-requires-2-clause-kept g c = record {
-  ready = search rules;
-  card = card_still c.args.store.now c.allows.new.store (reads_then c.args.store.now c.is_barred.new.store
-      c.allows.new.store c.is_barred.ensures.store.only c.allows.ensures.store.only) c.requires.kept.card;
-  current = current_still c.args.store.now
-      c.allows.new.store c.args.current.now (reads_then c.args.store.now c.is_barred.new.store
-      c.allows.new.store c.is_barred.ensures.store.only c.allows.ensures.store.only) c.requires.kept.current;
-}
 
 pub allows-requires-2-clause-used : goal.allows-requires-2-clause-used
 allows-requires-2-clause-used g c =
@@ -120,3 +102,15 @@ returns-in_err-own g c = record {
   store = reads-stopped _ (Failed c.in_err-own.field-0.0) c.from_residual-in_err-own.ensures.1 _ _
       (reads_on _ _ _ _ c.is_barred.ensures.store.only c.in_err-own.ensures.store);
 }
+
+pub is_barred-requires : goal.is_barred-requires
+is_barred-requires g c = record { file = file_kept _ _ _ c.requires.kept c.requires.above }
+
+pub allows-requires-clause-kept : goal.allows-requires-clause-kept
+allows-requires-clause-kept g c =
+    kept_still _ _ _ c.is_barred.ensures.store.only c.in_ok-barred.ensures.store.ready c.requires.kept
+
+pub allows-requires-2-clause-kept : goal.allows-requires-2-clause-kept
+allows-requires-2-clause-kept g c =
+    kept_still _ _ _ (reads_then _ _ _ c.is_barred.ensures.store.only c.allows.ensures.store.only)
+    c.in_ok-own.ensures.store.ready c.requires.kept

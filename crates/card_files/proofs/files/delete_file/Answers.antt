@@ -12,12 +12,13 @@ use Rattle.file_tree.specs.declared.space.FreeSpace.{FreeSpace}
 use Rattle.card_machine.specs.laws.CardLaws.{few_free}
 use Rattle.card_files.proofs.Deletions.{any-deleting, any-stands, deleted-space, done-current, done-step}
 use Rattle.card_files.proofs.FileSteps.{delete-refused}
-use Rattle.card_machine.specs.laws.Readings.{index_still}
+use Rattle.card_machine.specs.laws.Readings.{file_kept, index_still}
 use Rattle.card_machine.specs.laws.Serves.{compared-none, halted, reads-compared, torn, written}
 use Rattle.card_machine.specs.laws.Stopping.{err-is, none-failed, reply-failed}
 use Rattle.card_machine.specs.laws.Words.{went-after}
 use Rattle.card_machine.specs.laws.Answering.{ok_anyway}
 use Rattle.card_machine.specs.laws.SpaceKept.{space-same}
+use Rattle.file_tree.specs.laws.StoredFiles.{file_still}
 use Rattle.card_files.proofs.files.delete_file.Goals as goal
 
 pub returns-in_err-freed-clause-serves : goal.returns-in_err-freed-clause-serves
@@ -133,3 +134,8 @@ returns-in_err-freed-clause-space g c = none-failed _ _ _ c.from_residual-in_err
 
 pub returns-in_err-freed-clause-index : goal.returns-in_err-freed-clause-index
 returns-in_err-freed-clause-index g c = none-failed _ _ _ c.from_residual-in_err-freed.ensures.1
+
+pub delete-requires-clause-file : goal.delete-requires-clause-file
+delete-requires-clause-file g c =
+    file_still _ _ _ c.find_deletable.ensures.store.only c.in_ok-file.ensures.store.ready
+    (file_kept _ _ _ c.requires.kept c.in_ok-file.ensures.told.used)

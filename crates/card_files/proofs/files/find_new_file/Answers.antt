@@ -6,21 +6,17 @@ use Rattle.card_machine.specs.Files.{creation_bit}
 use Rattle.card_machine.specs.Working.{card_in, session_in}
 use Rattle.card_files.proofs.Creations.{barred-is, permits-is, unread-step}
 use Rattle.card_files.proofs.FileSteps.{create-barred, create-denied}
-use Rattle.card_machine.specs.laws.Readings.{card_still, current_still, df_used, used_still}
+use Rattle.card_machine.specs.laws.Readings.{df_kept, df_used, kept_still, used_still}
 use Rattle.card_machine.specs.declared.stop.Stop.TheVariants.{Failed}
 use Rattle.card_machine.specs.laws.Stopping.{reads-stopped}
 use Rattle.card_files.proofs.files.find_new_file.Goals as goal
-
-pub is_barred-requires-clause-used : goal.is_barred-requires-clause-used
-is_barred-requires-clause-used g c =
-    df_used (table (committed c.args.store.now)) c.args.current.now c.requires.kept.current
 
 pub returns-then-branch : goal.returns-then-branch
 returns-then-branch g c = record {
   told = let old = c.args.store.now in
       let x = c.args.current.now in
       create-barred (card_in old) (session_in old x) c.args.template.now
-      (barred-is (committed old) x c.in_ok-is_barred.field-0 c.in_ok-is_barred.ensures.barred ∙ c.if-branch.true);
+      (barred-is (committed old) x c.in_ok-is_barred.field-0 c.in_ok-is_barred.ensures.told ∙ c.if-branch.true);
   store = search rules;
 }
 
@@ -29,17 +25,9 @@ returns-in_default g c = record {
   told = let old = c.args.store.now in
       let x = c.args.current.now in
       unread-step (card_in old) (session_in old x) c.args.template.now
-      (barred-is (committed old) x c.in_ok-is_barred.field-0 c.in_ok-is_barred.ensures.barred ∙ c.if-branch.false)
+      (barred-is (committed old) x c.in_ok-is_barred.field-0 c.in_ok-is_barred.ensures.told ∙ c.if-branch.false)
       c.parse.result (sym c.parse.ensures.value) c.in_default.not-Ok;
   store = search rules;
-}
-
-pub allows-requires-clause-kept : goal.allows-requires-clause-kept
-allows-requires-clause-kept g c = record {
-  ready = search rules;
-  card = card_still c.args.store.now c.is_barred.new.store c.is_barred.ensures.store.only c.requires.kept.card;
-  current = current_still c.args.store.now c.is_barred.new.store c.args.current.now c.is_barred.ensures.store.only
-      c.requires.kept.current;
 }
 
 pub allows-requires-clause-used : goal.allows-requires-clause-used
@@ -60,7 +48,7 @@ returns-then-not-branch g c = record {
       let x = c.args.current.now in
       let fcp = c.in-Ok.fcp in
       create-denied (card_in old) (session_in old x) c.args.template.now
-      (barred-is (committed old) x c.in_ok-is_barred.field-0 c.in_ok-is_barred.ensures.barred ∙ c.if-branch.false)
+      (barred-is (committed old) x c.in_ok-is_barred.field-0 c.in_ok-is_barred.ensures.told ∙ c.if-branch.false)
       fcp (sym c.parse.ensures.value ∙ c.in-Ok.is)
       (permits-is (committed old) (committed c.is_barred.new.store) x
       c.is_barred.ensures.store.only.keeps.committed_words c.creation_bit-bit.result (creation_bit fcp.kind)
@@ -77,7 +65,7 @@ returns g c = record {
       record {
         told = sym c.parse.ensures.value ∙ c.in-Ok.is;
         creatable = c.in-Ok.ensures.ranges;
-        unbarred = barred-is (committed old) x c.in_ok-is_barred.field-0 c.in_ok-is_barred.ensures.barred
+        unbarred = barred-is (committed old) x c.in_ok-is_barred.field-0 c.in_ok-is_barred.ensures.told
             ∙ c.if-branch.false;
         permitted = permits-is (committed old) (committed c.is_barred.new.store) x
             c.is_barred.ensures.store.only.keeps.committed_words c.creation_bit-bit.result (creation_bit fcp.kind)
@@ -86,3 +74,10 @@ returns g c = record {
       };
   store = reads_on _ _ _ _ c.is_barred.ensures.store.only c.in_ok-allows.ensures.store;
 }
+
+pub is_barred-requires : goal.is_barred-requires
+is_barred-requires g c = record { file = df_kept _ _ c.requires.kept }
+
+pub allows-requires-clause-kept : goal.allows-requires-clause-kept
+allows-requires-clause-kept g c =
+    kept_still _ _ _ c.is_barred.ensures.store.only c.in_ok-is_barred.ensures.store.ready c.requires.kept

@@ -10,6 +10,7 @@ use Rattle.card_machine.specs.Standing.{card_of}
 use Rattle.card_machine.specs.Working.{session_of}
 use Rattle.std.proofs.lemmas.Result.{IfOk-weaker}
 use Rattle.card_machine.specs.laws.Entries.{card-tree}
+use Rattle.card_machine.specs.laws.Readings.{df_kept}
 use Rattle.card_files.proofs.files.find_subject.Goals as goal
 
 pub returns-in-Current-clause-found : goal.returns-in-Current-clause-found
@@ -39,3 +40,6 @@ returns-in-Identifier-clause-found g c =
           c.select.ensures.found;
       store = search rules;
     }
+
+pub select-requires-clause-df : goal.select-requires-clause-df
+select-requires-clause-df g c = df_kept _ _ c.requires.kept

@@ -9,6 +9,8 @@ use Rattle.card_machine.specs.laws.Serves.{halted}
 use Rattle.card_machine.specs.laws.SpaceKept.{space-same}
 use Rattle.card_machine.specs.laws.Answering.{ok_anyway}
 use Rattle.card_machine.specs.laws.Stopping.{none-failed, reply-failed}
+use Rattle.card_machine.specs.laws.Readings.{file_kept}
+use Rattle.file_tree.specs.laws.StoredFiles.{file_still}
 use Rattle.card_files.proofs.life_cycles.change_life_cycle.Goals as goal
 
 pub returns : goal.returns
@@ -62,4 +64,10 @@ returns-in_err-set_life_cycle g c = record {
       c.set_life_cycle.ensures.store.reports c.set_life_cycle.ensures.store.writes _ _
       (reply-failed _ _ c.from_residual-in_err-set_life_cycle.ensures.1) c.in_err-set_life_cycle.ensures.store.tells;
   space = none-failed _ _ _ c.from_residual-in_err-set_life_cycle.ensures.1;
+}
+
+pub set_life_cycle-requires : goal.set_life_cycle-requires
+set_life_cycle-requires g c = record {
+  file = file_still _ _ _ c.find_change.ensures.store.only c.in_ok-changed.ensures.store.ready
+      (file_kept _ _ _ c.requires.kept c.in_ok-changed.ensures.told.used);
 }

@@ -2,7 +2,7 @@ use Rattle.undo_journal.specs.Memory.{committed}
 use Rattle.undo_journal.specs.laws.Calls.{reads_then}
 use Rattle.file_tree.specs.laws.Nodes.{used_small}
 use Rattle.std.proofs.Common.{◌≡◌, sym, ◌∙◌, ap, rules}
-use Rattle.card_machine.specs.laws.Readings.{card_still, current_still, used_still}
+use Rattle.card_machine.specs.laws.Readings.{file_kept, kept_still, used_still}
 use Rattle.card_rules.specs.declared.access_mode.AccessBit.{AccessBit}
 use Rattle.card_rules.specs.declared.life_cycle.LifeCycleCommand.{LifeCycleCommand}
 use Rattle.file_tree.specs.States.{next_life}
@@ -29,16 +29,6 @@ returns-in_err-entry g c = record {
       c.in_err-entry.ensures.store);
 }
 
-pub allows-requires-clause-kept : goal.allows-requires-clause-kept
-allows-requires-clause-kept g c = record {
-  ready = search rules;
-  card = card_still c.args.store.now c.next_life_cycle.new.store c.next_life_cycle.ensures.store.only
-      c.requires.kept.card;
-  current = current_still c.args.store.now c.next_life_cycle.new.store c.args.current.now
-      c.next_life_cycle.ensures.store.only
-      c.requires.kept.current;
-}
-
 pub allows-requires-clause-used : goal.allows-requires-clause-used
 allows-requires-clause-used g c =
     used_still c.args.store.now c.next_life_cycle.new.store c.args.number
@@ -59,7 +49,7 @@ returns g c = record {
       let same = c.next_life_cycle.ensures.store.only.keeps.committed_words in
       let still = c.allows.ensures.store.only.keeps.committed_words ∙ same in
       let next : c.in_ok-next.next ≡ next_life (tree_of m) (path_of (table m) e) (command_of c.args.change) =
-      c.in_ok-next.ensures.next
+      c.in_ok-next.ensures.told
       ∙ ap (λ (k : LifeCycleCommand). next_life (tree_of m) (path_of (table m) e) k) (ap (λ
       (row : LifeCycleCommand × AccessBit). row.0) c.row_of-command.ensures) in
       let permitted : c.in_ok-allowed.allowed
@@ -83,7 +73,7 @@ returns-in_err-changed_by g c = record {
       let same = c.next_life_cycle.ensures.store.only.keeps.committed_words in
       let still = c.allows.ensures.store.only.keeps.committed_words ∙ same in
       let next : c.in_ok-next.next ≡ next_life (tree_of m) (path_of (table m) e) (command_of c.args.change) =
-      c.in_ok-next.ensures.next
+      c.in_ok-next.ensures.told
       ∙ ap (λ (k : LifeCycleCommand). next_life (tree_of m) (path_of (table m) e) k) (ap (λ
       (row : LifeCycleCommand × AccessBit). row.0) c.row_of-command.ensures) in
       let permitted : c.in_ok-allowed.allowed
@@ -101,3 +91,10 @@ returns-in_err-changed_by g c = record {
       (reads_on _ _ _ _ (reads_then _ _ _ c.next_life_cycle.ensures.store.only c.allows.ensures.store.only)
       c.in_ok-entry.ensures.store);
 }
+
+pub next_life_cycle-requires : goal.next_life_cycle-requires
+next_life_cycle-requires g c = record { file = file_kept _ _ _ c.requires.kept c.requires.used }
+
+pub allows-requires-clause-kept : goal.allows-requires-clause-kept
+allows-requires-clause-kept g c =
+    kept_still _ _ _ c.next_life_cycle.ensures.store.only c.in_ok-next.ensures.store.ready c.requires.kept

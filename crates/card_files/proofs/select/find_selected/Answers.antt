@@ -11,7 +11,7 @@ use Rattle.card_machine.specs.Reaching.{selected_from}
 use Rattle.card_machine.specs.Standing.{card_of}
 use Rattle.card_machine.specs.Working.{table_in}
 use Rattle.card_machine.specs.laws.Entries.{card-tree, master-path}
-use Rattle.card_machine.specs.laws.Readings.{df_used}
+use Rattle.card_machine.specs.laws.Readings.{df_kept, df_used}
 use Rattle.card_files.proofs.select.find_selected.Goals as goal
 
 pub returns-in-MasterFile-clause-found : goal.returns-in-MasterFile-clause-found
@@ -103,3 +103,9 @@ pub returns-in-PathFromCurrent-clause-used : goal.returns-in-PathFromCurrent-cla
 returns-in-PathFromCurrent-clause-used g c =
     c.find_path.ensures.used (committed c.args.store.now) c.requires.kept.card.tree
     (df_used (table_in c.args.store.now) c.args.current c.requires.kept.current) c.requires.index
+
+pub select-requires-clause-df : goal.select-requires-clause-df
+select-requires-clause-df g c = df_kept _ _ c.requires.kept
+
+pub find_parent-requires : goal.find_parent-requires
+find_parent-requires g c = record { df = df_kept _ _ c.requires.kept }

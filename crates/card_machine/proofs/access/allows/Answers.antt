@@ -9,7 +9,8 @@ use Rattle.card_machine.specs.Guards.{allowed}
 use Rattle.card_machine.specs.Standing.{card_of}
 use Rattle.card_machine.specs.Working.{session_of}
 use Rattle.card_machine.proofs.Allowing.{allowed-by-marks}
-use Rattle.card_machine.specs.laws.Readings.{tree_still, used_still}
+use Rattle.card_machine.specs.laws.Readings.{file_kept}
+use Rattle.file_tree.specs.laws.StoredFiles.{file_still}
 use Rattle.card_machine.proofs.access.allows.Goals as goal
 
 pub returns : goal.returns
@@ -24,15 +25,12 @@ returns g c = record {
       ≡ allowed (card_of m) (session_of (table m) x) (path_of (table m) e) c.args.bit =
       (λ i. is_allowed (tree_of (same i)) (path_of (table (same i)) e) c.args.bit x.verified (disabled i))
       ∙ allowed-by-marks m c.requires.kept.card x c.requires.kept.current.marks e c.args.bit in
-      subst (λ (b : Bool). IfOk c.is_allowed.result (λ permits. permits ≡ b)) is c.is_allowed.ensures.allowed;
+      subst (λ (b : Bool). IfOk c.is_allowed.result (λ permits. permits ≡ b)) is c.is_allowed.ensures.told;
   store = reads_on _ _ _ _ c.disabled_pins.ensures.store.only c.is_allowed.ensures.store;
 }
 
-pub is_allowed-requires-clause-tree : goal.is_allowed-requires-clause-tree
-is_allowed-requires-clause-tree g c =
-    tree_still c.args.store.now c.disabled_pins.new.store c.disabled_pins.ensures.store.only c.requires.kept.card
-
-pub is_allowed-requires-clause-used : goal.is_allowed-requires-clause-used
-is_allowed-requires-clause-used g c =
-    used_still c.args.store.now c.disabled_pins.new.store c.args.number
-    c.disabled_pins.ensures.store.only c.requires.used
+pub is_allowed-requires : goal.is_allowed-requires
+is_allowed-requires g c = record {
+  file = file_still _ _ _ c.disabled_pins.ensures.store.only c.in_ok-disabled.ensures.store.ready
+      (file_kept _ _ _ c.requires.kept c.requires.used);
+}

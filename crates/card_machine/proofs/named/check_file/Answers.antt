@@ -13,6 +13,7 @@ use Rattle.card_machine.proofs.Allowing.{allowed-by-marks}
 use Rattle.card_machine.specs.laws.Entries.{card-tree}
 use Rattle.card_machine.specs.declared.stop.Stop.TheVariants.{Refused, Failed}
 use Rattle.card_machine.specs.laws.Stopping.{finds-stopped, reads-stopped}
+use Rattle.card_machine.specs.laws.Readings.{file_kept}
 use Rattle.card_machine.proofs.named.check_file.Goals as goal
 
 pub returns : goal.returns
@@ -25,7 +26,7 @@ returns g c = record {
       let path = path_of (table m) e in
       let card = c.requires.kept.card in
       let barred : c.in_ok-is_barred_at.field-0 ≡ is_barred (card_of m).tree path =
-      c.in_ok-is_barred_at.ensures.barred ∙ sym (ap (λ (tree : Tree). is_barred tree path) (card-tree m)) in
+      c.in_ok-is_barred_at.ensures.told ∙ sym (ap (λ (tree : Tree). is_barred tree path) (card-tree m)) in
       let permitted : c.in_ok-allows_at.field-0 ≡ allowed (card_of m) (session_of (table m) x) path bit =
       c.in_ok-allows_at.ensures.told
       ∙ ap (λ (l : List ℕ). is_allowed_by entry bit x.verified (disabled_in l))
@@ -46,7 +47,7 @@ returns-in_err-check g c = record {
       let path = path_of (table m) e in
       let card = c.requires.kept.card in
       let barred : c.in_ok-is_barred_at.field-0 ≡ is_barred (card_of m).tree path =
-      c.in_ok-is_barred_at.ensures.barred ∙ sym (ap (λ (tree : Tree). is_barred tree path) (card-tree m)) in
+      c.in_ok-is_barred_at.ensures.told ∙ sym (ap (λ (tree : Tree). is_barred tree path) (card-tree m)) in
       let permitted : c.in_ok-allows_at.field-0 ≡ allowed (card_of m) (session_of (table m) x) path bit =
       c.in_ok-allows_at.ensures.told
       ∙ ap (λ (l : List ℕ). is_allowed_by entry bit x.verified (disabled_in l))
@@ -65,3 +66,6 @@ returns-in_err-allows_at g c = record {
   store = reads-stopped _ (Failed c.in_err-allows_at.field-0.0) c.from_residual-in_err-allows_at.ensures.1 _ _
       (reads_on _ _ _ _ c.is_barred_at.ensures.store.only c.in_err-allows_at.ensures.store);
 }
+
+pub is_barred_at-requires-clause-file : goal.is_barred_at-requires-clause-file
+is_barred_at-requires-clause-file g c = file_kept _ _ _ c.requires.kept c.requires.used

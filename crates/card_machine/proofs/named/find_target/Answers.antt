@@ -12,6 +12,7 @@ use Rattle.card_machine.specs.Working.{session_of, IsElementary}
 use Rattle.card_machine.specs.laws.Answering.{ok_both}
 use Rattle.std.proofs.lemmas.Result.{IfOk-weaker}
 use Rattle.card_machine.specs.laws.Entries.{card-tree, current-path}
+use Rattle.card_machine.specs.laws.Readings.{df_kept}
 use Rattle.card_machine.proofs.named.find_target.Goals as goal
 
 pub returns-in-Current-clause-found : goal.returns-in-Current-clause-found
@@ -51,3 +52,6 @@ returns-in-Short-clause-child g c =
         → IfSome found (IsElementary t df)
     elementary t df None child kind = tt
     elementary t df (Some e) child kind = record { child = child; kind = kind }
+
+pub find_short-requires-clause-df : goal.find_short-requires-clause-df
+find_short-requires-clause-df g c = df_kept _ _ c.requires.kept

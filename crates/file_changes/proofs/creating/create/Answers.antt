@@ -6,7 +6,7 @@ use Rattle.undo_journal.specs.laws.Exits.{none_ok}
 use Rattle.std.proofs.Common.{◌≡◌, ℕ, List, length, take, Option, None, Some, is_some, sym, ◌∙◌, ap, subst, arith}
 use Rattle.std.proofs.Common.{inl, inr, ⊎_elim, true≢false, refl}
 use Rattle.file_tree.specs.Changes.{SameTree}
-use Rattle.undo_journal.specs.Memory.{Memory, committed}
+use Rattle.undo_journal.specs.Memory.{Memory, committed, IsReady}
 use Rattle.file_tree.specs.Adding.{AddsByGate}
 use Rattle.fcp_template.specs.declared.fcp.Fcp.{Fcp}
 use Rattle.fcp_template.specs.Ranges.{IsCreatable}
@@ -28,6 +28,8 @@ use Rattle.file_tree.specs.laws.Tables.{length-table}
 use Rattle.file_changes.specs.laws.Entering.{free_below}
 use Rattle.file_changes.specs.laws.Made.{is_created}
 use Rattle.undo_journal.specs.laws.Told.{changes_after, changes_handed, reads_change, reads_on}
+use Rattle.file_tree.specs.StoredFiles.{HasFile}
+use Rattle.file_tree.specs.laws.StoredFiles.{file_still}
 use Rattle.file_changes.proofs.creating.create.Goals as goal
 
 -- a dedicated file is a used entry's
@@ -85,7 +87,7 @@ created m now after df n e k fcp entry sized stands dedicated creatable found sh
 pub write_file-requires-clause-within : goal.write_file-requires-clause-within
 write_file-requires-clause-within g c =
     let found = place_at (committed c.args.store.now) c.args.df c.args.fcp.now _ c.in-At.entry c.in-At.is
-    c.in_ok-entry.ensures.found in
+    c.in_ok-entry.ensures.told in
     found.2.small
 
 pub write_file-requires-clause-used : goal.write_file-requires-clause-used
@@ -95,7 +97,7 @@ write_file-requires-clause-used g c = λ none.
 pub write_file-requires-clause-enough : goal.write_file-requires-clause-enough
 write_file-requires-clause-enough g c =
     let m = committed c.args.store.now in
-    let found = place_at m c.args.df c.args.fcp.now _ c.in-At.entry c.in-At.is c.in_ok-entry.ensures.found in
+    let found = place_at m c.args.df c.args.fcp.now _ c.in-At.entry c.in-At.is c.in_ok-entry.ensures.told in
     let words = c.short_of.ensures.store.only.keeps.committed_words
     ∙ c.find_place.ensures.store.only.keeps.committed_words in
     let free = ap (λ (l : List ℕ). length (free_chain l)) words in
@@ -115,9 +117,9 @@ returns-clause-done g c =
     created m (committed c.short_of.new.store) (committed c.write_file.new.store) c.args.df
     c.in_ok-short.short c.in-At.entry c.blocks_for-blocks.result fcp c.entry_for.result
     c.requires.ready.usable.committed_size c.requires.tree c.requires.df c.requires.fcp
-    (place_at m c.args.df fcp _ c.in-At.entry c.in-At.is c.in_ok-entry.ensures.found)
+    (place_at m c.args.df fcp _ c.in-At.entry c.in-At.is c.in_ok-entry.ensures.told)
     (short_before m (committed c.find_place.new.store) c.args.df c.in_ok-short.short
-    fcp read c.in_ok-short.ensures.short) (c.short_of.ensures.store.only.keeps.committed_words ∙ read)
+    fcp read c.in_ok-short.ensures.told) (c.short_of.ensures.store.only.keeps.committed_words ∙ read)
     c.entry_for.ensures (c.blocks_for-blocks.ensures ∙ ap blocks_for c.size.ensures) c.in_ok-write_file.ensures.done
 
 pub returns-clause-any_exit : goal.returns-clause-any_exit
@@ -127,7 +129,7 @@ returns-clause-any_exit g c = inr (returns-clause-done g c).creates
 pub with-requires : goal.with-requires
 with-requires g c =
     let m = committed c.args.store.now in
-    let found = place_at m c.args.df c.args.fcp.now _ c.in-At.entry c.in-At.is c.in_ok-entry.ensures.found in
+    let found = place_at m c.args.df c.args.fcp.now _ c.in-At.entry c.in-At.is c.in_ok-entry.ensures.told in
     record {
       free = record {
         entries = table m;
@@ -164,21 +166,12 @@ returns-in_err-write_file-clause-any_exit g c =
     created m (committed c.short_of.new.store) after c.args.df c.in_ok-short.short c.in-At.entry
     c.blocks_for-blocks.result fcp c.entry_for.result
     sized c.requires.tree c.requires.df c.requires.fcp
-    (place_at m c.args.df fcp _ c.in-At.entry c.in-At.is c.in_ok-entry.ensures.found)
+    (place_at m c.args.df fcp _ c.in-At.entry c.in-At.is c.in_ok-entry.ensures.told)
     (short_before m (committed c.find_place.new.store) c.args.df
-    c.in_ok-short.short fcp read c.in_ok-short.ensures.short)
+    c.in_ok-short.short fcp read c.in_ok-short.ensures.told)
     words c.entry_for.ensures (c.blocks_for-blocks.ensures ∙ ap blocks_for c.size.ensures) adds in
     inr is.creates)
     c.write_file.ensures.any_exit
-
-pub find_place-requires-clause-ready : goal.find_place-requires-clause-ready
-find_place-requires-clause-ready g c = c.requires.ready
-
-pub find_place-requires-clause-tree : goal.find_place-requires-clause-tree
-find_place-requires-clause-tree g c = c.requires.tree
-
-pub find_place-requires-clause-df : goal.find_place-requires-clause-df
-find_place-requires-clause-df g c = (used_df (committed c.args.store.now) c.args.df c.requires.df)
 
 pub find_place-requires-clause-fcp : goal.find_place-requires-clause-fcp
 find_place-requires-clause-fcp g c = c.requires.fcp
@@ -202,25 +195,13 @@ returns-in-Refused-clause-any_exit g c =
 pub returns-in-Refused-clause-done : goal.returns-in-Refused-clause-done
 returns-in-Refused-clause-done g c = (
   subst (λ (p : Place). FindsPlace (committed c.args.store.now) c.args.df c.args.fcp.now p) c.in-Refused.is
-      c.in_ok-entry.ensures.found,
+      c.in_ok-entry.ensures.told,
   c.find_place.ensures.store.only.keeps.committed_words,
 )
 
 pub returns-in-Refused-clause-store : goal.returns-in-Refused-clause-store
 returns-in-Refused-clause-store g c =
     reads_change _ _ _ _ c.requires.ready.idle c.in_ok-entry.ensures.store
-
-pub short_of-requires-clause-ready : goal.short_of-requires-clause-ready
-short_of-requires-clause-ready g c = c.in_ok-entry.ensures.store.ready
-
-pub short_of-requires-clause-tree : goal.short_of-requires-clause-tree
-short_of-requires-clause-tree g c =
-    subst (λ (l : List ℕ). TreeStands l) (sym (c.find_place.ensures.store.only.keeps.committed_words)) c.requires.tree
-
-pub short_of-requires-clause-df : goal.short_of-requires-clause-df
-short_of-requires-clause-df g c =
-    subst (λ (l : List ℕ). IsUsed (table l) c.args.df) (sym (c.find_place.ensures.store.only.keeps.committed_words))
-    (used_df (committed c.args.store.now) c.args.df c.requires.df)
 
 pub short_of-requires-clause-fcp : goal.short_of-requires-clause-fcp
 short_of-requires-clause-fcp g c = c.requires.fcp
@@ -264,13 +245,13 @@ returns-clause-store g c =
 pub returns-clause-idle : goal.returns-clause-idle
 returns-clause-idle g c = λ status is.
     let m = committed c.args.store.now in
-    let found = place_at m c.args.df c.args.fcp.now _ c.in-At.entry c.in-At.is c.in_ok-entry.ensures.found in
+    let found = place_at m c.args.df c.args.fcp.now _ c.in-At.entry c.in-At.is c.in_ok-entry.ensures.told in
     absurd (none_some status (sym (not_refused m c.args.df c.args.fcp.now c.in-At.entry found) ∙ is))
 
 pub returns-in_err-write_file-clause-idle : goal.returns-in_err-write_file-clause-idle
 returns-in_err-write_file-clause-idle g c = λ status is.
     let m = committed c.args.store.now in
-    let found = place_at m c.args.df c.args.fcp.now _ c.in-At.entry c.in-At.is c.in_ok-entry.ensures.found in
+    let found = place_at m c.args.df c.args.fcp.now _ c.in-At.entry c.in-At.is c.in_ok-entry.ensures.told in
     absurd (none_some status (sym (not_refused m c.args.df c.args.fcp.now c.in-At.entry found) ∙ is))
 
 pub returns-in_err-entry-clause-idle : goal.returns-in_err-entry-clause-idle
@@ -323,3 +304,17 @@ returns-clause-by_gate g c =
     added_after c.args.store.now c.short_of.new.store c.write_file.new.store
     (c.short_of.ensures.store.only.keeps.committed_words ∙ c.find_place.ensures.store.only.keeps.committed_words)
     c.write_file.ensures.by_gate
+
+-- the dedicated file of the new file
+has_df : (m : Memory) (df : ℕ) → IsReady m → TreeStands (committed m) → (entry_in (table (committed m)) df).kind ≡ 1
+    → HasFile m df
+has_df m df ready tree kind = record { ready = ready; tree = tree; used = used_df (committed m) df kind }
+
+pub find_place-requires-clause-df : goal.find_place-requires-clause-df
+find_place-requires-clause-df g c =
+    has_df c.args.store.now c.args.df c.requires.ready c.requires.tree c.requires.df
+
+pub short_of-requires-clause-df : goal.short_of-requires-clause-df
+short_of-requires-clause-df g c =
+    file_still _ _ _ c.find_place.ensures.store.only c.in_ok-entry.ensures.store.ready
+    (has_df c.args.store.now c.args.df c.requires.ready c.requires.tree c.requires.df)

@@ -43,62 +43,51 @@ taken_is : (path : ℕ → Path) (found : Option ℕ) (child : Option Path) → 
 taken_is path None child is = ap (λ (o : Option Path). not (is_none o)) is
 taken_is path (Some e) child is = ap (λ (o : Option Path). not (is_none o)) is
 
-pub returns-then-low-eq0-clause-short : goal.returns-then-low-eq0-clause-short
-returns-then-low-eq0-clause-short g c =
-    let n = low_bits c.args.identifier in
-    no_default n c.low_short-low.result (nat_le 1 n) (nat_le n 30) _ refl c.low_short-low.ensures c.if-low-eq0.true
-
-pub returns-then-low-eq0-clause-store : goal.returns-then-low-eq0-clause-store
-returns-then-low-eq0-clause-store g c =
-    reads_none _ c.requires.ready
-
-pub find_short-requires-clause-ready : goal.find_short-requires-clause-ready
-find_short-requires-clause-ready g c = c.requires.ready
-
-pub find_short-requires-clause-tree : goal.find_short-requires-clause-tree
-find_short-requires-clause-tree g c = c.requires.tree
-
-pub find_short-requires-clause-df : goal.find_short-requires-clause-df
-find_short-requires-clause-df g c = c.requires.df
+pub returns-then-low-eq0 : goal.returns-then-low-eq0
+returns-then-low-eq0 g c = record {
+  told = let n = low_bits c.args.identifier in
+      no_default n c.low_short-low.result (nat_le 1 n) (nat_le n 30) _ refl c.low_short-low.ensures c.if-low-eq0.true;
+  store = reads_none _ c.requires.df.ready;
+}
 
 pub find_short-requires-clause-some : goal.find_short-requires-clause-some
 find_short-requires-clause-some g c = let some = c.if-low-eq0.false in omega (arith, some)
 
-pub returns-in_err-find_short-clause-short : goal.returns-in_err-find_short-clause-short
-returns-in_err-find_short-clause-short g c = none_ok _ _ _ c.from_residual.ensures.1
+pub returns-in_err-find_short : goal.returns-in_err-find_short
+returns-in_err-find_short g c = record {
+  told = none_ok _ _ _ c.from_residual.ensures.1;
+  store = reads_handed _ _ _ _ c.from_residual.ensures.1 c.in_err-find_short.ensures.store;
+}
 
-pub returns-in_err-find_short-clause-store : goal.returns-in_err-find_short-clause-store
-returns-in_err-find_short-clause-store g c =
-    reads_handed _ _ _ _ c.from_residual.ensures.1 c.in_err-find_short.ensures.store
+pub returns-in-Some : goal.returns-in-Some
+returns-in-Some g c = record {
+  told = let m = committed c.args.store.now in
+      let n = low_bits c.args.identifier in
+      let low = c.low_short-low.result in
+      let child = child_by_short (tree_of m) (path_of (table m) c.args.df) in
+      let is : low ≡ n = used_bits n low (nat_le 1 n) (nat_le n 30) c.low_short-low.ensures c.if-low-eq0.false in
+      let taken = sym (ap is_some c.in-Some.is)
+      ∙ taken_is (path_of (table m)) _ (child low) c.in_ok-find_short.ensures.found
+      ∙ ap (λ (k : ℕ). not (is_none (child k))) is in
+      by_default n low 0 (nat_le 1 n) (nat_le n 30) (is_none (child n)) c.low_short-low.ensures c.if-low-eq0.false
+      (ap (λ (b : Bool). if b then 0 else low) taken);
+  store = c.in_ok-find_short.ensures.store;
+}
 
-pub returns-in-Some-clause-short : goal.returns-in-Some-clause-short
-returns-in-Some-clause-short g c =
-    let m = committed c.args.store.now in
-    let n = low_bits c.args.identifier in
-    let low = c.low_short-low.result in
-    let child = child_by_short (tree_of m) (path_of (table m) c.args.df) in
-    let is : low ≡ n = used_bits n low (nat_le 1 n) (nat_le n 30) c.low_short-low.ensures c.if-low-eq0.false in
-    let taken = sym (ap is_some c.in-Some.is)
-    ∙ taken_is (path_of (table m)) _ (child low) c.in_ok-find_short.ensures.found
-    ∙ ap (λ (k : ℕ). not (is_none (child k))) is in
-    by_default n low 0 (nat_le 1 n) (nat_le n 30) (is_none (child n)) c.low_short-low.ensures c.if-low-eq0.false
-    (ap (λ (b : Bool). if b then 0 else low) taken)
+pub returns-in-None : goal.returns-in-None
+returns-in-None g c = record {
+  told = let m = committed c.args.store.now in
+      let n = low_bits c.args.identifier in
+      let low = c.low_short-low.result in
+      let child = child_by_short (tree_of m) (path_of (table m) c.args.df) in
+      let is : low ≡ n = used_bits n low (nat_le 1 n) (nat_le n 30) c.low_short-low.ensures c.if-low-eq0.false in
+      let taken = sym (ap is_some c.in-None.is)
+      ∙ taken_is (path_of (table m)) _ (child low) c.in_ok-find_short.ensures.found
+      ∙ ap (λ (k : ℕ). not (is_none (child k))) is in
+      by_default n low low (nat_le 1 n) (nat_le n 30) (is_none (child n)) c.low_short-low.ensures c.if-low-eq0.false
+      (ap (λ (b : Bool). if b then 0 else low) taken);
+  store = c.in_ok-find_short.ensures.store;
+}
 
-pub returns-in-None-clause-short : goal.returns-in-None-clause-short
-returns-in-None-clause-short g c =
-    let m = committed c.args.store.now in
-    let n = low_bits c.args.identifier in
-    let low = c.low_short-low.result in
-    let child = child_by_short (tree_of m) (path_of (table m) c.args.df) in
-    let is : low ≡ n = used_bits n low (nat_le 1 n) (nat_le n 30) c.low_short-low.ensures c.if-low-eq0.false in
-    let taken = sym (ap is_some c.in-None.is)
-    ∙ taken_is (path_of (table m)) _ (child low) c.in_ok-find_short.ensures.found
-    ∙ ap (λ (k : ℕ). not (is_none (child k))) is in
-    by_default n low low (nat_le 1 n) (nat_le n 30) (is_none (child n)) c.low_short-low.ensures c.if-low-eq0.false
-    (ap (λ (b : Bool). if b then 0 else low) taken)
-
-pub returns-in-Some-clause-store : goal.returns-in-Some-clause-store
-returns-in-Some-clause-store g c = c.in_ok-find_short.ensures.store
-
-pub returns-in-None-clause-store : goal.returns-in-None-clause-store
-returns-in-None-clause-store g c = c.in_ok-find_short.ensures.store
+pub find_short-requires-clause-df : goal.find_short-requires-clause-df
+find_short-requires-clause-df g c = c.requires.df

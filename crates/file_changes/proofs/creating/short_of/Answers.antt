@@ -30,60 +30,50 @@ as_told tree df fcp (kinds.Transparent short size) other = refl
 as_told tree df fcp (kinds.Linear short records) other = refl
 as_told tree df fcp (kinds.Cyclic short records) other = refl
 
-pub returns-in-Df-clause-short : goal.returns-in-Df-clause-short
-returns-in-Df-clause-short g c =
-    let m = committed c.args.store.now in
-    ap (λ (kind : FileKind). short_of_new (tree_of m) (path_of (table m) c.args.df) (with_kind c.args.fcp.now kind))
-    (sym c.in-Df.is)
+pub returns-in-Df : goal.returns-in-Df
+returns-in-Df g c = record {
+  told = let m = committed c.args.store.now in
+      ap (λ (kind : FileKind). short_of_new (tree_of m) (path_of (table m) c.args.df) (with_kind c.args.fcp.now kind))
+      (sym c.in-Df.is);
+  store = reads_none _ c.requires.df.ready;
+}
 
-pub returns-in-Df-clause-store : goal.returns-in-Df-clause-store
-returns-in-Df-clause-store g c = reads_none _ c.requires.ready
+pub returns-in-Absent : goal.returns-in-Absent
+returns-in-Absent g c = record {
+  told = let m = committed c.args.store.now in
+      let path = path_of (table m) c.args.df in
+      let in_tree = λ (s : ShortIdentifier). short_for (tree_of m) path c.args.fcp.now.identifier s in
+      IfOk-weaker c.short_by_default.result (λ (n : ℕ). short_option n ≡ in_tree Absent)
+      (λ (n : ℕ). short_option n ≡ short_of_new (tree_of m) path c.args.fcp.now)
+      (λ n is. is ∙ ap in_tree (sym c.in-Absent.is ∙ c.short.ensures)
+      ∙ as_told (tree_of m) path c.args.fcp.now c.args.fcp.now.kind c.in_default.not-Df)
+      c.short_by_default.ensures.told;
+  store = c.short_by_default.ensures.store;
+}
 
-pub returns-in-Absent-clause-short : goal.returns-in-Absent-clause-short
-returns-in-Absent-clause-short g c =
-    let m = committed c.args.store.now in
-    let path = path_of (table m) c.args.df in
-    let in_tree = λ (s : ShortIdentifier). short_for (tree_of m) path c.args.fcp.now.identifier s in
-    IfOk-weaker c.short_by_default.result (λ (n : ℕ). short_option n ≡ in_tree Absent)
-    (λ (n : ℕ). short_option n ≡ short_of_new (tree_of m) path c.args.fcp.now)
-    (λ n is. is ∙ ap in_tree (sym c.in-Absent.is ∙ c.short.ensures)
-    ∙ as_told (tree_of m) path c.args.fcp.now c.args.fcp.now.kind c.in_default.not-Df)
-    c.short_by_default.ensures.short
+pub returns-in-Empty : goal.returns-in-Empty
+returns-in-Empty g c = record {
+  told = let m = committed c.args.store.now in
+      let path = path_of (table m) c.args.df in
+      ap (λ (s : ShortIdentifier). short_for (tree_of m) path c.args.fcp.now.identifier s)
+      (sym c.in-Empty.is ∙ c.short.ensures)
+      ∙ as_told (tree_of m) path c.args.fcp.now c.args.fcp.now.kind c.in_default.not-Df;
+  store = reads_none _ c.requires.df.ready;
+}
 
-pub returns-in-Empty-clause-short : goal.returns-in-Empty-clause-short
-returns-in-Empty-clause-short g c =
-    let m = committed c.args.store.now in
-    let path = path_of (table m) c.args.df in
-    ap (λ (s : ShortIdentifier). short_for (tree_of m) path c.args.fcp.now.identifier s)
-    (sym c.in-Empty.is ∙ c.short.ensures)
-    ∙ as_told (tree_of m) path c.args.fcp.now c.args.fcp.now.kind c.in_default.not-Df
+pub returns-in-Given : goal.returns-in-Given
+returns-in-Given g c = record {
+  told = let m = committed c.args.store.now in
+      let path = path_of (table m) c.args.df in
+      let range = subst (λ (s : ShortIdentifier). IsShort s) (sym c.short.ensures ∙ c.in-Given.is)
+      (creatable_short c.args.fcp.now.kind c.requires.fcp.ranges.kind) in
+      let some : c.in-Given.number ≢ 0 = λ z. omega (arith, z, range.0) in
+      some_option c.in-Given.number some
+      ∙ ap (λ (s : ShortIdentifier). short_for (tree_of m) path c.args.fcp.now.identifier s)
+      (sym c.in-Given.is ∙ c.short.ensures)
+      ∙ as_told (tree_of m) path c.args.fcp.now c.args.fcp.now.kind c.in_default.not-Df;
+  store = reads_none _ c.requires.df.ready;
+}
 
-pub returns-in-Given-clause-short : goal.returns-in-Given-clause-short
-returns-in-Given-clause-short g c =
-    let m = committed c.args.store.now in
-    let path = path_of (table m) c.args.df in
-    let range = subst (λ (s : ShortIdentifier). IsShort s) (sym c.short.ensures ∙ c.in-Given.is)
-    (creatable_short c.args.fcp.now.kind c.requires.fcp.ranges.kind) in
-    let some : c.in-Given.number ≢ 0 = λ z. omega (arith, z, range.0) in
-    some_option c.in-Given.number some
-    ∙ ap (λ (s : ShortIdentifier). short_for (tree_of m) path c.args.fcp.now.identifier s)
-    (sym c.in-Given.is ∙ c.short.ensures)
-    ∙ as_told (tree_of m) path c.args.fcp.now c.args.fcp.now.kind c.in_default.not-Df
-
-pub returns-in-Absent-clause-store : goal.returns-in-Absent-clause-store
-returns-in-Absent-clause-store g c = c.short_by_default.ensures.store
-
-pub returns-in-Empty-clause-store : goal.returns-in-Empty-clause-store
-returns-in-Empty-clause-store g c = reads_none _ c.requires.ready
-
-pub returns-in-Given-clause-store : goal.returns-in-Given-clause-store
-returns-in-Given-clause-store g c = reads_none _ c.requires.ready
-
-pub short_by_default-requires-clause-ready : goal.short_by_default-requires-clause-ready
-short_by_default-requires-clause-ready g c = c.requires.ready
-
-pub short_by_default-requires-clause-tree : goal.short_by_default-requires-clause-tree
-short_by_default-requires-clause-tree g c = c.requires.tree
-
-pub short_by_default-requires-clause-df : goal.short_by_default-requires-clause-df
-short_by_default-requires-clause-df g c = c.requires.df
+pub short_by_default-requires : goal.short_by_default-requires
+short_by_default-requires g c = record { df = c.requires.df }

@@ -13,64 +13,57 @@ use Rattle.file_changes.proofs.deleting.delete.Goals as goal
 pub remove-requires-clause-size : goal.remove-requires-clause-size
 remove-requires-clause-size g c =
     let m = committed c.args.store.now in
-    let removal = c.in_ok-removal.ensures.removal in
+    let removal = c.in_ok-removal.ensures.told in
     ap (λ (t : List Entry). length t) (c.as_slice.ensures.value ∙ removal.part) ∙ length-part (table m) c.args.e
 
 pub remove-requires-clause-apart : goal.remove-requires-clause-apart
 remove-requires-clause-apart g c =
     let m = committed c.args.store.now in
-    let sized = c.requires.ready.usable.committed_size in
+    let sized = c.requires.file.ready.usable.committed_size in
     let read = c.removal_of.ensures.store.only.keeps.committed_words in
-    can_give m _ c.args.e sized c.requires.tree c.requires.below c.requires.used _ c.in_ok-removal.ensures.removal read
+    can_give m _ c.args.e sized c.requires.file.tree c.requires.below c.requires.file.used _
+    c.in_ok-removal.ensures.told read
     _ _ c.as_slice.ensures.value c.as_slice-2.ensures.value
 
 pub returns-in_err-remove-clause-any_exit : goal.returns-in_err-remove-clause-any_exit
 returns-in_err-remove-clause-any_exit g c =
     let m = committed c.args.store.now in
-    let sized = c.requires.ready.usable.committed_size in
+    let sized = c.requires.file.ready.usable.committed_size in
     let read = c.removal_of.ensures.store.only.keeps.committed_words in
     let after = committed c.remove.new.store in
     ⊎_elim
     (λ (kept : after ≡ committed c.removal_of.new.store). inl (kept ∙ read))
     (λ (removes : Removes (committed c.removal_of.new.store) c.as_slice.result.now c.as_slice-2.result.now after).
-    inr (removed_deletes m _ c.args.e sized c.requires.tree c.requires.below c.requires.used
-    _ c.in_ok-removal.ensures.removal read _ _ c.as_slice.ensures.value c.as_slice-2.ensures.value after removes))
+    inr (removed_deletes m _ c.args.e sized c.requires.file.tree c.requires.below c.requires.file.used
+    _ c.in_ok-removal.ensures.told read _ _ c.as_slice.ensures.value c.as_slice-2.ensures.value after removes))
     c.remove.ensures.any_exit
 
 pub returns-clause-done : goal.returns-clause-done
 returns-clause-done g c =
     let m = committed c.args.store.now in
-    let sized = c.requires.ready.usable.committed_size in
+    let sized = c.requires.file.ready.usable.committed_size in
     let read = c.removal_of.ensures.store.only.keeps.committed_words in
-    removed_deletes m _ c.args.e sized c.requires.tree c.requires.below
-    c.requires.used _ c.in_ok-removal.ensures.removal read _ _ c.as_slice.ensures.value c.as_slice-2.ensures.value _
+    removed_deletes m _ c.args.e sized c.requires.file.tree c.requires.below
+    c.requires.file.used _ c.in_ok-removal.ensures.told read _ _ c.as_slice.ensures.value c.as_slice-2.ensures.value _
     c.in_ok-remove.ensures.done
 
 pub returns-clause-any_exit : goal.returns-clause-any_exit
 returns-clause-any_exit g c =
     let m = committed c.args.store.now in
-    let sized = c.requires.ready.usable.committed_size in
+    let sized = c.requires.file.ready.usable.committed_size in
     let read = c.removal_of.ensures.store.only.keeps.committed_words in
-    inr (removed_deletes m _ c.args.e sized c.requires.tree c.requires.below
-    c.requires.used _ c.in_ok-removal.ensures.removal read _ _ c.as_slice.ensures.value c.as_slice-2.ensures.value _
+    inr (removed_deletes m _ c.args.e sized c.requires.file.tree c.requires.below
+    c.requires.file.used _ c.in_ok-removal.ensures.told read _ _ c.as_slice.ensures.value c.as_slice-2.ensures.value _
     c.in_ok-remove.ensures.done)
 
 pub returns-clause-space : goal.returns-clause-space
 returns-clause-space g c =
     let m = committed c.args.store.now in
-    let sized = c.requires.ready.usable.committed_size in
+    let sized = c.requires.file.ready.usable.committed_size in
     let read = c.removal_of.ensures.store.only.keeps.committed_words in
-    removed_space m _ c.args.e sized c.requires.tree c.requires.below c.requires.used _ c.in_ok-removal.ensures.removal
+    removed_space m _ c.args.e sized c.requires.file.tree c.requires.below c.requires.file.used _
+    c.in_ok-removal.ensures.told
     read _ _ c.as_slice.ensures.value c.as_slice-2.ensures.value _ c.in_ok-remove.ensures.done
-
-pub removal_of-requires-clause-ready : goal.removal_of-requires-clause-ready
-removal_of-requires-clause-ready g c = c.requires.ready
-
-pub removal_of-requires-clause-tree : goal.removal_of-requires-clause-tree
-removal_of-requires-clause-tree g c = c.requires.tree
-
-pub removal_of-requires-clause-used : goal.removal_of-requires-clause-used
-removal_of-requires-clause-used g c = c.requires.used
 
 pub removal_of-requires-clause-below : goal.removal_of-requires-clause-below
 removal_of-requires-clause-below g c = c.requires.below
@@ -87,7 +80,7 @@ returns-in_err-removal-clause-space g c = none_ok _ _ _ c.from_residual.ensures.
 pub returns-in_err-removal-clause-store : goal.returns-in_err-removal-clause-store
 returns-in_err-removal-clause-store g c =
     changes_handed _ _ _ _ _ c.from_residual.ensures.1
-    (reads_change _ _ _ _ c.requires.ready.idle c.in_err-removal.ensures.store)
+    (reads_change _ _ _ _ c.requires.file.ready.idle c.in_err-removal.ensures.store)
 
 pub remove-requires-clause-ready : goal.remove-requires-clause-ready
 remove-requires-clause-ready g c = c.in_ok-removal.ensures.store.ready
@@ -122,5 +115,8 @@ returns-clause-by_gate g c =
 
 pub returns-clause-index : goal.returns-clause-index
 returns-clause-index g c =
-    c.without.ensures.deleted (committed c.args.store.now) (committed c.remove.new.store) c.requires.tree
-    c.requires.below c.requires.used (returns-clause-done g c) c.requires.index
+    c.without.ensures.deleted (committed c.args.store.now) (committed c.remove.new.store) c.requires.file.tree
+    c.requires.below c.requires.file.used (returns-clause-done g c) c.requires.index
+
+pub removal_of-requires-clause-file : goal.removal_of-requires-clause-file
+removal_of-requires-clause-file g c = c.requires.file

@@ -28,7 +28,7 @@ blocks_in-requires g c =
     let es = c.as_slice-3.ensures.value ∙ c.extents_of-extents.ensures
     ∙ ap extents (c.as_slice-2.ensures.value ∙ part) in
     let family : List Extent → Type 0 = λ xs. sum_by (λ x. x.blocks) xs ≤ MOST_BLOCKS in
-    subst family (sym es) (part_blocks m c.args.e c.requires.tree c.requires.ready.usable.committed_size)
+    subst family (sym es) (part_blocks m c.args.e c.requires.file.tree c.requires.file.ready.usable.committed_size)
 
 pub count_free-requires : goal.count_free-requires
 count_free-requires g c =
@@ -36,34 +36,32 @@ count_free-requires g c =
     let l = length-part c.as_slice.result.now c.args.e in
     omega (arith, a, l)
 
-pub returns-clause-removal : goal.returns-clause-removal
-returns-clause-removal g c =
-    let m = committed c.args.store.now in
-    let part = c.part_of-part.ensures ∙ ap (λ (t : List Entry). part_below t c.args.e) (c.as_slice.ensures.value
-    ∙ c.in_ok-entries.ensures.table) in
-    let es = c.extents_of-extents.ensures ∙ ap extents (c.as_slice-2.ensures.value ∙ part) in
-    let free = c.count_free.ensures ∙ ap free_entries (c.as_slice-4.ensures.value ∙ part) in
-    let most = most_free (table m) c.args.e in
-    record {
-      part = part;
-      chains = c.chains_in-chains.ensures ∙ ap chains_of (c.as_slice-5.ensures.value ∙ es);
-      blocks = c.blocks_in.ensures
-          ∙ ap (λ (xs : List Extent). sum_by (λ x. x.blocks) xs) (c.as_slice-3.ensures.value ∙ es);
-      entries = omega (arith, free, most);
-    }
+pub returns : goal.returns
+returns g c = record {
+  told = let m = committed c.args.store.now in
+      let part = c.part_of-part.ensures ∙ ap (λ (t : List Entry). part_below t c.args.e) (c.as_slice.ensures.value
+      ∙ c.in_ok-entries.ensures.table) in
+      let es = c.extents_of-extents.ensures ∙ ap extents (c.as_slice-2.ensures.value ∙ part) in
+      let free = c.count_free.ensures ∙ ap free_entries (c.as_slice-4.ensures.value ∙ part) in
+      let most = most_free (table m) c.args.e in
+      record {
+        part = part;
+        chains = c.chains_in-chains.ensures ∙ ap chains_of (c.as_slice-5.ensures.value ∙ es);
+        blocks = c.blocks_in.ensures
+            ∙ ap (λ (xs : List Extent). sum_by (λ x. x.blocks) xs) (c.as_slice-3.ensures.value ∙ es);
+        entries = omega (arith, free, most);
+      };
+  store = c.in_ok-entries.ensures.store;
+}
 
 pub read_table-requires : goal.read_table-requires
-read_table-requires g c = record { ready = c.requires.ready }
+read_table-requires g c = record { ready = c.requires.file.ready }
 
-pub returns-in_err-entries-clause-removal : goal.returns-in_err-entries-clause-removal
-returns-in_err-entries-clause-removal g c = none_ok _ _ _ c.from_residual.ensures.1
-
-pub returns-in_err-entries-clause-store : goal.returns-in_err-entries-clause-store
-returns-in_err-entries-clause-store g c =
-    reads_handed _ _ _ _ c.from_residual.ensures.1 c.in_err-entries.ensures.store
-
-pub returns-clause-store : goal.returns-clause-store
-returns-clause-store g c = c.in_ok-entries.ensures.store
+pub returns-in_err-entries : goal.returns-in_err-entries
+returns-in_err-entries g c = record {
+  told = none_ok _ _ _ c.from_residual.ensures.1;
+  store = reads_handed _ _ _ _ c.from_residual.ensures.1 c.in_err-entries.ensures.store;
+}
 
 pub overflow_sub-space : goal.overflow_sub-space
 overflow_sub-space g c =

@@ -1,5 +1,5 @@
 use Rattle.std.proofs.lemmas.Result.{IfOk-weaker}
-use Rattle.std.proofs.Common.{◌≡◌, ◌||◌, ℕ, List, Bool, true, false, sym, ◌∙◌, ap, ap₂}
+use Rattle.std.proofs.Common.{◌≡◌, ◌||◌, ℕ, List, Bool, true, false, sym, ◌∙◌, ap, ap₂, rules}
 use Rattle.undo_journal.specs.Memory.{committed}
 use Rattle.file_tree.specs.declared.entry.Entry.{Entry}
 use Rattle.file_tree.specs.States.{bars, is_barred}
@@ -20,22 +20,27 @@ told m e x own up stands used is here above =
     (here ∙ ap (λ (y : Entry). bars (life_told y)) is ∙ ap bars (sym (life_told_there m stands.entries e used)))
     (above ∙ barred_told m stands.entries e used)
 
-pub returns-then-bars-clause-barred : goal.returns-then-bars-clause-barred
-returns-then-bars-clause-barred g c =
-    let m = committed c.args.store.now in
-    told m c.args.e c.args.entry.now true (barred_up (table m) 7 c.args.e) c.requires.tree c.requires.used
-    c.requires.entry (sym c.if-bars.true ∙ c.bars.ensures ∙ ap bars c.life_cycle.ensures)
-    (λ i. barred_up (table m) 7 c.args.e)
+pub returns-then-bars : goal.returns-then-bars
+returns-then-bars g c = record {
+  told = let m = committed c.args.store.now in
+      told m c.args.e c.args.entry.now true (barred_up (table m) 7 c.args.e) c.requires.file.tree c.requires.file.used
+      c.requires.entry (sym c.if-bars.true ∙ c.bars.ensures ∙ ap bars c.life_cycle.ensures)
+      (λ i. barred_up (table m) 7 c.args.e);
+  store = reads_none _ c.requires.file.ready;
+}
 
-pub returns-clause-barred : goal.returns-clause-barred
-returns-clause-barred g c =
-    let m = committed c.args.store.now in
-    IfOk-weaker _ _ _ (λ barred is. told m c.args.e c.args.entry.now false barred c.requires.tree c.requires.used
-    c.requires.entry (sym c.if-bars.false ∙ c.bars.ensures ∙ ap bars c.life_cycle.ensures) is)
-    c.is_below_barred.ensures.barred
-
-pub returns-then-bars-clause-store : goal.returns-then-bars-clause-store
-returns-then-bars-clause-store g c = reads_none _ c.requires.ready
+pub returns : goal.returns
+returns g c = record {
+  told = let m = committed c.args.store.now in
+      IfOk-weaker _ _ _ (λ barred is. told m c.args.e c.args.entry.now false barred c.requires.file.tree
+      c.requires.file.used
+      c.requires.entry (sym c.if-bars.false ∙ c.bars.ensures ∙ ap bars c.life_cycle.ensures) is)
+      c.is_below_barred.ensures.told;
+  store = search rules;
+}
 
 pub is_below_barred-requires-clause-parent : goal.is_below_barred-requires-clause-parent
 is_below_barred-requires-clause-parent g c = ap (λ (x : Entry). x.parent) c.requires.entry
+
+pub is_below_barred-requires-clause-file : goal.is_below_barred-requires-clause-file
+is_below_barred-requires-clause-file g c = c.requires.file

@@ -42,24 +42,28 @@ pub read_entry_head-requires-clause-within : goal.read_entry_head-requires-claus
 read_entry_head-requires-clause-within g c =
     let m = committed c.args.store.now in
     used_small m c.loop-step.above (used_above
-    (table m) c.loop-step.at c.loop-step.above c.requires.tree.entries c.if-at-eq0.false
+    (table m) c.loop-step.at c.loop-step.above c.requires.file.tree.entries c.if-at-eq0.false
     c.loop-step.invariant.used c.loop-step.invariant.parent)
 
-pub returns-then-at-eq0-clause-barred : goal.returns-then-at-eq0-clause-barred
-returns-then-at-eq0-clause-barred g c =
-    let t = table (committed c.args.store.now) in
-    sym (c.loop-step.invariant.left ∙ barred_up-master t (7 - c.loop-step._step) c.loop-step.at c.if-at-eq0.true)
+pub returns-then-at-eq0 : goal.returns-then-at-eq0
+returns-then-at-eq0 g c = record {
+  told = let t = table (committed c.args.store.now) in
+      sym (c.loop-step.invariant.left ∙ barred_up-master t (7 - c.loop-step._step) c.loop-step.at c.if-at-eq0.true);
+  store = reads_so_far _ _ c.loop-step.invariant.reads c.loop-step.invariant.ready;
+}
 
-pub returns-then-bars-clause-barred : goal.returns-then-bars-clause-barred
-returns-then-bars-clause-barred g c =
-    let m = committed c.args.store.now in
-    let one : 7 - c.loop-step._step ≡ suc (7 - (c.loop-step._step + 1)) = omega (arith, c.loop-step-test.true) in
-    let there = read_there m (committed c.loop-step.store) c.loop-step.above c.in_ok-head.head
-    c.loop-step.invariant.reads.keeps.committed_words c.in_ok-head.ensures.head in
-    sym (c.loop-step.invariant.left
-    ∙ step_up (table m) _ (7 - (c.loop-step._step + 1)) c.loop-step.at
-    c.loop-step.above c.in_ok-head.head c.bars.result true one c.if-at-eq0.false c.loop-step.invariant.parent there
-    (c.bars.ensures ∙ ap bars c.life_cycle.ensures) c.if-bars.true)
+pub returns-then-bars : goal.returns-then-bars
+returns-then-bars g c = record {
+  told = let m = committed c.args.store.now in
+      let one : 7 - c.loop-step._step ≡ suc (7 - (c.loop-step._step + 1)) = omega (arith, c.loop-step-test.true) in
+      let there = read_there m (committed c.loop-step.store) c.loop-step.above c.in_ok-head.head
+      c.loop-step.invariant.reads.keeps.committed_words c.in_ok-head.ensures.head in
+      sym (c.loop-step.invariant.left
+      ∙ step_up (table m) _ (7 - (c.loop-step._step + 1)) c.loop-step.at
+      c.loop-step.above c.in_ok-head.head c.bars.result true one c.if-at-eq0.false c.loop-step.invariant.parent there
+      (c.bars.ensures ∙ ap bars c.life_cycle.ensures) c.if-bars.true);
+  store = reads_on _ _ _ _ c.loop-step.invariant.reads c.in_ok-head.ensures.store;
+}
 
 pub loop-step-preserved : goal.loop-step-preserved
 loop-step-preserved g c =
@@ -70,7 +74,7 @@ loop-step-preserved g c =
     record {
       ready = c.in_ok-head.ensures.store.ready;
       reads = reads_then _ _ _ c.loop-step.invariant.reads c.read_entry_head.ensures.store.only;
-      used = used_above (table m) c.loop-step.at c.loop-step.above c.requires.tree.entries c.if-at-eq0.false
+      used = used_above (table m) c.loop-step.at c.loop-step.above c.requires.file.tree.entries c.if-at-eq0.false
           c.loop-step.invariant.used c.loop-step.invariant.parent;
       parent = ap (λ (x : EntryHead). x.parent) there;
       left = c.loop-step.invariant.left
@@ -80,31 +84,20 @@ loop-step-preserved g c =
           (c.bars.ensures ∙ ap bars c.life_cycle.ensures) c.if-bars.false;
     }
 
-pub returns-clause-barred : goal.returns-clause-barred
-returns-clause-barred g c =
-    let t = table (committed c.args.store.now) in
-    let none : 7 - c.loop-step._step ≡ 0 = omega (arith, c.loop-step-test.false) in
-    sym (c.loop-step.invariant.left ∙ barred_up-none t (7 - c.loop-step._step) c.loop-step.at none)
-
-pub returns-then-at-eq0-clause-store : goal.returns-then-at-eq0-clause-store
-returns-then-at-eq0-clause-store g c =
-    reads_so_far _ _ c.loop-step.invariant.reads c.loop-step.invariant.ready
+pub returns : goal.returns
+returns g c = record {
+  told = let t = table (committed c.args.store.now) in
+      let none : 7 - c.loop-step._step ≡ 0 = omega (arith, c.loop-step-test.false) in
+      sym (c.loop-step.invariant.left ∙ barred_up-none t (7 - c.loop-step._step) c.loop-step.at none);
+  store = reads_so_far _ _ c.loop-step.invariant.reads c.loop-step.invariant.ready;
+}
 
 pub read_entry_head-requires-clause-ready : goal.read_entry_head-requires-clause-ready
 read_entry_head-requires-clause-ready g c = c.loop-step.invariant.ready
 
-pub returns-in_err-head-clause-barred : goal.returns-in_err-head-clause-barred
-returns-in_err-head-clause-barred g c = none_ok _ _ _ c.from_residual.ensures.1
-
-pub returns-in_err-head-clause-store : goal.returns-in_err-head-clause-store
-returns-in_err-head-clause-store g c =
-    reads_handed _ _ _ _ c.from_residual.ensures.1
-    (reads_on _ _ _ _ c.loop-step.invariant.reads c.in_err-head.ensures.store)
-
-pub returns-then-bars-clause-store : goal.returns-then-bars-clause-store
-returns-then-bars-clause-store g c =
-    reads_on _ _ _ _ c.loop-step.invariant.reads c.in_ok-head.ensures.store
-
-pub returns-clause-store : goal.returns-clause-store
-returns-clause-store g c =
-    reads_so_far _ _ c.loop-step.invariant.reads c.loop-step.invariant.ready
+pub returns-in_err-head : goal.returns-in_err-head
+returns-in_err-head g c = record {
+  told = none_ok _ _ _ c.from_residual.ensures.1;
+  store = reads_handed _ _ _ _ c.from_residual.ensures.1
+      (reads_on _ _ _ _ c.loop-step.invariant.reads c.in_err-head.ensures.store);
+}

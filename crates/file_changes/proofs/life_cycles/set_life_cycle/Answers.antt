@@ -35,19 +35,19 @@ returns-then-has_life_cycle-clause-done g c =
     let m = committed c.args.store.now in
     let by_words : List ℕ → Type 0 = λ l. ChangesLife m c.args.e c.args.state l in
     subst by_words (sym c.read_entry.ensures.store.only.keeps.committed_words)
-    (life_stays m c.requires.tree c.args.e c.args.state c.requires.used
+    (life_stays m c.requires.file.tree c.args.e c.args.state c.requires.file.used
     (ap (λ (x : Entry). x.life) (sym c.in_ok-entry.ensures.entry)
     ∙ c.has_life_cycle.ensures.0 c.if-has_life_cycle.true))
 
 pub read_entry-requires-clause-within : goal.read_entry-requires-clause-within
-read_entry-requires-clause-within g c = used_small (committed c.args.store.now) c.args.e c.requires.used
+read_entry-requires-clause-within g c = used_small (committed c.args.store.now) c.args.e c.requires.file.used
 
 pub entry_address-requires : goal.entry_address-requires
-entry_address-requires g c = used_small (committed c.args.store.now) c.args.e c.requires.used
+entry_address-requires g c = used_small (committed c.args.store.now) c.args.e c.requires.file.used
 
 pub write_word-requires-clause-place : goal.write_word-requires-clause-place
 write_word-requires-clause-place g c =
-    let small = used_small (committed c.args.store.now) c.args.e c.requires.used in
+    let small = used_small (committed c.args.store.now) c.args.e c.requires.file.used in
     let size = c.in_ok-entry.ensures.store.ready.usable.committed_size in
     (inl (omega (arith, c.entry_address.ensures, small)), omega (arith, size, c.entry_address.ensures, small))
 
@@ -58,7 +58,8 @@ returns-clause-done g c =
     ≡ slice_set (committed c.read_entry.new.store) a c.life_word.result) in
     on_then _ _ _ (changed m (committed c.read_entry.new.store)
     (committed c.write_word.new.store) c.args.e c.life_word.result
-    c.args.state c.in_ok-entry.entry c.requires.ready.usable.committed_size c.requires.tree c.requires.used
+    c.args.state c.in_ok-entry.entry c.requires.file.ready.usable.committed_size c.requires.file.tree
+    c.requires.file.used
     c.read_entry.ensures.store.only.keeps.committed_words c.in_ok-entry.ensures.entry
     c.life_word.ensures)
     (subst family c.entry_address.ensures c.write_word.ensures.done)
@@ -75,7 +76,8 @@ returns-clause-any_exit g c =
     ≡ slice_set (committed c.read_entry.new.store) (address (FIRST_ENTRY_PAGE + c.args.e) 0) c.life_word.result).
     inr (changed m (committed c.read_entry.new.store)
     (committed c.write_word.new.store) c.args.e c.life_word.result
-    c.args.state c.in_ok-entry.entry c.requires.ready.usable.committed_size c.requires.tree c.requires.used
+    c.args.state c.in_ok-entry.entry c.requires.file.ready.usable.committed_size c.requires.file.tree
+    c.requires.file.used
     c.read_entry.ensures.store.only.keeps.committed_words c.in_ok-entry.ensures.entry
     c.life_word.ensures
     set))
@@ -89,11 +91,11 @@ has_byte m e state entry stands used is here = ap (λ (x : Entry). x.life) is �
 
 pub returns-clause-stays : goal.returns-clause-stays
 returns-clause-stays g c = λ here. absurd (true≢false (sym (c.has_life_cycle.ensures.1
-    (has_byte (committed c.args.store.now) c.args.e c.args.state c.in_ok-entry.entry c.requires.tree
-    c.requires.used c.in_ok-entry.ensures.entry here)) ∙ c.if-has_life_cycle.false))
+    (has_byte (committed c.args.store.now) c.args.e c.args.state c.in_ok-entry.entry c.requires.file.tree
+    c.requires.file.used c.in_ok-entry.ensures.entry here)) ∙ c.if-has_life_cycle.false))
 
 pub read_entry-requires-clause-ready : goal.read_entry-requires-clause-ready
-read_entry-requires-clause-ready g c = c.requires.ready
+read_entry-requires-clause-ready g c = c.requires.file.ready
 
 pub returns-in_err-entry-clause-any_exit : goal.returns-in_err-entry-clause-any_exit
 returns-in_err-entry-clause-any_exit g c = inl c.read_entry.ensures.store.only.keeps.committed_words
@@ -107,7 +109,7 @@ returns-in_err-entry-clause-stays g c = λ here. c.read_entry.ensures.store.only
 pub returns-in_err-entry-clause-store : goal.returns-in_err-entry-clause-store
 returns-in_err-entry-clause-store g c =
     changes_handed _ _ _ _ _ c.from_residual.ensures.1
-    (reads_change _ _ _ _ c.requires.ready.idle c.in_err-entry.ensures.store)
+    (reads_change _ _ _ _ c.requires.file.ready.idle c.in_err-entry.ensures.store)
 
 pub returns-then-has_life_cycle-clause-any_exit : goal.returns-then-has_life_cycle-clause-any_exit
 returns-then-has_life_cycle-clause-any_exit g c = inl c.read_entry.ensures.store.only.keeps.committed_words
@@ -117,7 +119,7 @@ returns-then-has_life_cycle-clause-stays g c = λ here. c.read_entry.ensures.sto
 
 pub returns-then-has_life_cycle-clause-store : goal.returns-then-has_life_cycle-clause-store
 returns-then-has_life_cycle-clause-store g c =
-    reads_change _ _ _ _ c.requires.ready.idle c.in_ok-entry.ensures.store
+    reads_change _ _ _ _ c.requires.file.ready.idle c.in_ok-entry.ensures.store
 
 pub write_word-requires-clause-ready : goal.write_word-requires-clause-ready
 write_word-requires-clause-ready g c = c.in_ok-entry.ensures.store.ready

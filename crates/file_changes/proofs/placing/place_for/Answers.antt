@@ -29,15 +29,17 @@ free_there m t found o is same told =
     let tells : Option ℕ → List Entry → Type 0 = λ p s. TellsFreeEntry s p in
     subst (λ (s : List Entry). tells o s) is (subst (λ (p : Option ℕ). tells p t) same told)
 
-pub returns-then-is_deepest-clause-place : goal.returns-then-is_deepest-clause-place
-returns-then-is_deepest-clause-place g c =
-    let m = committed c.args.store.now in
-    let sized = c.requires.ready.usable.committed_size in
-    let entries = c.as_slice.ensures.value ∙ c.in_ok-entries.ensures.table in
-    let yes : IsTrue c.is_deepest.result = search rules in
-    let of_table : List Entry → Type 0 = λ t. ancestor t 6 c.args.df ≢ 0 in
-    let deep = subst of_table entries (c.is_deepest.ensures.0 yes) in
-    sym (place_deepest m sized c.requires.tree c.args.df c.requires.df c.args.fcp.now.kind deep)
+pub returns-then-is_deepest : goal.returns-then-is_deepest
+returns-then-is_deepest g c = record {
+  told = let m = committed c.args.store.now in
+      let sized = c.requires.df.ready.usable.committed_size in
+      let entries = c.as_slice.ensures.value ∙ c.in_ok-entries.ensures.table in
+      let yes : IsTrue c.is_deepest.result = search rules in
+      let of_table : List Entry → Type 0 = λ t. ancestor t 6 c.args.df ≢ 0 in
+      let deep = subst of_table entries (c.is_deepest.ensures.0 yes) in
+      sym (place_deepest m sized c.requires.df.tree c.args.df c.requires.df.used c.args.fcp.now.kind deep);
+  store = c.in_ok-entries.ensures.store;
+}
 
 pub first_free-requires : goal.first_free-requires
 first_free-requires g c =
@@ -45,80 +47,71 @@ first_free-requires g c =
     let a = ap (λ (t : List Entry). length t) (c.as_slice-2.ensures.value ∙ c.in_ok-entries.ensures.table) in
     omega (arith, l, a)
 
-pub returns-in_default-clause-place : goal.returns-in_default-clause-place
-returns-in_default-clause-place g c =
-    let m = committed c.args.store.now in
-    let sized = c.requires.ready.usable.committed_size in
-    let read = c.in_ok-entries.ensures.table in
-    let level = level_zero m _ _ _ (c.as_slice.ensures.value ∙ read) c.if-is_deepest.false c.is_deepest.ensures.1 in
-    let none : c.first_free.result ≡ None = search rules in
-    let free = free_there m _ _ _ (c.as_slice-2.ensures.value ∙ read) none c.first_free.ensures in
-    sym (place_none m sized c.requires.tree c.args.df c.requires.df c.args.fcp.now.kind level free)
+pub returns-in_default : goal.returns-in_default
+returns-in_default g c = record {
+  told = let m = committed c.args.store.now in
+      let sized = c.requires.df.ready.usable.committed_size in
+      let read = c.in_ok-entries.ensures.table in
+      let level = level_zero m _ _ _ (c.as_slice.ensures.value ∙ read) c.if-is_deepest.false c.is_deepest.ensures.1 in
+      let none : c.first_free.result ≡ None = search rules in
+      let free = free_there m _ _ _ (c.as_slice-2.ensures.value ∙ read) none c.first_free.ensures in
+      sym (place_none m sized c.requires.df.tree c.args.df c.requires.df.used c.args.fcp.now.kind level free);
+  store = c.in_ok-entries.ensures.store;
+}
 
 pub free_count-requires-clause-free : goal.free_count-requires-clause-free
 free_count-requires-clause-free g c =
     let m = committed c.args.store.now in
     let read = c.read_table.ensures.store.only.keeps.committed_words in
     let family : List ℕ → Type 0 = λ l. HasFree l in
-    subst family (sym read) (laid_has_free (block_count m) m (extents (table m)) c.requires.tree.blocks)
+    subst family (sym read) (laid_has_free (block_count m) m (extents (table m)) c.requires.df.tree.blocks)
 
-pub returns-then-free-blocks_for-clause-place : goal.returns-then-free-blocks_for-clause-place
-returns-then-free-blocks_for-clause-place g c =
-    let m = committed c.args.store.now in
-    let sized = c.requires.ready.usable.committed_size in
-    let read = c.in_ok-entries.ensures.table in
-    let level = level_zero m _ _ _ (c.as_slice.ensures.value ∙ read) c.if-is_deepest.false c.is_deepest.ensures.1 in
-    let free = free_there m _ _ _ (c.as_slice-2.ensures.value ∙ read) c.in-Some.is c.first_free.ensures in
-    let count = c.in_ok-free.ensures.count
-    ∙ ap (λ (l : List ℕ). length (free_chain l)) c.read_table.ensures.store.only.keeps.committed_words in
-    let blocks = c.blocks_for.ensures ∙ ap blocks_for c.size.ensures in
-    sym (place_small m sized c.requires.tree c.args.df c.requires.df c.args.fcp.now.kind c.in-Some.e level free
-    (omega (arith, count, blocks, c.if-free-blocks_for.true)))
+pub returns-then-free-blocks_for : goal.returns-then-free-blocks_for
+returns-then-free-blocks_for g c = record {
+  told = let m = committed c.args.store.now in
+      let sized = c.requires.df.ready.usable.committed_size in
+      let read = c.in_ok-entries.ensures.table in
+      let level = level_zero m _ _ _ (c.as_slice.ensures.value ∙ read) c.if-is_deepest.false c.is_deepest.ensures.1 in
+      let free = free_there m _ _ _ (c.as_slice-2.ensures.value ∙ read) c.in-Some.is c.first_free.ensures in
+      let count = c.in_ok-free.ensures.count
+      ∙ ap (λ (l : List ℕ). length (free_chain l)) c.read_table.ensures.store.only.keeps.committed_words in
+      let blocks = c.blocks_for.ensures ∙ ap blocks_for c.size.ensures in
+      sym (place_small m sized c.requires.df.tree c.args.df c.requires.df.used c.args.fcp.now.kind c.in-Some.e level
+      free
+      (omega (arith, count, blocks, c.if-free-blocks_for.true)));
+  store = reads_on _ _ _ _ c.read_table.ensures.store.only c.in_ok-free.ensures.store;
+}
 
-pub returns-clause-place : goal.returns-clause-place
-returns-clause-place g c =
-    let m = committed c.args.store.now in
-    let sized = c.requires.ready.usable.committed_size in
-    let read = c.in_ok-entries.ensures.table in
-    let level = level_zero m _ _ _ (c.as_slice.ensures.value ∙ read) c.if-is_deepest.false c.is_deepest.ensures.1 in
-    let free = free_there m _ _ _ (c.as_slice-2.ensures.value ∙ read) c.in-Some.is c.first_free.ensures in
-    let count = c.in_ok-free.ensures.count
-    ∙ ap (λ (l : List ℕ). length (free_chain l)) c.read_table.ensures.store.only.keeps.committed_words in
-    let blocks = c.blocks_for.ensures ∙ ap blocks_for c.size.ensures in
-    place_there m sized c.requires.tree c.args.df c.requires.df c.args.fcp.now.kind c.in-Some.e level free
-    (omega (arith, count, blocks, c.if-free-blocks_for.false))
+pub returns : goal.returns
+returns g c = record {
+  told = let m = committed c.args.store.now in
+      let sized = c.requires.df.ready.usable.committed_size in
+      let read = c.in_ok-entries.ensures.table in
+      let level = level_zero m _ _ _ (c.as_slice.ensures.value ∙ read) c.if-is_deepest.false c.is_deepest.ensures.1 in
+      let free = free_there m _ _ _ (c.as_slice-2.ensures.value ∙ read) c.in-Some.is c.first_free.ensures in
+      let count = c.in_ok-free.ensures.count
+      ∙ ap (λ (l : List ℕ). length (free_chain l)) c.read_table.ensures.store.only.keeps.committed_words in
+      let blocks = c.blocks_for.ensures ∙ ap blocks_for c.size.ensures in
+      place_there m sized c.requires.df.tree c.args.df c.requires.df.used c.args.fcp.now.kind c.in-Some.e level free
+      (omega (arith, count, blocks, c.if-free-blocks_for.false));
+  store = reads_on _ _ _ _ c.read_table.ensures.store.only c.in_ok-free.ensures.store;
+}
 
 pub read_table-requires : goal.read_table-requires
-read_table-requires g c = record { ready = c.requires.ready }
+read_table-requires g c = record { ready = c.requires.df.ready }
 
-pub returns-in_err-entries-clause-place : goal.returns-in_err-entries-clause-place
-returns-in_err-entries-clause-place g c = none_ok _ _ _ c.from_residual.ensures.1
-
-pub returns-in_err-entries-clause-store : goal.returns-in_err-entries-clause-store
-returns-in_err-entries-clause-store g c =
-    reads_handed _ _ _ _ c.from_residual.ensures.1 c.in_err-entries.ensures.store
-
-pub returns-then-is_deepest-clause-store : goal.returns-then-is_deepest-clause-store
-returns-then-is_deepest-clause-store g c = c.in_ok-entries.ensures.store
-
-pub returns-in_default-clause-store : goal.returns-in_default-clause-store
-returns-in_default-clause-store g c = c.in_ok-entries.ensures.store
+pub returns-in_err-entries : goal.returns-in_err-entries
+returns-in_err-entries g c = record {
+  told = none_ok _ _ _ c.from_residual.ensures.1;
+  store = reads_handed _ _ _ _ c.from_residual.ensures.1 c.in_err-entries.ensures.store;
+}
 
 pub free_count-requires-clause-ready : goal.free_count-requires-clause-ready
 free_count-requires-clause-ready g c = c.in_ok-entries.ensures.store.ready
 
-pub returns-in_err-free-clause-place : goal.returns-in_err-free-clause-place
-returns-in_err-free-clause-place g c = none_ok _ _ _ c.from_residual-in_err-free.ensures.1
-
-pub returns-in_err-free-clause-store : goal.returns-in_err-free-clause-store
-returns-in_err-free-clause-store g c =
-    reads_handed _ _ _ _ c.from_residual-in_err-free.ensures.1
-    (reads_on _ _ _ _ c.read_table.ensures.store.only c.in_err-free.ensures.store)
-
-pub returns-then-free-blocks_for-clause-store : goal.returns-then-free-blocks_for-clause-store
-returns-then-free-blocks_for-clause-store g c =
-    reads_on _ _ _ _ c.read_table.ensures.store.only c.in_ok-free.ensures.store
-
-pub returns-clause-store : goal.returns-clause-store
-returns-clause-store g c =
-    reads_on _ _ _ _ c.read_table.ensures.store.only c.in_ok-free.ensures.store
+pub returns-in_err-free : goal.returns-in_err-free
+returns-in_err-free g c = record {
+  told = none_ok _ _ _ c.from_residual-in_err-free.ensures.1;
+  store = reads_handed _ _ _ _ c.from_residual-in_err-free.ensures.1
+      (reads_on _ _ _ _ c.read_table.ensures.store.only c.in_err-free.ensures.store);
+}

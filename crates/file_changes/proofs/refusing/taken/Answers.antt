@@ -1,4 +1,3 @@
-use Rattle.file_tree.specs.Table.{IsUsed}
 use Rattle.undo_journal.specs.laws.Exits.{none_ok}
 use Rattle.std.proofs.Common.{◌≡◌, Bool, List, ℕ, [], ◌∷◌, ◌++◌, length, Option, is_some, sym, ◌∙◌, ap, subst, arith}
 use Rattle.undo_journal.specs.Memory.{committed}
@@ -8,13 +7,14 @@ use Rattle.fcp_template.specs.declared.fcp.ShortIdentifier.{ShortIdentifier}
 use Rattle.file_tree.specs.declared.entry.Entry.{Entry}
 use Rattle.file_tree.specs.Cards.{exists}
 use Rattle.file_tree.specs.Table.{table, path_of, IsTable}
-use Rattle.file_tree.specs.Trees.{tree_of, TreeStands}
+use Rattle.file_tree.specs.Trees.{tree_of}
 use Rattle.file_tree.specs.NewFiles.{has_name, has_short_given}
 use Rattle.file_tree.specs.Parts.{TellsNamed}
 use Rattle.file_tree.specs.laws.Tables.{length-table}
 use Rattle.file_tree.specs.laws.Refusing.{child_told, name_told}
 use Rattle.file_changes.specs.laws.Allowed.{taken_is, creatable_short}
 use Rattle.undo_journal.specs.laws.Told.{reads_handed, reads_on}
+use Rattle.file_tree.specs.laws.StoredFiles.{file_still}
 use Rattle.file_changes.proofs.refusing.taken.Goals as goal
 
 -- whether a name is taken, by what a look-up in the entries that were read found
@@ -32,64 +32,51 @@ entry_named-named-requires g c =
     let a = ap (λ (t : List Entry). length t) (c.as_slice.ensures.value ∙ c.in_ok-entries.ensures.table) in
     omega (arith, l, a)
 
-pub is_short_taken-requires-clause-tree : goal.is_short_taken-requires-clause-tree
-is_short_taken-requires-clause-tree g c =
-    let read = c.read_table.ensures.store.only.keeps.committed_words in
-    let family : List ℕ → Type 0 = λ l. TreeStands l in
-    subst family (sym read) c.requires.tree
-
 pub is_short_taken-requires-clause-short : goal.is_short_taken-requires-clause-short
 is_short_taken-requires-clause-short g c =
     let family : ShortIdentifier → Type 0 = λ s. IsShort s in
     subst family (sym c.short.ensures) (creatable_short c.args.fcp.now.kind c.requires.fcp.ranges.kind)
 
-pub returns-clause-taken : goal.returns-clause-taken
-returns-clause-taken g c =
-    let m = committed c.args.store.now in
-    let rules = c.requires.tree.entries in
-    let tree = tree_of m in
-    let path = path_of (table m) c.args.df in
-    let fcp = c.args.fcp.now in
-    let child : exists tree (path ++ fcp.identifier ∷ []) ≡ c.is_some.result =
-    child_told m rules c.args.df fcp.identifier c.child-child.result c.requires.df
-    (c.child-child.ensures m c.requires.index)
-    ∙ sym c.is_some.ensures in
-    let entries = c.as_slice.ensures.value ∙ c.in_ok-entries.ensures.table in
-    let named : has_name tree (name_bytes fcp.kind) ≡ c.is_some-2.result =
-    name_is_taken m rules _ (name_bytes fcp.kind) _ c.entry_named-named.result c.is_some-2.result entries c.name.ensures
-    c.is_some-2.ensures c.entry_named-named.ensures in
-    let read = c.read_table.ensures.store.only.keeps.committed_words in
-    let short : has_short_given tree path (short_of_kind fcp.kind) ≡ c.in_ok-short.short =
-    sym (c.in_ok-short.ensures.taken
-    ∙ (λ i. has_short_given (tree_of (read i)) (path_of (table (read i)) c.args.df) (c.short.ensures i))) in
-    c.first_taken.ensures ∙ sym (taken_is tree path fcp _ _ _ child named short)
+pub returns : goal.returns
+returns g c = record {
+  told = let m = committed c.args.store.now in
+      let rules = c.requires.df.tree.entries in
+      let tree = tree_of m in
+      let path = path_of (table m) c.args.df in
+      let fcp = c.args.fcp.now in
+      let child : exists tree (path ++ fcp.identifier ∷ []) ≡ c.is_some.result =
+      child_told m rules c.args.df fcp.identifier c.child-child.result c.requires.df.used
+      (c.child-child.ensures m c.requires.index)
+      ∙ sym c.is_some.ensures in
+      let entries = c.as_slice.ensures.value ∙ c.in_ok-entries.ensures.table in
+      let named : has_name tree (name_bytes fcp.kind) ≡ c.is_some-2.result =
+      name_is_taken m rules _ (name_bytes fcp.kind) _ c.entry_named-named.result c.is_some-2.result entries
+      c.name.ensures
+      c.is_some-2.ensures c.entry_named-named.ensures in
+      let read = c.read_table.ensures.store.only.keeps.committed_words in
+      let short : has_short_given tree path (short_of_kind fcp.kind) ≡ c.in_ok-short.short =
+      sym (c.in_ok-short.ensures.told
+      ∙ (λ i. has_short_given (tree_of (read i)) (path_of (table (read i)) c.args.df) (c.short.ensures i))) in
+      c.first_taken.ensures ∙ sym (taken_is tree path fcp _ _ _ child named short);
+  store = reads_on _ _ _ _ c.read_table.ensures.store.only c.in_ok-short.ensures.store;
+}
 
 pub read_table-requires : goal.read_table-requires
-read_table-requires g c = record { ready = c.requires.ready }
+read_table-requires g c = record { ready = c.requires.df.ready }
 
-pub returns-in_err-entries-clause-taken : goal.returns-in_err-entries-clause-taken
-returns-in_err-entries-clause-taken g c = none_ok _ _ _ c.from_residual.ensures.1
+pub returns-in_err-entries : goal.returns-in_err-entries
+returns-in_err-entries g c = record {
+  told = none_ok _ _ _ c.from_residual.ensures.1;
+  store = reads_handed _ _ _ _ c.from_residual.ensures.1 c.in_err-entries.ensures.store;
+}
 
-pub returns-in_err-entries-clause-store : goal.returns-in_err-entries-clause-store
-returns-in_err-entries-clause-store g c =
-    reads_handed _ _ _ _ c.from_residual.ensures.1 c.in_err-entries.ensures.store
-
-pub is_short_taken-requires-clause-ready : goal.is_short_taken-requires-clause-ready
-is_short_taken-requires-clause-ready g c = c.in_ok-entries.ensures.store.ready
+pub returns-in_err-short : goal.returns-in_err-short
+returns-in_err-short g c = record {
+  told = none_ok _ _ _ c.from_residual-in_err-short.ensures.1;
+  store = reads_handed _ _ _ _ c.from_residual-in_err-short.ensures.1
+      (reads_on _ _ _ _ c.read_table.ensures.store.only c.in_err-short.ensures.store);
+}
 
 pub is_short_taken-requires-clause-df : goal.is_short_taken-requires-clause-df
 is_short_taken-requires-clause-df g c =
-    subst (λ (l : List ℕ). IsUsed (table l) c.args.df)
-    (sym (c.read_table.ensures.store.only.keeps.committed_words)) c.requires.df
-
-pub returns-in_err-short-clause-taken : goal.returns-in_err-short-clause-taken
-returns-in_err-short-clause-taken g c = none_ok _ _ _ c.from_residual-in_err-short.ensures.1
-
-pub returns-in_err-short-clause-store : goal.returns-in_err-short-clause-store
-returns-in_err-short-clause-store g c =
-    reads_handed _ _ _ _ c.from_residual-in_err-short.ensures.1
-    (reads_on _ _ _ _ c.read_table.ensures.store.only c.in_err-short.ensures.store)
-
-pub returns-clause-store : goal.returns-clause-store
-returns-clause-store g c =
-    reads_on _ _ _ _ c.read_table.ensures.store.only c.in_ok-short.ensures.store
+    file_still _ _ _ c.read_table.ensures.store.only c.in_ok-entries.ensures.store.ready c.requires.df

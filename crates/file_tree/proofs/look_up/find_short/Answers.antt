@@ -11,17 +11,17 @@ use Rattle.file_tree.proofs.look_up.find_short.Goals as goal
 pub returns-clause-found : goal.returns-clause-found
 returns-clause-found g c =
     let some : c.args.short ≢ 0 = λ none. let z : ⊥ = omega (arith, none, c.requires.some) in z in
-    IfOk-weaker _ _ _ (short_named (committed c.args.store.now) c.requires.tree.entries c.args.df c.args.short
-    c.requires.df some) c.first_child.ensures.told
+    IfOk-weaker _ _ _ (short_named (committed c.args.store.now) c.requires.df.tree.entries c.args.df c.args.short
+    c.requires.df.used some) c.first_child.ensures.told
 
 pub returns-clause-elementary : goal.returns-clause-elementary
 returns-clause-elementary g c =
     let some : c.args.short ≢ 0 = λ none. let z : ⊥ = omega (arith, none, c.requires.some) in z in
-    IfOk-weaker _ _ _ (short_found (committed c.args.store.now) c.requires.tree.entries c.args.df c.args.short
-    c.requires.df some) c.first_child.ensures.told
+    IfOk-weaker _ _ _ (short_found (committed c.args.store.now) c.requires.df.tree.entries c.args.df c.args.short
+    c.requires.df.used some) c.first_child.ensures.told
 
 pub first_child-requires : goal.first_child-requires
-first_child-requires g c = record { ready = c.requires.ready }
+first_child-requires g c = record { ready = c.requires.df.ready }
 
 pub returns-clause-store : goal.returns-clause-store
 returns-clause-store g c = c.first_child.ensures.store

@@ -13,7 +13,7 @@ pub returns-then-df-eq0-clause-found : goal.returns-then-df-eq0-clause-found
 returns-then-df-eq0-clause-found g c = parent_of_master (committed c.args.store.now) c.args.df c.if-df-eq0.true
 
 pub read_entry-requires-clause-within : goal.read_entry-requires-clause-within
-read_entry-requires-clause-within g c = used_small (committed c.args.store.now) c.args.df c.requires.df
+read_entry-requires-clause-within g c = used_small (committed c.args.store.now) c.args.df c.requires.df.used
 
 pub returns-clause-found : goal.returns-clause-found
 returns-clause-found g c =
@@ -21,7 +21,7 @@ returns-clause-found g c =
     let parent : c.in_ok-entry.entry.parent ≡ (entry_in (table m) c.args.df).parent =
     ap (λ (x : Entry). x.parent) c.in_ok-entry.ensures.entry in
     ap (λ (e : ℕ). Some (path_of (table m) e)) parent
-    ∙ parent_reached m c.requires.tree.entries c.args.df c.requires.df c.if-df-eq0.false
+    ∙ parent_reached m c.requires.df.tree.entries c.args.df c.requires.df.used c.if-df-eq0.false
 
 pub returns-clause-used : goal.returns-clause-used
 returns-clause-used g c =
@@ -29,14 +29,14 @@ returns-clause-used g c =
     let parent : c.in_ok-entry.entry.parent ≡ (entry_in (table m) c.args.df).parent =
     ap (λ (x : Entry). x.parent) c.in_ok-entry.ensures.entry in
     let family : ℕ → Type 0 = λ e. IsUsed (table m) e in
-    subst family (sym parent) (above_used m c.requires.tree.entries c.args.df 0 c.requires.df)
+    subst family (sym parent) (above_used m c.requires.df.tree.entries c.args.df 0 c.requires.df.used)
 
 pub returns-then-df-eq0-clause-store : goal.returns-then-df-eq0-clause-store
 returns-then-df-eq0-clause-store g c =
-    reads_none _ c.requires.ready
+    reads_none _ c.requires.df.ready
 
 pub read_entry-requires-clause-ready : goal.read_entry-requires-clause-ready
-read_entry-requires-clause-ready g c = c.requires.ready
+read_entry-requires-clause-ready g c = c.requires.df.ready
 
 pub returns-in_err-entry-clause-found : goal.returns-in_err-entry-clause-found
 returns-in_err-entry-clause-found g c = none_ok _ _ _ c.from_residual.ensures.1
