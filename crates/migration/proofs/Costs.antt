@@ -6,10 +6,9 @@ use Rattle.nvm_board.specs.Facts.{Facts, address}
 use Rattle.undo_journal.specs.declared.batch.TheConstants.{BATCH}
 use Rattle.undo_journal.specs.declared.batch.Waiting.{Waiting}
 use Rattle.undo_journal.specs.Batches.{joined, batch_writes}
-use Rattle.undo_journal.specs.Memory.{Memory, Joins, IsIdle, commit_writes, set_writes}
+use Rattle.undo_journal.specs.Memory.{Memory, Joins, commit_writes, set_writes}
 use Rattle.undo_journal.specs.Spending.{WritesAtMost}
 use Rattle.undo_journal.specs.laws.Joining.{commit_of_some}
-use Rattle.undo_journal.specs.laws.Told.{idle_waits}
 use Rattle.block_chain.specs.declared.layout.TheConstants.{FREE_HEAD}
 use Rattle.file_tree.specs.declared.layout.TheConstants.{MARK, OLD_END_PAGE}
 use Rattle.pin_store.specs.declared.layout.TheConstants.{FIRST_PIN_PAGE}
@@ -73,12 +72,6 @@ length-marks (suc i) = length-append (marks i) (pin_mark i ∷ []) ∙ ap (λ (n
 pub record AreMarked (i : ℕ) (first now : Memory) : Type 0 where
   pub waits : i < 8 → (now.waiting ≡ marks i) × (now.used ≡ 0) × (now.facts.writes ≡ first.facts.writes)
   pub full : i ≡ 8 → FillsBatch first now
-
-pub marked_none : (first : Memory) → IsIdle first → AreMarked 0 first first
-marked_none first idle = record {
-  waits = λ lt. (idle_waits first idle, (let none : first.used ≡ 0 = omega (arith, idle) in none), refl);
-  full = λ is. absurd (omega (arith, is));
-}
 
 module _ (i at : ℕ) (first now after : Memory) (lt : i < 8) (is : at ≡ address (FIRST_PIN_PAGE + i) PIN_MARK_WORD)
     (so_far : AreMarked i first now) where

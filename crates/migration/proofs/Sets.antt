@@ -1,6 +1,6 @@
 -- The words that the migration's transaction sets, one by one, and what they make of the card.
 use Rattle.std.specs.Prelude.{◌≡◌, ◌≢◌, ◌==◌, ◌⊎◌, ◌<◌, ◌≤◌, ◌+◌, ℕ, Bool, List, length, slice_set, if◌then◌else◌}
-use Rattle.std.proofs.Common.{refl, sym, ◌∙◌, ap, subst, arith, inl, inr, ⊎_elim}
+use Rattle.std.proofs.Common.{sym, ◌∙◌, ap, subst, arith, inl, inr, ⊎_elim}
 use Rattle.std.proofs.Math.ListN.{length-set}
 use Rattle.std.proofs.lemmas.Bool.Decides.{eqb_tells}
 use Rattle.nvm_board.specs.Facts.{address, IsMemory, pages_of}
@@ -16,11 +16,8 @@ use Rattle.file_tree.specs.laws.Footprints.{tree_kept}
 use Rattle.file_tree.specs.laws.Migrating.{links_keep, migrated_tree, same-entries}
 use Rattle.pin_store.specs.declared.layout.TheConstants.{FIRST_PIN_PAGE}
 use Rattle.pin_store.specs.declared.layout.TheConstants.{PIN_MARK_WORD}
-use Rattle.migration.specs.Migrating.{MarksPins, RenamesHeader, IsRenamed, IsMigrated, Migrates}
-
-pub marks_none : (m : List ℕ) → MarksPins 0 m m
-marks_none m =
-    record { size = refl; marked = λ pin lt. absurd (omega (arith, lt)); others = λ page place small apart. refl }
+use Rattle.migration.specs.Migrating.{IsMigrated, Migrates}
+use Rattle.migration.specs.Parts.{MarksPins, RenamesHeader, IsRenamed}
 
 -- one mark more
 pub marks_more : (m now after : List ℕ) (i at : ℕ)

@@ -1,8 +1,45 @@
 -- What single steps of the migration find and do. No public clause names these.
-use Rattle.std.specs.Prelude.{◌≡◌, ◌≢◌, ◌⊎◌, ◌+◌, [], ℕ}
+use Rattle.std.specs.Prelude.{◌≡◌, ◌≢◌, ◌==◌, ◌⊎◌, ◌<◌, ◌≤◌, ◌+◌, [], ℕ, List, length, slice_set, if◌then◌else◌}
+use Rattle.nvm_board.specs.Facts.{address}
+use Rattle.nvm_board.specs.declared.board.TheConstants.{PAGE_WORDS}
 use Rattle.undo_journal.specs.Memory.{Memory, Joins}
-use Rattle.block_chain.specs.declared.layout.TheConstants.{FREE_HEAD}
-use Rattle.file_tree.specs.declared.layout.TheConstants.{OLD_END_PAGE}
+use Rattle.block_chain.specs.Words.{word}
+use Rattle.block_chain.specs.declared.layout.TheConstants.{FREE_HEAD, FREE_HEAD_WORD, HEADER_PAGE}
+use Rattle.file_tree.specs.declared.layout.TheConstants.{MARK, MARK_WORD, OLD_END_PAGE, PAGES_WORD}
+use Rattle.file_tree.specs.Migration.{Renames}
+use Rattle.pin_store.specs.declared.layout.TheConstants.{FIRST_PIN_PAGE, PIN_MARK_WORD}
+use Rattle.pin_store.specs.Pages.{KeepsSecrets}
+
+-- The first i PINs have their mark, and no word but marks of PINs is other.
+pub record MarksPins (i : ℕ) (m after : List ℕ) : Type 0 where
+  pub size : length after ≡ length m
+  pub marked : (pin : ℕ) → pin < i → word after (FIRST_PIN_PAGE + pin) PIN_MARK_WORD ≡ 1
+  pub others : (page place : ℕ) → place < PAGE_WORDS
+      → (place ≢ PIN_MARK_WORD) ⊎ (page < FIRST_PIN_PAGE) ⊎ (FIRST_PIN_PAGE + 8 ≤ page)
+      → word after page place ≡ word m page place
+
+-- Page 1,024 is the first free block, where there are blocks from there on; no other word is other.
+abbrev pub SetsFirst : ℕ → List ℕ → List ℕ → Type 0
+SetsFirst end m mid = ((end ≢ OLD_END_PAGE) × (mid ≡ slice_set m (address HEADER_PAGE FREE_HEAD_WORD) OLD_END_PAGE))
+    ⊎ ((end ≡ OLD_END_PAGE) × (mid ≡ m))
+
+-- The header has the mark of format 2, and names the page where the blocks end and the first free one; no other word is
+-- other.
+pub record RenamesHeader (end : ℕ) (m after : List ℕ) : Type 0 where
+  pub size : length after ≡ length m
+  pub mark : word after HEADER_PAGE MARK_WORD ≡ MARK
+  pub pages : word after HEADER_PAGE PAGES_WORD ≡ end
+  pub head : word after HEADER_PAGE FREE_HEAD_WORD
+      ≡ (if end == OLD_END_PAGE then word m HEADER_PAGE FREE_HEAD_WORD else OLD_END_PAGE)
+  pub others : (page place : ℕ) → place < PAGE_WORDS
+      → (page ≢ HEADER_PAGE) ⊎ ((place ≢ MARK_WORD) × (place ≢ PAGES_WORD) × (place ≢ FREE_HEAD_WORD))
+      → word after page place ≡ word m page place
+
+-- The header is renamed, each PIN has the mark of one that is enabled, and what is secret of it stays.
+pub record IsRenamed (end : ℕ) (m after : List ℕ) : Type 0 where
+  pub renames : Renames end m after
+  pub marked : (pin : ℕ) → pin < 8 → word after (FIRST_PIN_PAGE + pin) PIN_MARK_WORD ≡ 1
+  pub pins : KeepsSecrets m after
 
 -- Eight sets, each in a page of its own, are written: their pairs, the gate, and eight words.
 pub record FillsBatch (old new : Memory) : Type 0 where

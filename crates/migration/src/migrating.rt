@@ -11,9 +11,8 @@ ghost use Rattle.block_chain.specs.Words.{word};
 ghost use Rattle.block_chain.specs.declared.layout.TheConstants.{HEADER_PAGE};
 ghost use Rattle.file_tree.specs.declared.layout.TheConstants.{OLD_END_PAGE, MARK, MARK_WORD};
 ghost use Rattle.file_tree.specs.Trees.{TreeStands};
-ghost use Rattle.migration.specs.Migrating.{MarksPins, SetsFirst, RenamesHeader, IsRenamed, Migrates, IsMigrated};
-ghost use Rattle.migration.specs.Migrating.{migration_writes};
-ghost use Rattle.migration.specs.Parts.{FillsBatch, JoinsFirst};
+ghost use Rattle.migration.specs.Migrating.{IsMigrated, Migrates, migration_writes};
+ghost use Rattle.migration.specs.Parts.{FillsBatch, IsRenamed, JoinsFirst, MarksPins, RenamesHeader, SetsFirst};
 
 use block_chain::{FREE_HEAD, HEADER_PAGE, link_pages};
 use file_tree::{MARK, MARK_WORD, OLD_END_PAGE, PAGES_WORD};
