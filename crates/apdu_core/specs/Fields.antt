@@ -12,10 +12,10 @@ use Rattle.apdu_core.specs.Sizes.{HasBetween, IsPinValue, IsSizedName}
 
 -- What is known of the fields of a request, since its row of the table of commands allowed them.
 pub record Fields : Type 1 where
-  -- where the command is of bytes: Le is a byte, and so is each byte that was sent
+  -- where the command is of bytes: Le is a byte, and so is each byte that was sent; an identifier is of two bytes
   pub of_bytes : Type 0
   -- of whatever numbers it is: what is written, searched for or added, and a template,
-  -- is 1 to 255 of them, a PIN's value 8
+  -- is 1 to 255 of them, a PIN's value 8, a name 1 to 16, a path 1 to 7 identifiers
   pub sized : Type 0
   -- of a parsed command: how much is named or sent, and the ranges of what P1 and P2 name; an offset is at most 32,767
   pub in_range : Type 0
@@ -94,7 +94,7 @@ fields_of (change_requirement change pin shown) = record {
   in_range = IsPinNumber pin;
 }
 
--- a request that bytes can ask for
+-- a request whose Le and whatever is sent are bytes, and whose identifiers are of two bytes
 abbrev pub IsOfBytes : Request → Type 0
 IsOfBytes request = (fields_of request).of_bytes
 

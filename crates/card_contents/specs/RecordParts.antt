@@ -44,7 +44,7 @@ ring_in e entry = record {
 abbrev pub record_file_in : ℕ → Entry → RecordFile
 record_file_in e entry = record { number = e; ring = ring_in e entry; wraps = entry.kind == 4 }
 
--- what the code chooses in a file of records
+-- the number of the record that is chosen from a record pointer on
 abbrev pub chosen_in : RecordFile → Option ℕ → RecordChoice → ℕ
 chosen_in file pointer Next = next_record file.wraps file.ring.records pointer
 chosen_in file pointer Previous = previous_record file.wraps file.ring.records pointer
@@ -89,7 +89,7 @@ abbrev pub RingBecomes : Bool → List ℕ → Ring → List (List ℕ) → List
 RingBecomes true m ring records after = CyclicBecomes m ring records after
 RingBecomes false m ring records after = RecordsBecome m ring records after
 
--- where a record that is added goes
+-- whether room is in front of the first record, and the ring that it is in
 abbrev pub wraps_room : Room → Bool
 wraps_room (rooms.Behind slot) = false
 wraps_room (rooms.InFront ring) = true
@@ -98,7 +98,7 @@ abbrev pub ring_room : Room → Ring
 ring_room (rooms.Behind slot) = slot.ring
 ring_room (rooms.InFront ring) = ring
 
--- A file of records that a command names has an entry which tells of it so.
+-- The file of records that a command names, as its entry tells of it.
 pub record IsRecordFile (m : List ℕ) (x : Current) (target : Target) (need : Need) (file : RecordFile) : Type 0 where
   pub named : IsNamed m x target need file.number (entry_in (table m) file.number)
   pub kind : ((entry_in (table m) file.number).kind ≡ 3) ⊎ ((entry_in (table m) file.number).kind ≡ 4)

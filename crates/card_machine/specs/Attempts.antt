@@ -8,10 +8,11 @@ use Rattle.pin_store.specs.Pins.{charged_pin, kept, tries_left}
 use Rattle.card_machine.specs.Cards.{Card, Pin}
 use Rattle.card_machine.specs.Outcomes.{Refusal}
 
--- PIN n of a card: PIN 1 is the first
+-- stands for a PIN that there isn't
 abbrev pub no_pin : Pin
 no_pin = record { value = []; tries = 0; unblocking = []; unblocking_tries = 0; enabled = true }
 
+-- PIN n of a card: PIN 1 is the first
 abbrev pub pin_of : Card → ℕ → Pin
 pin_of c n = slice_index_or c.pins (n - 1) no_pin
 

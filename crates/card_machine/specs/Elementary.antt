@@ -20,7 +20,7 @@ target_path c s target = unwrap_or (target_of c.tree s target) []
 abbrev pub target_kind : Card → Session → Target → Kind
 target_kind c s target = (file_at c.tree (target_path c s target)).kind
 
--- where no elementary file is named
+-- the status word where there is no such elementary file
 abbrev pub missing : Target → Sw
 missing Current = NO_CURRENT_EF
 missing (Short n) = FILE_NOT_FOUND

@@ -6,7 +6,7 @@ use Rattle.pin_store.specs.Pins.{HasFewTries}
 use Rattle.card_machine.specs.Cards.{Body, Card, File, Kind, Path, transparent, linear, cyclic, dedicated, elementary}
 use Rattle.card_machine.specs.Cards.{identifier}
 
--- a record is 1 to 255 bytes
+-- a record is at most 255 bytes
 pub record IsRecord (text : List ℕ) : Type 0 where
   pub bytes : AreBytes text
   pub size : length text ≤ 255
@@ -16,7 +16,7 @@ pub record IsContent (content : List ℕ) : Type 0 where
   pub bytes : AreBytes content
   pub size : length content ≤ 32767
 
--- Records of one length: at most as many as there is room for, which is at most 254, and at most 32,767 bytes.
+-- Records: at most as many as there is room for, which is at most 254, and at most 32,767 bytes.
 pub record AreRecords (long most : ℕ) (records : List (List ℕ)) : Type 0 where
   pub each : All IsRecord records
   pub record_length : long ≤ 255

@@ -68,11 +68,11 @@ pub record KeepsSecrets (m after : List ℕ) : Type 0 where
 pub record KeepsPins (m after : List ℕ) : Type 0 where
   pub words : (pin place : ℕ) → pin < PINS → place < PIN_WORDS → pin_word after pin place ≡ pin_word m pin place
 
--- the address of a word that no PIN at this place depends on
+-- the address of a word that the PIN at this place doesn't depend on
 abbrev pub IsApart : ℕ → ℕ → Type 0
 IsApart pin k = (k < address (pin_page pin) 0) ⊎ (address (pin_page pin) PIN_WORDS ≤ k)
 
--- A PIN becomes this one, and no word apart from it changes. Its mark stays one.
+-- A PIN becomes this one, and no word apart from it changes. Its mark stays a mark, 1 or 0.
 pub record SetsPin (m : List ℕ) (pin : ℕ) (now : Pin) (after : List ℕ) : Type 0 where
   pub size : length after ≡ length m
   pub elsewhere : (k : ℕ) → IsApart pin k → slice_index after k ≡ slice_index m k

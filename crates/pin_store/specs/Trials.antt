@@ -114,7 +114,7 @@ pub record PaysForOne (secret : ℕ) (shown : List ℕ) (old new : Memory) : Typ
 -- The PIN law, of the store before the charge and after the end, or where either stopped. The tries of what is shown
 -- stay, or are one fewer, or all of them after a match; where a comparison was counted, it was paid for. The PIN
 -- changes but for these tries by a match alone, its unblocking value never, its unblocking tries by no command that
--- shows its value. No word apart from the PIN changes, and its mark stays one.
+-- shows its value. No word apart from the PIN changes, and its mark stays a mark, 1 or 0.
 pub record KeepsPinLaw (secret : ℕ) (shown : List ℕ) (old new : Memory) : Type 0 where
   pub tries : (tries_left secret (pin_in new secret) ≡ tries_left secret (pin_in old secret))
       ⊎ (tries_left secret (pin_in new secret) + 1 ≡ tries_left secret (pin_in old secret))

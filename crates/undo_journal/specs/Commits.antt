@@ -4,8 +4,8 @@ use Rattle.undo_journal.specs.declared.layout.TheConstants.{GATE}
 use Rattle.undo_journal.specs.Memory.{Memory, committed}
 use Rattle.undo_journal.specs.Undo.{gate, undo, data_words, IsSound}
 
--- The gate was turned to 0, and no other word is needed for the change: were it still so many pairs, undo would be
--- defined, and the words before would stand.
+-- The gate is 0, and it alone makes the change: were it so many pairs, undo would be defined, and the words before
+-- would stand. (That it was so many just before is no fact of one memory.)
 pub record TurnsGate (before : List ℕ) (new : Memory) : Type 0 where
   pub shut : gate new.facts.words ≡ 0
   pub pairs : ℕ
