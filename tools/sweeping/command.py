@@ -3,6 +3,8 @@
 NAMES = {
     "0020": "VERIFY",
     "0024": "CHANGE REFERENCE DATA",
+    "0026": "DISABLE VERIFICATION REQUIREMENT",
+    "0028": "ENABLE VERIFICATION REQUIREMENT",
     "002C": "RESET RETRY COUNTER",
     "0004": "DEACTIVATE FILE",
     "0044": "ACTIVATE FILE",
@@ -16,7 +18,8 @@ NAMES = {
     "00FE": "TERMINATE CARD USAGE",
     "8032": "INCREASE",
 }
-PINS = ("VERIFY", "CHANGE REFERENCE DATA", "RESET RETRY COUNTER")
+# those that show a secret of a PIN
+SHOWING = ("0020", "0024", "0026", "0028", "002C")
 
 
 class Command:
@@ -33,7 +36,7 @@ class Command:
 
     def has_try_taken(self, answer):
         """Whether a card with a try less stands between the one before and the one after: so where a PIN was right."""
-        return self.name in PINS and answer == "9000"
+        return self.digits[:4] in SHOWING and answer == "9000"
 
     def shown(self):
         """Its digits, those in the middle of a long one left out."""
